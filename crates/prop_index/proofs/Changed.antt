@@ -1,5 +1,6 @@
 -- What an entry that was added or taken out leaves of the rule of an index.
 use Rattle.std.proofs.Common.{◌≡◌, ◌/◌, ◌%◌, ◌*◌, ◌+◌, ◌&&◌, ◌||◌, not, ⊎_elim, ℕ, Bool, true, false, List, refl, ap, sym, ◌∙◌, subst, arith}
+use Rattle.std.proofs.lemmas.Bool.{true≢false}
 use Rattle.rec_bytes.specs.Format as format
 use Rattle.store_rules.specs.Chains.{In}
 use Rattle.store_rules.specs.Hashes.{bucket_of}
@@ -77,6 +78,13 @@ module _ (s : Records) (wanted : Entries) (ix : AreIndexed s wanted) (label key 
     unwanted_none none true e =
         let has = ix.all d one found.listed (sym found.pair.0) (sym found.pair.1) e in
         absurd (none has.id has.member (ap (λ (z : Entry). z.node) has.is, ap (λ (z : Entry). z.hash) has.is))
+
+    -- no entry says what isn't wanted
+    pub none_wanted : wanted one ≡ false → IsNoneOf s xs content
+    none_wanted unwanted x member says =
+        let is = ix.buckets d b found.listed (omega arith) in
+        let same : entry_in s d x ≡ one = λ i. record { label = found.pair.0 i; key = found.pair.1 i; node = says.0 i; hash = says.1 i } in
+        true≢false (sym (is.wanted_is x member) ∙ ap wanted same ∙ unwanted)
 
     none_left : IsNoneOf s xs content → AreIndexed s (without_entry wanted one)
     none_left none = indexed_same s wanted (without_entry wanted one) ix (λ f e i l k. ⊎_elim

@@ -1,5 +1,6 @@
 -- A definition that was written and named first is one that is made.
 use Rattle.std.proofs.Common.{◌≡◌, ◌≢◌, ⊎_elim, ℕ, ◌+◌, ◌*◌, ◌<◌, ◌≤◌, ◌^◌, true, refl, ap, sym, ◌∙◌, subst, inl, inr, arith}
+use Rattle.rec_bytes.specs.declared.key.Key.{Key}
 use Rattle.rec_bytes.specs.declared.meta.Meta.{Meta}
 use Rattle.rec_bytes.specs.declared.record.Rec.{Rec}
 use Rattle.rec_bytes.specs.Format as format
@@ -15,20 +16,19 @@ use Rattle.std.proofs.lemmas.Bool.Decides.{nat_tests}
 use Rattle.store_rules.specs.Indexes.{first_definition, heads_of, index_rec}
 use Rattle.store_rules.specs.IndexChange.{IsDefinitionMade}
 use Rattle.store_rules.specs.Ranges.{AreInRange}
-use Rattle.store_rules.specs.RuleList.Rule.{Ranges}
 use Rattle.store_rules.specs.Views.{high, kind_at}
 use Rattle.store_rules.proofs.IndexRules.{first_kept, first_kind, first_now, first_record}
 use Rattle.store_rules.proofs.LinkFits.{IsLow}
 use Rattle.store_rules.proofs.MetaLaws.{high_fits}
 use Rattle.id_freelist.proofs.Leaving.{byte_of_zeros}
-use Rattle.prop_index.specs.Defining.{AreHeadsAdded, IsDefinitionAdded, IsRecordAdded}
+use Rattle.prop_index.specs.Defining.{AreHeadsAdded, AreNamesOf, IsDefinitionAdded, IsRecordAdded}
 use Rattle.prop_index.specs.DefinitionRecord.{definition_fields, definition_start, head_of}
 use Rattle.prop_index.specs.Reading.{KeepsStore}
 use Rattle.prop_index.specs.declared.finding.Definition.{Definition}
 use Rattle.prop_index.proofs.RecordFits.{empty_heads-nil, fits-definition}
 
 module _ (s m t : State) (label key first id : ℕ) (rec : Rec) (store : KeepsStore s) (heads : AreHeadsAdded s m (definition_start label key first) 12 rec) (added : IsRecordAdded m t rec id)
-    (first_is : first ≡ first_definition s.records) (label_fits : label < 2 ^ 32) (key_fits : key < 2 ^ 32) (first_fits : first < 2 ^ 32) where
+    (named : AreNamesOf s.records label key) (first_is : first ≡ first_definition s.records) (label_fits : label < 2 ^ 32) (key_fits : key < 2 ^ 32) (first_fits : first < 2 ^ 32) where
   abbrev w : State
   w = after_set t (meta_key_of format.index_file) 4 format.meta_definition id
 
@@ -95,15 +95,31 @@ module _ (s m t : State) (label key first id : ℕ) (rec : Rec) (store : KeepsSt
 
   first_low : IsLow (high t.records format.index_file) (field 4 rec format.definition_next)
   first_low =
-      let ranges : AreInRange s.records s.shape = store Ranges refl in
+      let ranges : AreInRange s.records s.shape = store.ranges in
       let more = heads.grows.more in let most = added.grows.more in
       let e : field 4 rec format.definition_next ≡ first_definition s.records = rec_next ∙ first_is in
       ⊎_elim (λ (n : first_definition s.records ≡ format.nil). inl (e ∙ n)) (λ (lt : first_definition s.records < high s.records format.index_file). inr (omega (arith, e, lt, more, most)))
       ((ranges.metas format.index_file refl).first refl)
 
+  names_are : high t.records format.names_file ≡ high s.records format.names_file
+  names_are = ap (λ (r : Rec). (metas.meta_of r).high)
+      (added.grows.others (meta_key_of format.names_file) other not_index ∙ heads.grows.others (meta_key_of format.names_file) other not_index)
+    where
+      other : format.meta_file ≢ format.index_file
+      other e = omega (arith, e)
+
+      not_index : meta_key_of format.names_file ≢ meta_key_of format.index_file
+      not_index e = let i = ap (λ (k : Key). k.id) e in omega (arith, i)
+
+  label_low : field 4 rec format.definition_label < high t.records format.names_file
+  label_low = let l = named.label_low in omega (arith, rec_label, names_are, l)
+
+  key_low : field 4 rec format.definition_key < high t.records format.names_file
+  key_low = let l = named.key_low in omega (arith, rec_key, names_are, l)
+
   kept : KeepsStore w
   kept = first_kept t.records id small t.shape (inr added.low)
-      (added.kept (fits-definition (high t.records) rec rec_kind rec_blank first_low (λ c lt. let a = heads.low c lt in let b = added.grows.more in omega (arith, a, b))))
+      (added.kept (fits-definition (high t.records) rec rec_kind rec_blank label_low key_low first_low (λ c lt. let a = heads.low c lt in let b = added.grows.more in omega (arith, a, b))))
 
   meta_is : metas.meta_of (w.records (meta_key_of format.index_file)) ≡ metas.meta_of (t.records (meta_key_of format.index_file))
   meta_is = ap metas.meta_of (put_same t.records (meta_key_of format.index_file) (with_field 4 (t.records (meta_key_of format.index_file)) format.meta_definition id)) ∙ meta_of-definition (t.records (meta_key_of format.index_file)) id

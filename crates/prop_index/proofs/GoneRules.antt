@@ -7,9 +7,7 @@ use Rattle.rec_bytes.proofs.Numbers.{field-lt}
 use Rattle.store_rules.specs.Chains.{In, IsWalk}
 use Rattle.store_rules.specs.Indexes.{index_rec, next_entry, previous_entry}
 use Rattle.store_rules.specs.Ranges.{AreInRange}
-use Rattle.store_rules.specs.RuleList.{KeepsButIndex}
-use Rattle.store_rules.specs.RuleList.Rule.{Ranges}
-use Rattle.store_rules.specs.Rules.{IsSplit}
+use Rattle.store_rules.specs.Rules.{IsSplit, IsWellFormed}
 use Rattle.store_rules.specs.Views.{high, is_live, kind_at, rec_at}
 use Rattle.store_rules.proofs.ChainLaws.{walk_of_chain}
 use Rattle.store_rules.proofs.ChainSteps.{after_other, before_other, nil_out}
@@ -51,7 +49,7 @@ module _ (s : State) (slot : Slot) (first x : ℕ) (xs : List ℕ) (is : IsBucke
   split = (free_list s rules).1
 
   ranges : AreInRange s.records s.shape
-  ranges = rules Ranges refl
+  ranges = rules.ranges
 
   kind_is : kind_at s.records format.index_file x ≡ format.indexed
   kind_is = is.kind x member
@@ -65,7 +63,7 @@ module _ (s : State) (slot : Slot) (first x : ℕ) (xs : List ℕ) (is : IsBucke
   gone : IsGone s.records u.records s.shape format.index_file x
   gone = is_gone s.records u.records s.shape format.index_file x free refl split used was_given (room_small s.records s.shape format.index_file ranges) (ranges.metas format.index_file refl)
 
-  rules_u : KeepsButIndex u.records s.shape
+  rules_u : IsWellFormed u.records s.shape
   rules_u = gone_kept s.records u.records s.shape x gone rules
 
   kind_u : (y : ℕ) → y ≢ x → kind_at u.records format.index_file y ≡ kind_at s.records format.index_file y
@@ -97,7 +95,7 @@ module _ (s : State) (slot : Slot) (first x : ℕ) (xs : List ℕ) (is : IsBucke
   after_low = ⊎_elim (λ (e : after ≡ format.nil). inl e)
       (λ (some : after ≢ format.nil). let lt = after-low s.records first x xs is member some in let m = was_given.mark in let n = back_mark u after before after_kind in inr (omega (arith, lt, m, n))) (nat_cases after format.nil)
 
-  rules_two : KeepsButIndex two.records s.shape
+  rules_two : IsWellFormed two.records s.shape
   rules_two = back_kept s.shape u after before after_kind before_fits before_low rules_u
 
   slot_other : slot.id ≢ x
@@ -106,18 +104,18 @@ module _ (s : State) (slot : Slot) (first x : ℕ) (xs : List ℕ) (is : IsBucke
   heads_two : kind_at two.records format.index_file slot.id ≡ format.heads
   heads_two = back_kind u after before after_kind slot.id ∙ kind_u slot.id slot_other ∙ heads
 
-  led_kept : KeepsButIndex (led_entry two slot before after).records s.shape
+  led_kept : IsWellFormed (led_entry two slot before after).records s.shape
   led_kept = ⊎_elim
-      (λ (e : before ≡ format.nil). subst (λ (z : State). KeepsButIndex z.records s.shape) (sym (led-none two slot before after e)) (head_kept s.shape two slot after heads_two place after_fits after_low rules_two))
+      (λ (e : before ≡ format.nil). subst (λ (z : State). IsWellFormed z.records s.shape) (sym (led-none two slot before after e)) (head_kept s.shape two slot after heads_two place after_fits after_low rules_two))
       (λ (some : before ≢ format.nil).
       let k : kind_at two.records format.index_file before ≡ format.indexed = back_kind u after before after_kind before ∙ before_kind some in
       let used_two : kind_at two.records format.index_file before ≢ format.free_kind = λ q. omega (arith, k, q) in
       let under = kind_below (high two.records format.index_file) (rec_at two.records format.index_file before) before used_two in
       let byte : field 1 (rec_at two.records format.index_file before) format.kind ≡ format.indexed = sym (kind_low (high two.records format.index_file) (rec_at two.records format.index_file before) before under) ∙ k in
-      subst (λ (z : State). KeepsButIndex z.records s.shape) (sym (led-some two slot before after some))
+      subst (λ (z : State). IsWellFormed z.records s.shape) (sym (led-some two slot before after some))
       (set_kept two.records before format.indexed_next after used_two (omega arith) s.shape (fits_entry_next (high two.records) (rec_at two.records format.index_file before) after after_fits after_low byte) rules_two))
       (nat_cases before format.nil)
 
   -- The entry is out of its bucket, and the rules hold.
   pub entry_gone_kept : (t : State) → t ≡ unlinked_entry s slot x before after → t.shape ≡ s.shape → KeepsStore t
-  entry_gone_kept t e shape = subst (KeepsButIndex t.records) (sym shape) (subst (λ (z : State). KeepsButIndex z.records s.shape) (sym (e ∙ unlinked-is s slot x before after)) led_kept)
+  entry_gone_kept t e shape = subst (IsWellFormed t.records) (sym shape) (subst (λ (z : State). IsWellFormed z.records s.shape) (sym (e ∙ unlinked-is s slot x before after)) led_kept)

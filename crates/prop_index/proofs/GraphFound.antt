@@ -21,15 +21,12 @@ use Rattle.store_rules.specs.Graph.{graph_of, node_from, node_of}
 use Rattle.store_rules.specs.Indexes.{has_value, listed_from, node_value, row_value, value_in}
 use Rattle.store_rules.specs.Properties.{AreProperties, Property, keys_of, named_property, properties_from, property_records}
 use Rattle.store_rules.specs.Rows.{collect, if_test, ids, option_list}
-use Rattle.store_rules.specs.RuleList.{KeepsButIndex}
-use Rattle.store_rules.specs.RuleList.Rule.{Labels, Names}
 use Rattle.store_rules.specs.Rules.{AreNamed, AreNames, IsWellFormed}
 use Rattle.store_rules.specs.Views.{NodeRow, Records, high, kind_at, node_at, node_in, rec_at, rel_at, text_of}
 use Rattle.store_rules.proofs.PropertyLists.{key_known, listed, owner_in, owner_in-used, properties_from-is, properties_read, properties_right}
 use Rattle.store_rules.proofs.ViewLaws.{some_row}
 use Rattle.prop_store.specs.Finding.{property_of, value_of}
 use Rattle.prop_index.specs.Looking.{found_in, has_labelled, nodes_having}
-use Rattle.prop_index.proofs.Unindexed.{bare, bare_well}
 use Rattle.prop_index.proofs.Values.{value_in-is}
 
 -- ---- texts of names
@@ -65,7 +62,7 @@ module _ (name_file : ℕ → Rec) (names : ℕ) (named : AreNames name_file nam
 
 -- ---- the nodes
 
-module _ (s : Records) (shape : Shape) (rules : KeepsButIndex s shape) (label key : ℕ) (value : Value) (label_low : label < high s format.names_file) (key_low : key < high s format.names_file) where
+module _ (s : Records) (shape : Shape) (store : IsWellFormed s shape) (label key : ℕ) (value : Value) (label_low : label < high s format.names_file) (key_low : key < high s format.names_file) where
   abbrev names : ℕ → Rec
   names = rec_at s format.names_file
 
@@ -73,23 +70,20 @@ module _ (s : Records) (shape : Shape) (rules : KeepsButIndex s shape) (label ke
   mark = high s format.names_file
 
   named : AreNames names mark
-  named = rules Names refl
+  named = store.names
 
   labelled : AreNamed (node_at s) (rel_at s) mark
-  labelled = rules Labels refl
-
-  well : IsWellFormed (bare s) shape
-  well = bare_well s shape rules
+  labelled = store.named
 
   -- the value of a key at a node in use is that of its properties in the graph
   value_same : (n : ℕ) → kind_at s format.nodes_file n ≢ format.free_kind → let first = (node_in (rec_at s format.nodes_file n) n).property in
       maps.get (properties_from names (property_records s) first) (text_of (names key)) ≡ value_in (listed_from (property_records s) first) key
   value_same n used =
       let first = (node_in (rec_at s format.nodes_file n) n).property in
-      let owned : owner_in (bare s) format.nodes_file n ≡ Some first = owner_in-used (bare s) format.nodes_file n (inl refl) used in
-      let es = listed (bare s) shape well format.nodes_file n in
-      let are : AreProperties (property_records s) first es = properties_right (bare s) shape well format.nodes_file n first owned in
-      let known : (k : ℕ) → In k (keys_of es) → k < mark = key_known (bare s) shape well format.nodes_file n first es owned are in
+      let owned : owner_in s format.nodes_file n ≡ Some first = owner_in-used s format.nodes_file n (inl refl) used in
+      let es = listed s shape store format.nodes_file n in
+      let are : AreProperties (property_records s) first es = properties_right s shape store format.nodes_file n first owned in
+      let known : (k : ℕ) → In k (keys_of es) → k < mark = key_known s shape store format.nodes_file n first es owned are in
       ap (λ m. maps.get m (text_of (names key))) (properties_from-is (property_records s) names first es are)
       ∙ maps.get-from_entries nat_list_cmp_total (map (named_property names) es) (text_of (names key))
       ∙ find_named names mark named es key key_low known ∙ sym (value_in-is es key) ∙ ap (λ (ps : List Property). value_in ps key) (sym (properties_read (property_records s) first es are))

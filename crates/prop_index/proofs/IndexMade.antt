@@ -125,7 +125,7 @@ module _ (s m : State) (label key : ℕ) (definition : Definition) (was : IsInde
 
     -- The pair has an index of what its nodes have.
     pub index_written : WritesIndex s t label key was
-    index_written = record { store = record { rules = filled.kept; indexes = ix_now }; pairs = pairs; others = others }
+    index_written = record { store = record { store = filled.kept; indexes = ix_now }; pairs = pairs; others = others }
 
 -- ---- what it touches
 

@@ -1,5 +1,5 @@
 -- A node whose value's entry left has no entry of the pair.
-use Rattle.std.specs.Prelude.{Option, None, Some, IfSome}
+use Rattle.std.specs.Prelude.{Option, None, Some}
 use Rattle.std.proofs.Common.{◌≡◌, ◌≢◌, ⊎_elim, ℕ, Bool, true, false, ◌&&◌, not, refl, ap, sym, ◌∙◌}
 use Rattle.plain_graph.specs.declared.value.Value.{Value}
 use Rattle.store_rules.specs.Hashes.{hash_of}
@@ -18,7 +18,3 @@ left-unwanted wanted label key n (Some u) v wants = ⊎_elim
     by : (b : Bool) → (b && false) ≡ false
     by true = refl
     by false = refl
-
-pub left-unwanted_if : (wanted : Entries) (label key n : ℕ) (old new : Option Value) → WantsValue wanted label key n old → IfSome new (λ v. without_value wanted label key n old (entry_of label key n v) ≡ false)
-left-unwanted_if wanted label key n old None wants = tt
-left-unwanted_if wanted label key n old (Some v) wants = left-unwanted wanted label key n old v wants

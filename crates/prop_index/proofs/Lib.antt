@@ -2,20 +2,25 @@ mod Ascending
 mod Buckets
 mod Changed
 mod Collects
-mod ContentsWanted
+pub mod ContentsWanted
+mod Counting
 mod DefinitionAdded
-mod FillSteps
+pub mod FillSteps
+mod DefinitionsStay
+mod EntryNodes
 mod FillTouches
 mod Found
 mod Gathers
 mod GoneRules
 mod GraphFound
 mod HeadsAdded
+mod IndexBlames
 mod IndexFull
 mod IndexMade
-mod IndexTouches
-mod LeftValues
-mod LinkRules
+pub mod IndexTouches
+pub mod LeftValues
+pub mod LinkRules
+mod LiveCounts
 mod Lookups
 mod Made
 mod MadeRules
@@ -25,7 +30,7 @@ mod RecordsAdded
 mod Reread
 mod Searches
 mod Steps
-pub mod Unindexed
 mod Unlinked
 pub mod Values
 mod Walks
+pub mod IndexCounts

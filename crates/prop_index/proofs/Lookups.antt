@@ -11,11 +11,12 @@ use Rattle.rec_bytes.specs.Fault as faults
 use Rattle.rec_bytes.specs.Format as format
 use Rattle.rec_bytes.specs.RecordFiles.{is_meta_file}
 use Rattle.rec_bytes.specs.Space.{SameButReads, State}
+use Rattle.rec_bytes.specs.declared.shape.Shape.{Shape}
+use Rattle.prop_store.specs.Fault as props
 use Rattle.store_rules.specs.Chains.{In, IsWalk}
 use Rattle.store_rules.specs.Hashes.{bucket_of, hash_of}
 use Rattle.store_rules.specs.Indexes.{IsIndexed, entry_node, first_definition, indexed_key, next_definition, wanted_in}
 use Rattle.store_rules.specs.Ranges.{AreInRange}
-use Rattle.store_rules.specs.RuleList.Rule.{Ranges}
 use Rattle.store_rules.specs.Views.{Records, high, kind_at, rec_at}
 use Rattle.store_rules.proofs.PropertyWalks.{walk_is}
 use Rattle.store_rules.proofs.Shapes.{high_most}
@@ -29,13 +30,12 @@ use Rattle.prop_store.proofs.ReadCounts.{reads_then}
 use Rattle.prop_index.specs.Collecting.{AreNodesReadable}
 use Rattle.prop_index.specs.Gathering.{AreEntries, AreReadable, IsListedNode, count_hashed, node_owner, nodes_with}
 use Rattle.prop_index.specs.Heads.{IsFoundBucket}
-use Rattle.prop_index.specs.Looking.{IsRefusal, ReadsForLookup, found_in, of_fault}
+use Rattle.prop_index.specs.Looking.{BlamesBroken, IsLookupCause, IsRefusal, ReadsForLookup, found_in, of_fault}
 use Rattle.prop_index.specs.Reading.{HasRoom}
 use Rattle.prop_index.specs.declared.heads.Bucket.{Bucket}
 use Rattle.prop_index.specs.declared.lookup_fault.LookupFault.{LookupFault}
 use Rattle.prop_index.proofs.Buckets.{bucket-chain, chain-entries, chain-reread}
 use Rattle.prop_index.proofs.Found.{found_sorted, node_of_entry, walk}
-use Rattle.prop_index.proofs.Unindexed.{bare, bare_well}
 use Rattle.prop_index.proofs.Reread.{node_after, room_after, same_records}
 
 -- a fault that is no damage is a refusal
@@ -43,6 +43,17 @@ pub refusal_of : (records : Records) (label key : ℕ) (f : Fault) → faults.No
 refusal_of records label key fault.Memory is = tt
 refusal_of records label key fault.Disk is = tt
 refusal_of records label key (fault.Damaged damage) is = is
+
+fault_caused : (records : Records) (label key : ℕ) (f : Fault) → IsLookupCause records label key (of_fault f)
+fault_caused records label key fault.Memory = tt
+fault_caused records label key fault.Disk = tt
+fault_caused records label key (fault.Damaged damage) = tt
+
+-- a fault of a read says nothing of the pair
+pub caused_exit : {T : Type 0} (records : Records) (label key : ℕ) (r : Result T LookupFault) (f : Fault) → IsErrAnd r (λ e. e ≡ of_fault f) → IfErr r (IsLookupCause records label key)
+caused_exit {T = T} records label key r f h =
+    let p = err_from_is_err_and r h in
+    subst (λ (z : Result T LookupFault). IfErr z (IsLookupCause records label key)) (sym p.1) (subst (IsLookupCause records label key) (sym p.2) (fault_caused records label key f))
 
 pub refused_exit : {T U : Type 0} (records : Records) (label key : ℕ) (r : Result T LookupFault) (q : Result U Fault) (f : Fault) → q ≡ Err f → IsErrAnd r (λ e. e ≡ of_fault f) → faults.NotDamaged q
     → IfErr r (IsRefusal records label key)
@@ -57,20 +68,18 @@ module _ (s : State) (store : IsIndexed s.records s.shape) where
   definitions_are ds walked = walk_is (next_definition s.records) (first_definition s.records) ds store.indexes.definitions walked store.indexes.walk
 
   pub has_room : (file : ℕ) → is_meta_file file ≡ true → HasRoom s file
-  has_room file is = let ranges : AreInRange s.records s.shape = store.rules Ranges refl in (ranges.metas file is).high
+  has_room file is = let ranges : AreInRange s.records s.shape = store.store.ranges in (ranges.metas file is).high
 
   -- a node in use can be read
   node_listed : (n : ℕ) → kind_at s.records format.nodes_file n ≢ format.free_kind → IsListedNode s n
   node_listed n used =
       let low : n < high s.records format.nodes_file = kind_below (high s.records format.nodes_file) (rec_at s.records format.nodes_file n) n used in
-      let most = high_most s.records s.shape format.nodes_file (store.rules Ranges refl) refl in
+      let most = high_most s.records s.shape format.nodes_file store.store.ranges refl in
       let is : IsOwner (node_owner n) = record { key = record { file = refl; id = omega arith }; file = inl refl; place = refl } in
-      -- the index is none of the files that are read
-      let apart : State = record s { records = bare s.records } in
-      let has : HasElement apart (node_owner n) = record { store = bare_well s.records s.shape store.rules; used = used } in
-      let es = listed_at apart (node_owner n) is has in
-      let owned = has_properties apart (node_owner n) es (owns_listed apart (node_owner n) is has) in
-      record { room = has_room format.nodes_file refl; low = low; properties = es; has = record { are = owned.are; ids_low = owned.ids_low; blocks_low = owned.blocks_low } }
+      let has : HasElement s (node_owner n) = record { store = store.store; used = used } in
+      let es = listed_at s (node_owner n) is has in
+      let owned = has_properties s (node_owner n) es (owns_listed s (node_owner n) is has) in
+      record { room = has_room format.nodes_file refl; low = low; used = used; properties = es; has = owned }
 
   -- each node can be read
   pub nodes_readable : AreNodesReadable s
@@ -119,3 +128,9 @@ module _ (s : State) (store : IsIndexed s.records s.shape) where
           bucket = walk s store d found.listed value;
           reads = reads_then (2 + length store.indexes.definitions) (length xs + 55 * count_hashed s.records (hash_of value) xs) _ s z after (omega arith) first gathered;
         }
+
+-- what reads blame
+pub read_lookup : (records : Records) (shape : Shape) (f : Fault) → props.BlamesBroken records shape f → BlamesBroken records shape (of_fault f)
+read_lookup records shape fault.Memory is = tt
+read_lookup records shape fault.Disk is = tt
+read_lookup records shape (fault.Damaged damage) is = is

@@ -10,8 +10,7 @@ use Rattle.rec_bytes.specs.Tables.{AllFit}
 use Rattle.rec_bytes.proofs.Spaces.{put_other, put_same}
 use Rattle.rec_bytes.proofs.Tables.{field-with_fields}
 use Rattle.store_rules.specs.Ranges.{AreInRange}
-use Rattle.store_rules.specs.RuleList.{KeepsButIndex}
-use Rattle.store_rules.specs.RuleList.Rule.{Ranges}
+use Rattle.store_rules.specs.Rules.{IsWellFormed}
 use Rattle.store_rules.specs.Views.{high, key_in, kind_at, rec_at}
 use Rattle.store_rules.proofs.Changes as ch
 use Rattle.store_rules.proofs.IndexRules.{made_kept}
@@ -49,7 +48,7 @@ module _ (s u : State) (slot : Slot) (first id : ℕ) (content : Content) (rules
   two = backed_entry one first id
 
   ranges : AreInRange s.records s.shape
-  ranges = rules Ranges refl
+  ranges = rules.ranges
 
   room : room_of s.shape format.index_file < 2 ^ 32
   room = room_small s.records s.shape format.index_file ranges
@@ -79,7 +78,7 @@ module _ (s u : State) (slot : Slot) (first id : ℕ) (content : Content) (rules
   node_known : content.node < high one.records format.nodes_file
   node_known = let same = ch.mark_same s.records one.records format.index_file id made.change format.nodes_file (λ e. omega arith) in omega (arith, same, known)
 
-  rules_one : KeepsButIndex one.records s.shape
+  rules_one : IsWellFormed one.records s.shape
   rules_one = made_kept s.records one.records s.shape id rec made (fits-entry_record (high one.records) content.node first content.hash node_known node_fits first_low first_fits hash_fits) rules
 
   entry_one : first ≢ format.nil → kind_at one.records format.index_file first ≡ format.indexed
@@ -88,7 +87,7 @@ module _ (s u : State) (slot : Slot) (first id : ℕ) (content : Content) (rules
   id_fits : id < 2 ^ 32
   id_fits = let r = room in omega (arith, small, r)
 
-  rules_two : KeepsButIndex two.records s.shape
+  rules_two : IsWellFormed two.records s.shape
   rules_two = back_kept s.shape one first id entry_one id_fits (inr made.below) rules_one
 
   heads_two : kind_at two.records format.index_file slot.id ≡ format.heads
@@ -98,5 +97,5 @@ module _ (s u : State) (slot : Slot) (first id : ℕ) (content : Content) (rules
   pub entry_made_kept : (t : State) → t ≡ linked_entry u slot first id content → t.shape ≡ s.shape → KeepsStore t
   entry_made_kept t is shape =
       let low : id < high two.records format.index_file = let b = made.below in let m = back_mark one first id entry_one in omega (arith, b, m) in
-      subst (KeepsButIndex t.records) (sym shape)
-      (subst (λ (z : State). KeepsButIndex z.records s.shape) (sym (is ∙ linked-is u slot first id content)) (head_kept s.shape two slot id heads_two place id_fits (inr low) rules_two))
+      subst (IsWellFormed t.records) (sym shape)
+      (subst (λ (z : State). IsWellFormed z.records s.shape) (sym (is ∙ linked-is u slot first id content)) (head_kept s.shape two slot id heads_two place id_fits (inr low) rules_two))

@@ -14,8 +14,7 @@ use Rattle.rec_bytes.proofs.Metas.{definition-with_meta}
 use Rattle.rec_bytes.proofs.Spaces.{put_other, put_same}
 use Rattle.store_rules.specs.Indexes.{index_rec}
 use Rattle.store_rules.specs.Ranges.{AreInRange}
-use Rattle.store_rules.specs.RuleList.{KeepsButIndex}
-use Rattle.store_rules.specs.RuleList.Rule.{Ranges}
+use Rattle.store_rules.specs.Rules.{IsWellFormed}
 use Rattle.store_rules.specs.Views.{high, key_in}
 use Rattle.store_rules.proofs.Changes as ch
 use Rattle.store_rules.proofs.IndexRules.{made_kept}
@@ -39,7 +38,7 @@ module _ (s u : State) (rec : Rec) (id : ℕ) (store : KeepsStore s) (taken : Ha
   one = after_put u (key_in format.index_file id) rec
 
   ranges : AreInRange s.records s.shape
-  ranges = store Ranges refl
+  ranges = store.ranges
 
   made : IsMade s.records one.records s.shape format.index_file id rec
   made = is_made s.records u.records one.records s.shape format.index_file id (free_list s store).0 rec refl (free_list s store).1 taken (put_same u.records (key_in format.index_file id) rec)
@@ -63,7 +62,7 @@ module _ (s u : State) (rec : Rec) (id : ℕ) (store : KeepsStore s) (taken : Ha
       shape = shape;
       others = λ q file meta. made.change.others q meta (λ e. file (ap (λ (k : Key). k.file) e));
     };
-    kept = λ fits. subst (KeepsButIndex one.records) (sym shape) (made_kept s.records one.records s.shape id rec made fits store);
+    kept = λ fits. subst (IsWellFormed one.records) (sym shape) (made_kept s.records one.records s.shape id rec made fits store);
   }
 
   pub record_added : (t : State) → t ≡ one → IsRecordAdded s t rec id

@@ -14,6 +14,11 @@ use Rattle.prop_index.specs.DefinitionRecord.{empty_heads, head_of}
 use Rattle.prop_index.specs.Reading.{KeepsStore}
 use Rattle.prop_index.specs.declared.finding.Definition.{Definition}
 
+-- the label and the key are numbers of names
+pub record AreNamesOf (records : Records) (label key : ℕ) : Type 0 where
+  pub label_low : label < high records format.names_file
+  pub key_low : key < high records format.names_file
+
 -- there is room for so many records more
 abbrev pub HasLeft : State → ℕ → Type 0
 HasLeft s n = (meta_of s format.index_file).live + n ≤ room_of s.shape format.index_file
@@ -70,3 +75,8 @@ pub record IsDefinitionAdded (s t : State) (label key : ℕ) (definition : Defin
   pub shape : t.shape ≡ s.shape
   pub others : SameElsewhere s.records t.records
   pub kept : KeepsStore t
+
+-- So many records more are counted, of a store of the same shape.
+pub record CountsMore (s t : State) (count : ℕ) : Type 0 where
+  pub live : (meta_of t format.index_file).live ≡ (meta_of s format.index_file).live + count
+  pub shape : t.shape ≡ s.shape

@@ -4,7 +4,6 @@ use Rattle.id_freelist.specs.declared.take_fault.TakeFault.{TakeFault}
 use Rattle.id_freelist.specs.declared.take_fault.TakeFault.TheVariants as takes
 use Rattle.plain_graph.specs.declared.value.Value.{Value}
 use Rattle.rec_bytes.specs.declared.fault.Fault.{Fault}
-use Rattle.rec_bytes.specs.declared.shape.Shape.{Shape}
 use Rattle.rec_bytes.specs.declared.fault.Fault.TheVariants as faults
 use Rattle.rec_bytes.specs.Format as format
 use Rattle.rec_bytes.specs.RecordFiles.{room_of}
@@ -44,16 +43,15 @@ IsIndexFull s takes.Memory = Unit {0}
 IsIndexFull s takes.Disk = Unit {0}
 IsIndexFull s (takes.Damaged damage) = Unit {0}
 
--- It is the file of the indexes that is full, with as many live records as there is room for.
-abbrev pub IsFullIn : Shape → TakeFault → Type 0
-IsFullIn shape (takes.Full file live) =
-    (file ≡ format.index_file) × (live ≡ room_of shape format.index_file)
-IsFullIn shape takes.Memory = Unit {0}
-IsFullIn shape takes.Disk = Unit {0}
-IsFullIn shape (takes.Damaged damage) = Unit {0}
-
 -- a fault of records that are read as one of a change
 abbrev pub of_read : Fault → TakeFault
 of_read faults.Memory = takes.Memory
 of_read faults.Disk = takes.Disk
 of_read (faults.Damaged damage) = takes.Damaged damage
+
+-- the file is not said to be full
+abbrev pub IsNotFull : TakeFault → Type 0
+IsNotFull (takes.Full file live) = ⊥
+IsNotFull takes.Memory = Unit {0}
+IsNotFull takes.Disk = Unit {0}
+IsNotFull (takes.Damaged damage) = Unit {0}

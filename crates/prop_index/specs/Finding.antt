@@ -1,8 +1,10 @@
 -- The definition of a label and a key.
 use Rattle.std.specs.Prelude.{◌≡◌, ℕ, List, Option, Some, None}
 use Rattle.rec_bytes.specs.Format as format
-use Rattle.store_rules.specs.Chains.{In}
-use Rattle.store_rules.specs.Indexes.{index_rec, indexed_key, indexed_label}
+use Rattle.store_rules.specs.Chains.{In, IsWalk}
+use Rattle.store_rules.specs.IndexBreaking.{LeadsToDefinition}
+use Rattle.store_rules.specs.Indexes.{first_definition, index_rec, indexed_key, indexed_label}
+use Rattle.store_rules.specs.Indexes.{next_definition}
 use Rattle.store_rules.specs.Views.{Records, kind_at}
 use Rattle.prop_index.specs.declared.finding.Definition.{Definition}
 
@@ -10,14 +12,23 @@ use Rattle.prop_index.specs.declared.finding.Definition.{Definition}
 abbrev pub IsPair : Records → ℕ → ℕ → ℕ → Type 0
 IsPair records label key d = (indexed_label records d ≡ label) × (indexed_key records d ≡ key)
 
--- the record is that of a definition of the label and the key
+-- The record is that of a definition of the label and the key, to which the chain leads.
 pub record IsOfPair (records : Records) (label key : ℕ) (found : Definition) : Type 0 where
   pub rec_is : found.rec ≡ index_rec records found.id
+  pub leads : LeadsToDefinition records found.id
   pub used : kind_at records format.index_file found.id ≡ format.definition
   pub pair : IsPair records label key found.id
 
+-- None of the definitions to which the chain leads, each in use, has the label and the key.
+pub record LeadsToNone (records : Records) (label key : ℕ) : Type 0 where
+  pub definitions : List ℕ
+  pub walk : IsWalk (next_definition records) (first_definition records) definitions
+  pub defined : (d : ℕ) → In d definitions
+      → kind_at records format.index_file d ≡ format.definition
+  pub none : (d : ℕ) → In d definitions → ¬ IsPair records label key d
+
 abbrev pub IsDefined : Records → ℕ → ℕ → Option Definition → Type 0
-IsDefined records label key None = Unit {0}
+IsDefined records label key None = LeadsToNone records label key
 IsDefined records label key (Some found) = IsOfPair records label key found
 
 -- it is one of these, or none of them has the label and the key

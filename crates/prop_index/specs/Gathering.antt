@@ -1,14 +1,19 @@
 -- The nodes of a bucket that have a value.
-use Rattle.std.specs.Prelude.{◌≡◌, ℕ, ◌<◌, ◌≤◌, nat_eq, Bool, ◌&&◌, List, length, map}
+use Rattle.std.specs.Prelude.{◌≡◌, ◌≢◌, ℕ, ◌<◌, ◌≤◌, nat_eq, Bool, ◌&&◌, List, length, map}
 use Rattle.std.specs.List.{filter}
 use Rattle.plain_graph.specs.declared.value.Value.{Value}
+use Rattle.rec_bytes.specs.declared.damage.Damage.{Damage}
+use Rattle.rec_bytes.specs.declared.record.Rec.{Rec}
 use Rattle.rec_bytes.specs.Format as format
+use Rattle.rec_bytes.specs.RecordFiles.{room_of}
 use Rattle.rec_bytes.specs.Space.{State}
 use Rattle.store_rules.specs.Chains.{In, IsWalk}
-use Rattle.store_rules.specs.Indexes.{entry_hash, entry_node, has_value, next_entry, value_in}
+use Rattle.store_rules.specs.IndexBreaking.{LeadsToEntry}
+use Rattle.store_rules.specs.Indexes.{entry_hash, entry_node, has_value, index_rec, next_entry}
+use Rattle.store_rules.specs.Indexes.{value_in}
 use Rattle.store_rules.specs.Properties.{Property}
 use Rattle.store_rules.specs.Views.{Records, high, key_in, kind_at}
-use Rattle.prop_index.specs.Reading.{HasRoom}
+use Rattle.prop_index.specs.Reading.{HasRoom, damage_of}
 use Rattle.prop_store.specs.Owner.{HasProperties}
 use Rattle.prop_store.specs.Reading.{properties_met}
 use Rattle.prop_store.specs.declared.owner.Owner.{Owner}
@@ -16,10 +21,11 @@ use Rattle.prop_store.specs.declared.owner.Owner.{Owner}
 abbrev pub node_owner : ℕ → Owner
 node_owner n = record { key = key_in format.nodes_file n; field = format.node_first_property }
 
--- the node has properties that can be read
+-- the node is in use, and has properties that can be read
 pub record IsListedNode (s : State) (n : ℕ) : Type 0 where
   pub room : HasRoom s format.nodes_file
   pub low : n < high s.records format.nodes_file
+  pub used : kind_at s.records format.nodes_file n ≢ format.free_kind
   pub properties : List Property
   pub has : HasProperties s.records (node_owner n) properties
 
@@ -52,3 +58,16 @@ pub record AreReadable (s : State) (hash : ℕ) (xs : List ℕ) : Type 0 where
   pub room : HasRoom s format.index_file
   pub nodes : (x : ℕ) → In x xs → entry_hash s.records x ≡ hash
       → IsListedNode s (entry_node s.records x)
+
+-- No node of the number was given out, and the record that names it is damaged. Or the nodes' mark
+-- is above the room, and their meta record is.
+pub data IsOwnerDamage (s : State) (node : ℕ) (named : Damage) : Damage → Type 0 where
+  NamesNone : high s.records format.nodes_file ≤ node → IsOwnerDamage s node named named
+  HighNodes : room_of s.shape format.nodes_file < high s.records format.nodes_file
+      → IsOwnerDamage s node named (damage_of format.meta_file format.nodes_file 1)
+
+-- The record of an entry to which a bucket leads.
+pub record IsEntryMet (records : Records) (d b count x : ℕ) (rec : Rec) : Type 0 where
+  pub leads : LeadsToEntry records d b count x
+  pub used : kind_at records format.index_file x ≡ format.indexed
+  pub rec_is : rec ≡ index_rec records x

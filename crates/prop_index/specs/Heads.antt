@@ -5,6 +5,7 @@ use Rattle.rec_bytes.specs.Format as format
 use Rattle.rec_bytes.specs.Record.{field}
 use Rattle.store_rules.specs.Chains.{In}
 use Rattle.store_rules.specs.Hashes.{bucket_of}
+use Rattle.store_rules.specs.IndexBreaking.{HasHead}
 use Rattle.store_rules.specs.Indexes.{heads_of, index_rec}
 use Rattle.store_rules.specs.Views.{Records, kind_at}
 use Rattle.prop_index.specs.Finding.{IsPair}
@@ -52,3 +53,13 @@ IsBucketSought records definitions label key hash None =
     (d : ℕ) → In d definitions → ¬ IsPair records label key d
 IsBucketSought records definitions label key hash (Some bucket) =
     IsFoundBucket records definitions label key hash bucket
+
+-- The bucket is that of this number, of a definition to which the chain leads.
+pub record IsBucketMet (records : Records) (number : ℕ) (bucket : Bucket) : Type 0 where
+  pub definition : ℕ
+  pub has : HasHead records definition number
+  pub is : IsBucketOf records definition number bucket
+
+abbrev pub IfBucketMet : Records → ℕ → Option Bucket → Type 0
+IfBucketMet records number None = Unit {0}
+IfBucketMet records number (Some bucket) = IsBucketMet records number bucket

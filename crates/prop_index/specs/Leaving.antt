@@ -32,6 +32,11 @@ pub record IsRowOf (records : Records) (xs : List ℕ) (content : Content) (row 
   pub rec_is : row.rec ≡ index_rec records row.id
   pub says : SaysContent records content row.id
 
+-- the record is that of an entry in use
+pub record IsEntryRow (records : Records) (row : EntryRow) : Type 0 where
+  pub rec_is : row.rec ≡ index_rec records row.id
+  pub used : kind_at records format.index_file row.id ≡ format.indexed
+
 -- so it is, or none of them does
 abbrev pub IsEntrySought : Records → List ℕ → Content → Option EntryRow → Type 0
 IsEntrySought records xs content None = IsNoneOf records xs content

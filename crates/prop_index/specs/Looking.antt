@@ -8,6 +8,8 @@ use Rattle.plain_graph.specs.declared.value.Value.{Value}
 use Rattle.rec_bytes.specs.Cause.{HasDiskCause}
 use Rattle.rec_bytes.specs.Format as format
 use Rattle.rec_bytes.specs.Space.{State}
+use Rattle.rec_bytes.specs.declared.shape.Shape.{Shape}
+use Rattle.store_rules.specs.Breaking.{Breaks}
 use Rattle.store_rules.specs.Chains.{In, IsWalk}
 use Rattle.store_rules.specs.Graph.{graph_of}
 use Rattle.store_rules.specs.Hashes.{bucket_of, hash_of}
@@ -15,7 +17,7 @@ use Rattle.store_rules.specs.Indexes.{first_definition, first_entry, has_value}
 use Rattle.store_rules.specs.Indexes.{next_definition, next_entry, node_value}
 use Rattle.store_rules.specs.Rows.{ids}
 use Rattle.store_rules.specs.Views.{Records, high, rec_at, text_of}
-use Rattle.prop_index.specs.Finding.{IsPair}
+use Rattle.prop_index.specs.Finding.{IsPair, LeadsToNone}
 use Rattle.prop_index.specs.Gathering.{count_hashed}
 use Rattle.prop_index.specs.declared.lookup_fault.LookupFault.{LookupFault}
 use Rattle.prop_index.specs.declared.lookup_fault.LookupFault.TheVariants as lookups
@@ -84,6 +86,20 @@ IsRefusal records label key lookups.Memory = Unit {0}
 IsRefusal records label key lookups.Disk = Unit {0}
 IsRefusal records label key (lookups.Damaged damage) = ⊥
 
+-- Whatever the records are, there is no index where it is said so.
+abbrev pub IsLookupCause : Records → ℕ → ℕ → LookupFault → Type 0
+IsLookupCause records label key lookups.NoIndex = LeadsToNone records label key
+IsLookupCause records label key lookups.Memory = Unit {0}
+IsLookupCause records label key lookups.Disk = Unit {0}
+IsLookupCause records label key (lookups.Damaged damage) = Unit {0}
+
 -- the disk is blamed only where it failed
 abbrev pub HasLookupCause : {T : Type 0} → ℕ → ℕ → Result T LookupFault → Type 0
 HasLookupCause before now result = HasDiskCause lookups.Disk before now result
+
+-- a record that is blamed breaks the rule
+abbrev pub BlamesBroken : Records → Shape → LookupFault → Type 0
+BlamesBroken records shape lookups.NoIndex = Unit {0}
+BlamesBroken records shape lookups.Memory = Unit {0}
+BlamesBroken records shape lookups.Disk = Unit {0}
+BlamesBroken records shape (lookups.Damaged damage) = Breaks records shape damage

@@ -6,6 +6,8 @@ use Rattle.rec_bytes.specs.declared.fault.Fault.{Fault}
 use Rattle.rec_bytes.specs.declared.fault.Fault.TheVariants as faults
 use Rattle.id_freelist.specs.declared.take_fault.TakeFault.{TakeFault}
 use Rattle.id_freelist.specs.declared.take_fault.TakeFault.TheVariants as takes
+use Rattle.rec_bytes.specs.declared.shape.Shape.{Shape}
+use Rattle.store_rules.specs.Breaking.{Breaks}
 use Rattle.store_rules.specs.Views.{Records, high}
 use Rattle.prop_index.specs.Collecting.{contents_in}
 use Rattle.prop_index.specs.declared.make_fault.MakeFault.{MakeFault}
@@ -38,3 +40,25 @@ IsCollectFault records label key (makes.Full live) = ⊥
 IsCollectFault records label key makes.Memory = Unit {0}
 IsCollectFault records label key makes.Disk = Unit {0}
 IsCollectFault records label key (makes.Damaged damage) = ⊥
+
+-- a record that is blamed breaks the rule
+abbrev pub BlamesBroken : Records → Shape → MakeFault → Type 0
+BlamesBroken records shape makes.There = Unit {0}
+BlamesBroken records shape makes.Many = Unit {0}
+BlamesBroken records shape (makes.TooLarge count) = Unit {0}
+BlamesBroken records shape (makes.Full live) = Unit {0}
+BlamesBroken records shape makes.Memory = Unit {0}
+BlamesBroken records shape makes.Disk = Unit {0}
+BlamesBroken records shape (makes.Damaged damage) = Breaks records shape damage
+
+-- It is the count that is told of nodes with the key, or not one of the reasons.
+abbrev pub IsCollectCause : Records → ℕ → ℕ → MakeFault → Type 0
+IsCollectCause records label key makes.There = ⊥
+IsCollectCause records label key makes.Many = ⊥
+IsCollectCause records label key (makes.TooLarge count) =
+    (count ≡ length (contents_in records label key (high records format.nodes_file)))
+    × (1024 < count)
+IsCollectCause records label key (makes.Full live) = ⊥
+IsCollectCause records label key makes.Memory = Unit {0}
+IsCollectCause records label key makes.Disk = Unit {0}
+IsCollectCause records label key (makes.Damaged damage) = Unit {0}

@@ -1,14 +1,15 @@
 -- What an index that is made makes of a store, and why none is made.
 use Rattle.std.specs.Prelude.{◌≡◌, ℕ, ◌+◌, ◌<◌, ◌≤◌, List, ◌∷◌, length, map}
+use Rattle.std.specs.List.{Contains}
 use Rattle.rec_bytes.specs.Format as format
-use Rattle.rec_bytes.specs.Space.{State, meta_of}
+use Rattle.rec_bytes.specs.Space.{SameButReads, State, meta_of}
 use Rattle.store_rules.specs.Chains.{In}
 use Rattle.store_rules.specs.Indexes.{IsIndexed}
 use Rattle.store_rules.specs.Views.{Records, high}
 use Rattle.prop_index.specs.Collecting.{contents_in}
 use Rattle.prop_index.specs.Defining.{HasLeft, SameElsewhere}
 use Rattle.prop_index.specs.Finding.{IsPair}
-use Rattle.prop_index.specs.Listing.{pair_of}
+use Rattle.prop_index.specs.Listing.{ArePairsMet, pair_of}
 use Rattle.prop_index.specs.declared.listing.IndexPair.{IndexPair}
 use Rattle.prop_index.specs.declared.make_fault.MakeFault.{MakeFault}
 use Rattle.prop_index.specs.declared.make_fault.MakeFault.TheVariants as makes
@@ -77,7 +78,54 @@ IsMakeRefusal s was label key (makes.TooLarge count) =
 IsMakeRefusal s was label key (makes.Full live) =
     MayDefine s.records was.indexes.definitions label key
     × (count_of s.records label key ≤ 1024)
-    × (live ≡ (meta_of s format.index_file).live) × (¬ HasLeft s (13 + count_of s.records label key))
+    × (live ≡ (meta_of s format.index_file).live)
+    × (¬ HasLeft s (13 + count_of s.records label key))
 IsMakeRefusal s was label key makes.Memory = Unit {0}
 IsMakeRefusal s was label key makes.Disk = Unit {0}
 IsMakeRefusal s was label key (makes.Damaged damage) = ⊥
+
+-- ---- why none is made, by what the records say, whether or not they keep the rules
+
+-- the pair is one of those of the definitions to which the chain leads
+pub record HasPairMet (records : Records) (label key : ℕ) : Type 0 where
+  pub pairs : List IndexPair
+  pub met : ArePairsMet records pairs
+  pub there : Contains pairs (pair_is label key)
+
+-- they are as many as there may be
+pub record AreManyMet (records : Records) : Type 0 where
+  pub pairs : List IndexPair
+  pub met : ArePairsMet records pairs
+  pub many : length pairs ≡ 16
+
+abbrev pub IsPairCause : Records → ℕ → ℕ → MakeFault → Type 0
+IsPairCause records label key makes.There = HasPairMet records label key
+IsPairCause records label key makes.Many = AreManyMet records
+IsPairCause records label key (makes.TooLarge count) = ⊥
+IsPairCause records label key (makes.Full live) = ⊥
+IsPairCause records label key makes.Memory = Unit {0}
+IsPairCause records label key makes.Disk = Unit {0}
+IsPairCause records label key (makes.Damaged damage) = Unit {0}
+
+-- The count of nodes with the key is the one that is told, and the file has no room for so many
+-- records. A record that is blamed has a clause of its own.
+abbrev pub IsMakeCause : State → ℕ → ℕ → MakeFault → Type 0
+IsMakeCause s label key makes.There = HasPairMet s.records label key
+IsMakeCause s label key makes.Many = AreManyMet s.records
+IsMakeCause s label key (makes.TooLarge count) =
+    (count ≡ count_of s.records label key) × (1024 < count)
+IsMakeCause s label key (makes.Full live) =
+    (live ≡ (meta_of s format.index_file).live) × (¬ HasLeft s (13 + count_of s.records label key))
+IsMakeCause s label key makes.Memory = Unit {0}
+IsMakeCause s label key makes.Disk = Unit {0}
+IsMakeCause s label key (makes.Damaged damage) = Unit {0}
+
+-- where the file is full nothing was written
+abbrev pub IsUnwrittenFull : State → State → MakeFault → Type 0
+IsUnwrittenFull s t makes.There = Unit {0}
+IsUnwrittenFull s t makes.Many = Unit {0}
+IsUnwrittenFull s t (makes.TooLarge count) = Unit {0}
+IsUnwrittenFull s t (makes.Full live) = SameButReads s t
+IsUnwrittenFull s t makes.Memory = Unit {0}
+IsUnwrittenFull s t makes.Disk = Unit {0}
+IsUnwrittenFull s t (makes.Damaged damage) = Unit {0}

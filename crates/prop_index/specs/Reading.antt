@@ -4,7 +4,7 @@ use Rattle.rec_bytes.specs.declared.damage.Damage.{Damage}
 use Rattle.rec_bytes.specs.Format as format
 use Rattle.rec_bytes.specs.RecordFiles.{room_of}
 use Rattle.rec_bytes.specs.Space.{State}
-use Rattle.store_rules.specs.RuleList.{KeepsButIndex}
+use Rattle.store_rules.specs.Rules.{IsWellFormed}
 use Rattle.store_rules.specs.Views.{high, kind_at}
 use Rattle.rec_bytes.specs.declared.fault.Fault.{Fault}
 use Rattle.rec_bytes.specs.declared.fault.Fault.TheVariants.{Damaged, Disk, Memory}
@@ -13,9 +13,9 @@ use Rattle.rec_bytes.specs.declared.fault.Fault.TheVariants.{Damaged, Disk, Memo
 abbrev pub HasRoom : State → ℕ → Type 0
 HasRoom s file = high s.records file ≤ room_of s.shape file
 
--- the rules but the eighth hold
+-- the first seven rules hold
 abbrev pub KeepsStore : State → Type 0
-KeepsStore s = KeepsButIndex s.records s.shape
+KeepsStore s = IsWellFormed s.records s.shape
 
 abbrev pub damage_of : ℕ → ℕ → ℕ → Damage
 damage_of file id rule = record { file = file; id = id; rule = rule }

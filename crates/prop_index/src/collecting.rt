@@ -3,9 +3,11 @@
 ghost use Rattle.std.specs.Prelude.{◌≡◌, ◌≢◌, ◌↔◌, ◌<◌, ◌≤◌, ◌++◌, List, [], ◌∷◌};
 ghost use Rattle.std.specs.Prelude.{IfErr, IfOk, IsTrue, OnOk, length};
 ghost use Rattle.prop_index.specs.Collecting.{AreNodesReadable, contents_in, hash_at};
-ghost use Rattle.prop_index.specs.MakeFault.{HasMakeCause, IsCollectFault};
+ghost use Rattle.prop_index.specs.MakeFault as makes;
+ghost use Rattle.prop_index.specs.MakeFault.{HasMakeCause, IsCollectCause, IsCollectFault};
+ghost use Rattle.prop_store.specs.Fault.{BlamesBroken};
 ghost use Rattle.prop_store.specs.Finding.{value_of};
-ghost use Rattle.prop_store.specs.Owner.{HasProperties, IsOwner};
+ghost use Rattle.prop_store.specs.Owner.{HasProperties, IsInUse, IsOwner};
 ghost use Rattle.prop_store.specs.Reading.{ReadsAtMost, properties_met};
 ghost use Rattle.rec_bytes.specs.Fault.{HasFaultCause, NotDamaged};
 ghost use Rattle.rec_bytes.specs.Format.{nodes_file};
@@ -42,6 +44,10 @@ pub(crate) fn collect<R: Reads>(
     ensures few { IfOk result (λ contents. length contents.items ≤ 1024) }
     ensures refused { R.tells → AreNodesReadable (R.state space.old)
         → IfErr result (IsCollectFault (R.state space.old).records label key) }
+    ensures caused { R.tells → IfErr result
+        (IsCollectCause (R.state space.old).records label key) }
+    ensures damaged { R.tells → IfErr result
+        (makes.BlamesBroken (R.state space.old).records (R.state space.old).shape) }
     ensures same { SameButReads (R.state space.old) (R.state space.new) }
     ensures onward { R.onward space.old space.new }
     ensures cause { HasMakeCause (R.faults space.old) (R.faults space.new) result }
@@ -83,6 +89,8 @@ fn hash_at<R: Reads>(
         → IfOk result (λ hash. hash ≡ hash_at (R.state space.old).records label key node) }
     ensures sound { R.tells → node < high (R.state space.old).records nodes_file
         → AreNodesReadable (R.state space.old) → NotDamaged result }
+    ensures damaged { R.tells → node < high (R.state space.old).records nodes_file
+        → IfErr result (BlamesBroken (R.state space.old).records (R.state space.old).shape) }
     ensures at_most { ReadsAtMost 56 (R.state space.old) (R.state space.new) }
     ensures onward { R.onward space.old space.new }
     ensures cause { HasFaultCause (R.faults space.old) (R.faults space.new) result }
@@ -114,6 +122,8 @@ fn value_hash<R: Reads>(
         ≡ option_map hash_of (value_of (properties_met (R.state space.old).records owner) key)) }
     ensures sound { R.tells → (es : List Property)
         → HasProperties (R.state space.old).records owner es → NotDamaged result }
+    ensures damaged { R.tells → IsInUse (R.state space.old).records owner
+        → IfErr result (BlamesBroken (R.state space.old).records (R.state space.old).shape) }
     ensures at_most { ReadsAtMost 55 (R.state space.old) (R.state space.new) }
     ensures onward { R.onward space.old space.new }
     ensures cause { HasFaultCause (R.faults space.old) (R.faults space.new) result }

@@ -1,15 +1,17 @@
 //! A definition with empty buckets.
 
-ghost use Rattle.std.specs.Prelude.{◌≡◌, ◌≢◌, ◌<◌, ℕ, [], ◌∷◌, IfErr, IfOk};
-ghost use Rattle.id_freelist.specs.TakeFault.{HasTakeCause};
+ghost use Rattle.std.specs.Prelude.{◌≢◌, ◌<◌, ℕ, [], ◌∷◌, IfErr, IfOk, OnOk};
+ghost use Rattle.id_freelist.specs.TakeFault.{BlamesBroken, HasTakeCause};
 ghost use Rattle.prop_index.specs.Defining.{
   AreHeadsAdded,
+  AreNamesOf,
+  CountsMore,
   HasLeft,
   IsDefinitionAdded,
   IsRecordAdded,
 };
 ghost use Rattle.prop_index.specs.DefinitionRecord.{head_ids, head_of};
-ghost use Rattle.prop_index.specs.Entering.{IsMishap};
+ghost use Rattle.prop_index.specs.Entering.{IsMishap, IsNotFull};
 ghost use Rattle.prop_index.specs.Reading.{KeepsStore};
 ghost use Rattle.prop_index.specs.Touching.{TouchesIndex, index_keys};
 ghost use Rattle.prop_store.specs.Touching.{TouchesOnly};
@@ -28,10 +30,16 @@ use rec_bytes::{
 
 /// Puts a definition of a label and a key in front of the others, with empty buckets.
 pub(crate) fn define<S: Space>(space: &mut S, label: u32, key: u32) -> Result<Definition, TakeFault>
-    ensures added { S.tells → KeepsStore (S.state space.old) → IfOk result
+    ensures added { S.tells → KeepsStore (S.state space.old)
+        → AreNamesOf (S.state space.old).records label key → IfOk result
         (IsDefinitionAdded (S.state space.old) (S.state space.new) label key) }
     ensures mishap { S.tells → KeepsStore (S.state space.old)
         → HasLeft (S.state space.old) 13 → IfErr result IsMishap }
+    ensures counted { S.tells → OnOk result
+        (CountsMore (S.state space.old) (S.state space.new) 13) }
+    ensures roomy { S.tells → HasLeft (S.state space.old) 13 → IfErr result IsNotFull }
+    ensures still { S.tells → IfErr result
+        (BlamesBroken (S.state space.new).records (S.state space.new).shape) }
     ensures heads { IfOk result (λ definition. (c : ℕ) → c < 12
         → IsKey (key_in index_file (head_of definition.rec c))) }
     ensures touched { IfOk result (λ definition. TouchesOnly S.tells (S.state space.old)
@@ -54,6 +62,11 @@ fn add_heads<S: Space>(space: &mut S, start: Rec) -> Result<Rec, TakeFault>
         (AreHeadsAdded (S.state space.old) (S.state space.new) start 12) }
     ensures mishap { S.tells → KeepsStore (S.state space.old)
         → HasLeft (S.state space.old) 12 → IfErr result IsMishap }
+    ensures counted { S.tells → OnOk result
+        (CountsMore (S.state space.old) (S.state space.new) 12) }
+    ensures roomy { S.tells → HasLeft (S.state space.old) 12 → IfErr result IsNotFull }
+    ensures still { S.tells → IfErr result
+        (BlamesBroken (S.state space.new).records (S.state space.new).shape) }
     ensures heads { IfOk result (λ rec. (c : ℕ) → c < 12
         → IsKey (key_in index_file (head_of rec c))) }
     ensures touched { IfOk result (λ rec. TouchesOnly S.tells (S.state space.old)
@@ -76,6 +89,11 @@ fn add_record<S: Space>(space: &mut S, rec: Rec) -> Result<u32, TakeFault>
         → IfOk result (IsRecordAdded (S.state space.old) (S.state space.new) rec) }
     ensures mishap { S.tells → KeepsStore (S.state space.old)
         → HasLeft (S.state space.old) 1 → IfErr result IsMishap }
+    ensures counted { S.tells → OnOk result
+        (CountsMore (S.state space.old) (S.state space.new) 1) }
+    ensures roomy { S.tells → HasLeft (S.state space.old) 1 → IfErr result IsNotFull }
+    ensures still { S.tells → IfErr result
+        (BlamesBroken (S.state space.new).records (S.state space.new).shape) }
     ensures key { IfOk result (λ id. IsKey (key_in index_file id)) }
     ensures touched { IfOk result (λ id. TouchesOnly S.tells (S.state space.old)
         (S.state space.new) (index_keys (id ∷ []))) }

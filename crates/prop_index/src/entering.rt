@@ -1,14 +1,19 @@
 //! Entries that are added.
 
 ghost use Rattle.std.specs.Prelude.{◌≡◌, ◌+◌, ◌<◌, ◌≤◌, ℕ, List, IfErr, OnOk, false};
-ghost use Rattle.id_freelist.specs.TakeFault.{HasTakeCause, NotDamaged};
+ghost use Rattle.id_freelist.specs.TakeFault.{BlamesBroken, HasTakeCause, NotDamaged};
 ghost use Rattle.id_freelist.specs.Taking.{CanTake};
-ghost use Rattle.prop_index.specs.Entering.{IsIndexFull, IsMade, entry_of, of_read};
+ghost use Rattle.prop_index.specs.Blaming.{IsEntryAt, TakeNamesIndexes};
+ghost use Rattle.prop_index.specs.Entering.{IsIndexFull, IsMade, IsNotFull, entry_of, of_read};
+ghost use Rattle.prop_index.specs.Finding.{IsPair};
 ghost use Rattle.prop_index.specs.Heads.{BeginsRight, IsHead, IsHeadPlace};
-ghost use Rattle.prop_index.specs.Reading.{KeepsStore};
+ghost use Rattle.prop_index.specs.Reading.{KeepsStore, damage_of};
 ghost use Rattle.prop_index.specs.Touching.{TouchesIndex};
 ghost use Rattle.rec_bytes.specs.Format.{index_file, nodes_file};
 ghost use Rattle.rec_bytes.specs.Key.{IsKey};
+ghost use Rattle.rec_bytes.specs.Space.{SameButReads, meta_of};
+ghost use Rattle.store_rules.specs.Chains.{In};
+ghost use Rattle.store_rules.specs.Graph.{indexes_of};
 ghost use Rattle.store_rules.specs.Indexes.{AreIndexed, Entries, with_entry};
 ghost use Rattle.store_rules.specs.Views.{high, key_in};
 
@@ -42,7 +47,26 @@ pub fn enter<S: Space>(
     ensures sound { S.tells → (wanted : Entries) → (free : List ℕ)
         → AreIndexed (S.state space.old).records wanted
         → CanTake (S.state space.old) index_file free → NotDamaged result }
+    ensures graph { S.tells → (wanted : Entries) → (free : List ℕ)
+        → AreIndexed (S.state space.old).records wanted
+        → CanTake (S.state space.old) index_file free → OnOk result
+        (indexes_of (S.state space.new).records ≡ indexes_of (S.state space.old).records) }
+    ensures names { S.tells → IfErr result TakeNamesIndexes }
+    ensures counted { S.tells → OnOk result ((meta_of (S.state space.new) index_file).live
+        ≤ (meta_of (S.state space.old) index_file).live + 1) }
     ensures full { S.tells → IfErr result (IsIndexFull (S.state space.old)) }
+    ensures crowded { S.tells → IfErr result (IsIndexFull (S.state space.new)) }
+    ensures unlisted { S.tells → (wanted : Entries)
+        → (ix : AreIndexed (S.state space.old).records wanted) → ((d : ℕ) → In d ix.definitions
+        → ¬ IsPair (S.state space.old).records label key d) → IfErr result IsNotFull }
+    ensures unchanged { S.tells → (wanted : Entries)
+        → (ix : AreIndexed (S.state space.old).records wanted) → ((d : ℕ) → In d ix.definitions
+        → ¬ IsPair (S.state space.old).records label key d)
+        → OnOk result (SameButReads (S.state space.old) (S.state space.new)) }
+    ensures damaged { S.tells → IfErr result
+        (BlamesBroken (S.state space.old).records (S.state space.old).shape) }
+    ensures still { S.tells → IfErr result
+        (BlamesBroken (S.state space.new).records (S.state space.new).shape) }
     ensures touches { TouchesIndex S.tells 3 (S.state space.old) (S.state space.new) }
     ensures onward { S.onward space.old space.new }
     ensures cause { HasTakeCause (S.faults space.old) (S.faults space.new) result }
@@ -71,7 +95,21 @@ fn add_entry<S: Space>(space: &mut S, bucket: Bucket, content: Content) -> Resul
         → OnOk result (KeepsStore (S.state space.new)) }
     ensures sound { S.tells → (free : List ℕ) → BeginsRight (S.state space.old).records bucket
         → CanTake (S.state space.old) index_file free → NotDamaged result }
+    ensures graph { S.tells → (free : List ℕ) → IsHead (S.state space.old).records bucket
+        → BeginsRight (S.state space.old).records bucket → IsHeadPlace bucket.slot.place
+        → CanTake (S.state space.old) index_file free → OnOk result
+        (indexes_of (S.state space.new).records ≡ indexes_of (S.state space.old).records) }
+    ensures names { S.tells → IfErr result TakeNamesIndexes }
+    ensures counted { S.tells → OnOk result ((meta_of (S.state space.new) index_file).live
+        ≡ (meta_of (S.state space.old) index_file).live + 1) }
     ensures full { S.tells → IfErr result (IsIndexFull (S.state space.old)) }
+    ensures crowded { S.tells → IfErr result (IsIndexFull (S.state space.new)) }
+    ensures damaged { S.tells → (d b : ℕ) → IsEntryAt (S.state space.old) d b 0 bucket.first
+        (damage_of index_file bucket.slot.id 1) → IfErr result
+        (BlamesBroken (S.state space.old).records (S.state space.old).shape) }
+    ensures still { S.tells → (d b : ℕ) → IsEntryAt (S.state space.old) d b 0 bucket.first
+        (damage_of index_file bucket.slot.id 1) → IfErr result
+        (BlamesBroken (S.state space.new).records (S.state space.new).shape) }
     ensures touches { TouchesIndex S.tells 3 (S.state space.old) (S.state space.new) }
     ensures onward { S.onward space.old space.new }
     ensures cause { HasTakeCause (S.faults space.old) (S.faults space.new) result }
@@ -84,7 +122,7 @@ fn add_entry<S: Space>(space: &mut S, bucket: Bucket, content: Content) -> Resul
 }
 
 /// A fault of records that are read as one of a change.
-pub(crate) fn of_read(fault: Fault) -> TakeFault
+fn of_read(fault: Fault) -> TakeFault
     ensures { result ≡ of_read fault }
 {
     match fault {

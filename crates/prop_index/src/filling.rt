@@ -1,10 +1,10 @@
 //! The entries of an index that is made.
 
-ghost use Rattle.std.specs.Prelude.{◌≡◌, ◌<◌, ℕ, IfErr, OnOk, length};
-ghost use Rattle.id_freelist.specs.TakeFault.{HasTakeCause};
+ghost use Rattle.std.specs.Prelude.{◌<◌, ℕ, IfErr, OnOk, length};
+ghost use Rattle.id_freelist.specs.TakeFault.{BlamesBroken, HasTakeCause};
 ghost use Rattle.prop_index.specs.Defining.{HasLeft};
 ghost use Rattle.prop_index.specs.DefinitionRecord.{head_ids, head_of};
-ghost use Rattle.prop_index.specs.Entering.{IsMishap};
+ghost use Rattle.prop_index.specs.Entering.{IsMishap, IsNotFull};
 ghost use Rattle.prop_index.specs.Filling.{AreFillable, IsEmptyIndex, IsFilled, TouchesBeside};
 ghost use Rattle.prop_index.specs.Reading.{KeepsStore};
 ghost use Rattle.rec_bytes.specs.Format.{index_file};
@@ -39,6 +39,10 @@ pub(crate) fn fill<S: Space>(
         → IsEmptyIndex (S.state space.old).records wanted ix label key definition.now
         → AreFillable (S.state space.old).records contents.now → KeepsStore (S.state space.old)
         → HasLeft (S.state space.old) (length contents.now) → IfErr result IsMishap }
+    ensures roomy { S.tells → HasLeft (S.state space.old) (length contents.now)
+        → IfErr result IsNotFull }
+    ensures still { S.tells → IfErr result
+        (BlamesBroken (S.state space.new).records (S.state space.new).shape) }
     ensures touches { TouchesBeside S.tells (head_ids 12 definition.now.rec)
         (length contents.now) (S.state space.old) (S.state space.new) }
     ensures onward { S.onward space.old space.new }

@@ -1,11 +1,13 @@
 //! The definition of a pair.
 
-ghost use Rattle.std.specs.Prelude.{◌≡◌, ◌↔◌, ◌+◌, ℕ, List, IfOk, IsTrue, length, OnOk};
+ghost use Rattle.std.specs.Prelude.{◌≡◌, ◌↔◌, ◌+◌, ℕ, List, IfErr, IfOk, IsTrue, length, OnOk};
 ghost use Rattle.rec_bytes.specs.Record.{field};
+ghost use Rattle.prop_index.specs.Blaming.{NamesIndexes};
 ghost use Rattle.prop_index.specs.Finding.{IsDefined, IsFound};
 ghost use Rattle.store_rules.specs.IndexBreaking.{AreDefinitions};
 ghost use Rattle.prop_index.specs.Reading.{HasRoom};
 ghost use Rattle.rec_bytes.specs.Fault.{HasFaultCause, NotDamaged};
+ghost use Rattle.prop_store.specs.Fault.{BlamesBroken};
 ghost use Rattle.prop_store.specs.Reading.{ReadsAtMost};
 ghost use Rattle.rec_bytes.specs.Format.{index_file};
 
@@ -36,6 +38,9 @@ pub(crate) fn find_definition<R: Reads>(
     ensures defined { R.tells → IfOk result (IsDefined (R.state space.old).records label key) }
     ensures sound { R.tells → (ds : List ℕ) → AreDefinitions (R.state space.old).records ds
         → HasRoom (R.state space.old) index_file → NotDamaged result }
+    ensures damaged { R.tells → IfErr result
+        (BlamesBroken (R.state space.old).records (R.state space.old).shape) }
+    ensures names { R.tells → IfErr result NamesIndexes }
     ensures cost { R.tells → (ds : List ℕ) → AreDefinitions (R.state space.old).records ds
         → OnOk result (ReadsAtMost (1 + length ds) (R.state space.old) (R.state space.new)) }
     ensures at_most { ReadsAtMost 17 (R.state space.old) (R.state space.new) }

@@ -1,10 +1,12 @@
 //! The nodes of a bucket that have a value.
 
-ghost use Rattle.std.specs.Prelude.{◌≡◌, ◌+◌, ◌*◌, ◌++◌, ℕ, List, [], ◌∷◌, IfOk, OnOk, cond};
+ghost use Rattle.std.specs.Prelude.{◌≡◌, ◌+◌, ◌*◌, ◌++◌, ℕ, List, [], ◌∷◌, IfErr, IfOk, OnOk, cond};
 ghost use Rattle.std.specs.Prelude.{length};
+ghost use Rattle.prop_index.specs.Blaming.{IsEntryAt};
 ghost use Rattle.prop_index.specs.Gathering.{
   AreEntries,
   AreReadable,
+  IsEntryMet,
   IsListedNode,
   count_hashed,
   is_hashed,
@@ -12,6 +14,8 @@ ghost use Rattle.prop_index.specs.Gathering.{
   nodes_with,
 };
 ghost use Rattle.rec_bytes.specs.Fault.{HasFaultCause, NotDamaged};
+ghost use Rattle.rec_bytes.specs.Space.{SameButReads};
+ghost use Rattle.prop_store.specs.Fault.{BlamesBroken};
 ghost use Rattle.prop_store.specs.Reading.{ReadsAtMost};
 ghost use Rattle.store_rules.specs.Indexes.{entry_hash, entry_node, index_rec};
 
@@ -49,6 +53,9 @@ pub(crate) fn gather<R: Reads>(
         → OnOk result (ReadsAtMost (length xs
         + 55 * count_hashed (R.state space.old).records sought.hash xs)
         (R.state space.old) (R.state space.new)) }
+    ensures damaged { R.tells → (d b : ℕ) → IsEntryAt (R.state space.old) d b 0 first named
+        → IfErr result (BlamesBroken (R.state space.old).records (R.state space.old).shape) }
+    ensures same { SameButReads (R.state space.old) (R.state space.new) }
     ensures onward { R.onward space.old space.new }
     ensures cause { HasFaultCause (R.faults space.old) (R.faults space.new) result }
 {
@@ -60,8 +67,8 @@ pub(crate) fn gather<R: Reads>(
             return Ok(nodes);
         }
         let rec = record_at(space, at, INDEXED, named)?;
+        add_node(alloc, space, &rec, sought, value, at, &mut nodes)?;
         named = out_of_range(at);
-        add_node(alloc, space, &rec, sought, value, named, &mut nodes)?;
         at = rec.number(INDEXED_NEXT);
     }
     if at != NIL {
@@ -77,7 +84,7 @@ fn add_node<R: Reads>(
     rec: &Rec,
     sought: Sought,
     value: &Value,
-    named: Damage,
+    entry: u32,
     nodes: &mut Vec<u32>,
 ) -> Result<(), Fault>
     ensures added { R.tells → (x : ℕ) → rec.now ≡ index_rec (R.state space.old).records x
@@ -88,6 +95,9 @@ fn add_node<R: Reads>(
         → (entry_hash (R.state space.old).records x ≡ sought.hash
         → IsListedNode (R.state space.old) (entry_node (R.state space.old).records x))
         → NotDamaged result }
+    ensures damaged { R.tells → (d b count : ℕ)
+        → IsEntryMet (R.state space.old).records d b count entry rec.now → IfErr result
+        (BlamesBroken (R.state space.old).records (R.state space.old).shape) }
     ensures cost { (x : ℕ) → rec.now ≡ index_rec (R.state space.old).records x
         → ReadsAtMost (55 * cond (is_hashed (R.state space.old).records sought.hash x) 1 0)
         (R.state space.old) (R.state space.new) }
@@ -99,7 +109,7 @@ fn add_node<R: Reads>(
         return Ok(());
     }
     let node = rec.number(INDEXED_NODE);
-    if holds(alloc, space, node, sought.key, value, named)? {
+    if holds(alloc, space, node, sought.key, value, entry)? {
         nodes.push(node)?;
     }
     Ok(())

@@ -1,12 +1,18 @@
 //! The first entries of buckets.
 
-ghost use Rattle.std.specs.Prelude.{◌≡◌, ◌<◌, ◌≤◌, ◌+◌, ◌/◌, IfOk, IfSome, OnOk, length};
-ghost use Rattle.prop_index.specs.Heads.{IsBucketOf, IsBucketSought, IsSlotOf};
+ghost use Rattle.std.specs.Prelude.{◌≡◌, ◌<◌, ◌≤◌, ◌+◌, ◌/◌, IfErr, IfNone, IfOk, IfSome, OnOk};
+ghost use Rattle.std.specs.Prelude.{length};
+ghost use Rattle.prop_index.specs.Blaming.{NamesIndexes};
+ghost use Rattle.prop_index.specs.Finding.{LeadsToNone};
+ghost use Rattle.prop_index.specs.Heads.{IfBucketMet, IsBucketOf, IsBucketSought, IsSlotOf};
 ghost use Rattle.prop_index.specs.Reading.{HasRoom};
+ghost use Rattle.prop_store.specs.Fault.{BlamesBroken};
 ghost use Rattle.prop_store.specs.Reading.{ReadsAtMost};
 ghost use Rattle.rec_bytes.specs.Fault.{HasFaultCause, NotDamaged};
 ghost use Rattle.rec_bytes.specs.Format as format;
 ghost use Rattle.rec_bytes.specs.Key.{IsKey};
+ghost use Rattle.store_rules.specs.Hashes.{bucket_of};
+ghost use Rattle.store_rules.specs.IndexBreaking.{LeadsToDefinition};
 ghost use Rattle.store_rules.specs.Indexes.{AreIndexed, Entries, heads_of, index_rec};
 ghost use Rattle.store_rules.specs.Views.{key_in, kind_at};
 
@@ -47,6 +53,13 @@ pub(crate) fn read_bucket<R: Reads>(
         → kind_at (R.state space.old).records format.index_file
         (heads_of (R.state space.old).records definition.now.id (number / 15)) ≡ format.heads
         → NotDamaged result }
+    ensures damaged { R.tells → definition.now.rec
+        ≡ index_rec (R.state space.old).records definition.now.id
+        → LeadsToDefinition (R.state space.old).records definition.now.id
+        → kind_at (R.state space.old).records format.index_file definition.now.id
+        ≡ format.definition → IfErr result
+        (BlamesBroken (R.state space.old).records (R.state space.old).shape) }
+    ensures names { R.tells → IfErr result NamesIndexes }
     ensures at_most { ReadsAtMost 1 (R.state space.old) (R.state space.new) }
     ensures onward { R.onward space.old space.new }
     ensures cause { HasFaultCause (R.faults space.old) (R.faults space.new) result }
@@ -85,6 +98,13 @@ pub(crate) fn find_bucket<R: Reads>(
         → IfOk result (IsBucketSought (R.state space.old).records ix.definitions label key hash) }
     ensures sound { R.tells → (wanted : Entries) → AreIndexed (R.state space.old).records wanted
         → HasRoom (R.state space.old) format.index_file → NotDamaged result }
+    ensures lacks { R.tells → IfOk result (λ found. IfNone found
+        (LeadsToNone (R.state space.old).records label key)) }
+    ensures met { R.tells → IfOk result
+        (IfBucketMet (R.state space.old).records (bucket_of hash)) }
+    ensures damaged { R.tells → IfErr result
+        (BlamesBroken (R.state space.old).records (R.state space.old).shape) }
+    ensures names { R.tells → IfErr result NamesIndexes }
     ensures cost { R.tells → (wanted : Entries)
         → (ix : AreIndexed (R.state space.old).records wanted)
         → OnOk result (ReadsAtMost (2 + length ix.definitions)

@@ -1,18 +1,25 @@
 //! Entries that are taken out.
 
-ghost use Rattle.std.specs.Prelude.{◌≡◌, ◌↔◌, ◌+◌, ◌≤◌, ℕ, List, IfOk, IfSome, IsTrue, OnOk};
+ghost use Rattle.std.specs.Prelude.{◌≡◌, ◌↔◌, ◌+◌, ◌-◌, ◌≤◌, ℕ, List, IfErr, IfOk, IfSome, IsTrue};
+ghost use Rattle.std.specs.Prelude.{OnOk, false, true};
 ghost use Rattle.id_freelist.specs.Taking.{CanTake};
+ghost use Rattle.prop_index.specs.Blaming.{IsEntryAt, IsOfIndexes, NamesIndexes};
 ghost use Rattle.prop_index.specs.Entering.{entry_of};
+ghost use Rattle.prop_index.specs.Finding.{IsPair};
 ghost use Rattle.prop_index.specs.Gathering.{AreEntries};
 ghost use Rattle.prop_index.specs.Heads.{IsHead, IsHeadPlace};
-ghost use Rattle.prop_index.specs.Leaving.{IsBucketChain, IsDropped, IsEntrySought};
-ghost use Rattle.prop_index.specs.Reading.{HasRoom, KeepsStore};
+ghost use Rattle.prop_index.specs.Leaving.{IsBucketChain, IsDropped, IsEntryRow, IsEntrySought};
+ghost use Rattle.prop_index.specs.Leaving.{IsNoneOf, SaysContent};
+ghost use Rattle.prop_index.specs.Reading.{HasRoom, KeepsStore, damage_of};
 ghost use Rattle.prop_index.specs.Touching.{TouchesIndex};
+ghost use Rattle.prop_store.specs.Fault.{BlamesBroken};
 ghost use Rattle.rec_bytes.specs.Fault.{HasFaultCause, NotDamaged};
 ghost use Rattle.rec_bytes.specs.Format.{index_file};
 ghost use Rattle.rec_bytes.specs.Key.{IsKey};
 ghost use Rattle.rec_bytes.specs.Record.{field};
-ghost use Rattle.rec_bytes.specs.Space.{SameButReads};
+ghost use Rattle.rec_bytes.specs.Space.{SameButReads, meta_of};
+ghost use Rattle.store_rules.specs.Chains.{In};
+ghost use Rattle.store_rules.specs.Graph.{indexes_of};
 ghost use Rattle.store_rules.specs.Indexes.{AreIndexed, Entries, without_entry};
 ghost use Rattle.store_rules.specs.Views.{key_in};
 
@@ -47,6 +54,32 @@ pub fn leave<S: Space>(
     ensures sound { S.tells → (wanted : Entries) → (free : List ℕ)
         → AreIndexed (S.state space.old).records wanted
         → CanTake (S.state space.old) index_file free → NotDamaged result }
+    ensures graph { S.tells → (wanted : Entries) → (free : List ℕ)
+        → AreIndexed (S.state space.old).records wanted
+        → CanTake (S.state space.old) index_file free → OnOk result
+        (indexes_of (S.state space.new).records ≡ indexes_of (S.state space.old).records) }
+    ensures names { S.tells → IfErr result NamesIndexes }
+    ensures counted { S.tells → OnOk result ((meta_of (S.state space.new) index_file).live
+        ≤ (meta_of (S.state space.old) index_file).live) }
+    ensures kept { S.tells → OnOk result ((meta_of (S.state space.old) index_file).live
+        ≤ (meta_of (S.state space.new) index_file).live + 1) }
+    ensures unlisted { S.tells → (wanted : Entries)
+        → (ix : AreIndexed (S.state space.old).records wanted) → ((d : ℕ) → In d ix.definitions
+        → ¬ IsPair (S.state space.old).records label key d)
+        → OnOk result (SameButReads (S.state space.old) (S.state space.new)) }
+    ensures absent { S.tells → (wanted : Entries) → AreIndexed (S.state space.old).records wanted
+        → wanted (entry_of label key node value.now) ≡ false
+        → OnOk result (SameButReads (S.state space.old) (S.state space.new)) }
+    ensures gone { S.tells → (wanted : Entries)
+        → (ix : AreIndexed (S.state space.old).records wanted) → (d : ℕ) → In d ix.definitions
+        → IsPair (S.state space.old).records label key d
+        → wanted (entry_of label key node value.now) ≡ true
+        → OnOk result ((meta_of (S.state space.new) index_file).live
+        ≡ (meta_of (S.state space.old) index_file).live - 1) }
+    ensures damaged { S.tells → IfErr result
+        (BlamesBroken (S.state space.old).records (S.state space.old).shape) }
+    ensures still { S.tells → IfErr result
+        (BlamesBroken (S.state space.new).records (S.state space.new).shape) }
     ensures touches { TouchesIndex S.tells 3 (S.state space.old) (S.state space.new) }
     ensures onward { S.onward space.old space.new }
     ensures cause { HasFaultCause (S.faults space.old) (S.faults space.new) result }
@@ -74,6 +107,31 @@ fn drop_entry<S: Space>(space: &mut S, bucket: Bucket, content: Content) -> Resu
     ensures sound { S.tells → (xs : List ℕ)
         → IsBucketChain (S.state space.old).records bucket.first xs
         → HasRoom (S.state space.old) index_file → NotDamaged result }
+    ensures graph { S.tells → (xs free : List ℕ) → IsHead (S.state space.old).records bucket
+        → IsBucketChain (S.state space.old).records bucket.first xs
+        → IsHeadPlace bucket.slot.place → CanTake (S.state space.old) index_file free
+        → OnOk result
+        (indexes_of (S.state space.new).records ≡ indexes_of (S.state space.old).records) }
+    ensures names { S.tells → IfErr result NamesIndexes }
+    ensures counted { S.tells → OnOk result ((meta_of (S.state space.new) index_file).live
+        ≤ (meta_of (S.state space.old) index_file).live) }
+    ensures kept { S.tells → OnOk result ((meta_of (S.state space.old) index_file).live
+        ≤ (meta_of (S.state space.new) index_file).live + 1) }
+    ensures absent { S.tells → (xs : List ℕ)
+        → IsBucketChain (S.state space.old).records bucket.first xs
+        → IsNoneOf (S.state space.old).records xs content
+        → OnOk result (SameButReads (S.state space.old) (S.state space.new)) }
+    ensures gone { S.tells → (xs : List ℕ)
+        → IsBucketChain (S.state space.old).records bucket.first xs → (x : ℕ) → In x xs
+        → SaysContent (S.state space.old).records content x
+        → OnOk result ((meta_of (S.state space.new) index_file).live
+        ≡ (meta_of (S.state space.old) index_file).live - 1) }
+    ensures damaged { S.tells → (d b : ℕ) → IsEntryAt (S.state space.old) d b 0 bucket.first
+        (damage_of index_file bucket.slot.id 1) → IfErr result
+        (BlamesBroken (S.state space.old).records (S.state space.old).shape) }
+    ensures still { S.tells → (d b : ℕ) → IsEntryAt (S.state space.old) d b 0 bucket.first
+        (damage_of index_file bucket.slot.id 1) → IfErr result
+        (BlamesBroken (S.state space.new).records (S.state space.new).shape) }
     ensures touches { TouchesIndex S.tells 3 (S.state space.old) (S.state space.new) }
     ensures onward { S.onward space.old space.new }
     ensures cause { HasFaultCause (S.faults space.old) (S.faults space.new) result }
@@ -101,6 +159,11 @@ fn find_entry<R: Reads>(
         → IfOk result (IsEntrySought (R.state space.old).records xs content) }
     ensures sound { R.tells → (xs : List ℕ) → AreEntries (R.state space.old) first xs
         → HasRoom (R.state space.old) index_file → NotDamaged result }
+    ensures row { R.tells → IfOk result
+        (λ found. IfSome found (IsEntryRow (R.state space.old).records)) }
+    ensures damaged { R.tells → (d b : ℕ) → IsEntryAt (R.state space.old) d b 0 first named
+        → IfErr result (BlamesBroken (R.state space.old).records (R.state space.old).shape) }
+    ensures names { R.tells → IsOfIndexes named → IfErr result NamesIndexes }
     ensures key { IfOk result (λ found. IfSome found (λ row. IsKey (key_in index_file row.id))) }
     ensures same { SameButReads (R.state space.old) (R.state space.new) }
     ensures onward { R.onward space.old space.new }

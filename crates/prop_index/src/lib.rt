@@ -3,7 +3,6 @@
 //! each node in it with the hash that is sought. Only a lookup and a list take memory of their own.
 #![tactic(auto)]
 
-mod changing;
 mod collecting;
 mod defining;
 mod definition_record;
@@ -27,7 +26,6 @@ mod making;
 mod reading;
 mod unlinking;
 
-pub use changing::change_value;
 pub use entering::enter;
 pub use hashing::{bucket_of, hash_of};
 pub use leaving::leave;

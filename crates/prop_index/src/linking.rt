@@ -1,8 +1,9 @@
 //! An entry in front of a bucket.
 
 ghost use Rattle.std.specs.Prelude.{◌≡◌, ◌≢◌, ◌+◌, ◌<◌, ◌≤◌, ℕ, List, IfErr, IfOk, OnOk};
-ghost use Rattle.id_freelist.specs.TakeFault.{HasTakeCause, NotDamaged};
+ghost use Rattle.id_freelist.specs.TakeFault.{BlamesBroken, HasTakeCause, NotDamaged};
 ghost use Rattle.id_freelist.specs.Taking.{CanTake};
+ghost use Rattle.prop_index.specs.Blaming.{TakeNamesIndexes};
 ghost use Rattle.prop_index.specs.Entering.{IsIndexFull};
 ghost use Rattle.prop_index.specs.Heads.{BeginsRight, IsHead, IsHeadPlace};
 ghost use Rattle.prop_index.specs.Linking.{backed_entry, linked_entry};
@@ -46,12 +47,17 @@ pub(crate) fn put_in_front<S: Space>(
         → BeginsRight (S.state space.old).records bucket → IsHeadPlace bucket.slot.place
         → content.node < high (S.state space.old).records nodes_file
         → OnOk result (KeepsStore (S.state space.new)) }
-    ensures counted { S.tells → (free : List ℕ) → CanTake (S.state space.old) index_file free
-        → OnOk result ((meta_of (S.state space.new) index_file).live
+    ensures counted { S.tells → OnOk result ((meta_of (S.state space.new) index_file).live
         ≡ (meta_of (S.state space.old) index_file).live + 1) }
     ensures sound { S.tells → (free : List ℕ) → CanTake (S.state space.old) index_file free
         → NotDamaged result }
     ensures full { S.tells → IfErr result (IsIndexFull (S.state space.old)) }
+    ensures crowded { S.tells → IfErr result (IsIndexFull (S.state space.new)) }
+    ensures names { S.tells → IfErr result TakeNamesIndexes }
+    ensures damaged { S.tells → IfErr result
+        (BlamesBroken (S.state space.old).records (S.state space.old).shape) }
+    ensures still { S.tells → IfErr result
+        (BlamesBroken (S.state space.new).records (S.state space.new).shape) }
     ensures key { IfOk result (λ id. IsKey (key_in index_file id)) }
     ensures touched { IfOk result (λ id. TouchesOnly S.tells (S.state space.old)
         (S.state space.new) (index_keys (front_ids id bucket.slot.id bucket.first))) }

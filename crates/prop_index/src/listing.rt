@@ -1,8 +1,10 @@
 //! The pairs that have an index.
 
-ghost use Rattle.std.specs.Prelude.{◌≡◌, ◌+◌, ◌≤◌, IfOk, OnOk, length, map};
-ghost use Rattle.prop_index.specs.Listing.{pair_of};
+ghost use Rattle.std.specs.Prelude.{◌≡◌, ◌≤◌, IfErr, IfOk, length, map};
+ghost use Rattle.prop_index.specs.Blaming.{NamesIndexes};
+ghost use Rattle.prop_index.specs.Listing.{ArePairsMet, pair_of};
 ghost use Rattle.prop_index.specs.Reading.{HasRoom};
+ghost use Rattle.prop_store.specs.Fault.{BlamesBroken};
 ghost use Rattle.prop_store.specs.Reading.{ReadsAtMost};
 ghost use Rattle.rec_bytes.specs.Fault.{HasFaultCause, NotDamaged};
 ghost use Rattle.rec_bytes.specs.Format.{index_file};
@@ -31,6 +33,11 @@ pub fn indexes<R: Reads>(alloc: Global, space: &mut R) -> Result<Vec<IndexPair>,
         ≡ map (pair_of (R.state space.old).records) ix.definitions) }
     ensures sound { R.tells → (wanted : Entries) → AreIndexed (R.state space.old).records wanted
         → HasRoom (R.state space.old) index_file → NotDamaged result }
+    ensures walked { R.tells → IfOk result
+        (λ pairs. ArePairsMet (R.state space.old).records pairs.items) }
+    ensures damaged { R.tells → IfErr result
+        (BlamesBroken (R.state space.old).records (R.state space.old).shape) }
+    ensures names { R.tells → IfErr result NamesIndexes }
     ensures few { IfOk result (λ pairs. length pairs.items ≤ 16) }
     ensures at_most { ReadsAtMost 17 (R.state space.old) (R.state space.new) }
     ensures onward { R.onward space.old space.new }

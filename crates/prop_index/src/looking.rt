@@ -2,9 +2,12 @@
 
 ghost use Rattle.std.specs.Prelude.{◌≡◌, IfErr, IfOk, IsPermutation, OnOk};
 ghost use Rattle.std.specs.List.Sorted.{IsNonDecreasing};
+ghost use Rattle.rec_bytes.specs.Space.{SameButReads};
 ghost use Rattle.prop_index.specs.Looking.{
   AreNumbered,
+  BlamesBroken,
   HasLookupCause,
+  IsLookupCause,
   IsRefusal,
   ReadsForLookup,
   found_in,
@@ -37,9 +40,14 @@ pub fn lookup<R: Reads>(
         ≡ nodes_in (R.state space.old).records label key value.now) }
     ensures refused { R.tells → IsIndexed (R.state space.old).records (R.state space.old).shape
         → IfErr result (IsRefusal (R.state space.old).records label key) }
+    ensures caused { R.tells → IfErr result
+        (IsLookupCause (R.state space.old).records label key) }
     ensures cost { R.tells → IsIndexed (R.state space.old).records (R.state space.old).shape
         → OnOk result (ReadsForLookup label key value.now
         (R.state space.old) (R.state space.new)) }
+    ensures damaged { R.tells → IfErr result
+        (BlamesBroken (R.state space.old).records (R.state space.old).shape) }
+    ensures same { SameButReads (R.state space.old) (R.state space.new) }
     ensures onward { R.onward space.old space.new }
     ensures cause { HasLookupCause (R.faults space.old) (R.faults space.new) result }
 {

@@ -2,14 +2,18 @@
 
 ghost use Rattle.std.specs.Prelude.{◌≡◌, ◌+◌, ◌≤◌, ◌↔◌, Contains, IfErr, IfOk, IsTrue, OnOk};
 ghost use Rattle.std.specs.Prelude.{length};
+ghost use Rattle.id_freelist.specs.TakeFault as takes;
 ghost use Rattle.id_freelist.specs.TakeFault.{HasTakeCause};
 ghost use Rattle.prop_index.specs.Collecting.{contents_in};
-ghost use Rattle.prop_index.specs.Defining.{HasLeft};
-ghost use Rattle.prop_index.specs.Entering.{IsMishap};
-ghost use Rattle.prop_index.specs.MakeFault.{HasMakeCause, of_take};
+ghost use Rattle.prop_index.specs.Defining.{AreNamesOf, HasLeft};
+ghost use Rattle.prop_index.specs.Entering.{IsMishap, IsNotFull};
+ghost use Rattle.prop_index.specs.MakeFault.{BlamesBroken, HasMakeCause, of_take};
 ghost use Rattle.prop_index.specs.Making.{
+  IsMakeCause,
   IsMakeRefusal,
+  IsPairCause,
   IsPairFault,
+  IsUnwrittenFull,
   MakesIndex,
   MayDefine,
   WritesIndex,
@@ -37,17 +41,28 @@ use std::alloc::Global;
 const DEFINITION_RECORDS: u64 = 13;
 
 /// Makes an index of the nodes of a label by the value of a key, and says how many entries it has.
-/// All is read and tested before the first record is written.
+/// The label and the key are numbers of names. All is read and tested before the first record is
+/// written.
 pub fn make<S: Space>(alloc: Global, space: &mut S, label: u32, key: u32) -> Result<u32, MakeFault>
     ensures made { S.tells → (was : IsIndexed (S.state space.old).records
-        (S.state space.old).shape) → IfOk result (MakesIndex (S.state space.old)
+        (S.state space.old).shape) → AreNamesOf (S.state space.old).records label key
+        → IfOk result (MakesIndex (S.state space.old)
         (S.state space.new) label key was) }
     ensures refused { S.tells → (was : IsIndexed (S.state space.old).records
-        (S.state space.old).shape) → IfErr result (IsMakeRefusal (S.state space.old) was label
+        (S.state space.old).shape) → AreNamesOf (S.state space.old).records label key
+        → IfErr result (IsMakeRefusal (S.state space.old) was label
         key) }
+    ensures caused { S.tells → IfErr result (IsMakeCause (S.state space.old) label key) }
+    ensures still { S.tells → IfErr result
+        (BlamesBroken (S.state space.new).records (S.state space.new).shape) }
     ensures touches { S.tells → TouchesIndex S.tells
         (13 + count_of (S.state space.old).records label key)
         (S.state space.old) (S.state space.new) }
+    ensures written { IfOk result (λ count.
+        TouchesIndex S.tells (13 + count) (S.state space.old) (S.state space.new)) }
+    ensures few { IfOk result (λ count. count ≤ 1024) }
+    ensures unwritten { S.tells → IfErr result
+        (IsUnwrittenFull (S.state space.old) (S.state space.new)) }
     ensures at_most { TouchesIndex S.tells 1037 (S.state space.old) (S.state space.new) }
     ensures onward { S.onward space.old space.new }
     ensures cause { HasMakeCause (S.faults space.old) (S.faults space.new) result }
@@ -74,6 +89,10 @@ fn test_pair<R: Reads>(alloc: Global, space: &mut R, label: u32, key: u32) -> Re
         → (ix : AreIndexed (R.state space.old).records wanted)
         → HasRoom (R.state space.old) index_file
         → IfErr result (IsPairFault (R.state space.old).records ix.definitions label key) }
+    ensures caused { R.tells → IfErr result
+        (IsPairCause (R.state space.old).records label key) }
+    ensures damaged { R.tells → IfErr result
+        (BlamesBroken (R.state space.old).records (R.state space.old).shape) }
     ensures reads { ReadsAtMost 17 (R.state space.old) (R.state space.new) }
     ensures onward { R.onward space.old space.new }
     ensures cause { HasMakeCause (R.faults space.old) (R.faults space.new) result }
@@ -112,17 +131,21 @@ fn write_index<S: Space>(
     contents: &[Content],
 ) -> Result<(), TakeFault>
     ensures written { S.tells → (was : IsIndexed (S.state space.old).records
-        (S.state space.old).shape)
+        (S.state space.old).shape) → AreNamesOf (S.state space.old).records label key
         → MayDefine (S.state space.old).records was.indexes.definitions label key
         → contents.now ≡ contents_in (S.state space.old).records label key
         (high (S.state space.old).records nodes_file)
         → OnOk result (WritesIndex (S.state space.old) (S.state space.new) label key was) }
     ensures mishap { S.tells → (was : IsIndexed (S.state space.old).records
-        (S.state space.old).shape)
+        (S.state space.old).shape) → AreNamesOf (S.state space.old).records label key
         → MayDefine (S.state space.old).records was.indexes.definitions label key
         → contents.now ≡ contents_in (S.state space.old).records label key
         (high (S.state space.old).records nodes_file)
         → HasLeft (S.state space.old) (13 + length contents.now) → IfErr result IsMishap }
+    ensures roomy { S.tells → HasLeft (S.state space.old) (13 + length contents.now)
+        → IfErr result IsNotFull }
+    ensures still { S.tells → IfErr result
+        (takes.BlamesBroken (S.state space.new).records (S.state space.new).shape) }
     ensures touches { TouchesIndex S.tells (13 + length contents.now)
         (S.state space.old) (S.state space.new) }
     ensures onward { S.onward space.old space.new }

@@ -37,5 +37,6 @@ pub mod SetCauses
 pub mod TextSteps
 pub mod Touches
 pub mod ValueRemovals
+pub mod ValueSteps
 pub mod WalkSteps
 pub mod WriteCounts

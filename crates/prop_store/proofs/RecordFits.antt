@@ -1,23 +1,22 @@
 -- Records of properties and of blocks that are written fit their files.
 use Rattle.std.specs.Prelude.{nat_le}
-use Rattle.std.proofs.Common.{◌≡◌, ◌≢◌, ◌⊎◌, ⊎_elim, inl, inr, ℕ, ◌+◌, ◌<◌, ◌≤◌, ◌^◌, nat_eq, nat_lt, Bool, true, false, ◌&&◌, ◌||◌, cond, List, [], ◌∷◌, length, None, Some, get_or, refl, sym, ap, ◌∙◌, subst, arith}
+use Rattle.std.proofs.Common.{◌≡◌, ◌≢◌, ◌⊎◌, ⊎_elim, inl, inr, ℕ, ◌+◌, ◌<◌, ◌≤◌, ◌^◌, nat_eq, nat_lt, Bool, true, false, ◌&&◌, ◌||◌, cond, List, [], ◌∷◌, length, None, Some, refl, sym, ap, ◌∙◌, subst, arith}
 use Rattle.std.specs.List.{list_any}
 use Rattle.std.specs.Int.{cast_unsigned}
 use mir.Syntax.{w64}
 use Rattle.std.proofs.lemmas.Bool.{cases_lt}
 use Rattle.std.proofs.lemmas.Bool.Decides.{nat_tests}
-use Rattle.std.proofs.lemmas.List.{get_or-replicate}
 use Rattle.plain_graph.specs.Forms.{IsKept}
 use Rattle.plain_graph.specs.declared.value.Value.{Value}
 use Rattle.plain_graph.specs.declared.value.Value.TheVariants as values
 use Rattle.rec_bytes.specs.declared.record.Rec.{Rec}
 use Rattle.rec_bytes.specs.Format as format
 use Rattle.rec_bytes.specs.Record.{field, with_field, with_text, zeros}
-use Rattle.rec_bytes.proofs.Numbers.{Apart, byte-is, field-with_field_other, field-with_field_same}
+use Rattle.rec_bytes.proofs.Numbers.{Apart, field-with_field_other, field-with_field_same}
 use Rattle.rec_bytes.proofs.Texts.{field-with_text_other}
 use Rattle.store_rules.specs.Ranges.{Fits, Layout, Range, all_point, block_layout, bytes_of, free_layout, is_in, laid, layout_by, may, next_property, points, property_layout}
 use Rattle.store_rules.proofs.LinkFits.{IsLow, low_points}
-use Rattle.store_rules.proofs.NumberLaws.{and_parts, eq_false, eq_true, lt_true}
+use Rattle.store_rules.proofs.NumberLaws.{and_parts, eq_false}
 use Rattle.id_freelist.proofs.Leaving.{byte_of_zeros}
 use Rattle.prop_store.specs.BlockRecord.{block_record}
 use Rattle.prop_store.specs.PropertyRecord.{keyed, property_body, property_record}

@@ -44,7 +44,8 @@ pub record IsReadRow (records : Records) (row : PropertyRow) : Type 0 where
 -- Why an element has no property where a link leads to one: the link leads to none that was given
 -- out, or to one that is not in use, or its record is no property's.
 pub data IsRowDamage (s : State) (element from : Key) (id : ℕ) : Damage → Type 0 where
-  BadLink : (d : Damage) → IsLinkDamage s from properties_file id d → IsRowDamage s element from id d
+  BadLink : (d : Damage) → IsLinkDamage s from properties_file id d
+      → IsRowDamage s element from id d
   Unused : kind_at s.records properties_file id ≡ free_kind
       → IsRowDamage s element from id (damage element.file element.id 5)
   Unknown : kind_at s.records properties_file id ≢ free_kind

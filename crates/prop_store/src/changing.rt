@@ -1,6 +1,6 @@
 //! Properties of one element that are taken away, with the blocks of their values.
 
-ghost use Rattle.std.specs.Prelude.{◌≡◌, ◌+◌, ◌<◌, ◌≤◌, List, None, IfOk, [], ◌∷◌, IfErr};
+ghost use Rattle.std.specs.Prelude.{◌+◌, ◌<◌, ◌≤◌, List, None, IfOk, [], ◌∷◌, IfErr};
 ghost use Rattle.store_rules.specs.Properties.{Property};
 ghost use Rattle.store_rules.specs.Writes.{WritesAtMost, WritesBeside};
 ghost use Rattle.prop_store.specs.Alone.{DropsAllAlone, OwnsProperties, UnsetsAlone};

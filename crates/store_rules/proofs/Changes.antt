@@ -8,15 +8,15 @@ use Rattle.rec_bytes.specs.Format as format
 use Rattle.rec_bytes.specs.Meta as metas
 use Rattle.rec_bytes.specs.Meta.{IsMetaInRange}
 use Rattle.rec_bytes.specs.Record.{field, zeros_from}
-use Rattle.rec_bytes.specs.RecordFiles.{is_meta_file, meta_key_of, room_of}
+use Rattle.rec_bytes.specs.RecordFiles.{is_meta_file, meta_key_of}
 use Rattle.rec_bytes.specs.Shape.{shape_of_record, version_of}
 use Rattle.store_rules.specs.Chains.{IsChain, next_in, prev_in}
 use Rattle.store_rules.specs.Properties.{property_records}
 use Rattle.store_rules.specs.Ranges.{AreInRange, Fits, is_reused}
-use Rattle.store_rules.specs.Rules.{AreAllLive, HasNoIndex, Head, IsListed, IsSplit, first_of}
+use Rattle.store_rules.specs.Rules.{AreAllLive, Head, IsListed, IsSplit, first_of}
 use Rattle.store_rules.specs.Views.{Records, high, is_live, key_in, kind_at, rec_at}
 use Rattle.store_rules.proofs.ChainLaws.{chain_stays}
-use Rattle.store_rules.proofs.Frames.{IsSame, kind_same, records_same, split_same}
+use Rattle.store_rules.proofs.Frames.{IsSame, records_same, split_same}
 use Rattle.rec_bytes.proofs.RecordFiles.{is_meta_file-not_meta, is_meta_file-not_taken}
 use Rattle.store_rules.proofs.MetaLaws.{meta_of_reused, not_meta_key}
 use Rattle.store_rules.proofs.NumberLaws.{nat_cases}
@@ -89,10 +89,6 @@ module _ (s t : Records) (file id : ℕ) (change : IsChanged s t file id) where
   pub kept_all : (is_reused file ≡ false → AreAllLive t file) → ((f : ℕ) → is_meta_file f ≡ true → is_reused f ≡ false → AreAllLive s f) → (f : ℕ) → is_meta_file f ≡ true → is_reused f ≡ false → AreAllLive t f
   kept_all here old f is no_reuse = ⊎_elim (λ (e : f ≡ file). subst (AreAllLive t) (sym e) (here (subst (λ g. is_reused g ≡ false) e no_reuse)))
       (λ (ne : f ≢ file). subst (λ (m : Meta). m.live ≡ m.high) (sym (same_file f is ne).meta) (old f is no_reuse)) (nat_cases f file)
-
-  -- the eighth, where the file is none of the index
-  pub unindexed : file ≢ format.index_file → HasNoIndex s → HasNoIndex t
-  unindexed ne old x = kind_same s t format.index_file (same_file format.index_file refl (λ e. ne (sym e))) x ∙ old x
 
   -- a head whose record stays lists what it did, where no relationship changed
   pub listed_kept : (h : Head) (n : ℕ) (at : ℕ → Type 0) → file ≢ format.relationships_file → is_meta_file h.key.file ≡ true → (h.key.file ≡ file → h.key.id ≢ id) → IsListed s h n at → IsListed t h n at

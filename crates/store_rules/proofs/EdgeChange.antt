@@ -274,5 +274,4 @@ module _ (s t : Records) (shape : Shape) (id : ℕ) {most : ℕ} {before empty :
       each = λ n some. now.counted n (λ z. some (kinds n ∙ z));
       few = λ n is. now.few n (sym (kinds n) ∙ is);
     };
-    unindexed = λ x. kind_same s t id now.change format.index_file x refl (λ e. omega arith) ∙ well.unindexed x;
   }

@@ -2,7 +2,7 @@
 use Rattle.std.specs.Prelude.{is_some}
 use Rattle.std.proofs.Common.{List, ◌≡◌, ◌≢◌, ℕ, ◌≤◌, Bool, true, false, not, cond, nat_eq, Option, None, Some, length, sym, ap, ◌∙◌, arith, refl}
 use Rattle.plain_graph.specs.Graph as plain
-use Rattle.plain_graph.specs.Graph.{Edge, Graph, Node, degree_in, edge_number, has_edge, has_node, node_number}
+use Rattle.plain_graph.specs.Graph.{Edge, Node, degree_in, edge_number, has_edge, has_node, node_number}
 use Rattle.rec_bytes.specs.declared.shape.Shape.{Shape}
 use Rattle.rec_bytes.specs.Format as format
 use Rattle.rec_bytes.specs.Space.{meta_in}

@@ -2,14 +2,12 @@
 use Rattle.std.proofs.Common.{◌≡◌, ℕ, ◌/◌, ◌<◌, nat_eq, true, Option, None, Some, List, [], sym, ap, ◌∙◌, subst, ⊎_elim, arith, refl}
 use Rattle.std.proofs.lemmas.Bool.{cases_lt, eqb-true, true≢false}
 use Rattle.plain_graph.specs.declared.value.Value.{Value}
-use Rattle.rec_bytes.specs.declared.damage.Damage.{Damage}
 use Rattle.store_rules.specs.Chains.{In}
 use Rattle.store_rules.specs.Hashes.{bucket_of, hash_of}
 use Rattle.store_rules.specs.Indexes.{AreIndexed, Entry, HasEntry, IsBucket, IsOfIndex, entry_hash, entry_in, entry_node, has_hash, heads_of, indexed_key, indexed_label, node_value, wanted_in}
 use Rattle.store_rules.specs.Indexes.IsOfIndex.{IsDefinition, IsEntry, IsHeads}
-use Rattle.store_rules.specs.IndexBreaking.{AreDefinitions, DefinitionKeeps, EachKeeps, IndexBreaks, IsAmongDefinitions, IsBucketList, IsEntered, IsInBucket, IsOfAnIndex}
+use Rattle.store_rules.specs.IndexBreaking.{AreDefinitions, DefinitionKeeps, EachKeeps, IsAmongDefinitions, IsBucketList, IsEntered, IsInBucket, IsOfAnIndex}
 use Rattle.store_rules.specs.IndexBreaking.IsOfAnIndex.{Defines, Enters, Heads}
-use Rattle.store_rules.specs.IndexBreaking.IndexBreaks.{LeftOver, WrongDefinition, WrongDefinitions, WrongEntry, WrongHead, WrongNode}
 use Rattle.store_rules.specs.Views.{Records}
 use Rattle.store_rules.proofs.ChainLaws.{walk_of_chain}
 use Rattle.store_rules.proofs.MemberLaws.{in_cases}
@@ -200,12 +198,3 @@ module _ (records : Records) where
       node = λ n. record { has = λ d value a is. entered n d value a is; once = λ d b x c y p q r s. once_in n d b x c y p q r s };
       held = λ x live. of_an_index x (ix.held x live);
     }
-
-  -- a record that breaks the rule shows that the store doesn't keep it
-  pub not_indexed : (d : Damage) → IndexBreaks records d → ¬ AreIndexed records (wanted_in records)
-  not_indexed d (WrongDefinitions bad) ix = bad (parts_of ix).meta
-  not_indexed d (WrongDefinition x a bad) ix = bad ((parts_of ix).definition x a)
-  not_indexed d (WrongHead h bad) ix = bad ((parts_of ix).head h)
-  not_indexed d (WrongEntry x bad) ix = bad ((parts_of ix).entry x)
-  not_indexed d (WrongNode n bad) ix = bad ((parts_of ix).node n)
-  not_indexed d (LeftOver x live bad) ix = bad ((parts_of ix).held x live)

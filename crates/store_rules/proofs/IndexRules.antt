@@ -1,5 +1,5 @@
--- Changes of the index's file alone: the rules but the eighth stay.
-use Rattle.std.proofs.Common.{◌≡◌, ◌≢◌, ◌⊎◌, ⊎_elim, inl, inr, ℕ, ◌+◌, ◌<◌, ◌≤◌, ◌^◌, true, false, ◌&&◌, not, nat_eq, List, [], ◌∷◌, length, refl, ap, sym, ◌∙◌, subst, arith}
+-- Changes of the index's file alone: the first seven rules stay.
+use Rattle.std.proofs.Common.{◌≡◌, ◌≢◌, ⊎_elim, inr, ℕ, ◌<◌, ◌≤◌, ◌^◌, true, ◌&&◌, not, nat_eq, List, [], ◌∷◌, length, refl, ap, sym, ◌∙◌, subst, arith}
 use Rattle.std.specs.List.{list_all}
 use Rattle.std.proofs.lemmas.Bool.{true≢false}
 use Rattle.rec_bytes.specs.declared.key.Key.{Key}
@@ -9,29 +9,27 @@ use Rattle.rec_bytes.specs.declared.shape.Shape.{Shape}
 use Rattle.rec_bytes.specs.Format as format
 use Rattle.rec_bytes.specs.Meta as metas
 use Rattle.rec_bytes.specs.Meta.{IsLinkBelow, IsMetaInRange}
-use Rattle.rec_bytes.specs.Record.{field, with_field, zeros_from}
+use Rattle.rec_bytes.specs.Record.{field, with_field}
 use Rattle.rec_bytes.specs.RecordFiles.{is_meta_file, meta_key_of, room_of}
-use Rattle.rec_bytes.specs.Shape.{shape_of_record, version_of}
 use Rattle.rec_bytes.specs.Space.{meta_in, put}
 use Rattle.rec_bytes.proofs.MetaBytes.{zeros_from-with_field}
 use Rattle.rec_bytes.proofs.Metas.{meta_of-definition}
 use Rattle.rec_bytes.proofs.Numbers.{field-with_field_other, field-with_field_same}
-use Rattle.rec_bytes.proofs.RecordFiles.{is_meta_file-not_meta, is_meta_file-not_taken}
 use Rattle.rec_bytes.proofs.Spaces.{put_other, put_same}
 use Rattle.store_rules.specs.Chains.{In, IsWalk}
-use Rattle.store_rules.specs.Ranges.{AreInRange, Fits, is_reused}
+use Rattle.store_rules.specs.Ranges.{AreInRange, Fits}
 use Rattle.store_rules.specs.Rows.{ids}
-use Rattle.store_rules.specs.RuleList.{AreSame, IsSameFile, IsSplitFile, KeepsButIndex, Slack, reads}
-use Rattle.store_rules.specs.RuleList.Rule.{Counts, Degrees, Grouped, Labels, Linked, Names, Properties, Ranges, Split, Unindexed}
-use Rattle.store_rules.specs.Rules.{IsSplit, next_free}
+use Rattle.store_rules.specs.RuleList.{AreSame, IsSameFile, IsSplitFile, KeepsThose, Slack, but_index, reads}
+use Rattle.store_rules.specs.RuleList.Rule.{Counts, Degrees, Grouped, Labels, Linked, Names, Properties, Ranges, Split, Indexed}
+use Rattle.store_rules.specs.Rules.{IsSplit, IsWellFormed, next_free}
 use Rattle.store_rules.specs.Views.{Records, high, is_live, key_in, kind_at, kind_in, rec_at}
 use Rattle.store_rules.proofs.ChainLaws.{walk_stays}
 use Rattle.store_rules.proofs.Changes as ch
 use Rattle.store_rules.proofs.Changes.{IsChanged}
 use Rattle.store_rules.proofs.Made.{IsGone, IsMade}
 use Rattle.store_rules.proofs.MetaLaws.{not_meta_key}
-use Rattle.store_rules.proofs.NumberLaws.{and_parts, eq_false, nat_cases}
-use Rattle.store_rules.proofs.RuleStays.{stays}
+use Rattle.store_rules.proofs.NumberLaws.{and_parts, nat_cases}
+use Rattle.store_rules.proofs.RuleStays.{all_of, by_name, stays}
 use Rattle.store_rules.proofs.ViewLaws.{kind_by, live_true}
 
 -- every other file is as it was
@@ -59,17 +57,20 @@ module _ (s t : Records) (shape : Shape) (others : OthersStay s t) where
   }
 
   -- The first rule, and the second of the index, are shown anew.
-  pub rules_kept : AreInRange t shape → IsSplitFile t format.index_file → KeepsButIndex s shape → KeepsButIndex t shape
-  rules_kept ranges split all Ranges e = ranges
-  rules_kept ranges split all (Split f) e = ⊎_elim (λ (p : f ≡ format.index_file). subst (IsSplitFile t) (sym p) split) (λ (ne : f ≢ format.index_file). split_other f ne (all (Split f) refl)) (nat_cases f format.index_file)
-  rules_kept ranges split all Linked e = stays s t Linked shape slack refl (all_same (reads Linked) refl) (all Linked refl)
-  rules_kept ranges split all Grouped e = stays s t Grouped shape slack refl (all_same (reads Grouped) refl) (all Grouped refl)
-  rules_kept ranges split all Counts e = stays s t Counts shape slack refl (all_same (reads Counts) refl) (all Counts refl)
-  rules_kept ranges split all Properties e = stays s t Properties shape slack refl (all_same (reads Properties) refl) (all Properties refl)
-  rules_kept ranges split all Labels e = stays s t Labels shape slack refl (all_same (reads Labels) refl) (all Labels refl)
-  rules_kept ranges split all Names e = stays s t Names shape slack refl (all_same (reads Names) refl) (all Names refl)
-  rules_kept ranges split all Degrees e = stays s t Degrees shape slack refl (all_same (reads Degrees) refl) (all Degrees refl)
-  rules_kept ranges split all Unindexed e = absurd cc
+  by_rule : AreInRange t shape → IsSplitFile t format.index_file → KeepsThose but_index s shape slack → KeepsThose but_index t shape slack
+  by_rule ranges split all Ranges e = ranges
+  by_rule ranges split all (Split f) e = ⊎_elim (λ (p : f ≡ format.index_file). subst (IsSplitFile t) (sym p) split) (λ (ne : f ≢ format.index_file). split_other f ne (all (Split f) refl)) (nat_cases f format.index_file)
+  by_rule ranges split all Linked e = stays s t Linked shape slack refl (all_same (reads Linked) refl) (all Linked refl)
+  by_rule ranges split all Grouped e = stays s t Grouped shape slack refl (all_same (reads Grouped) refl) (all Grouped refl)
+  by_rule ranges split all Counts e = stays s t Counts shape slack refl (all_same (reads Counts) refl) (all Counts refl)
+  by_rule ranges split all Properties e = stays s t Properties shape slack refl (all_same (reads Properties) refl) (all Properties refl)
+  by_rule ranges split all Labels e = stays s t Labels shape slack refl (all_same (reads Labels) refl) (all Labels refl)
+  by_rule ranges split all Names e = stays s t Names shape slack refl (all_same (reads Names) refl) (all Names refl)
+  by_rule ranges split all Degrees e = stays s t Degrees shape slack refl (all_same (reads Degrees) refl) (all Degrees refl)
+  by_rule ranges split all Indexed e = absurd cc
+
+  pub rules_kept : AreInRange t shape → IsSplitFile t format.index_file → IsWellFormed s shape → IsWellFormed t shape
+  rules_kept ranges split well = all_of t shape slack (by_rule ranges split (by_name s shape shape.threshold [] well))
 
 of_split : (t : Records) (free : List ℕ) → IsSplit t format.index_file (is_live t format.index_file) free → IsSplitFile t format.index_file
 of_split t free split = record { split = λ is. (free, split); kept = λ is not. absurd (true≢false not) }
@@ -79,16 +80,16 @@ pub changed_others : (s t : Records) (id : ℕ) → IsChanged s t format.index_f
 changed_others s t id change f is ne = record { records = ch.file_same s t format.index_file id change f is ne; meta = ch.other_meta s t format.index_file id change f ne }
 
 -- A record that fits came into use.
-pub made_kept : (s t : Records) (shape : Shape) (id : ℕ) (rec : Rec) → IsMade s t shape format.index_file id rec → Fits (high t) format.index_file rec → KeepsButIndex s shape → KeepsButIndex t shape
-made_kept s t shape id rec made fits all = rules_kept s t shape (changed_others s t id made.change)
-    (ch.in_range s t format.index_file id made.change shape made.meta (λ lt. subst (Fits (high t) format.index_file) (sym made.here) fits) (all Ranges refl))
-    (of_split t made.free made.split) all
+pub made_kept : (s t : Records) (shape : Shape) (id : ℕ) (rec : Rec) → IsMade s t shape format.index_file id rec → Fits (high t) format.index_file rec → IsWellFormed s shape → IsWellFormed t shape
+made_kept s t shape id rec made fits well = rules_kept s t shape (changed_others s t id made.change)
+    (ch.in_range s t format.index_file id made.change shape made.meta (λ lt. subst (Fits (high t) format.index_file) (sym made.here) fits) well.ranges)
+    (of_split t made.free made.split) well
 
 -- A record went.
-pub gone_kept : (s t : Records) (shape : Shape) (id : ℕ) → IsGone s t shape format.index_file id → KeepsButIndex s shape → KeepsButIndex t shape
-gone_kept s t shape id gone all = rules_kept s t shape (changed_others s t id gone.change)
-    (ch.in_range s t format.index_file id gone.change shape gone.meta (λ lt. gone.fits) (all Ranges refl))
-    (of_split t gone.free gone.split) all
+pub gone_kept : (s t : Records) (shape : Shape) (id : ℕ) → IsGone s t shape format.index_file id → IsWellFormed s shape → IsWellFormed t shape
+gone_kept s t shape id gone well = rules_kept s t shape (changed_others s t id gone.change)
+    (ch.in_range s t format.index_file id gone.change shape gone.meta (λ lt. gone.fits) well.ranges)
+    (of_split t gone.free gone.split) well
 
 -- ---- a number of a record in use was set, and the record still fits
 
@@ -145,15 +146,15 @@ module _ (s : Records) (x at to : ℕ) (used : kind_at s format.index_file x ≢
         exact = ap (λ (m : Meta). m.live) meta ∙ k.exact ∙ ap (λ m. length (ids (is_live s format.index_file) m)) (sym (set_mark format.index_file));
       })
 
-  pub set_kept : (shape : Shape) → (Fits (high s) format.index_file (rec_at s format.index_file x) → Fits (high s) format.index_file rec) → KeepsButIndex s shape → KeepsButIndex set_in shape
-  set_kept shape fits all =
-      let ranges : AreInRange s shape = all Ranges refl in
-      let split = (all (Split format.index_file) refl).split refl in
+  pub set_kept : (shape : Shape) → (Fits (high s) format.index_file (rec_at s format.index_file x) → Fits (high s) format.index_file rec) → IsWellFormed s shape → IsWellFormed set_in shape
+  set_kept shape fits well =
+      let ranges : AreInRange s shape = well.ranges in
+      let split = well.split format.index_file refl in
       let marks : high s ≡ high set_in = λ i f. sym (set_mark f) i in
       rules_kept s set_in shape set_others
       (ch.in_range s set_in format.index_file x set_change shape (subst (IsMetaInRange shape format.index_file) (sym (set_meta format.index_file)) (ranges.metas format.index_file refl))
       (λ lt. subst (Fits (high set_in) format.index_file) (sym set_here) (subst (λ (m : ℕ → ℕ). Fits m format.index_file rec) marks (fits (ranges.fit format.index_file x refl (let e = set_mark format.index_file in omega arith))))) ranges)
-      (of_split set_in split.0 (set_split split.0 split.1)) all
+      (of_split set_in split.0 (set_split split.0 split.1)) well
 
 -- ---- the first definition was set
 
@@ -222,12 +223,12 @@ module _ (s : Records) (d : ℕ) (small : d < 2 ^ 32) where
         rest = zeros_from-with_field 4 (s metas_key) format.meta_definition d format.meta_index_rest (omega arith) (omega arith) old.rest;
       })
 
-  pub first_kept : (shape : Shape) → IsLinkBelow d (high s format.index_file) → KeepsButIndex s shape → KeepsButIndex with_first shape
-  first_kept shape low all =
-      let ranges : AreInRange s shape = all Ranges refl in
-      let split = (all (Split format.index_file) refl).split refl in
+  pub first_kept : (shape : Shape) → IsLinkBelow d (high s format.index_file) → IsWellFormed s shape → IsWellFormed with_first shape
+  first_kept shape low well =
+      let ranges : AreInRange s shape = well.ranges in
+      let split = well.split format.index_file refl in
       let marks : high s ≡ high with_first = λ i f. sym (first_mark f) i in
       rules_kept s with_first shape first_others
       (ch.in_range s with_first format.index_file 0 first_change shape (first_range shape low (ranges.metas format.index_file refl))
       (λ lt. subst (Fits (high with_first) format.index_file) (sym (first_record 0)) (subst (λ (m : ℕ → ℕ). Fits m format.index_file (rec_at s format.index_file 0)) marks (ranges.fit format.index_file 0 refl (let e = first_mark format.index_file in omega arith)))) ranges)
-      (of_split with_first split.0 (first_split split.0 split.1)) all
+      (of_split with_first split.0 (first_split split.0 split.1)) well

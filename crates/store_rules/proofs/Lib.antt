@@ -15,13 +15,19 @@ pub mod EntryGone
 pub mod EntryMade
 pub mod FilledGroups
 pub mod Frames
+pub mod GraphIndexes
 pub mod GraphRows
 pub mod GroupLaws
 pub mod GroupPlaces
 pub mod HeldChange
+pub mod IndexBreaches
 pub mod IndexFrames
+pub mod IndexNames
 pub mod IndexParts
+pub mod IndexPointers
+pub mod IndexKept
 pub mod IndexRules
+pub mod IndexStays
 pub mod LinkFits
 pub mod Made
 pub mod MemberLaws
@@ -59,5 +65,6 @@ pub mod Shapes
 pub mod TwinRows
 pub mod Untouched
 pub mod UsedKinds
+pub mod ValueChange
 pub mod ViewLaws
 pub mod WriteLaws

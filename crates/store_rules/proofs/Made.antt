@@ -4,7 +4,7 @@ use Rattle.rec_bytes.specs.declared.record.Rec.{Rec}
 use Rattle.rec_bytes.specs.declared.shape.Shape.{Shape}
 use Rattle.rec_bytes.specs.Format as format
 use Rattle.rec_bytes.specs.Meta.{IsMetaInRange}
-use Rattle.rec_bytes.specs.RecordFiles.{meta_key_of, room_of}
+use Rattle.rec_bytes.specs.RecordFiles.{meta_key_of}
 use Rattle.store_rules.specs.Ranges.{Fits}
 use Rattle.store_rules.specs.Rules.{IsSplit}
 use Rattle.store_rules.specs.Views.{Records, high, is_live, kind_at, rec_at}

@@ -10,7 +10,7 @@ use Rattle.rec_bytes.specs.declared.shape.Shape.{Shape}
 use Rattle.rec_bytes.specs.Format as format
 use Rattle.rec_bytes.specs.Meta.{IsMetaInRange}
 use Rattle.rec_bytes.specs.Record.{field}
-use Rattle.rec_bytes.specs.RecordFiles.{meta_key_of, room_of}
+use Rattle.rec_bytes.specs.RecordFiles.{meta_key_of}
 use Rattle.rec_bytes.specs.Space.{meta_in}
 use Rattle.store_rules.specs.Graph.{edge_from, edge_of, graph_of, names_of, node_from, node_of}
 use Rattle.store_rules.specs.Properties.{properties_from, property_records}
@@ -55,10 +55,10 @@ module _ (s t : Records) (shape : Shape) (rec : Rec) (text : List ℕ) (made : I
   node_mark : high t format.nodes_file ≡ high s format.nodes_file
   node_mark = ch.mark_same s t format.names_file count made.change format.nodes_file (λ e. omega arith)
 
-  node_rows : node_at t ≡ node_at s
+  pub node_rows : node_at t ≡ node_at s
   node_rows = λ i x. row_if (kinds i x) (node_in (node_file i x) x)
 
-  other_name : (x : ℕ) → x < count → rec_at t format.names_file x ≡ rec_at s format.names_file x
+  pub other_name : (x : ℕ) → x < count → rec_at t format.names_file x ≡ rec_at s format.names_file x
   other_name x lt = ch.other_record s t format.names_file count made.change format.names_file x refl (λ _ e. omega arith)
 
   text_here : text_of (rec_at t format.names_file count) ≡ text
@@ -129,7 +129,6 @@ module _ (s t : Records) (shape : Shape) (rec : Rec) (text : List ℕ) (made : I
       degrees = un.degrees s t format.names_file count made.change refl most
           (λ n some. ap (λ r. field 4 r format.node_degree) (nodes_same.each n) ∙ well.degrees.each n (λ z. some (ap (λ (k : ℕ → ℕ). k n) kinds ∙ z)))
           (λ n d. subst (λ m. m ≤ most) (sym (ap (λ r. field 4 r format.node_degree) (nodes_same.each n))) (well.degrees.few n (sym (ap (λ (k : ℕ → ℕ). k n) kinds) ∙ d)));
-      unindexed = ch.unindexed s t format.names_file count made.change (λ e. omega arith) well.unindexed;
     }
 
     files_stay : property_records t ≡ property_records s

@@ -1,5 +1,5 @@
--- A store without an index meets all eight rules, and so does a new one.
-use Rattle.std.proofs.Common.{◌≡◌, ℕ, true, List, [], sym, ap, ◌∙◌, arith, refl}
+-- A store without an index keeps the eighth rule too, and so does a new one.
+use Rattle.std.proofs.Common.{◌≡◌, true, [], sym, ap, ◌∙◌, arith, refl}
 use Rattle.std.proofs.lemmas.Bool.{true≢false}
 use Rattle.rec_bytes.specs.declared.record.Rec.{Rec}
 use Rattle.rec_bytes.specs.declared.shape.Shape.{Shape}
@@ -13,11 +13,10 @@ use Rattle.rec_bytes.specs.Space.{laid_over}
 use Rattle.rec_bytes.proofs.CreationPairs.{find_pair-creation_meta}
 use Rattle.rec_bytes.proofs.Numbers.{field-with_field_same}
 use Rattle.rec_bytes.proofs.Spaces.{laid_over-at}
-use Rattle.store_rules.specs.Indexes.{AreIndexed, Entries, IsIndexed, first_definition, wanted_in}
-use Rattle.store_rules.specs.Rules.{HasNoIndex, IsWellFormed}
+use Rattle.store_rules.specs.Indexes.{AreIndexed, Entries, HasNoIndex, IsIndexed, first_definition, wanted_in}
+use Rattle.store_rules.specs.Rules.{IsWellFormed}
 use Rattle.store_rules.specs.Views.{Records, kind_at}
-use Rattle.store_rules.proofs.NewStores.{new_well}
-use Rattle.store_rules.proofs.RuleStays.{by_name}
+use Rattle.store_rules.proofs.NewStores.{new_unindexed, new_well}
 use Rattle.store_rules.proofs.ViewLaws.{live_false}
 
 -- no definition, and no record of the index in use
@@ -38,12 +37,9 @@ none_indexed records wanted none unused = record {
   held = λ x live. absurd (true≢false (sym live ∙ live_false (kind_at records format.index_file x) (unused x)));
 }
 
--- A well-formed store that names no definition.
-pub well_indexed : (records : Records) (shape : Shape) → IsWellFormed records shape → first_definition records ≡ format.nil → IsIndexed records shape
-well_indexed records shape well none = record {
-  rules = λ rule e. by_name records shape shape.threshold [] well rule;
-  indexes = none_indexed records (wanted_in records) none well.unindexed;
-}
+-- A well-formed store that names no definition and has no record of the index in use.
+pub well_indexed : (records : Records) (shape : Shape) → IsWellFormed records shape → first_definition records ≡ format.nil → HasNoIndex records → IsIndexed records shape
+well_indexed records shape well none unused = record { store = well; indexes = none_indexed records (wanted_in records) none unused }
 
 module _ (before : Records) (shape : Shape) where
   abbrev new : Records
@@ -56,4 +52,4 @@ module _ (before : Records) (shape : Shape) where
   first-new = ap (λ (r : Rec). field 4 r format.meta_definition) meta-new ∙ field-with_field_same 4 (meta_record empty_meta) format.meta_definition format.nil (omega arith) (omega arith)
 
   pub new_indexed : is_allowed shape ≡ true → zeros_from format.taken_rest (before (meta_key_of format.taken_id)) ≡ true → IsIndexed new shape
-  new_indexed allowed none_taken = well_indexed new shape (new_well before shape allowed none_taken) first-new
+  new_indexed allowed none_taken = well_indexed new shape (new_well before shape allowed none_taken) first-new (new_unindexed before shape)

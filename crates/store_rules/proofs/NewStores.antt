@@ -7,17 +7,17 @@ use Rattle.rec_bytes.specs.declared.shape.Shape.{Shape}
 use Rattle.rec_bytes.specs.declared.record.Rec.{Rec}
 use Rattle.rec_bytes.specs.Creation.{creation_pairs, own_key}
 use Rattle.rec_bytes.specs.Format as format
-use Rattle.rec_bytes.specs.Meta.{IsMetaInRange, meta_record, empty_meta, first_meta}
+use Rattle.rec_bytes.specs.Meta.{IsMetaInRange, empty_meta, first_meta}
 use Rattle.rec_bytes.specs.Meta as metas
-use Rattle.rec_bytes.specs.Record.{field, zeros, zeros_from}
-use Rattle.rec_bytes.specs.RecordFiles.{is_meta_file, meta_key_of, room_of}
+use Rattle.rec_bytes.specs.Record.{field, zeros_from}
+use Rattle.rec_bytes.specs.RecordFiles.{is_meta_file, meta_key_of}
 use Rattle.rec_bytes.specs.Shape.{is_allowed, shape_of_record}
 use Rattle.rec_bytes.specs.Space.{laid_over, meta_in}
 use Rattle.rec_bytes.proofs.CreationPairs.{IsMetaInRange-empty, find_pair-creation_meta, shape_of_record-new, first_meta-says, version_of-new}
-use Rattle.rec_bytes.proofs.Metas.{meta_reads_back}
 use Rattle.rec_bytes.proofs.Spaces.{laid_over-at}
-use Rattle.store_rules.specs.Graph.{edge_of, graph_of, node_of}
+use Rattle.store_rules.specs.Graph.{edge_of, graph_of, indexes_from, node_of}
 use Rattle.store_rules.specs.Rows.{collect, ids}
+use Rattle.store_rules.specs.Indexes.{HasNoIndex}
 use Rattle.store_rules.specs.Rules.{AreHeld, HaveProperties, Head, IsListed, IsWellFormed, IsSplit, Owns, StandsAt, block_owner, node_first, property_files, property_owner, rel_first}
 use Rattle.store_rules.specs.Views.{Records, group_at, group_in, high, is_live, kind_at, node_at, node_in, rec_at, rel_at, rel_in, text_of}
 use Rattle.store_rules.proofs.MetaLaws.{meta_of_reused}
@@ -145,12 +145,15 @@ module _ (before : Records) (shape : Shape) where
       each = λ n some. absurd (some (none_used format.nodes_file n refl));
       few = λ n d. absurd (let z = sym (none_used format.nodes_file n refl) ∙ d in omega arith);
     };
-    unindexed = λ x. none_used format.index_file x refl;
   }
+
+  pub new_unindexed : HasNoIndex new
+  new_unindexed x = none_used format.index_file x refl
 
   pub new_store_empty : graph_of new ≡ empty_graph
   new_store_empty = λ i. record {
     nodes = ap (collect (node_of new)) (mark format.nodes_file refl) i;
     edges = ap (collect (edge_of new)) (mark format.relationships_file refl) i;
     names = ap (collect (λ x. Some (text_of (rec_at new format.names_file x)))) (mark format.names_file refl) i;
+    indexes = ap (indexes_from (kind_at new format.index_file) (rec_at new format.index_file) (high new format.index_file) (rec_at new format.names_file)) (mark format.names_file refl) i;
   }

@@ -103,7 +103,6 @@ module _ (s t : Records) (shape : Shape) (id : ℕ) (lost : IsGone s t shape for
     named = named;
     names = nc.names s t id lost.change shape well;
     degrees = degrees;
-    unindexed = ch.unindexed s t format.nodes_file id lost.change (λ e. omega arith) well.unindexed;
   }
 
   -- ---- the graph

@@ -131,7 +131,6 @@ module _ (s t : Records) (shape : Shape) (id number : ℕ) (rec : Rec) (made : I
     named = named;
     names = nc.names s t id made.change shape well;
     degrees = degrees;
-    unindexed = ch.unindexed s t format.nodes_file id made.change (λ e. omega arith) well.unindexed;
   }
 
   -- ---- the graph

@@ -1,5 +1,5 @@
 -- A store whose own number is written is a well-formed store with the same graph.
-use Rattle.std.proofs.Common.{◌≡◌, ◌≢◌, ◌∙◌, ap, sym, subst, ⊎_elim, ℕ, ◌<◌, ◌≤◌, true, false, List, [], ◌∷◌, refl, arith}
+use Rattle.std.proofs.Common.{◌≡◌, ◌≢◌, ◌∙◌, ap, sym, subst, ⊎_elim, ℕ, ◌<◌, ◌≤◌, true, List, [], ◌∷◌, refl, arith}
 use Rattle.std.specs.List.{list_all}
 use Rattle.rec_bytes.specs.declared.key.Key.{Key}
 use Rattle.rec_bytes.specs.declared.record.Rec.{Rec}
@@ -13,9 +13,10 @@ use Rattle.rec_bytes.specs.Space.{put}
 use Rattle.rec_bytes.proofs.RecordFiles.{is_meta_file-not_meta, is_meta_file-not_taken}
 use Rattle.rec_bytes.proofs.Spaces.{put_other, put_other_file, put_same}
 use Rattle.store_rules.specs.Graph.{graph_of}
+use Rattle.store_rules.specs.Indexes.{IsIndexed}
 use Rattle.store_rules.specs.Ranges.{AreInRange, Fits, is_reused}
-use Rattle.store_rules.specs.RuleList.{AreSame, IsSameFile, IsSplitFile, KeepsAll, Slack, reads}
-use Rattle.store_rules.specs.RuleList.Rule.{Counts, Degrees, Grouped, Labels, Linked, Names, Properties, Ranges, Split, Unindexed}
+use Rattle.store_rules.specs.RuleList.{AreSame, IsSameFile, IsSplitFile, KeepsThose, Slack, but_index, reads}
+use Rattle.store_rules.specs.RuleList.Rule.{Counts, Degrees, Grouped, Labels, Linked, Names, Properties, Ranges, Split, Indexed}
 use Rattle.store_rules.specs.Rules.{IsWellFormed}
 use Rattle.store_rules.specs.Views.{Records, high, rec_at}
 use Rattle.store_rules.proofs.NumberLaws.{and_parts, nat_cases}
@@ -84,22 +85,28 @@ module _ (records : Records) (number : Rec) where
     kept = λ is not. (stays records numbered (Split file) shape slack refl (same_file file is, tt) has).kept is not;
   }
 
-  rules_stay : (shape : Shape) (slack : Slack) → records number_key ≡ zeros → zeros_from taken_rest number ≡ true → KeepsAll records shape slack → KeepsAll numbered shape slack
-  rules_stay shape slack blank rest all Ranges = in_range shape blank rest (all Ranges)
-  rules_stay shape slack blank rest all (Split file) = split_stays file shape slack (all (Split file))
-  rules_stay shape slack blank rest all Linked = stays records numbered Linked shape slack refl (all_same (reads Linked) refl) (all Linked)
-  rules_stay shape slack blank rest all Grouped = stays records numbered Grouped shape slack refl (all_same (reads Grouped) refl) (all Grouped)
-  rules_stay shape slack blank rest all Counts = stays records numbered Counts shape slack refl (all_same (reads Counts) refl) (all Counts)
-  rules_stay shape slack blank rest all Properties = stays records numbered Properties shape slack refl (all_same (reads Properties) refl) (all Properties)
-  rules_stay shape slack blank rest all Labels = stays records numbered Labels shape slack refl (all_same (reads Labels) refl) (all Labels)
-  rules_stay shape slack blank rest all Names = stays records numbered Names shape slack refl (all_same (reads Names) refl) (all Names)
-  rules_stay shape slack blank rest all Degrees = stays records numbered Degrees shape slack refl (all_same (reads Degrees) refl) (all Degrees)
-  rules_stay shape slack blank rest all Unindexed = stays records numbered Unindexed shape slack refl (all_same (reads Unindexed) refl) (all Unindexed)
+  rules_stay : (shape : Shape) (slack : Slack) → records number_key ≡ zeros → zeros_from taken_rest number ≡ true → KeepsThose but_index records shape slack → KeepsThose but_index numbered shape slack
+  rules_stay shape slack blank rest all Ranges e = in_range shape blank rest (all Ranges refl)
+  rules_stay shape slack blank rest all (Split file) e = split_stays file shape slack (all (Split file) refl)
+  rules_stay shape slack blank rest all Linked e = stays records numbered Linked shape slack refl (all_same (reads Linked) refl) (all Linked refl)
+  rules_stay shape slack blank rest all Grouped e = stays records numbered Grouped shape slack refl (all_same (reads Grouped) refl) (all Grouped refl)
+  rules_stay shape slack blank rest all Counts e = stays records numbered Counts shape slack refl (all_same (reads Counts) refl) (all Counts refl)
+  rules_stay shape slack blank rest all Properties e = stays records numbered Properties shape slack refl (all_same (reads Properties) refl) (all Properties refl)
+  rules_stay shape slack blank rest all Labels e = stays records numbered Labels shape slack refl (all_same (reads Labels) refl) (all Labels refl)
+  rules_stay shape slack blank rest all Names e = stays records numbered Names shape slack refl (all_same (reads Names) refl) (all Names refl)
+  rules_stay shape slack blank rest all Degrees e = stays records numbered Degrees shape slack refl (all_same (reads Degrees) refl) (all Degrees refl)
+  rules_stay shape slack blank rest all Indexed e = absurd cc
 
   pub well_numbered : (shape : Shape) → records number_key ≡ zeros → zeros_from taken_rest number ≡ true → IsWellFormed records shape → IsWellFormed numbered shape
   well_numbered shape blank rest well =
       let slack : Slack = record { most = shape.threshold; empty = [] } in
       all_of numbered shape slack (rules_stay shape slack blank rest (by_name records shape shape.threshold [] well))
+
+  pub indexed_numbered : (shape : Shape) → records number_key ≡ zeros → zeros_from taken_rest number ≡ true → IsIndexed records shape → IsIndexed numbered shape
+  indexed_numbered shape blank rest store = record {
+    store = well_numbered shape blank rest store.store;
+    indexes = stays records numbered Indexed shape (record { most = shape.threshold; empty = [] }) refl (all_same (reads Indexed) refl) store.indexes;
+  }
 
   pub graph-numbered : graph_of numbered ≡ graph_of records
   graph-numbered = refl

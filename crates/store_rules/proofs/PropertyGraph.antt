@@ -6,7 +6,7 @@ use Rattle.rec_bytes.specs.declared.record.Rec.{Rec}
 use Rattle.rec_bytes.specs.declared.shape.Shape.{Shape}
 use Rattle.rec_bytes.specs.Format as format
 use Rattle.rec_bytes.specs.Record.{field}
-use Rattle.store_rules.specs.Graph.{edge_from, edge_of, graph_of, names_of, node_from, node_of}
+use Rattle.store_rules.specs.Graph.{edge_from, edge_of, graph_of, indexes_from, indexes_of, names_of, node_from, node_of}
 use Rattle.store_rules.specs.Properties.{Property, PropertyRecords, map_of, properties_from, property_records}
 use Rattle.store_rules.specs.Rows.{collect}
 use Rattle.store_rules.specs.Rules.{KeepsRules, node_first, rel_first}
@@ -84,6 +84,19 @@ module _ (s t : Records) (shape : Shape) (file x : ℕ) (old new : List Property
   names_stay : names_of t ≡ names_of s
   names_stay = λ i. collect (λ y. Some (text_of (fr.name_file s t shape file x old new h i y))) (fr.name_mark s t shape file x old new h i)
 
+  -- and so do the indexes
+  indexes_stay : indexes_of t ≡ indexes_of s
+  indexes_stay = λ i. indexes_from (kinds i) (index i) (mark i) (fr.name_file s t shape file x old new h i) (fr.name_mark s t shape file x old new h i)
+    where
+      kinds : kind_at t format.index_file ≡ kind_at s format.index_file
+      kinds = λ i y. fr.kind_same s t shape file x old new h format.index_file y refl (λ e. omega arith) (λ e. omega arith) i
+
+      index : rec_at t format.index_file ≡ rec_at s format.index_file
+      index = λ i y. fr.record_same s t shape file x old new h format.index_file y refl (λ e. omega arith) (λ e. omega arith) (λ e. omega (arith, h.element)) i
+
+      mark : high t format.index_file ≡ high s format.index_file
+      mark = fr.mark_same s t shape file x old new h format.index_file (λ e. omega arith) (λ e. omega arith)
+
   -- ---- the element itself, by a change that makes its new properties of its old ones
   module _ (change : Properties → Properties) (is : change (map_of names old) ≡ map_of names new) where
     -- its properties are the changed ones
@@ -135,8 +148,8 @@ module _ (s t : Records) (shape : Shape) (file x : ℕ) (old new : List Property
     -- the graph is the old one with that change
     pub graph_changed : graph_of t ≡ with_properties (graph_of s) (target_in file x) change
     graph_changed = ⊎_elim
-        (λ (e : file ≡ format.nodes_file). (λ i. record { nodes = nodes_changed e i; edges = edges_stay e i; names = names_stay i }) ∙ ap (λ f. with_properties (graph_of s) (target_in f x) change) (sym e))
-        (λ (e : file ≡ format.relationships_file). (λ i. record { nodes = nodes_stay e i; edges = edges_changed e i; names = names_stay i }) ∙ ap (λ f. with_properties (graph_of s) (target_in f x) change) (sym e))
+        (λ (e : file ≡ format.nodes_file). (λ i. record { nodes = nodes_changed e i; edges = edges_stay e i; names = names_stay i; indexes = indexes_stay i }) ∙ ap (λ f. with_properties (graph_of s) (target_in f x) change) (sym e))
+        (λ (e : file ≡ format.relationships_file). (λ i. record { nodes = nodes_stay e i; edges = edges_changed e i; names = names_stay i; indexes = indexes_stay i }) ∙ ap (λ f. with_properties (graph_of s) (target_in f x) change) (sym e))
         h.element
 
   -- the element has the new properties

@@ -8,14 +8,14 @@ use Rattle.rec_bytes.specs.Format as format
 use Rattle.rec_bytes.specs.Meta as metas
 use Rattle.rec_bytes.specs.Meta.{IsMetaInRange}
 use Rattle.rec_bytes.specs.Record.{field, zeros_from}
-use Rattle.rec_bytes.specs.RecordFiles.{is_meta_file, meta_key_of, room_of}
+use Rattle.rec_bytes.specs.RecordFiles.{is_meta_file, meta_key_of}
 use Rattle.rec_bytes.specs.Shape.{shape_of_record, version_of}
 use Rattle.rec_bytes.specs.Space.{meta_in}
 use Rattle.store_rules.specs.Chains.{IsWalk, next_in, place_of, prev_in}
 use Rattle.store_rules.specs.Properties.{Property}
 use Rattle.store_rules.specs.Ranges.{AreInRange, Fits, is_reused}
 use Rattle.store_rules.specs.Rows.{ids}
-use Rattle.store_rules.specs.Rules.{AreAllLive, AreCounted, AreNamed, AreNames, HasNoIndex, Head, IsGrouped, IsLinked, IsSplit, KeepsRules, Owns, first_of, next_free, AreExact, HasCounts}
+use Rattle.store_rules.specs.Rules.{AreAllLive, AreCounted, AreNamed, AreNames, Head, IsGrouped, IsLinked, IsSplit, KeepsRules, Owns, first_of, next_free, AreExact, HasCounts}
 use Rattle.store_rules.specs.Views.{Records, degree, first_link, group_at, high, is_live, kind_at, node_at, rec_at, rel_at, GroupRow}
 use Rattle.store_rules.proofs.ChainLaws.{walk_stays}
 use Rattle.store_rules.proofs.Frames.{pair_cases}
@@ -169,10 +169,6 @@ module _ (s t : Records) (shape : Shape) (file x : ℕ) (old new : List Property
       (subst (λ m. AreCounted (kind_at s format.nodes_file) (degree t) (rel_at t) m most) (sym (fr.mark_same s t shape file x old new h format.relationships_file (λ e. omega arith) (λ e. omega arith)))
       (twin.counted_alike (rel_at s) (rel_at t) rels_there rels_back (kind_at s format.nodes_file) (degree s) (degree t) (high s format.relationships_file) most (fr.degrees_same s t shape file x old new h) was))
 
-  -- the eighth
-  unindexed : HasNoIndex s → HasNoIndex t
-  unindexed was y = fr.kind_same s t shape file x old new h format.index_file y refl (λ e. omega arith) (λ e. omega arith) ∙ was y
-
   -- a change of one element's properties keeps the rules
   pub properties_well : {most : ℕ} {empty : List ℕ} → KeepsRules s shape most empty → KeepsRules t shape most empty
   properties_well well = record {
@@ -186,5 +182,4 @@ module _ (s t : Records) (shape : Shape) (file x : ℕ) (old new : List Property
     named = named well.named;
     names = names well.names;
     degrees = degrees well.degrees;
-    unindexed = unindexed well.unindexed;
   }

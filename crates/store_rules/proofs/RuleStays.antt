@@ -1,5 +1,5 @@
 -- A rule stays where what it reads stays, and all rules are the parts that they were.
-use Rattle.std.proofs.Common.{◌≡◌, ◌≢◌, ◌⊎◌, ⊎_elim, inl, inr, ℕ, Bool, true, false, List, Option, nat_eq, sym, ap, ◌∙◌, subst, refl, ◌<◌, length}
+use Rattle.std.proofs.Common.{◌≡◌, inl, inr, ℕ, Bool, true, List, Option, nat_eq, sym, ap, ◌∙◌, subst, refl, ◌<◌, length}
 use Rattle.std.specs.Prelude.{not}
 use Rattle.store_rules.specs.Rows.{ids}
 use Rattle.rec_bytes.specs.declared.meta.Meta.{Meta}
@@ -8,13 +8,15 @@ use Rattle.rec_bytes.specs.declared.shape.Shape.{Shape}
 use Rattle.rec_bytes.specs.Format as format
 use Rattle.rec_bytes.specs.Meta as metas
 use Rattle.rec_bytes.specs.Record.{field}
-use Rattle.rec_bytes.specs.RecordFiles.{meta_key_of}
 use Rattle.rec_bytes.specs.Space.{meta_in}
-use Rattle.store_rules.specs.Chains.{In, IsChain, IsWalk, next_in, prev_in}
-use Rattle.store_rules.specs.Rules.{AllListed, AreCounted, AreExact, AreNamed, AreNames, GroupHead, HaveProperties, Head, IsGrouped, IsLinked, IsListed, IsSplit, KeepsRules, Owns, PropertyFiles, SparseHead, StandsAt, first_of, next_free, property_files}
-use Rattle.store_rules.specs.RuleList.{AreSame, IsSameFile, IsSplitFile, KeepsAll, Rule, Slack, holds, is_local, reads}
-use Rattle.store_rules.specs.RuleList.Rule.{Counts, Degrees, Grouped, Labels, Linked, Names, Properties, Ranges, Split, Unindexed}
+use Rattle.store_rules.specs.Chains.{IsChain, IsWalk, next_in, prev_in}
+use Rattle.store_rules.specs.Indexes.{AreIndexed, wanted_in}
+use Rattle.store_rules.specs.Properties.{property_records}
+use Rattle.store_rules.specs.Rules.{AreCounted, AreExact, AreNamed, AreNames, HaveProperties, Head, IsGrouped, IsLinked, IsListed, IsSplit, KeepsRules, Owns, PropertyFiles, StandsAt, first_of, property_files}
+use Rattle.store_rules.specs.RuleList.{AreSame, IsSameFile, IsSplitFile, KeepsThose, Rule, Slack, but_index, holds, is_local, reads}
+use Rattle.store_rules.specs.RuleList.Rule.{Counts, Degrees, Grouped, Labels, Linked, Names, Properties, Ranges, Split, Indexed}
 use Rattle.store_rules.specs.Views.{GroupRow, NodeRow, Records, RelRow, degree, first_link, group_at, group_in, high, is_live, kind_at, kind_in, node_at, node_in, rec_at, rel_at, rel_in, row_if}
+use Rattle.store_rules.proofs.IndexStays.{indexes_stay, wanted_same}
 
 module _ (s t : Records) where
   -- ---- the views of a file
@@ -123,33 +125,34 @@ module _ (s t : Records) where
   stays Labels shape slack local same h = labels_stay same.0 same.1.0 same.1.1.0 h
   stays Names shape slack local same h = names_stay same.0 h
   stays Degrees shape slack local same h = degrees_stay slack.most same.0 same.1.0 h
-  stays Unindexed shape slack local same h = λ x. ap (λ (kind : ℕ → ℕ). kind x) (kind_same format.index_file same.0) ∙ h x
+  stays Indexed shape slack local same h =
+      let files : property_records t ≡ property_records s = λ i. record { properties = same.1.0.records i; strings = same.1.1.0.records i } in
+      indexes_stay s t same.1.1.1.0 (wanted_in t) (subst (AreIndexed s) (sym (wanted_same s t (nodes_same same.0) files)) h)
 
--- ---- all rules, as one record and by name
+-- ---- the first seven rules, as one record and by name
 
-pub by_name : (records : Records) (shape : Shape) (most : ℕ) (empty : List ℕ) → KeepsRules records shape most empty → KeepsAll records shape (record { most = most; empty = empty })
-by_name records shape most empty well Ranges = well.ranges
-by_name records shape most empty well (Split file) = record { split = well.split file; kept = well.kept file }
-by_name records shape most empty well Linked = well.linked
-by_name records shape most empty well Grouped = well.grouped
-by_name records shape most empty well Counts = well.exact
-by_name records shape most empty well Properties = well.properties
-by_name records shape most empty well Labels = well.named
-by_name records shape most empty well Names = well.names
-by_name records shape most empty well Degrees = well.degrees
-by_name records shape most empty well Unindexed = well.unindexed
+pub by_name : (records : Records) (shape : Shape) (most : ℕ) (empty : List ℕ) → KeepsRules records shape most empty → KeepsThose but_index records shape (record { most = most; empty = empty })
+by_name records shape most empty well Ranges e = well.ranges
+by_name records shape most empty well (Split file) e = record { split = well.split file; kept = well.kept file }
+by_name records shape most empty well Linked e = well.linked
+by_name records shape most empty well Grouped e = well.grouped
+by_name records shape most empty well Counts e = well.exact
+by_name records shape most empty well Properties e = well.properties
+by_name records shape most empty well Labels e = well.named
+by_name records shape most empty well Names e = well.names
+by_name records shape most empty well Degrees e = well.degrees
+by_name records shape most empty well Indexed e = absurd cc
 
-pub all_of : (records : Records) (shape : Shape) (slack : Slack) → KeepsAll records shape slack → KeepsRules records shape slack.most slack.empty
+pub all_of : (records : Records) (shape : Shape) (slack : Slack) → KeepsThose but_index records shape slack → KeepsRules records shape slack.most slack.empty
 all_of records shape slack all = record {
-  ranges = all Ranges;
-  split = λ file is. (all (Split file)).split is;
-  kept = λ file is not. (all (Split file)).kept is not;
-  linked = all Linked;
-  grouped = all Grouped;
-  exact = all Counts;
-  properties = all Properties;
-  named = all Labels;
-  names = all Names;
-  degrees = all Degrees;
-  unindexed = all Unindexed;
+  ranges = all Ranges refl;
+  split = λ file is. (all (Split file) refl).split is;
+  kept = λ file is not. (all (Split file) refl).kept is not;
+  linked = all Linked refl;
+  grouped = all Grouped refl;
+  exact = all Counts refl;
+  properties = all Properties refl;
+  named = all Labels refl;
+  names = all Names refl;
+  degrees = all Degrees refl;
 }

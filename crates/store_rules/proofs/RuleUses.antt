@@ -1,11 +1,11 @@
 -- Uses of the rules by name: one rule is made anew, and the others stay.
-use Rattle.std.proofs.Common.{◌≡◌, ◌≢◌, ◌⊎◌, ⊎_elim, inl, inr, ℕ, Bool, true, false, not, List, ◌∷◌, ap, ◌∙◌, refl}
+use Rattle.std.proofs.Common.{◌≡◌, ⊎_elim, inl, inr, ℕ, Bool, true, false, not, List, ◌∷◌, ap, ◌∙◌, refl}
 use Rattle.rec_bytes.specs.declared.shape.Shape.{Shape}
 use Rattle.rec_bytes.specs.Format as format
 use Rattle.store_rules.specs.Chains.{In}
-use Rattle.store_rules.specs.Rules.{KeepsRules, is_filled}
+use Rattle.store_rules.specs.Rules.{is_filled}
 use Rattle.store_rules.specs.RuleList.{KeepsAll, KeepsThose, Rule, Slack, holds}
-use Rattle.store_rules.specs.RuleList.Rule.{Counts, Degrees, Grouped, Labels, Linked, Names, Properties, Ranges, Split, Unindexed}
+use Rattle.store_rules.specs.RuleList.Rule.{Counts, Degrees, Grouped, Labels, Linked, Names, Properties, Ranges, Split, Indexed}
 use Rattle.store_rules.specs.Views.{Records, rec_at}
 
 -- these groups may be empty
@@ -19,7 +19,7 @@ loosens Properties = false
 loosens Labels = false
 loosens Names = false
 loosens Degrees = false
-loosens Unindexed = false
+loosens Indexed = false
 
 -- the other rules say nothing of that
 pub others_slack : (records : Records) (shape : Shape) (most : ℕ) (few many : List ℕ) (rule : Rule) → loosens rule ≡ false → holds rule records shape (record { most = most; empty = few }) → holds rule records shape (record { most = most; empty = many })
@@ -32,7 +32,7 @@ others_slack records shape most few many Properties e h = h
 others_slack records shape most few many Labels e h = h
 others_slack records shape most few many Names e h = h
 others_slack records shape most few many Degrees e h = h
-others_slack records shape most few many Unindexed e h = h
+others_slack records shape most few many Indexed e h = h
 
 -- All rules, by those that pass a test and those that don't.
 pub both : (those : Rule → Bool) (records : Records) (shape : Shape) (slack : Slack) → KeepsThose those records shape slack → KeepsThose (λ r. not (those r)) records shape slack → KeepsAll records shape slack
@@ -56,7 +56,7 @@ regrouped records shape most few many all grouped rule = by rule (all rule)
     by Labels h = h
     by Names h = h
     by Degrees h = h
-    by Unindexed h = h
+    by Indexed h = h
 
 -- those of a longer list may be empty
 pub may_be : (records : Records) (shape : Shape) (most : ℕ) (few many : List ℕ) → ((g : ℕ) → In g few → In g many) → KeepsAll records shape (record { most = most; empty = few }) → KeepsAll records shape (record { most = most; empty = many })
@@ -90,7 +90,7 @@ is_other Properties = true
 is_other Labels = true
 is_other Names = true
 is_other Degrees = true
-is_other Unindexed = true
+is_other Indexed = true
 
 pub others_of : (records : Records) (shape : Shape) (slack : Slack) → KeepsAll records shape slack → KeepsThose is_other records shape slack
 others_of records shape slack all rule e = all rule

@@ -11,6 +11,8 @@ use Rattle.rec_bytes.specs.Record.{field}
 use Rattle.rec_bytes.specs.Shape.{shape_of_record, version_of}
 use Rattle.rec_bytes.specs.Space.{meta_in}
 use Rattle.store_rules.specs.Chains.{In, IsChain, IsWalk, next_in, prev_in}
+use Rattle.store_rules.specs.IndexBreaking.{IndexBreaks}
+use Rattle.store_rules.specs.Indexes.{AreIndexed, wanted_in}
 use Rattle.store_rules.specs.Ranges.{AreInRange, Fits, is_reused}
 use Rattle.store_rules.specs.Rows.{ids}
 use Rattle.store_rules.specs.Rules as rules
@@ -327,7 +329,7 @@ Keeps records shape (suc (suc (suc (suc (suc (suc (suc zero))))))) =
     rules.AreCounted (kind_at records format.nodes_file) (degree records) (rel_at records)
     (high records format.relationships_file) shape.threshold
 Keeps records shape (suc (suc (suc (suc (suc (suc (suc (suc zero)))))))) =
-    rules.HasNoIndex records
+    AreIndexed records (wanted_in records)
 Keeps records shape (suc (suc (suc (suc (suc (suc (suc (suc (suc n))))))))) = Unit {0}
 
 -- ---- the records that break them
@@ -374,6 +376,4 @@ pub data Breaks (records : Records) (shape : Shape) : Damage → Type 0 where
   WrongDegree : (n : ℕ) → n < high records format.nodes_file
       → ¬ DegreeKeeps records shape.threshold n
       → Breaks records shape (damage format.nodes_file n 7)
-  UsedIndex : (x : ℕ) → x < high records format.index_file
-      → kind_at records format.index_file x ≢ format.free_kind
-      → Breaks records shape (damage format.index_file x 8)
+  WrongIndex : (d : Damage) → IndexBreaks records d → Breaks records shape d

@@ -1,6 +1,8 @@
 -- Where the end of a relationship stands, and changes of groups that no graph shows.
 use Rattle.std.specs.Prelude.{◌≡◌, ◌≢◌, ℕ, nat_eq, cond, List, [], ◌∷◌, Some}
+use Rattle.rec_bytes.specs.declared.key.Key.{Key}
 use Rattle.rec_bytes.specs.Format as format
+use Rattle.rec_bytes.specs.RecordFiles.{meta_key_of}
 use Rattle.rec_bytes.specs.Space.{State, meta_of}
 use Rattle.store_rules.specs.Graph.{graph_of}
 use Rattle.store_rules.specs.Rules.{Head, IsOn, Owns}
@@ -29,3 +31,6 @@ pub record Regroups (s t : State) (n : ℕ) : Type 0 where
   pub groups : (g : ℕ) (row : GroupRow) → group_at s.records g ≡ Some row → row.owner ≢ n
       → group_at t.records g ≡ Some row
   pub metas : (file : ℕ) → file ≢ format.groups_file → meta_of t file ≡ meta_of s file
+  pub others : (key : Key) → key.file ≢ format.nodes_file → key.file ≢ format.relationships_file
+      → key.file ≢ format.groups_file → key ≢ meta_key_of format.groups_file
+      → t.records key ≡ s.records key

@@ -1,12 +1,15 @@
 -- The graph of the records of a well-formed store: its records in use, by ascending identifier,
 -- with the properties of each. No chain of relationships is followed.
-use Rattle.std.specs.Prelude.{ℕ, Option, None, Some, List}
-use Rattle.plain_graph.specs.Graph.{Edge, Graph, Node}
+use Rattle.std.specs.Prelude.{ℕ, nat_eq, nat_lt, Bool, true, ◌&&◌, if◌then◌else◌, Option, None}
+use Rattle.std.specs.Prelude.{Some, List, length, flat_map}
+use Rattle.plain_graph.specs.Graph.{Edge, Graph, Index, Node}
 use Rattle.rec_bytes.specs.declared.record.Rec.{Rec}
 use Rattle.rec_bytes.specs.Format as format
+use Rattle.rec_bytes.specs.Record.{field}
 use Rattle.store_rules.specs.Properties.{PropertyRecords, properties_from, property_records}
-use Rattle.store_rules.specs.Rows.{collect}
-use Rattle.store_rules.specs.Views.{NodeRow, Records, RelRow, high, node_at, rec_at, rel_at}
+use Rattle.store_rules.specs.Rows.{collect, ids}
+use Rattle.store_rules.specs.Views.{NodeRow, Records, RelRow, high, kind_at, node_at, rec_at}
+use Rattle.store_rules.specs.Views.{rel_at}
 use Rattle.store_rules.specs.Views.{text_of}
 
 abbrev pub node_from : (ℕ → Rec) → PropertyRecords → Option NodeRow → Option Node
@@ -43,9 +46,36 @@ names_of records =
     collect (λ x. Some (text_of (rec_at records format.names_file x)))
     (high records format.names_file)
 
+-- a definition in use has this label and this key, by the kinds and the records of the index
+abbrev pub is_definition_of : (ℕ → ℕ) → (ℕ → Rec) → ℕ → ℕ → ℕ → Bool
+is_definition_of kind index label key d =
+    nat_eq (kind d) format.definition
+    && (nat_eq (field 4 (index d) format.definition_label) label
+    && nat_eq (field 4 (index d) format.definition_key) key)
+
+-- the index of a label and a key, where one of the definitions below the mark has them
+abbrev pub index_from : (ℕ → ℕ) → (ℕ → Rec) → ℕ → (ℕ → Rec) → ℕ → ℕ → Option Index
+index_from kind index mark name_file label key =
+    if nat_lt 0 (length (ids (is_definition_of kind index label key) mark))
+    then Some (record { label = text_of (name_file label); key = text_of (name_file key) })
+    else None
+
+-- the indexes by the numbers of label and key, of so many names
+abbrev pub indexes_from : (ℕ → ℕ) → (ℕ → Rec) → ℕ → (ℕ → Rec) → ℕ → List Index
+indexes_from kind index mark name_file names =
+    flat_map (λ label. collect (index_from kind index mark name_file label) names)
+    (ids (λ label. true) names)
+
+abbrev pub indexes_of : Records → List Index
+indexes_of records =
+    indexes_from (kind_at records format.index_file) (rec_at records format.index_file)
+    (high records format.index_file) (rec_at records format.names_file)
+    (high records format.names_file)
+
 abbrev pub graph_of : Records → Graph
 graph_of records = record {
   nodes = collect (node_of records) (high records format.nodes_file);
   edges = collect (edge_of records) (high records format.relationships_file);
   names = names_of records;
+  indexes = indexes_of records;
 }

@@ -1,16 +1,16 @@
 -- What the eighth rule asks of each record of a store with indexes, and which records break it.
-use Rattle.std.specs.Prelude.{◌≡◌, ℕ, ◌/◌, ◌<◌, ◌≤◌, true, List, length, Some}
+use Rattle.std.specs.Prelude.{◌≡◌, ◌≢◌, ℕ, zero, suc, ◌/◌, ◌<◌, ◌≤◌, true, false, List, length}
+use Rattle.std.specs.Prelude.{Some}
 use Rattle.plain_graph.specs.declared.value.Value.{Value}
 use Rattle.rec_bytes.specs.declared.damage.Damage.{Damage}
 use Rattle.rec_bytes.specs.Format as format
-use Rattle.store_rules.specs.Breaking.{damage}
 use Rattle.store_rules.specs.Chains.{In, IsChain, IsWalk}
 use Rattle.store_rules.specs.Hashes.{bucket_of}
 use Rattle.store_rules.specs.Indexes.{entry_hash, entry_in, entry_node, first_definition}
 use Rattle.store_rules.specs.Indexes.{first_entry, heads_of, indexed_key, indexed_label}
 use Rattle.store_rules.specs.Indexes.{next_definition, next_entry, node_value, previous_entry}
 use Rattle.store_rules.specs.Indexes.{wanted_in}
-use Rattle.store_rules.specs.Views.{Records, is_live, kind_at}
+use Rattle.store_rules.specs.Views.{Records, high, is_live, kind_at}
 
 -- ---- the lists that the records lead through
 
@@ -108,17 +108,64 @@ pub record EachKeeps (records : Records) : Type 0 where
   pub node : (n : ℕ) → IndexedNodeKeeps records n
   pub held : (x : ℕ) → is_live records format.index_file x ≡ true → IsOfAnIndex records x
 
--- The record breaks the eighth rule: what the rule says of it is false.
+-- ---- what the links lead to, also where they make no right list
+
+-- The chain of the definitions leads to the record. It goes on as long as it leads to definitions.
+pub data LeadsToDefinition (records : Records) : ℕ → Type 0 where
+  FirstDefinition : (d : ℕ) → first_definition records ≡ d → d ≢ format.nil
+      → LeadsToDefinition records d
+  NextDefinition : (d e : ℕ) → LeadsToDefinition records d
+      → kind_at records format.index_file d ≡ format.definition
+      → next_definition records d ≡ e → e ≢ format.nil → LeadsToDefinition records e
+
+-- The chain leads to a definition, whose record of heads for this bucket is one.
+pub record HasHead (records : Records) (d b : ℕ) : Type 0 where
+  pub leads : LeadsToDefinition records d
+  pub defined : kind_at records format.index_file d ≡ format.definition
+  pub low : b < 180
+  pub head : kind_at records format.index_file (heads_of records d (b / 15)) ≡ format.heads
+
+-- The bucket leads to the record after so many entries. It goes on as long as it leads to entries.
+pub data LeadsToEntry (records : Records) (d b : ℕ) : ℕ → ℕ → Type 0 where
+  FirstEntry : (x : ℕ) → HasHead records d b → first_entry records d b ≡ x → x ≢ format.nil
+      → LeadsToEntry records d b zero x
+  NextEntry : (n x y : ℕ) → LeadsToEntry records d b n x
+      → kind_at records format.index_file x ≡ format.indexed
+      → next_entry records x ≡ y → y ≢ format.nil → LeadsToEntry records d b (suc n) y
+
+abbrev pub index_damage : ℕ → ℕ → Damage
+index_damage file id = record { file = file; id = id; rule = 8 }
+
+-- The record breaks the eighth rule: what the rule says of it is false. Or a link of the indexes
+-- leads to it, and it is of another kind; it stands in a bucket after as many entries as were given
+-- out; or it is an entry of a bucket that isn't wanted there.
 pub data IndexBreaks (records : Records) : Damage → Type 0 where
   WrongDefinitions : ¬ HasDefinitions records
-      → IndexBreaks records (damage format.meta_file format.index_file 8)
+      → IndexBreaks records (index_damage format.meta_file format.index_file)
   WrongDefinition : (d : ℕ) → IsAmongDefinitions records d → ¬ DefinitionKeeps records d
-      → IndexBreaks records (damage format.index_file d 8)
+      → IndexBreaks records (index_damage format.index_file d)
   WrongHead : (h : ℕ) → ¬ HeadRecordKeeps records h
-      → IndexBreaks records (damage format.index_file h 8)
+      → IndexBreaks records (index_damage format.index_file h)
   WrongEntry : (x : ℕ) → ¬ EntryKeeps records x
-      → IndexBreaks records (damage format.index_file x 8)
+      → IndexBreaks records (index_damage format.index_file x)
   WrongNode : (n : ℕ) → ¬ IndexedNodeKeeps records n
-      → IndexBreaks records (damage format.nodes_file n 8)
+      → IndexBreaks records (index_damage format.nodes_file n)
   LeftOver : (x : ℕ) → is_live records format.index_file x ≡ true → ¬ IsOfAnIndex records x
-      → IndexBreaks records (damage format.index_file x 8)
+      → IndexBreaks records (index_damage format.index_file x)
+  OtherDefinition : (d : ℕ) → LeadsToDefinition records d
+      → kind_at records format.index_file d ≢ format.definition
+      → IndexBreaks records (index_damage format.index_file d)
+  OtherHead : (d c : ℕ) → LeadsToDefinition records d
+      → kind_at records format.index_file d ≡ format.definition → c < 12
+      → kind_at records format.index_file (heads_of records d c) ≢ format.heads
+      → IndexBreaks records (index_damage format.index_file (heads_of records d c))
+  OtherEntry : (d b n x : ℕ) → LeadsToEntry records d b n x
+      → kind_at records format.index_file x ≢ format.indexed
+      → IndexBreaks records (index_damage format.index_file x)
+  LateEntry : (d b n x : ℕ) → LeadsToEntry records d b n x
+      → high records format.index_file ≤ n
+      → IndexBreaks records (index_damage format.index_file x)
+  UnwantedEntry : (d b n x : ℕ) → LeadsToEntry records d b n x
+      → kind_at records format.index_file x ≡ format.indexed
+      → wanted_in records (entry_in records d x) ≡ false
+      → IndexBreaks records (index_damage format.index_file x)

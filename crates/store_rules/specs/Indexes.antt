@@ -15,7 +15,7 @@ use Rattle.store_rules.specs.Chains.{In, IsChain, IsWalk}
 use Rattle.store_rules.specs.Hashes.{bucket_of, hash_of}
 use Rattle.store_rules.specs.Properties.{Property, PropertyRecords, property_at, property_ids}
 use Rattle.store_rules.specs.Properties.{property_records}
-use Rattle.store_rules.specs.RuleList.{KeepsButIndex}
+use Rattle.store_rules.specs.Rules.{IsWellFormed}
 use Rattle.store_rules.specs.Views.{NodeRow, Records, is_live, kind_at, node_at, rec_at}
 
 -- ---- what the records of the indexes say
@@ -175,6 +175,10 @@ has_hash hash (Some value) = nat_eq (hash_of value) hash
 abbrev pub wanted_in : Records → Entries
 wanted_in records e = has_hash e.hash (node_value records e.label e.key e.node)
 
+-- no record of the index is in use
+abbrev pub HasNoIndex : Records → Type 0
+HasNoIndex records = (x : ℕ) → kind_at records format.index_file x ≡ format.free_kind
+
 -- the value is this one
 abbrev pub has_value : Value → Option Value → Bool
 has_value value None = false
@@ -184,5 +188,5 @@ has_value value (Some other) = is_eq (value_cmp other value)
 
 -- the records of a store of this shape, with indexes of what its nodes have
 pub record IsIndexed (records : Records) (shape : Shape) : Type 0 where
-  pub rules : KeepsButIndex records shape
+  pub store : IsWellFormed records shape
   pub indexes : AreIndexed records (wanted_in records)

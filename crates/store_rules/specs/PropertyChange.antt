@@ -8,7 +8,7 @@ use Rattle.rec_bytes.specs.declared.shape.Shape.{Shape}
 use Rattle.rec_bytes.specs.Format as format
 use Rattle.rec_bytes.specs.Meta.{IsMetaInRange}
 use Rattle.rec_bytes.specs.Record.{field}
-use Rattle.rec_bytes.specs.RecordFiles.{meta_key_of, room_of}
+use Rattle.rec_bytes.specs.RecordFiles.{meta_key_of}
 use Rattle.store_rules.specs.Chains.{In}
 use Rattle.store_rules.specs.Properties.{AreProperties, Property, blocks_of, ids_of, keys_of}
 use Rattle.store_rules.specs.Properties.{property_records}

@@ -1,14 +1,13 @@
 -- The rules of a well-formed store by name: what each says, which files it reads, and all but some.
-use Rattle.std.specs.Prelude.{◌≡◌, ℕ, nat_eq, Bool, true, false, ◌||◌, List}
-use Rattle.std.specs.List.{list_any}
+use Rattle.std.specs.Prelude.{◌≡◌, ℕ, Bool, true, false, List}
 use Rattle.std.specs.Prelude.{[], ◌∷◌}
 use Rattle.rec_bytes.specs.declared.shape.Shape.{Shape}
 use Rattle.rec_bytes.specs.Format as format
 use Rattle.rec_bytes.specs.RecordFiles.{is_meta_file, meta_key_of}
+use Rattle.store_rules.specs.Indexes.{AreIndexed, wanted_in}
 use Rattle.store_rules.specs.Ranges.{AreInRange, is_reused}
 use Rattle.store_rules.specs.Rules.{AreAllLive, AreCounted, AreExact, AreNamed, AreNames}
-use Rattle.store_rules.specs.Rules.{HasNoIndex, HaveProperties, IsGrouped, IsLinked, IsSplit}
-use Rattle.store_rules.specs.Rules.{property_files}
+use Rattle.store_rules.specs.Rules.{HaveProperties, IsGrouped, IsLinked, IsSplit, property_files}
 use Rattle.store_rules.specs.Views.{Records, degree, first_link, group_at, high, is_live, kind_at}
 use Rattle.store_rules.specs.Views.{node_at, rec_at, rel_at}
 
@@ -23,7 +22,7 @@ pub data Rule : Type 0 where
   Labels : Rule
   Names : Rule
   Degrees : Rule
-  Unindexed : Rule
+  Indexed : Rule
 
 -- the number that a damage names it by
 abbrev pub number : Rule → ℕ
@@ -36,7 +35,7 @@ number Properties = 5
 number Labels = 5
 number Names = 6
 number Degrees = 7
-number Unindexed = 8
+number Indexed = 8
 
 -- What may be otherwise in the middle of a change: so many relationships a sparse node may have,
 -- and these groups may be empty.
@@ -72,7 +71,7 @@ holds Names records shape slack =
 holds Degrees records shape slack =
     AreCounted (kind_at records format.nodes_file) (degree records) (rel_at records)
     (high records format.relationships_file) slack.most
-holds Unindexed records shape slack = HasNoIndex records
+holds Indexed records shape slack = AreIndexed records (wanted_in records)
 
 -- the rules that pass the test
 abbrev pub KeepsThose : (Rule → Bool) → Records → Shape → Slack → Type 0
@@ -83,7 +82,7 @@ KeepsThose those records shape slack =
 abbrev pub KeepsAll : Records → Shape → Slack → Type 0
 KeepsAll records shape slack = (rule : Rule) → holds rule records shape slack
 
--- all but the eighth
+-- all but the eighth, as `KeepsRules` says them
 abbrev pub but_index : Rule → Bool
 but_index Ranges = true
 but_index (Split file) = true
@@ -94,12 +93,7 @@ but_index Properties = true
 but_index Labels = true
 but_index Names = true
 but_index Degrees = true
-but_index Unindexed = false
-
--- the records of a store of this shape keep all rules but the eighth
-abbrev pub KeepsButIndex : Records → Shape → Type 0
-KeepsButIndex records shape =
-    KeepsThose but_index records shape (record { most = shape.threshold; empty = [] })
+but_index Indexed = false
 
 -- ---- what a rule reads
 
@@ -121,7 +115,8 @@ reads Properties =
 reads Labels = format.nodes_file ∷ format.relationships_file ∷ format.names_file ∷ []
 reads Names = format.names_file ∷ []
 reads Degrees = format.nodes_file ∷ format.relationships_file ∷ []
-reads Unindexed = format.index_file ∷ []
+reads Indexed =
+    format.nodes_file ∷ format.properties_file ∷ format.strings_file ∷ format.index_file ∷ []
 
 -- it reads what it says of the files that it names alone, and not of all of them as the first rule
 abbrev pub is_local : Rule → Bool
@@ -134,7 +129,7 @@ is_local Properties = true
 is_local Labels = true
 is_local Names = true
 is_local Degrees = true
-is_local Unindexed = true
+is_local Indexed = true
 
 abbrev pub AreSame : Records → Records → List ℕ → Type 0
 AreSame s t [] = Unit {0}

@@ -309,15 +309,10 @@ pub record AreCounted (kind degrees : ℕ → ℕ)
   pub each : (n : ℕ) → kind n ≢ format.free_kind → degrees n ≡ degree_of rels mark n
   pub few : (n : ℕ) → kind n ≡ format.sparse → degrees n ≤ most
 
--- ---- the eighth rule: as long as there is no index, no record of its file is in use
+-- ---- these rules together; the eighth, of the indexes, stands beside them
 
-abbrev pub HasNoIndex : Records → Type 0
-HasNoIndex records = (x : ℕ) → kind_at records format.index_file x ≡ format.free_kind
-
--- ---- all of them
-
--- The rules of a store of this shape. So many relationships a sparse node may have, and these
--- groups may be empty.
+-- The first seven rules of a store of this shape. So many relationships a sparse node may have, and
+-- these groups may be empty.
 pub record KeepsRules (records : Records) (shape : Shape) (most : ℕ) (empty : List ℕ)
     : Type 0 where
   pub ranges : AreInRange records shape
@@ -337,8 +332,7 @@ pub record KeepsRules (records : Records) (shape : Shape) (most : ℕ) (empty : 
   pub names : AreNames (rec_at records format.names_file) (high records format.names_file)
   pub degrees : AreCounted (kind_at records format.nodes_file) (degree records) (rel_at records)
       (high records format.relationships_file) most
-  pub unindexed : HasNoIndex records
 
--- the records of a well-formed store of this shape
+-- the records of a well-formed store of this shape, whatever its indexes are
 abbrev pub IsWellFormed : Records → Shape → Type 0
 IsWellFormed records shape = KeepsRules records shape shape.threshold []

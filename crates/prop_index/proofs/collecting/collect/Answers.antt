@@ -4,6 +4,10 @@ use Rattle.rec_bytes.specs.Space.{SameButReads}
 use Rattle.store_rules.specs.Views.{Records, high}
 use Rattle.prop_store.proofs.ReadCounts.{reads_same}
 use Rattle.prop_index.specs.Collecting.{contents_in, hash_at}
+use Rattle.std.proofs.lemmas.Result.{err_from_is_err_and}
+use Rattle.prop_store.specs.Fault.{BlamesBroken}
+use Rattle.prop_index.proofs.Counting.{collect_read, read_make}
+use Rattle.prop_index.proofs.IndexBlames.{blames_before}
 use Rattle.prop_index.proofs.MakeFaults.{collect_exit}
 use Rattle.prop_index.proofs.Collects.{contents-more, contents-skip, length-contents-more}
 use Rattle.prop_index.proofs.Reread.{readable_after, same_records, same_then}
@@ -91,3 +95,31 @@ loop-node-preserved g c =
             later = later;
           }
     ]
+
+pub returns-in_err-hash-clause-caused : goal.returns-in_err-hash-clause-caused
+returns-in_err-hash-clause-caused g c tells =
+    let s = g.R.Reads.state c.args.space.now in
+    let p = err_from_is_err_and c.from_residual.result c.from_residual.ensures.1 in
+    rw (p.1, p.2) (collect_read s.records c.args.label c.args.key c.in_err-hash.field-0.0)
+
+pub returns-in_err-push-clause-caused : goal.returns-in_err-push-clause-caused
+returns-in_err-push-clause-caused g c tells =
+    let s = g.R.Reads.state c.args.space.now in
+    let p = err_from_is_err_and c.from_residual-in_err-push.result c.from_residual-in_err-push.ensures.1 in
+    rw (p.1, p.2) (collect_read s.records c.args.label c.args.key c.in_err-push.field-0.0)
+
+pub returns-in_err-hash-clause-damaged : goal.returns-in_err-hash-clause-damaged
+returns-in_err-hash-clause-damaged g c tells =
+    let s = g.R.Reads.state c.args.space.now in
+    let now = g.R.Reads.state c.loop-node.space in
+    let same = c.loop-node.invariant.same in
+    let low : c.loop-node.node < high now.records format.nodes_file = subst (λ (r : Records). c.loop-node.node < high r format.nodes_file) (sym (same_records s now same))
+    (let end = c.loop-node.invariant.end in let test = c.loop-node-test.true in omega (arith, end, test)) in
+    let p = err_from_is_err_and c.from_residual.result c.from_residual.ensures.1 in
+    rw (p.1, p.2) (read_make s.records s.shape c.in_err-hash.field-0.0 (blames_before s now c.in_err-hash.field-0.0 same (c.in_err-hash.ensures.damaged tells low)))
+
+pub returns-in_err-push-clause-damaged : goal.returns-in_err-push-clause-damaged
+returns-in_err-push-clause-damaged g c tells =
+    let s = g.R.Reads.state c.args.space.now in
+    let p = err_from_is_err_and c.from_residual-in_err-push.result c.from_residual-in_err-push.ensures.1 in
+    rw (p.1, p.2) (read_make s.records s.shape c.in_err-push.field-0.0 (subst (BlamesBroken s.records s.shape) (sym c.in_err-push.ensures.memory) tt))

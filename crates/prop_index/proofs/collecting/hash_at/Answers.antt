@@ -9,11 +9,16 @@ use Rattle.store_rules.specs.Hashes.{hash_of}
 use Rattle.store_rules.specs.Views.{Records, high, kind_at, rec_at}
 use Rattle.store_rules.proofs.ViewLaws.{kind_low}
 use Rattle.prop_store.specs.Finding.{value_of}
-use Rattle.prop_store.specs.Owner.{HasProperties}
+use Rattle.prop_store.specs.Owner.{HasProperties, IsInUse}
 use Rattle.prop_store.specs.Reading.{properties_met}
 use Rattle.prop_store.specs.declared.owner.Owner.{Owner}
-use Rattle.prop_store.proofs.ReadCounts.{reads_after, reads_none, reads_one}
+use Rattle.prop_store.proofs.ReadCounts.{reads_after, reads_none, reads_one, reads_same}
 use Rattle.prop_index.specs.Gathering.{node_owner}
+use Rattle.rec_bytes.specs.declared.fault.Fault.TheVariants.{Damaged}
+use Rattle.prop_store.specs.Fault.{BlamesBroken}
+use Rattle.prop_store.proofs.Exits.{same_has, space_has}
+use Rattle.prop_index.proofs.Counting.{owner_blames}
+use Rattle.prop_index.proofs.IndexBlames.{blames_before, if_err}
 use Rattle.prop_index.proofs.Collects.{hash_at-labelled, hash_at-none}
 use Rattle.prop_index.proofs.collecting.hash_at.Goals as goal
 
@@ -59,3 +64,25 @@ returns-clause-at_most g c = reads_one 56 _ _ (omega arith) c.get.ensures.state
 
 pub returns-then-is_labelled-clause-at_most : goal.returns-then-is_labelled-clause-at_most
 returns-then-is_labelled-clause-at_most g c = reads_after 55 56 _ _ _ (omega arith) c.get.ensures.state c.value_hash.ensures.at_most
+
+pub returns-in_err-owner-clause-damaged : goal.returns-in_err-owner-clause-damaged
+returns-in_err-owner-clause-damaged g c tells low =
+    let s = g.R.Reads.state c.args.space.now in
+    same_has (BlamesBroken s.records s.shape) c.from_residual.result (Damaged c.in_err-owner.field-0.0) c.from_residual.ensures.1 (owner_blames s c.args.node _ c.in_err-owner.field-0.0 low c.in_err-owner.ensures.damaged)
+
+pub returns-in_err-rec-clause-damaged : goal.returns-in_err-rec-clause-damaged
+returns-in_err-rec-clause-damaged g c tells low =
+    let s = g.R.Reads.state c.args.space.now in
+    space_has (BlamesBroken s.records s.shape) tt tt c.from_residual-in_err-rec.result c.in_err-rec.field-0.0 c.from_residual-in_err-rec.ensures.1
+
+pub returns-then-is_labelled-clause-damaged : goal.returns-then-is_labelled-clause-damaged
+returns-then-is_labelled-clause-damaged g c tells low =
+    let t = g.R.Reads.state c.args.space.now in
+    let now = g.R.Reads.state c.get.new.self in
+    let s = t.records in
+    let rec_is : c.in_ok-rec.rec ≡ rec_at s format.nodes_file c.args.node = c.in_ok-rec.ensures.got tells ∙ ap (λ (o : Owner). s o.key) c.in_ok-owner.ensures.is in
+    let gone : now.records ≡ s = ap (λ (z : State). z.records) c.get.ensures.state in
+    let both = c.is_labelled.ensures.0 c.if-is_labelled.true in
+    let used : kind_at s format.nodes_file c.args.node ≡ format.free_kind → ⊥ = λ e. both.0 (ap (λ (r : Rec). field 1 r format.kind) rec_is ∙ sym (kind_low (high s format.nodes_file) (rec_at s format.nodes_file c.args.node) c.args.node low) ∙ e) in
+    if_err c.value_hash.result (λ fault is. blames_before t now fault (reads_same 1 t now (reads_one 1 t now (omega arith) c.get.ensures.state)) is)
+    (c.value_hash.ensures.damaged tells (subst (λ (o : Owner). IsInUse now.records o) (sym c.in_ok-owner.ensures.is) (subst (λ (r : Records). IsInUse r (node_owner c.args.node)) (sym gone) used)))

@@ -1,4 +1,4 @@
-use Rattle.std.proofs.Common.{◌≡◌, ◌≢◌, ℕ, ◌+◌, ◌<◌, ◌≤◌, ◌^◌, suc, List, [], ◌∷◌, ap, sym, ◌∙◌, subst, inl, inr, ⊎_elim, arith}
+use Rattle.std.proofs.Common.{◌≡◌, ◌≢◌, ℕ, ◌+◌, ◌<◌, ◌≤◌, ◌^◌, suc, List, [], ◌∷◌, refl, ap, sym, ◌∙◌, subst, inl, inr, ⊎_elim, arith}
 use Rattle.std.proofs.lemmas.Bool.{cases_lt}
 use Rattle.rec_bytes.specs.declared.record.Rec.{Rec}
 use Rattle.rec_bytes.specs.Format as format
@@ -9,6 +9,9 @@ use Rattle.prop_store.specs.Touching.{TouchesOnly}
 use Rattle.prop_index.specs.Defining.{AreHeadsAdded, IsRecordAdded}
 use Rattle.prop_index.specs.DefinitionRecord.{head_ids, head_of}
 use Rattle.prop_index.specs.Touching.{index_keys}
+use Rattle.prop_index.specs.Entering.{IsNotFull}
+use Rattle.prop_index.proofs.Counting.{counts_left, counts_then}
+use Rattle.prop_index.proofs.IndexBlames.{take_has}
 use Rattle.prop_index.proofs.HeadsAdded.{head-other, head-same, head_ids-more, heads-more, length-head_ids, with_head}
 use Rattle.prop_index.proofs.IndexTouches.{index_then, only_join}
 use Rattle.prop_index.proofs.RecordFits.{empty_heads-kind}
@@ -40,6 +43,7 @@ loop-number-preserved g c =
           let used : field 1 c.empty_heads.result format.kind ≢ format.free_kind = λ e. let k = ap (λ (r : Rec). field 1 r format.kind) heads_is ∙ empty_heads-kind in omega (arith, k, e) in
           let new = subst (λ (r : Rec). IsRecordAdded m t r id) heads_is (c.in_ok-id.ensures.added tells was.kept used) in
           subst (AreHeadsAdded s t c.args.start (n + 1)) (sym now_is) (heads-more s m t c.args.start rec n id low was new);
+      counted = λ tells. counts_then s m t n 1 (n + 1) refl (old.counted tells) (c.in_ok-id.ensures.counted tells);
       heads = λ k lt. subst (λ (r : Rec). IsKey (key_in format.index_file (head_of r k))) (sym now_is) (⊎_elim
           (λ (u : k < n). subst (λ x. IsKey (key_in format.index_file x)) (sym (head-other rec n id k low u)) (old.heads k u))
           (λ (u : n ≤ k). let e : k ≡ n = omega arith in subst (λ x. IsKey (key_in format.index_file x)) (sym (ap (head_of (with_head rec n id)) e ∙ head-same rec n id low small)) c.in_ok-id.ensures.key)
@@ -52,3 +56,11 @@ loop-number-preserved g c =
       onward = g.met.S.Reads.further_onward _ _ _ old.onward c.in_ok-id.ensures.onward;
       later = omega (arith, old.later, c.in_ok-id.ensures.cause.later);
     }
+
+pub returns-in_err-id-clause-roomy : goal.returns-in_err-id-clause-roomy
+returns-in_err-id-clause-roomy g c tells left =
+    let s = g.S.Reads.state c.args.space.now in
+    let m = g.S.Reads.state c.loop-number.space in
+    let test = c.loop-number-test.true in
+    take_has IsNotFull c.from_residual.result c.in_err-id.field-0.0 c.from_residual.ensures.1
+    (c.in_err-id.ensures.roomy tells (counts_left s m c.loop-number.number 1 12 (c.loop-number.invariant.counted tells) (omega (arith, test)) left))

@@ -1,9 +1,14 @@
-use Rattle.std.proofs.Common.{sym, subst, arith, [], ◌∷◌}
+use Rattle.std.proofs.Common.{◌<◌, ap, ◌∙◌, sym, subst, arith, [], ◌∷◌}
 use Rattle.std.proofs.lemmas.Result.{err_from_is_err_and}
 use Rattle.rec_bytes.specs.Format as format
-use Rattle.rec_bytes.specs.Space.{State}
+use Rattle.rec_bytes.specs.Space.{State, meta_of}
 use Rattle.store_rules.specs.Views.{key_in}
 use Rattle.prop_index.proofs.IndexTouches.{index_one_taken, meta_only, meta_then, only_one}
+use Rattle.id_freelist.specs.TakeFault.{BlamesBroken}
+use Rattle.prop_index.specs.Entering.{IsNotFull}
+use Rattle.prop_index.proofs.Counting.{put_live, space_roomy, take_roomy}
+use Rattle.prop_index.proofs.IndexBlames.{space_take, take_has, take_reread}
+use Rattle.prop_index.proofs.LiveCounts.{taken_live}
 use Rattle.prop_index.proofs.LinkRules.{free_list, store_takes}
 use Rattle.prop_index.proofs.RecordsAdded.{record_added, space_mishap, take_mishap}
 use Rattle.prop_store.specs.Touching.{TouchesOnly}
@@ -48,3 +53,35 @@ returns-in_err-put-clause-touches g c =
       few = omega arith;
       only = subst (λ (z : State). TouchesOnly g.S.Reads.tells s z (index_keys [])) (sym c.in_err-put.ensures.err) (meta_only [] _ _ (record { writes = c.in_ok-id.ensures.writes; stays = c.in_ok-id.ensures.stays }));
     }
+
+pub returns-clause-counted : goal.returns-clause-counted
+returns-clause-counted g c tells =
+    let s = g.S.Reads.state c.args.space.now in
+    let u = g.S.Reads.state c.take.new.space in
+    record {
+      live = ap (λ (z : State). (meta_of z format.index_file).live) c.in_ok-put.ensures.ok ∙ put_live u c.in_ok-id.id c.args.rec
+          ∙ ap (λ (z : State). (meta_of z format.index_file).live) (c.in_ok-id.ensures.ok tells)
+          ∙ taken_live s format.index_file (c.in_ok-id.ensures.undamaged tells) (subst (λ n. n < format.most_ids) c.in_ok-id.ensures.is c.in_ok-id.ensures.key.id);
+      shape = g.met.S.Reads.onward_shape _ _ (g.met.S.Reads.further_onward _ _ _ c.in_ok-id.ensures.onward c.in_ok-put.ensures.onward);
+    }
+
+pub returns-in_err-id-clause-roomy : goal.returns-in_err-id-clause-roomy
+returns-in_err-id-clause-roomy g c tells left =
+    let s = g.S.Reads.state c.args.space.now in
+    take_has IsNotFull c.from_residual.result c.in_err-id.field-0.0 c.from_residual.ensures.1 (take_roomy s c.in_err-id.field-0.0 (c.in_err-id.ensures.refused tells) left)
+
+pub returns-in_err-put-clause-roomy : goal.returns-in_err-put-clause-roomy
+returns-in_err-put-clause-roomy g c tells left =
+    let p = err_from_is_err_and c.from_residual-in_err-put.result c.from_residual-in_err-put.ensures.1 in
+    rw (p.1, p.2) (space_roomy c.in_err-put.field-0.0)
+
+pub returns-in_err-id-clause-still : goal.returns-in_err-id-clause-still
+returns-in_err-id-clause-still g c tells =
+    let s = g.S.Reads.state c.args.space.now in
+    let now = g.S.Reads.state c.take.new.space in
+    take_has (BlamesBroken now.records now.shape) c.from_residual.result c.in_err-id.field-0.0 c.from_residual.ensures.1 (take_reread s now c.in_err-id.field-0.0 c.in_err-id.ensures.err (c.in_err-id.ensures.damaged tells))
+
+pub returns-in_err-put-clause-still : goal.returns-in_err-put-clause-still
+returns-in_err-put-clause-still g c tells =
+    let t = g.S.Reads.state c.put.new.self in
+    space_take t.records t.shape c.from_residual-in_err-put.result c.in_err-put.field-0.0 c.from_residual-in_err-put.ensures.1

@@ -1,17 +1,22 @@
 use Rattle.store_rules.specs.Chains.{In}
-use Rattle.std.proofs.Common.{◌≡◌, ◌≢◌, ℕ, ◌<◌, ◌≤◌, ◌^◌, length, List, [], ◌∷◌, ap, sym, ◌∙◌, subst, inl, inr, ⊎_elim, arith, rules}
+use Rattle.std.proofs.Common.{◌≡◌, ◌≢◌, ℕ, ◌+◌, refl, ◌<◌, ◌≤◌, ◌^◌, length, List, [], ◌∷◌, ap, sym, ◌∙◌, subst, inl, inr, ⊎_elim, arith, rules}
 use Rattle.fault_count.specs.Cause.{raised}
 use Rattle.rec_bytes.specs.declared.key.Key.{Key}
 use Rattle.rec_bytes.specs.declared.record.Rec.{Rec}
 use Rattle.rec_bytes.specs.Format as format
 use Rattle.rec_bytes.specs.Record.{field}
 use Rattle.rec_bytes.specs.RecordFiles.{meta_key_of}
-use Rattle.rec_bytes.specs.Space.{State, after_get, after_set}
+use Rattle.rec_bytes.specs.Space.{State, after_get, after_set, meta_of}
 use Rattle.store_rules.specs.Indexes.{first_definition}
 use Rattle.prop_store.specs.Touching.{TouchesOnly}
 use Rattle.prop_store.proofs.ReadCounts.{reads_one}
-use Rattle.prop_index.specs.Defining.{AreHeadsAdded, IsRecordAdded}
+use Rattle.prop_index.specs.Defining.{AreHeadsAdded, CountsMore, HasLeft, IsRecordAdded}
 use Rattle.prop_index.specs.DefinitionRecord.{definition_start, head_ids}
+use Rattle.prop_index.specs.Entering.{IsNotFull}
+use Rattle.std.proofs.lemmas.Result.{err_from_is_err_and}
+use Rattle.prop_index.proofs.Counting.{counts_left, counts_then, first_live, space_roomy}
+use Rattle.prop_index.proofs.RecordsAdded.{space_mishap}
+use Rattle.prop_index.proofs.IndexBlames.{take_has}
 use Rattle.prop_index.specs.Reading.{KeepsStore}
 use Rattle.prop_index.specs.Touching.{index_keys}
 use Rattle.prop_index.proofs.DefinitionAdded.{definition_added, definition_reread, start-kind}
@@ -69,7 +74,7 @@ returns-clause-onward g c =
     g.met.S.Reads.further_onward _ _ _ (g.met.S.Reads.further_onward _ _ _ (g.met.S.Reads.further_onward _ _ _ c.get.ensures.onward c.in_ok-rec.ensures.onward) c.in_ok-id.ensures.onward) c.in_ok-set_number.ensures.onward
 
 pub returns-clause-added : goal.returns-clause-added
-returns-clause-added g c tells store =
+returns-clause-added g c tells store named =
     let s = g.S.Reads.state c.args.space.now in
     let m = g.S.Reads.state c.add_heads.new.space in
     let t = g.S.Reads.state c.add_record.new.space in
@@ -94,4 +99,54 @@ returns-clause-added g c tells store =
     let added : IsRecordAdded m t rec id = c.in_ok-id.ensures.added tells heads.kept used in
     let is : w ≡ after_set t (meta_key_of format.index_file) 4 format.meta_definition id = c.in_ok-set_number.ensures.ok tells ∙ ap (λ (k : Key). after_set t k 4 format.meta_definition id) c.meta_key-2.ensures in
     definition_reread s w (raised s.reads) label key (record { id = id; rec = rec })
-    (definition_added (after_get s) m t label key first id rec store heads added first_is label_fits key_fits first_fits w is)
+    (definition_added (after_get s) m t label key first id rec store heads added named first_is label_fits key_fits first_fits w is)
+
+-- what was read before is counted as it was
+counts_read : (s a t : State) (n : ℕ) → a ≡ after_get s → CountsMore a t n → CountsMore s t n
+counts_read s a t n is h = record {
+  live = h.live ∙ ap (λ (z : State). (meta_of z format.index_file).live + n) is;
+  shape = h.shape ∙ ap (λ (z : State). z.shape) is;
+}
+
+left_read : (s a : State) (n : ℕ) → a ≡ after_get s → HasLeft s n → HasLeft a n
+left_read s a n is left = subst (λ (z : State). HasLeft z n) (sym is) left
+
+pub returns-clause-counted : goal.returns-clause-counted
+returns-clause-counted g c tells =
+    let s = g.S.Reads.state c.args.space.now in
+    let a = g.S.Reads.state c.get.new.self in
+    let m = g.S.Reads.state c.add_heads.new.space in
+    let t = g.S.Reads.state c.add_record.new.space in
+    let w = g.S.Reads.state c.set_number.new.space in
+    let id = c.in_ok-id.id in
+    let is : w ≡ after_set t (meta_key_of format.index_file) 4 format.meta_definition id = c.in_ok-set_number.ensures.ok tells ∙ ap (λ (k : Key). after_set t k 4 format.meta_definition id) c.meta_key-2.ensures in
+    let counted = counts_read s a t 13 c.get.ensures.state (counts_then a m t 12 1 13 refl (c.in_ok-rec.ensures.counted tells) (c.in_ok-id.ensures.counted tells)) in
+    record {
+      live = ap (λ (z : State). (meta_of z format.index_file).live) is ∙ first_live t id ∙ counted.live;
+      shape = g.met.S.Reads.onward_shape _ _ c.in_ok-set_number.ensures.onward ∙ counted.shape;
+    }
+
+pub returns-in_err-rec-clause-roomy : goal.returns-in_err-rec-clause-roomy
+returns-in_err-rec-clause-roomy g c tells left =
+    let s = g.S.Reads.state c.args.space.now in
+    let a = g.S.Reads.state c.get.new.self in
+    let fewer : HasLeft s 12 = omega (arith, left) in
+    take_has IsNotFull c.from_residual-in_err-rec.result c.in_err-rec.field-0.0 c.from_residual-in_err-rec.ensures.1 (c.in_err-rec.ensures.roomy tells (left_read s a 12 c.get.ensures.state fewer))
+
+pub returns-in_err-id-clause-roomy : goal.returns-in_err-id-clause-roomy
+returns-in_err-id-clause-roomy g c tells left =
+    let s = g.S.Reads.state c.args.space.now in
+    let a = g.S.Reads.state c.get.new.self in
+    let m = g.S.Reads.state c.add_heads.new.space in
+    take_has IsNotFull c.from_residual-in_err-id.result c.in_err-id.field-0.0 c.from_residual-in_err-id.ensures.1
+    (c.in_err-id.ensures.roomy tells (counts_left a m 12 1 13 (c.in_ok-rec.ensures.counted tells) (omega arith) (left_read s a 13 c.get.ensures.state left)))
+
+pub returns-in_err-set_number-clause-mishap : goal.returns-in_err-set_number-clause-mishap
+returns-in_err-set_number-clause-mishap g c tells store left =
+    let p = err_from_is_err_and c.from_residual-in_err-set_number.result c.from_residual-in_err-set_number.ensures.1 in
+    rw (p.1, p.2) (space_mishap c.in_err-set_number.field-0.0)
+
+pub returns-in_err-set_number-clause-roomy : goal.returns-in_err-set_number-clause-roomy
+returns-in_err-set_number-clause-roomy g c tells left =
+    let p = err_from_is_err_and c.from_residual-in_err-set_number.result c.from_residual-in_err-set_number.ensures.1 in
+    rw (p.1, p.2) (space_roomy c.in_err-set_number.field-0.0)

@@ -3,17 +3,22 @@ use Rattle.std.proofs.Common.{ℕ, ◌<◌, ap, sym, ◌∙◌, subst, arith}
 use Rattle.id_freelist.specs.TakeFault as takes
 use Rattle.id_freelist.specs.declared.take_fault.TakeFault.{TakeFault}
 use Rattle.rec_bytes.specs.Format as format
-use Rattle.rec_bytes.specs.Space.{SameButReads}
+use Rattle.rec_bytes.specs.Space.{SameButReads, State, meta_of}
 use Rattle.store_rules.specs.Indexes.{AreIndexed, Entry, with_entry}
 use Rattle.store_rules.specs.Views.{Records, high}
 use Rattle.prop_store.proofs.ReadCounts.{reads_same}
-use Rattle.prop_index.specs.Entering.{IsIndexFull, IsMade, entry_of}
-use Rattle.prop_index.specs.Heads.{IsBucketSought}
+use Rattle.prop_index.specs.Entering.{IsIndexFull, IsMade, IsNotFull, entry_of}
+use Rattle.store_rules.specs.Hashes.{bucket_of}
+use Rattle.store_rules.specs.Graph.{indexes_of}
+use Rattle.prop_index.specs.Blaming.{TakeNamesIndexes}
+use Rattle.prop_index.proofs.DefinitionsStay.{same_graph}
+use Rattle.prop_index.specs.Heads.{IfBucketMet, IsBucketSought}
+use Rattle.prop_index.proofs.IndexBlames.{blames_reread, entry_begins, entry_reread, if_err, of_read_names, read_blames, take_before}
 use Rattle.prop_index.specs.declared.entry_row.Content.{Content}
 use Rattle.prop_index.proofs.Buckets.{begins-reread, head-place, head-reread}
 use Rattle.prop_index.proofs.Changed.{entered_in, unlisted_entered, first_right}
 use Rattle.prop_index.proofs.Reread.{can_after, kept_after, same_records}
-use Rattle.prop_index.proofs.IndexFull.{full-reread, read-full, read-sound}
+use Rattle.prop_index.proofs.IndexFull.{full-reread, read-full, read-sound, read-unfull}
 use Rattle.prop_index.proofs.IndexTouches.{index_read, index_then}
 use Rattle.prop_index.proofs.entering.enter.Goals as goal
 
@@ -103,3 +108,101 @@ returns-clause-full g c tells =
     let s = g.S.Reads.state c.args.space.now in
     let now = g.S.Reads.state c.find_bucket.new.space in
     full-reread s now c.add_entry.result (reads_same 18 s now c.find_bucket.ensures.at_most) (c.add_entry.ensures.full tells)
+
+pub returns-in-Err-clause-damaged : goal.returns-in-Err-clause-damaged
+returns-in-Err-clause-damaged g c tells =
+    let s = g.S.Reads.state c.args.space.now in
+    subst (takes.BlamesBroken s.records s.shape) (sym c.of_read.ensures) (read_blames s.records s.shape c.in-Err.fault (c.in-Err.ensures.damaged tells))
+
+pub returns-in-Err-clause-still : goal.returns-in-Err-clause-still
+returns-in-Err-clause-still g c tells =
+    let s = g.S.Reads.state c.args.space.now in
+    let now = g.S.Reads.state c.find_bucket.new.space in
+    subst (takes.BlamesBroken now.records now.shape) (sym c.of_read.ensures)
+    (read_blames now.records now.shape c.in-Err.fault (blames_reread s now c.in-Err.fault (reads_same 18 s now c.find_bucket.ensures.at_most) (c.in-Err.ensures.damaged tells)))
+
+pub returns-clause-damaged : goal.returns-clause-damaged
+returns-clause-damaged g c tells =
+    let s = g.S.Reads.state c.args.space.now in
+    let now = g.S.Reads.state c.find_bucket.new.space in
+    let same : SameButReads s now = reads_same 18 s now c.find_bucket.ensures.at_most in
+    let number = bucket_of c.hash_of-hash.result in
+    let met = subst (IfBucketMet s.records number) c.in-Ok-Some.field-0-is (c.in-Ok-Some.ensures.met tells) in
+    if_err c.add_entry.result (λ fault is. take_before s now fault same is)
+    (c.add_entry.ensures.damaged tells met.definition number (entry_reread s now met.definition number 0 c.in-Ok-Some.bucket.first _ same (entry_begins s number c.in-Ok-Some.bucket met)))
+
+pub returns-clause-still : goal.returns-clause-still
+returns-clause-still g c tells =
+    let s = g.S.Reads.state c.args.space.now in
+    let now = g.S.Reads.state c.find_bucket.new.space in
+    let same : SameButReads s now = reads_same 18 s now c.find_bucket.ensures.at_most in
+    let number = bucket_of c.hash_of-hash.result in
+    let met = subst (IfBucketMet s.records number) c.in-Ok-Some.field-0-is (c.in-Ok-Some.ensures.met tells) in
+    c.add_entry.ensures.still tells met.definition number (entry_reread s now met.definition number 0 c.in-Ok-Some.bucket.first _ same (entry_begins s number c.in-Ok-Some.bucket met))
+
+pub returns-in-Ok-None-clause-counted : goal.returns-in-Ok-None-clause-counted
+returns-in-Ok-None-clause-counted g c tells =
+    let s = g.S.Reads.state c.args.space.now in
+    let now = g.S.Reads.state c.find_bucket.new.space in
+    let same : SameButReads s now = reads_same 18 s now c.find_bucket.ensures.at_most in
+    let live = ap (λ (z : State). (meta_of z format.index_file).live) same in
+    omega (arith, live)
+
+pub returns-clause-counted : goal.returns-clause-counted
+returns-clause-counted g c tells =
+    let s = g.S.Reads.state c.args.space.now in
+    let now = g.S.Reads.state c.find_bucket.new.space in
+    let same : SameButReads s now = reads_same 18 s now c.find_bucket.ensures.at_most in
+    let live = ap (λ (z : State). (meta_of z format.index_file).live) same in
+    on_ok c.add_entry.result (λ more. omega (arith, live, more)) (c.add_entry.ensures.counted tells)
+
+pub returns-in-Err-clause-names : goal.returns-in-Err-clause-names
+returns-in-Err-clause-names g c tells = subst TakeNamesIndexes (sym c.of_read.ensures) (of_read_names c.in-Err.fault (c.in-Err.ensures.names tells))
+
+pub returns-clause-names : goal.returns-clause-names
+returns-clause-names g c tells = c.add_entry.ensures.names tells
+
+pub returns-in-Ok-None-clause-graph : goal.returns-in-Ok-None-clause-graph
+returns-in-Ok-None-clause-graph g c tells wanted free ix can =
+    let s = g.S.Reads.state c.args.space.now in
+    let now = g.S.Reads.state c.find_bucket.new.space in
+    same_graph s.records now.records (same_records s now (reads_same 18 s now c.find_bucket.ensures.at_most))
+
+pub returns-clause-graph : goal.returns-clause-graph
+returns-clause-graph g c tells wanted free ix can =
+    let s = g.S.Reads.state c.args.space.now in
+    let now = g.S.Reads.state c.find_bucket.new.space in
+    let same : SameButReads s now = reads_same 18 s now c.find_bucket.ensures.at_most in
+    let content : Content = record { node = c.args.node; hash = c.hash_of-hash.result } in
+    let bucket = c.in-Ok-Some.bucket in
+    let found = subst (IsBucketSought s.records ix.definitions c.args.label c.args.key c.hash_of-hash.result) c.in-Ok-Some.field-0-is (c.in-Ok-Some.ensures.found tells wanted ix) in
+    on_ok c.add_entry.result (λ stays. stays ∙ ap indexes_of (same_records s now same))
+    (c.add_entry.ensures.graph tells free (head-reread s now bucket same found.is.head)
+    (begins-reread s now bucket same (first_right s.records wanted ix c.args.label c.args.key content bucket found))
+    (head-place s.records found.definition _ bucket found.is) (can_after s now free same can))
+
+pub returns-in-Err-clause-crowded : goal.returns-in-Err-clause-crowded
+returns-in-Err-clause-crowded g c tells =
+    let now = g.S.Reads.state c.find_bucket.new.space in
+    subst (IsIndexFull now) (sym c.of_read.ensures) (read-full now c.in-Err.fault)
+
+pub returns-clause-crowded : goal.returns-clause-crowded
+returns-clause-crowded g c tells = c.add_entry.ensures.crowded tells
+
+pub returns-in-Err-clause-unlisted : goal.returns-in-Err-clause-unlisted
+returns-in-Err-clause-unlisted g c tells wanted ix none = subst IsNotFull (sym c.of_read.ensures) (read-unfull c.in-Err.fault)
+
+pub returns-in-Ok-None-clause-unchanged : goal.returns-in-Ok-None-clause-unchanged
+returns-in-Ok-None-clause-unchanged g c tells wanted ix none = reads_same 18 (g.S.Reads.state c.args.space.now) (g.S.Reads.state c.find_bucket.new.space) c.find_bucket.ensures.at_most
+
+pub returns-clause-unchanged : goal.returns-clause-unchanged
+returns-clause-unchanged g c tells wanted ix none =
+    let s = g.S.Reads.state c.args.space.now in
+    let found = subst (IsBucketSought s.records ix.definitions c.args.label c.args.key c.hash_of-hash.result) c.in-Ok-Some.field-0-is (c.in-Ok-Some.ensures.found tells wanted ix) in
+    absurd (none found.definition found.listed found.pair)
+
+pub returns-clause-unlisted : goal.returns-clause-unlisted
+returns-clause-unlisted g c tells wanted ix none =
+    let s = g.S.Reads.state c.args.space.now in
+    let found = subst (IsBucketSought s.records ix.definitions c.args.label c.args.key c.hash_of-hash.result) c.in-Ok-Some.field-0-is (c.in-Ok-Some.ensures.found tells wanted ix) in
+    absurd (none found.definition found.listed found.pair)

@@ -18,6 +18,10 @@ use Rattle.prop_index.specs.Filling.{IsFilled}
 use Rattle.prop_index.specs.Touching.{front_ids}
 use Rattle.prop_index.specs.declared.entry_row.Content.{Content}
 use Rattle.prop_index.specs.declared.heads.Bucket.{Bucket}
+use Rattle.id_freelist.specs.TakeFault.{BlamesBroken}
+use Rattle.prop_index.specs.Entering.{IsNotFull}
+use Rattle.prop_index.proofs.Counting.{counts_left, counts_then, full_roomy}
+use Rattle.prop_index.proofs.IndexBlames.{take_has}
 use Rattle.prop_index.proofs.FillSteps as fs
 use Rattle.prop_index.proofs.FillTouches.{beside_more}
 use Rattle.prop_index.proofs.HeadsAdded.{head-in}
@@ -33,6 +37,7 @@ loop-content-init g c =
       long = length-replicate 180 format.nil;
       keys = λ b lt some. absurd (some (nil_at b lt));
       touched = ([], omega arith, (λ b lt some. absurd (some (nil_at b lt))), record { writes = record { each = λ q w. inl w }; stays = λ told. record { each = λ q. inl refl } });
+      counted = λ tells. record { live = omega arith; shape = refl };
       onward = g.met.S.Reads.stays_onward _;
       later = omega arith;
     }
@@ -73,7 +78,7 @@ loop-content-preserved g c =
           = ap (λ r. (metas.meta_of r).high) (was.0.others (meta_key_of format.nodes_file) (λ e. omega arith) (λ e. let f = ap (λ (q : Key). q.id) e in omega (arith, f))) in
           let known : content.node < high m.records format.nodes_file = let a = fillable.low content (Contains-get_or contents i (record { node = 0; hash = 0 }) test) in omega (arith, a, nodes_same) in
           let kept = c.in_ok-firsts.ensures.keeps tells was.0.kept head begins place known in
-          let live = c.in_ok-firsts.ensures.counted tells (free_list m was.0.kept).0 can in
+          let live = c.in_ok-firsts.ensures.counted tells in
           let shape = g.met.S.Reads.onward_shape _ _ c.in_ok-firsts.ensures.onward in
           let others = fs.elsewhere_of g.S.Reads.tells m t (front_ids id slot.id first) tells c.in_ok-firsts.ensures.touched in
           let apart = fs.ascending_apart contents i content fillable.ascend test (λ d. get_or_default contents i d (record { node = 0; hash = 0 }) test) in (
@@ -102,6 +107,7 @@ loop-content-preserved g c =
                 (nat_cases b k)),
             beside_more (head_ids 12 rec) was.0 id slot.id first s m t there (was.2 k k_low) was.3 c.in_ok-firsts.ensures.touched,
           );
+      counted = λ tells. counts_then s m t i 1 (i + 1) refl (old.counted tells) (record { live = c.in_ok-firsts.ensures.counted tells; shape = g.met.S.Reads.onward_shape _ _ c.in_ok-firsts.ensures.onward });
       onward = g.met.S.Reads.further_onward _ _ _ old.onward c.in_ok-firsts.ensures.onward;
       later = omega (arith, old.later, c.in_ok-firsts.ensures.cause.later);
     }
@@ -141,3 +147,16 @@ returns-clause-filled g c tells wanted ix label key empty fillable store =
     let t = g.S.Reads.state c.loop-content.space in
     subst (IsFilled s t wanted ix label key) (take_all c.loop-content.content-index c.args.contents.now (omega (arith, c.loop-content-test.false)))
     (c.loop-content.invariant.filled tells wanted ix label key empty fillable store).0
+
+pub returns-in_err-firsts-clause-roomy : goal.returns-in_err-firsts-clause-roomy
+returns-in_err-firsts-clause-roomy g c tells left =
+    let s = g.S.Reads.state c.args.space.now in
+    let m = g.S.Reads.state c.loop-content.space in
+    let test = c.loop-content-test.true in
+    take_has IsNotFull c.from_residual.result c.in_err-firsts.field-0.0 c.from_residual.ensures.1
+    (full_roomy m c.in_err-firsts.field-0.0 (c.in_err-firsts.ensures.full tells) (counts_left s m c.loop-content.content-index 1 (length c.args.contents.now) (c.loop-content.invariant.counted tells) (omega (arith, test)) left))
+
+pub returns-in_err-firsts-clause-still : goal.returns-in_err-firsts-clause-still
+returns-in_err-firsts-clause-still g c tells =
+    let t = g.S.Reads.state c.put_in_front.new.space in
+    take_has (BlamesBroken t.records t.shape) c.from_residual.result c.in_err-firsts.field-0.0 c.from_residual.ensures.1 (c.in_err-firsts.ensures.still tells)

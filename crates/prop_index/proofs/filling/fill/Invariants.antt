@@ -5,6 +5,7 @@ use Rattle.store_rules.specs.Chains.{In}
 use Rattle.store_rules.specs.Indexes.{AreIndexed, Entries, first_entry}
 use Rattle.store_rules.specs.Views.{key_in}
 use Rattle.prop_store.specs.Touching.{TouchesOnly}
+use Rattle.prop_index.specs.Defining.{CountsMore}
 use Rattle.prop_index.specs.DefinitionRecord.{head_ids}
 use Rattle.prop_index.specs.Filling.{AreFillable, IsEmptyIndex, IsFilled}
 use Rattle.prop_index.specs.Reading.{KeepsStore}
@@ -23,6 +24,7 @@ invariant-loop-content g l =
       keys : (b : ℕ) → b < 180 → get_or l.firsts b 0 ≢ format.nil → IsKey (key_in format.index_file (get_or l.firsts b 0));
       touched : (ids : List ℕ) × (length ids ≤ l.content-index) × ((b : ℕ) → b < 180 → get_or l.firsts b 0 ≢ format.nil → In (get_or l.firsts b 0) ids)
           × TouchesOnly g.S.Reads.tells old now (index_keys (head_ids 12 definition.rec ++ ids));
+      counted : g.S.Reads.tells → CountsMore (g.S.Reads.state l.fn.space) (g.S.Reads.state l.space) l.content-index;
       onward : g.S.Reads.onward l.fn.space l.space;
       later : g.S.Reads.faults l.fn.space ≤ g.S.Reads.faults l.space;
     }

@@ -1,13 +1,18 @@
-use Rattle.std.proofs.Common.{◌≡◌, ℕ, arith, ap, sym, ◌∙◌, subst}
+use Rattle.std.proofs.Common.{inl, inr, refl, ◌≡◌, ℕ, arith, ap, sym, ◌∙◌, subst}
 use Rattle.std.proofs.lemmas.Bool.{true≢false}
 use Rattle.std.proofs.lemmas.Result.{err_from_is_err_and}
 use Rattle.rec_bytes.specs.declared.record.Rec.{Rec}
 use Rattle.rec_bytes.specs.Format as format
 use Rattle.rec_bytes.specs.Record.{field}
 use Rattle.store_rules.specs.Chains.{IsWalk}
-use Rattle.store_rules.specs.Indexes.{index_rec, next_definition}
+use Rattle.store_rules.specs.Indexes.{first_definition, index_rec, next_definition}
 use Rattle.store_rules.specs.Views.{Records, kind_at}
 use Rattle.prop_store.proofs.ReadCounts.{reads_one, reads_records, reads_same, reads_then}
+use Rattle.prop_store.specs.Fault.{BlamesBroken}
+use Rattle.prop_store.proofs.Exits.{same_has}
+use Rattle.prop_index.specs.Blaming.{IsDefinitionAt, IsOfIndexes, NamesIndexes}
+use Rattle.prop_index.specs.Finding.{IsPair}
+use Rattle.prop_index.proofs.IndexBlames.{definition_begins, definition_blames, definition_goes_on, many_break, others_begin, others_end, others_go_on, read_fault_same, read_names}
 use Rattle.prop_index.proofs.Reread.{room_after}
 use Rattle.prop_index.proofs.Searches.{search_begins, search_here, search_on, search_over}
 use Rattle.prop_index.proofs.finding.find_definition.Goals as goal
@@ -18,9 +23,13 @@ returns-in_err-meta-clause-at_most g c = reads_one 17 _ _ (omega arith) c.get.en
 pub loop-init : goal.loop-init
 loop-init g c =
     let s = g.R.Reads.state c.args.space.now in
+    let first_is : g.R.Reads.tells → c.number-at.result ≡ first_definition s.records
+    = λ tells. c.number-at.ensures ∙ ap (λ (r : Rec). field 4 r format.meta_definition) (c.in_ok-meta.ensures.got tells ∙ ap (λ k. s.records k) c.meta_key.ensures) in
     record {
-      told = λ tells ds are. search_begins _ _ ds c.number-at.result (subst (λ (n : ℕ). IsWalk (next_definition s.records) n ds)
-          (sym (c.number-at.ensures ∙ ap (λ (r : Rec). field 4 r format.meta_definition) (c.in_ok-meta.ensures.got tells ∙ ap (λ k. s.records k) c.meta_key.ensures))) are.walk);
+      told = λ tells ds are. search_begins _ _ ds c.number-at.result (subst (λ (n : ℕ). IsWalk (next_definition s.records) n ds) (sym (first_is tells)) are.walk);
+      named_is = inr (refl, refl);
+      at = λ tells. definition_begins s c.number-at.result (first_is tells);
+      others = λ tells. others_begin s.records c.args.label c.args.key c.number-at.result (first_is tells);
       reads = reads_one 1 _ _ (omega arith) c.get.ensures.state;
       onward = c.get.ensures.onward;
       later = c.get.ensures.cause.later;
@@ -53,6 +62,7 @@ returns-then-is_of_pair-clause-defined g c tells =
     let says = c.is_of_pair.ensures.0 c.if-is_of_pair.true in
     record {
       rec_is = rec_is;
+      leads = (c.loop.invariant.at tells).leads c.if-at.false;
       used = ap (λ (r : Records). kind_at r format.index_file c.loop.at) (sym same) ∙ c.in_ok-rec.ensures.used tells;
       pair = (ap (λ (r : Rec). field 4 r format.definition_label) (sym rec_is) ∙ says.0, ap (λ (r : Rec). field 4 r format.definition_key) (sym rec_is) ∙ says.1);
     }
@@ -70,13 +80,50 @@ loop-preserved g c =
     let s = g.R.Reads.state c.args.space.now in
     let now = g.R.Reads.state c.loop.space in
     let same = reads_records _ s now c.loop.invariant.reads in
+    let rec_is : g.R.Reads.tells → c.in_ok-rec.rec ≡ index_rec s.records c.loop.at = λ tells. c.in_ok-rec.ensures.got tells ∙ ap (λ (r : Records). index_rec r c.loop.at) same in
+    let next_is : g.R.Reads.tells → c.number-at-in-loop.result ≡ next_definition s.records c.loop.at
+    = λ tells. c.number-at-in-loop.ensures ∙ ap (λ (r : Rec). field 4 r format.definition_next) (rec_is tells) in
+    let used : g.R.Reads.tells → kind_at s.records format.index_file c.loop.at ≡ format.definition
+    = λ tells. ap (λ (r : Records). kind_at r format.index_file c.loop.at) (sym same) ∙ c.in_ok-rec.ensures.used tells in
+    let other : g.R.Reads.tells → ¬ IsPair s.records c.args.label c.args.key c.loop.at
+    = λ tells pair. true≢false (sym (c.is_of_pair.ensures.1 (ap (λ (r : Rec). field 4 r format.definition_label) (rec_is tells) ∙ pair.0, ap (λ (r : Rec). field 4 r format.definition_key) (rec_is tells) ∙ pair.1)) ∙ c.if-is_of_pair.false) in
     record {
-      told = λ tells ds are.
-          let rec_is : c.in_ok-rec.rec ≡ index_rec s.records c.loop.at = c.in_ok-rec.ensures.got tells ∙ ap (λ (r : Records). index_rec r c.loop.at) same in
-          search_on _ _ ds c.loop.at c.loop.counter (c.loop.invariant.told tells ds are) c.number-at-in-loop.result c.if-at.false
-          (c.number-at-in-loop.ensures ∙ ap (λ (r : Rec). field 4 r format.definition_next) rec_is)
-          (λ pair. true≢false (sym (c.is_of_pair.ensures.1 (ap (λ (r : Rec). field 4 r format.definition_label) rec_is ∙ pair.0, ap (λ (r : Rec). field 4 r format.definition_key) rec_is ∙ pair.1)) ∙ c.if-is_of_pair.false));
+      told = λ tells ds are. search_on _ _ ds c.loop.at c.loop.counter (c.loop.invariant.told tells ds are) c.number-at-in-loop.result c.if-at.false (next_is tells) (other tells);
+      named_is = subst IsOfIndexes (sym c.out_of_range-named.ensures) (inl refl);
+      at = λ tells. subst (IsDefinitionAt s c.number-at-in-loop.result) (sym c.out_of_range-named.ensures)
+          (definition_goes_on s c.loop.at c.loop.named (c.loop.invariant.at tells) c.if-at.false c.number-at-in-loop.result (used tells) (next_is tells));
+      others = λ tells. others_go_on s.records c.args.label c.args.key c.loop.at c.number-at-in-loop.result (c.loop.invariant.others tells) c.if-at.false (used tells) (next_is tells) (other tells);
       reads = reads_then _ 1 _ _ _ _ (omega arith) c.loop.invariant.reads c.in_ok-rec.ensures.at_most;
       onward = g.met.R.Reads.further_onward _ _ _ c.loop.invariant.onward c.in_ok-rec.ensures.onward;
       later = omega (arith, c.loop.invariant.later, c.in_ok-rec.ensures.cause.later);
     }
+
+pub returns-in_err-rec-clause-damaged : goal.returns-in_err-rec-clause-damaged
+returns-in_err-rec-clause-damaged g c tells =
+    let s = g.R.Reads.state c.args.space.now in
+    let now = g.R.Reads.state c.loop.space in
+    same_has (BlamesBroken s.records s.shape) c.from_residual-in_err-rec.result c.in_err-rec.field-0.0 c.from_residual-in_err-rec.ensures.1
+    (definition_blames s c.loop.at c.loop.named (c.loop.invariant.at tells) c.if-at.false c.in_err-rec.field-0.0
+    (read_fault_same s now c.loop.at format.definition c.loop.named (reads_same _ s now c.loop.invariant.reads) c.in_err-rec.field-0.0 (c.in_err-rec.ensures.damaged tells)))
+
+pub returns-then-at-2-clause-damaged : goal.returns-then-at-2-clause-damaged
+returns-then-at-2-clause-damaged g c tells =
+    let s = g.R.Reads.state c.args.space.now in
+    subst (BlamesBroken s.records s.shape) (sym c.damaged.ensures) (many_break s (λ has.
+    let here = search_here _ _ has.members c.loop.at c.loop.counter (c.loop.invariant.told tells has.members has.list) c.if-at-2.true in
+    omega (arith, here.1, has.list.few)))
+
+pub returns-in_err-rec-clause-names : goal.returns-in_err-rec-clause-names
+returns-in_err-rec-clause-names g c tells =
+    let now = g.R.Reads.state c.loop.space in
+    same_has NamesIndexes c.from_residual-in_err-rec.result c.in_err-rec.field-0.0 c.from_residual-in_err-rec.ensures.1
+    (read_names now c.loop.at format.definition c.loop.named c.in_err-rec.field-0.0 c.loop.invariant.named_is (c.in_err-rec.ensures.damaged tells))
+
+pub returns-then-at-2-clause-names : goal.returns-then-at-2-clause-names
+returns-then-at-2-clause-names g c tells = subst NamesIndexes (sym c.damaged.ensures) (inr (refl, refl))
+
+pub returns-then-at-clause-defined : goal.returns-then-at-clause-defined
+returns-then-at-clause-defined g c tells = others_end (g.R.Reads.state c.args.space.now).records c.args.label c.args.key c.loop.at (c.loop.invariant.others tells) c.if-at.true
+
+pub returns-clause-defined : goal.returns-clause-defined
+returns-clause-defined g c tells = others_end (g.R.Reads.state c.args.space.now).records c.args.label c.args.key c.loop.at (c.loop.invariant.others tells) c.if-at-2.false

@@ -1,14 +1,19 @@
-use Rattle.std.proofs.Common.{◌≡◌, ◌*◌, ◌++◌, cond, [], ◌∷◌, arith, ap, sym, ◌∙◌, subst, refl}
+use Rattle.std.proofs.Common.{◌≡◌, ◌≤◌, ◌+◌, ◌*◌, ◌++◌, cond, [], ◌∷◌, arith, ap, sym, ◌∙◌, subst, refl}
 use Rattle.std.proofs.lemmas.Result.{err_from_is_err_and}
 use Rattle.rec_bytes.specs.declared.record.Rec.{Rec}
 use Rattle.rec_bytes.specs.Format as format
 use Rattle.rec_bytes.specs.Record.{field}
 use Rattle.rec_bytes.specs.Space.{SameButReads}
 use Rattle.store_rules.specs.Indexes.{entry_hash, entry_node, index_rec}
-use Rattle.store_rules.specs.Views.{Records, kind_at}
+use Rattle.store_rules.specs.Views.{Records, high, kind_at}
 use Rattle.prop_store.specs.Reading.{ReadsAtMost}
 use Rattle.prop_store.proofs.ReadCounts.{reads_same, reads_then}
-use Rattle.prop_index.specs.Gathering.{IsListedNode, is_hashed, is_picked}
+use Rattle.prop_index.specs.Gathering.{IsEntryMet, IsListedNode, is_hashed, is_picked}
+use Rattle.rec_bytes.specs.declared.meta.Meta.{Meta}
+use Rattle.prop_store.specs.Fault.{BlamesBroken}
+use Rattle.prop_store.proofs.Exits.{same_has}
+use Rattle.prop_index.specs.Blaming.{IsEntryAt}
+use Rattle.prop_index.proofs.IndexBlames.{blames_before, entry_blames, entry_goes_on, late_breaks, read_fault_same}
 use Rattle.prop_index.proofs.Gathers.{gather_begins, gather_cost, gather_here, gather_on, gather_over}
 use Rattle.prop_index.proofs.Reread.{node_after, room_after, same_records, same_then}
 use Rattle.prop_index.proofs.gathering.gather.Goals as goal
@@ -16,6 +21,7 @@ use Rattle.prop_index.proofs.gathering.gather.Goals as goal
 pub loop-init : goal.loop-init
 loop-init g c = record {
   told = λ tells xs are. gather_begins _ _ _ _ xs c.args.first _ c.new-nodes.ensures.items are;
+  at = λ tells d b h. h;
   same = refl;
   onward = g.met.R.Reads.stays_onward _;
   later = omega arith;
@@ -51,6 +57,21 @@ returns-in_err-add_node-clause-sound g c tells xs are readable =
     rw (p.1, p.2) (c.in_err-add_node.ensures.sound tells c.loop.at rec_is
     (λ e. node_after s then _ same_now (subst (λ (r : Records). IsListedNode s (entry_node r c.loop.at)) (sym gone) (readable.nodes c.loop.at here.0 (ap (λ (r : Records). entry_hash r c.loop.at) (sym gone) ∙ e)))))
 
+pub returns-in_err-rec-clause-same : goal.returns-in_err-rec-clause-same
+returns-in_err-rec-clause-same g c =
+    let s = g.R.Reads.state c.args.space.now in
+    let now = g.R.Reads.state c.loop.space in
+    let then = g.R.Reads.state c.record_at.new.space in
+    same_then s now then c.loop.invariant.same (reads_same 1 now then c.in_err-rec.ensures.at_most)
+
+pub returns-in_err-add_node-clause-same : goal.returns-in_err-add_node-clause-same
+returns-in_err-add_node-clause-same g c =
+    let s = g.R.Reads.state c.args.space.now in
+    let now = g.R.Reads.state c.loop.space in
+    let then = g.R.Reads.state c.record_at.new.space in
+    let after = g.R.Reads.state c.add_node.new.space in
+    same_then s then after (same_then s now then c.loop.invariant.same (reads_same 1 now then c.in_ok-rec.ensures.at_most)) (reads_same 55 then after c.in_err-add_node.ensures.at_most)
+
 pub loop-preserved : goal.loop-preserved
 loop-preserved g c =
     let s = g.R.Reads.state c.args.space.now in
@@ -72,7 +93,44 @@ loop-preserved g c =
           (c.in_ok-add_node.ensures.added tells c.loop.at rec_then))
           (reads_then 1 _ _ now then after (omega arith) c.in_ok-rec.ensures.at_most
           (subst (λ (r : Records). ReadsAtMost (55 * cond (is_hashed r c.args.sought.hash c.loop.at) 1 0) then after) gone (c.in_ok-add_node.ensures.cost c.loop.at rec_then)));
+      at = λ tells d b h.
+          let was = same_records s now c.loop.invariant.same in
+          let rec_is : c.in_ok-rec.rec ≡ index_rec s.records c.loop.at = c.in_ok-rec.ensures.got tells ∙ ap (λ (r : Records). index_rec r c.loop.at) was in
+          subst (IsEntryAt s d b (c.loop.counter + 1) c.number-at.result) (sym c.out_of_range-named.ensures)
+          (entry_goes_on s d b c.loop.counter c.loop.at c.loop.named (c.loop.invariant.at tells d b h) c.if-at.false c.number-at.result
+          (ap (λ (r : Records). kind_at r format.index_file c.loop.at) (sym was) ∙ c.in_ok-rec.ensures.used tells)
+          (c.number-at.ensures ∙ ap (λ (r : Rec). field 4 r format.indexed_next) rec_is));
       same = same_then s then after same_now (reads_same 55 then after c.in_ok-add_node.ensures.at_most);
       onward = g.met.R.Reads.further_onward _ _ _ (g.met.R.Reads.further_onward _ _ _ c.loop.invariant.onward c.in_ok-rec.ensures.onward) c.in_ok-add_node.ensures.onward;
       later = omega (arith, c.loop.invariant.later, c.in_ok-rec.ensures.cause.later, c.in_ok-add_node.ensures.cause.later);
     }
+
+pub returns-in_err-rec-clause-damaged : goal.returns-in_err-rec-clause-damaged
+returns-in_err-rec-clause-damaged g c tells d b h =
+    let s = g.R.Reads.state c.args.space.now in
+    let now = g.R.Reads.state c.loop.space in
+    same_has (BlamesBroken s.records s.shape) c.from_residual.result c.in_err-rec.field-0.0 c.from_residual.ensures.1
+    (entry_blames s d b c.loop.counter c.loop.at c.loop.named (c.loop.invariant.at tells d b h) c.if-at.false c.in_err-rec.field-0.0
+    (read_fault_same s now c.loop.at format.indexed c.loop.named c.loop.invariant.same c.in_err-rec.field-0.0 (c.in_err-rec.ensures.damaged tells)))
+
+pub returns-in_err-add_node-clause-damaged : goal.returns-in_err-add_node-clause-damaged
+returns-in_err-add_node-clause-damaged g c tells d b h =
+    let s = g.R.Reads.state c.args.space.now in
+    let now = g.R.Reads.state c.loop.space in
+    let then = g.R.Reads.state c.record_at.new.space in
+    let same : SameButReads s then = same_then s now then c.loop.invariant.same (reads_same 1 now then c.in_ok-rec.ensures.at_most) in
+    let was = same_records s now c.loop.invariant.same in
+    let met : IsEntryMet s.records d b c.loop.counter c.loop.at c.in_ok-rec.rec = record {
+      leads = (c.loop.invariant.at tells d b h).leads c.if-at.false;
+      used = ap (λ (r : Records). kind_at r format.index_file c.loop.at) (sym was) ∙ c.in_ok-rec.ensures.used tells;
+      rec_is = c.in_ok-rec.ensures.got tells ∙ ap (λ (r : Records). index_rec r c.loop.at) was;
+    } in
+    same_has (BlamesBroken s.records s.shape) c.from_residual-in_err-add_node.result c.in_err-add_node.field-0.0 c.from_residual-in_err-add_node.ensures.1
+    (blames_before s then c.in_err-add_node.field-0.0 same
+    (c.in_err-add_node.ensures.damaged tells d b c.loop.counter (subst (λ (r : Records). IsEntryMet r d b c.loop.counter c.loop.at c.in_ok-rec.rec) (sym (same_records s then same)) met)))
+
+pub returns-then-at-2-clause-damaged : goal.returns-then-at-2-clause-damaged
+returns-then-at-2-clause-damaged g c tells d b h =
+    let s = g.R.Reads.state c.args.space.now in
+    let late : high s.records format.index_file ≤ c.loop.counter = subst (λ (m : Meta). m.high ≤ c.loop.counter) c.meta-end.ensures (omega arith) in
+    subst (BlamesBroken s.records s.shape) (sym c.damaged.ensures) (late_breaks s d b c.loop.counter c.loop.at c.loop.named (c.loop.invariant.at tells d b h) c.if-at-2.true late)

@@ -1,4 +1,4 @@
-use Rattle.std.proofs.Common.{◌≡◌, ◌/◌, ◌+◌, ℕ, length, ap, sym, ◌∙◌, subst, arith}
+use Rattle.std.proofs.Common.{◌≡◌, ◌/◌, ◌+◌, ◌<◌, ℕ, length, ap, sym, ◌∙◌, subst, arith}
 use Rattle.std.proofs.lemmas.Result.{err_from_is_err_and}
 use Rattle.rec_bytes.specs.Format as format
 use Rattle.rec_bytes.specs.Space.{SameButReads}
@@ -6,6 +6,11 @@ use Rattle.store_rules.specs.Chains.{In}
 use Rattle.store_rules.specs.Indexes.{heads_of, index_rec}
 use Rattle.store_rules.specs.Views.{Records, kind_at}
 use Rattle.prop_store.proofs.ReadCounts.{reads_same, reads_then}
+use Rattle.store_rules.specs.IndexBreaking.{LeadsToDefinition}
+use Rattle.prop_store.specs.Fault.{BlamesBroken}
+use Rattle.prop_store.proofs.Exits.{same_has}
+use Rattle.prop_index.proofs.IndexBlames.{blames_before}
+use Rattle.prop_index.specs.Blaming.{NamesIndexes}
 use Rattle.prop_index.specs.Finding.{IsDefined, IsFound}
 use Rattle.prop_index.specs.Heads.{IsBucketOf}
 use Rattle.prop_index.proofs.Reread.{definitions_of, room_after, same_records}
@@ -56,3 +61,54 @@ returns-clause-cost g c tells wanted ix =
 
 pub returns-clause-at_most : goal.returns-clause-at_most
 returns-clause-at_most g c = reads_then 17 1 18 _ _ _ (omega arith) c.in_ok-definition.ensures.at_most c.in_ok-bucket.ensures.at_most
+
+pub returns-in_default-clause-met : goal.returns-in_default-clause-met
+returns-in_default-clause-met g c tells = tt
+
+pub returns-clause-met : goal.returns-clause-met
+returns-clause-met g c tells =
+    let s = g.R.Reads.state c.args.space.now in
+    let now = g.R.Reads.state c.find_definition.new.space in
+    let records = same_records s now (reads_same 17 s now c.in_ok-definition.ensures.at_most) in
+    let definition = c.in-Some.definition in
+    let pair = subst (IsDefined s.records c.args.label c.args.key) c.in-Some.is (c.in_ok-definition.ensures.defined tells) in
+    let rec_is : definition.rec ≡ index_rec now.records definition.id = pair.rec_is ∙ ap (λ (r : Records). index_rec r definition.id) (sym records) in
+    let is = subst (λ (p : Records × ℕ). IsBucketOf p.0 definition.id p.1 c.in_ok-bucket.bucket) (λ i. (records i, c.bucket_of.ensures.is i)) (c.in_ok-bucket.ensures.is tells rec_is) in
+    let low = c.bucket_of.ensures.low in
+    record {
+      definition = definition.id;
+      has = record {
+        leads = pair.leads;
+        defined = pair.used;
+        low = subst (λ n. n < 180) c.bucket_of.ensures.is low;
+        head = ap (kind_at s.records format.index_file) (sym is.id_is) ∙ is.head.heads;
+      };
+      is = is;
+    }
+
+pub returns-in_err-definition-clause-damaged : goal.returns-in_err-definition-clause-damaged
+returns-in_err-definition-clause-damaged g c tells =
+    let s = g.R.Reads.state c.args.space.now in
+    same_has (BlamesBroken s.records s.shape) c.from_residual.result c.in_err-definition.field-0.0 c.from_residual.ensures.1 (c.in_err-definition.ensures.damaged tells)
+
+pub returns-in_err-bucket-clause-damaged : goal.returns-in_err-bucket-clause-damaged
+returns-in_err-bucket-clause-damaged g c tells =
+    let s = g.R.Reads.state c.args.space.now in
+    let now = g.R.Reads.state c.find_definition.new.space in
+    let same : SameButReads s now = reads_same 17 s now c.in_ok-definition.ensures.at_most in
+    let records = same_records s now same in
+    let definition = c.in-Some.definition in
+    let pair = subst (IsDefined s.records c.args.label c.args.key) c.in-Some.is (c.in_ok-definition.ensures.defined tells) in
+    same_has (BlamesBroken s.records s.shape) c.from_residual-in_err-bucket.result c.in_err-bucket.field-0.0 c.from_residual-in_err-bucket.ensures.1
+    (blames_before s now c.in_err-bucket.field-0.0 same (c.in_err-bucket.ensures.damaged tells (pair.rec_is ∙ ap (λ (r : Records). index_rec r definition.id) (sym records))
+    (subst (λ (r : Records). LeadsToDefinition r definition.id) (sym records) pair.leads) (ap (λ (r : Records). kind_at r format.index_file definition.id) records ∙ pair.used)))
+
+pub returns-in_err-definition-clause-names : goal.returns-in_err-definition-clause-names
+returns-in_err-definition-clause-names g c tells = same_has NamesIndexes c.from_residual.result c.in_err-definition.field-0.0 c.from_residual.ensures.1 (c.in_err-definition.ensures.names tells)
+
+pub returns-in_err-bucket-clause-names : goal.returns-in_err-bucket-clause-names
+returns-in_err-bucket-clause-names g c tells = same_has NamesIndexes c.from_residual-in_err-bucket.result c.in_err-bucket.field-0.0 c.from_residual-in_err-bucket.ensures.1 (c.in_err-bucket.ensures.names tells)
+
+pub returns-in_default-clause-lacks : goal.returns-in_default-clause-lacks
+returns-in_default-clause-lacks g c tells =
+    subst (IsDefined (g.R.Reads.state c.args.space.now).records c.args.label c.args.key) c.in_default.is (c.in_ok-definition.ensures.defined tells)

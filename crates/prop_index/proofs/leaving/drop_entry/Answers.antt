@@ -1,4 +1,13 @@
-use Rattle.std.proofs.Common.{◌≡◌, ◌∙◌, Option, ap, sym, subst, ◌<◌, ℕ}
+use Rattle.std.proofs.Common.{◌≡◌, ◌≢◌, ◌⊎◌, ◌∙◌, Option, Some, List, refl, ap, sym, subst, ◌-◌, ◌<◌, ℕ, arith, inl, inr, ⊎_elim}
+use Rattle.rec_bytes.specs.declared.damage.Damage.{Damage}
+use Rattle.rec_bytes.specs.declared.fault.Fault.TheVariants.{Damaged}
+use Rattle.rec_bytes.specs.Space.{SameButReads, State, meta_of}
+use Rattle.store_rules.specs.Breaking.{Breaks}
+use Rattle.prop_store.specs.Fault.{BlamesBroken}
+use Rattle.prop_store.specs.GivenOut.{IsLinkDamage}
+use Rattle.prop_store.proofs.Exits.{same_has, space_has}
+use Rattle.prop_index.specs.Blaming.{IsEntryAt, IsOfIndexes, NamesIndexes}
+use Rattle.prop_index.proofs.IndexBlames.{beside_blames, blames_reread, breaks_before, link_names}
 use Rattle.std.specs.Prelude.{IfSome}
 use Rattle.rec_bytes.specs.declared.record.Rec.{Rec}
 use Rattle.rec_bytes.specs.Format as format
@@ -6,13 +15,21 @@ use Rattle.rec_bytes.specs.Key.{IsKey}
 use Rattle.rec_bytes.specs.Record.{field}
 use Rattle.store_rules.specs.IndexChange.{IsEntryGone}
 use Rattle.store_rules.specs.Indexes.{next_entry, previous_entry}
-use Rattle.store_rules.specs.Views.{Records, key_in, high}
-use Rattle.prop_index.specs.Leaving.{IsEntrySought, NoneThere, OneGone}
+use Rattle.store_rules.specs.Views.{Records, key_in, high, kind_at}
+use Rattle.store_rules.specs.Graph.{indexes_of}
+use Rattle.prop_index.specs.Defining.{SameElsewhere}
+use Rattle.prop_index.specs.Heads.{IsHead, IsHeadPlace}
+use Rattle.prop_index.specs.declared.entry_row.Content.{Content}
+use Rattle.prop_index.specs.declared.heads.Bucket.{Bucket}
+use Rattle.prop_index.proofs.DefinitionsStay.{gone_graph, same_graph}
+use Rattle.prop_index.proofs.FillSteps.{elsewhere_of}
+use Rattle.prop_index.specs.Leaving.{IsBucketChain, IsDropped, IsEntryRow, IsEntrySought, NoneThere, OneGone}
 use Rattle.prop_index.specs.Unlinking.{unlinked_entry}
 use Rattle.prop_index.specs.declared.entry_row.EntryRow.{EntryRow}
-use Rattle.prop_index.proofs.Buckets.{chain-entries, chain-reread, head-reread, after-low, before-low}
+use Rattle.prop_index.proofs.Buckets.{after-member, before-member, chain-entries, chain-reread, head-reread, after-low, before-low}
 use Rattle.prop_index.proofs.Reread.{can_after, kept_after, same_records, room_after}
 use Rattle.prop_index.proofs.GoneRules.{entry_gone_kept}
+use Rattle.prop_index.proofs.LiveCounts.{unlinked_live}
 use Rattle.prop_index.proofs.Unlinked.{entry_unlinked}
 use Rattle.std.proofs.lemmas.Bool.{true≢false}
 use Rattle.std.proofs.lemmas.Result.{err_from_is_err_and}
@@ -97,3 +114,163 @@ returns-in_err-test_link-2-clause-sound g c tells xs chain room =
     = c.number-after.ensures ∙ ap (λ (r : Rec). field 4 r format.indexed_next) row.rec_is ∙ ap (λ (r : Records). next_entry r x) (sym (same_records s now same)) in
     absurd (true≢false (sym (c.in_err-test_link-2.ensures.sound (room_after s now format.index_file same room)
     (λ some. subst (λ (n : ℕ). n < high now.records format.index_file) (sym is) (after-low now.records first x xs (chain-reread s now first xs same chain) row.member (λ e. some (is ∙ e)))))))
+
+pub returns-in_err-row-clause-damaged : goal.returns-in_err-row-clause-damaged
+returns-in_err-row-clause-damaged g c tells d b h =
+    let s = g.S.Reads.state c.args.space.now in
+    same_has (BlamesBroken s.records s.shape) c.from_residual.result c.in_err-row.field-0.0 c.from_residual.ensures.1
+    (c.in_err-row.ensures.damaged tells d b (subst (IsEntryAt s d b 0 c.args.bucket.first) (sym c.out_of_range-named.ensures) h))
+
+pub returns-in_err-row-clause-still : goal.returns-in_err-row-clause-still
+returns-in_err-row-clause-still g c tells d b h =
+    let s = g.S.Reads.state c.args.space.now in
+    let now = g.S.Reads.state c.find_entry.new.space in
+    same_has (BlamesBroken now.records now.shape) c.from_residual.result c.in_err-row.field-0.0 c.from_residual.ensures.1
+    (blames_reread s now c.in_err-row.field-0.0 c.in_err-row.ensures.same (c.in_err-row.ensures.damaged tells d b (subst (IsEntryAt s d b 0 c.args.bucket.first) (sym c.out_of_range-named.ensures) h)))
+
+-- what a test of the row's links blames
+row_blames : (s now : State) (o : Option EntryRow) (row : EntryRow) (link : ℕ) → SameButReads s now → o ≡ Some row → IfSome o (IsEntryRow s.records)
+    → ((link ≡ field 4 row.rec format.indexed_next) ⊎ (link ≡ field 4 row.rec format.indexed_previous)) → (bad : Damage) → (link ≢ format.nil) × IsLinkDamage now (key_in format.index_file row.id) format.index_file link bad → Breaks now.records now.shape bad
+row_blames s now o row link same is has at bad told =
+    let read : IsEntryRow s.records row = subst (λ (z : Option EntryRow). IfSome z (IsEntryRow s.records)) is has in
+    let records = same_records s now same in
+    beside_blames now row.id link (ap (λ (r : Records). kind_at r format.index_file row.id) records ∙ read.used)
+    (⊎_elim (λ (e : link ≡ field 4 row.rec format.indexed_next). inl (e ∙ ap (λ (r : Rec). field 4 r format.indexed_next) read.rec_is ∙ ap (λ (r : Records). next_entry r row.id) (sym records)))
+    (λ (e : link ≡ field 4 row.rec format.indexed_previous). inr (e ∙ ap (λ (r : Rec). field 4 r format.indexed_previous) read.rec_is ∙ ap (λ (r : Records). previous_entry r row.id) (sym records))) at)
+    told.0 bad told.1
+
+pub returns-in_err-test_link-clause-damaged : goal.returns-in_err-test_link-clause-damaged
+returns-in_err-test_link-clause-damaged g c tells d b h =
+    let s = g.S.Reads.state c.args.space.now in
+    let now = g.S.Reads.state c.find_entry.new.space in
+    same_has (BlamesBroken s.records s.shape) c.from_residual-in_err-test_link.result (Damaged c.in_err-test_link.field-0.0) c.from_residual-in_err-test_link.ensures.1
+    (breaks_before s now c.in_err-test_link.field-0.0 c.in_ok-row.ensures.same
+    (row_blames s now _ c.in-Some.row c.number-before.result c.in_ok-row.ensures.same c.in-Some.is (c.in_ok-row.ensures.row tells) (inr c.number-before.ensures) c.in_err-test_link.field-0.0 c.in_err-test_link.ensures.damaged))
+
+pub returns-in_err-test_link-clause-still : goal.returns-in_err-test_link-clause-still
+returns-in_err-test_link-clause-still g c tells d b h =
+    let s = g.S.Reads.state c.args.space.now in
+    let now = g.S.Reads.state c.find_entry.new.space in
+    same_has (BlamesBroken now.records now.shape) c.from_residual-in_err-test_link.result (Damaged c.in_err-test_link.field-0.0) c.from_residual-in_err-test_link.ensures.1
+    (row_blames s now _ c.in-Some.row c.number-before.result c.in_ok-row.ensures.same c.in-Some.is (c.in_ok-row.ensures.row tells) (inr c.number-before.ensures) c.in_err-test_link.field-0.0 c.in_err-test_link.ensures.damaged)
+
+pub returns-in_err-test_link-2-clause-damaged : goal.returns-in_err-test_link-2-clause-damaged
+returns-in_err-test_link-2-clause-damaged g c tells d b h =
+    let s = g.S.Reads.state c.args.space.now in
+    let now = g.S.Reads.state c.find_entry.new.space in
+    same_has (BlamesBroken s.records s.shape) c.from_residual-in_err-test_link-2.result (Damaged c.in_err-test_link-2.field-0.0) c.from_residual-in_err-test_link-2.ensures.1
+    (breaks_before s now c.in_err-test_link-2.field-0.0 c.in_ok-row.ensures.same
+    (row_blames s now _ c.in-Some.row c.number-after.result c.in_ok-row.ensures.same c.in-Some.is (c.in_ok-row.ensures.row tells) (inl c.number-after.ensures) c.in_err-test_link-2.field-0.0 c.in_err-test_link-2.ensures.damaged))
+
+pub returns-in_err-test_link-2-clause-still : goal.returns-in_err-test_link-2-clause-still
+returns-in_err-test_link-2-clause-still g c tells d b h =
+    let s = g.S.Reads.state c.args.space.now in
+    let now = g.S.Reads.state c.find_entry.new.space in
+    same_has (BlamesBroken now.records now.shape) c.from_residual-in_err-test_link-2.result (Damaged c.in_err-test_link-2.field-0.0) c.from_residual-in_err-test_link-2.ensures.1
+    (row_blames s now _ c.in-Some.row c.number-after.result c.in_ok-row.ensures.same c.in-Some.is (c.in_ok-row.ensures.row tells) (inl c.number-after.ensures) c.in_err-test_link-2.field-0.0 c.in_err-test_link-2.ensures.damaged)
+
+pub returns-in_err-unlink-clause-damaged : goal.returns-in_err-unlink-clause-damaged
+returns-in_err-unlink-clause-damaged g c tells d b h =
+    let s = g.S.Reads.state c.args.space.now in
+    space_has (BlamesBroken s.records s.shape) tt tt c.from_residual-in_err-unlink.result c.in_err-unlink.field-0.0 c.from_residual-in_err-unlink.ensures.1
+
+pub returns-in_err-unlink-clause-still : goal.returns-in_err-unlink-clause-still
+returns-in_err-unlink-clause-still g c tells d b h =
+    let t = g.S.Reads.state c.unlink.new.space in
+    space_has (BlamesBroken t.records t.shape) tt tt c.from_residual-in_err-unlink.result c.in_err-unlink.field-0.0 c.from_residual-in_err-unlink.ensures.1
+
+pub returns-in_default-clause-counted : goal.returns-in_default-clause-counted
+returns-in_default-clause-counted g c tells =
+    let live = ap (λ (z : State). (meta_of z format.index_file).live) c.in_ok-row.ensures.same in
+    omega (arith, live)
+
+pub returns-clause-counted : goal.returns-clause-counted
+returns-clause-counted g c tells =
+    let now = g.S.Reads.state c.find_entry.new.space in
+    let x = c.in-Some.row.id in
+    let key : IsKey (key_in format.index_file x) = subst (λ (o : Option EntryRow). IfSome o (λ row. IsKey (key_in format.index_file row.id))) c.in-Some.is c.in_ok-row.ensures.key in
+    let small = key.id in
+    let live = ap (λ (z : State). (meta_of z format.index_file).live) c.in_ok-row.ensures.same in
+    let gone = ap (λ (z : State). (meta_of z format.index_file).live) (c.in_ok-unlink.ensures.ok tells) ∙ unlinked_live now c.args.bucket.slot x c.number-before.result c.number-after.result (omega (arith, small)) in
+    omega (arith, live, gone)
+
+pub returns-in_default-clause-kept : goal.returns-in_default-clause-kept
+returns-in_default-clause-kept g c tells =
+    let live = ap (λ (z : State). (meta_of z format.index_file).live) c.in_ok-row.ensures.same in
+    omega (arith, live)
+
+pub returns-clause-kept : goal.returns-clause-kept
+returns-clause-kept g c tells =
+    let now = g.S.Reads.state c.find_entry.new.space in
+    let x = c.in-Some.row.id in
+    let key : IsKey (key_in format.index_file x) = subst (λ (o : Option EntryRow). IfSome o (λ row. IsKey (key_in format.index_file row.id))) c.in-Some.is c.in_ok-row.ensures.key in
+    let small = key.id in
+    let live = ap (λ (z : State). (meta_of z format.index_file).live) c.in_ok-row.ensures.same in
+    let gone = ap (λ (z : State). (meta_of z format.index_file).live) (c.in_ok-unlink.ensures.ok tells) ∙ unlinked_live now c.args.bucket.slot x c.number-before.result c.number-after.result (omega (arith, small)) in
+    omega (arith, live, gone)
+
+pub returns-in_err-row-clause-names : goal.returns-in_err-row-clause-names
+returns-in_err-row-clause-names g c tells =
+    same_has NamesIndexes c.from_residual.result c.in_err-row.field-0.0 c.from_residual.ensures.1 (c.in_err-row.ensures.names tells (subst IsOfIndexes (sym c.out_of_range-named.ensures) (inl refl)))
+
+pub returns-in_err-test_link-clause-names : goal.returns-in_err-test_link-clause-names
+returns-in_err-test_link-clause-names g c tells =
+    same_has NamesIndexes c.from_residual-in_err-test_link.result (Damaged c.in_err-test_link.field-0.0) c.from_residual-in_err-test_link.ensures.1
+    (link_names _ c.in-Some.row.id c.number-before.result c.in_err-test_link.field-0.0 c.in_err-test_link.ensures.damaged.1)
+
+pub returns-in_err-test_link-2-clause-names : goal.returns-in_err-test_link-2-clause-names
+returns-in_err-test_link-2-clause-names g c tells =
+    same_has NamesIndexes c.from_residual-in_err-test_link-2.result (Damaged c.in_err-test_link-2.field-0.0) c.from_residual-in_err-test_link-2.ensures.1
+    (link_names _ c.in-Some.row.id c.number-after.result c.in_err-test_link-2.field-0.0 c.in_err-test_link-2.ensures.damaged.1)
+
+pub returns-in_err-unlink-clause-names : goal.returns-in_err-unlink-clause-names
+returns-in_err-unlink-clause-names g c tells = space_has NamesIndexes tt tt c.from_residual-in_err-unlink.result c.in_err-unlink.field-0.0 c.from_residual-in_err-unlink.ensures.1
+
+-- what became of the records of the index
+dropped_graph : (s t : Records) (xs : List ℕ) (bucket : Bucket) (content : Content) → IsHead s bucket → IsBucketChain s bucket.first xs → IsHeadPlace bucket.slot.place → SameElsewhere s t
+    → IsDropped s t xs bucket.slot content → indexes_of t ≡ indexes_of s
+dropped_graph s t xs bucket content head chain place elsewhere (NoneThere none same) = same_graph s t same
+dropped_graph s t xs bucket content head chain place elsewhere (OneGone x member says gone) =
+    let at = place.is in
+    gone_graph s t x bucket.slot.id bucket.slot.place gone (chain.kind x member) head.heads
+    (λ some. chain.kind (next_entry s x) (after-member s bucket.first x xs chain member some))
+    (λ some. chain.kind (previous_entry s x) (before-member s bucket.first x xs chain member some))
+    (omega (arith, at)) elsewhere
+
+pub returns-in_default-clause-graph : goal.returns-in_default-clause-graph
+returns-in_default-clause-graph g c tells xs free head chain place can =
+    let s = g.S.Reads.state c.args.space.now in
+    let now = g.S.Reads.state c.find_entry.new.space in
+    same_graph s.records now.records (same_records s now c.in_ok-row.ensures.same)
+
+pub returns-clause-graph : goal.returns-clause-graph
+returns-clause-graph g c tells xs free head chain place can =
+    let s = g.S.Reads.state c.args.space.now in
+    let now = g.S.Reads.state c.find_entry.new.space in
+    let t = g.S.Reads.state c.unlink.new.space in
+    let touched = c.in_ok-unlink.ensures.touches in
+    let elsewhere : SameElsewhere s.records t.records = subst (λ (r : Records). SameElsewhere r t.records) (same_records s now c.in_ok-row.ensures.same) (elsewhere_of g.S.Reads.tells now t touched.ids tells touched.only) in
+    dropped_graph s.records t.records xs c.args.bucket c.args.content head chain place elsewhere (returns-clause-dropped g c tells xs free head chain can)
+
+pub returns-in_default-clause-gone : goal.returns-in_default-clause-gone
+returns-in_default-clause-gone g c tells xs chain x member says =
+    let s = g.S.Reads.state c.args.space.now in
+    absurd (subst (IsEntrySought s.records xs c.args.content) c.in_default.is (c.in_ok-row.ensures.found tells xs (chain-entries s c.args.bucket.first xs chain)) x member says)
+
+pub returns-clause-gone : goal.returns-clause-gone
+returns-clause-gone g c tells xs chain x member says =
+    let now = g.S.Reads.state c.find_entry.new.space in
+    let id = c.in-Some.row.id in
+    let key : IsKey (key_in format.index_file id) = subst (λ (o : Option EntryRow). IfSome o (λ row. IsKey (key_in format.index_file row.id))) c.in-Some.is c.in_ok-row.ensures.key in
+    let small = key.id in
+    ap (λ (z : State). (meta_of z format.index_file).live) (c.in_ok-unlink.ensures.ok tells) ∙ unlinked_live now c.args.bucket.slot id c.number-before.result c.number-after.result (omega (arith, small))
+    ∙ ap (λ (z : State). (meta_of z format.index_file).live - 1) c.in_ok-row.ensures.same
+
+pub returns-in_default-clause-absent : goal.returns-in_default-clause-absent
+returns-in_default-clause-absent g c tells xs chain none = c.in_ok-row.ensures.same
+
+pub returns-clause-absent : goal.returns-clause-absent
+returns-clause-absent g c tells xs chain none =
+    let s = g.S.Reads.state c.args.space.now in
+    let row = subst (IsEntrySought s.records xs c.args.content) c.in-Some.is (c.in_ok-row.ensures.found tells xs (chain-entries s c.args.bucket.first xs chain)) in
+    absurd (none c.in-Some.row.id row.member row.says)

@@ -1,10 +1,15 @@
-use Rattle.std.proofs.Common.{◌≡◌, arith, ap, sym, ◌∙◌, refl}
+use Rattle.std.proofs.Common.{inl, ◌≡◌, ◌≤◌, ◌+◌, arith, ap, sym, ◌∙◌, refl, subst}
 use Rattle.std.proofs.lemmas.Bool.{true≢false}
 use Rattle.rec_bytes.specs.declared.record.Rec.{Rec}
 use Rattle.rec_bytes.specs.Format as format
 use Rattle.rec_bytes.specs.Record.{field}
-use Rattle.store_rules.specs.Indexes.{index_rec}
-use Rattle.store_rules.specs.Views.{Records, kind_at}
+use Rattle.rec_bytes.specs.declared.meta.Meta.{Meta}
+use Rattle.store_rules.specs.Indexes.{index_rec, next_entry}
+use Rattle.store_rules.specs.Views.{Records, high, kind_at}
+use Rattle.prop_store.specs.Fault.{BlamesBroken}
+use Rattle.prop_store.proofs.Exits.{same_has}
+use Rattle.prop_index.specs.Blaming.{IsEntryAt, IsOfIndexes, NamesIndexes}
+use Rattle.prop_index.proofs.IndexBlames.{entry_blames, entry_goes_on, late_breaks, read_fault_same, read_names}
 use Rattle.prop_store.proofs.ReadCounts.{reads_same}
 use Rattle.prop_index.proofs.Reread.{same_records, same_then, room_after}
 use Rattle.prop_index.proofs.Searches.{search_begins, search_here, search_on, search_over}
@@ -14,6 +19,8 @@ use Rattle.prop_index.proofs.leaving.find_entry.Goals as goal
 pub loop-init : goal.loop-init
 loop-init g c = record {
   told = λ tells xs are. search_begins _ _ xs c.args.first are.walk;
+  named_is = λ is. is;
+  at = λ tells d b h. h;
   same = refl;
   onward = g.met.R.Reads.stays_onward _;
   later = omega arith;
@@ -44,12 +51,17 @@ pub loop-preserved : goal.loop-preserved
 loop-preserved g c =
     let s = g.R.Reads.state c.args.space.now in
     let now = g.R.Reads.state c.loop.space in
+    let records = same_records s now c.loop.invariant.same in
+    let rec_is : g.R.Reads.tells → c.in_ok-rec.rec ≡ index_rec s.records c.loop.at = λ tells. c.in_ok-rec.ensures.got tells ∙ ap (λ (r : Records). index_rec r c.loop.at) records in
+    let next_is : g.R.Reads.tells → c.number-at.result ≡ next_entry s.records c.loop.at = λ tells. c.number-at.ensures ∙ ap (λ (r : Rec). field 4 r format.indexed_next) (rec_is tells) in
     record {
       told = λ tells xs are.
-          let rec_is : c.in_ok-rec.rec ≡ index_rec s.records c.loop.at = c.in_ok-rec.ensures.got tells ∙ ap (λ (r : Records). index_rec r c.loop.at) (same_records s now c.loop.invariant.same) in
-          search_on _ _ xs c.loop.at c.loop.counter (c.loop.invariant.told tells xs are) c.number-at.result c.if-at.false
-          (c.number-at.ensures ∙ ap (λ (r : Rec). field 4 r format.indexed_next) rec_is)
-          (λ says. true≢false (sym (c.is_of.ensures.1 (ap (λ (r : Rec). field 4 r format.indexed_node) rec_is ∙ says.0, ap (λ (r : Rec). field 8 r format.indexed_hash) rec_is ∙ says.1)) ∙ c.if-is_of.false));
+          search_on _ _ xs c.loop.at c.loop.counter (c.loop.invariant.told tells xs are) c.number-at.result c.if-at.false (next_is tells)
+          (λ says. true≢false (sym (c.is_of.ensures.1 (ap (λ (r : Rec). field 4 r format.indexed_node) (rec_is tells) ∙ says.0, ap (λ (r : Rec). field 8 r format.indexed_hash) (rec_is tells) ∙ says.1)) ∙ c.if-is_of.false));
+      named_is = λ is. subst IsOfIndexes (sym c.out_of_range-named.ensures) (inl refl);
+      at = λ tells d b h. subst (IsEntryAt s d b (c.loop.counter + 1) c.number-at.result) (sym c.out_of_range-named.ensures)
+          (entry_goes_on s d b c.loop.counter c.loop.at c.loop.named (c.loop.invariant.at tells d b h) c.if-at.false c.number-at.result
+          (ap (λ (r : Records). kind_at r format.index_file c.loop.at) (sym records) ∙ c.in_ok-rec.ensures.used tells) (next_is tells));
       same = same_then (g.R.Reads.state c.args.space.now) (g.R.Reads.state c.loop.space) (g.R.Reads.state c.record_at.new.space) c.loop.invariant.same (reads_same 1 (g.R.Reads.state c.loop.space) (g.R.Reads.state c.record_at.new.space) c.in_ok-rec.ensures.at_most);
       onward = g.met.R.Reads.further_onward _ _ _ c.loop.invariant.onward c.in_ok-rec.ensures.onward;
       later = omega (arith, c.loop.invariant.later, c.in_ok-rec.ensures.cause.later);
@@ -67,3 +79,35 @@ returns-in_err-rec-clause-sound g c tells xs are room =
     let p = err_from_is_err_and c.from_residual.result c.from_residual.ensures.1 in
     rw (p.1, p.2) (c.in_err-rec.ensures.sound tells (room_after s now format.index_file same room)
     (ap (λ (r : Records). kind_at r format.index_file c.loop.at) (same_records s now same) ∙ are.kind c.loop.at here.0))
+
+pub returns-then-is_of-clause-row : goal.returns-then-is_of-clause-row
+returns-then-is_of-clause-row g c tells =
+    let s = g.R.Reads.state c.args.space.now in
+    let records = same_records s (g.R.Reads.state c.loop.space) c.loop.invariant.same in
+    record {
+      rec_is = c.in_ok-rec.ensures.got tells ∙ ap (λ (r : Records). index_rec r c.loop.at) records;
+      used = ap (λ (r : Records). kind_at r format.index_file c.loop.at) (sym records) ∙ c.in_ok-rec.ensures.used tells;
+    }
+
+pub returns-in_err-rec-clause-damaged : goal.returns-in_err-rec-clause-damaged
+returns-in_err-rec-clause-damaged g c tells d b h =
+    let s = g.R.Reads.state c.args.space.now in
+    let now = g.R.Reads.state c.loop.space in
+    same_has (BlamesBroken s.records s.shape) c.from_residual.result c.in_err-rec.field-0.0 c.from_residual.ensures.1
+    (entry_blames s d b c.loop.counter c.loop.at c.loop.named (c.loop.invariant.at tells d b h) c.if-at.false c.in_err-rec.field-0.0
+    (read_fault_same s now c.loop.at format.indexed c.loop.named c.loop.invariant.same c.in_err-rec.field-0.0 (c.in_err-rec.ensures.damaged tells)))
+
+pub returns-then-at-2-clause-damaged : goal.returns-then-at-2-clause-damaged
+returns-then-at-2-clause-damaged g c tells d b h =
+    let s = g.R.Reads.state c.args.space.now in
+    let late : high s.records format.index_file ≤ c.loop.counter = subst (λ (m : Meta). m.high ≤ c.loop.counter) c.meta-end.ensures (omega arith) in
+    subst (BlamesBroken s.records s.shape) (sym c.damaged.ensures) (late_breaks s d b c.loop.counter c.loop.at c.loop.named (c.loop.invariant.at tells d b h) c.if-at-2.true late)
+
+pub returns-in_err-rec-clause-names : goal.returns-in_err-rec-clause-names
+returns-in_err-rec-clause-names g c tells is =
+    let now = g.R.Reads.state c.loop.space in
+    same_has NamesIndexes c.from_residual.result c.in_err-rec.field-0.0 c.from_residual.ensures.1
+    (read_names now c.loop.at format.indexed c.loop.named c.in_err-rec.field-0.0 (c.loop.invariant.named_is is) (c.in_err-rec.ensures.damaged tells))
+
+pub returns-then-at-2-clause-names : goal.returns-then-at-2-clause-names
+returns-then-at-2-clause-names g c tells is = subst NamesIndexes (sym c.damaged.ensures) (inl refl)

@@ -1,18 +1,24 @@
 use Rattle.std.specs.Prelude.{Result, Ok, Err, OnOk}
-use Rattle.std.proofs.Common.{ℕ, sym, subst, arith}
+use Rattle.std.proofs.Common.{◌≡◌, ℕ, true, ◌-◌, ◌∙◌, ap, sym, subst, arith}
 use Rattle.rec_bytes.specs.Format as format
-use Rattle.rec_bytes.specs.Space.{SameButReads}
+use Rattle.rec_bytes.specs.Space.{SameButReads, State, meta_of}
 use Rattle.store_rules.specs.Hashes.{bucket_of}
-use Rattle.store_rules.specs.Indexes.{AreIndexed, without_entry}
+use Rattle.store_rules.specs.Indexes.{AreIndexed, Entry, without_entry}
 use Rattle.store_rules.specs.Views.{Records}
 use Rattle.prop_store.proofs.ReadCounts.{reads_same}
 use Rattle.prop_index.specs.Entering.{entry_of}
-use Rattle.prop_index.specs.Heads.{IsBucketSought}
-use Rattle.prop_index.specs.Leaving.{IsDropped}
+use Rattle.prop_store.specs.Fault.{BlamesBroken}
+use Rattle.prop_store.proofs.Exits.{same_has}
+use Rattle.prop_index.specs.Heads.{IfBucketMet, IsBucketSought}
+use Rattle.prop_index.proofs.IndexBlames.{blames_before, blames_reread, entry_begins, entry_reread, if_err}
+use Rattle.store_rules.specs.Graph.{indexes_of}
+use Rattle.prop_index.specs.Blaming.{NamesIndexes}
+use Rattle.prop_index.proofs.DefinitionsStay.{same_graph}
+use Rattle.prop_index.specs.Leaving.{IsDropped, IsNoneOf, SaysContent}
 use Rattle.prop_index.specs.declared.entry_row.Content.{Content}
 use Rattle.prop_index.proofs.Buckets.{bucket-chain, chain-reread, head-place, head-reread}
-use Rattle.prop_index.proofs.Changed.{left_in, unlisted_left}
-use Rattle.prop_index.proofs.Reread.{can_after, kept_after, same_records, room_after}
+use Rattle.prop_index.proofs.Changed.{left_in, none_wanted, unlisted_left}
+use Rattle.prop_index.proofs.Reread.{can_after, kept_after, same_records, same_then, room_after}
 use Rattle.prop_index.proofs.IndexTouches.{index_read, index_then}
 use Rattle.std.proofs.lemmas.Result.{err_from_is_err_and}
 use Rattle.prop_index.proofs.leaving.leave.Goals as goal
@@ -91,3 +97,142 @@ returns-clause-keeps g c tells wanted ix store =
     c.drop_entry.ensures.keeps tells xs (head-reread s now bucket same found.is.head)
     (chain-reread s now bucket.first xs same (bucket-chain s.records wanted ix c.args.label c.args.key c.hash_of-hash.result bucket found))
     (head-place s.records found.definition _ bucket found.is) (kept_after s now same store)
+
+pub returns-in_err-bucket-clause-damaged : goal.returns-in_err-bucket-clause-damaged
+returns-in_err-bucket-clause-damaged g c tells =
+    let s = g.S.Reads.state c.args.space.now in
+    same_has (BlamesBroken s.records s.shape) c.from_residual.result c.in_err-bucket.field-0.0 c.from_residual.ensures.1 (c.in_err-bucket.ensures.damaged tells)
+
+pub returns-in_err-bucket-clause-still : goal.returns-in_err-bucket-clause-still
+returns-in_err-bucket-clause-still g c tells =
+    let s = g.S.Reads.state c.args.space.now in
+    let now = g.S.Reads.state c.find_bucket.new.space in
+    same_has (BlamesBroken now.records now.shape) c.from_residual.result c.in_err-bucket.field-0.0 c.from_residual.ensures.1
+    (blames_reread s now c.in_err-bucket.field-0.0 (reads_same 18 s now c.find_bucket.ensures.at_most) (c.in_err-bucket.ensures.damaged tells))
+
+pub returns-clause-damaged : goal.returns-clause-damaged
+returns-clause-damaged g c tells =
+    let s = g.S.Reads.state c.args.space.now in
+    let now = g.S.Reads.state c.find_bucket.new.space in
+    let same : SameButReads s now = reads_same 18 s now c.in_ok-bucket.ensures.at_most in
+    let number = bucket_of c.hash_of-hash.result in
+    let met = subst (IfBucketMet s.records number) c.in-Some.is (c.in_ok-bucket.ensures.met tells) in
+    if_err c.drop_entry.result (λ fault is. blames_before s now fault same is)
+    (c.drop_entry.ensures.damaged tells met.definition number (entry_reread s now met.definition number 0 c.in-Some.bucket.first _ same (entry_begins s number c.in-Some.bucket met)))
+
+pub returns-clause-still : goal.returns-clause-still
+returns-clause-still g c tells =
+    let s = g.S.Reads.state c.args.space.now in
+    let now = g.S.Reads.state c.find_bucket.new.space in
+    let same : SameButReads s now = reads_same 18 s now c.in_ok-bucket.ensures.at_most in
+    let number = bucket_of c.hash_of-hash.result in
+    let met = subst (IfBucketMet s.records number) c.in-Some.is (c.in_ok-bucket.ensures.met tells) in
+    c.drop_entry.ensures.still tells met.definition number (entry_reread s now met.definition number 0 c.in-Some.bucket.first _ same (entry_begins s number c.in-Some.bucket met))
+
+pub returns-in_default-clause-counted : goal.returns-in_default-clause-counted
+returns-in_default-clause-counted g c tells =
+    let s = g.S.Reads.state c.args.space.now in
+    let now = g.S.Reads.state c.find_bucket.new.space in
+    let same : SameButReads s now = reads_same 18 s now c.in_ok-bucket.ensures.at_most in
+    let live = ap (λ (z : State). (meta_of z format.index_file).live) same in
+    omega (arith, live)
+
+pub returns-clause-counted : goal.returns-clause-counted
+returns-clause-counted g c tells =
+    let s = g.S.Reads.state c.args.space.now in
+    let now = g.S.Reads.state c.find_bucket.new.space in
+    let same : SameButReads s now = reads_same 18 s now c.in_ok-bucket.ensures.at_most in
+    let live = ap (λ (z : State). (meta_of z format.index_file).live) same in
+    on_ok c.drop_entry.result (λ less. omega (arith, live, less)) (c.drop_entry.ensures.counted tells)
+
+pub returns-in_default-clause-kept : goal.returns-in_default-clause-kept
+returns-in_default-clause-kept g c tells =
+    let s = g.S.Reads.state c.args.space.now in
+    let now = g.S.Reads.state c.find_bucket.new.space in
+    let same : SameButReads s now = reads_same 18 s now c.in_ok-bucket.ensures.at_most in
+    let live = ap (λ (z : State). (meta_of z format.index_file).live) same in
+    omega (arith, live)
+
+pub returns-clause-kept : goal.returns-clause-kept
+returns-clause-kept g c tells =
+    let s = g.S.Reads.state c.args.space.now in
+    let now = g.S.Reads.state c.find_bucket.new.space in
+    let same : SameButReads s now = reads_same 18 s now c.in_ok-bucket.ensures.at_most in
+    let live = ap (λ (z : State). (meta_of z format.index_file).live) same in
+    on_ok c.drop_entry.result (λ less. omega (arith, live, less)) (c.drop_entry.ensures.kept tells)
+
+pub returns-in_err-bucket-clause-names : goal.returns-in_err-bucket-clause-names
+returns-in_err-bucket-clause-names g c tells = same_has NamesIndexes c.from_residual.result c.in_err-bucket.field-0.0 c.from_residual.ensures.1 (c.in_err-bucket.ensures.names tells)
+
+pub returns-clause-names : goal.returns-clause-names
+returns-clause-names g c tells = c.drop_entry.ensures.names tells
+
+pub returns-in_default-clause-graph : goal.returns-in_default-clause-graph
+returns-in_default-clause-graph g c tells wanted free ix can =
+    let s = g.S.Reads.state c.args.space.now in
+    let now = g.S.Reads.state c.find_bucket.new.space in
+    same_graph s.records now.records (same_records s now (reads_same 18 s now c.in_ok-bucket.ensures.at_most))
+
+pub returns-clause-graph : goal.returns-clause-graph
+returns-clause-graph g c tells wanted free ix can =
+    let s = g.S.Reads.state c.args.space.now in
+    let now = g.S.Reads.state c.find_bucket.new.space in
+    let same : SameButReads s now = reads_same 18 s now c.in_ok-bucket.ensures.at_most in
+    let bucket = c.in-Some.bucket in
+    let found = subst (IsBucketSought s.records ix.definitions c.args.label c.args.key c.hash_of-hash.result) c.in-Some.is (c.in_ok-bucket.ensures.found tells wanted ix) in
+    let xs = ix.lists found.definition (bucket_of c.hash_of-hash.result) in
+    on_ok c.drop_entry.result (λ stays. stays ∙ ap indexes_of (same_records s now same))
+    (c.drop_entry.ensures.graph tells xs free (head-reread s now bucket same found.is.head)
+    (chain-reread s now bucket.first xs same (bucket-chain s.records wanted ix c.args.label c.args.key c.hash_of-hash.result bucket found))
+    (head-place s.records found.definition _ bucket found.is) (can_after s now free same can))
+
+pub returns-in_default-clause-gone : goal.returns-in_default-clause-gone
+returns-in_default-clause-gone g c tells wanted ix d listed pair there =
+    let s = g.S.Reads.state c.args.space.now in
+    absurd (subst (IsBucketSought s.records ix.definitions c.args.label c.args.key c.hash_of-hash.result) c.in_default.is (c.in_ok-bucket.ensures.found tells wanted ix) d listed pair)
+
+pub returns-clause-gone : goal.returns-clause-gone
+returns-clause-gone g c tells wanted ix d listed pair there =
+    let s = g.S.Reads.state c.args.space.now in
+    let now = g.S.Reads.state c.find_bucket.new.space in
+    let same : SameButReads s now = reads_same 18 s now c.in_ok-bucket.ensures.at_most in
+    let content : Content = record { node = c.args.node; hash = c.hash_of-hash.result } in
+    let one : Entry = record { label = c.args.label; key = c.args.key; node = c.args.node; hash = c.hash_of-hash.result } in
+    let bucket = c.in-Some.bucket in
+    let found = subst (IsBucketSought s.records ix.definitions c.args.label c.args.key c.hash_of-hash.result) c.in-Some.is (c.in_ok-bucket.ensures.found tells wanted ix) in
+    let xs = ix.lists found.definition (bucket_of c.hash_of-hash.result) in
+    let is : wanted one ≡ true
+    = ap (λ (h : ℕ). wanted (record { label = c.args.label; key = c.args.key; node = c.args.node; hash = h })) c.hash_of-hash.ensures ∙ there in
+    let has = ix.all found.definition one found.listed (sym found.pair.0) (sym found.pair.1) is in
+    let says : SaysContent s.records content has.id = (ap (λ (e : Entry). e.node) has.is, ap (λ (e : Entry). e.hash) has.is) in
+    on_ok c.drop_entry.result (λ less. less ∙ ap (λ (z : State). (meta_of z format.index_file).live - 1) same)
+    (c.drop_entry.ensures.gone tells xs (chain-reread s now bucket.first xs same (bucket-chain s.records wanted ix c.args.label c.args.key c.hash_of-hash.result bucket found))
+    has.id has.member (subst (λ (r : Records). SaysContent r content has.id) (sym (same_records s now same)) says))
+
+pub returns-in_default-clause-unlisted : goal.returns-in_default-clause-unlisted
+returns-in_default-clause-unlisted g c tells wanted ix none = reads_same 18 (g.S.Reads.state c.args.space.now) (g.S.Reads.state c.find_bucket.new.space) c.in_ok-bucket.ensures.at_most
+
+pub returns-clause-unlisted : goal.returns-clause-unlisted
+returns-clause-unlisted g c tells wanted ix none =
+    let s = g.S.Reads.state c.args.space.now in
+    let found = subst (IsBucketSought s.records ix.definitions c.args.label c.args.key c.hash_of-hash.result) c.in-Some.is (c.in_ok-bucket.ensures.found tells wanted ix) in
+    absurd (none found.definition found.listed found.pair)
+
+pub returns-in_default-clause-absent : goal.returns-in_default-clause-absent
+returns-in_default-clause-absent g c tells wanted ix unwanted = reads_same 18 (g.S.Reads.state c.args.space.now) (g.S.Reads.state c.find_bucket.new.space) c.in_ok-bucket.ensures.at_most
+
+pub returns-clause-absent : goal.returns-clause-absent
+returns-clause-absent g c tells wanted ix unwanted =
+    let s = g.S.Reads.state c.args.space.now in
+    let now = g.S.Reads.state c.find_bucket.new.space in
+    let t = g.S.Reads.state c.drop_entry.new.space in
+    let same : SameButReads s now = reads_same 18 s now c.in_ok-bucket.ensures.at_most in
+    let content : Content = record { node = c.args.node; hash = c.hash_of-hash.result } in
+    let hashed : (h : ℕ) → Entry = λ h. record { label = c.args.label; key = c.args.key; node = c.args.node; hash = h } in
+    let bucket = c.in-Some.bucket in
+    let found = subst (IsBucketSought s.records ix.definitions c.args.label c.args.key c.hash_of-hash.result) c.in-Some.is (c.in_ok-bucket.ensures.found tells wanted ix) in
+    let xs = ix.lists found.definition (bucket_of content.hash) in
+    on_ok c.drop_entry.result (λ stays. same_then s now t same stays)
+    (c.drop_entry.ensures.absent tells xs (chain-reread s now bucket.first xs same (bucket-chain s.records wanted ix c.args.label c.args.key content.hash bucket found))
+    (subst (λ (r : Records). IsNoneOf r xs content) (sym (same_records s now same))
+    (none_wanted s.records wanted ix c.args.label c.args.key content bucket found (ap (λ (h : ℕ). wanted (hashed h)) c.hash_of-hash.ensures ∙ unwanted))))

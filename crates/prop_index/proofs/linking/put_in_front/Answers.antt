@@ -7,11 +7,15 @@ use Rattle.rec_bytes.specs.Space.{State}
 use Rattle.store_rules.specs.IndexChange.{IsEntryMade}
 use Rattle.prop_index.proofs.LinkRules.{free_list}
 use Rattle.prop_index.proofs.MadeRules.{entry_made_kept}
-use Rattle.prop_index.proofs.IndexFull.{take-full}
+use Rattle.id_freelist.specs.TakeFault.{BlamesBroken, of_space}
+use Rattle.prop_index.proofs.IndexBlames.{space_names, space_take, take_has, take_names, take_reread}
+use Rattle.prop_index.proofs.IndexFull.{full-after, take-full}
 use Rattle.prop_index.proofs.IndexTouches.{meta_only, meta_then}
+use Rattle.prop_index.proofs.LiveCounts.{taken_live}
 use Rattle.prop_index.proofs.Made.{below_taken, made}
 use Rattle.prop_index.proofs.Steps.{linked-meta}
 use Rattle.std.proofs.lemmas.Result.{err_from_is_err_and}
+use Rattle.prop_index.specs.Blaming.{TakeNamesIndexes}
 use Rattle.prop_index.specs.Touching.{front_ids}
 use Rattle.prop_index.proofs.linking.put_in_front.Goals as goal
 
@@ -46,11 +50,14 @@ returns-clause-keeps g c tells store head right place known =
     t (c.in_ok-link.ensures.ok tells) shape
 
 pub returns-clause-counted : goal.returns-clause-counted
-returns-clause-counted g c tells free can =
+returns-clause-counted g c tells =
+    let s = g.S.Reads.state c.args.space.now in
     let u = g.S.Reads.state c.take.new.space in
     let bucket = c.args.bucket in
     ap (λ (z : State). (metas.meta_of (z.records (meta_key_of format.index_file))).live) (c.in_ok-link.ensures.ok tells)
-    ∙ ap (λ (r : Rec). (metas.meta_of r).live) (linked-meta u bucket.slot bucket.first c.in_ok-id.id c.args.content) ∙ (c.in_ok-id.ensures.taken tells free can.list).live
+    ∙ ap (λ (r : Rec). (metas.meta_of r).live) (linked-meta u bucket.slot bucket.first c.in_ok-id.id c.args.content)
+    ∙ ap (λ (z : State). (metas.meta_of (z.records (meta_key_of format.index_file))).live) (c.in_ok-id.ensures.ok tells)
+    ∙ taken_live s format.index_file (c.in_ok-id.ensures.undamaged tells) (subst (λ n. n < format.most_ids) c.in_ok-id.ensures.is c.in_ok-id.ensures.key.id)
 
 pub returns-clause-touched : goal.returns-clause-touched
 returns-clause-touched g c = meta_then (front_ids c.in_ok-id.id c.args.bucket.slot.id c.args.bucket.first) _ _ _ (record { writes = c.in_ok-id.ensures.writes; stays = c.in_ok-id.ensures.stays }) c.in_ok-link.ensures.touches
@@ -69,3 +76,40 @@ returns-in_err-id-clause-full g c tells =
     let s = g.S.Reads.state c.args.space.now in
     let p = err_from_is_err_and c.from_residual.result c.from_residual.ensures.1 in
     rw (p.1, p.2) (take-full s c.in_err-id.field-0.0 (c.in_err-id.ensures.refused tells))
+
+pub returns-in_err-id-clause-damaged : goal.returns-in_err-id-clause-damaged
+returns-in_err-id-clause-damaged g c tells =
+    let s = g.S.Reads.state c.args.space.now in
+    take_has (BlamesBroken s.records s.shape) c.from_residual.result c.in_err-id.field-0.0 c.from_residual.ensures.1 (c.in_err-id.ensures.damaged tells)
+
+pub returns-in_err-id-clause-still : goal.returns-in_err-id-clause-still
+returns-in_err-id-clause-still g c tells =
+    let s = g.S.Reads.state c.args.space.now in
+    let now = g.S.Reads.state c.take.new.space in
+    take_has (BlamesBroken now.records now.shape) c.from_residual.result c.in_err-id.field-0.0 c.from_residual.ensures.1 (take_reread s now c.in_err-id.field-0.0 c.in_err-id.ensures.err (c.in_err-id.ensures.damaged tells))
+
+pub returns-in_err-link-clause-damaged : goal.returns-in_err-link-clause-damaged
+returns-in_err-link-clause-damaged g c tells =
+    let s = g.S.Reads.state c.args.space.now in
+    space_take s.records s.shape c.from_residual-in_err-link.result c.in_err-link.field-0.0 c.from_residual-in_err-link.ensures.1
+
+pub returns-in_err-link-clause-still : goal.returns-in_err-link-clause-still
+returns-in_err-link-clause-still g c tells =
+    let t = g.S.Reads.state c.link.new.space in
+    space_take t.records t.shape c.from_residual-in_err-link.result c.in_err-link.field-0.0 c.from_residual-in_err-link.ensures.1
+
+pub returns-in_err-id-clause-names : goal.returns-in_err-id-clause-names
+returns-in_err-id-clause-names g c tells =
+    let s = g.S.Reads.state c.args.space.now in
+    take_has TakeNamesIndexes c.from_residual.result c.in_err-id.field-0.0 c.from_residual.ensures.1 (take_names s c.in_err-id.field-0.0 (c.in_err-id.ensures.refused tells))
+
+pub returns-in_err-link-clause-names : goal.returns-in_err-link-clause-names
+returns-in_err-link-clause-names g c tells =
+    take_has TakeNamesIndexes c.from_residual-in_err-link.result (of_space c.in_err-link.field-0.0) c.from_residual-in_err-link.ensures.1 (space_names c.in_err-link.field-0.0)
+
+pub returns-in_err-id-clause-crowded : goal.returns-in_err-id-clause-crowded
+returns-in_err-id-clause-crowded g c tells =
+    let s = g.S.Reads.state c.args.space.now in
+    let z = g.S.Reads.state c.take.new.space in
+    let p = err_from_is_err_and c.from_residual.result c.from_residual.ensures.1 in
+    rw (p.1, p.2) (full-after s z c.in_err-id.field-0.0 c.in_err-id.ensures.err (take-full s c.in_err-id.field-0.0 (c.in_err-id.ensures.refused tells)))

@@ -1,14 +1,18 @@
-use Rattle.std.proofs.Common.{◌≡◌, ◌+◌, ◌++◌, [], ◌∷◌, ℕ, map, length, arith, ap, sym, ◌∙◌, subst, length-append}
-use Rattle.std.proofs.lemmas.List.{map-append}
+use Rattle.std.proofs.Common.{inl, inr, refl, ◌≡◌, ◌+◌, ◌++◌, [], ◌∷◌, ℕ, map, length, arith, ap, sym, ◌∙◌, subst, length-append}
+use Rattle.std.proofs.lemmas.List.{length-map, map-append}
 use Rattle.std.proofs.lemmas.Result.{err_from_is_err_and}
 use Rattle.rec_bytes.specs.declared.record.Rec.{Rec}
 use Rattle.rec_bytes.specs.Format as format
 use Rattle.rec_bytes.specs.Record.{field}
 use Rattle.store_rules.specs.Chains.{IsWalk}
-use Rattle.store_rules.specs.Indexes.{index_rec, next_definition}
+use Rattle.store_rules.specs.Indexes.{first_definition, index_rec, next_definition}
 use Rattle.store_rules.specs.Views.{Records, kind_at}
 use Rattle.prop_store.proofs.ReadCounts.{reads_one, reads_records, reads_same, reads_then}
+use Rattle.prop_store.specs.Fault.{BlamesBroken}
+use Rattle.prop_store.proofs.Exits.{same_has}
+use Rattle.prop_index.specs.Blaming.{IsDefinitionAt, IsOfIndexes, NamesIndexes}
 use Rattle.prop_index.specs.Listing.{pair_of}
+use Rattle.prop_index.proofs.IndexBlames.{definition_begins, definition_blames, definition_goes_on, many_break, pairs_begin, pairs_end, pairs_go_on, read_fault_same, read_names}
 use Rattle.prop_index.proofs.Reread.{definitions_of, room_after}
 use Rattle.prop_index.proofs.Walks.{walk_begins, walk_here, walk_on, walk_over}
 use Rattle.prop_index.proofs.listing.indexes.Goals as goal
@@ -19,13 +23,17 @@ returns-in_err-meta-clause-at_most g c = reads_one 17 _ _ (omega arith) c.get.en
 pub loop-init : goal.loop-init
 loop-init g c =
     let s = g.R.Reads.state c.args.space.now in
+    let first_is : g.R.Reads.tells → c.number-at.result ≡ first_definition s.records
+    = λ tells. c.number-at.ensures ∙ ap (λ (r : Rec). field 4 r format.meta_definition) (c.in_ok-meta.ensures.got tells ∙ ap (λ k. s.records k) c.meta_key.ensures) in
     record {
       told = λ tells ds are. (
         [],
-        walk_begins _ ds c.number-at.result (subst (λ (n : ℕ). IsWalk (next_definition s.records) n ds)
-            (sym (c.number-at.ensures ∙ ap (λ (r : Rec). field 4 r format.meta_definition) (c.in_ok-meta.ensures.got tells ∙ ap (λ k. s.records k) c.meta_key.ensures))) are.walk),
+        walk_begins _ ds c.number-at.result (subst (λ (n : ℕ). IsWalk (next_definition s.records) n ds) (sym (first_is tells)) are.walk),
         c.new-pairs.ensures.items,
       );
+      named_is = inr (refl, refl);
+      at = λ tells. definition_begins s c.number-at.result (first_is tells);
+      met = λ tells. pairs_begin s.records c.number-at.result _ (first_is tells) c.new-pairs.ensures.items;
       few = ap length c.new-pairs.ensures.items;
       reads = reads_one 1 _ _ (omega arith) c.get.ensures.state;
       onward = c.get.ensures.onward;
@@ -56,16 +64,24 @@ loop-preserved g c =
     let s = g.R.Reads.state c.args.space.now in
     let now = g.R.Reads.state c.loop.space in
     let same = reads_records _ s now c.loop.invariant.reads in
+    let rec_is : g.R.Reads.tells → c.in_ok-rec.rec ≡ index_rec s.records c.loop.at = λ tells. c.in_ok-rec.ensures.got tells ∙ ap (λ (r : Records). index_rec r c.loop.at) same in
+    let used : g.R.Reads.tells → kind_at s.records format.index_file c.loop.at ≡ format.definition
+    = λ tells. ap (λ (r : Records). kind_at r format.index_file c.loop.at) (sym same) ∙ c.in_ok-rec.ensures.used tells in
+    let next_is : g.R.Reads.tells → c.number-at-in-loop.result ≡ next_definition s.records c.loop.at
+    = λ tells. c.number-at-in-loop.ensures ∙ ap (λ (r : Rec). field 4 r format.definition_next) (rec_is tells) in
+    let pair_is : g.R.Reads.tells → record { label = c.number-label.result; key = c.number-key.result } ≡ pair_of s.records c.loop.at
+    = λ tells. λ i. record { label = (c.number-label.ensures ∙ ap (λ (r : Rec). field 4 r format.definition_label) (rec_is tells)) i; key = (c.number-key.ensures ∙ ap (λ (r : Rec). field 4 r format.definition_key) (rec_is tells)) i } in
     record {
       told = λ tells ds are.
-          let told = c.loop.invariant.told tells ds are in
-          let rec_is : c.in_ok-rec.rec ≡ index_rec s.records c.loop.at = c.in_ok-rec.ensures.got tells ∙ ap (λ (r : Records). index_rec r c.loop.at) same in
-          let pair : record { label = c.number-label.result; key = c.number-key.result } ≡ pair_of s.records c.loop.at
-          = λ i. record { label = (c.number-label.ensures ∙ ap (λ (r : Rec). field 4 r format.definition_label) rec_is) i; key = (c.number-key.ensures ∙ ap (λ (r : Rec). field 4 r format.definition_key) rec_is) i } in (
+          let told = c.loop.invariant.told tells ds are in (
             told.0 ++ c.loop.at ∷ [],
-            walk_on _ ds c.loop.at told.0 told.1 c.number-at-in-loop.result c.if-at.false (c.number-at-in-loop.ensures ∙ ap (λ (r : Rec). field 4 r format.definition_next) rec_is),
-            c.in_ok-push.ensures.items ∙ (λ i. told.2 i ++ pair i ∷ []) ∙ sym (map-append (pair_of s.records) told.0 (c.loop.at ∷ [])),
+            walk_on _ ds c.loop.at told.0 told.1 c.number-at-in-loop.result c.if-at.false (next_is tells),
+            c.in_ok-push.ensures.items ∙ (λ i. told.2 i ++ pair_is tells i ∷ []) ∙ sym (map-append (pair_of s.records) told.0 (c.loop.at ∷ [])),
           );
+      named_is = subst IsOfIndexes (sym c.out_of_range-named.ensures) (inl refl);
+      at = λ tells. subst (IsDefinitionAt s c.number-at-in-loop.result) (sym c.out_of_range-named.ensures)
+          (definition_goes_on s c.loop.at c.loop.named (c.loop.invariant.at tells) c.if-at.false c.number-at-in-loop.result (used tells) (next_is tells));
+      met = λ tells. pairs_go_on s.records c.loop.at c.number-at-in-loop.result c.loop.pairs.items _ _ (c.loop.invariant.met tells) c.if-at.false (used tells) (next_is tells) c.in_ok-push.ensures.items (pair_is tells);
       few = ap length c.in_ok-push.ensures.items ∙ length-append c.loop.pairs.items _ ∙ ap (λ n. n + 1) c.loop.invariant.few;
       reads = reads_then _ 1 _ _ _ _ (omega arith) c.loop.invariant.reads c.in_ok-rec.ensures.at_most;
       onward = g.met.R.Reads.further_onward _ _ _ c.loop.invariant.onward c.in_ok-rec.ensures.onward;
@@ -80,3 +96,39 @@ returns-clause-listed g c tells wanted ix =
 
 pub returns-in_err-push-clause-at_most : goal.returns-in_err-push-clause-at_most
 returns-in_err-push-clause-at_most g c = reads_then _ 1 17 _ _ _ (omega arith) c.loop.invariant.reads c.in_ok-rec.ensures.at_most
+
+pub returns-then-at-clause-walked : goal.returns-then-at-clause-walked
+returns-then-at-clause-walked g c tells =
+    let s = g.R.Reads.state c.args.space.now in
+    pairs_end s.records c.loop.at c.loop.pairs.items (c.loop.invariant.met tells) c.if-at.true
+
+pub returns-clause-walked : goal.returns-clause-walked
+returns-clause-walked g c tells =
+    let s = g.R.Reads.state c.args.space.now in
+    pairs_end s.records c.loop.at c.loop.pairs.items (c.loop.invariant.met tells) c.if-at-2.false
+
+pub returns-in_err-rec-clause-damaged : goal.returns-in_err-rec-clause-damaged
+returns-in_err-rec-clause-damaged g c tells =
+    let s = g.R.Reads.state c.args.space.now in
+    let now = g.R.Reads.state c.loop.space in
+    same_has (BlamesBroken s.records s.shape) c.from_residual-in_err-rec.result c.in_err-rec.field-0.0 c.from_residual-in_err-rec.ensures.1
+    (definition_blames s c.loop.at c.loop.named (c.loop.invariant.at tells) c.if-at.false c.in_err-rec.field-0.0
+    (read_fault_same s now c.loop.at format.definition c.loop.named (reads_same _ s now c.loop.invariant.reads) c.in_err-rec.field-0.0 (c.in_err-rec.ensures.damaged tells)))
+
+pub returns-then-at-2-clause-damaged : goal.returns-then-at-2-clause-damaged
+returns-then-at-2-clause-damaged g c tells =
+    let s = g.R.Reads.state c.args.space.now in
+    subst (BlamesBroken s.records s.shape) (sym c.damaged.ensures) (many_break s (λ has.
+    let told = c.loop.invariant.told tells has.members has.list in
+    let here = walk_here _ has.members c.loop.at told.0 told.1 c.if-at-2.true in
+    let passed : length told.0 ≡ 16 = sym (ap length told.2 ∙ length-map told.0 (pair_of s.records)) ∙ c.loop.invariant.few ∙ omega arith in
+    omega (arith, here.1, passed, has.list.few)))
+
+pub returns-in_err-rec-clause-names : goal.returns-in_err-rec-clause-names
+returns-in_err-rec-clause-names g c tells =
+    let now = g.R.Reads.state c.loop.space in
+    same_has NamesIndexes c.from_residual-in_err-rec.result c.in_err-rec.field-0.0 c.from_residual-in_err-rec.ensures.1
+    (read_names now c.loop.at format.definition c.loop.named c.in_err-rec.field-0.0 c.loop.invariant.named_is (c.in_err-rec.ensures.damaged tells))
+
+pub returns-then-at-2-clause-names : goal.returns-then-at-2-clause-names
+returns-then-at-2-clause-names g c tells = subst NamesIndexes (sym c.damaged.ensures) (inr (refl, refl))

@@ -2,7 +2,9 @@ use Rattle.std.proofs.Common.{◌≡◌, ◌≤◌, ◌+◌, List, ℕ, length, 
 use Rattle.store_rules.specs.Indexes.{next_definition}
 use Rattle.prop_store.specs.Reading.{ReadsAtMost}
 use Rattle.store_rules.specs.IndexBreaking.{AreDefinitions}
+use Rattle.prop_index.specs.Blaming.{IsDefinitionAt, IsOfIndexes}
 use Rattle.prop_index.specs.Listing.{pair_of}
+use Rattle.prop_index.proofs.IndexBlames.{ArePairsPast}
 use Rattle.prop_index.proofs.Walks.{IsWalked}
 use Rattle.prop_index.proofs.listing.indexes.Given as goal
 
@@ -12,6 +14,9 @@ invariant-loop g l =
     record {
       told : g.R.Reads.tells → (ds : List ℕ) → AreDefinitions old.records ds
           → (passed : List ℕ) × IsWalked (next_definition old.records) ds l.at passed × (l.pairs.items ≡ map (pair_of old.records) passed);
+      named_is : IsOfIndexes l.named;
+      at : g.R.Reads.tells → IsDefinitionAt old l.at l.named;
+      met : g.R.Reads.tells → ArePairsPast old.records l.at l.pairs.items;
       few : length l.pairs.items ≡ l.counter;
       reads : ReadsAtMost (1 + l.counter) old (g.R.Reads.state l.space);
       onward : g.R.Reads.onward l.fn.space l.space;

@@ -1,4 +1,9 @@
-use Rattle.std.proofs.Common.{ap, sym, ◌∙◌, length, arith}
+use Rattle.std.specs.List.{Contains}
+use Rattle.std.proofs.lemmas.Result.{err_from_is_err_and}
+use Rattle.prop_index.specs.Making.{pair_is}
+use Rattle.prop_index.specs.declared.listing.IndexPair.{IndexPair}
+use Rattle.prop_index.proofs.Counting.{pair_read, read_make}
+use Rattle.std.proofs.Common.{List, subst, ap, sym, ◌∙◌, length, arith}
 use Rattle.std.proofs.lemmas.Bool.{true≢false}
 use Rattle.std.proofs.lemmas.List.{length-map}
 use Rattle.prop_index.specs.Listing.{pair_of}
@@ -38,3 +43,29 @@ returns-clause-may g c tells wanted ix =
       lacked = lacks_listed s.records ix.definitions c.deref.result.now c.args.label c.args.key (c.deref.ensures.value ∙ listed) (λ is. true≢false (sym (c.has_pair.ensures.1 is) ∙ c.if-has_pair.false));
       few = omega (arith, long, test, len);
     }
+
+pub returns-in_err-pairs-clause-caused : goal.returns-in_err-pairs-clause-caused
+returns-in_err-pairs-clause-caused g c tells =
+    let s = g.R.Reads.state c.args.space.now in
+    let p = err_from_is_err_and c.from_residual.result c.from_residual.ensures.1 in
+    rw (p.1, p.2) (pair_read s.records c.args.label c.args.key c.in_err-pairs.field-0.0)
+
+pub returns-then-has_pair-clause-caused : goal.returns-then-has_pair-clause-caused
+returns-then-has_pair-clause-caused g c tells = record {
+  pairs = c.in_ok-pairs.pairs.items;
+  met = c.in_ok-pairs.ensures.walked tells;
+  there = subst (λ (xs : List IndexPair). Contains xs (pair_is c.args.label c.args.key)) c.deref.ensures.value (c.has_pair.ensures.0 c.if-has_pair.true);
+}
+
+pub returns-then-len-clause-caused : goal.returns-then-len-clause-caused
+returns-then-len-clause-caused g c tells =
+    let few = c.in_ok-pairs.ensures.few in
+    let test = c.if-len.true in
+    let len = c.len.ensures in
+    record { pairs = c.in_ok-pairs.pairs.items; met = c.in_ok-pairs.ensures.walked tells; many = omega (arith, few, test, len) }
+
+pub returns-in_err-pairs-clause-damaged : goal.returns-in_err-pairs-clause-damaged
+returns-in_err-pairs-clause-damaged g c tells =
+    let s = g.R.Reads.state c.args.space.now in
+    let p = err_from_is_err_and c.from_residual.result c.from_residual.ensures.1 in
+    rw (p.1, p.2) (read_make s.records s.shape c.in_err-pairs.field-0.0 (c.in_err-pairs.ensures.damaged tells))

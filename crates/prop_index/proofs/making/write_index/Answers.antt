@@ -6,6 +6,10 @@ use Rattle.rec_bytes.specs.RecordFiles.{room_of}
 use Rattle.prop_index.specs.Filling.{AreFillable, IsFilled}
 use Rattle.prop_index.proofs.ContentsWanted.{contents_fillable}
 use Rattle.prop_index.proofs.IndexMade.{before, empty_index, index_more, index_written, ix_defined, written_touches}
+use Rattle.prop_index.specs.Defining.{HasLeft}
+use Rattle.prop_index.specs.Entering.{IsNotFull}
+use Rattle.prop_index.proofs.Counting.{counts_left}
+use Rattle.prop_index.proofs.IndexBlames.{take_has}
 use Rattle.prop_index.proofs.making.write_index.Goals as goal
 
 on_ok : {T E : Type 0} {P Q : Type 0} (r : Result T E) → (P → Q) → OnOk r P → OnOk r Q
@@ -13,12 +17,12 @@ on_ok (Ok x) f p = f p
 on_ok (Err e) f p = tt
 
 pub returns-clause-written : goal.returns-clause-written
-returns-clause-written g c tells was may contents_are =
+returns-clause-written g c tells was named may contents_are =
     let s = g.S.Reads.state c.args.space.now in
     let m = g.S.Reads.state c.define.new.space in
     let t = g.S.Reads.state c.fill.new.space in
     let definition = c.in_ok-definition.definition in
-    let added = c.in_ok-definition.ensures.added tells was.rules in
+    let added = c.in_ok-definition.ensures.added tells was.store named in
     let ix = ix_defined s m c.args.label c.args.key definition was may added in
     let fillable = subst (AreFillable m.records) (sym contents_are) (contents_fillable s.records m.records c.args.label c.args.key added.others) in
     on_ok c.fill.result
@@ -27,16 +31,16 @@ returns-clause-written g c tells was may contents_are =
     (c.fill.ensures.filled tells (before s m c.args.label c.args.key definition was may added) ix c.args.label c.args.key (empty_index s m c.args.label c.args.key definition was may added) fillable added.kept)
 
 pub returns-in_err-definition-clause-mishap : goal.returns-in_err-definition-clause-mishap
-returns-in_err-definition-clause-mishap g c tells was may contents_are left =
+returns-in_err-definition-clause-mishap g c tells was named may contents_are left =
     let p = err_from_is_err_and c.from_residual.result c.from_residual.ensures.1 in
-    rw (p.1, p.2) (c.in_err-definition.ensures.mishap tells was.rules (omega (arith, left)))
+    rw (p.1, p.2) (c.in_err-definition.ensures.mishap tells was.store (omega (arith, left)))
 
 pub returns-clause-mishap : goal.returns-clause-mishap
-returns-clause-mishap g c tells was may contents_are left =
+returns-clause-mishap g c tells was named may contents_are left =
     let s = g.S.Reads.state c.args.space.now in
     let m = g.S.Reads.state c.define.new.space in
     let definition = c.in_ok-definition.definition in
-    let added = c.in_ok-definition.ensures.added tells was.rules in
+    let added = c.in_ok-definition.ensures.added tells was.store named in
     let ix = ix_defined s m c.args.label c.args.key definition was may added in
     let fillable = subst (AreFillable m.records) (sym contents_are) (contents_fillable s.records m.records c.args.label c.args.key added.others) in
     let live = added.live in
@@ -49,3 +53,15 @@ returns-in_err-definition-clause-touches g c = index_more 13 (13 + length c.args
 
 pub returns-clause-touches : goal.returns-clause-touches
 returns-clause-touches g c = written_touches _ _ _ c.in_ok-definition.definition (length c.args.contents.now) c.in_ok-definition.ensures.touched c.fill.ensures.touches
+
+pub returns-in_err-definition-clause-roomy : goal.returns-in_err-definition-clause-roomy
+returns-in_err-definition-clause-roomy g c tells left =
+    let s = g.S.Reads.state c.args.space.now in
+    let fewer : HasLeft s 13 = omega (arith, left) in
+    take_has IsNotFull c.from_residual.result c.in_err-definition.field-0.0 c.from_residual.ensures.1 (c.in_err-definition.ensures.roomy tells fewer)
+
+pub returns-clause-roomy : goal.returns-clause-roomy
+returns-clause-roomy g c tells left =
+    let s = g.S.Reads.state c.args.space.now in
+    let m = g.S.Reads.state c.define.new.space in
+    c.fill.ensures.roomy tells (counts_left s m 13 (length c.args.contents.now) (13 + length c.args.contents.now) (c.in_ok-definition.ensures.counted tells) (omega arith) left)

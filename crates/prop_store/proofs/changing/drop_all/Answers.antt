@@ -124,7 +124,6 @@ returns-in_err-first-clause-damaged g c tells used =
 pub returns-in_err-dropped-clause-damaged : goal.returns-in_err-dropped-clause-damaged
 returns-in_err-dropped-clause-damaged g c tells used =
     let s = g.S.Reads.state c.args.space.now in
-    let z = g.S.Reads.state c.first.new.space in
     let fault = c.in_err-dropped.field-0.0 in
     let said : IsInUse s.records c.args.owner → c.in_ok-first.first ≡ first_of s.records c.args.owner → BlamesDropped s.records s.shape fault
     = subst (λ (y : State). IsInUse y.records c.args.owner → c.in_ok-first.first ≡ first_of y.records c.args.owner → BlamesDropped y.records y.shape fault) c.first.ensures.state (c.in_err-dropped.ensures.damaged tells) in

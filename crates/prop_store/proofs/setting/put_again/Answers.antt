@@ -158,7 +158,6 @@ returns-in_err-blocks-clause-still g c tells read =
 
 pub returns-in_err-test_free-clause-still : goal.returns-in_err-test_free-clause-still
 returns-in_err-test_free-clause-still g c tells read =
-    let s = g.S.Reads.state c.args.space.now in
     let t = g.S.Reads.state c.value_blocks.new.space in
     let fault = c.in_err-test_free.field-0.0 in
     set_has (BlamesStill t) c.from_residual-in_err-test_free.result _ c.from_residual-in_err-test_free.ensures.1

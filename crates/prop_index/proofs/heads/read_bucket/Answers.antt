@@ -1,0 +1,29 @@
+use Rattle.std.proofs.Common.{◌≡◌, ◌/◌, ◌+◌, ◌*◌, ap, ◌∙◌, inl, refl, sym, subst, arith}
+use Rattle.rec_bytes.specs.declared.record.Rec.{Rec}
+use Rattle.rec_bytes.specs.Format as format
+use Rattle.rec_bytes.specs.Record.{field}
+use Rattle.store_rules.specs.Indexes.{heads_of}
+use Rattle.prop_store.specs.Fault.{BlamesBroken}
+use Rattle.prop_store.proofs.Exits.{same_has}
+use Rattle.prop_index.specs.Blaming.{IsOfIndexes, NamesIndexes}
+use Rattle.prop_index.specs.Reading.{IsReadFault}
+use Rattle.prop_index.proofs.IndexBlames.{heads_blames, read_names}
+use Rattle.prop_index.proofs.heads.read_bucket.Goals as goal
+
+pub returns-in_err-rec-clause-damaged : goal.returns-in_err-rec-clause-damaged
+returns-in_err-rec-clause-damaged g c tells rec_is leads used =
+    let s = g.R.Reads.state c.args.space.now in
+    let d = c.args.definition.now.id in
+    let fault = c.in_err-rec.field-0.0 in
+    let id_is : c.slot_of-slot.result.id ≡ heads_of s.records d (c.args.number / 15)
+    = c.slot_of-slot.ensures.is.id_is ∙ ap (λ (r : Rec). field 4 r (format.definition_heads + 4 * (c.args.number / 15))) rec_is in
+    same_has (BlamesBroken s.records s.shape) c.from_residual.result fault c.from_residual.ensures.1
+    (heads_blames s d (c.args.number / 15) c.slot_of-slot.result.id leads used (omega arith) id_is fault
+    (subst (λ named. IsReadFault s c.slot_of-slot.result.id format.heads named fault) c.out_of_range.ensures (c.in_err-rec.ensures.damaged tells)))
+
+pub returns-in_err-rec-clause-names : goal.returns-in_err-rec-clause-names
+returns-in_err-rec-clause-names g c tells =
+    let s = g.R.Reads.state c.args.space.now in
+    let fault = c.in_err-rec.field-0.0 in
+    same_has NamesIndexes c.from_residual.result fault c.from_residual.ensures.1
+    (read_names s c.slot_of-slot.result.id format.heads c.out_of_range.result fault (subst IsOfIndexes (sym c.out_of_range.ensures) (inl refl)) (c.in_err-rec.ensures.damaged tells))
