@@ -2,15 +2,20 @@
 use Rattle.std.proofs.Common.{◌≡◌, ℕ, true, false, List, map, sym, ap, ◌∙◌, subst, Option, None, Some, refl}
 use Rattle.std.proofs.lemmas.Bool.{true≢false}
 use Rattle.rec_bytes.specs.declared.damage.Damage.{Damage}
+use Rattle.rec_bytes.specs.declared.shape.Shape.{Shape}
 use Rattle.rec_bytes.specs.Format as format
+use Rattle.record_lists.specs.Deciding.{DecidesRule}
+use Rattle.record_lists.proofs.DecidingLaws.{breaks_by as breaks_rule}
 use Rattle.store_rules.specs.Breaking.{damage}
+use Rattle.store_rules.specs.Breaking.Breaks.{WrongIndex}
 use Rattle.store_rules.specs.Chains.{In}
 use Rattle.store_rules.specs.IndexBreaking.{IndexBreaks, IsInBucket}
 use Rattle.store_rules.specs.IndexBreaking.IndexBreaks.{WrongDefinition, WrongEntry, WrongNode}
 use Rattle.store_rules.specs.Indexes.{AreIndexed, entry_in, entry_node, indexed_key, indexed_label, node_value, wanted_in}
 use Rattle.store_rules.specs.Properties.{AreOnce}
 use Rattle.store_rules.specs.Views.{Records}
-use Rattle.store_rules.proofs.IndexParts.{bucket_same, not_indexed}
+use Rattle.store_rules.proofs.IndexBreaches.{not_indexed}
+use Rattle.store_rules.proofs.IndexParts.{bucket_same}
 use Rattle.index_check.specs.Entries.{AreEntriesTo, LacksBucket}
 use Rattle.index_check.specs.Indexing.{BreaksIndexRule, DecidesIndexRule, IsGiven, IsRight}
 use Rattle.index_check.specs.Nodes.{AreNodesRight, IsTwice, IsWrongNode, said_by}
@@ -75,6 +80,11 @@ module _ (records : Records) (d : Definition) (given : IsGiven records d) where
             record { bucket = at.0; entry = r.0; there = at.1; node = r.2 };
         once = λ b x c y at too same. once_apart (entry_node records) entries (subst AreOnce nodes_are right.once) x y (entry_of_bucket b x at) (entry_of_bucket c y too) same;
       }
+
+-- the decision is one of a rule of the store
+pub decides : (records : Records) (shape : Shape) (found : Option Damage) → DecidesIndexRule records found → DecidesRule records shape 8 found
+decides records shape None h = h
+decides records shape (Some d) h = breaks_rule records shape 8 d d refl h.rule_is (rw h.rule_is refl) (WrongIndex d h.breaks)
 
 -- where the rule is kept, no record is named
 pub never_broken : (records : Records) (found : Option Damage) → DecidesIndexRule records found → AreIndexed records (wanted_in records) → found ≡ None

@@ -8,8 +8,7 @@ use Rattle.rec_bytes.specs.declared.shape.Shape.{Shape}
 use Rattle.store_rules.specs.Indexes.{listed_from, node_value, row_value, value_in}
 use Rattle.store_rules.specs.Properties.{property_records}
 use Rattle.store_rules.specs.Ranges.{AreInRange}
-use Rattle.store_rules.specs.RuleList.{KeepsButIndex}
-use Rattle.store_rules.specs.RuleList.Rule.{Ranges}
+use Rattle.store_rules.specs.Rules.{IsWellFormed}
 use Rattle.store_rules.specs.Views.{NodeRow, Records, high, kind_at, node_in, rec_at}
 use Rattle.store_rules.proofs.NumberLaws.{eq_false, eq_true}
 use Rattle.store_rules.proofs.Shapes.{high_most}
@@ -21,7 +20,6 @@ use Rattle.prop_store.specs.Reading.{properties_met}
 use Rattle.prop_store.proofs.ElementChanges.{has_properties}
 use Rattle.prop_store.proofs.ElementGraphs.{listed_at, owns_listed}
 use Rattle.prop_index.specs.Gathering.{node_owner}
-use Rattle.prop_index.proofs.Unindexed.{bare, bare_well}
 use Rattle.prop_index.proofs.Values.{value_in-is}
 use Rattle.index_check.specs.Values.{AreReadable}
 
@@ -51,16 +49,15 @@ module _ (records : Records) (label key n : ℕ) where
   pub value_low : (value : Value) → node_value records label key n ≡ Some value → n < high records format.nodes_file
   value_low value is = kind_below (high records format.nodes_file) (rec_at records format.nodes_file n) n (λ z. let none : None ≡ Some value = sym (value_free z) ∙ is in cc)
 
--- the rules but the eighth let properties be read
-pub readable_of : (records : Records) (shape : Shape) → KeepsButIndex records shape → AreReadable records
-readable_of records shape rules n some =
-    let ranges : AreInRange records shape = rules Ranges refl in
+-- the properties of a store's nodes can be read
+pub readable_of : (records : Records) (shape : Shape) → IsWellFormed records shape → AreReadable records
+readable_of records shape store n some =
+    let ranges : AreInRange records shape = store.ranges in
     let low : n < high records format.nodes_file = kind_below (high records format.nodes_file) (rec_at records format.nodes_file n) n some in
     let most = high_most records shape format.nodes_file ranges refl in
     let is : IsOwner (node_owner n) = record { key = record { file = refl; id = omega arith }; file = inl refl; place = refl } in
-    -- the index is none of the files that are read
-    let apart : State = record { records = bare records; written = λ _. false; reads = 0; shape = shape } in
-    let has : HasElement apart (node_owner n) = record { store = bare_well records shape rules; used = some } in
-    let es = listed_at apart (node_owner n) is has in
-    let owned = has_properties apart (node_owner n) es (owns_listed apart (node_owner n) is has) in
+    let state : State = record { records = records; written = λ _. false; reads = 0; shape = shape } in
+    let has : HasElement state (node_owner n) = record { store = store; used = some } in
+    let es = listed_at state (node_owner n) is has in
+    let owned = has_properties state (node_owner n) es (owns_listed state (node_owner n) is has) in
     (es, record { are = owned.are; ids_low = owned.ids_low; blocks_low = owned.blocks_low })

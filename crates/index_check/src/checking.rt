@@ -5,12 +5,12 @@ ghost use Rattle.std.specs.List.{All};
 ghost use Rattle.rec_bytes.specs.Fault.{HasFaultCause, NotDamaged};
 ghost use Rattle.rec_bytes.specs.Format.{index_file, most_ids};
 ghost use Rattle.rec_bytes.specs.Space.{HasCause};
-ghost use Rattle.record_lists.specs.Deciding.{AreMarksLow};
+ghost use Rattle.record_lists.specs.Deciding.{AreMarksLow, DecidesRule};
 ghost use Rattle.record_lists.specs.Marks.{is_among, marked};
 ghost use Rattle.store_rules.specs.Chains.{In};
 ghost use Rattle.store_rules.specs.IndexBreaking.{AreDefinitions};
 ghost use Rattle.store_rules.specs.Indexes.{AreIndexed, wanted_in};
-ghost use Rattle.store_rules.specs.RuleList.{KeepsButIndex};
+ghost use Rattle.store_rules.specs.Rules.{IsWellFormed};
 ghost use Rattle.store_rules.specs.Views.{high};
 ghost use Rattle.index_check.specs.Definitions.{definition_at};
 ghost use Rattle.index_check.specs.Indexing.{
@@ -223,8 +223,9 @@ fn decide<R: Reads>(alloc: Global, space: &mut R) -> Result<Option<Damage>, Faul
 pub fn check_indexes<R: Reads>(alloc: Global, space: &mut R) -> Result<Option<Damage>, SpaceFault>
     requires low { AreMarksLow (R.state space.old).records }
     requires rules { R.tells
-        → KeepsButIndex (R.state space.old).records (R.state space.old).shape }
-    ensures decided { R.tells → IfOk result (DecidesIndexRule (R.state space.old).records) }
+        → IsWellFormed (R.state space.old).records (R.state space.old).shape }
+    ensures decided { R.tells → IfOk result
+        (DecidesRule (R.state space.old).records (R.state space.old).shape 8) }
     ensures only { R.tells → AreIndexed (R.state space.old).records
         (wanted_in (R.state space.old).records) → IfOk result (λ found. found ≡ None) }
     ensures same { (R.state space.new).records ≡ (R.state space.old).records }

@@ -1,10 +1,9 @@
 //! All entries of an index.
 
-ghost use Rattle.std.specs.Prelude.{◌≡◌, ◌<◌, ◌≤◌, IfNone, IfOk, IfSome, List, ℕ};
+ghost use Rattle.std.specs.Prelude.{◌≡◌, ◌<◌, ◌≤◌, IfNone, IfOk, IfSome};
 ghost use Rattle.std.specs.List.{All};
 ghost use Rattle.rec_bytes.specs.Format.{index_file, most_ids};
 ghost use Rattle.rec_bytes.specs.Space.{HasCause};
-ghost use Rattle.store_rules.specs.IndexBreaking.{IsBucketList};
 ghost use Rattle.store_rules.specs.Views.{high};
 ghost use Rattle.index_check.specs.Entries.{AreEntriesTo, LacksBucket};
 

@@ -2,13 +2,12 @@
 //! entries, and each node of the label with the key has one.
 
 ghost use Rattle.std.specs.Prelude.{◌≡◌, ◌<◌, ◌≤◌, IfNone, IfOk, IfSome, false, length, true, ℕ};
-ghost use Rattle.std.specs.Prelude.{map};
 ghost use Rattle.std.specs.Bool.{Decides};
 ghost use Rattle.std.specs.List.{All};
 ghost use Rattle.rec_bytes.specs.Fault.{HasFaultCause, NotDamaged};
 ghost use Rattle.rec_bytes.specs.Format.{most_ids, nodes_file};
 ghost use Rattle.record_lists.specs.Marks.{is_among, marked};
-ghost use Rattle.store_rules.specs.Indexes.{entry_node, wanted_in};
+ghost use Rattle.store_rules.specs.Indexes.{wanted_in};
 ghost use Rattle.store_rules.specs.Properties.{AreOnce};
 ghost use Rattle.store_rules.specs.Views.{high};
 ghost use Rattle.index_check.specs.Nodes.{

@@ -1,18 +1,20 @@
 -- A record that breaks a rule shows that the store doesn't keep it, and the rules together are a
--- well-formed store.
-use Rattle.std.proofs.Common.{ℕ, ◌≤◌, List, arith, refl}
+-- store with its indexes.
+use Rattle.std.proofs.Common.{ℕ, ◌≤◌, List, arith, refl, subst, sym}
 use Rattle.rec_bytes.specs.declared.damage.Damage.{Damage}
 use Rattle.rec_bytes.specs.declared.shape.Shape.{Shape}
 use Rattle.rec_bytes.specs.Format as format
+use Rattle.store_rules.specs.Indexes.{IsIndexed}
 use Rattle.store_rules.specs.Rules as rules
 use Rattle.store_rules.specs.Views.{Records, is_live}
 use Rattle.store_rules.specs.Breaking.{Breaks, HasFreeList, Keeps}
-use Rattle.store_rules.specs.Breaking.Breaks.{FreeList, GroupChains, GroupOwner, NameCount, NodeChain, OffFreeList, OwnRecord, OwnerGroups, RecordRange, RelEnds, UsedIndex, WrongBlock, WrongDegree, WrongElement, WrongHolding, WrongMeta, WrongName, WrongText}
+use Rattle.store_rules.specs.Breaking.Breaks.{FreeList, GroupChains, GroupOwner, NameCount, NodeChain, OffFreeList, OwnRecord, OwnerGroups, RecordRange, RelEnds, WrongBlock, WrongDegree, WrongElement, WrongHolding, WrongIndex, WrongMeta, WrongName, WrongText}
 use Rattle.store_check.proofs.ElementLaws.{label_kept}
 use Rattle.store_check.proofs.FileLaws.{metas_right}
 use Rattle.chain_check.proofs.GroupChainLaws.{member_keeps, owner_keeps}
 use Rattle.store_check.proofs.HoldingRule.{block_kept, element_list, held_kept, text_kept}
 use Rattle.store_rules.proofs.ChainRules.{chained_of, linked_of}
+use Rattle.store_rules.proofs.IndexBreaches.{index_rule, not_indexed}
 use Rattle.record_lists.specs.Deciding.{IsSpokenOf}
 use Rattle.store_check.proofs.NameLaws.{name_keeps}
 
@@ -40,11 +42,11 @@ module _ (records : Records) (shape : Shape) where
   not_kept d (WrongBlock b bad) spoken k = bad (block_kept records k b)
   not_kept d (WrongName x lt bad) spoken k = bad (name_keeps records k x lt)
   not_kept d (WrongDegree n lt bad) spoken k = bad (record { exact = λ live. k.each n live; few = λ is. k.few n is })
-  not_kept d (UsedIndex x lt bad) spoken k = bad (k x)
+  not_kept d (WrongIndex e bad) spoken k = not_indexed records e bad (subst (λ n. Keeps records shape n) (index_rule records e bad) k)
 
-  -- ---- all rules
+  -- ---- the rules together
 
-  pub is_store : ((n : ℕ) → 1 ≤ n → n ≤ 8 → Keeps records shape n) → rules.IsWellFormed records shape
+  pub is_store : ((n : ℕ) → 1 ≤ n → n ≤ 7 → Keeps records shape n) → rules.IsWellFormed records shape
   is_store all =
       let ranges : Keeps records shape 1 = all 1 (omega arith) (omega arith) in
       let split : Keeps records shape 2 = all 2 (omega arith) (omega arith) in
@@ -53,7 +55,6 @@ module _ (records : Records) (shape : Shape) where
       let properties : Keeps records shape 5 = all 5 (omega arith) (omega arith) in
       let names : Keeps records shape 6 = all 6 (omega arith) (omega arith) in
       let degrees : Keeps records shape 7 = all 7 (omega arith) (omega arith) in
-      let unused : Keeps records shape 8 = all 8 (omega arith) (omega arith) in
       record {
         ranges = ranges;
         split = split.split;
@@ -65,25 +66,29 @@ module _ (records : Records) (shape : Shape) where
         named = properties.named;
         names = names;
         degrees = degrees;
-        unindexed = unused;
       }
 
-  pub rules_of : rules.IsWellFormed records shape → (d : Damage) → Breaks records shape d → Keeps records shape d.rule
-  rules_of s d (OwnRecord bad) = s.ranges
-  rules_of s d (WrongMeta id lt bad) = s.ranges
-  rules_of s d (RecordRange file x is lt bad) = s.ranges
-  rules_of s d (FreeList file is bad) = record { split = s.split; kept = s.kept }
-  rules_of s d (OffFreeList file x is lt free bad) = record { split = s.split; kept = s.kept }
-  rules_of s d (NameCount bad) = record { split = s.split; kept = s.kept }
-  rules_of s d (NodeChain n lt bad) = chained_of records s.grouped s.linked
-  rules_of s d (GroupChains g lt bad) = chained_of records s.grouped s.linked
-  rules_of s d (RelEnds x lt bad) = chained_of records s.grouped s.linked
-  rules_of s d (OwnerGroups n lt bad) = record { grouped = s.grouped; exact = s.exact }
-  rules_of s d (GroupOwner g bad) = record { grouped = s.grouped; exact = s.exact }
-  rules_of s d (WrongElement file x known lt bad) = record { properties = s.properties; named = s.named }
-  rules_of s d (WrongHolding p bad) = record { properties = s.properties; named = s.named }
-  rules_of s d (WrongText p lt bad) = record { properties = s.properties; named = s.named }
-  rules_of s d (WrongBlock b bad) = record { properties = s.properties; named = s.named }
-  rules_of s d (WrongName x lt bad) = s.names
-  rules_of s d (WrongDegree n lt bad) = s.degrees
-  rules_of s d (UsedIndex x lt bad) = s.unindexed
+  pub is_indexed : ((n : ℕ) → 1 ≤ n → n ≤ 8 → Keeps records shape n) → IsIndexed records shape
+  is_indexed all =
+      let indexes : Keeps records shape 8 = all 8 (omega arith) (omega arith) in
+      record { store = is_store (λ n from to. all n from (omega arith)); indexes = indexes }
+
+  pub rules_of : IsIndexed records shape → (d : Damage) → Breaks records shape d → Keeps records shape d.rule
+  rules_of s d (OwnRecord bad) = s.store.ranges
+  rules_of s d (WrongMeta id lt bad) = s.store.ranges
+  rules_of s d (RecordRange file x is lt bad) = s.store.ranges
+  rules_of s d (FreeList file is bad) = record { split = s.store.split; kept = s.store.kept }
+  rules_of s d (OffFreeList file x is lt free bad) = record { split = s.store.split; kept = s.store.kept }
+  rules_of s d (NameCount bad) = record { split = s.store.split; kept = s.store.kept }
+  rules_of s d (NodeChain n lt bad) = chained_of records s.store.grouped s.store.linked
+  rules_of s d (GroupChains g lt bad) = chained_of records s.store.grouped s.store.linked
+  rules_of s d (RelEnds x lt bad) = chained_of records s.store.grouped s.store.linked
+  rules_of s d (OwnerGroups n lt bad) = record { grouped = s.store.grouped; exact = s.store.exact }
+  rules_of s d (GroupOwner g bad) = record { grouped = s.store.grouped; exact = s.store.exact }
+  rules_of s d (WrongElement file x known lt bad) = record { properties = s.store.properties; named = s.store.named }
+  rules_of s d (WrongHolding p bad) = record { properties = s.store.properties; named = s.store.named }
+  rules_of s d (WrongText p lt bad) = record { properties = s.store.properties; named = s.store.named }
+  rules_of s d (WrongBlock b bad) = record { properties = s.store.properties; named = s.store.named }
+  rules_of s d (WrongName x lt bad) = s.store.names
+  rules_of s d (WrongDegree n lt bad) = s.store.degrees
+  rules_of s d (WrongIndex e bad) = subst (λ n. Keeps records shape n) (sym (index_rule records e bad)) s.indexes

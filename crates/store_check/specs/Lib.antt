@@ -6,5 +6,4 @@ pub mod Layouts
 pub mod Listing
 pub mod Pieces
 pub mod Texts
-pub mod Unused
 pub mod Verdicts

@@ -1,29 +1,30 @@
 //! One rule after another: the first that is broken ends the check.
 
 ghost use Rattle.std.specs.Prelude.{◌≡◌, ◌<◌, ◌≤◌, IfNone, IfOk};
-ghost use Rattle.rec_bytes.specs.RuleNumbers.{chain_rule, index_rule, range_rule};
+ghost use Rattle.rec_bytes.specs.RuleNumbers.{chain_rule, degree_rule, index_rule, range_rule};
 ghost use Rattle.rec_bytes.specs.Space.{HasCause, SameButReads};
 ghost use Rattle.store_rules.specs.Ranges.{AreInRange};
 ghost use Rattle.store_rules.specs.Rules.{IsWellFormed};
 ghost use Rattle.store_rules.specs.Breaking.{AreChained};
+ghost use Rattle.store_rules.specs.Indexes.{IsIndexed};
 ghost use Rattle.record_lists.specs.Deciding.{AreMarksLow, DecidesRule};
 ghost use Rattle.store_check.specs.Verdicts.{BrokenIs};
 
 use crate::Verdict;
 use crate::free::check_split;
-use crate::index::check_index;
 use crate::names::check_names;
 use crate::properties::check_properties;
 use crate::ranges::check_ranges;
 use chain_check::{check_chains, check_degrees, check_groups};
+use index_check::check_indexes;
 use rec_bytes::{
     CHAIN_RULE, DEGREE_RULE, Damage, GROUP_RULE, INDEX_RULE, NAME_RULE, PROPERTY_RULE, RANGE_RULE,
     Reads, SPLIT_RULE, SpaceFault,
 };
 use std::alloc::Global;
 
-/// Decides the rule of this number, where the first is kept if it is another, and the third if it
-/// is after that.
+/// Decides the rule of this number, where the first is kept if it is another, the third if it is
+/// after that, and all the others if it is the last.
 fn decide<R: Reads>(alloc: Global, space: &mut R, rule: u8) -> Result<Option<Damage>, SpaceFault>
     requires from { range_rule ≤ rule }
     requires to { rule ≤ index_rule }
@@ -32,6 +33,8 @@ fn decide<R: Reads>(alloc: Global, space: &mut R, rule: u8) -> Result<Option<Dam
         → AreInRange (R.state space.old).records (R.state space.old).shape }
     requires chained { R.tells → chain_rule < rule
         → AreChained (R.state space.old).records }
+    requires rules { R.tells → degree_rule < rule
+        → IsWellFormed (R.state space.old).records (R.state space.old).shape }
     ensures decided { R.tells → IfOk result
         (DecidesRule (R.state space.old).records (R.state space.old).shape rule) }
     ensures low { rule ≡ range_rule → IfOk result
@@ -49,16 +52,17 @@ fn decide<R: Reads>(alloc: Global, space: &mut R, rule: u8) -> Result<Option<Dam
         PROPERTY_RULE => check_properties(alloc, space),
         NAME_RULE => check_names(alloc, space),
         DEGREE_RULE => check_degrees(alloc, space),
-        _ => check_index(space),
+        _ => check_indexes(alloc, space),
     }
 }
 
-/// Decides whether the records of a space are those of a well-formed store: Sound exactly where all
-/// rules hold, else the least rule that is broken and a record that breaks it. It only reads.
+/// Decides whether the records of a space are those of a store with its indexes: Sound exactly
+/// where all rules hold, else the least rule that is broken and a record that breaks it. It only
+/// reads.
 pub fn check<R: Reads>(alloc: Global, space: &mut R) -> Result<Verdict, SpaceFault>
     ensures sound { R.tells → IfOk result (λ v. v ≡ Verdict.Sound
-        → IsWellFormed (R.state space.old).records (R.state space.old).shape) }
-    ensures only { R.tells → IsWellFormed (R.state space.old).records (R.state space.old).shape
+        → IsIndexed (R.state space.old).records (R.state space.old).shape) }
+    ensures only { R.tells → IsIndexed (R.state space.old).records (R.state space.old).shape
         → IfOk result (λ v. v ≡ Verdict.Sound) }
     ensures broken { R.tells → IfOk result
         (BrokenIs (R.state space.old).records (R.state space.old).shape) }

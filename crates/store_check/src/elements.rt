@@ -4,7 +4,7 @@ ghost use Rattle.std.specs.Prelude.{◌≡◌, ◌<◌, ◌≤◌, IfNone, IfOk,
 ghost use Rattle.std.specs.Prelude.{true, ℕ};
 ghost use Rattle.std.specs.Bool.{Decides};
 ghost use Rattle.std.specs.List.{All, list_all};
-ghost use Rattle.rec_bytes.specs.Format.{most_ids, names_file, properties_file};
+ghost use Rattle.rec_bytes.specs.Format.{most_ids, properties_file};
 ghost use Rattle.rec_bytes.specs.Space.{HasCause};
 ghost use Rattle.store_rules.specs.PropertyChange.{property_place};
 ghost use Rattle.store_rules.specs.Views.{high};
@@ -21,7 +21,6 @@ ghost use Rattle.store_check.specs.Elements.{
   IsInUse,
   IsOnElements,
   is_below,
-  property_line,
 };
 
 use rec_bytes::{

@@ -1,11 +1,10 @@
-//! Whether the records of a space are those of a well-formed store. A check reads the records below
-//! the marks, each a few times, and keeps a few bytes for each.
+//! Whether the records of a space are those of a well-formed store with its indexes. A check reads
+//! the records below the marks, each a few times, and keeps a few bytes for each.
 #![tactic(auto)]
 
 mod checking;
 mod elements;
 mod free;
-mod index;
 mod layout;
 mod names;
 mod pieces;

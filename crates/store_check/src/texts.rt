@@ -1,13 +1,13 @@
 //! The fifth rule of texts: the blocks of each, and which property has a block.
 
-ghost use Rattle.std.specs.Prelude.{◌≡◌, ◌≤◌, ◌<◌, IfNone, IfOk, IfSome, false, length, map, ℕ};
+ghost use Rattle.std.specs.Prelude.{◌≡◌, ◌<◌, IfNone, IfOk, IfSome, false, length, map, ℕ};
 ghost use Rattle.std.specs.List.{All};
 ghost use Rattle.rec_bytes.specs.Format.{most_ids, strings_file};
 ghost use Rattle.rec_bytes.specs.Space.{HasCause};
 ghost use Rattle.store_rules.specs.Breaking.{IsBlockList, IsLong, block_size};
 ghost use Rattle.store_check.specs.Holding.{AreTextsRight};
 ghost use Rattle.record_lists.specs.Marks.{marked};
-ghost use Rattle.store_check.specs.Texts.{AreTexts, block_line};
+ghost use Rattle.store_check.specs.Texts.{AreTexts};
 ghost use Rattle.record_lists.specs.Deciding.{AreMarksLow, BreaksRule};
 ghost use Rattle.store_rules.specs.Views.{high};
 

@@ -2,9 +2,14 @@ use Rattle.std.specs.Prelude.{IfSome}
 use Rattle.std.proofs.Common.{subst}
 use Rattle.rec_bytes.specs.Fault.{damage_of}
 use Rattle.rec_bytes.specs.declared.fault.Fault.{Fault}
-use Rattle.index_check.proofs.IndexLaws.{never_broken}
+use Rattle.index_check.proofs.IndexLaws.{decides, never_broken}
 use Rattle.index_check.proofs.ValueLaws.{readable_of}
 use Rattle.index_check.proofs.checking.check_indexes.Goals as goal
+
+pub returns-in-Ok-clause-decided : goal.returns-in-Ok-clause-decided
+returns-in-Ok-clause-decided g c = λ tells.
+    let s = g.R.Reads.state c.args.space.now in
+    decides s.records s.shape c.in-Ok.found (c.in-Ok.ensures.decided tells)
 
 pub returns-in-Ok-clause-only : goal.returns-in-Ok-clause-only
 returns-in-Ok-clause-only g c = λ tells ix. never_broken (g.R.Reads.state c.args.space.now).records c.in-Ok.found (c.in-Ok.ensures.decided tells) ix

@@ -3,10 +3,11 @@ use Rattle.std.proofs.lemmas.Bool.{cases_lt}
 use Rattle.rec_bytes.specs.declared.damage.Damage.{Damage}
 use Rattle.rec_bytes.specs.declared.shape.Shape.{Shape}
 use Rattle.store_rules.specs.Ranges.{AreInRange}
+use Rattle.store_rules.specs.Rules.{IsWellFormed}
 use Rattle.store_rules.specs.Views.{Records}
 use Rattle.store_rules.specs.Breaking.{AreChained, Keeps}
 use Rattle.record_lists.specs.Deciding.{AreMarksLow, BreaksRule, DecidesRule}
-use Rattle.store_check.proofs.BreachLaws.{is_store, not_kept, rules_of}
+use Rattle.store_check.proofs.BreachLaws.{is_indexed, is_store, not_kept, rules_of}
 use Rattle.record_lists.proofs.HeadLaws.{one_more}
 use Rattle.store_check.proofs.checking.check.Goals as goal
 
@@ -24,6 +25,14 @@ decide-requires-clause-chained g c = λ tells lt.
     let inv = c.loop-rule.invariant in
     let kept : AreChained s.records = inv.kept tells 3 (omega arith) lt in
     subst AreChained (sym inv.same) kept
+
+pub decide-requires-clause-rules : goal.decide-requires-clause-rules
+decide-requires-clause-rules g c = λ tells lt.
+    let s = g.R.Reads.state c.args.space.now in
+    let inv = c.loop-rule.invariant in
+    let now = g.R.Reads.state c.loop-rule.space in
+    let kept : IsWellFormed s.records s.shape = is_store s.records s.shape (λ n from to. inv.kept tells n from (omega (arith, to, lt))) in
+    subst (λ (r : Records). IsWellFormed r now.shape) (sym inv.same) (subst (λ (h : Shape). IsWellFormed s.records h) (sym (g.met.R.Reads.onward_shape _ _ inv.onward)) kept)
 
 pub returns-in-Some-clause-only : goal.returns-in-Some-clause-only
 returns-in-Some-clause-only g c = λ tells store.
@@ -66,4 +75,4 @@ loop-rule-preserved g c =
 pub returns-clause-sound : goal.returns-clause-sound
 returns-clause-sound g c = λ tells e.
     let s = g.R.Reads.state c.args.space.now in
-    is_store s.records s.shape (λ n from to. c.loop-rule.invariant.kept tells n from (let past = c.loop-rule-test.false in omega (arith, to, past)))
+    is_indexed s.records s.shape (λ n from to. c.loop-rule.invariant.kept tells n from (let past = c.loop-rule-test.false in omega (arith, to, past)))
