@@ -118,7 +118,6 @@ pub fed : (graph : Graph) (source rest : Source) (rows later : List Row) (ready 
     → with_first ready (through graph later (stream (left_of graph rest))) ≡ through graph rows (stream (left_of graph source))
 fed graph source rest [] later ready row any outs stage lt is idle feeds front behind = absurd (omega arith)
 fed graph source rest (first ∷ rows) later ready row any outs stage lt is idle feeds front behind =
-    let new : Row = record row { stage = stage } in
     let none : row.waiting ≡ [] = ap (λ (r : Row). r.waiting) is ∙ idle.0 in
     ap (with_first ready) (through_cut graph later 1 (stream (left_of graph rest)))
     ∙ behind (through graph (take 1 later) (stream (left_of graph rest)))

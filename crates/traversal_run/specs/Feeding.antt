@@ -15,7 +15,8 @@ use Rattle.traversal_run.specs.declared.stage.Stage.TheVariants as stages
 -- For some of the items of the source the step gives these, and both go on as the new ones.
 abbrev pub Feeds : Graph → Source → Stage → List Item → Source → Stage → Type 0
 Feeds graph source old outs rest new =
-    (after_stage graph old (left_of graph source) ≡ outs ++ after_stage graph new (left_of graph rest))
+    (after_stage graph old (left_of graph source)
+    ≡ outs ++ after_stage graph new (left_of graph rest))
     × (counts_past old (left_of graph source) ≡ counts_past new (left_of graph rest))
 
 -- a filter under way

@@ -1,4 +1,4 @@
-ghost use Rattle.std.specs.Prelude.{◌≡◌, ◌≤◌, ◌<◌, ℕ, List, All, IfErr, IfOk, IfSome, OnOk};
+ghost use Rattle.std.specs.Prelude.{◌≡◌, ◌<◌, ℕ, List, All, IfErr, IfOk, IfSome, OnOk};
 ghost use Rattle.std.specs.Prelude.{find, map, nat_eq, nat_lt};
 ghost use Rattle.std.specs.FinMap as maps;
 ghost use Rattle.std.specs.List.{filter_map, list_all};

@@ -4,7 +4,7 @@ ghost use Rattle.std.specs.Prelude.{IfOk, OnOk};
 ghost use Rattle.plain_graph.specs.Forms.{IsShown};
 ghost use Rattle.plain_graph.specs.Graph.{Graph};
 ghost use Rattle.store_rules.specs.Graph.{graph_of};
-ghost use Rattle.std.specs.Prelude.{◌⊎◌, ◌-◌, List, false};
+ghost use Rattle.std.specs.Prelude.{◌⊎◌, ◌-◌, false};
 ghost use Rattle.plain_graph.specs.declared.query.Step.TheVariants as steps;
 ghost use Rattle.traversal_run.specs.Held.{
   ArePlainSteps,

@@ -1,11 +1,12 @@
-use Rattle.std.proofs.Common.{sym, ap, subst, ◌∙◌}
+use Rattle.std.proofs.Common.{◌≡◌, ◌∷◌, Option, sym, ap, subst, ◌∙◌}
+use Rattle.plain_graph.specs.declared.item.Item.{Item}
 use Rattle.rec_bytes.specs.Space.{State}
 use Rattle.store_rules.specs.Graph.{graph_of}
 use Rattle.traversal_run.specs.Finding.{element_mark}
-use Rattle.traversal_run.specs.Source.{GivesFirst}
+use Rattle.traversal_run.specs.Source.{GivesFirst, left_of}
 use Rattle.traversal_run.specs.Held.{IsBatch}
 use Rattle.traversal_run.specs.Stage.{Takes}
-use Rattle.traversal_run.proofs.Fed.{feeds_end, none_left}
+use Rattle.traversal_run.proofs.Fed.{feeds_end, feeds_more, feeds_on, limit_stays, none_left}
 use Rattle.traversal_run.proofs.HeldSteps.{few_at, takes_batch}
 use Rattle.traversal_run.proofs.OnlyReads.{is_read-on, named-read}
 use Rattle.traversal_run.proofs.feeding.feed_edges.Goals as goal
@@ -24,6 +25,45 @@ returns-in_default-clause-feeds g c = λ tells store.
     (c.in_ok-item.ensures.first tells (named-read space c.args.space.now c.loop.space c.args.names.now.names inv.read store)) in
     let none = none_left graph c.loop.source c.next.new.self c.end.new.self c.in_ok-item.field-0 c.in_default.is first c.end.ensures in
     feeds_end graph c.args.source.now c.loop.source c.end.new.self c.args.stage.now c.loop.stage c.new.result c.new.ensures (inv.feeds tells store) none.0 none.1
+
+pub returns-then-not-is_empty-clause-feeds : goal.returns-then-not-is_empty-clause-feeds
+returns-then-not-is_empty-clause-feeds g c = λ tells store.
+    let space = g.R.Reads in
+    let graph = graph_of (space.state c.args.space.now).records in
+    let inv = c.loop.invariant in
+    let read = is_read-on space g.met.R.Reads.further_onward c.args.space.now c.loop.space c.next.new.space inv.read c.in_ok-item.ensures.read in
+    let first = subst (λ (t : State). GivesFirst (graph_of t.records) c.loop.source c.in_ok-item.field-0 c.next.new.self) inv.read.same
+    (c.in_ok-item.ensures.first tells (named-read space c.args.space.now c.loop.space c.args.names.now.names inv.read store)) in
+    let gives : left_of graph c.loop.source ≡ c.in-Some.item ∷ left_of graph c.next.new.self
+    = subst (λ (o : Option Item). GivesFirst graph c.loop.source o c.next.new.self) c.in-Some.is first in
+    let takes = subst (λ (t : State). Takes (graph_of t.records) c.loop.stage c.in-Some.item c.in_ok-outs.outs c.take.new.self) read.same
+    (c.in_ok-outs.ensures.takes tells (named-read space c.args.space.now c.next.new.space c.args.names.now.names read store)) in
+    feeds_more graph c.args.source.now c.loop.source c.next.new.self c.args.stage.now c.loop.stage c.take.new.self c.in-Some.item c.in_ok-outs.outs (inv.feeds tells store) gives takes
+
+pub loop-preserved : goal.loop-preserved
+loop-preserved g c =
+    let space = g.R.Reads in
+    let graph = graph_of (space.state c.args.space.now).records in
+    let inv = c.loop.invariant in
+    let read = is_read-on space g.met.R.Reads.further_onward c.args.space.now c.loop.space c.next.new.space inv.read c.in_ok-item.ensures.read in
+    let nothing = c.is_empty.ensures.yes c.if-not-is_empty.false in
+    record {
+      feeds = λ tells store.
+          let first = subst (λ (t : State). GivesFirst (graph_of t.records) c.loop.source c.in_ok-item.field-0 c.next.new.self) inv.read.same
+          (c.in_ok-item.ensures.first tells (named-read space c.args.space.now c.loop.space c.args.names.now.names inv.read store)) in
+          let gives : left_of graph c.loop.source ≡ c.in-Some.item ∷ left_of graph c.next.new.self
+          = subst (λ (o : Option Item). GivesFirst graph c.loop.source o c.next.new.self) c.in-Some.is first in
+          let takes = subst (λ (t : State). Takes (graph_of t.records) c.loop.stage c.in-Some.item c.in_ok-outs.outs c.take.new.self) read.same
+          (c.in_ok-outs.ensures.takes tells (named-read space c.args.space.now c.next.new.space c.args.names.now.names read store)) in
+          feeds_on graph c.args.source.now c.next.new.self c.args.stage.now c.take.new.self c.in_ok-outs.outs nothing
+          (feeds_more graph c.args.source.now c.loop.source c.next.new.self c.args.stage.now c.loop.stage c.take.new.self c.in-Some.item c.in_ok-outs.outs (inv.feeds tells store) gives takes);
+      limits = limit_stays _ _ c.in_ok-outs.outs nothing c.in_ok-outs.ensures.limits ∙ inv.limits;
+      counts = c.take.ensures.counts ∙ inv.counts;
+      hops = c.take.ensures.hops ∙ inv.hops;
+      plain = c.take.ensures.plain ∙ inv.plain;
+      edges = c.next.ensures.edges ∙ inv.edges;
+      read = is_read-on space g.met.R.Reads.further_onward c.args.space.now c.next.new.space c.take.new.space read c.in_ok-outs.ensures.read;
+    }
 
 pub returns-then-not-is_empty-clause-few : goal.returns-then-not-is_empty-clause-few
 returns-then-not-is_empty-clause-few g c = λ tells store d degrees plain.

@@ -35,7 +35,6 @@ returns-then-not-is_empty-clause-few g c = λ tells store d degrees plain.
     let graph = graph_of s.records in
     let inv = c.loop-id.invariant in
     let now = c.loop-id.source in
-    let rest : Source = record { edges = now.edges; left = c.take_first.new.self } in
     let read = is_read-on space g.met.R.Reads.further_onward c.args.space.now c.loop-id.space c.vertex_row.new.space inv.read c.in_ok-row.ensures.read in
     let takes = subst (λ (t : State). Takes (graph_of t.records) c.loop-id.stage c.vertex.result c.in_ok-outs.outs c.take.new.self) read.same
     (c.in_ok-outs.ensures.takes tells (named-read space c.args.space.now c.vertex_row.new.space c.args.names.now.names read store)) in

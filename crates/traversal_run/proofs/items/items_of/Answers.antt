@@ -1,6 +1,6 @@
 use Rattle.std.proofs.Common.{List, sym, subst}
 use Rattle.plain_graph.specs.declared.item.Item.{Item}
-use Rattle.traversal_run.proofs.AllItems.{IsTaking, taking-first, taking-on}
+use Rattle.traversal_run.proofs.AllItems.{IsTaking, taking-end, taking-first, taking-on}
 use Rattle.traversal_run.proofs.items.items_of.Goals as goal
 
 pub loop-init : goal.loop-init
@@ -19,3 +19,9 @@ loop-preserved g c =
     let next = c.in-Item.ensures in
     subst (λ (list : List Item). IsTaking g.R.Reads names query c.args.space.now c.next.new.space list c.next.new.self) (sym c.in_ok-push-in-Item.ensures.items)
     (taking-on g.R.Reads names query g.met.R.Reads.further_onward c.args.space.now c.loop.space found c.loop.run c.loop.invariant c.next.new.space c.next.ensures.read c.next.new.self c.in-Item.item next.item next.shown next.stops)
+
+pub returns-in-End-clause-items : goal.returns-in-End-clause-items
+returns-in-End-clause-items g c =
+    let inv = c.loop.invariant in
+    taking-end g.R.Reads c.args.names.now.names c.args.query.now g.met.R.Reads.further_onward c.args.space.now c.loop.space c.loop.items.items c.loop.run inv
+    (λ tells store. c.next.ensures.end tells store inv.goes c.in-End.is)

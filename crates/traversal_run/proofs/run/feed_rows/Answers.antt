@@ -1,5 +1,13 @@
-use Rattle.std.proofs.Common.{◌≡◌, true, false, sym, ◌∙◌}
+use Rattle.std.proofs.Common.{◌≡◌, List, IfErr, OnOk, true, false, sym, ◌∙◌, subst}
+use Rattle.rec_bytes.specs.Space.{State}
+use Rattle.store_rules.specs.Graph.{graph_of}
+use Rattle.traversal_run.specs.Row.{stream, through, with_first}
+use Rattle.traversal_run.specs.Source.{left_of}
+use Rattle.traversal_run.specs.Stop.{MayStop}
+use Rattle.traversal_run.specs.declared.row.Row.{Row}
+use Rattle.traversal_run.specs.declared.source.Source.{Source}
 use Rattle.traversal_run.proofs.Fed.{plain_no_count}
+use Rattle.traversal_run.proofs.OnlyReads.{named-read}
 use Rattle.traversal_run.proofs.run.feed_rows.Goals as goal
 
 pub returns-then-branch-clause-near : goal.returns-then-branch-clause-near
@@ -8,3 +16,16 @@ returns-then-branch-clause-near g c = λ tells store d most degrees near.
   where
     clash : true ≡ false → ⊥
     clash e = cc
+
+pub returns-clause-same : goal.returns-clause-same
+returns-clause-same g c = λ tells store.
+    let stays = c.in_ok-feed_two.ensures.stays c.if-branch.false in
+    subst (λ (t : List Row × Source × State). OnOk c.feed_step.result (with_first c.feed_step.new.ready (through (graph_of t.2.records) c.feed_step.new.rows (stream (left_of (graph_of t.2.records) c.feed_step.new.source)))
+    ≡ through (graph_of t.2.records) t.0 (stream (left_of (graph_of t.2.records) t.1)))) (λ i. (stays.0 i, stays.1 i, g.R.Reads.state (stays.2 i)))
+    (c.feed_step.ensures.same tells (named-read g.R.Reads c.args.space.now c.feed_two.new.space c.args.names.now.names c.feed_two.ensures.read store))
+
+pub returns-clause-stops : goal.returns-clause-stops
+returns-clause-stops g c = λ tells store.
+    let stays = c.in_ok-feed_two.ensures.stays c.if-branch.false in
+    subst (λ (t : List Row × Source × State). IfErr c.feed_step.result (MayStop ⊥ ((through (graph_of t.2.records) t.0 (stream (left_of (graph_of t.2.records) t.1))).past ≡ true))) (λ i. (stays.0 i, stays.1 i, g.R.Reads.state (stays.2 i)))
+    (c.feed_step.ensures.stops tells (named-read g.R.Reads c.args.space.now c.feed_two.new.space c.args.names.now.names c.feed_two.ensures.read store))

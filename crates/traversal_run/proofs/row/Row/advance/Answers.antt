@@ -1,6 +1,7 @@
-use Rattle.std.proofs.Common.{◌++◌, ap, ◌∙◌}
+use Rattle.std.proofs.Common.{◌++◌, List, ap, ◌∙◌}
+use Rattle.plain_graph.specs.declared.item.Item.{Item}
 use Rattle.store_rules.specs.Graph.{graph_of}
-use Rattle.traversal_run.specs.Stage.{counts_past}
+use Rattle.traversal_run.specs.Stage.{after_stage, counts_past}
 use Rattle.traversal_run.specs.declared.stage.Stage.{Stage}
 use Rattle.traversal_run.proofs.Counting.{counts_row, not_count, passes_all}
 use Rattle.traversal_run.proofs.HeldSteps.{few_at, takes_batch}
@@ -29,3 +30,12 @@ pub returns-else-count_all-clause-stops : goal.returns-else-count_all-clause-sto
 returns-else-count_all-clause-stops g c = λ tells store coming.
     let past = c.count_all.ensures.past c.if-count_all.false in
     ap (λ (stage : Stage). counts_past stage (c.args.self.now.waiting ++ coming)) c.in-Count.is ∙ passes_all c.in-Count.so_far c.in-Count.told c.args.self.now.waiting past.0 past.1 coming
+
+pub returns-in_ok-outs-in-Some-clause-advances : goal.returns-in_ok-outs-in-Some-clause-advances
+returns-in_ok-outs-in-Some-clause-advances g c = λ tells store coming.
+    let graph = graph_of (g.R.Reads.state c.args.space.now).records in
+    let stage = c.args.self.now.stage in
+    let takes = c.in_ok-outs-in-Some.ensures.takes tells store (c.take_first.new.self ++ coming) in (
+      ap (λ (waiting : List Item). after_stage graph stage (waiting ++ coming)) c.in-Some.ensures.some ∙ takes.0,
+      ap (λ (waiting : List Item). counts_past stage (waiting ++ coming)) c.in-Some.ensures.some ∙ takes.1,
+    )

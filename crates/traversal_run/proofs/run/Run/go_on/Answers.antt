@@ -4,7 +4,8 @@ use Rattle.plain_graph.specs.declared.item.Item.{Item}
 use Rattle.rec_bytes.specs.Space.{State}
 use Rattle.store_rules.specs.Graph.{graph_of}
 use Rattle.traversal_run.specs.Held.{HasDegreesUpTo, IsNear}
-use Rattle.traversal_run.specs.Run.{still_allowed, to_come}
+use Rattle.traversal_run.specs.Row.{Stream}
+use Rattle.traversal_run.specs.Run.{IsStopOf, still_allowed, to_come}
 use Rattle.traversal_run.specs.Stop.{StopsAtBroken}
 use Rattle.traversal_run.specs.declared.run.Run.{Run}
 use Rattle.traversal_run.proofs.HeldRuns.{near_begins, within-taken}
@@ -85,3 +86,19 @@ returns-in_err-turn-clause-damaged g c = λ tells.
 pub returns-in_err-turn-clause-cause : goal.returns-in_err-turn-clause-cause
 returns-in_err-turn-clause-cause g c =
     stop_cause_passed _ _ _ c.from_residual.result c.in_err-turn.field-0.0 c.loop.invariant.read.later c.in_err-turn.ensures.cause c.from_residual.ensures.1
+
+pub returns-in_err-turn-clause-stops : goal.returns-in_err-turn-clause-stops
+returns-in_err-turn-clause-stops g c = λ tells store.
+    let space = g.R.Reads in
+    let first = c.args.space.now in
+    let inv = c.loop.invariant in
+    let run : Run = c.loop.self in
+    let old : Run = record run { ready = c.take_first.new.self } in
+    let fault = c.in_err-turn.field-0.0 in
+    let none = c.in_default.ensures.none in
+    let same_ready : run.ready ≡ old.ready = none.0 ∙ sym none.1 in
+    let p = err_from_is_err_and c.from_residual.result c.from_residual.ensures.1 in
+    let stops = subst (λ (t : State). IsStopOf (to_come (graph_of t.records) old) fault) inv.read.same
+    (c.in_err-turn.ensures.stops tells (named-read space first c.loop.space c.args.names.now.names inv.read store)) in
+    rw (p.1, p.2) (subst (λ (s : Stream). IsStopOf s fault)
+    (ap (λ (ready : List Item). to_come (graph_of (space.state first).records) (record run { ready = ready })) (sym same_ready) ∙ inv.same tells store) stops)

@@ -1,11 +1,13 @@
 use Rattle.std.proofs.Common.{[], ◌∷◌, ◌≡◌, ◌<◌, ◌+◌, List, Option, Bool, true, false, get_or, length, set, sym, ap, ◌∙◌, subst, arith}
+use Rattle.std.proofs.lemmas.Result.{err_from_is_err_and}
 use Rattle.std.specs.Option.{IfSome}
 use Rattle.plain_graph.specs.declared.item.Item.{Item}
 use Rattle.store_rules.specs.Graph.{graph_of}
 use Rattle.traversal_run.specs.Held.{ArePlain, IsNear}
-use Rattle.traversal_run.specs.Row.{AreIdle, AreQuiet}
+use Rattle.traversal_run.specs.Row.{AreIdle, AreQuiet, Stream, stages_of, stream, through, with_first}
+use Rattle.traversal_run.specs.Run.{allowed_by, to_come}
 use Rattle.traversal_run.specs.Scan.{TakesVertex, limit_row}
-use Rattle.traversal_run.specs.Source.{GivesFirst, left_of}
+use Rattle.traversal_run.specs.Source.{GivesFirst, is_over, left_of}
 use Rattle.traversal_run.specs.Stage.{is_open}
 use Rattle.traversal_run.specs.declared.row.Row.{Row}
 use Rattle.traversal_run.proofs.Causes.{fault_stop_cause, memory_stop_cause, stop_cause_passed}
@@ -14,6 +16,7 @@ use Rattle.traversal_run.proofs.HeldSteps.{plain_quiet}
 use Rattle.traversal_run.proofs.Places.{written_back}
 use Rattle.traversal_run.proofs.Rows.{ends_at}
 use Rattle.traversal_run.proofs.Scans.{cut_scan, idle_scan, quiet_scan}
+use Rattle.traversal_run.proofs.Stops.{may_stop}
 use Rattle.traversal_run.proofs.run.Run.turn.Goals as goal
 
 pub returns-clause-stops : goal.returns-clause-stops
@@ -107,3 +110,38 @@ returns-then-is_fed-clause-near g c = λ tells store d most degrees near.
     let back = written_back c.feed_rows.new.rows run.rows.items run.rows.len (omega (arith, c.feed_rows.auto.rows, ap length rows)) run.rows.ok.0 in
     subst (λ (rs : List Row). IsNear d most rs c.feed_rows.new.ready) (sym back)
     (c.in_ok-feed_rows.ensures.near tells store d most degrees (subst (λ (rs : List Row). IsNear d most rs run.ready) (sym rows) near))
+
+pub returns-in_err-advance_row-clause-stops : goal.returns-in_err-advance_row-clause-stops
+returns-in_err-advance_row-clause-stops g c = λ tells store.
+    let graph = graph_of (g.R.Reads.state c.args.space.now).records in
+    let run = c.args.self.now in
+    let left = stream (left_of graph run.source) in
+    let rows : c.deref_mut.result.now ≡ run.rows.items = c.deref_mut.ensures.value in
+    let p = err_from_is_err_and c.from_residual.result c.from_residual.ensures.1 in
+    rw (p.1, p.2) (may_stop ⊥ ((coming : Stream) → (through graph c.deref_mut.result.now coming).past ≡ true) (to_come graph run ≡ stream []) ((to_come graph run).past ≡ true) c.in_err-advance_row.field-0.0 (λ none. absurd none)
+    (λ past. subst (λ (rs : List Row). (through graph rs left).past ≡ true) rows (past left)) (c.in_err-advance_row.ensures.stops tells store))
+
+pub returns-in-Some-clause-same : goal.returns-in-Some-clause-same
+returns-in-Some-clause-same g c = λ tells store.
+    let graph = graph_of (g.R.Reads.state c.args.space.now).records in
+    let run = c.args.self.now in
+    let left = stream (left_of graph run.source) in
+    let rows : c.deref_mut.result.now ≡ run.rows.items = c.deref_mut.ensures.value in
+    let back = written_back c.advance_row.new.rows run.rows.items run.rows.len (omega (arith, c.advance_row.auto.rows, ap length rows)) run.rows.ok.0 in
+    c.cut.ensures.same graph
+    ∙ ap (λ (rs : List Row). with_first c.advance_row.new.ready (through graph rs left)) back
+    ∙ c.in_ok-advance_row.ensures.same tells store left
+    ∙ ap (λ (rs : List Row). through graph rs left) rows
+    ∙ ap (λ (ready : List Item). with_first ready (through graph run.rows.items left)) (sym c.requires)
+
+pub returns-then-is_fed-clause-allowed : goal.returns-then-is_fed-clause-allowed
+returns-then-is_fed-clause-allowed g c =
+    let run = c.args.self.now in
+    let over = is_over run.source.left in
+    let now = is_over c.feed_rows.new.source.left in
+    let rows : c.deref_mut-then-is_fed.result.now ≡ run.rows.items = c.deref_mut-then-is_fed.ensures.value in
+    let back = written_back c.feed_rows.new.rows run.rows.items run.rows.len (omega (arith, c.feed_rows.auto.rows, ap length rows)) run.rows.ok.0 in
+    ap (λ (rs : List Row). allowed_by now (stages_of rs) (length c.feed_rows.new.ready)) back
+    ∙ c.in_ok-feed_rows.ensures.allowed over now
+    ∙ ap (λ (rs : List Row). allowed_by over (stages_of rs) 0) rows
+    ∙ ap (λ (ready : List Item). allowed_by over (stages_of run.rows.items) (length ready)) (sym c.requires)

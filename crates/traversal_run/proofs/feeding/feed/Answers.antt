@@ -1,0 +1,27 @@
+use Rattle.std.proofs.Common.{◌≡◌, rules, ap, subst, ◌∙◌}
+use Rattle.store_rules.specs.Graph.{graph_of}
+use Rattle.traversal_run.specs.Feeding.{Feeds}
+use Rattle.traversal_run.specs.Held.{IsBatch, is_hop, is_plain}
+use Rattle.traversal_run.specs.Stage.{is_count, limit_left}
+use Rattle.traversal_run.specs.declared.stage.Stage.{Stage}
+use Rattle.traversal_run.proofs.feeding.feed.Goals.{in-Mapped+in-Neighbours-1, in-Dedup-1}
+use Rattle.traversal_run.proofs.feeding.feed.Goals as goal
+
+pub returns : goal.returns
+returns g c =
+    let graph = graph_of (g.R.Reads.state c.args.space.now).records in
+    let fed = c.in_ok-outs-3.ensures in
+    let outs = c.in_ok-outs-3.outs in
+    let stays : c.match-stage-2.stage ≡ c.args.stage.now = elim c.match-stage-2.branch [ in-Mapped+in-Neighbours-1 w ↦ search rules | in-Dedup-1 w ↦ w.stage-is ] in
+    record {
+      feeds = λ tells store. subst (λ (stage : Stage). Feeds graph c.args.source.now stage outs c.feed_vertices.new.source c.feed_vertices.new.stage) stays (fed.feeds tells store);
+      stops = λ tells store. tt;
+      damaged = λ tells. tt;
+      limits = fed.limits ∙ ap limit_left stays;
+      counts = fed.counts ∙ ap is_count stays;
+      hops = fed.hops ∙ ap is_hop stays;
+      plain = fed.plain ∙ ap is_plain stays;
+      few = λ tells store d degrees plain. subst (λ hop. IsBatch d hop outs) (ap is_hop stays) (fed.few tells store d degrees (ap is_plain stays ∙ plain));
+      read = fed.read;
+      cause = search rules;
+    }
