@@ -11,6 +11,7 @@ use Rattle.rec_bytes.specs.declared.space.SpaceFault.{SpaceFault}
 use Rattle.rec_bytes.specs.declared.space.SpaceFault.TheVariants as spaces
 use Rattle.std.proofs.Math.Path.{fun_ext}
 use Rattle.rec_bytes.specs.Format as format
+use Rattle.rec_bytes.specs.Meta as meta_records
 use Rattle.rec_bytes.specs.RecordFiles.{meta_key_of}
 use Rattle.rec_bytes.specs.declared.meta.Meta.{Meta}
 use Rattle.rec_bytes.specs.Record.{field}
@@ -44,7 +45,7 @@ use Rattle.graph_ops.specs.Owners.{owner_of}
 use Rattle.graph_ops.specs.Preparing.{IsLineCause}
 use Rattle.graph_ops.specs.Rooms.{LacksRoom}
 use Rattle.graph_ops.specs.declared.change_fault.ChangeFault.{ChangeFault}
-use Rattle.graph_ops.specs.declared.change_fault.ChangeFault.TheVariants.{NoNode, NoEdge, HasRelationships, Full, NamesFull, PropsFull, Memory, Disk, Damaged}
+use Rattle.graph_ops.specs.declared.change_fault.ChangeFault.TheVariants.{NoNode, NoEdge, HasRelationships, IndexThere, TooManyIndexes, IndexTooLarge, Full, NamesFull, PropsFull, Memory, Disk, Damaged}
 
 -- ---- names
 
@@ -175,6 +176,9 @@ pub line_blamed : (told : Damage → Type 0) (s : State) (names : List (List ℕ
 line_blamed told s names label pairs (NoNode id) why = tt
 line_blamed told s names label pairs (NoEdge id) why = tt
 line_blamed told s names label pairs (HasRelationships id degree) why = tt
+line_blamed told s names label pairs IndexThere why = tt
+line_blamed told s names label pairs TooManyIndexes why = tt
+line_blamed told s names label pairs (IndexTooLarge count) why = tt
 line_blamed told s names label pairs (Full file live) why = tt
 line_blamed told s names label pairs (NamesFull count) why = tt
 line_blamed told s names label pairs (PropsFull count) why = tt
@@ -224,3 +228,14 @@ node_beyond x = record {
 
 pub node_damage : (s u : State) → meta_of u format.nodes_file ≡ meta_of s format.nodes_file → u.shape ≡ s.shape → KeepsBeyond s u → (d : Damage) → IsTakeDamage u format.nodes_file d → Breaks s.records s.shape d
 node_damage s u metas shape keeps d told = breaks_of s format.nodes_file refl d (damage_before s u format.nodes_file metas shape (λ x. keeps (key_in format.nodes_file x) (node_beyond x)) d told)
+
+-- the meta record of the indexes is beyond names and properties
+pub index_beyond : (s u : State) → KeepsBeyond s u → meta_of u format.index_file ≡ meta_of s format.index_file
+index_beyond s u keeps = ap meta_records.meta_of (keeps (meta_key_of format.index_file) (record {
+  names = λ e. omega arith;
+  properties = λ e. omega arith;
+  blocks = λ e. omega arith;
+  names_meta = λ e. let f : format.index_file ≡ format.names_file = ap (λ (k : Key). k.id) e in omega arith;
+  properties_meta = λ e. let f : format.index_file ≡ format.properties_file = ap (λ (k : Key). k.id) e in omega arith;
+  blocks_meta = λ e. let f : format.index_file ≡ format.strings_file = ap (λ (k : Key). k.id) e in omega arith;
+}))

@@ -28,7 +28,7 @@ use Rattle.graph_ops.specs.Assigning.{AreAssigned, HasTooMany, IsAssignFault, as
 use Rattle.graph_ops.specs.ChangeFault.{of_intern}
 use Rattle.graph_ops.specs.Damage.{KeepsBeyond}
 use Rattle.graph_ops.specs.Rooms.{KeepsElementMetas}
-use Rattle.graph_ops.specs.Store.{IsStore, KeepsElements}
+use Rattle.graph_ops.specs.Store.{IsMidway, KeepsElements}
 use Rattle.graph_ops.specs.declared.assigning.Assignment.{Assignment}
 use Rattle.graph_ops.proofs.LastPairs.{all_placed, blocks_in-with_pairs, len-with_pairs, once_placed, pairs_new, with_pairs-placed, with_pairs-push}
 use Rattle.graph_ops.proofs.LineNames.{held_name, key_lacks, name_long, name_prefix, uses_more}
@@ -223,7 +223,7 @@ module _ (old names : List (List ℕ)) (pairs : List Pair) (items : List Assignm
 pub record IsAssigning (tells onward : Type 0) (s t : State) (before now : ℕ) (old names : List (List ℕ)) (pairs : List Pair) (n : ℕ) (items : List Assignment) : Type 0 where
   pub so_far : IsSoFar old names pairs n items
   pub stays : tells → KeepsBeyond s t
-  pub kept : tells → length items ≤ 32 → IsStore s old → KeepsElements s t names
+  pub kept : tells → length items ≤ 32 → IsMidway s old → KeepsElements s t names
   pub metas : tells → KeepsElementMetas s t
   pub shape : tells → t.shape ≡ s.shape
   pub writes : length items ≤ 32 → WritesAtMost (length names - length old) s t

@@ -28,10 +28,10 @@ use Rattle.name_store.specs.Interning.{interned, named}
 use Rattle.name_store.specs.declared.intern_fault.InternFault.{InternFault}
 use Rattle.name_store.specs.declared.intern_fault.InternFault.TheVariants as interns
 use Rattle.prop_store.specs.Owner.{IsInUse}
-use Rattle.graph_ops.specs.ChangeFault.{of_fault, of_intern, of_row, of_set}
+use Rattle.graph_ops.specs.ChangeFault.{IsFailure, of_fault, of_intern, of_row, of_set}
 use Rattle.graph_ops.specs.declared.change_fault.ChangeFault.{ChangeFault}
-use Rattle.graph_ops.specs.declared.change_fault.ChangeFault.TheVariants.{NoNode, NoEdge, HasRelationships, Full, NamesFull, PropsFull, Memory, Disk, Damaged}
-use Rattle.graph_ops.specs.Damage.{BlamesBroken, BlamesGiven, IfBlames}
+use Rattle.graph_ops.specs.declared.change_fault.ChangeFault.TheVariants.{NoNode, NoEdge, HasRelationships, IndexThere, TooManyIndexes, IndexTooLarge, Full, NamesFull, PropsFull, Memory, Disk, Damaged}
+use Rattle.graph_ops.specs.Damage.{BlamesBroken, BlamesEntry, BlamesGiven, IfBlames}
 use Rattle.graph_ops.specs.NodeDeleting.{IsDeleteCause}
 use Rattle.graph_ops.specs.Owners.{MayMiss, owner_of}
 use Rattle.graph_ops.proofs.Elements.{used_of}
@@ -75,18 +75,48 @@ read_broken s m same (faults.Damaged damage) told = subst (λ (z : State). Break
 
 -- ---- nodes that are deleted
 
-pub node_cause : (s : State) (id : ℕ) (fault : RowFault) → nodes.IsNodeFault s id fault → IsDeleteCause s id (of_row fault)
-node_cause s id row.Disk told = tt
-node_cause s id (row.Damaged damage) told = inl (node_breaks s id damage told)
+pub node_cause : (s t : State) (id : ℕ) (fault : RowFault) → nodes.IsNodeFault s id fault → IsDeleteCause s t id (of_row fault)
+node_cause s t id row.Disk told = tt
+node_cause s t id (row.Damaged damage) told = inl (node_breaks s id damage told)
 
-pub drop_cause : (s m : State) (id : ℕ) (node : NodeRow) → SameButReads s m → Some node ≡ nodes.row_at s.records id → node.degree ≡ 0 → (fault : Fault) → props.BlamesDropped m.records m.shape fault → IsDeleteCause s id (of_fault fault)
-drop_cause s m id node same found lone faults.Memory told = tt
-drop_cause s m id node same found lone faults.Disk told = tt
-drop_cause s m id node same found lone (faults.Damaged damage) told = by (subst (λ (z : State). props.BlamesDropped z.records z.shape (faults.Damaged damage)) same told)
+pub drop_cause : (s m t : State) (id : ℕ) (node : NodeRow) → SameButReads s m → Some node ≡ nodes.row_at s.records id → node.degree ≡ 0 → (fault : Fault) → props.BlamesDropped m.records m.shape fault → IsDeleteCause s t id (of_fault fault)
+drop_cause s m t id node same found lone faults.Memory told = tt
+drop_cause s m t id node same found lone faults.Disk told = tt
+drop_cause s m t id node same found lone (faults.Damaged damage) told = by (subst (λ (z : State). props.BlamesDropped z.records z.shape (faults.Damaged damage)) same told)
   where
-    by : Breaks s.records s.shape damage ⊎ props.SharesBlock s.records damage → IsDeleteCause s id (of_fault (faults.Damaged damage))
+    by : Breaks s.records s.shape damage ⊎ props.SharesBlock s.records damage → IsDeleteCause s t id (of_fault (faults.Damaged damage))
     by (inl broken) = inl broken
-    by (inr shares) = inr (record { row = node; found = sym found; is = lone }, shares)
+    by (inr shares) = inr (inl (record { row = node; found = sym found; is = lone }, shares))
+
+-- the values that the node has in indexes are read before it goes
+pub held_cause : (s t : State) (id : ℕ) (fault : ChangeFault) → IsFailure fault → BlamesBroken s fault → IsDeleteCause s t id fault
+held_cause s t id (NoNode missing) fails told = absurd fails
+held_cause s t id (NoEdge missing) fails told = absurd fails
+held_cause s t id (HasRelationships of degree) fails told = absurd fails
+held_cause s t id IndexThere fails told = absurd fails
+held_cause s t id TooManyIndexes fails told = absurd fails
+held_cause s t id (IndexTooLarge count) fails told = absurd fails
+held_cause s t id (Full file live) fails told = absurd fails
+held_cause s t id (NamesFull count) fails told = absurd fails
+held_cause s t id (PropsFull count) fails told = absurd fails
+held_cause s t id Memory fails told = tt
+held_cause s t id Disk fails told = tt
+held_cause s t id (Damaged damage) fails told = inl told
+
+-- and their entries leave last
+pub entry_cause : (s t : State) (id : ℕ) (fault : ChangeFault) → IsFailure fault → BlamesEntry t fault → IsDeleteCause s t id fault
+entry_cause s t id (NoNode missing) fails told = absurd fails
+entry_cause s t id (NoEdge missing) fails told = absurd fails
+entry_cause s t id (HasRelationships of degree) fails told = absurd fails
+entry_cause s t id IndexThere fails told = absurd fails
+entry_cause s t id TooManyIndexes fails told = absurd fails
+entry_cause s t id (IndexTooLarge count) fails told = absurd fails
+entry_cause s t id (Full file live) fails told = absurd fails
+entry_cause s t id (NamesFull count) fails told = absurd fails
+entry_cause s t id (PropsFull count) fails told = absurd fails
+entry_cause s t id Memory fails told = tt
+entry_cause s t id Disk fails told = tt
+entry_cause s t id (Damaged damage) fails told = inr (inr told)
 
 -- ---- values that are given
 
@@ -95,6 +125,9 @@ pub blames_more : (told more : Damage → Type 0) → ((damage : Damage) → tol
 blames_more told more then (NoNode id) blames = tt
 blames_more told more then (NoEdge id) blames = tt
 blames_more told more then (HasRelationships id degree) blames = tt
+blames_more told more then IndexThere blames = tt
+blames_more told more then TooManyIndexes blames = tt
+blames_more told more then (IndexTooLarge count) blames = tt
 blames_more told more then (Full file live) blames = tt
 blames_more told more then (NamesFull count) blames = tt
 blames_more told more then (PropsFull count) blames = tt
@@ -102,10 +135,10 @@ blames_more told more then Memory blames = tt
 blames_more told more then Disk blames = tt
 blames_more told more then (Damaged damage) blames = then damage blames
 
-pub key_blamed : (tells : Type 0) (blocks : ℕ) (s named : State) (fault : InternFault) → BlamesGiven tells blocks s named (of_intern fault)
-key_blamed tells blocks s named (interns.NamesFull count) = tt
-key_blamed tells blocks s named interns.Memory = tt
-key_blamed tells blocks s named interns.Disk = tt
+pub key_blamed : (tells : Type 0) (blocks : ℕ) (s named t : State) (fault : InternFault) → BlamesGiven tells blocks s named t (of_intern fault)
+key_blamed tells blocks s named t (interns.NamesFull count) = tt
+key_blamed tells blocks s named t interns.Memory = tt
+key_blamed tells blocks s named t interns.Disk = tt
 
 -- reads before a key becomes a name are counted after it
 pub interned_read : (s m : State) (names : List (List ℕ)) (key : List ℕ) → SameButReads s m → SameButReads (interned s names key) (interned m names key)
@@ -146,11 +179,11 @@ midway_read tells blocks s t damage same told =
       breaks = k.breaks;
     }
 
-pub value_blamed : (tells : Type 0) (blocks : ℕ) (s named t : State) → SameButReads named t → (fault : SetFault) → BlamesSet tells blocks t fault → BlamesGiven tells blocks s named (of_set fault)
-value_blamed tells blocks s named t same (sets.PropsFull count) told = tt
-value_blamed tells blocks s named t same (sets.Full file live) told = tt
-value_blamed tells blocks s named t same sets.Memory told = tt
-value_blamed tells blocks s named t same sets.Disk told = tt
-value_blamed tells blocks s named t same (sets.Damaged damage) told = inr (⊎_elim
+pub value_blamed : (tells : Type 0) (blocks : ℕ) (s named t last : State) → SameButReads named t → (fault : SetFault) → BlamesSet tells blocks t fault → BlamesGiven tells blocks s named last (of_set fault)
+value_blamed tells blocks s named t last same (sets.PropsFull count) told = tt
+value_blamed tells blocks s named t last same (sets.Full file live) told = tt
+value_blamed tells blocks s named t last same sets.Memory told = tt
+value_blamed tells blocks s named t last same sets.Disk told = tt
+value_blamed tells blocks s named t last same (sets.Damaged damage) told = inr (⊎_elim
     (λ (k : Breaks t.records t.shape damage). inl (subst (λ (z : State). Breaks z.records z.shape damage) same k))
-    (λ (k : BreaksMidway tells blocks t damage). inr (midway_read tells blocks named t damage same k)) told)
+    (λ (k : BreaksMidway tells blocks t damage). inr (inl (midway_read tells blocks named t damage same k))) told)

@@ -38,11 +38,12 @@ use Rattle.id_freelist.specs.declared.take_fault.TakeFault.{TakeFault}
 use Rattle.id_freelist.specs.declared.take_fault.TakeFault.TheVariants as take
 use Rattle.graph_ops.specs.ChangeFault.{IsFailure, of_intern, of_row, of_set, of_take}
 use Rattle.graph_ops.specs.Damage.{BlamesBroken, IfBlames, IsBroken}
+use Rattle.graph_ops.specs.Entries.{IsEntryFault}
 use Rattle.graph_ops.specs.Owners.{IsAbsent, owner_of}
 use Rattle.graph_ops.specs.Preparing.{IsLineCause, NeedForPairs}
 use Rattle.graph_ops.specs.Rooms.{HasRoom, KeepsElementMetas, LacksRoom}
 use Rattle.graph_ops.specs.declared.change_fault.ChangeFault.{ChangeFault}
-use Rattle.graph_ops.specs.declared.change_fault.ChangeFault.TheVariants.{NoNode, NoEdge, HasRelationships, Full, NamesFull, PropsFull, Memory, Disk, Damaged}
+use Rattle.graph_ops.specs.declared.change_fault.ChangeFault.TheVariants.{NoNode, NoEdge, HasRelationships, IndexThere, TooManyIndexes, IndexTooLarge, Full, NamesFull, PropsFull, Memory, Disk, Damaged}
 use Rattle.graph_ops.proofs.Broken.{blames_more, node_broken, rel_broken}
 use Rattle.graph_ops.proofs.LineNames.{first_lacks}
 
@@ -61,6 +62,9 @@ module _ (command : Command) (s t : State) (names now : List (List ℕ)) where
   absent_caused target asks_node asks_edge (NoNode id) why = (asks_node id why.0, why.1)
   absent_caused target asks_node asks_edge (NoEdge id) why = (asks_edge id why.0, why.1)
   absent_caused target asks_node asks_edge (HasRelationships id degree) why = absurd why
+  absent_caused target asks_node asks_edge IndexThere why = absurd why
+  absent_caused target asks_node asks_edge TooManyIndexes why = absurd why
+  absent_caused target asks_node asks_edge (IndexTooLarge count) why = absurd why
   absent_caused target asks_node asks_edge (Full file live) why = absurd why
   absent_caused target asks_node asks_edge (NamesFull count) why = absurd why
   absent_caused target asks_node asks_edge (PropsFull count) why = absurd why
@@ -74,6 +78,9 @@ module _ (command : Command) (s t : State) (names now : List (List ℕ)) where
   failure_caused (NoNode id) fails = absurd fails
   failure_caused (NoEdge id) fails = absurd fails
   failure_caused (HasRelationships id degree) fails = absurd fails
+  failure_caused IndexThere fails = absurd fails
+  failure_caused TooManyIndexes fails = absurd fails
+  failure_caused (IndexTooLarge count) fails = absurd fails
   failure_caused (Full file live) fails = absurd fails
   failure_caused (NamesFull count) fails = absurd fails
   failure_caused (PropsFull count) fails = absurd fails
@@ -94,6 +101,9 @@ module _ (command : Command) (s t : State) (names now : List (List ℕ)) where
   put_caused pairs count blocks all sum asks (NoNode id) why = absurd why
   put_caused pairs count blocks all sum asks (NoEdge id) why = absurd why
   put_caused pairs count blocks all sum asks (HasRelationships id degree) why = absurd why
+  put_caused pairs count blocks all sum asks IndexThere why = absurd why
+  put_caused pairs count blocks all sum asks TooManyIndexes why = absurd why
+  put_caused pairs count blocks all sum asks (IndexTooLarge most) why = absurd why
   put_caused pairs count blocks all sum asks (Full file live) why = inr (
     asks file (⊎_elim
         (λ (k : (file ≡ format.properties_file) × (0 < count)). (count, subst (λ f. NeedForPairs pairs f count) (sym k.0) all, k.1))
@@ -106,6 +116,29 @@ module _ (command : Command) (s t : State) (names now : List (List ℕ)) where
   put_caused pairs count blocks all sum asks Disk why = tt
   put_caused pairs count blocks all sum asks (Damaged damage) why = tt
 
+-- ---- the entry of a value
+
+-- so many records are live
+abbrev live_told : ChangeFault → ℕ
+live_told (Full file live) = live
+live_told other = 0
+
+-- the file of the indexes is full, by the space as it is left
+pub entry_caused : (command : Command) (s t : State) (names now : List (List ℕ)) → AsksRecord command s.records now format.index_file → (fault : ChangeFault) → IsEntryFault t fault → IsCaused command s t names now fault
+entry_caused command s t names now asks (NoNode id) why = absurd why
+entry_caused command s t names now asks (NoEdge id) why = absurd why
+entry_caused command s t names now asks (HasRelationships id degree) why = absurd why
+entry_caused command s t names now asks IndexThere why = absurd why
+entry_caused command s t names now asks TooManyIndexes why = absurd why
+entry_caused command s t names now asks (IndexTooLarge count) why = absurd why
+entry_caused command s t names now asks (Full file live) why =
+    inr (subst (AsksRecord command s.records now) (sym why.0) asks, (ap live_told why.1.is, subst (λ f. live ≡ room_of t.shape f) (sym why.0) why.2))
+entry_caused command s t names now asks (NamesFull count) why = absurd why
+entry_caused command s t names now asks (PropsFull count) why = absurd why
+entry_caused command s t names now asks Memory why = tt
+entry_caused command s t names now asks Disk why = tt
+entry_caused command s t names now asks (Damaged damage) why = tt
+
 -- ---- the names and the properties of a new element
 
 pub label_caused : (s : State) (names : List (List ℕ)) (label : List ℕ) (pairs : List Pair) (fault : InternFault) → IsFullFault names label fault → IsLineCause s names label pairs (of_intern fault)
@@ -117,6 +150,9 @@ pub assign_caused : (s : State) (a b : List (List ℕ)) (label : List ℕ) (pair
 assign_caused s a b label pairs uses (NoNode id) why counts = absurd why
 assign_caused s a b label pairs uses (NoEdge id) why counts = absurd why
 assign_caused s a b label pairs uses (HasRelationships id degree) why counts = absurd why
+assign_caused s a b label pairs uses IndexThere why counts = absurd why
+assign_caused s a b label pairs uses TooManyIndexes why counts = absurd why
+assign_caused s a b label pairs uses (IndexTooLarge count) why counts = absurd why
 assign_caused s a b label pairs uses (Full file live) why counts = absurd why
 assign_caused s a b label pairs uses (NamesFull count) why counts = ((why.0, (b, uses, why.1), why.2), counts)
 assign_caused s a b label pairs uses (PropsFull count) why counts = (why.3, counts)
@@ -143,7 +179,10 @@ module _ (s t : State) (names now : List (List ℕ)) (label : List ℕ) (pairs :
   line_node (NoNode id) why = absurd why
   line_node (NoEdge id) why = absurd why
   line_node (HasRelationships id degree) why = absurd why
-  line_node (Full file live) why = inl (why.0, inr why.1, why.2)
+  line_node IndexThere why = absurd why
+  line_node TooManyIndexes why = absurd why
+  line_node (IndexTooLarge count) why = absurd why
+  line_node (Full file live) why = inl (why.0, inr (inl why.1), why.2)
   line_node (NamesFull count) why = why
   line_node (PropsFull count) why = why
   line_node Memory why = tt
@@ -154,6 +193,9 @@ module _ (s t : State) (names now : List (List ℕ)) (label : List ℕ) (pairs :
   line_edge from to (NoNode id) why = absurd why
   line_edge from to (NoEdge id) why = absurd why
   line_edge from to (HasRelationships id degree) why = absurd why
+  line_edge from to IndexThere why = absurd why
+  line_edge from to TooManyIndexes why = absurd why
+  line_edge from to (IndexTooLarge count) why = absurd why
   line_edge from to (Full file live) why = inl (why.0, inr why.1, why.2)
   line_edge from to (NamesFull count) why = why
   line_edge from to (PropsFull count) why = why
@@ -191,9 +233,9 @@ module _ (s t : State) (names now : List (List ℕ)) (target : Target) (key : Li
   set_caused number named r same (sets.PropsFull n) why =
       (record { number = number; named = named; crowded = (sym (ap (λ es. property_of es number) same) ∙ why.1.0, sym (ap (λ (es : List Property). length es) same) ∙ why.1.1) }, why.0)
   set_caused number named r same (sets.Full file live) why = inr (
-    ⊎_elim
+    inl (⊎_elim
         (λ (k : (file ≡ format.properties_file) × LacksMet r (owner_of target) number). inl (k.0, record { number = number; named = named; lacks = sym (ap (λ es. property_of es number) same) ∙ k.1 }))
-        (λ (k : (file ≡ format.strings_file) × (0 < blocks_of value)). inr k) why.1,
+        (λ (k : (file ≡ format.strings_file) × (0 < blocks_of value)). inr k) why.1),
     why.0,
   )
   set_caused number named r same sets.Memory why = tt
@@ -205,6 +247,9 @@ pub caused_read : (command : Command) (s m t : State) (names now : List (List �
 caused_read command s m t names now same (NoNode id) why = subst (λ (z : State). IsCaused command z t names now (NoNode id)) same why
 caused_read command s m t names now same (NoEdge id) why = subst (λ (z : State). IsCaused command z t names now (NoEdge id)) same why
 caused_read command s m t names now same (HasRelationships id degree) why = subst (λ (z : State). IsCaused command z t names now (HasRelationships id degree)) same why
+caused_read command s m t names now same IndexThere why = subst (λ (z : State). IsCaused command z t names now IndexThere) same why
+caused_read command s m t names now same TooManyIndexes why = subst (λ (z : State). IsCaused command z t names now TooManyIndexes) same why
+caused_read command s m t names now same (IndexTooLarge count) why = subst (λ (z : State). IsCaused command z t names now (IndexTooLarge count)) same why
 caused_read command s m t names now same (Full file live) why = by (subst (λ (z : State). IsCaused command z t names now (Full file live)) same why)
   where
     by : IsCaused command (record s { reads = m.reads }) t names now (Full file live) → IsCaused command s t names now (Full file live)
@@ -221,6 +266,9 @@ pub absent_read : (s m : State) (target : Target) → SameButReads s m → (faul
 absent_read s m target same (NoNode id) why = subst (λ (z : State). IsAbsent z target (NoNode id)) same why
 absent_read s m target same (NoEdge id) why = subst (λ (z : State). IsAbsent z target (NoEdge id)) same why
 absent_read s m target same (HasRelationships id degree) why = why
+absent_read s m target same IndexThere why = why
+absent_read s m target same TooManyIndexes why = why
+absent_read s m target same (IndexTooLarge count) why = why
 absent_read s m target same (Full file live) why = why
 absent_read s m target same (NamesFull count) why = why
 absent_read s m target same (PropsFull count) why = why
@@ -238,6 +286,9 @@ pub any_blamed : (told : Damage → Type 0) → ((damage : Damage) → told dama
 any_blamed told all (NoNode id) = tt
 any_blamed told all (NoEdge id) = tt
 any_blamed told all (HasRelationships id degree) = tt
+any_blamed told all IndexThere = tt
+any_blamed told all TooManyIndexes = tt
+any_blamed told all (IndexTooLarge count) = tt
 any_blamed told all (Full file live) = tt
 any_blamed told all (NamesFull count) = tt
 any_blamed told all (PropsFull count) = tt

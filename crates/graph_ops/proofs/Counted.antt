@@ -2,15 +2,17 @@
 use Rattle.std.proofs.Common.{◌≡◌, ℕ, List, sym, ap, ◌∙◌, subst, ⊎_elim}
 use Rattle.rec_bytes.specs.declared.meta.Meta.{Meta}
 use Rattle.rec_bytes.specs.Format as format
+use Rattle.rec_bytes.specs.RecordFiles.{room_of}
 use Rattle.rec_bytes.specs.Space.{SameButReads, State, meta_of}
 use Rattle.name_store.specs.Interning.{IsFullFault}
 use Rattle.name_store.specs.declared.intern_fault.InternFault.{InternFault}
 use Rattle.name_store.specs.declared.intern_fault.InternFault.TheVariants as intern
 use Rattle.graph_ops.specs.declared.change_fault.ChangeFault.{ChangeFault}
-use Rattle.graph_ops.specs.declared.change_fault.ChangeFault.TheVariants.{NoNode, NoEdge, HasRelationships, Full, NamesFull, PropsFull, Memory, Disk, Damaged}
+use Rattle.graph_ops.specs.declared.change_fault.ChangeFault.TheVariants.{NoNode, NoEdge, HasRelationships, IndexThere, TooManyIndexes, IndexTooLarge, Full, NamesFull, PropsFull, Memory, Disk, Damaged}
 use Rattle.graph_ops.specs.Assigning.{IsAssignCount, IsReserveFault}
 use Rattle.graph_ops.specs.Change.{IsCounted, IsSetCount}
 use Rattle.graph_ops.specs.ChangeFault.{IsOutside, of_intern, of_set}
+use Rattle.graph_ops.specs.Entries.{IsEntryFault}
 use Rattle.prop_store.specs.SetFault.{IsSetCause}
 use Rattle.prop_store.specs.declared.set_fault.SetFault.{SetFault}
 use Rattle.prop_store.specs.declared.set_fault.SetFault.TheVariants as sets
@@ -30,6 +32,9 @@ pub assign_counted : (s : State) (fault : ChangeFault) → IsAssignCount fault �
 assign_counted s (NoNode id) why = tt
 assign_counted s (NoEdge id) why = tt
 assign_counted s (HasRelationships id degree) why = absurd why
+assign_counted s IndexThere why = absurd why
+assign_counted s TooManyIndexes why = absurd why
+assign_counted s (IndexTooLarge count) why = absurd why
 assign_counted s (Full file live) why = absurd why
 assign_counted s (NamesFull count) why = why
 assign_counted s (PropsFull count) why = why
@@ -51,6 +56,9 @@ pub outside_counted : (s : State) (fault : ChangeFault) → IsOutside fault → 
 outside_counted s (NoNode id) why = tt
 outside_counted s (NoEdge id) why = tt
 outside_counted s (HasRelationships id degree) why = absurd why
+outside_counted s IndexThere why = absurd why
+outside_counted s TooManyIndexes why = absurd why
+outside_counted s (IndexTooLarge count) why = absurd why
 outside_counted s (Full file live) why = absurd why
 outside_counted s (NamesFull count) why = absurd why
 outside_counted s (PropsFull count) why = absurd why
@@ -62,6 +70,9 @@ pub absent_counted : (s : State) (target : Target) (fault : ChangeFault) → IsA
 absent_counted s target (NoNode id) why = tt
 absent_counted s target (NoEdge id) why = tt
 absent_counted s target (HasRelationships id degree) why = absurd why
+absent_counted s target IndexThere why = absurd why
+absent_counted s target TooManyIndexes why = absurd why
+absent_counted s target (IndexTooLarge count) why = absurd why
 absent_counted s target (Full file live) why = absurd why
 absent_counted s target (NamesFull count) why = absurd why
 absent_counted s target (PropsFull count) why = absurd why
@@ -74,6 +85,9 @@ pub counted_read : (s t : State) → SameButReads s t → (fault : ChangeFault) 
 counted_read s t same (NoNode id) why = tt
 counted_read s t same (NoEdge id) why = tt
 counted_read s t same (HasRelationships id degree) why = subst (λ (z : State). HasDegree z.records id degree) same why
+counted_read s t same IndexThere why = why
+counted_read s t same TooManyIndexes why = why
+counted_read s t same (IndexTooLarge count) why = why
 counted_read s t same (Full file live) why = subst (λ (z : State). live ≡ (meta_of z file).live) same why
 counted_read s t same (NamesFull count) why = why
 counted_read s t same (PropsFull count) why = why
@@ -89,10 +103,28 @@ set_exact crowded new blocks t sets.Memory why = tt
 set_exact crowded new blocks t sets.Disk why = tt
 set_exact crowded new blocks t (sets.Damaged damage) why = tt
 
+-- the file of the indexes is full where an entry isn't added
+pub entry_exact : (t : State) (fault : ChangeFault) → IsEntryFault t fault → IsSetCount t.shape fault
+entry_exact t (NoNode id) why = tt
+entry_exact t (NoEdge id) why = tt
+entry_exact t (HasRelationships id degree) why = why
+entry_exact t IndexThere why = why
+entry_exact t TooManyIndexes why = why
+entry_exact t (IndexTooLarge count) why = why
+entry_exact t (Full file live) why = subst (λ f. live ≡ room_of t.shape f) (sym why.0) why.2
+entry_exact t (NamesFull count) why = absurd why
+entry_exact t (PropsFull count) why = absurd why
+entry_exact t Memory why = tt
+entry_exact t Disk why = tt
+entry_exact t (Damaged damage) why = tt
+
 pub named_exact : (shape : Shape) (fault : ChangeFault) → IsAssignCount fault → IsSetCount shape fault
 named_exact shape (NoNode id) why = tt
 named_exact shape (NoEdge id) why = tt
 named_exact shape (HasRelationships id degree) why = why
+named_exact shape IndexThere why = why
+named_exact shape TooManyIndexes why = why
+named_exact shape (IndexTooLarge count) why = why
 named_exact shape (Full file live) why = absurd why
 named_exact shape (NamesFull count) why = why
 named_exact shape (PropsFull count) why = why
@@ -104,6 +136,9 @@ pub element_exact : (shape : Shape) (fault : ChangeFault) → MayMiss fault → 
 element_exact shape (NoNode id) why = tt
 element_exact shape (NoEdge id) why = tt
 element_exact shape (HasRelationships id degree) why = why
+element_exact shape IndexThere why = why
+element_exact shape TooManyIndexes why = why
+element_exact shape (IndexTooLarge count) why = why
 element_exact shape (Full file live) why = absurd why
 element_exact shape (NamesFull count) why = absurd why
 element_exact shape (PropsFull count) why = absurd why

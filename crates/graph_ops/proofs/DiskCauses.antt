@@ -17,11 +17,14 @@ use Rattle.rec_bytes.specs.declared.space.SpaceFault.TheVariants as spaces
 use Rattle.name_store.specs.InternFault.{HasInternCause}
 use Rattle.name_store.specs.declared.intern_fault.InternFault.{InternFault}
 use Rattle.name_store.specs.declared.intern_fault.InternFault.TheVariants as interns
+use Rattle.prop_index.specs.MakeFault.{HasMakeCause}
+use Rattle.prop_index.specs.declared.make_fault.MakeFault.{MakeFault}
+use Rattle.prop_index.specs.declared.make_fault.MakeFault.TheVariants as makes
 use Rattle.prop_store.specs.SetFault.{HasSetCause}
 use Rattle.prop_store.specs.declared.set_fault.SetFault.{SetFault}
 use Rattle.prop_store.specs.declared.set_fault.SetFault.TheVariants as sets
 use Rattle.graph_ops.specs.Assigning.{IsReserveFault}
-use Rattle.graph_ops.specs.ChangeFault.{HasChangeCause, of_fault, of_intern, of_row, of_set, of_space}
+use Rattle.graph_ops.specs.ChangeFault.{HasChangeCause, of_fault, of_intern, of_make, of_row, of_set, of_space}
 use Rattle.graph_ops.specs.Rooms.{HasRoom, LacksRoom}
 use Rattle.graph_ops.specs.declared.change_fault.ChangeFault.{ChangeFault}
 use Rattle.graph_ops.specs.declared.change_fault.ChangeFault.TheVariants.{Disk}
@@ -106,3 +109,15 @@ set_blames (sets.Damaged damage) e = absurd cc
 
 pub set_cause_passed : {T U : Type 0} (before mid now : ℕ) (r : Result T ChangeFault) (fault : SetFault) → before ≤ mid → HasSetCause {T = U} mid now (Err fault) → IsErrAnd r (λ f. f ≡ of_set fault) → HasChangeCause before now r
 set_cause_passed before mid now r fault early cause is = passed of_set sets.Disk before mid now r fault (set_blames fault) early cause is
+
+make_blames : (fault : MakeFault) → of_make fault ≡ Disk → fault ≡ makes.Disk
+make_blames makes.There e = absurd cc
+make_blames makes.Many e = absurd cc
+make_blames (makes.TooLarge count) e = absurd cc
+make_blames (makes.Full live) e = absurd cc
+make_blames makes.Memory e = absurd cc
+make_blames makes.Disk e = refl
+make_blames (makes.Damaged damage) e = absurd cc
+
+pub make_cause_passed : {T U : Type 0} (before mid now : ℕ) (r : Result T ChangeFault) (fault : MakeFault) → before ≤ mid → HasMakeCause {T = U} mid now (Err fault) → IsErrAnd r (λ f. f ≡ of_make fault) → HasChangeCause before now r
+make_cause_passed before mid now r fault early cause is = passed of_make makes.Disk before mid now r fault (make_blames fault) early cause is

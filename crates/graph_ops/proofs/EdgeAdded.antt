@@ -25,18 +25,22 @@ use Rattle.graph_ops.specs.NodeDeleting.{HasDegree}
 use Rattle.graph_ops.specs.Owners.{IsMissing}
 use Rattle.graph_ops.specs.Preparing.{IsPrepared, line_reasons}
 use Rattle.graph_ops.specs.Rooms.{HasRoom, LacksRoom}
-use Rattle.graph_ops.specs.Store.{IsStore, KeepsElements, graph_in}
+use Rattle.store_rules.specs.Indexes.{AreIndexed, wanted_in}
+use Rattle.graph_ops.specs.Store.{IsMidway, KeepsElements, KeepsIndexes, graph_in}
 use Rattle.graph_ops.specs.declared.change_fault.ChangeFault.{ChangeFault}
-use Rattle.graph_ops.specs.declared.change_fault.ChangeFault.TheVariants.{NoNode, NoEdge, HasRelationships, Full, NamesFull, PropsFull, Memory, Disk, Damaged}
+use Rattle.graph_ops.specs.declared.change_fault.ChangeFault.TheVariants.{NoNode, NoEdge, HasRelationships, IndexThere, TooManyIndexes, IndexTooLarge, Full, NamesFull, PropsFull, Memory, Disk, Damaged}
 use Rattle.graph_ops.specs.declared.preparing.Prepared.{Prepared}
 use Rattle.graph_ops.proofs.ElementRooms as rooms
 use Rattle.graph_ops.proofs.ElementChanges.{new_edge_changed, new_edge_properties, new_edge_there}
 use Rattle.graph_ops.proofs.Elements.{found_in, found_there, node_missing}
 use Rattle.graph_ops.proofs.LineNames.{needs_names}
 use Rattle.graph_ops.proofs.Reasons.{None as Never, refused_more}
+use Rattle.graph_ops.proofs.KeptIndexes.{store_now}
+use Rattle.graph_ops.proofs.Reasons.{index_reasons}
+use Rattle.plain_graph.proofs.LineLaws.{first_front, none_both}
 
 -- ---- room for an edge
-module _ (s : State) (names : List (List ℕ)) (store : IsStore s names) where
+module _ (s : State) (names : List (List ℕ)) (store : IsMidway s names) where
   live_edges : (meta_of s format.relationships_file).live ≡ length (graph_in s).edges
   live_edges = count_edges s.records s.shape store.store
 
@@ -70,6 +74,9 @@ module _ (limit : ℕ) (graph : Graph) (from : ℕ) (label : List ℕ) (to : ℕ
   source_missing (NoNode id) why = let e = node_is from id why.0 in inr (none_of, inl (ap (has_node graph) e ∙ why.1, sym (ap refusals.NoNode e)))
   source_missing (NoEdge id) why = absurd (no_edge_is from id why.0)
   source_missing (HasRelationships id degree) why = absurd why
+  source_missing IndexThere why = absurd why
+  source_missing TooManyIndexes why = absurd why
+  source_missing (IndexTooLarge count) why = absurd why
   source_missing (Full file live) why = absurd why
   source_missing (NamesFull count) why = absurd why
   source_missing (PropsFull count) why = absurd why
@@ -86,6 +93,9 @@ module _ (limit : ℕ) (graph : Graph) (from : ℕ) (label : List ℕ) (to : ℕ
     target_missing (NoNode id) why = let e = node_is to id why.0 in inr (none_of, inr (has_source, inl (ap (has_node graph) e ∙ why.1, sym (ap refusals.NoNode e))))
     target_missing (NoEdge id) why = absurd (no_edge_is to id why.0)
     target_missing (HasRelationships id degree) why = absurd why
+    target_missing IndexThere why = absurd why
+    target_missing TooManyIndexes why = absurd why
+    target_missing (IndexTooLarge count) why = absurd why
     target_missing (Full file live) why = absurd why
     target_missing (NamesFull count) why = absurd why
     target_missing (PropsFull count) why = absurd why
@@ -109,7 +119,7 @@ module _ (limit : ℕ) (graph : Graph) (from : ℕ) (label : List ℕ) (to : ℕ
         has_room other why = room why.0
 
         line_first : (why : Refusal) → FirstReason line_reasons limit graph (commands.Node label pairs) why → FirstReason change_reasons limit graph (commands.Edge from label to pairs) why
-        line_first why h = inr (none_of, inr (has_source, inr (has_target, inr (has_room, inr (none_of, inr (none_of, inr (none_of, h)))))))
+        line_first why h = inr (none_of, inr (has_source, inr (has_target, inr (has_room, inr (none_of, inr (none_of, inr (none_of, inr (none_of, inr (none_of, inr (none_of, first_front line_reasons index_reasons limit graph (commands.Edge from label to pairs) why h))))))))))
 
         -- the names or the properties refuse it
         pub line_refused : (fault : ChangeFault) → IsRefusedBy line_reasons limit graph (commands.Node label pairs) fault → IsRefusedBy change_reasons limit graph (commands.Edge from label to pairs) fault
@@ -117,11 +127,11 @@ module _ (limit : ℕ) (graph : Graph) (from : ℕ) (label : List ℕ) (to : ℕ
 
         -- nothing refuses it
         edge_free : NoReason line_reasons limit graph (commands.Node label pairs) → NoReason change_reasons limit graph (commands.Edge from label to pairs)
-        edge_free free = (none_of, (has_source, (has_target, (has_room, (none_of, (none_of, (none_of, free)))))))
+        edge_free free = (none_of, (has_source, (has_target, (has_room, (none_of, (none_of, (none_of, (none_of, (none_of, (none_of, none_both line_reasons index_reasons limit graph (commands.Edge from label to pairs) free (none_of, (none_of, tt))))))))))))
 
 -- ---- the degrees of the ends
 -- a node of a store has the degree that it has in the graph
-has_degree : (s : State) (names : List (List ℕ)) (id : ℕ) → IsStore s names → has_node (graph_in s) id ≡ true → HasDegree s.records id (degree_in (graph_in s) id)
+has_degree : (s : State) (names : List (List ℕ)) (id : ℕ) → IsMidway s names → has_node (graph_in s) id ≡ true → HasDegree s.records id (degree_in (graph_in s) id)
 has_degree s names id store there = by (nodes.row_at s.records id) refl
   where
     by : (row : Option NodeRow) → nodes.row_at s.records id ≡ row → HasDegree s.records id (degree_in (graph_in s) id)
@@ -129,14 +139,14 @@ has_degree s names id store there = by (nodes.row_at s.records id) refl
     by (Some row) is = record { row = row; found = is; is = found_in s names id row.degree store (record { row = row; found = is; is = refl }) }
 
 -- it keeps it where the elements stay
-pub degree_kept : (s u : State) (names c : List (List ℕ)) (id n : ℕ) → IsStore s names → KeepsElements s u c → HasDegree s.records id n → HasDegree u.records id n
+pub degree_kept : (s u : State) (names c : List (List ℕ)) (id n : ℕ) → IsMidway s names → KeepsElements s u c → HasDegree s.records id n → HasDegree u.records id n
 degree_kept s u names c id n store kept has =
     let there = ap (list_any (λ e. nat_eq (node_number e) id)) kept.nodes ∙ found_there s names id n store has in
     let same = ap (λ l. length (filter (is_at id) l)) kept.edges ∙ sym (found_in s names id n store has) in
     subst (HasDegree u.records id) same (has_degree u c id kept.store there)
 
 -- ---- the change
-module _ (s u v : State) (names c : List (List ℕ)) (from : ℕ) (label : List ℕ) (to : ℕ) (pairs : List Pair) (id : ℕ) (prepared : Prepared) (store : IsStore s names) (at_hand : IsPrepared s u c label pairs prepared)
+module _ (s u v : State) (names c : List (List ℕ)) (from : ℕ) (label : List ℕ) (to : ℕ) (pairs : List Pair) (id : ℕ) (prepared : Prepared) (store : IsMidway s names) (at_hand : IsPrepared s u c label pairs prepared)
     (puts : PutsEdge u v c from label to id) (same : v.shape ≡ u.shape) where
   abbrev bare : Edge
   bare = record { id = id; label = label; from = from; to = to; properties = no_properties }
@@ -158,7 +168,7 @@ module _ (s u v : State) (names c : List (List ℕ)) (from : ℕ) (label : List 
       (puts.metas format.properties_file (λ e. omega arith) (λ e. omega arith)) (puts.metas format.strings_file (λ e. omega arith) (λ e. omega arith)) same at_hand.room
 
   module _ (w : State) (put : PutsPairs v w c (targets.Edge id) (pairs_of c pairs prepared.assigned.items)) (room : ¬ IsFullOfEdges s) (source target : ℕ) (source_has : HasDegree s.records from source)
-      (target_has : HasDegree s.records to target) where
+      (target_has : HasDegree s.records to target) (are : AreIndexed s.records (wanted_in s.records)) (last : KeepsIndexes v w) where
     abbrev ps : List Pair
     ps = pairs_of c pairs prepared.assigned.items
 
@@ -181,7 +191,7 @@ module _ (s u v : State) (names c : List (List ℕ)) (from : ℕ) (label : List 
 
     pub made : (weight ends : ℕ) → weight ≡ 9 + prepared.weight + ends → ends ≡ degrees_weight s.shape.threshold from source to target → MakesChange (commands.Edge from label to pairs) (EdgeMade id) weight s w c
     made weight ends is weighs = record {
-      store = put.store;
+      store = store_now w c put.store (last (puts.keeps (at_hand.kept.keeps are)));
       changes = (
         id,
         refl,
@@ -193,6 +203,7 @@ module _ (s u v : State) (names c : List (List ℕ)) (from : ℕ) (label : List 
           nodes = ap (λ (g : Graph). g.nodes) put.graph ∙ puts.nodes ∙ at_hand.kept.nodes;
           edges = edges_are;
           names = subst (UsesNames (graph_in s).names (label ∷ keys_in pairs)) put.store.names at_hand.uses;
+          indexes = ap (λ (g : Graph). g.indexes) put.graph ∙ puts.indexes ∙ at_hand.kept.indexes;
         },
       );
       weighs = (_, needs_names (graph_in s).names (label ∷ keys_in pairs) c at_hand.uses, let k = at_hand.weighs in let e = weighs ∙ ends_are in omega arith);

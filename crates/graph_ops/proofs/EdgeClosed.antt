@@ -13,11 +13,12 @@ use Rattle.chain_edit.specs.Heads.{head_of}
 use Rattle.group_store.specs.Closing.{CanClose, HasClosed}
 use Rattle.graph_ops.specs.EdgeDeleting.{IsBareEdge, KeepsKinds, PartsEdge, StandsAtEnd, TakesEdge}
 use Rattle.graph_ops.specs.EdgeEnds.{end_groups, source_of, target_of}
-use Rattle.graph_ops.specs.Store.{graph_in}
+use Rattle.graph_ops.specs.Store.{KeepsIndexes, graph_in}
 use Rattle.graph_ops.specs.declared.edge_end.EdgeEnd.{EdgeEnd}
 use Rattle.graph_ops.specs.declared.edge_end.Ends.{Ends}
 use Rattle.graph_ops.specs.declared.edge_end.Ends.TheVariants.{Loop, Two}
 use Rattle.graph_ops.proofs.EndLaws.{at_source, at_target}
+use Rattle.graph_ops.proofs.KeptIndexes.{regroups_keep}
 
 -- the group of the target's head, unless it is the source's too
 abbrev rest_of : Ends EdgeEnd → List ℕ
@@ -49,12 +50,13 @@ module _ (s u : State) (names : List (List ℕ)) (id : ℕ) (ends : Ends EdgeEnd
   }
 
   -- what is left keeps the rules, and the graph
-  taken : (t : State) → KeepsRules t.records t.shape u.shape.threshold [] → t.shape ≡ u.shape → graph_of t.records ≡ graph_of u.records → KeepsKinds u t → TakesEdge s t names id
-  taken t keeps shape graph kinds = record {
+  taken : (t : State) → KeepsRules t.records t.shape u.shape.threshold [] → t.shape ≡ u.shape → graph_of t.records ≡ graph_of u.records → KeepsIndexes u t → KeepsKinds u t → TakesEdge s t names id
+  taken t keeps shape graph indexes kinds = record {
     store = record {
       store = subst (λ m. KeepsRules t.records t.shape m []) (sym (ap (λ z. z.threshold) shape)) keeps;
       names = parts.names ∙ sym (ap (λ (z : Graph). z.names) graph);
     };
+    indexes = λ are. indexes (parts.indexes are);
     removes = subst (RemovesEdge (graph_in s) id) (sym graph) parts.removes;
     kinds = λ n. kinds n ∙ parts.kinds n;
   }
@@ -67,7 +69,7 @@ module _ (s u : State) (names : List (List ℕ)) (id : ℕ) (ends : Ends EdgeEnd
 
   module _ (v : State) (closed : HasClosed u v source.node u.shape.threshold rest) where
     pub loop_taken : rest ≡ [] → TakesEdge s v names id
-    loop_taken none = taken v (subst (KeepsRules v.records v.shape u.shape.threshold) none closed.keeps) closed.regroups.shape closed.regroups.graph (closed_kinds u v source.node u.shape.threshold rest closed)
+    loop_taken none = taken v (subst (KeepsRules v.records v.shape u.shape.threshold) none closed.keeps) closed.regroups.shape closed.regroups.graph (regroups_keep u v source.node closed.regroups) (closed_kinds u v source.node u.shape.threshold rest closed)
 
     -- the other end's head is still the other's
     owns_then : (h : rules.Head) (n : ℕ) → n ≢ source.node → Owns (kind_at u.records format.nodes_file) (group_at u.records) h n → Owns (kind_at v.records format.nodes_file) (group_at v.records) h n
@@ -89,4 +91,5 @@ module _ (s u : State) (names : List (List ℕ)) (id : ℕ) (ends : Ends EdgeEnd
 
     pub pair_taken : (w : State) → HasClosed v w target.node u.shape.threshold [] → TakesEdge s w names id
     pair_taken w last = taken w last.keeps (last.regroups.shape ∙ closed.regroups.shape) (last.regroups.graph ∙ closed.regroups.graph)
+        (λ are. regroups_keep v w target.node last.regroups (regroups_keep u v source.node closed.regroups are))
         (λ n. closed_kinds v w target.node u.shape.threshold [] last n ∙ closed_kinds u v source.node u.shape.threshold rest closed n)

@@ -18,6 +18,7 @@ use Rattle.graph_ops.specs.declared.edge_end.EdgeEnd.{EdgeEnd}
 use Rattle.graph_ops.specs.declared.edge_end.Ends.TheVariants.{Loop, Two}
 use Rattle.graph_ops.specs.EdgeJoining.{CanJoin, MayStandAt, edge_row}
 use Rattle.graph_ops.specs.EdgePlacing.{KeepsGraph, PutsEdge}
+use Rattle.graph_ops.proofs.KeptIndexes.{regroups_keep}
 
 -- ---- what a change of another node's groups leaves
 module _ (s t : State) (m : ℕ) (change : Regroups s t m) (h : Head) (n : ℕ) (ne : n ≢ m) where
@@ -60,15 +61,17 @@ counted_stays s t m kinds h n ne (inr o) counted file =
 
 -- ---- the graph stays
 pub keeps_graph : (s t : State) (n : ℕ) → Regroups s t n → KeepsGraph s t
-keeps_graph s t n change = record { shape = change.shape; graph = change.graph; metas = change.metas }
+keeps_graph s t n change = record { shape = change.shape; graph = change.graph; indexes = regroups_keep s t n change; metas = change.metas }
 
 pub graph_twice : (s t u : State) → KeepsGraph s t → KeepsGraph t u → KeepsGraph s u
-graph_twice s t u a b = record { shape = b.shape ∙ a.shape; graph = b.graph ∙ a.graph; metas = λ file ne. b.metas file ne ∙ a.metas file ne }
+graph_twice s t u a b = record { shape = b.shape ∙ a.shape; graph = b.graph ∙ a.graph; indexes = λ are. b.indexes (a.indexes are); metas = λ file ne. b.metas file ne ∙ a.metas file ne }
 
 -- an edge that is put then was put into the store before
 pub puts_through : (s t u : State) (names : List (List ℕ)) (from : ℕ) (label : List ℕ) (to id : ℕ) → KeepsGraph s t → PutsEdge t u names from label to id → PutsEdge s u names from label to id
 puts_through s t u names from label to id keeps puts = record {
   store = puts.store;
+  keeps = λ are. puts.keeps (keeps.indexes are);
+  indexes = puts.indexes ∙ ap (λ (g : Graph). g.indexes) keeps.graph;
   leaves = ap (λ g. has_node g from) (sym keeps.graph) ∙ puts.leaves;
   enters = ap (λ g. has_node g to) (sym keeps.graph) ∙ puts.enters;
   below = subst (λ (h : Shape). id < h.limit) keeps.shape puts.below;

@@ -42,6 +42,8 @@ use Rattle.graph_ops.specs.Store.{graph_in}
 use Rattle.graph_ops.proofs.EdgeJoined.{IsLoneEdge, at_new, both_joined, edge_joined, first_source, first_target, loop_target, made_right, one_right}
 use Rattle.graph_ops.proofs.EndLaws.{at_source, at_target}
 use Rattle.graph_ops.proofs.NodePut.{number_in}
+use Rattle.graph_ops.proofs.KeptIndexes.{edge_graph_indexes}
+use Rattle.store_rules.proofs.IndexKept.{edge_indexed}
 
 -- ---- the record of a new relationship
 module _ (id label from to : ℕ) (label_small : label < 2 ^ 32) (from_small : from < 2 ^ 32) (to_small : to < 2 ^ 32) where
@@ -278,6 +280,8 @@ module _ (s t : State) (names : List (List ℕ)) (number : ℕ) (label : List �
       store = subst (IsWellFormed last.records) (sym shape) (made_well s.records t.records last.records s.shape id edge_rec row edge can.keeps);
       names = can.named ∙ sym (made_names s.records t.records last.records s.shape id edge_rec row edge can.keeps);
     };
+    keeps = edge_indexed s.records last.records id change;
+    indexes = edge_graph_indexes s.records last.records id change;
     leaves = node_there s.records source.node (end_used source leaves);
     enters = node_there s.records target.node (end_used target enters);
     below = placed.small;

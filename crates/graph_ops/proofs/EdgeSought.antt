@@ -19,7 +19,7 @@ use Rattle.rel_store.specs.Loading.{mark_damage, row_at}
 use Rattle.rel_store.specs.declared.rel_row.RelRow.{RelRow}
 use Rattle.rel_store.proofs.Rows as rel_rows
 use Rattle.store_rules.specs.Breaking.{Breaks, DegreeKeeps, GroupKeeps, IsGroupHeadOf, IsHeadChain, IsMetaKept, group_head}
-use Rattle.store_rules.specs.Breaking.Breaks.{FreeList, GroupChains, GroupOwner, NameCount, NodeChain, OffFreeList, OwnRecord, OwnerGroups, RecordRange, RelEnds, UsedIndex, WrongBlock, WrongDegree, WrongElement, WrongHolding, WrongMeta, WrongName, WrongText}
+use Rattle.store_rules.specs.Breaking.Breaks.{FreeList, GroupChains, GroupOwner, NameCount, NodeChain, OffFreeList, OwnRecord, OwnerGroups, RecordRange, RelEnds, WrongBlock, WrongDegree, WrongElement, WrongHolding, WrongIndex, WrongMeta, WrongName, WrongText}
 use Rattle.store_rules.specs.Chains.{IsChain, IsWalk, next_in, place_of, prev_in}
 use Rattle.store_rules.specs.PropertyChange.{Apart}
 use Rattle.store_rules.specs.Ranges.{Layout, layout_by}
@@ -27,6 +27,7 @@ use Rattle.store_rules.specs.Rules.{IsEnd, StandsAt, degree_of, first_of}
 use Rattle.store_rules.specs.Views as views
 use Rattle.store_rules.specs.Views.{GroupRow, Records, degree, first_link, group_at, high, is_group_kind, key_in, kind_at, kind_in, rec_at, rel_at, rel_in}
 use Rattle.store_rules.proofs.ChainLaws.{chain_stays, walk_stays}
+use Rattle.store_rules.proofs.IndexBreaches.{index_rule}
 use Rattle.store_rules.proofs.NumberLaws.{eq_false, nat_cases}
 use Rattle.store_rules.proofs.TwinRows.{HaveRels, degree_alike, have_rels, stands_alike}
 use Rattle.store_rules.proofs.ViewLaws.{kind_below, kind_low, live_false, not_live, some_row}
@@ -65,7 +66,7 @@ group_broken r shape g d e (WrongText p lt k) = absurd (let f = ap (λ (d : Dama
 group_broken r shape g d e (WrongBlock b k) = absurd (let f = ap (λ (d : Damage). d.rule) e in omega arith)
 group_broken r shape g d e (WrongName x lt k) = absurd (let f = ap (λ (d : Damage). d.rule) e in omega arith)
 group_broken r shape g d e (WrongDegree n lt k) = absurd (let f = ap (λ (d : Damage). d.rule) e in omega arith)
-group_broken r shape g d e (UsedIndex x lt k) = absurd (let f = ap (λ (d : Damage). d.rule) e in omega arith)
+group_broken r shape g d e (WrongIndex x bad) = absurd (let f = ap (λ (d : Damage). d.rule) e in let k = index_rule r x bad in omega arith)
 
 -- the seventh rule of a node
 degree_broken : (r : Records) (shape : Shape) (n : ℕ) (d : Damage) → d ≡ record { file = format.nodes_file; id = n; rule = 7 } → Breaks r shape d → (n < high r format.nodes_file) × (¬ DegreeKeeps r shape.threshold n)
@@ -86,7 +87,7 @@ degree_broken r shape n d e (WrongText p lt k) = absurd (let f = ap (λ (d : Dam
 degree_broken r shape n d e (WrongBlock b k) = absurd (let f = ap (λ (d : Damage). d.rule) e in omega arith)
 degree_broken r shape n d e (WrongName x lt k) = absurd (let f = ap (λ (d : Damage). d.rule) e in omega arith)
 degree_broken r shape n d e (WrongDegree m lt k) = subst (λ z. (z < high r format.nodes_file) × (¬ DegreeKeeps r shape.threshold z)) (ap (λ (d : Damage). d.id) e) (lt, k)
-degree_broken r shape n d e (UsedIndex x lt k) = absurd (let f = ap (λ (d : Damage). d.rule) e in omega arith)
+degree_broken r shape n d e (WrongIndex x bad) = absurd (let f = ap (λ (d : Damage). d.rule) e in let k = index_rule r x bad in omega arith)
 
 -- the first rule of the meta record of the relationships
 meta_broken : (r : Records) (shape : Shape) (d : Damage) → d ≡ mark_damage → Breaks r shape d → ¬ IsMetaKept r shape format.relationships_file
@@ -107,7 +108,7 @@ meta_broken r shape d e (WrongText p lt k) = absurd (let f = ap (λ (d : Damage)
 meta_broken r shape d e (WrongBlock b k) = absurd (let f = ap (λ (d : Damage). d.rule) e in omega arith)
 meta_broken r shape d e (WrongName x lt k) = absurd (let f = ap (λ (d : Damage). d.rule) e in omega arith)
 meta_broken r shape d e (WrongDegree n lt k) = absurd (let f = ap (λ (d : Damage). d.rule) e in omega arith)
-meta_broken r shape d e (UsedIndex x lt k) = absurd (let f = ap (λ (d : Damage). d.rule) e in omega arith)
+meta_broken r shape d e (WrongIndex x bad) = absurd (let f = ap (λ (d : Damage). d.rule) e in let k = index_rule r x bad in omega arith)
 
 -- ---- what was so before
 

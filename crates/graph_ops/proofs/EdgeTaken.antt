@@ -8,7 +8,7 @@ use Rattle.store_rules.specs.Graph.{names_of}
 use Rattle.store_rules.specs.Rules as rules
 use Rattle.store_rules.specs.Rules.{IsOn, IsSplit, KeepsRules}
 use Rattle.store_rules.specs.Views as views
-use Rattle.store_rules.specs.Views.{degree, group_at, is_live, kind_at, rec_at, rel_at, rel_in}
+use Rattle.store_rules.specs.Views.{degree, group_at, is_live, kind_at, rec_at, rel_in}
 use Rattle.store_rules.proofs.EdgeChange as ec
 use Rattle.store_rules.proofs.EdgeChange.{IsEdgeChange}
 use Rattle.store_rules.proofs.EdgeGone.{IsEdgeGone, gone_edges, gone_names, gone_nodes, gone_there, gone_well}
@@ -24,13 +24,15 @@ use Rattle.chain_edit.specs.Heads.{head_of}
 use Rattle.chain_edit.specs.Links.{IsRightLink}
 use Rattle.graph_ops.specs.EdgeDeleting.{IsBareEdge, PartsEdge, StandsAtEnd}
 use Rattle.graph_ops.specs.EdgeEnds.{AreApart, HasRightLinks, HaveRightLinks, end_groups, end_parted, ends_parted, parted, source_of, target_of}
-use Rattle.graph_ops.specs.Store.{IsStore}
+use Rattle.graph_ops.specs.Store.{IsMidway}
 use Rattle.graph_ops.specs.declared.edge_end.EdgeEnd.{EdgeEnd}
 use Rattle.graph_ops.specs.declared.edge_end.Ends.{Ends}
 use Rattle.graph_ops.specs.declared.edge_end.Ends.TheVariants.{Loop, Two}
 use Rattle.graph_ops.proofs.EdgeParted.{HasParted, IsLiveEdge, both_groups, both_parted, edge_left, edge_parted, from_next, from_prev, to_next, to_prev}
 use Rattle.graph_ops.proofs.Elements.{found_degree}
 use Rattle.graph_ops.proofs.EndLaws.{at_source, at_target}
+use Rattle.graph_ops.proofs.KeptIndexes.{edge_graph_indexes}
+use Rattle.store_rules.proofs.IndexKept.{edge_indexed}
 
 -- a loop is taken out of one chain, and has one head
 each_parted : (s : State) (ends : Ends EdgeEnd) (id : ℕ) → AreApart (λ (end : EdgeEnd). end.node) ends
@@ -43,7 +45,7 @@ each_groups : (ends : Ends EdgeEnd) → AreApart (λ (end : EdgeEnd). end.node) 
 each_groups (Loop end) apart = rw (eq_true end.node end.node refl) refl
 each_groups (Two source target) apart = rw (eq_false source.node target.node apart) refl
 
-module _ (s : State) (names : List (List ℕ)) (id : ℕ) (ends : Ends EdgeEnd) (store : IsStore s names) (bare : IsBareEdge s id ends) where
+module _ (s : State) (names : List (List ℕ)) (id : ℕ) (ends : Ends EdgeEnd) (store : IsMidway s names) (bare : IsBareEdge s id ends) where
   abbrev source : EdgeEnd
   source = source_of ends
 
@@ -153,7 +155,9 @@ module _ (s : State) (names : List (List ℕ)) (id : ℕ) (ends : Ends EdgeEnd) 
         nodes = gone_nodes s.records u.records t.records s.shape id row left store.store;
         edges = gone_edges s.records u.records t.records s.shape id row left store.store;
         names = kept;
+        indexes = edge_graph_indexes s.records t.records id change;
       };
+      indexes = edge_indexed s.records t.records id change;
       nodes = λ n. ap (λ f. f n) (ec.nodes_same s.records t.records id change);
       kinds = λ n. ap (λ f. f n) (ec.kinds_same s.records t.records id change);
       groups = λ g. ap (λ f. f g) (ec.groups_same s.records t.records id change);

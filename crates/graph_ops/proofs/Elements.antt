@@ -18,7 +18,7 @@ use Rattle.rel_store.specs.RelRecord.{row_of}
 use Rattle.rel_store.proofs.Rows as rel_rows
 use Rattle.graph_ops.specs.NodeDeleting.{HasDegree}
 use Rattle.graph_ops.specs.Owners.{owner_of}
-use Rattle.graph_ops.specs.Store.{IsStore, graph_in}
+use Rattle.graph_ops.specs.Store.{IsMidway, graph_in}
 
 -- ---- a load changes nothing but the count of reads
 same_or_not : (s : State) (b : Bool) → SameButReads s (cond b (after_get s) s)
@@ -72,13 +72,13 @@ element_used s (targets.Edge id) there free = clash (sym there ∙ rows.no_edge 
     clash e = cc
 
 -- ---- a store's records can be read
-pub node_readable : (s : State) (names : List (List ℕ)) (id : ℕ) → IsStore s names → nodes.IsReadable s id
+pub node_readable : (s : State) (names : List (List ℕ)) (id : ℕ) → IsMidway s names → nodes.IsReadable s id
 node_readable s names id store = node_rows.IsReadable-AreInRange s id store.store.ranges
 
 -- ---- the degree that was read of a node of a store
 
 -- what a load of a node of a store says
-module _ (s : State) (names : List (List ℕ)) (id n : ℕ) (store : IsStore s names) (has : HasDegree s.records id n) where
+module _ (s : State) (names : List (List ℕ)) (id n : ℕ) (store : IsMidway s names) (has : HasDegree s.records id n) where
   pub found_used : kind_at s.records format.nodes_file id ≢ format.free_kind
   found_used = (used_of s id has.row (sym has.found)).0
 

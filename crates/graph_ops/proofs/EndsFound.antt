@@ -19,12 +19,13 @@ use Rattle.group_store.specs.Sides.{side_at}
 use Rattle.group_store.specs.declared.side.Side.{Side}
 use Rattle.graph_ops.specs.EdgeDeleting.{FindsEnd, FindsEnds, HasBareRow, StandsAtEnd, TakesEdge}
 use Rattle.graph_ops.specs.NodeDeleting.{HasDegree}
-use Rattle.graph_ops.specs.Store.{IsStore, graph_in}
+use Rattle.graph_ops.specs.Store.{IsMidway, graph_in}
 use Rattle.graph_ops.specs.declared.edge_end.EdgeEnd.{EdgeEnd}
 use Rattle.graph_ops.specs.declared.edge_end.Ends.{Ends}
 use Rattle.graph_ops.specs.declared.edge_end.Ends.TheVariants.{Loop, Two}
 use Rattle.graph_ops.proofs.EdgeOpened.{end_stays}
 use Rattle.graph_ops.proofs.Elements.{degree_found, node_readable, used_of}
+use Rattle.graph_ops.proofs.KeptIndexes.{regroups_keep}
 use Rattle.graph_ops.proofs.Readings.{store_read}
 
 -- the row of an edge without properties
@@ -45,7 +46,7 @@ degree_stays s t n d kind same has =
     subst (HasDegree t n) (same ∙ sym (degree_found s n d has)) (has_degree t n (λ free. (used_of s n has.row (sym has.found)).0 (sym kind ∙ free)))
 
 -- ---- one end
-module _ (s : State) (names : List (List ℕ)) (id : ℕ) (rel : RelRow) (store : IsStore s names) (there : HasBareRow s.records id rel) (node : ℕ) (which : (node ≡ rel.from) ⊎ (node ≡ rel.to)) where
+module _ (s : State) (names : List (List ℕ)) (id : ℕ) (rel : RelRow) (store : IsMidway s names) (there : HasBareRow s.records id rel) (node : ℕ) (which : (node ≡ rel.from) ⊎ (node ≡ rel.to)) where
   used : kind_at s.records format.nodes_file node ≢ format.free_kind
   used =
       let ends = store.store.linked.ends id (bare_of id rel) there in
@@ -85,7 +86,8 @@ module _ (s : State) (names : List (List ℕ)) (id : ℕ) (rel : RelRow) (store 
               degree = degree_stays s t.records node degree_is (f.kinds node) (r.degrees node) has;
             };
             kinds = f.kinds;
-            regroups = record { shape = r.shape; graph = r.graph; nodes = r.nodes; rels = r.rels; degrees = r.degrees; kinds = r.kinds; groups = r.groups; metas = r.metas };
+            regroups = record { shape = r.shape; graph = r.graph; nodes = r.nodes; rels = r.rels; degrees = r.degrees; kinds = r.kinds; groups = r.groups; metas = r.metas; others = r.others };
+            indexes = regroups_keep (record s { reads = m.reads }) t node r;
           }
 
 -- ---- both
@@ -104,6 +106,7 @@ module _ (s t : State) (names : List (List ℕ)) (id : ℕ) (rel : RelRow) (ther
     };
     kinds = first.kinds;
     graph = first.regroups.graph;
+    indexes = first.indexes;
   }
 
   pub both_found : (u : State) (target : EdgeEnd) → target.node ≡ rel.to → rel.from ≢ rel.to → FindsEnd t u names id target → FindsEnds s u names id (Two source target)
@@ -116,6 +119,7 @@ module _ (s t : State) (names : List (List ℕ)) (id : ℕ) (rel : RelRow) (ther
     };
     kinds = λ n. second.kinds n ∙ first.kinds n;
     graph = second.regroups.graph ∙ first.regroups.graph;
+    indexes = λ are. second.indexes (first.indexes are);
   }
     where
       -- what the second one changes is another node's
@@ -134,6 +138,7 @@ module _ (s t : State) (names : List (List ℕ)) (id : ℕ) (rel : RelRow) (ther
 pub taken_then : (s t u : State) (names : List (List ℕ)) (id : ℕ) (ends : Ends EdgeEnd) → FindsEnds s t names id ends → TakesEdge t u names id → TakesEdge s u names id
 taken_then s t u names id ends found taken = record {
   store = taken.store;
+  indexes = λ are. taken.indexes (found.indexes are);
   removes = subst (λ (g : Graph). RemovesEdge g id (graph_in u)) found.graph taken.removes;
   kinds = λ n. taken.kinds n ∙ found.kinds n;
 }

@@ -6,7 +6,7 @@ use Rattle.std.proofs.lemmas.Result.{err_from_is_err_and}
 use Rattle.rec_bytes.specs.Format.{properties_file, strings_file}
 use Rattle.rec_bytes.specs.Space.{SameButReads, State}
 use Rattle.graph_ops.specs.declared.change_fault.ChangeFault.{ChangeFault}
-use Rattle.graph_ops.specs.declared.change_fault.ChangeFault.TheVariants.{NoNode, NoEdge, HasRelationships, Full, NamesFull, PropsFull, Memory, Disk, Damaged}
+use Rattle.graph_ops.specs.declared.change_fault.ChangeFault.TheVariants.{NoNode, NoEdge, HasRelationships, IndexThere, TooManyIndexes, IndexTooLarge, Full, NamesFull, PropsFull, Memory, Disk, Damaged}
 use Rattle.rec_bytes.specs.declared.space.SpaceFault.{SpaceFault}
 use Rattle.rec_bytes.specs.declared.space.SpaceFault.TheVariants as spaces
 use Rattle.prop_store.specs.SetFault.{IsSetCause}
@@ -40,6 +40,9 @@ pub read_leaves : (s t : State) → SameButReads s t → (fault : ChangeFault) �
 read_leaves s t same (NoNode id) = same
 read_leaves s t same (NoEdge id) = same
 read_leaves s t same (HasRelationships id degree) = same
+read_leaves s t same IndexThere = same
+read_leaves s t same TooManyIndexes = same
+read_leaves s t same (IndexTooLarge count) = tt
 read_leaves s t same (Full file live) = by (is_element_file file)
   where
     by : (b : Bool) → OnTrue b (SameButReads s t)
@@ -56,6 +59,9 @@ pub late_leaves : (s t : State) (fault : ChangeFault) → MayComeLate fault → 
 late_leaves s t (NoNode id) late = absurd late
 late_leaves s t (NoEdge id) late = absurd late
 late_leaves s t (HasRelationships id degree) late = absurd late
+late_leaves s t IndexThere late = absurd late
+late_leaves s t TooManyIndexes late = absurd late
+late_leaves s t (IndexTooLarge count) late = tt
 late_leaves s t (Full file live) late = subst (λ b. OnTrue b (SameButReads s t)) (sym late) tt
 late_leaves s t (NamesFull count) late = tt
 late_leaves s t (PropsFull count) late = tt
@@ -68,6 +74,9 @@ pub failure_late : (fault : ChangeFault) → IsFailure fault → MayComeLate fau
 failure_late (NoNode id) fails = absurd fails
 failure_late (NoEdge id) fails = absurd fails
 failure_late (HasRelationships id degree) fails = absurd fails
+failure_late IndexThere fails = absurd fails
+failure_late TooManyIndexes fails = absurd fails
+failure_late (IndexTooLarge count) fails = absurd fails
 failure_late (Full file live) fails = absurd fails
 failure_late (NamesFull count) fails = absurd fails
 failure_late (PropsFull count) fails = absurd fails

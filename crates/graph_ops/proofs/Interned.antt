@@ -16,21 +16,22 @@ use Rattle.name_store.specs.NameRecord.{name_key, name_record}
 use Rattle.name_store.proofs.FirstNames.{length-names_of}
 use Rattle.name_store.proofs.NamedStore.{IsNamed-named, interned-known, interned-new}
 use Rattle.graph_ops.specs.Rooms.{KeepsElementMetas}
-use Rattle.graph_ops.specs.Store.{IsStore, KeepsElements}
+use Rattle.graph_ops.specs.Store.{IsMidway, KeepsElements}
+use Rattle.store_rules.proofs.IndexNames.{named_indexed, named_indexes}
 use Rattle.store_rules.proofs.WriteLaws.{among_metas, more_written, none_written, some_written}
 
-pub keeps_same : (s : State) (names : List (List ℕ)) → IsStore s names → KeepsElements s s names
-keeps_same s names store = record { store = store; shape = refl; nodes = refl; edges = refl }
+pub keeps_same : (s : State) (names : List (List ℕ)) → IsMidway s names → KeepsElements s s names
+keeps_same s names store = record { store = store; shape = refl; nodes = refl; edges = refl; indexes = refl; keeps = λ are. are }
 
 pub keeps_then : (s t u : State) (one two : List (List ℕ)) → KeepsElements s t one → KeepsElements t u two → KeepsElements s u two
-keeps_then s t u one two h k = record { store = k.store; shape = k.shape ∙ h.shape; nodes = k.nodes ∙ h.nodes; edges = k.edges ∙ h.edges }
+keeps_then s t u one two h k = record { store = k.store; shape = k.shape ∙ h.shape; nodes = k.nodes ∙ h.nodes; edges = k.edges ∙ h.edges; indexes = k.indexes ∙ h.indexes; keeps = λ are. k.keeps (h.keeps are) }
 
 named-shape : (s : State) (id : ℕ) (text : List ℕ) → (named s id text).shape ≡ s.shape
 unfolding named
 named-shape s id text = refl
 
 -- a name that is new goes to the end
-keeps_named : (s : State) (old : List (List ℕ)) (text : List ℕ) → IsStore s old → IsShortName text → ¬ Contains old text → length old ≢ format.most_names → KeepsElements s (named s (length old) text) (old ++ text ∷ [])
+keeps_named : (s : State) (old : List (List ℕ)) (text : List ℕ) → IsMidway s old → IsShortName text → ¬ Contains old text → length old ≢ format.most_names → KeepsElements s (named s (length old) text) (old ++ text ∷ [])
 keeps_named s old text store short lacks few =
     let count = high s.records format.names_file in
     let long : length old ≡ count = ap length store.names ∙ length-names_of s.records in
@@ -47,6 +48,8 @@ keeps_named s old text store short lacks few =
       shape = named-shape s count text;
       nodes = nodes_stay s.records v s.shape (name_record text) text there store.store;
       edges = edges_stay s.records v s.shape (name_record text) text there store.store;
+      indexes = named_indexes s.records v s.shape (name_record text) text there store.store.ranges;
+      keeps = named_indexed s.records v s.shape (name_record text) text there;
     })
 
 -- no name touches what the meta records of other files say
@@ -65,7 +68,7 @@ metas_interned s t old new text is uses = ⊎_elim
     (λ (k : Contains old text × (new ≡ old)). subst (KeepsElementMetas s) (sym (is ∙ interned-known s old text k.0)) (metas_same s))
     (λ (k : (¬ Contains old text) × (new ≡ old ++ text ∷ [])). subst (KeepsElementMetas s) (sym (is ∙ interned-new s old text k.0)) (metas_named s (length old) text)) uses
 
-pub keeps_interned : (s t : State) (old new : List (List ℕ)) (text : List ℕ) → t ≡ interned s old text → UsesName old text new → IsShortName text → (¬ Contains old text → length old ≢ format.most_names) → IsStore s old → KeepsElements s t new
+pub keeps_interned : (s t : State) (old new : List (List ℕ)) (text : List ℕ) → t ≡ interned s old text → UsesName old text new → IsShortName text → (¬ Contains old text → length old ≢ format.most_names) → IsMidway s old → KeepsElements s t new
 keeps_interned s t old new text is uses short few store = ⊎_elim
     (λ (k : Contains old text × (new ≡ old)). subst (λ z. KeepsElements s z new) (sym (is ∙ interned-known s old text k.0)) (subst (KeepsElements s s) (sym k.1) (keeps_same s old store)))
     (λ (k : (¬ Contains old text) × (new ≡ old ++ text ∷ [])). subst (λ z. KeepsElements s z new) (sym (is ∙ interned-new s old text k.0)) (subst (KeepsElements s (named s (length old) text)) (sym k.1) (keeps_named s old text store short k.0 (few k.0)))) uses

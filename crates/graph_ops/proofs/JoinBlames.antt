@@ -25,7 +25,7 @@ use Rattle.graph_ops.specs.Damage.{BlamesBroken, IfBlames, IsBroken, KeepsBeyond
 use Rattle.graph_ops.specs.EdgeAdding.{BlamesHead, IsLinkingDamage, IsUsedNode}
 use Rattle.graph_ops.specs.Owners.{IsAbsent}
 use Rattle.graph_ops.specs.declared.change_fault.ChangeFault.{ChangeFault}
-use Rattle.graph_ops.specs.declared.change_fault.ChangeFault.TheVariants.{NoNode, NoEdge, HasRelationships, Full, NamesFull, PropsFull, Memory, Disk, Damaged}
+use Rattle.graph_ops.specs.declared.change_fault.ChangeFault.TheVariants.{NoNode, NoEdge, HasRelationships, IndexThere, TooManyIndexes, IndexTooLarge, Full, NamesFull, PropsFull, Memory, Disk, Damaged}
 use Rattle.graph_ops.specs.declared.edge_end.EdgeEnd.{EdgeEnd}
 
 -- an element that isn't found
@@ -33,6 +33,9 @@ pub absent_blamed : (s : State) (target : Target) (fault : ChangeFault) → IsAb
 absent_blamed s target (NoNode id) told = tt
 absent_blamed s target (NoEdge id) told = tt
 absent_blamed s target (HasRelationships id degree) told = tt
+absent_blamed s target IndexThere told = tt
+absent_blamed s target TooManyIndexes told = tt
+absent_blamed s target (IndexTooLarge count) told = tt
 absent_blamed s target (Full file live) told = tt
 absent_blamed s target (NamesFull count) told = tt
 absent_blamed s target (PropsFull count) told = tt

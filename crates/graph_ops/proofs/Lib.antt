@@ -24,6 +24,10 @@ pub mod Elements
 pub mod EndLaws
 pub mod EndWrites
 pub mod EndsFound
+mod EntriesFaults
+pub mod EntriesGone
+mod EntriesHeld
+pub mod EntriesMade
 pub mod Exits
 pub mod Interned
 pub mod JoinWrites
@@ -46,3 +50,25 @@ pub mod Setting
 pub mod Spreading
 pub mod Takes
 pub mod Writes
+pub mod GivenValues
+pub mod GraphPairs
+pub mod IndexBeside
+pub mod KeptIndexes
+mod EntryChanges
+mod HeldValues
+mod HeldWeights
+mod LeftIndexes
+mod NodeGone
+mod NodeWeights
+mod PairWeights
+mod ValueWeights
+mod KeyCounts
+mod LiveIndexes
+mod SetRefused
+mod AddedWeights
+mod NodeEntries
+mod IndexMade
+mod IndexPlaced
+mod IndexRefused
+mod IndexTested
+mod IndexMakes

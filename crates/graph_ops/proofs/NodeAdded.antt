@@ -1,9 +1,9 @@
 -- The whole of adding a node, by what the calls left.
 use Rattle.std.specs.List.{list_any}
-use Rattle.std.proofs.Common.{◌≡◌, ℕ, ◌+◌, ◌<◌, nat_eq, false, List, ◌∷◌, find, length, sym, ap, ◌∙◌, subst, inl, inr, arith, refl}
+use Rattle.std.proofs.Common.{◌≡◌, ℕ, ◌+◌, ◌*◌, ◌<◌, nat_eq, false, true, List, ◌∷◌, find, length, sym, ap, ◌∙◌, subst, inl, inr, arith, refl}
 use Rattle.plain_graph.specs.Graph.{Graph, Node, UsesNames, change_node, node_number, node_properties, with_change, with_row}
 use Rattle.plain_graph.specs.Properties.{keys_in, no_properties, with_pairs}
-use Rattle.plain_graph.specs.Refusals.{FirstReason, change_reasons, nodes_full}
+use Rattle.plain_graph.specs.Refusals.{FirstReason, change_reasons, index_full, nodes_full}
 use Rattle.plain_graph.specs.Reply.{NodeMade}
 use Rattle.plain_graph.specs.declared.command.Command.TheVariants as commands
 use Rattle.plain_graph.specs.declared.command.Target.TheVariants as targets
@@ -18,17 +18,19 @@ use Rattle.graph_ops.specs.Change.{IsRefusedBy, MakesChange}
 use Rattle.graph_ops.specs.NodeAdding.{IsFullOfNodes, PutsNode}
 use Rattle.graph_ops.specs.Preparing.{IsPrepared, line_reasons}
 use Rattle.graph_ops.specs.Rooms.{HasRoom, LacksRoom}
-use Rattle.graph_ops.specs.Store.{IsStore, KeepsElements, graph_in}
+use Rattle.graph_ops.specs.Store.{IsMidway, IsStore, KeepsElements, graph_in}
 use Rattle.graph_ops.specs.declared.change_fault.ChangeFault.{ChangeFault}
 use Rattle.graph_ops.specs.declared.change_fault.ChangeFault.TheVariants.{Full}
 use Rattle.graph_ops.specs.declared.preparing.Prepared.{Prepared}
 use Rattle.graph_ops.proofs.ElementRooms as rooms
 use Rattle.graph_ops.proofs.ElementChanges.{new_node_changed, new_node_properties, new_node_there}
 use Rattle.graph_ops.proofs.LineNames.{needs_names}
-use Rattle.graph_ops.proofs.Reasons.{None, refused_more}
+use Rattle.graph_ops.proofs.Reasons.{None, index_reasons, refused_more}
+use Rattle.plain_graph.specs.Indexes.{entries_weight}
+use Rattle.plain_graph.proofs.LineLaws.{first_front, none_both}
 
 -- ---- room for a node
-module _ (s : State) (names : List (List ℕ)) (store : IsStore s names) where
+module _ (s : State) (names : List (List ℕ)) (store : IsMidway s names) where
   live_nodes : (meta_of s format.nodes_file).live ≡ length (graph_in s).nodes
   live_nodes = count_nodes s.records s.shape store.store
 
@@ -49,23 +51,23 @@ module _ (s : State) (names : List (List ℕ)) (store : IsStore s names) where
 none_of : (other : Refusal) → ⊥ → ⊥
 none_of other h = h
 
-pub full_refused : (s : State) (names : List (List ℕ)) (label : List ℕ) (pairs : List Pair) → IsStore s names → (fault : ChangeFault) → LacksRoom s format.nodes_file 1 fault → IsRefusedBy change_reasons s.shape.limit (graph_in s) (commands.Node label pairs) fault
+pub full_refused : (s : State) (names : List (List ℕ)) (label : List ℕ) (pairs : List Pair) → IsMidway s names → (fault : ChangeFault) → LacksRoom s format.nodes_file 1 fault → IsRefusedBy change_reasons s.shape.limit (graph_in s) (commands.Node label pairs) fault
 full_refused s names label pairs store fault why =
     subst (IsRefusedBy change_reasons s.shape.limit (graph_in s) (commands.Node label pairs)) (sym why.is) (inl (lacks_full s names store fault why, refl))
 
 -- the reasons before those of the line aren't a node's, but for want of a node's room
 module _ (s : State) (label : List ℕ) (pairs : List Pair) (room : ¬ IsFullOfNodes s) where
-  no_full : None (nodes_full s.shape.limit (graph_in s) (commands.Node label pairs))
+  pub no_full : None (nodes_full s.shape.limit (graph_in s) (commands.Node label pairs))
   no_full other why = room why.0
 
   line_first : (why : Refusal) → FirstReason line_reasons s.shape.limit (graph_in s) (commands.Node label pairs) why → FirstReason change_reasons s.shape.limit (graph_in s) (commands.Node label pairs) why
-  line_first why h = inr (no_full, inr (none_of, inr (none_of, inr (none_of, inr (none_of, inr (none_of, inr (none_of, h)))))))
+  line_first why h = inr (no_full, inr (none_of, inr (none_of, inr (none_of, inr (none_of, inr (none_of, inr (none_of, inr (none_of, inr (none_of, inr (none_of, first_front line_reasons index_reasons s.shape.limit (graph_in s) (commands.Node label pairs) why h))))))))))
 
   pub line_refused : (fault : ChangeFault) → IsRefusedBy line_reasons s.shape.limit (graph_in s) (commands.Node label pairs) fault → IsRefusedBy change_reasons s.shape.limit (graph_in s) (commands.Node label pairs) fault
   line_refused = refused_more line_reasons change_reasons s.shape.limit (graph_in s) (commands.Node label pairs) (commands.Node label pairs) line_first
 
 -- ---- the change
-module _ (s u v : State) (names c : List (List ℕ)) (label : List ℕ) (pairs : List Pair) (id : ℕ) (prepared : Prepared) (store : IsStore s names) (at_hand : IsPrepared s u c label pairs prepared) (puts : PutsNode u v c label id) (same : v.shape ≡ u.shape) where
+module _ (s u v : State) (names c : List (List ℕ)) (label : List ℕ) (pairs : List Pair) (id : ℕ) (prepared : Prepared) (store : IsMidway s names) (at_hand : IsPrepared s u c label pairs prepared) (puts : PutsNode u v c prepared.label label id) (same : v.shape ≡ u.shape) where
   abbrev bare : Node
   bare = record { id = id; label = label; properties = no_properties }
 
@@ -92,25 +94,59 @@ module _ (s u v : State) (names c : List (List ℕ)) (label : List ℕ) (pairs :
     abbrev full : Node
     full = record { id = id; label = label; properties = with_pairs no_properties pairs }
 
-    nodes_are : (graph_in w).nodes ≡ with_row node_number full (graph_in s).nodes
-    nodes_are =
-        ap (λ (g : Graph). g.nodes) put.graph ∙ ap (with_change node_number id (change_node (λ m. with_pairs m ps))) puts.nodes ∙ new_node_changed (λ m. with_pairs m ps) bare (graph_in u).nodes fresh
+    nodes_are : (x : State) → graph_in x ≡ graph_in w → (graph_in x).nodes ≡ with_row node_number full (graph_in s).nodes
+    nodes_are x last =
+        ap (λ (g : Graph). g.nodes) (last ∙ put.graph) ∙ ap (with_change node_number id (change_node (λ m. with_pairs m ps))) puts.nodes ∙ new_node_changed (λ m. with_pairs m ps) bare (graph_in u).nodes fresh
         ∙ (λ i. with_row node_number (record { id = id; label = label; properties = at_hand.assigned.same i }) (at_hand.kept.nodes i))
 
-    pub made : (weight : ℕ) → weight ≡ 1 + prepared.weight → MakesChange (commands.Node label pairs) (NodeMade id) weight s w c
-    made weight is = record {
-      store = put.store;
+    -- Its entries were added then, which no reason refuses.
+    pub made : (x : State) (entries weight : ℕ) → IsStore x c → graph_in x ≡ graph_in w → entries_weight (graph_in s) label (λ key. true) no_properties (with_pairs no_properties pairs) ≡ 3 * entries
+        → None (index_full s.shape.limit (graph_in s) (commands.Node label pairs)) → weight ≡ 1 + prepared.weight + 3 * entries → MakesChange (commands.Node label pairs) (NodeMade id) weight s x c
+    made x entries weight whole last e fits is = record {
+      store = whole;
       changes = (
         id,
         refl,
         record {
           below = subst (λ (h : Shape). id < h.limit) at_hand.kept.shape puts.below;
           fresh = ap (list_any (λ e. nat_eq (node_number e) id)) (sym at_hand.kept.nodes) ∙ fresh;
-          nodes = nodes_are;
-          edges = ap (λ (g : Graph). g.edges) put.graph ∙ puts.edges ∙ at_hand.kept.edges;
-          names = subst (UsesNames (graph_in s).names (label ∷ keys_in pairs)) put.store.names at_hand.uses;
+          nodes = nodes_are x last;
+          edges = ap (λ (g : Graph). g.edges) (last ∙ put.graph) ∙ puts.edges ∙ at_hand.kept.edges;
+          names = subst (UsesNames (graph_in s).names (label ∷ keys_in pairs)) whole.names at_hand.uses;
+          indexes = ap (λ (g : Graph). g.indexes) (last ∙ put.graph) ∙ puts.indexes ∙ at_hand.kept.indexes;
         },
       );
       weighs = (_, needs_names (graph_in s).names (label ∷ keys_in pairs) c at_hand.uses, let k = at_hand.weighs in omega arith);
-      free = (no_full s label pairs room, (none_of, (none_of, (none_of, (none_of, (none_of, (none_of, at_hand.free)))))));
+      free = (
+        no_full s label pairs room,
+        (
+          none_of,
+          (
+            none_of,
+            (
+              none_of,
+              (
+                none_of,
+                (
+                  none_of,
+                  (
+                    none_of,
+                    (
+                      none_of,
+                      (
+                        none_of,
+                        (
+                          none_of,
+                          none_both line_reasons index_reasons s.shape.limit (graph_in s) (commands.Node label pairs) at_hand.free
+                              (none_of, (fits, tt)),
+                        ),
+                      ),
+                    ),
+                  ),
+                ),
+              ),
+            ),
+          ),
+        ),
+      );
     }

@@ -1,7 +1,7 @@
 -- A node's record over a store that has its label's name.
 use Rattle.std.specs.Prelude.{slice_get}
 use Rattle.std.proofs.lemmas.Option.{slice_get_within}
-use Rattle.std.proofs.Common.{◌≡◌, ◌≢◌, ℕ, ◌<◌, Some, List, length, sym, ap, ◌∙◌, subst, arith, refl}
+use Rattle.std.proofs.Common.{◌≡◌, ◌≢◌, ℕ, ◌<◌, nat_eq, Bool, true, false, cond, Option, None, Some, List, length, sym, ap, ◌∙◌, subst, arith, refl}
 use Rattle.plain_graph.specs.Graph.{node_number, with_row}
 use Rattle.plain_graph.specs.Properties.{no_properties}
 use Rattle.rec_bytes.specs.declared.key.Key.{Key}
@@ -14,9 +14,9 @@ use Rattle.rec_bytes.specs.Space.{State, after_put, put}
 use Rattle.rec_bytes.proofs.Spaces.{put_same, put_other}
 use Rattle.store_rules.specs.Graph.{names_of}
 use Rattle.store_rules.specs.Rules.{IsWellFormed}
-use Rattle.store_rules.specs.Views.{Records, high, rec_at, text_of}
+use Rattle.store_rules.specs.Views.{NodeRow, Records, high, kind_at, node_at, node_in, rec_at, text_of}
 use Rattle.store_rules.proofs.Made.{IsMade}
-use Rattle.store_rules.proofs.ViewLaws.{kind_low}
+use Rattle.store_rules.proofs.ViewLaws.{kind_low, some_row}
 use Rattle.store_rules.proofs.NodeChange.{edges_stay, names_stay}
 use Rattle.store_rules.proofs.NodeMade.{IsNewNode, node_added, node_fresh, node_well}
 use Rattle.id_freelist.specs.FreeLists.{IsFreeList}
@@ -26,8 +26,13 @@ use Rattle.name_store.proofs.FirstNames.{first-names_of, length-names_of}
 use Rattle.node_store.specs.NodeRecord.{node_key, node_record}
 use Rattle.node_store.proofs.NodeRecords.{IsNewNode-node_record}
 use Rattle.graph_ops.specs.NodeAdding.{PutsNode, new_row}
-use Rattle.graph_ops.specs.Store.{IsStore, graph_in}
+use Rattle.graph_ops.specs.Store.{IsMidway, graph_in}
+use Rattle.store_rules.proofs.IndexKept.{changed_index, made_indexed}
+use Rattle.store_rules.specs.Indexes.{has_hash, listed_from, row_value, value_in, wanted_in}
+use Rattle.store_rules.specs.Properties.{PropertyRecords, followed, property_records}
+use Rattle.graph_ops.specs.Entries.{LacksEntries}
 use Rattle.store_rules.proofs.Shapes.{room_small}
+use Rattle.graph_ops.proofs.KeptIndexes.{node_graph_indexes}
 
 -- the number of a name is below their count, and its record says the name
 pub number_in : (v : Records) (names : List (List ℕ)) (number : ℕ) (label : List ℕ) → names ≡ names_of v → slice_get names number ≡ Some label → (number < high v format.names_file) × (text_of (rec_at v format.names_file number) ≡ label)
@@ -40,7 +45,7 @@ number_in v names number label is at =
     inner : (a b : List ℕ) → Some a ≡ Some b → a ≡ b
     inner a b e = cc
 
-module _ (s m t : State) (names : List (List ℕ)) (id number : ℕ) (label : List ℕ) (store : IsStore s names) (at : slice_get names number ≡ Some label)
+module _ (s m t : State) (names : List (List ℕ)) (id number : ℕ) (label : List ℕ) (store : IsMidway s names) (at : slice_get names number ≡ Some label)
     (taken : (free : List ℕ) → IsFreeList s.records format.nodes_file free → HasTaken s.records m.records format.nodes_file id free)
     (small : id < s.shape.limit) (shape : m.shape ≡ s.shape) (saved : t ≡ after_put m (node_key id) (node_record (new_row id number))) where
   abbrev rec : Rec
@@ -66,20 +71,42 @@ module _ (s m t : State) (names : List (List ℕ)) (id number : ℕ) (label : Li
   other_meta : (file : ℕ) → file ≢ format.nodes_file → after (meta_key_of file) ≡ s.records (meta_key_of file)
   other_meta file ne = put_other m.records (node_key id) rec (meta_key_of file) (λ e. let f = ap (λ (k : Key). k.file) e in omega arith) ∙ has.others (meta_key_of file) (λ e. ne (ap (λ (k : Key). k.id) e))
 
-  puts : PutsNode s (after_put m (node_key id) rec) names label id
+  -- it leads to no property
+  no_value : (files : PropertyRecords) (k : ℕ) → value_in (listed_from files format.nil) k ≡ None
+  unfolding followed
+  no_value files k = refl
+
+  row_nil : (files : PropertyRecords) (l k : ℕ) (o : Option NodeRow) → ((row : NodeRow) → o ≡ Some row → row.property ≡ format.nil) → row_value files l k o ≡ None
+  row_nil files l k None bare = refl
+  row_nil files l k (Some row) bare = ap (λ first. cond (nat_eq row.label l) (value_in (listed_from files first) k) None) (bare row refl) ∙ by (nat_eq row.label l)
+    where
+      by : (b : Bool) → cond b (value_in (listed_from files format.nil) k) None ≡ None
+      by true = no_value files k
+      by false = refl
+
+  lacks : LacksEntries (wanted_in after) id
+  lacks l k hash = ap (has_hash hash) (row_nil (property_records after) l k (node_at after id)
+      (λ row is. ap (λ (r : NodeRow). r.property) (sym (some_row (kind_at after format.nodes_file id) (node_in (rec_at after format.nodes_file id) id) row is).1) ∙ ap (λ r. field 4 r format.node_first_property) made.here ∙ fresh.property))
+
+  puts : PutsNode s (after_put m (node_key id) rec) names number label id
   puts = record {
     store = record {
       store = subst (IsWellFormed after) (sym shape) (node_well s.records after s.shape id number rec made fresh store.store known.0);
       names = store.names ∙ sym (names_stay s.records after id made.change);
     };
+    keeps = made_indexed s.records after s.shape id number rec made fresh;
+    indexes = node_graph_indexes s.records after id made.change;
     below = small;
     fresh = node_fresh s.records after s.shape id number rec made fresh store.store known.0;
     nodes = node_added s.records after s.shape id number rec made fresh store.store known.0
         ∙ ap (λ l. with_row node_number (record { id = id; label = l; properties = no_properties }) (graph_in s).nodes) known.1;
     edges = edges_stay s.records after id made.change;
     sparse = kind_low (high after format.nodes_file) (rec_at after format.nodes_file id) id made.below ∙ ap (λ r. field 1 r format.kind) made.here ∙ fresh.kind;
+    numbered = ap (λ r. field 4 r format.node_label) made.here ∙ fresh.label;
+    file = changed_index s.records after format.nodes_file id made.change (λ e. omega arith);
+    lacks = lacks;
     metas = λ file ne. ap metas.meta_of (other_meta file ne);
   }
 
-  pub puts_node : PutsNode s t names label id
-  puts_node = subst (λ z. PutsNode s z names label id) (sym saved) puts
+  pub puts_node : PutsNode s t names number label id
+  puts_node = subst (λ z. PutsNode s z names number label id) (sym saved) puts

@@ -1,6 +1,6 @@
 -- Properties that a new element gets, one after another.
 use Rattle.std.specs.FinMap as maps
-use Rattle.std.proofs.Common.{◌≡◌, ℕ, ◌+◌, ◌<◌, ◌≤◌, true, None, List, [], ◌∷◌, ◌++◌, length, take, get_or, sym, ap, ◌∙◌, subst, inl, inr, ⊎_elim, arith, refl}
+use Rattle.std.proofs.Common.{◌≡◌, ℕ, ◌+◌, ◌<◌, ◌≤◌, nat_eq, Bool, true, false, if◌then◌else◌, cond, Option, None, Some, List, [], ◌∷◌, ◌++◌, length, take, get_or, sym, ap, ◌∙◌, subst, inl, inr, ⊎_elim, arith, refl}
 use Rattle.std.proofs.lemmas.List.{get_or-map, length-map, length-take-le, take_all, take_more}
 use Rattle.std.proofs.lemmas.List.Sums.{sum_by-take-le}
 use Rattle.std.proofs.lemmas.Option.{slice_get-get_or}
@@ -21,14 +21,28 @@ use Rattle.rec_bytes.specs.declared.shape.Shape.{Shape}
 use Rattle.rec_bytes.specs.Format as format
 use Rattle.rec_bytes.specs.Key.{IsKey}
 use Rattle.rec_bytes.specs.Space.{State}
-use Rattle.store_rules.specs.Views.{Records, high}
+use Rattle.store_rules.specs.Views.{Records, high, key_in, rec_at}
 use Rattle.store_rules.specs.Writes.{WritesBeside}
 use Rattle.store_rules.proofs.PropertyCounts.{count_blocks, count_properties}
 use Rattle.graph_ops.specs.Assigning.{CanPut, HasPropertyRoom, KeepsLinks, PutsPairs, assigned_blocks, pair_of, pairs_of}
 use Rattle.graph_ops.specs.ChangeFault.{IsOutside, of_set}
 use Rattle.graph_ops.specs.Damage.{AddsElement}
 use Rattle.graph_ops.specs.Owners.{owner_of}
-use Rattle.graph_ops.specs.Store.{IsStore, graph_in}
+use Rattle.graph_ops.specs.Entries.{with_assigned}
+use Rattle.graph_ops.specs.Store.{IsMidway, KeepsIndexes, graph_in}
+use Rattle.prop_store.proofs.ElementGraphs.{lacks_key, listed_at}
+use Rattle.prop_store.proofs.ValueSteps.{sets_value}
+use Rattle.prop_store.specs.Finding.{property_of}
+use Rattle.store_rules.specs.Indexes.{value_in}
+use Rattle.store_rules.specs.Properties.{Property}
+use Rattle.prop_store.specs.Alone.{SetsAlone}
+use Rattle.rec_bytes.specs.Record.{field}
+use Rattle.rec_bytes.specs.RecordFiles.{meta_key_of}
+use Rattle.rec_bytes.specs.declared.key.Key.{Key}
+use Rattle.store_rules.specs.IndexChange.{ChangesValue}
+use Rattle.store_rules.specs.Indexes.{Entry, wanted_in}
+use Rattle.store_rules.specs.RuleList.{IsSameFile}
+use Rattle.store_rules.proofs.MetaLaws.{not_meta_key}
 use Rattle.graph_ops.specs.declared.assigning.Assignment.{Assignment}
 use Rattle.graph_ops.proofs.Assigned.{sums}
 use Rattle.graph_ops.proofs.ElementChanges.{has_element-with_properties, names-with_properties, properties_at-with_properties, with_properties_same, with_properties_twice}
@@ -48,11 +62,11 @@ owner_is (targets.Node id) key = record { key = key; file = inl refl; place = re
 owner_is (targets.Edge id) key = record { key = key; file = inr refl; place = refl }
 
 -- the text of a key that is one of a store's names
-pub text_known : (s : State) (names : List (List ℕ)) (key : ℕ) → IsStore s names → key < length names → (key < high s.records format.names_file) × (text_at s key ≡ get_or names key [])
+pub text_known : (s : State) (names : List (List ℕ)) (key : ℕ) → IsMidway s names → key < length names → (key < high s.records format.names_file) × (text_at s key ≡ get_or names key [])
 text_known s names key store low = number_in s.records names key (get_or names key []) store.names (slice_get-get_or names key [] low)
 
 -- ---- no pair yet
-pub none_put : (s : State) (names : List (List ℕ)) (target : Target) (ps : List Pair) → IsStore s names → PutsPairs s s names target (take 0 ps)
+pub none_put : (s : State) (names : List (List ℕ)) (target : Target) (ps : List Pair) → IsMidway s names → PutsPairs s s names target (take 0 ps)
 none_put s names target ps store = record {
   store = store;
   graph = sym (with_properties_same (graph_in s) target);
@@ -195,9 +209,49 @@ module _ (s t : State) (names : List (List ℕ)) (target : Target) (pairs : List
 pub all_put : (s t : State) (names : List (List ℕ)) (target : Target) (pairs : List Pair) (assigned : List Assignment) (n : ℕ) → length assigned ≤ n → PutsPairs s t names target (take n (pairs_of names pairs assigned)) → PutsPairs s t names target (pairs_of names pairs assigned)
 all_put s t names target pairs assigned n le = subst (PutsPairs s t names target) (take_all n (pairs_of names pairs assigned) (omega (arith, length-map assigned (pair_of names pairs))))
 
+-- ---- what is wanted of the indexes
+
+-- the label of a node, by its number
+abbrev pub label_at : Records → ℕ → ℕ
+label_at records id = field 4 (rec_at records format.nodes_file id) format.node_label
+
+-- the file of the indexes stays
+pub index_kept : (s t : Records) (target : Target) → KeepsLinks s t (owner_of target) → IsSameFile s t format.index_file
+index_kept s t (targets.Node id) keeps = record {
+  records = λ i x. keeps.others (key_in format.index_file x) (λ e. omega arith) (λ e. omega arith) (not_meta_key format.index_file x format.properties_file refl) (not_meta_key format.index_file x format.strings_file refl) (λ e. let f = ap (λ (k : Key). k.file) e in omega arith) i;
+  meta = keeps.others (meta_key_of format.index_file) (λ e. omega arith) (λ e. omega arith) (λ e. let f = ap (λ (k : Key). k.id) e in omega arith) (λ e. let f = ap (λ (k : Key). k.id) e in omega arith) (λ e. let f = ap (λ (k : Key). k.file) e in omega arith);
+}
+index_kept s t (targets.Edge id) keeps = record {
+  records = λ i x. keeps.others (key_in format.index_file x) (λ e. omega arith) (λ e. omega arith) (not_meta_key format.index_file x format.properties_file refl) (not_meta_key format.index_file x format.strings_file refl) (λ e. let f = ap (λ (k : Key). k.file) e in omega arith) i;
+  meta = keeps.others (meta_key_of format.index_file) (λ e. omega arith) (λ e. omega arith) (λ e. let f = ap (λ (k : Key). k.id) e in omega arith) (λ e. let f = ap (λ (k : Key). k.id) e in omega arith) (λ e. let f = ap (λ (k : Key). k.file) e in omega arith);
+}
+
+-- so does the label of the node
+pub label_kept : (s t : Records) (id : ℕ) → KeepsLinks s t (owner_of (targets.Node id)) → label_at t id ≡ label_at s id
+label_kept s t id keeps = keeps.own 4 format.node_label (omega arith) (inl (omega arith))
+
+pub lacked_value : (es : List Property) (key : ℕ) → property_of es key ≡ None → value_in es key ≡ None
+lacked_value [] key none = refl
+lacked_value (e ∷ es) key none = by (nat_eq e.key key) (λ later. lacked_value es key later) none
+  where
+    by : (b : Bool) → (property_of es key ≡ None → value_in es key ≡ None) → (if b then Some e else property_of es key) ≡ None → cond b (Some e.value) (value_in es key) ≡ None
+    by true later is = absurd cc
+    by false later is = later is
+
+-- A property that was added to a node gave it one value.
+pub added_value : (s t : State) (id key : ℕ) (value : Value) (owned : IsOwner (owner_of (targets.Node id))) (has : HasKey s (owner_of (targets.Node id)) key) → maps.get (properties_of s (owner_of (targets.Node id))) (text_at s key) ≡ None
+    → SetsAlone s t (owner_of (targets.Node id)) (listed_at s (owner_of (targets.Node id)) owned has.element) key value 0 → ChangesValue s.records t.records (label_at s.records id) key id None (Some value)
+added_value s t id key value owned has none sets =
+    subst (λ (o : Option Value). ChangesValue s.records t.records (label_at s.records id) key id o (Some value))
+    (lacked_value (listed_at s (owner_of (targets.Node id)) owned has.element) key (lacks_key s (owner_of (targets.Node id)) owned has.element key none))
+    (sets_value s t (owner_of (targets.Node id)) (listed_at s (owner_of (targets.Node id)) owned has.element) key refl has.element.store value 0 sets)
+
 -- ---- the loop's invariant
 pub record IsPutting (tells onward : Type 0) (s t : State) (before now : ℕ) (owner : Owner) (pairs : List Pair) (assigned : List Assignment) (i : ℕ) : Type 0 where
   pub put : tells → (names : List (List ℕ)) (target : Target) → owner ≡ owner_of target → CanPut s names target pairs assigned → PutsPairs s t names target (take i (pairs_of names pairs assigned))
+  pub values : tells → (names : List (List ℕ)) (id : ℕ) → owner ≡ owner_of (targets.Node id) → CanPut s names (targets.Node id) pairs assigned
+      → (e : Entry) → wanted_in t.records e ≡ with_assigned (wanted_in s.records) (label_at s.records id) id pairs (take i assigned) e
+  pub indexes : tells → (names : List (List ℕ)) (id : ℕ) → owner ≡ owner_of (targets.Edge id) → CanPut s names (targets.Edge id) pairs assigned → KeepsIndexes s t
   pub shape : tells → t.shape ≡ s.shape
   pub adds : tells → AddsElement owner.key s t
   pub writes : WritesBeside owner.key (i + assigned_blocks pairs (take i assigned)) s t

@@ -20,7 +20,7 @@ use Rattle.store_rules.proofs.WriteLaws.{more_written, none_written, then_writte
 use Rattle.graph_ops.specs.Change.{IsRefusal, MakesChange}
 use Rattle.graph_ops.specs.Store.{IsStore, graph_in}
 use Rattle.graph_ops.specs.declared.change_fault.ChangeFault.{ChangeFault}
-use Rattle.graph_ops.specs.declared.change_fault.ChangeFault.TheVariants.{NoNode, NoEdge, HasRelationships, Full, NamesFull, PropsFull, Memory, Disk, Damaged}
+use Rattle.graph_ops.specs.declared.change_fault.ChangeFault.TheVariants.{NoNode, NoEdge, HasRelationships, IndexThere, TooManyIndexes, IndexTooLarge, Full, NamesFull, PropsFull, Memory, Disk, Damaged}
 use Rattle.graph_ops.proofs.Exits.{fault_exit}
 use Rattle.graph_ops.specs.Causes.{IsStillCaused}
 use Rattle.graph_ops.specs.Damage.{IfBlames}
@@ -107,6 +107,9 @@ list_by : (limit : ℕ) (g h : Graph) (xs ys : List Command) → ((why : Refusal
 list_by limit g h xs ys more (NoNode id) why = more _ why
 list_by limit g h xs ys more (NoEdge id) why = more _ why
 list_by limit g h xs ys more (HasRelationships id degree) why = more _ why
+list_by limit g h xs ys more IndexThere why = more _ why
+list_by limit g h xs ys more TooManyIndexes why = more _ why
+list_by limit g h xs ys more (IndexTooLarge count) why = more _ why
 list_by limit g h xs ys more (Full file live) why = more _ why
 list_by limit g h xs ys more (NamesFull count) why = more _ why
 list_by limit g h xs ys more (PropsFull count) why = more _ why
@@ -119,6 +122,9 @@ pub one_refused : (limit : ℕ) (graph : Graph) (command : Command) (fault : Cha
 one_refused limit graph command (NoNode id) why = inl why
 one_refused limit graph command (NoEdge id) why = inl why
 one_refused limit graph command (HasRelationships id degree) why = inl why
+one_refused limit graph command IndexThere why = inl why
+one_refused limit graph command TooManyIndexes why = inl why
+one_refused limit graph command (IndexTooLarge count) why = inl why
 one_refused limit graph command (Full file live) why = inl why
 one_refused limit graph command (NamesFull count) why = inl why
 one_refused limit graph command (PropsFull count) why = inl why
@@ -185,6 +191,9 @@ pub one_blamed : {tells : Type 0} (all before after : List Target) (target : Tar
 one_blamed all before after target s m t names weight split made first (NoNode id) told = tt
 one_blamed all before after target s m t names weight split made first (NoEdge id) told = tt
 one_blamed all before after target s m t names weight split made first (HasRelationships id degree) told = tt
+one_blamed all before after target s m t names weight split made first IndexThere told = tt
+one_blamed all before after target s m t names weight split made first TooManyIndexes told = tt
+one_blamed all before after target s m t names weight split made first (IndexTooLarge count) told = tt
 one_blamed all before after target s m t names weight split made first (Full file live) told = tt
 one_blamed all before after target s m t names weight split made first (NamesFull count) told = tt
 one_blamed all before after target s m t names weight split made first (PropsFull count) told = tt

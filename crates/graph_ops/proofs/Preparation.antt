@@ -21,10 +21,10 @@ use Rattle.graph_ops.specs.Change.{IsRefusedBy}
 use Rattle.graph_ops.specs.ChangeFault.{of_intern}
 use Rattle.graph_ops.specs.Preparing.{IsPrepared, line_reasons}
 use Rattle.graph_ops.specs.Rooms.{HasRoom, LacksRoom}
-use Rattle.graph_ops.specs.Store.{IsStore, KeepsElements, graph_in}
+use Rattle.graph_ops.specs.Store.{IsMidway, KeepsElements, graph_in}
 use Rattle.graph_ops.specs.declared.assigning.Assignment.{Assignment}
 use Rattle.graph_ops.specs.declared.change_fault.ChangeFault.{ChangeFault}
-use Rattle.graph_ops.specs.declared.change_fault.ChangeFault.TheVariants.{NoNode, NoEdge, HasRelationships, Full, NamesFull, PropsFull, Memory, Disk, Damaged}
+use Rattle.graph_ops.specs.declared.change_fault.ChangeFault.TheVariants.{NoNode, NoEdge, HasRelationships, IndexThere, TooManyIndexes, IndexTooLarge, Full, NamesFull, PropsFull, Memory, Disk, Damaged}
 use Rattle.graph_ops.specs.declared.preparing.Prepared.{Prepared}
 use Rattle.graph_ops.proofs.Assigned.{blocks-assigned, length-assigned}
 use Rattle.graph_ops.proofs.LineNames.{first_lacks, uses_prefix}
@@ -37,14 +37,14 @@ slice_get-more names rest id text at =
     slice_get-get_or (names ++ rest) id [] (omega (arith, length-append names rest)) ∙ ap Some (get_or_append_left names rest [] id low ∙ get_or_from_slice_get names id text [] at)
 
 -- ---- the label has no number
-pub label_refused : (s : State) (names : List (List ℕ)) (label : List ℕ) (pairs : List Pair) → IsStore s names → (fault : InternFault) → IsFullFault names label fault → IsRefusedBy line_reasons s.shape.limit (graph_in s) (commands.Node label pairs) (of_intern fault)
+pub label_refused : (s : State) (names : List (List ℕ)) (label : List ℕ) (pairs : List Pair) → IsMidway s names → (fault : InternFault) → IsFullFault names label fault → IsRefusedBy line_reasons s.shape.limit (graph_in s) (commands.Node label pairs) (of_intern fault)
 label_refused s names label pairs store (intern.NamesFull count) why =
     names_refused s.shape.limit (graph_in s) label pairs (subst (λ n. LacksNames n (label ∷ keys_in pairs)) store.names (first_lacks names label (keys_in pairs) why.all why.new))
 label_refused s names label pairs store intern.Memory why = tt
 label_refused s names label pairs store intern.Disk why = tt
 
 -- ---- the label has one
-module _ (s : State) (a b : List (List ℕ)) (label : List ℕ) (pairs : List Pair) (store : IsStore s a) (uses : UsesName a label b) where
+module _ (s : State) (a b : List (List ℕ)) (label : List ℕ) (pairs : List Pair) (store : IsMidway s a) (uses : UsesName a label b) where
   abbrev line : List (List ℕ)
   line = label ∷ keys_in pairs
 
@@ -59,6 +59,9 @@ module _ (s : State) (a b : List (List ℕ)) (label : List ℕ) (pairs : List Pa
   assign_refused_by (NoNode id) why = absurd why
   assign_refused_by (NoEdge id) why = absurd why
   assign_refused_by (HasRelationships id degree) why = absurd why
+  assign_refused_by IndexThere why = absurd why
+  assign_refused_by TooManyIndexes why = absurd why
+  assign_refused_by (IndexTooLarge count) why = absurd why
   assign_refused_by (Full file live) why = absurd why
   assign_refused_by (NamesFull count) why = names_refused s.shape.limit (graph_in s) label pairs (why.0, line_uses why.0 why.1, why.2)
   assign_refused_by (PropsFull count) why = many_refused s.shape.limit (graph_in s) label pairs (line_fits why.0 why.1 why.2) why.3
@@ -69,10 +72,10 @@ module _ (s : State) (a b : List (List ℕ)) (label : List ℕ) (pairs : List Pa
   module _ (u : State) (c : List (List ℕ)) (xs : List Assignment) (later : UsesNames b (keys_in pairs) c) (kept : KeepsElements s u c) (are : AreAssigned c pairs xs) (few : length xs ≤ 32) (names_few : length c ≤ most_names) where
     -- the counts of the store are those of the graph before
     live_properties : (meta_of u format.properties_file).live ≡ property_count (graph_in s)
-    live_properties = count_properties u.records u.shape kept.store.store ∙ (λ i. property_count (record { nodes = kept.nodes i; edges = kept.edges i; names = (graph_in s).names }))
+    live_properties = count_properties u.records u.shape kept.store.store ∙ (λ i. property_count (record { nodes = kept.nodes i; edges = kept.edges i; names = (graph_in s).names; indexes = (graph_in s).indexes }))
 
     live_blocks : (meta_of u format.strings_file).live ≡ block_count (graph_in s)
-    live_blocks = count_blocks u.records u.shape kept.store.store ∙ (λ i. block_count (record { nodes = kept.nodes i; edges = kept.edges i; names = (graph_in s).names }))
+    live_blocks = count_blocks u.records u.shape kept.store.store ∙ (λ i. block_count (record { nodes = kept.nodes i; edges = kept.edges i; names = (graph_in s).names; indexes = (graph_in s).indexes }))
 
     limit_is : u.shape.limit ≡ s.shape.limit
     limit_is = ap (λ (h : Shape). h.limit) kept.shape

@@ -9,14 +9,14 @@ use Rattle.plain_graph.specs.declared.command.Target.{Target}
 use Rattle.rec_bytes.specs.Space.{SameButReads, State}
 use Rattle.graph_ops.specs.Change.{IsRefusedBy, MakesChange}
 use Rattle.graph_ops.specs.ChangeFault.{LeavesSpace, is_element_file}
-use Rattle.graph_ops.specs.Store.{IsStore, graph_in}
+use Rattle.graph_ops.specs.Store.{IsMidway, graph_in}
 use Rattle.graph_ops.specs.declared.change_fault.ChangeFault.{ChangeFault}
-use Rattle.graph_ops.specs.declared.change_fault.ChangeFault.TheVariants.{NoNode, NoEdge, HasRelationships, Full, NamesFull, PropsFull, Memory, Disk, Damaged}
+use Rattle.graph_ops.specs.declared.change_fault.ChangeFault.TheVariants.{NoNode, NoEdge, HasRelationships, IndexThere, TooManyIndexes, IndexTooLarge, Full, NamesFull, PropsFull, Memory, Disk, Damaged}
 use Rattle.graph_ops.proofs.Elements.{same_both}
 
 -- it is the same store
-pub store_read : (s m : State) (names : List (List ℕ)) → SameButReads s m → IsStore s names → IsStore m names
-store_read s m names same store = subst (λ z. IsStore z names) (sym same) (record { store = store.store; names = store.names })
+pub store_read : (s m : State) (names : List (List ℕ)) → SameButReads s m → IsMidway s names → IsMidway m names
+store_read s m names same store = subst (λ z. IsMidway z names) (sym same) (record { store = store.store; names = store.names })
 
 -- a change of it is one of the space before
 pub made_read : (s m u : State) (names : List (List ℕ)) (command : Command) (reply : Reply) (weight : ℕ) → SameButReads s m → MakesChange command reply weight m u names → MakesChange command reply weight s u names
@@ -37,6 +37,9 @@ pub leaves_read : (s m t : State) → SameButReads s m → (fault : ChangeFault)
 leaves_read s m t same (NoNode id) h = same_both s m t same h
 leaves_read s m t same (NoEdge id) h = same_both s m t same h
 leaves_read s m t same (HasRelationships id degree) h = same_both s m t same h
+leaves_read s m t same IndexThere h = same_both s m t same h
+leaves_read s m t same TooManyIndexes h = same_both s m t same h
+leaves_read s m t same (IndexTooLarge count) h = tt
 leaves_read s m t same (Full file live) h = by (is_element_file file) h
   where
     by : (b : Bool) → OnTrue b (SameButReads m t) → OnTrue b (SameButReads s t)

@@ -1,9 +1,9 @@
 -- Why the names and the properties of a line are refused, and when they aren't.
 use Rattle.std.specs.FinMap as maps
-use Rattle.std.proofs.Common.{ℕ, ◌+◌, ◌<◌, ◌≤◌, List, ◌∷◌, length, ap, inl, inr, arith, refl}
+use Rattle.std.proofs.Common.{ℕ, ◌+◌, ◌<◌, ◌≤◌, List, [], ◌∷◌, length, ap, inl, inr, arith, refl}
 use Rattle.plain_graph.specs.Graph.{Graph, UsesNames, block_count, property_count}
 use Rattle.plain_graph.specs.Properties.{Properties, blocks_in, keys_in, no_properties, with_pairs}
-use Rattle.plain_graph.specs.Refusals.{FirstReason, NoReason, Reason, has_too_many, lacks_names, lacks_room, most_names}
+use Rattle.plain_graph.specs.Refusals.{FirstReason, NoReason, Reason, has_too_many, index_full, index_too_large, lacks_names, lacks_room, most_names}
 use Rattle.plain_graph.specs.declared.command.Command.{Command}
 use Rattle.plain_graph.specs.declared.command.Command.TheVariants as commands
 use Rattle.plain_graph.specs.declared.pairs.Pair.{Pair}
@@ -14,8 +14,12 @@ use Rattle.graph_ops.specs.Change.{IsRefusedBy}
 use Rattle.graph_ops.specs.ChangeFault.{IsOutside}
 use Rattle.graph_ops.specs.Preparing.{line_reasons}
 use Rattle.graph_ops.specs.declared.change_fault.ChangeFault.{ChangeFault}
-use Rattle.graph_ops.specs.declared.change_fault.ChangeFault.TheVariants.{NoNode, NoEdge, HasRelationships, Full, NamesFull, PropsFull, Memory, Disk, Damaged}
+use Rattle.graph_ops.specs.declared.change_fault.ChangeFault.TheVariants.{NoNode, NoEdge, HasRelationships, IndexThere, TooManyIndexes, IndexTooLarge, Full, NamesFull, PropsFull, Memory, Disk, Damaged}
 use Rattle.graph_ops.proofs.LineNames.{uses_once}
+
+-- the reasons that an index gives, after those of the names and the properties
+abbrev pub index_reasons : List Reason
+index_reasons = index_too_large ∷ index_full ∷ []
 
 -- nothing is refused so
 abbrev pub None : (Refusal → Type 0) → Type 0
@@ -63,6 +67,9 @@ pub refused_more : (some all : List Reason) (limit : ℕ) (graph : Graph) (comma
 refused_more some all limit graph command other more (NoNode id) why = more (refusals.NoNode id) why
 refused_more some all limit graph command other more (NoEdge id) why = more (refusals.NoEdge id) why
 refused_more some all limit graph command other more (HasRelationships id degree) why = more (refusals.HasRelationships id) why
+refused_more some all limit graph command other more IndexThere why = more refusals.IndexThere why
+refused_more some all limit graph command other more TooManyIndexes why = more refusals.TooManyIndexes why
+refused_more some all limit graph command other more (IndexTooLarge count) why = more (refusals.IndexTooLarge count) why
 refused_more some all limit graph command other more (Full file live) why = more _ why
 refused_more some all limit graph command other more (NamesFull count) why = more refusals.FullNames why
 refused_more some all limit graph command other more (PropsFull count) why = more refusals.TooManyProperties why
@@ -75,6 +82,9 @@ pub outside_refused : (reasons : List Reason) (limit : ℕ) (graph : Graph) (com
 outside_refused reasons limit graph command (NoNode id) out = absurd out
 outside_refused reasons limit graph command (NoEdge id) out = absurd out
 outside_refused reasons limit graph command (HasRelationships id degree) out = absurd out
+outside_refused reasons limit graph command IndexThere out = absurd out
+outside_refused reasons limit graph command TooManyIndexes out = absurd out
+outside_refused reasons limit graph command (IndexTooLarge count) out = absurd out
 outside_refused reasons limit graph command (Full file live) out = absurd out
 outside_refused reasons limit graph command (NamesFull count) out = absurd out
 outside_refused reasons limit graph command (PropsFull count) out = absurd out

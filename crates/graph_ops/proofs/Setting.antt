@@ -10,7 +10,7 @@ use Rattle.plain_graph.proofs.PropertyLaws.{order, same_key}
 use Rattle.plain_graph.specs.Graph.{Graph, UsesName, UsesNames, block_count, has_element, properties_at, property_count, with_value, without_value}
 use Rattle.plain_graph.specs.Forms.{IsKept}
 use Rattle.plain_graph.specs.Properties.{Properties, blocks_at, blocks_if, blocks_of}
-use Rattle.plain_graph.specs.Refusals.{FirstReason, NoReason, change_reasons, most_names, names_full, no_edge, no_node, properties_full, too_many_properties}
+use Rattle.plain_graph.specs.Refusals.{FirstReason, NoReason, change_reasons, index_full, most_names, names_full, no_edge, no_node, properties_full, too_many_properties}
 use Rattle.plain_graph.specs.Reply.{Done}
 use Rattle.plain_graph.specs.declared.command.Command.{Command}
 use Rattle.plain_graph.specs.declared.command.Command.TheVariants as commands
@@ -47,12 +47,17 @@ use Rattle.graph_ops.specs.Change.{IsRefusal, MakesChange}
 use Rattle.graph_ops.specs.ChangeFault.{of_intern, of_fault, of_set}
 use Rattle.graph_ops.specs.Owners.{IsMissing, owner_of}
 use Rattle.graph_ops.specs.Preparing.{line_reasons}
-use Rattle.graph_ops.specs.Store.{IsStore, KeepsElements, graph_in}
+use Rattle.graph_ops.specs.Store.{IsMidway, IsStore, KeepsElements, graph_in}
 use Rattle.graph_ops.specs.declared.change_fault.ChangeFault.{ChangeFault}
-use Rattle.graph_ops.specs.declared.change_fault.ChangeFault.TheVariants.{NoNode, NoEdge, HasRelationships, Full, NamesFull, PropsFull, Memory, Disk, Damaged}
-use Rattle.graph_ops.proofs.Readings.{store_read}
+use Rattle.graph_ops.specs.declared.change_fault.ChangeFault.TheVariants.{NoNode, NoEdge, HasRelationships, IndexThere, TooManyIndexes, IndexTooLarge, Full, NamesFull, PropsFull, Memory, Disk, Damaged}
 use Rattle.graph_ops.proofs.LineNames.{first_lacks, needs_names, uses_once}
 use Rattle.graph_ops.proofs.Elements.{element_used}
+use Rattle.graph_ops.proofs.KeptIndexes.{whole_read}
+use Rattle.graph_ops.proofs.Reasons.{None as Never, index_reasons}
+use Rattle.graph_ops.proofs.ValueWeights.{lacked_weighs}
+use Rattle.plain_graph.proofs.LineLaws.{first_after, first_front, none_both}
+use Rattle.plain_graph.specs.Indexes.{element_weight}
+use Rattle.plain_graph.specs.Values.{is_text}
 
 -- ---- a value takes 22 blocks at most
 pub few_blocks : (value : Value) → IsKept value → blocks_of value ≤ 22
@@ -74,11 +79,11 @@ owner_file (targets.Node id) = inl refl
 owner_file (targets.Edge id) = inr refl
 
 -- an element that is there is one that properties may be given
-pub has_owner : (s : State) (names : List (List ℕ)) (target : Target) → IsStore s names → has_element (graph_in s) target ≡ true → HasElement s (owner_of target)
+pub has_owner : (s : State) (names : List (List ℕ)) (target : Target) → IsMidway s names → has_element (graph_in s) target ≡ true → HasElement s (owner_of target)
 has_owner s names target store there = record { store = store.store; used = element_used s target there }
 
 -- a name that has a number is that of the key
-module _ (s : State) (names : List (List ℕ)) (number : ℕ) (key : List ℕ) (store : IsStore s names) (at : slice_get names number ≡ Some key) where
+module _ (s : State) (names : List (List ℕ)) (number : ℕ) (key : List ℕ) (store : IsMidway s names) (at : slice_get names number ≡ Some key) where
   pub number_low : number < high s.records format.names_file
   number_low =
       let lt = slice_get_within names number key at in
@@ -94,12 +99,12 @@ module _ (s : State) (names : List (List ℕ)) (number : ℕ) (key : List ℕ) (
 -- ---- no reason, and the first one
 pub unset_free : (limit : ℕ) (graph : Graph) (target : Target) (key : List ℕ) → has_element graph target ≡ true → NoReason change_reasons limit graph (commands.Unset target key)
 unset_free limit graph (targets.Node id) key there =
-    (λ o z. z, (λ o z. z, (λ o z. z, (λ o z. z, (λ o z. clash (sym there ∙ z.0), (λ o z. z, (λ o z. z, (λ o z. z, (λ o z. z, (λ o z. z, (λ o z. z, tt)))))))))))
+    (λ o z. z, (λ o z. z, (λ o z. z, (λ o z. z, (λ o z. clash (sym there ∙ z.0), (λ o z. z, (λ o z. z, (λ o z. z, (λ o z. z, (λ o z. z, (λ o z. z, (λ o z. z, (λ o z. z, (λ o z. z, (λ o z. z, (λ o z. z, tt))))))))))))))))
   where
     clash : true ≡ false → ⊥
     clash e = cc
 unset_free limit graph (targets.Edge id) key there =
-    (λ o z. z, (λ o z. z, (λ o z. z, (λ o z. z, (λ o z. z, (λ o z. clash (sym there ∙ z.0), (λ o z. z, (λ o z. z, (λ o z. z, (λ o z. z, (λ o z. z, tt)))))))))))
+    (λ o z. z, (λ o z. z, (λ o z. z, (λ o z. z, (λ o z. z, (λ o z. clash (sym there ∙ z.0), (λ o z. z, (λ o z. z, (λ o z. z, (λ o z. z, (λ o z. z, (λ o z. z, (λ o z. z, (λ o z. z, (λ o z. z, (λ o z. z, tt))))))))))))))))
   where
     clash : true ≡ false → ⊥
     clash e = cc
@@ -110,6 +115,9 @@ unset_missing limit graph target key (NoNode id) h =
 unset_missing limit graph target key (NoEdge id) h =
     subst (λ t. IsRefusal limit graph (commands.Unset t key) (NoEdge id)) (sym h.0) (inr (λ o z. z, inr (λ o z. z, inr (λ o z. z, inr (λ o z. z, inr (λ o z. z, inl (h.1, refl)))))))
 unset_missing limit graph target key (HasRelationships id degree) h = absurd h
+unset_missing limit graph target key IndexThere h = absurd h
+unset_missing limit graph target key TooManyIndexes h = absurd h
+unset_missing limit graph target key (IndexTooLarge count) h = absurd h
 unset_missing limit graph target key (Full file live) h = absurd h
 unset_missing limit graph target key (NamesFull count) h = absurd h
 unset_missing limit graph target key (PropsFull count) h = absurd h
@@ -130,7 +138,7 @@ remove_none m key none = same_map nat_list_cmp_total (λ x y e. slice_cmp-IsAnti
     by q true e = sym (ap (maps.get m) (same_key q key e) ∙ none)
     by q false e = refl
 
-module _ (s : State) (names : List (List ℕ)) (target : Target) (key : List ℕ) (store : IsStore s names) (there : has_element (graph_in s) target ≡ true) where
+module _ (s : State) (names : List (List ℕ)) (target : Target) (key : List ℕ) (store : IsMidway s names) (there : has_element (graph_in s) target ≡ true) where
   abbrev element_file : ℕ
   element_file = (owner_of target).key.file
 
@@ -164,10 +172,16 @@ module _ (s : State) (names : List (List ℕ)) (target : Target) (key : List ℕ
       ap (λ t. without_value (graph_in s) t key) (sym (target_is target))
       ∙ graph_kept s.records element_file element_id es (owner_file target) used are (λ properties. maps.remove properties key) (remove_none (map_of (rec_at s.records format.names_file) es) key (sym (ap (λ m. maps.get m key) is) ∙ none))
 
+  -- a key that it hasn't has no entry in an index
+  unset_weighs : maps.get (properties_at (graph_in s) target) key ≡ None → element_weight (graph_in s) target (is_text key) (maps.remove (properties_at (graph_in s) target) key) ≡ 0
+  unset_weighs none =
+      let properties = properties_at (graph_in s) target in
+      lacked_weighs (graph_in s) key (maps.remove properties key) (ap (λ m. maps.get m key) (remove_none properties key none) ∙ none) target none
+
   -- nothing changes where the element hasn't the key
-  pub unset_nothing : (u : State) → SameButReads s u → maps.get (properties_at (graph_in s) target) key ≡ None → MakesChange (commands.Unset target key) Done 2 s u names
-  unset_nothing u same none = record {
-    store = store_read s u names same store;
+  pub unset_nothing : (u : State) → IsStore s names → SameButReads s u → maps.get (properties_at (graph_in s) target) key ≡ None → MakesChange (commands.Unset target key) Done 2 s u names
+  unset_nothing u whole same none = record {
+    store = whole_read s u names same whole;
     changes = (
       refl,
       let gone = nothing_gone none in let graph : graph_in u ≡ graph_in s = ap graph_in same in record {
@@ -175,25 +189,31 @@ module _ (s : State) (names : List (List ℕ)) (target : Target) (key : List ℕ
         nodes = ap (λ (z : Graph). z.nodes) (graph ∙ sym gone);
         edges = ap (λ (z : Graph). z.edges) (graph ∙ sym gone);
         names = ap (λ (z : Graph). z.names) graph;
+        indexes = ap (λ (z : Graph). z.indexes) graph;
       },
     );
-    weighs = let e = ap blocks_if none in omega arith;
+    weighs = let e = ap blocks_if none in let w = unset_weighs none in omega arith;
     free = unset_free s.shape.limit (graph_in s) target key there;
   }
+
+  without_indexes : (t : Target) → (without_value (graph_in s) t key).indexes ≡ (graph_in s).indexes
+  without_indexes (targets.Node x) = refl
+  without_indexes (targets.Edge x) = refl
 
   without_names : (t : Target) → (without_value (graph_in s) t key).names ≡ (graph_in s).names
   without_names (targets.Node x) = refl
   without_names (targets.Edge x) = refl
 
   -- the value is gone
-  pub unset_value : (u : State) (owner : Owner) (number released : ℕ) → owner ≡ owner_of target → slice_get names number ≡ Some key → RemovesValue s u owner number released
-      → MakesChange (commands.Unset target key) Done (2 + released) s u names
-  unset_value u owner number released is at h =
+  pub unset_value : (u v : State) (owner : Owner) (number released entries : ℕ) → owner ≡ owner_of target → slice_get names number ≡ Some key → RemovesValue s u owner number released
+      → IsStore v names → graph_in v ≡ graph_in u → element_weight (graph_in s) target (is_text key) (maps.remove (properties_at (graph_in s) target) key) ≡ entries
+      → MakesChange (commands.Unset target key) Done (2 + released + entries) s v names
+  unset_value u v owner number released entries is at h whole last w =
       let text = number_text s names number key store at in
       let whose : target_of owner ≡ target = ap target_of is ∙ target_is target in
-      let graph : graph_in u ≡ without_value (graph_in s) target key = h.graph ∙ ap (λ t. without_value (graph_in s) t (text_at s number)) whose ∙ ap (without_value (graph_in s) target) text in
+      let graph : graph_in v ≡ without_value (graph_in s) target key = last ∙ h.graph ∙ ap (λ t. without_value (graph_in s) t (text_at s number)) whose ∙ ap (without_value (graph_in s) target) text in
       record {
-        store = record { store = h.changes.store; names = store.names ∙ sym (ap (λ (z : Graph). z.names) graph ∙ without_names target) };
+        store = whole;
         changes = (
           refl,
           record {
@@ -201,19 +221,20 @@ module _ (s : State) (names : List (List ℕ)) (target : Target) (key : List ℕ
             nodes = ap (λ (z : Graph). z.nodes) graph;
             edges = ap (λ (z : Graph). z.edges) graph;
             names = ap (λ (z : Graph). z.names) graph ∙ without_names target;
+            indexes = ap (λ (z : Graph). z.indexes) graph ∙ without_indexes target;
           },
         );
-        weighs = let e = h.released_is ∙ ap (λ t. blocks_if (maps.get (properties_at (graph_in s) t) (text_at s number))) whose ∙ ap (λ k. blocks_if (maps.get (properties_at (graph_in s) target) k)) text in ap (λ n. 2 + n) e;
+        weighs = let e = h.released_is ∙ ap (λ t. blocks_if (maps.get (properties_at (graph_in s) t) (text_at s number))) whose ∙ ap (λ k. blocks_if (maps.get (properties_at (graph_in s) target) k)) text in omega arith;
         free = unset_free s.shape.limit (graph_in s) target key there;
       }
 
   -- the key was a name, and the element hadn't it
-  pub unset_absent : (u : State) (owner : Owner) (number : ℕ) → owner ≡ owner_of target → slice_get names number ≡ Some key → UnsetsValue s u owner number None
+  pub unset_absent : (u : State) (owner : Owner) (number : ℕ) → IsStore s names → owner ≡ owner_of target → slice_get names number ≡ Some key → UnsetsValue s u owner number None
       → MakesChange (commands.Unset target key) Done 2 s u names
-  unset_absent u owner number is at h =
+  unset_absent u owner number whole is at h =
       let text = number_text s names number key store at in
       let whose : target_of owner ≡ target = ap target_of is ∙ target_is target in
-      unset_nothing u h.1 (sym (ap (λ t. maps.get (properties_at (graph_in s) t) (text_at s number)) whose ∙ ap (maps.get (properties_at (graph_in s) target)) text) ∙ h.0)
+      unset_nothing u whole h.1 (sym (ap (λ t. maps.get (properties_at (graph_in s) t) (text_at s number)) whose ∙ ap (maps.get (properties_at (graph_in s) target)) text) ∙ h.0)
 
   -- the key is known of the element
   pub has_key : (owner : Owner) (number : ℕ) → owner ≡ owner_of target → slice_get names number ≡ Some key → HasKey s owner number
@@ -236,12 +257,20 @@ set_there limit graph (targets.Edge id) key value there = (λ o z. z, λ o z. cl
 set_first : (limit : ℕ) (graph : Graph) (target : Target) (key : List ℕ) (value : Value) (why : Refusal) → has_element graph target ≡ true → FirstReason line_reasons limit graph (commands.Set target key value) why
     → FirstReason change_reasons limit graph (commands.Set target key value) why
 set_first limit graph target key value why there first =
-    let k = set_there limit graph target key value there in inr (λ o z. z, inr (λ o z. z, inr (λ o z. z, inr (λ o z. z, inr (k.0, inr (k.1, inr (λ o z. z, first)))))))
+    let k = set_there limit graph target key value there in inr (λ o z. z, inr (λ o z. z, inr (λ o z. z, inr (λ o z. z, inr (k.0, inr (k.1, inr (λ o z. z, inr (λ o z. z, inr (λ o z. z, inr (λ o z. z, first_front line_reasons index_reasons limit graph (commands.Set target key value) why first))))))))))
 
-set_free : (limit : ℕ) (graph : Graph) (target : Target) (key : List ℕ) (value : Value) → has_element graph target ≡ true → NoReason line_reasons limit graph (commands.Set target key value)
+-- the indexes have no room
+set_full : (limit : ℕ) (graph : Graph) (target : Target) (key : List ℕ) (value : Value) → has_element graph target ≡ true → NoReason line_reasons limit graph (commands.Set target key value)
+    → index_full limit graph (commands.Set target key value) refusals.FullIndex → FirstReason change_reasons limit graph (commands.Set target key value) refusals.FullIndex
+set_full limit graph target key value there free full =
+    let k = set_there limit graph target key value there in
+    inr (λ o z. z, inr (λ o z. z, inr (λ o z. z, inr (λ o z. z, inr (k.0, inr (k.1, inr (λ o z. z, inr (λ o z. z, inr (λ o z. z, inr (λ o z. z, first_after line_reasons index_reasons limit graph (commands.Set target key value) refusals.FullIndex free (inr (λ o z. z, inl full))))))))))))
+
+set_free : (limit : ℕ) (graph : Graph) (target : Target) (key : List ℕ) (value : Value) → has_element graph target ≡ true → Never (index_full limit graph (commands.Set target key value)) → NoReason line_reasons limit graph (commands.Set target key value)
     → NoReason change_reasons limit graph (commands.Set target key value)
-set_free limit graph target key value there free =
-    let k = set_there limit graph target key value there in (λ o z. z, (λ o z. z, (λ o z. z, (λ o z. z, (k.0, (k.1, (λ o z. z, free)))))))
+set_free limit graph target key value there fits free =
+    let k = set_there limit graph target key value there in
+    (λ o z. z, (λ o z. z, (λ o z. z, (λ o z. z, (k.0, (k.1, (λ o z. z, (λ o z. z, (λ o z. z, (λ o z. z, none_both line_reasons index_reasons limit graph (commands.Set target key value) free (λ o z. z, (fits, tt))))))))))))
 
 pub set_missing : (limit : ℕ) (graph : Graph) (target : Target) (key : List ℕ) (value : Value) (fault : ChangeFault) → IsMissing graph target fault → IsRefusal limit graph (commands.Set target key value) fault
 set_missing limit graph target key value (NoNode id) h =
@@ -249,6 +278,9 @@ set_missing limit graph target key value (NoNode id) h =
 set_missing limit graph target key value (NoEdge id) h =
     subst (λ t. IsRefusal limit graph (commands.Set t key value) (NoEdge id)) (sym h.0) (inr (λ o z. z, inr (λ o z. z, inr (λ o z. z, inr (λ o z. z, inr (λ o z. z, inl (h.1, refl)))))))
 set_missing limit graph target key value (HasRelationships id degree) h = absurd h
+set_missing limit graph target key value IndexThere h = absurd h
+set_missing limit graph target key value TooManyIndexes h = absurd h
+set_missing limit graph target key value (IndexTooLarge count) h = absurd h
 set_missing limit graph target key value (Full file live) h = absurd h
 set_missing limit graph target key value (NamesFull count) h = absurd h
 set_missing limit graph target key value (PropsFull count) h = absurd h
@@ -270,7 +302,7 @@ value_renamed g names (targets.Node id) key value = refl
 value_renamed g names (targets.Edge id) key value = refl
 
 -- ---- a value that is set
-module _ (s : State) (old : List (List ℕ)) (target : Target) (key : List ℕ) (value : Value) (store : IsStore s old) (there : has_element (graph_in s) target ≡ true) where
+module _ (s : State) (old : List (List ℕ)) (target : Target) (key : List ℕ) (value : Value) (store : IsMidway s old) (there : has_element (graph_in s) target ≡ true) where
   -- a key that is one name too many
   pub set_unnamed : (fault : InternFault) → IsFullFault old key fault → IsRefusal s.shape.limit (graph_in s) (commands.Set target key value) (of_intern fault)
   set_unnamed (intern.NamesFull count) why =
@@ -283,7 +315,7 @@ module _ (s : State) (old : List (List ℕ)) (target : Target) (key : List ℕ) 
   module _ (t : State) (new : List (List ℕ)) (number : ℕ) (owner : Owner) (is : owner ≡ owner_of target) (uses : UsesName old key new) (kept : KeepsElements s t new) (few : length new ≤ most_names)
       (at : slice_get new number ≡ Some key) where
     graph_same : graph_in t ≡ record (graph_in s) { names = (graph_in t).names }
-    graph_same = λ i. record { nodes = kept.nodes i; edges = kept.edges i; names = (graph_in t).names }
+    graph_same = λ i. record { nodes = kept.nodes i; edges = kept.edges i; names = (graph_in t).names; indexes = kept.indexes i }
 
     text : text_at t number ≡ key
     text = number_text t new number key kept.store at
@@ -344,17 +376,42 @@ module _ (s : State) (old : List (List ℕ)) (target : Target) (key : List ℕ) 
     set_refused sets.Disk h = tt
     set_refused (sets.Damaged damage) h = absurd h
 
+    with_indexes : (x : Target) → (with_value (graph_in s) x key value).indexes ≡ (graph_in s).indexes
+    with_indexes (targets.Node id) = refl
+    with_indexes (targets.Edge id) = refl
+
     -- the value stands at the key
-    pub set_value : (u : State) (released weight : ℕ) → SetsValue t u owner number value released → u.shape ≡ t.shape → weight ≡ 2 + blocks_of value + released + (length new - length old)
-        → MakesChange (commands.Set target key value) Done weight s u new
-    set_value u released weight h shape weighs =
-        let graph : graph_in u ≡ record (with_value (graph_in s) target key value) { names = (graph_in t).names } = h.graph ∙ graph_with in
-        let names : (graph_in u).names ≡ new = ap (λ (z : Graph). z.names) graph ∙ sym kept.store.names in
+    -- there is no room for its entry
+    pub entry_refused : (u : State) (released : ℕ) → SetsValue t u owner number value released → u.shape ≡ t.shape → index_full s.shape.limit (graph_in s) (commands.Set target key value) refusals.FullIndex
+        → (live : ℕ) → IsRefusal s.shape.limit (graph_in s) (commands.Set target key value) (Full format.index_file live)
+    entry_refused u released h shape full live =
+        let put : graph_in u ≡ record (with_value (graph_in s) target key value) { names = (graph_in t).names } = h.graph ∙ graph_with in
+        let limit : u.shape.limit ≡ s.shape.limit = ap (λ (z : Shape). z.limit) (shape ∙ kept.shape) in
+        let properties = property_count-limit u.records u.shape h.changes.store in
+        let blocks = block_count-limit u.records u.shape h.changes.store in
+        set_full s.shape.limit (graph_in s) target key value there (
+          names_free,
+          (
+            few_free h.few,
+            (
+              λ o z. let e = ap property_count put in let more = z.0 in absurd (omega arith),
+              (λ o z. let e = ap block_count put in let more = z.0 in absurd (omega arith), tt),
+            ),
+          ),
+        ) full
+
+    pub set_value : (u v : State) (released entries weight : ℕ) → SetsValue t u owner number value released → u.shape ≡ t.shape → weight ≡ 2 + blocks_of value + released + (length new - length old) + entries
+        → IsStore v new → graph_in v ≡ graph_in u → element_weight (graph_in s) target (is_text key) (maps.insert (properties_at (graph_in s) target) key value) ≡ entries
+        → (graph_in v ≡ record (with_value (graph_in s) target key value) { names = (graph_in t).names } → Never (index_full s.shape.limit (graph_in s) (commands.Set target key value))) → MakesChange (commands.Set target key value) Done weight s v new
+    set_value u v released entries weight h shape weighs whole last w fits =
+        let put : graph_in u ≡ record (with_value (graph_in s) target key value) { names = (graph_in t).names } = h.graph ∙ graph_with in
+        let graph : graph_in v ≡ record (with_value (graph_in s) target key value) { names = (graph_in t).names } = last ∙ put in
+        let names : (graph_in v).names ≡ new = ap (λ (z : Graph). z.names) graph ∙ sym kept.store.names in
         let limit : u.shape.limit ≡ s.shape.limit = ap (λ (z : Shape). z.limit) (shape ∙ kept.shape) in
         let properties = property_count-limit u.records u.shape h.changes.store in
         let blocks = block_count-limit u.records u.shape h.changes.store in
         record {
-          store = record { store = h.changes.store; names = sym names };
+          store = whole;
           changes = (
             refl,
             record {
@@ -362,21 +419,23 @@ module _ (s : State) (old : List (List ℕ)) (target : Target) (key : List ℕ) 
               nodes = ap (λ (z : Graph). z.nodes) graph;
               edges = ap (λ (z : Graph). z.edges) graph;
               names = subst (UsesName (graph_in s).names key) (sym names) (subst (λ l. UsesName l key new) store.names uses);
+              indexes = ap (λ (z : Graph). z.indexes) graph ∙ with_indexes target;
             },
           );
           weighs = (
             length new - length (graph_in s).names,
             needs_names (graph_in s).names (key ∷ []) new names_used,
-            weighs ∙ ap (λ n. 2 + blocks_of value + n + (length new - length old)) (h.released_is ∙ ap (λ m. blocks_at m (text_at t number)) properties_are ∙ ap (blocks_at (properties_at (graph_in s) target)) text)
-                ∙ ap (λ (l : List (List ℕ)). 2 + blocks_of value + blocks_at (properties_at (graph_in s) target) key + (length new - length l)) store.names,
+            let all = weighs ∙ ap (λ n. 2 + blocks_of value + n + (length new - length old) + entries) (h.released_is ∙ ap (λ m. blocks_at m (text_at t number)) properties_are ∙ ap (blocks_at (properties_at (graph_in s) target)) text)
+                ∙ ap (λ (l : List (List ℕ)). 2 + blocks_of value + blocks_at (properties_at (graph_in s) target) key + (length new - length l) + entries) store.names in
+                omega arith,
           );
-          free = set_free s.shape.limit (graph_in s) target key value there (
+          free = set_free s.shape.limit (graph_in s) target key value there (fits graph) (
             names_free,
             (
               few_free h.few,
               (
-                λ o z. let e = ap property_count graph in let more = z.0 in absurd (omega arith),
-                (λ o z. let e = ap block_count graph in let more = z.0 in absurd (omega arith), tt),
+                λ o z. let e = ap property_count put in let more = z.0 in absurd (omega arith),
+                (λ o z. let e = ap block_count put in let more = z.0 in absurd (omega arith), tt),
               ),
             ),
           );

@@ -13,13 +13,13 @@ use Rattle.id_freelist.specs.TakeFault.{NotDamaged}
 use Rattle.id_freelist.proofs.Splits.{can_take}
 use Rattle.graph_ops.specs.ChangeFault.{IsFailure, IsOutside, of_take}
 use Rattle.graph_ops.specs.Rooms.{HasRoom}
-use Rattle.graph_ops.specs.Store.{IsStore}
+use Rattle.graph_ops.specs.Store.{IsMidway}
 
 -- a file of a store can give an identifier, unless it is full
 pub kept_can_take : (s : State) {most : ℕ} {empty : List ℕ} (file : ℕ) (reused : is_reused file ≡ true) → is_meta_file file ≡ true → (well : KeepsRules s.records s.shape most empty) → CanTake s file (well.split file reused).0
 kept_can_take s file reused is well = let k = well.split file reused in can_take s file k.0 (well.ranges.metas file is).high k.1
 
-pub store_can_take : (s : State) (names : List (List ℕ)) (file : ℕ) (reused : is_reused file ≡ true) → is_meta_file file ≡ true → (store : IsStore s names) → CanTake s file (store.store.split file reused).0
+pub store_can_take : (s : State) (names : List (List ℕ)) (file : ℕ) (reused : is_reused file ≡ true) → is_meta_file file ≡ true → (store : IsMidway s names) → CanTake s file (store.store.split file reused).0
 store_can_take s names file reused is store = kept_can_take s file reused is store.store
 
 -- so only the machine can fail

@@ -21,11 +21,14 @@ use Rattle.store_rules.specs.PropertyChange.{Apart, property_place}
 use Rattle.store_rules.specs.Views.{Records, key_in, rec_at}
 use Rattle.graph_ops.specs.Owners.{owner_of}
 use Rattle.graph_ops.specs.Rooms.{HasRoom, LacksRoom}
-use Rattle.graph_ops.specs.Store.{IsStore, graph_in}
+use Rattle.graph_ops.specs.Store.{IsMidway, graph_in}
 use Rattle.graph_ops.specs.declared.assigning.Assignment.{Assignment}
 use Rattle.graph_ops.specs.declared.change_fault.ChangeFault.{ChangeFault}
 use Rattle.graph_ops.specs.declared.change_fault.ChangeFault.TheVariants.{NoNode, NoEdge}
 use Rattle.graph_ops.specs.declared.change_fault.ChangeFault.TheVariants.{HasRelationships, Full}
+use Rattle.graph_ops.specs.declared.change_fault.ChangeFault.TheVariants.{IndexThere}
+use Rattle.graph_ops.specs.declared.change_fault.ChangeFault.TheVariants.{TooManyIndexes}
+use Rattle.graph_ops.specs.declared.change_fault.ChangeFault.TheVariants.{IndexTooLarge}
 use Rattle.graph_ops.specs.declared.change_fault.ChangeFault.TheVariants.{NamesFull, PropsFull}
 use Rattle.graph_ops.specs.declared.change_fault.ChangeFault.TheVariants.{Memory, Disk, Damaged}
 
@@ -90,6 +93,9 @@ abbrev pub IsAssignFault : List (List ℕ) → List Pair → ChangeFault → Typ
 IsAssignFault names pairs (NoNode id) = ⊥
 IsAssignFault names pairs (NoEdge id) = ⊥
 IsAssignFault names pairs (HasRelationships id degree) = ⊥
+IsAssignFault names pairs IndexThere = ⊥
+IsAssignFault names pairs TooManyIndexes = ⊥
+IsAssignFault names pairs (IndexTooLarge count) = ⊥
 IsAssignFault names pairs (Full file live) = ⊥
 IsAssignFault names pairs (NamesFull count) = LacksNames names (keys_in pairs)
 IsAssignFault names pairs (PropsFull count) =
@@ -104,6 +110,9 @@ abbrev pub IsAssignCount : ChangeFault → Type 0
 IsAssignCount (NoNode id) = ⊥
 IsAssignCount (NoEdge id) = ⊥
 IsAssignCount (HasRelationships id degree) = ⊥
+IsAssignCount IndexThere = ⊥
+IsAssignCount TooManyIndexes = ⊥
+IsAssignCount (IndexTooLarge count) = ⊥
 IsAssignCount (Full file live) = ⊥
 IsAssignCount (NamesFull count) = count ≡ most_names
 IsAssignCount (PropsFull count) = count ≡ most_properties
@@ -117,6 +126,9 @@ abbrev pub IsPutCause : State → ℕ → ℕ → ChangeFault → Type 0
 IsPutCause t count blocks (NoNode id) = ⊥
 IsPutCause t count blocks (NoEdge id) = ⊥
 IsPutCause t count blocks (HasRelationships id degree) = ⊥
+IsPutCause t count blocks IndexThere = ⊥
+IsPutCause t count blocks TooManyIndexes = ⊥
+IsPutCause t count blocks (IndexTooLarge count_of) = ⊥
 IsPutCause t count blocks (Full file live) =
     IsFullFile t file live × IsNeeded (0 < count) blocks file
 IsPutCause t count blocks (NamesFull count_of) = ⊥
@@ -139,7 +151,7 @@ IsReserveFault s count block_count fault =
 -- The element is there without properties, and the assignments are for it.
 pub record CanPut (s : State) (names : List (List ℕ)) (target : Target) (pairs : List Pair)
     (assigned : List Assignment) : Type 0 where
-  pub store : IsStore s names
+  pub store : IsMidway s names
   pub there : has_element (graph_in s) target ≡ true
   pub bare : properties_at (graph_in s) target ≡ no_properties
   pub are : AreAssigned names pairs assigned
@@ -157,7 +169,7 @@ pub record KeepsLinks (old new : Records) (owner : Owner) : Type 0 where
 -- The element has these pairs now.
 pub record PutsPairs (s t : State) (names : List (List ℕ)) (target : Target) (pairs : List Pair)
     : Type 0 where
-  pub store : IsStore t names
+  pub store : IsMidway t names
   pub graph : graph_in t
       ≡ with_properties (graph_in s) target (λ properties. with_pairs properties pairs)
   pub keeps : KeepsLinks s.records t.records (owner_of target)

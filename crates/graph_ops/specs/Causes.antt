@@ -1,6 +1,9 @@
 -- Why a change is refused, by what the records say, whether or not they keep the rules.
-use Rattle.std.specs.Prelude.{◌≡◌, ◌≢◌, ◌⊎◌, ◌<◌, ℕ, List, [], ◌∷◌, None, Some, slice_get}
-use Rattle.plain_graph.specs.Properties.{blocks_of, keys_in}
+use Rattle.std.specs.Prelude.{◌≡◌, ◌≢◌, ◌⊎◌, ◌<◌, ◌≤◌, ℕ, List, [], ◌∷◌, None, Some, length}
+use Rattle.std.specs.Prelude.{slice_get}
+use Rattle.std.specs.FinMap as maps
+use Rattle.plain_graph.specs.Indexes.{most_indexed, most_indexes}
+use Rattle.plain_graph.specs.Properties.{blocks_of, keys_in, no_properties, with_pairs}
 use Rattle.plain_graph.specs.Refusals.{most_names, most_properties}
 use Rattle.plain_graph.specs.declared.command.Command.{Command}
 use Rattle.plain_graph.specs.declared.command.Command.TheVariants as commands
@@ -12,7 +15,10 @@ use Rattle.prop_store.specs.SetFault.{IsFullFile, IsNeeded}
 use Rattle.rec_bytes.specs.declared.damage.Damage.{Damage}
 use Rattle.rec_bytes.specs.Format as format
 use Rattle.rec_bytes.specs.Space.{State}
-use Rattle.store_rules.specs.Views.{Records}
+use Rattle.store_rules.specs.Chains.{IsWalk}
+use Rattle.store_rules.specs.Indexes.{first_definition, indexed_key, indexed_label}
+use Rattle.store_rules.specs.Indexes.{next_definition}
+use Rattle.store_rules.specs.Views.{Records, kind_at}
 use Rattle.node_store.specs.Loading as nodes
 use Rattle.rel_store.specs.Loading as rels
 use Rattle.graph_ops.specs.Assigning.{HasTooMany, LacksNames}
@@ -25,8 +31,30 @@ use Rattle.graph_ops.specs.Rooms.{LacksRoom}
 use Rattle.graph_ops.specs.declared.change_fault.ChangeFault.{ChangeFault}
 use Rattle.graph_ops.specs.declared.change_fault.ChangeFault.TheVariants.{NoNode, NoEdge}
 use Rattle.graph_ops.specs.declared.change_fault.ChangeFault.TheVariants.{HasRelationships, Full}
+use Rattle.graph_ops.specs.declared.change_fault.ChangeFault.TheVariants.{IndexThere}
+use Rattle.graph_ops.specs.declared.change_fault.ChangeFault.TheVariants.{TooManyIndexes}
+use Rattle.graph_ops.specs.declared.change_fault.ChangeFault.TheVariants.{IndexTooLarge}
 use Rattle.graph_ops.specs.declared.change_fault.ChangeFault.TheVariants.{NamesFull, PropsFull}
 use Rattle.graph_ops.specs.declared.change_fault.ChangeFault.TheVariants.{Memory, Disk, Damaged}
+
+-- the command makes an index, and this is so of its label and its key
+abbrev pub AsksIndex : Command → (List ℕ → List ℕ → Type 0) → Type 0
+AsksIndex (commands.Index label key) Holds = Holds label key
+AsksIndex _ Holds = ⊥
+
+-- a definition has the label and the key, by their numbers among the names
+abbrev pub HasDefinition : Records → List (List ℕ) → List ℕ → List ℕ → Type 0
+HasDefinition records names label key =
+    (d : ℕ) × (kind_at records format.index_file d ≡ format.definition)
+    × (slice_get names (indexed_label records d) ≡ Some label)
+    × (slice_get names (indexed_key records d) ≡ Some key)
+
+-- there are as many definitions as there may be
+abbrev pub HasManyDefinitions : Records → Type 0
+HasManyDefinitions records =
+    (definitions : List ℕ)
+    × IsWalk (next_definition records) (first_definition records) definitions
+    × (most_indexes ≤ length definitions)
 
 -- the command is about the node
 abbrev pub AsksNode : Command → ℕ → Type 0
@@ -48,14 +76,20 @@ abbrev pub AsksNames : List (List ℕ) → Command → Type 0
 AsksNames names (commands.Node label pairs) = LacksNames names (label ∷ keys_in pairs)
 AsksNames names (commands.Edge from label to pairs) = LacksNames names (label ∷ keys_in pairs)
 AsksNames names (commands.Set target key value) = LacksNames names (key ∷ [])
+AsksNames names (commands.Index label key) = LacksNames names (label ∷ key ∷ [])
 AsksNames names _ = ⊥
 
--- a new element needs so many records of the file: its own one, or those of its properties
+-- A new element needs so many records of the file: its own one, or those of its properties, and a
+-- node at most one of the indexes for each. An
+-- index needs one for its definition, twelve for its buckets, and one for each node.
 abbrev pub AsksRoom : Command → ℕ → ℕ → Type 0
 AsksRoom (commands.Node label pairs) file count =
-    ((file ≡ format.nodes_file) × (count ≡ 1)) ⊎ NeedForPairs pairs file count
+    ((file ≡ format.nodes_file) × (count ≡ 1))
+    ⊎ (NeedForPairs pairs file count
+    ⊎ ((file ≡ format.index_file) × (count ≤ maps.len (with_pairs no_properties pairs))))
 AsksRoom (commands.Edge from label to pairs) file count =
     ((file ≡ format.relationships_file) × (count ≡ 1)) ⊎ NeedForPairs pairs file count
+AsksRoom (commands.Index label key) file count = (file ≡ format.index_file) × (13 ≤ count)
 AsksRoom _ file count = ⊥
 
 -- The records of the element lead to no property with the key, by its number among these names.
@@ -76,12 +110,19 @@ pub record IsCrowdedFor (records : Records) (names : List (List ℕ)) (target : 
 abbrev pub NeedsAny : List Pair → ℕ → Type 0
 NeedsAny pairs file = (count : ℕ) × NeedForPairs pairs file count × (0 < count)
 
+-- nodes alone have entries in indexes
+abbrev pub IsNodeTarget : Target → Type 0
+IsNodeTarget (targets.Node id) = Unit {0}
+IsNodeTarget (targets.Edge id) = ⊥
+
 -- what the command gives an element needs a record of the file
 abbrev pub AsksRecord : Command → Records → List (List ℕ) → ℕ → Type 0
-AsksRecord (commands.Node label pairs) records names file = NeedsAny pairs file
+AsksRecord (commands.Node label pairs) records names file =
+    NeedsAny pairs file ⊎ ((file ≡ format.index_file) × (pairs ≢ []))
 AsksRecord (commands.Edge from label to pairs) records names file = NeedsAny pairs file
 AsksRecord (commands.Set target key value) records names file =
     IsNeeded (LacksKey records names target key) (blocks_of value) file
+    ⊎ ((file ≡ format.index_file) × IsNodeTarget target)
 AsksRecord _ records names file = ⊥
 
 -- an element would have more properties than it may have
@@ -107,6 +148,11 @@ IsCaused command s t names now (NoEdge id) =
     AsksEdge command id × (rels.row_at s.records id ≡ None)
 IsCaused command s t names now (HasRelationships id degree) =
     (command ≡ commands.Delete (targets.Node id)) × HasDegree s.records id degree × (degree ≢ 0)
+IsCaused command s t names now IndexThere = AsksIndex command (HasDefinition s.records names)
+IsCaused command s t names now TooManyIndexes =
+    AsksIndex command (λ label key. HasManyDefinitions s.records)
+IsCaused command s t names now (IndexTooLarge count) =
+    AsksIndex command (λ label key. most_indexed < count)
 IsCaused command s t names now (Full file live) = IsFull command s t now file live
 IsCaused command s t names now (NamesFull count) = AsksNames names command × (count ≡ most_names)
 IsCaused command s t names now (PropsFull count) =

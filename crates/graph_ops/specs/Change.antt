@@ -17,6 +17,9 @@ use Rattle.graph_ops.specs.Store.{IsStore, graph_in}
 use Rattle.graph_ops.specs.declared.change_fault.ChangeFault.{ChangeFault}
 use Rattle.graph_ops.specs.declared.change_fault.ChangeFault.TheVariants.{NoNode, NoEdge}
 use Rattle.graph_ops.specs.declared.change_fault.ChangeFault.TheVariants.{HasRelationships, Full}
+use Rattle.graph_ops.specs.declared.change_fault.ChangeFault.TheVariants.{IndexThere}
+use Rattle.graph_ops.specs.declared.change_fault.ChangeFault.TheVariants.{TooManyIndexes}
+use Rattle.graph_ops.specs.declared.change_fault.ChangeFault.TheVariants.{IndexTooLarge}
 use Rattle.graph_ops.specs.declared.change_fault.ChangeFault.TheVariants.{NamesFull, PropsFull}
 use Rattle.graph_ops.specs.declared.change_fault.ChangeFault.TheVariants.{Memory, Disk, Damaged}
 
@@ -35,6 +38,7 @@ full_of file =
     if nat_eq file format.nodes_file then refusals.FullNodes
     else if nat_eq file format.relationships_file then refusals.FullEdges
     else if nat_eq file format.properties_file then refusals.FullProperties
+    else if nat_eq file format.index_file then refusals.FullIndex
     else refusals.FullStrings
 
 -- The first of these reasons that holds refuses the command so. A failure of the machine is none of
@@ -46,6 +50,12 @@ IsRefusedBy reasons limit graph command (NoEdge id) =
     FirstReason reasons limit graph command (refusals.NoEdge id)
 IsRefusedBy reasons limit graph command (HasRelationships id degree) =
     FirstReason reasons limit graph command (refusals.HasRelationships id)
+IsRefusedBy reasons limit graph command IndexThere =
+    FirstReason reasons limit graph command refusals.IndexThere
+IsRefusedBy reasons limit graph command TooManyIndexes =
+    FirstReason reasons limit graph command refusals.TooManyIndexes
+IsRefusedBy reasons limit graph command (IndexTooLarge count) =
+    FirstReason reasons limit graph command (refusals.IndexTooLarge count)
 IsRefusedBy reasons limit graph command (Full file live) =
     FirstReason reasons limit graph command (full_of file)
 IsRefusedBy reasons limit graph command (NamesFull count) =
@@ -66,6 +76,9 @@ abbrev pub IsCounted : State → ChangeFault → Type 0
 IsCounted s (NoNode id) = Unit {0}
 IsCounted s (NoEdge id) = Unit {0}
 IsCounted s (HasRelationships id degree) = HasDegree s.records id degree
+IsCounted s IndexThere = Unit {0}
+IsCounted s TooManyIndexes = Unit {0}
+IsCounted s (IndexTooLarge count) = Unit {0}
 IsCounted s (Full file live) = live ≡ (meta_of s file).live
 IsCounted s (NamesFull count) = count ≡ most_names
 IsCounted s (PropsFull count) = count ≡ most_properties
@@ -78,6 +91,9 @@ abbrev pub IsSetCount : Shape → ChangeFault → Type 0
 IsSetCount shape (NoNode id) = Unit {0}
 IsSetCount shape (NoEdge id) = Unit {0}
 IsSetCount shape (HasRelationships id degree) = ⊥
+IsSetCount shape IndexThere = ⊥
+IsSetCount shape TooManyIndexes = ⊥
+IsSetCount shape (IndexTooLarge count) = ⊥
 IsSetCount shape (Full file live) = live ≡ room_of shape file
 IsSetCount shape (NamesFull count) = count ≡ most_names
 IsSetCount shape (PropsFull count) = count ≡ most_properties

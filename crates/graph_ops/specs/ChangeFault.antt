@@ -2,6 +2,7 @@
 use Rattle.std.specs.Prelude.{◌≡◌, ℕ, nat_eq, Bool, false, ◌||◌, Result}
 use Rattle.std.specs.Bool.{OnTrue}
 use Rattle.rec_bytes.specs.Format as format
+use Rattle.rec_bytes.specs.declared.damage.Damage.{Damage}
 use Rattle.rec_bytes.specs.declared.space.SpaceFault.{SpaceFault}
 use Rattle.rec_bytes.specs.declared.space.SpaceFault.TheVariants as space
 use Rattle.rec_bytes.specs.declared.row_fault.RowFault.{RowFault}
@@ -14,11 +15,16 @@ use Rattle.id_freelist.specs.declared.take_fault.TakeFault.{TakeFault}
 use Rattle.id_freelist.specs.declared.take_fault.TakeFault.TheVariants as take
 use Rattle.name_store.specs.declared.intern_fault.InternFault.{InternFault}
 use Rattle.name_store.specs.declared.intern_fault.InternFault.TheVariants as intern
+use Rattle.prop_index.specs.declared.make_fault.MakeFault.{MakeFault}
+use Rattle.prop_index.specs.declared.make_fault.MakeFault.TheVariants as makes
 use Rattle.prop_store.specs.declared.set_fault.SetFault.{SetFault}
 use Rattle.prop_store.specs.declared.set_fault.SetFault.TheVariants as set
 use Rattle.graph_ops.specs.declared.change_fault.ChangeFault.{ChangeFault}
 use Rattle.graph_ops.specs.declared.change_fault.ChangeFault.TheVariants.{NoNode, NoEdge}
 use Rattle.graph_ops.specs.declared.change_fault.ChangeFault.TheVariants.{HasRelationships, Full}
+use Rattle.graph_ops.specs.declared.change_fault.ChangeFault.TheVariants.{IndexThere}
+use Rattle.graph_ops.specs.declared.change_fault.ChangeFault.TheVariants.{TooManyIndexes}
+use Rattle.graph_ops.specs.declared.change_fault.ChangeFault.TheVariants.{IndexTooLarge}
 use Rattle.graph_ops.specs.declared.change_fault.ChangeFault.TheVariants.{NamesFull, PropsFull}
 use Rattle.graph_ops.specs.declared.change_fault.ChangeFault.TheVariants.{Memory, Disk, Damaged}
 
@@ -53,11 +59,28 @@ of_set set.Memory = Memory
 of_set set.Disk = Disk
 of_set (set.Damaged damage) = Damaged damage
 
+-- the records of the indexes name what they may not
+abbrev pub index_damage : Damage
+index_damage = record { file = format.meta_file; id = format.index_file; rule = 8 }
+
+-- The pair and the number of indexes are tested before the first write.
+abbrev pub of_make : MakeFault → ChangeFault
+of_make makes.There = Damaged index_damage
+of_make makes.Many = Damaged index_damage
+of_make (makes.TooLarge count) = IndexTooLarge count
+of_make (makes.Full live) = Full format.index_file live
+of_make makes.Memory = Memory
+of_make makes.Disk = Disk
+of_make (makes.Damaged damage) = Damaged damage
+
 -- a failure of the machine, and no answer about the graph
 abbrev pub IsOutside : ChangeFault → Type 0
 IsOutside (NoNode id) = ⊥
 IsOutside (NoEdge id) = ⊥
 IsOutside (HasRelationships id degree) = ⊥
+IsOutside IndexThere = ⊥
+IsOutside TooManyIndexes = ⊥
+IsOutside (IndexTooLarge count) = ⊥
 IsOutside (Full file live) = ⊥
 IsOutside (NamesFull count) = ⊥
 IsOutside (PropsFull count) = ⊥
@@ -70,6 +93,9 @@ abbrev pub IsFailure : ChangeFault → Type 0
 IsFailure (NoNode id) = ⊥
 IsFailure (NoEdge id) = ⊥
 IsFailure (HasRelationships id degree) = ⊥
+IsFailure IndexThere = ⊥
+IsFailure TooManyIndexes = ⊥
+IsFailure (IndexTooLarge count) = ⊥
 IsFailure (Full file live) = ⊥
 IsFailure (NamesFull count) = ⊥
 IsFailure (PropsFull count) = ⊥
@@ -86,6 +112,9 @@ abbrev pub MayComeLate : ChangeFault → Type 0
 MayComeLate (NoNode id) = ⊥
 MayComeLate (NoEdge id) = ⊥
 MayComeLate (HasRelationships id degree) = ⊥
+MayComeLate IndexThere = ⊥
+MayComeLate TooManyIndexes = ⊥
+MayComeLate (IndexTooLarge count) = Unit {0}
 MayComeLate (Full file live) = is_element_file file ≡ false
 MayComeLate (NamesFull count) = Unit {0}
 MayComeLate (PropsFull count) = Unit {0}
@@ -99,6 +128,9 @@ abbrev pub LeavesSpace : State → State → ChangeFault → Type 0
 LeavesSpace old new (NoNode id) = SameButReads old new
 LeavesSpace old new (NoEdge id) = SameButReads old new
 LeavesSpace old new (HasRelationships id degree) = SameButReads old new
+LeavesSpace old new IndexThere = SameButReads old new
+LeavesSpace old new TooManyIndexes = SameButReads old new
+LeavesSpace old new (IndexTooLarge count) = Unit {0}
 LeavesSpace old new (Full file live) = OnTrue (is_element_file file) (SameButReads old new)
 LeavesSpace old new (NamesFull count) = Unit {0}
 LeavesSpace old new (PropsFull count) = Unit {0}

@@ -11,6 +11,9 @@ use Rattle.store_rules.specs.Views.{key_in}
 use Rattle.graph_ops.specs.declared.change_fault.ChangeFault.{ChangeFault}
 use Rattle.graph_ops.specs.declared.change_fault.ChangeFault.TheVariants.{NoNode, NoEdge}
 use Rattle.graph_ops.specs.declared.change_fault.ChangeFault.TheVariants.{HasRelationships, Full}
+use Rattle.graph_ops.specs.declared.change_fault.ChangeFault.TheVariants.{IndexThere}
+use Rattle.graph_ops.specs.declared.change_fault.ChangeFault.TheVariants.{TooManyIndexes}
+use Rattle.graph_ops.specs.declared.change_fault.ChangeFault.TheVariants.{IndexTooLarge}
 use Rattle.graph_ops.specs.declared.change_fault.ChangeFault.TheVariants.{NamesFull, PropsFull}
 use Rattle.graph_ops.specs.declared.change_fault.ChangeFault.TheVariants.{Memory, Disk, Damaged}
 
@@ -19,6 +22,9 @@ abbrev pub IfBlames : (Damage → Type 0) → ChangeFault → Type 0
 IfBlames told (NoNode id) = Unit {0}
 IfBlames told (NoEdge id) = Unit {0}
 IfBlames told (HasRelationships id degree) = Unit {0}
+IfBlames told IndexThere = Unit {0}
+IfBlames told TooManyIndexes = Unit {0}
+IfBlames told (IndexTooLarge count) = Unit {0}
 IfBlames told (Full file live) = Unit {0}
 IfBlames told (NamesFull count) = Unit {0}
 IfBlames told (PropsFull count) = Unit {0}
@@ -34,12 +40,31 @@ IsBroken s damage = Breaks s.records s.shape damage
 abbrev pub BlamesBroken : State → ChangeFault → Type 0
 BlamesBroken s fault = IfBlames (IsBroken s) fault
 
+-- the record is one of the indexes, or their meta record
+abbrev pub IsOfIndex : Damage → Type 0
+IsOfIndex damage = (damage.file ≡ format.index_file)
+    ⊎ ((damage.file ≡ format.meta_file) × (damage.id ≡ format.index_file))
+
+-- so it is where an entry is changed, and it breaks the rule in the space as it is left
+abbrev pub IsEntryDamage : State → Damage → Type 0
+IsEntryDamage t damage = IsOfIndex damage × IsBroken t damage
+
+abbrev pub BlamesEntry : State → ChangeFault → Type 0
+BlamesEntry t fault = IfBlames (IsEntryDamage t) fault
+
 -- A record that is blamed where a value is given breaks the rule in the space as it was, or in this
--- one, where the key is a name: as it is there, or as it had become when a block was taken.
-abbrev pub BlamesGiven : Type 0 → ℕ → State → State → ChangeFault → Type 0
-BlamesGiven tells blocks s named fault =
+-- one, where the key is a name: as it is there, or as it had become when a block was taken. Or an
+-- entry is changed.
+abbrev pub BlamesGiven : Type 0 → ℕ → State → State → State → ChangeFault → Type 0
+BlamesGiven tells blocks s named t fault =
     IfBlames (λ damage. IsBroken s damage
-    ⊎ (IsBroken named damage ⊎ BreaksMidway tells blocks named damage)) fault
+    ⊎ (IsBroken named damage ⊎ (BreaksMidway tells blocks named damage ⊎ IsEntryDamage t damage)))
+    fault
+
+-- One that is blamed where a value is taken away does in the space as it was. Or an entry is
+-- changed.
+abbrev pub BlamesTaken : State → State → ChangeFault → Type 0
+BlamesTaken s t fault = IfBlames (λ damage. IsBroken s damage ⊎ IsEntryDamage t damage) fault
 
 -- the record is none of a name, a property or a block, nor the meta record of one of their files
 pub record IsBeyond (key : Key) : Type 0 where
@@ -67,8 +92,8 @@ pub record BreaksAdding (element : Key) (s : State) (damage : Damage) : Type 0 w
   pub breaks : Breaks mid.records s.shape damage
 
 -- A record that is blamed where an element is added breaks the rule in the space as it was, or when
--- it was found.
-abbrev pub BlamesAdding : ℕ → State → ChangeFault → Type 0
-BlamesAdding file s fault =
+-- it was found. Or an entry is changed.
+abbrev pub BlamesAdding : ℕ → State → State → ChangeFault → Type 0
+BlamesAdding file s t fault =
     IfBlames (λ damage. IsBroken s damage
-    ⊎ ((id : ℕ) × BreaksAdding (key_in file id) s damage)) fault
+    ⊎ (((id : ℕ) × BreaksAdding (key_in file id) s damage) ⊎ IsEntryDamage t damage)) fault

@@ -26,7 +26,7 @@ use Rattle.group_store.specs.Opening.{IsSearchDamage, LacksGroupOn, end_damage}
 use Rattle.graph_ops.specs.Damage.{IfBlames, IsBroken}
 use Rattle.graph_ops.specs.EdgeEnds.{AtEach, end_groups, end_keys, source_of, target_of}
 use Rattle.graph_ops.specs.NodeDeleting.{HasDegree}
-use Rattle.graph_ops.specs.Store.{IsStore, graph_in}
+use Rattle.graph_ops.specs.Store.{IsMidway, KeepsIndexes, graph_in}
 use Rattle.graph_ops.specs.declared.change_fault.ChangeFault.{ChangeFault}
 use Rattle.graph_ops.specs.declared.edge_end.EdgeEnd.{EdgeEnd}
 use Rattle.graph_ops.specs.declared.edge_end.Ends.{Ends}
@@ -68,7 +68,8 @@ KeepsKinds s t =
 
 -- The edge stands at an end. A group of the end's node may have counts now.
 pub record FindsEnd (s t : State) (names : List (List ℕ)) (id : ℕ) (end : EdgeEnd) : Type 0 where
-  pub store : IsStore t names
+  pub store : IsMidway t names
+  pub indexes : KeepsIndexes s t
   pub stands : StandsAtEnd t.records id end
   pub kinds : KeepsKinds s t
   pub regroups : Regroups s t end.node
@@ -76,10 +77,11 @@ pub record FindsEnd (s t : State) (names : List (List ℕ)) (id : ℕ) (end : Ed
 -- It stands at each, and the graph is the same.
 pub record FindsEnds (s t : State) (names : List (List ℕ)) (id : ℕ) (ends : Ends EdgeEnd)
     : Type 0 where
-  pub store : IsStore t names
+  pub store : IsMidway t names
   pub bare : IsBareEdge t id ends
   pub kinds : KeepsKinds s t
   pub graph : graph_in t ≡ graph_in s
+  pub indexes : KeepsIndexes s t
 
 -- The store lacks the edge, and keeps the rules, but that the groups of the heads at its ends may
 -- be empty.
@@ -87,6 +89,7 @@ pub record PartsEdge (s t : State) (kept : List (List ℕ)) (id : ℕ) (ends : E
     : Type 0 where
   pub keeps : KeepsRules t.records t.shape t.shape.threshold (end_groups ends)
   pub names : kept ≡ names_of t.records
+  pub indexes : KeepsIndexes s t
   pub removes : RemovesEdge (graph_in s) id (graph_in t)
   pub nodes : (n : ℕ) → node_at t.records n ≡ node_at s.records n
   pub kinds : (n : ℕ) → kind_at t.records format.nodes_file n
@@ -118,7 +121,8 @@ pub record WritesTaken (old new : State) (id : ℕ) (ends : Ends EdgeEnd) : Type
 
 -- The store lacks the edge.
 pub record TakesEdge (s t : State) (names : List (List ℕ)) (id : ℕ) : Type 0 where
-  pub store : IsStore t names
+  pub store : IsMidway t names
+  pub indexes : KeepsIndexes s t
   pub removes : RemovesEdge (graph_in s) id (graph_in t)
   pub kinds : KeepsKinds s t
 

@@ -11,7 +11,7 @@ use Rattle.graph_ops.specs.EdgeAdding.{HasEndDegree, IsNodeEnd}
 use Rattle.graph_ops.specs.EdgeEnds.{AreApart, AtEach, source_of, target_of}
 use Rattle.graph_ops.specs.EdgeJoining.{CanJoin}
 use Rattle.graph_ops.specs.EdgePlacing.{KeepsGraph}
-use Rattle.graph_ops.specs.Store.{IsStore}
+use Rattle.graph_ops.specs.Store.{IsMidway}
 use Rattle.graph_ops.specs.declared.edge_end.EdgeEnd.{EdgeEnd}
 use Rattle.graph_ops.specs.declared.edge_end.EndDegree.{EndDegree}
 use Rattle.graph_ops.specs.declared.edge_end.Ends.{Ends}
@@ -35,7 +35,7 @@ pub record IsJoint (joint : Joint) : Type 0 where
 -- The store has the type, the nodes with these degrees, and this threshold.
 pub record CanLink (s : State) (names : List (List ℕ)) (joint : Joint) : Type 0 where
   pub limit : joint.threshold ≡ s.shape.threshold
-  pub store : IsStore s names
+  pub store : IsMidway s names
   pub named : joint.label < high s.records format.names_file
   pub degrees : AtEach (HasEndDegree s.records) joint.ends
 

@@ -9,12 +9,13 @@ use Rattle.store_rules.specs.Ends.{IsEndHead}
 use Rattle.store_rules.specs.Rules.{Head, first_of}
 use Rattle.store_rules.specs.Views.{Records, RelRow, rec_at, rel_at}
 use Rattle.group_store.specs.Opening.{IsCountedHead}
-use Rattle.graph_ops.specs.Store.{IsStore, graph_in}
+use Rattle.graph_ops.specs.Store.{IsMidway, KeepsIndexes, graph_in}
 
 -- Groups of nodes are other ones at most, which no graph shows.
 pub record KeepsGraph (s t : State) : Type 0 where
   pub shape : t.shape ≡ s.shape
   pub graph : graph_in t ≡ graph_in s
+  pub indexes : KeepsIndexes s t
   pub metas : (file : ℕ) → file ≢ format.groups_file → meta_of t file ≡ meta_of s file
 
 -- The relationship is the first in the chain of the node where its like stand. A group that the
@@ -42,7 +43,9 @@ pub record IsFirst (records : Records) (id from to : ℕ) : Type 0 where
 -- The store has one more edge, of this type, without properties.
 pub record PutsEdge (s t : State) (names : List (List ℕ)) (from : ℕ) (label : List ℕ) (to id : ℕ)
     : Type 0 where
-  pub store : IsStore t names
+  pub store : IsMidway t names
+  pub keeps : KeepsIndexes s t
+  pub indexes : (graph_in t).indexes ≡ (graph_in s).indexes
   pub leaves : has_node (graph_in s) from ≡ true
   pub enters : has_node (graph_in s) to ≡ true
   pub below : id < s.shape.limit

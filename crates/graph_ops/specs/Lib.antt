@@ -10,6 +10,8 @@ pub mod EdgeEnds
 pub mod EdgeJoining
 pub mod EdgeOpening
 pub mod EdgePlacing
+pub mod Entries
+pub mod Indexing
 pub mod Mutating
 pub mod NodeAdding
 pub mod NodeDeleting

@@ -14,12 +14,15 @@ use Rattle.rec_bytes.specs.Space.{State}
 use Rattle.store_rules.specs.Writes.{WritesAtMost}
 use Rattle.graph_ops.specs.Causes.{IsStillCaused}
 use Rattle.graph_ops.specs.Change.{full_of}
-use Rattle.graph_ops.specs.Damage.{IfBlames, IsBroken}
+use Rattle.graph_ops.specs.Damage.{IfBlames, IsBroken, IsEntryDamage}
 use Rattle.graph_ops.specs.EdgeDeleting.{BlamesDeleting}
 use Rattle.graph_ops.specs.Store.{IsStore, graph_in}
 use Rattle.graph_ops.specs.declared.change_fault.ChangeFault.{ChangeFault}
 use Rattle.graph_ops.specs.declared.change_fault.ChangeFault.TheVariants.{NoNode, NoEdge}
 use Rattle.graph_ops.specs.declared.change_fault.ChangeFault.TheVariants.{HasRelationships, Full}
+use Rattle.graph_ops.specs.declared.change_fault.ChangeFault.TheVariants.{IndexThere}
+use Rattle.graph_ops.specs.declared.change_fault.ChangeFault.TheVariants.{TooManyIndexes}
+use Rattle.graph_ops.specs.declared.change_fault.ChangeFault.TheVariants.{IndexTooLarge}
 use Rattle.graph_ops.specs.declared.change_fault.ChangeFault.TheVariants.{NamesFull, PropsFull}
 use Rattle.graph_ops.specs.declared.change_fault.ChangeFault.TheVariants.{Memory, Disk, Damaged}
 use Rattle.plain_graph.specs.Mutations.{ChangesEach, MakesEach, RefusesEach, WeighsEach, changes_of}
@@ -64,6 +67,11 @@ IsListRefusal limit graph commands (NoEdge id) =
     RefusesEach limit graph commands (refusals.NoEdge id)
 IsListRefusal limit graph commands (HasRelationships id degree) =
     RefusesEach limit graph commands (refusals.HasRelationships id)
+IsListRefusal limit graph commands IndexThere = RefusesEach limit graph commands refusals.IndexThere
+IsListRefusal limit graph commands TooManyIndexes =
+    RefusesEach limit graph commands refusals.TooManyIndexes
+IsListRefusal limit graph commands (IndexTooLarge count) =
+    RefusesEach limit graph commands (refusals.IndexTooLarge count)
 IsListRefusal limit graph commands (Full file live) =
     RefusesEach limit graph commands (full_of file)
 IsListRefusal limit graph commands (NamesFull count) =
@@ -113,14 +121,16 @@ pub record IsListCause (commands : List Command) (t : State) (names now : List (
   pub caused : IsStillCaused command t (names ++ more) now fault
 
 -- so it is, or there was no memory
-abbrev pub IsListCaused : List Command → State → List (List ℕ) → List (List ℕ) → ChangeFault → Type 0
+abbrev pub IsListCaused
+    : List Command → State → List (List ℕ) → List (List ℕ) → ChangeFault → Type 0
 IsListCaused commands t names now fault =
     (fault ≡ Memory) ⊎ IsListCause commands t names now fault
 
 -- what is so of a record that is blamed where this element is taken away
 abbrev pub BlamesDeletion : State → State → Target → ChangeFault → Type 0
 BlamesDeletion s t (targets.Node id) fault =
-    IfBlames (λ damage. IsBroken s damage ⊎ SharesBlock s.records damage) fault
+    IfBlames (λ damage. IsBroken s damage
+    ⊎ (SharesBlock s.records damage ⊎ IsEntryDamage t damage)) fault
 BlamesDeletion s t (targets.Edge id) fault = BlamesDeleting s t fault
 
 -- A record that is blamed where these elements are taken away, one after the other. What it is

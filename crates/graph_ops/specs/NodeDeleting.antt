@@ -6,10 +6,13 @@ use Rattle.store_rules.specs.Views.{Records, kind_at}
 use Rattle.node_store.specs.declared.node_row.NodeRow.{NodeRow}
 use Rattle.node_store.specs.Loading.{row_at}
 use Rattle.prop_store.specs.Fault.{SharesBlock}
-use Rattle.graph_ops.specs.Damage.{IsBroken}
+use Rattle.graph_ops.specs.Damage.{IsBroken, IsEntryDamage}
 use Rattle.graph_ops.specs.declared.change_fault.ChangeFault.{ChangeFault}
 use Rattle.graph_ops.specs.declared.change_fault.ChangeFault.TheVariants.{NoNode, NoEdge}
 use Rattle.graph_ops.specs.declared.change_fault.ChangeFault.TheVariants.{HasRelationships, Full}
+use Rattle.graph_ops.specs.declared.change_fault.ChangeFault.TheVariants.{IndexThere}
+use Rattle.graph_ops.specs.declared.change_fault.ChangeFault.TheVariants.{TooManyIndexes}
+use Rattle.graph_ops.specs.declared.change_fault.ChangeFault.TheVariants.{IndexTooLarge}
 use Rattle.graph_ops.specs.declared.change_fault.ChangeFault.TheVariants.{NamesFull, PropsFull}
 use Rattle.graph_ops.specs.declared.change_fault.ChangeFault.TheVariants.{Memory, Disk, Damaged}
 
@@ -25,16 +28,21 @@ KeepsOtherKinds s t id =
     (n : ℕ) → n ≢ id
     → kind_at t.records format.nodes_file n ≡ kind_at s.records format.nodes_file n
 
--- why a node of any records isn't deleted, by what was read of them
-abbrev pub IsDeleteCause : State → ℕ → ChangeFault → Type 0
-IsDeleteCause s id (NoNode missing) = (missing ≡ id) × (row_at s.records id ≡ None)
-IsDeleteCause s id (NoEdge missing) = ⊥
-IsDeleteCause s id (HasRelationships of degree) =
+-- Why a node of any records isn't deleted, by what was read of them. Or an entry is changed, and a
+-- record of the indexes is told by the space as it is left.
+abbrev pub IsDeleteCause : State → State → ℕ → ChangeFault → Type 0
+IsDeleteCause s t id (NoNode missing) = (missing ≡ id) × (row_at s.records id ≡ None)
+IsDeleteCause s t id (NoEdge missing) = ⊥
+IsDeleteCause s t id (HasRelationships of degree) =
     (of ≡ id) × HasDegree s.records id degree × (degree ≢ 0)
-IsDeleteCause s id (Full file live) = ⊥
-IsDeleteCause s id (NamesFull count) = ⊥
-IsDeleteCause s id (PropsFull count) = ⊥
-IsDeleteCause s id Memory = Unit {0}
-IsDeleteCause s id Disk = Unit {0}
-IsDeleteCause s id (Damaged damage) =
-    IsBroken s damage ⊎ (HasDegree s.records id 0 × SharesBlock s.records damage)
+IsDeleteCause s t id IndexThere = ⊥
+IsDeleteCause s t id TooManyIndexes = ⊥
+IsDeleteCause s t id (IndexTooLarge count) = ⊥
+IsDeleteCause s t id (Full file live) = ⊥
+IsDeleteCause s t id (NamesFull count) = ⊥
+IsDeleteCause s t id (PropsFull count) = ⊥
+IsDeleteCause s t id Memory = Unit {0}
+IsDeleteCause s t id Disk = Unit {0}
+IsDeleteCause s t id (Damaged damage) =
+    IsBroken s damage
+    ⊎ ((HasDegree s.records id 0 × SharesBlock s.records damage) ⊎ IsEntryDamage t damage)

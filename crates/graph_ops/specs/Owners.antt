@@ -13,6 +13,9 @@ use Rattle.graph_ops.specs.Damage.{IsBroken}
 use Rattle.graph_ops.specs.declared.change_fault.ChangeFault.{ChangeFault}
 use Rattle.graph_ops.specs.declared.change_fault.ChangeFault.TheVariants.{NoNode, NoEdge}
 use Rattle.graph_ops.specs.declared.change_fault.ChangeFault.TheVariants.{HasRelationships, Full}
+use Rattle.graph_ops.specs.declared.change_fault.ChangeFault.TheVariants.{IndexThere}
+use Rattle.graph_ops.specs.declared.change_fault.ChangeFault.TheVariants.{TooManyIndexes}
+use Rattle.graph_ops.specs.declared.change_fault.ChangeFault.TheVariants.{IndexTooLarge}
 use Rattle.graph_ops.specs.declared.change_fault.ChangeFault.TheVariants.{NamesFull, PropsFull}
 use Rattle.graph_ops.specs.declared.change_fault.ChangeFault.TheVariants.{Memory, Disk, Damaged}
 
@@ -28,6 +31,9 @@ abbrev pub IsMissing : Graph → Target → ChangeFault → Type 0
 IsMissing graph target (NoNode id) = (target ≡ targets.Node id) × (has_node graph id ≡ false)
 IsMissing graph target (NoEdge id) = (target ≡ targets.Edge id) × (has_edge graph id ≡ false)
 IsMissing graph target (HasRelationships id degree) = ⊥
+IsMissing graph target IndexThere = ⊥
+IsMissing graph target TooManyIndexes = ⊥
+IsMissing graph target (IndexTooLarge count) = ⊥
 IsMissing graph target (Full file live) = ⊥
 IsMissing graph target (NamesFull count) = ⊥
 IsMissing graph target (PropsFull count) = ⊥
@@ -40,6 +46,9 @@ abbrev pub MayMiss : ChangeFault → Type 0
 MayMiss (NoNode id) = Unit {0}
 MayMiss (NoEdge id) = Unit {0}
 MayMiss (HasRelationships id degree) = ⊥
+MayMiss IndexThere = ⊥
+MayMiss TooManyIndexes = ⊥
+MayMiss (IndexTooLarge count) = ⊥
 MayMiss (Full file live) = ⊥
 MayMiss (NamesFull count) = ⊥
 MayMiss (PropsFull count) = ⊥
@@ -52,6 +61,9 @@ abbrev pub IsAbsent : State → Target → ChangeFault → Type 0
 IsAbsent s target (NoNode id) = (target ≡ targets.Node id) × (nodes.row_at s.records id ≡ None)
 IsAbsent s target (NoEdge id) = (target ≡ targets.Edge id) × (rels.row_at s.records id ≡ None)
 IsAbsent s target (HasRelationships id degree) = ⊥
+IsAbsent s target IndexThere = ⊥
+IsAbsent s target TooManyIndexes = ⊥
+IsAbsent s target (IndexTooLarge count) = ⊥
 IsAbsent s target (Full file live) = ⊥
 IsAbsent s target (NamesFull count) = ⊥
 IsAbsent s target (PropsFull count) = ⊥

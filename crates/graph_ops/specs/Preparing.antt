@@ -17,6 +17,9 @@ use Rattle.graph_ops.specs.Store.{KeepsElements, graph_in}
 use Rattle.graph_ops.specs.declared.change_fault.ChangeFault.{ChangeFault}
 use Rattle.graph_ops.specs.declared.change_fault.ChangeFault.TheVariants.{NoNode, NoEdge}
 use Rattle.graph_ops.specs.declared.change_fault.ChangeFault.TheVariants.{HasRelationships, Full}
+use Rattle.graph_ops.specs.declared.change_fault.ChangeFault.TheVariants.{IndexThere}
+use Rattle.graph_ops.specs.declared.change_fault.ChangeFault.TheVariants.{TooManyIndexes}
+use Rattle.graph_ops.specs.declared.change_fault.ChangeFault.TheVariants.{IndexTooLarge}
 use Rattle.graph_ops.specs.declared.change_fault.ChangeFault.TheVariants.{NamesFull, PropsFull}
 use Rattle.graph_ops.specs.declared.change_fault.ChangeFault.TheVariants.{Memory, Disk, Damaged}
 use Rattle.graph_ops.specs.declared.preparing.Prepared.{Prepared}
@@ -36,6 +39,9 @@ abbrev pub IsLineCause : State → List (List ℕ) → List ℕ → List Pair �
 IsLineCause s names label pairs (NoNode id) = ⊥
 IsLineCause s names label pairs (NoEdge id) = ⊥
 IsLineCause s names label pairs (HasRelationships id degree) = ⊥
+IsLineCause s names label pairs IndexThere = ⊥
+IsLineCause s names label pairs TooManyIndexes = ⊥
+IsLineCause s names label pairs (IndexTooLarge count) = ⊥
 IsLineCause s names label pairs (Full file live) =
     (count : ℕ) × NeedForPairs pairs file count × LacksRoom s file count (Full file live)
 IsLineCause s names label pairs (NamesFull count) =

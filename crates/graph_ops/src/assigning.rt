@@ -9,6 +9,7 @@ ghost use Rattle.plain_graph.specs.Names.{IsShortName};
 ghost use Rattle.plain_graph.specs.Properties.{keys_in};
 ghost use Rattle.plain_graph.specs.Refusals.{most_names};
 ghost use Rattle.plain_graph.specs.declared.command.Target.{Target};
+ghost use Rattle.plain_graph.specs.declared.command.Target.TheVariants as targets;
 ghost use Rattle.name_store.specs.InternFault.{HasInternCause};
 ghost use Rattle.name_store.specs.Interning.{IsFullFault, interned};
 ghost use Rattle.name_store.specs.NameRecord.{name_key};
@@ -37,7 +38,8 @@ ghost use Rattle.graph_ops.specs.Damage.{AddsElement, BlamesBroken, BreaksAdding
 ghost use Rattle.graph_ops.specs.Damage.{KeepsBeyond};
 ghost use Rattle.graph_ops.specs.Owners.{owner_of};
 ghost use Rattle.graph_ops.specs.Rooms.{KeepsElementMetas};
-ghost use Rattle.graph_ops.specs.Store.{IsStore, KeepsElements};
+ghost use Rattle.graph_ops.specs.Entries.{GivesValues};
+ghost use Rattle.graph_ops.specs.Store.{IsMidway, KeepsElements, KeepsIndexes};
 
 use crate::ChangeFault;
 use crate::blocks::block_count;
@@ -70,7 +72,7 @@ pub(crate) fn assign_pairs<S: Space>(
         AreAssigned names.new.names pairs.now assigned.items) }
     ensures few { IfOk result (λ assigned. length assigned.items ≤ MOST_PROPERTIES) }
     ensures held { OnOk result (AreHeldNames names.new.names) }
-    ensures kept { S.tells → OnOk result (IsStore (S.state space.old) names.old.names
+    ensures kept { S.tells → OnOk result (IsMidway (S.state space.old) names.old.names
         → KeepsElements (S.state space.old) (S.state space.new) names.new.names) }
     ensures refused { IfErr result (IsAssignFault names.old.names pairs.now) }
     ensures counts { IfErr result IsAssignCount }
@@ -208,6 +210,14 @@ pub(crate) fn put_properties<S: Space>(
         → owner ≡ owner_of target → CanPut (S.state space.old) names target pairs.now assigned.now
         → PutsPairs (S.state space.old) (S.state space.new) names target
         (pairs_of names pairs.now assigned.now)) }
+    ensures values { S.tells → OnOk result ((names : List (List ℕ)) (id : ℕ)
+        → owner ≡ owner_of (targets.Node id)
+        → CanPut (S.state space.old) names (targets.Node id) pairs.now assigned.now
+        → GivesValues (S.state space.old) (S.state space.new) id pairs.now assigned.now) }
+    ensures indexes { S.tells → OnOk result ((names : List (List ℕ)) (id : ℕ)
+        → owner ≡ owner_of (targets.Edge id)
+        → CanPut (S.state space.old) names (targets.Edge id) pairs.now assigned.now
+        → KeepsIndexes (S.state space.old) (S.state space.new)) }
     ensures sound { S.tells → (names : List (List ℕ)) (target : Target)
         → owner ≡ owner_of target → CanPut (S.state space.old) names target pairs.now assigned.now
         → HasPropertyRoom (S.state space.old) (length assigned.now)

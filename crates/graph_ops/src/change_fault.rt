@@ -1,7 +1,8 @@
 use id_freelist::TakeFault;
 use name_store::InternFault;
+use prop_index::MakeFault;
 use prop_store::SetFault;
-use rec_bytes::{Damage, Fault, RowFault, SpaceFault};
+use rec_bytes::{Damage, Fault, INDEX, INDEX_RULE, META, RowFault, SpaceFault};
 use thiserror::Error;
 
 /// Why a change was refused.
@@ -16,6 +17,15 @@ pub enum ChangeFault {
     /// The node has so many relationships.
     #[error("the node has relationships")]
     HasRelationships { id: u32, degree: u32 },
+    /// The label and the key have an index.
+    #[error("there is such an index")]
+    IndexThere,
+    /// There are as many indexes as a store may have.
+    #[error("the store has as many indexes as it may have")]
+    TooManyIndexes,
+    /// So many nodes have the label and the key, which is more than an index may begin with.
+    #[error("too many nodes have the label and the key")]
+    IndexTooLarge { count: u32 },
     /// As many records of the file are live as it has room for.
     #[error("the file is full")]
     Full { file: u8, live: u32 },
@@ -123,6 +133,29 @@ impl From<SetFault> for ChangeFault {
             SetFault::Memory => ChangeFault::Memory,
             SetFault::Disk => ChangeFault::Disk,
             SetFault::Damaged(damage) => ChangeFault::Damaged(damage),
+        }
+    }
+}
+
+impl From<MakeFault> for ChangeFault {
+    ghost from_gives = { λ fault result. result ≡ of_make fault };
+
+    ghost use Rattle.std.specs.Prelude.{◌≡◌};
+    ghost use Rattle.graph_ops.specs.ChangeFault.{of_make};
+
+    fn from(fault: MakeFault) -> ChangeFault {
+        match fault {
+            // tested before the first write: it is so then for what the records name wrongly
+            MakeFault::There | MakeFault::Many => ChangeFault::Damaged(Damage {
+                file: META,
+                id: INDEX as u32,
+                rule: INDEX_RULE,
+            }),
+            MakeFault::TooLarge { count } => ChangeFault::IndexTooLarge { count },
+            MakeFault::Full { live } => ChangeFault::Full { file: INDEX, live },
+            MakeFault::Memory => ChangeFault::Memory,
+            MakeFault::Disk => ChangeFault::Disk,
+            MakeFault::Damaged(damage) => ChangeFault::Damaged(damage),
         }
     }
 }

@@ -22,7 +22,7 @@ ghost use Rattle.graph_ops.specs.EdgeOpening.{ends_moved};
 ghost use Rattle.graph_ops.specs.EdgePlacing.{IsFirst};
 ghost use Rattle.graph_ops.specs.NodeDeleting.{HasDegree};
 ghost use Rattle.graph_ops.specs.Owners.{IsAbsent};
-ghost use Rattle.graph_ops.specs.Store.{IsStore, graph_in};
+ghost use Rattle.graph_ops.specs.Store.{IsMidway, IsStore, graph_in};
 
 use crate::assigning::put_properties;
 use crate::edge_end::{EndDegree, Ends, Joint};
@@ -112,7 +112,7 @@ fn end_degrees<R: Reads>(space: &mut R, from: u32, to: u32) -> Result<Ends<EndDe
     ensures keys { IfOk result (AtEach IsNodeEnd) }
     ensures found { R.tells → IfOk result (AtEach (HasEndDegree (R.state space.old).records)) }
     ensures used { R.tells → IfOk result (AtEach (IsUsedEnd (R.state space.old))) }
-    ensures refused { R.tells → (names : List (List ℕ)) → IsStore (R.state space.old) names
+    ensures refused { R.tells → (names : List (List ℕ)) → IsMidway (R.state space.old) names
         → (label : List ℕ) (pairs : List Pair) → IfErr result (IsRefusal
         (R.state space.old).shape.limit (graph_in (R.state space.old))
         (commands.Edge from label to pairs)) }

@@ -26,7 +26,7 @@ ghost use Rattle.graph_ops.specs.EdgeDeleting.{IsEndLink, IsTakenDamage, KeepsKi
 ghost use Rattle.graph_ops.specs.EdgeDeleting.{TakesEdge, WritesTaken};
 ghost use Rattle.graph_ops.specs.EdgeEnds.{AreEdgeEnds, AtEach, IsEdgeEnd, source_of, target_of};
 ghost use Rattle.graph_ops.specs.NodeDeleting.{HasDegree};
-ghost use Rattle.graph_ops.specs.Store.{IsStore, graph_in};
+ghost use Rattle.graph_ops.specs.Store.{IsMidway, IsStore, graph_in};
 
 use crate::ChangeFault;
 use crate::edge_end::{EdgeEnd, Ends};
@@ -78,10 +78,10 @@ pub fn delete_edge<S: Space>(space: &mut S, names: &Names, id: u32) -> Result<u3
 fn take_edge<S: Space>(space: &mut S, id: u32, rel: RelRow) -> Result<(), ChangeFault>
     requires { IsKey (key_in relationships_file id) }
     ensures taken { S.tells
-        → OnOk result ((names : List (List ℕ)) → IsStore (S.state space.old) names
+        → OnOk result ((names : List (List ℕ)) → IsMidway (S.state space.old) names
         → HasBareRow (S.state space.old).records id rel
         → TakesEdge (S.state space.old) (S.state space.new) names id) }
-    ensures sound { S.tells → (names : List (List ℕ)) → IsStore (S.state space.old) names
+    ensures sound { S.tells → (names : List (List ℕ)) → IsMidway (S.state space.old) names
         → HasBareRow (S.state space.old).records id rel → IfErr result IsOutside }
     ensures damaged { S.tells → HasEndsIn (S.state space.old).records id rel.from rel.to
         → IfErr result (IfBlames (λ damage. IsEndLink (S.state space.old) id rel.from rel.to damage
@@ -98,10 +98,10 @@ fn take_edge<S: Space>(space: &mut S, id: u32, rel: RelRow) -> Result<(), Change
 /// The ends of a relationship. The group that it stands in at an end gets counts where it has none.
 fn edge_ends<S: Space>(space: &mut S, id: u32, rel: RelRow) -> Result<Ends<EdgeEnd>, ChangeFault>
     ensures found { S.tells → IfOk result (λ ends. (names : List (List ℕ))
-        → IsStore (S.state space.old) names
+        → IsMidway (S.state space.old) names
         → HasBareRow (S.state space.old).records id rel
         → FindsEnds (S.state space.old) (S.state space.new) names id ends) }
-    ensures sound { S.tells → (names : List (List ℕ)) → IsStore (S.state space.old) names
+    ensures sound { S.tells → (names : List (List ℕ)) → IsMidway (S.state space.old) names
         → HasBareRow (S.state space.old).records id rel → IfErr result IsOutside }
     ensures damaged { S.tells → IfErr result
         (IfBlames (IsTakenDamage (S.state space.old) (S.state space.new) id rel)) }
@@ -135,10 +135,10 @@ fn edge_end<S: Space>(
     node: u32,
 ) -> Result<EdgeEnd, ChangeFault>
     ensures found { S.tells → IfOk result (λ end. (names : List (List ℕ))
-        → IsStore (S.state space.old) names
+        → IsMidway (S.state space.old) names
         → HasBareRow (S.state space.old).records id rel → (node ≡ rel.from) ⊎ (node ≡ rel.to)
         → FindsEnd (S.state space.old) (S.state space.new) names id end) }
-    ensures sound { S.tells → (names : List (List ℕ)) → IsStore (S.state space.old) names
+    ensures sound { S.tells → (names : List (List ℕ)) → IsMidway (S.state space.old) names
         → HasBareRow (S.state space.old).records id rel
         → (node ≡ rel.from) ⊎ (node ≡ rel.to) → IfErr result IsOutside }
     ensures damaged { S.tells → IfErr result
@@ -195,10 +195,10 @@ fn unlink_edge<S: Space>(space: &mut S, id: u32, ends: Ends<EdgeEnd>) -> Result<
     requires id { IsKey (key_in relationships_file id) }
     requires ends { AreEdgeEnds ends }
     ensures taken { S.tells
-        → OnOk result ((names : List (List ℕ)) → IsStore (S.state space.old) names
+        → OnOk result ((names : List (List ℕ)) → IsMidway (S.state space.old) names
         → IsBareEdge (S.state space.old) id ends
         → TakesEdge (S.state space.old) (S.state space.new) names id) }
-    ensures sound { S.tells → (names : List (List ℕ)) → IsStore (S.state space.old) names
+    ensures sound { S.tells → (names : List (List ℕ)) → IsMidway (S.state space.old) names
         → IsBareEdge (S.state space.old) id ends → IfErr result IsOutside }
     ensures damaged { S.tells → AtEach (HasHead (S.state space.old).records) ends
         → HasEndsIn (S.state space.old).records id (source_of ends).node (target_of ends).node

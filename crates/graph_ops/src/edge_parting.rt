@@ -1,6 +1,6 @@
 //! What is taken away with an edge: its record, and its place in the chains of its ends.
 
-ghost use Rattle.std.specs.Prelude.{◌≡◌, ◌∷◌, ◌++◌, ℕ, List, IfErr, OnErr, OnOk};
+ghost use Rattle.std.specs.Prelude.{◌≡◌, ◌∷◌, ℕ, List, IfErr, OnOk};
 ghost use Rattle.rec_bytes.specs.Format.{relationships_file};
 ghost use Rattle.rec_bytes.specs.Key.{IsKey};
 ghost use Rattle.rec_bytes.specs.Space.{WritesOnly};
@@ -14,7 +14,7 @@ ghost use Rattle.graph_ops.specs.EdgeDeleting.{IsEndLink, PartsEdge, WritesEnds}
 ghost use Rattle.graph_ops.specs.EdgeEnds.{AreEdgeEnds, AtEach, HasRightLinks, HaveRightLinks};
 ghost use Rattle.graph_ops.specs.EdgeEnds.{IsEdgeEnd, end_keys, end_parted, ends_parted};
 ghost use Rattle.graph_ops.specs.EdgeEnds.{source_of, target_of};
-ghost use Rattle.graph_ops.specs.Store.{IsStore};
+ghost use Rattle.graph_ops.specs.Store.{IsMidway};
 
 use crate::ChangeFault;
 use crate::edge_end::{EdgeEnd, Ends};
@@ -32,10 +32,10 @@ pub(crate) fn part_edge<S: Space>(
     requires id { IsKey (key_in relationships_file id) }
     requires ends { AreEdgeEnds ends }
     ensures parted { S.tells
-        → OnOk result ((names : List (List ℕ)) → IsStore (S.state space.old) names
+        → OnOk result ((names : List (List ℕ)) → IsMidway (S.state space.old) names
         → IsBareEdge (S.state space.old) id ends
         → PartsEdge (S.state space.old) (S.state space.new) names id ends) }
-    ensures sound { S.tells → (names : List (List ℕ)) → IsStore (S.state space.old) names
+    ensures sound { S.tells → (names : List (List ℕ)) → IsMidway (S.state space.old) names
         → IsBareEdge (S.state space.old) id ends → IfErr result IsOutside }
     ensures damaged { S.tells
         → HasEndsIn (S.state space.old).records id (source_of ends).node (target_of ends).node

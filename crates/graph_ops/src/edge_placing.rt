@@ -18,7 +18,7 @@ ghost use Rattle.graph_ops.specs.EdgePlacing.{PutsEdge};
 ghost use Rattle.graph_ops.specs.NodeDeleting.{HasDegree};
 ghost use Rattle.graph_ops.specs.Owners.{IsAbsent, IsMissing};
 ghost use Rattle.graph_ops.specs.Rooms.{HasRoom};
-ghost use Rattle.graph_ops.specs.Store.{IsStore, graph_in};
+ghost use Rattle.graph_ops.specs.Store.{IsMidway, graph_in};
 
 use crate::ChangeFault;
 use crate::edge_end::Joint;
@@ -31,7 +31,7 @@ use rec_bytes::{Reads, Space};
 pub(crate) fn node_degree<R: Reads>(space: &mut R, id: u32) -> Result<u32, ChangeFault>
     ensures found { R.tells
         → IfOk result (λ degree. HasDegree (R.state space.old).records id degree) }
-    ensures refused { R.tells → (names : List (List ℕ)) → IsStore (R.state space.old) names
+    ensures refused { R.tells → (names : List (List ℕ)) → IsMidway (R.state space.old) names
         → IfErr result (IsMissing (graph_in (R.state space.old)) (targets.Node id)) }
     ensures absent { R.tells → IfErr result (IsAbsent (R.state space.old) (targets.Node id)) }
     ensures kind { R.tells → OnOk result (IsUsedNode (R.state space.old) id) }
@@ -52,13 +52,13 @@ pub(crate) fn put_edge<S: Space>(space: &mut S, joint: Joint) -> Result<u32, Cha
     requires { IsJoint joint }
     ensures put { S.tells → joint.threshold ≡ (S.state space.old).shape.threshold
         → IfOk result (λ id. (names : List (List ℕ)) (text : List ℕ)
-        → IsStore (S.state space.old) names → slice_get names joint.label ≡ Some text
+        → IsMidway (S.state space.old) names → slice_get names joint.label ≡ Some text
         → AtEach (HasEndDegree (S.state space.old).records) joint.ends
         → PutsEdge (S.state space.old) (S.state space.new) names (from_of joint) text
         (to_of joint) id) }
     ensures sound { S.tells → joint.threshold ≡ (S.state space.old).shape.threshold
         → (names : List (List ℕ)) (text : List ℕ)
-        → IsStore (S.state space.old) names → slice_get names joint.label ≡ Some text
+        → IsMidway (S.state space.old) names → slice_get names joint.label ≡ Some text
         → AtEach (HasEndDegree (S.state space.old).records) joint.ends
         → HasRoom (S.state space.old) relationships_file 1 → IfErr result IsOutside }
     ensures damaged { S.tells → AtEach (IsUsedEnd (S.state space.old)) joint.ends

@@ -79,7 +79,7 @@ pub fn mutate<S: Space>(
     match mutation {
         Mutation::AddV { label, pairs } => {
             let mut vertices = Vec::new(alloc);
-            let weight = add_vertex(space, names, label, pairs, &mut vertices)?;
+            let weight = add_vertex(alloc, space, names, label, pairs, &mut vertices)?;
             Ok(Mutated {
                 items: vertices,
                 weight: told_weight(weight),
@@ -94,7 +94,7 @@ pub fn mutate<S: Space>(
             })
         }
         Mutation::Property(pairs) => {
-            let weight = set_each(space, names, &items, pairs.as_slice())?;
+            let weight = set_each(alloc, space, names, &items, pairs.as_slice())?;
             Ok(Mutated {
                 items,
                 weight: told_weight(weight),
@@ -180,11 +180,12 @@ fn drop_each<S: Space>(
     let Ok(targets) = distinct_elements(alloc, items) else {
         return Err(ChangeFault::Memory);
     };
-    delete_each(space, names, &targets)
+    delete_each(alloc, space, names, &targets)
 }
 
 /// Deletes these elements, one after the other.
 fn delete_each<S: Space>(
+    alloc: Global,
     space: &mut S,
     names: &Names,
     targets: &[Target],
@@ -206,7 +207,7 @@ fn delete_each<S: Space>(
 {
     let mut weight = 0;
     for target in targets {
-        let more = delete(space, names, *target)?;
+        let more = delete(alloc, space, names, *target)?;
         let both = both_weights(weight, more)?;
         weight = both;
     }
@@ -214,7 +215,12 @@ fn delete_each<S: Space>(
 }
 
 /// Deletes an element.
-fn delete<S: Space>(space: &mut S, names: &Names, target: Target) -> Result<u32, ChangeFault>
+fn delete<S: Space>(
+    alloc: Global,
+    space: &mut S,
+    names: &Names,
+    target: Target,
+) -> Result<u32, ChangeFault>
     ensures part { IfOk result (λ weight. MakesPart S.tells (commands.Delete target ∷ [])
         any_replies weight (S.state space.old) (S.state space.new)
         names.now.names names.now.names) }
@@ -229,7 +235,7 @@ fn delete<S: Space>(space: &mut S, names: &Names, target: Target) -> Result<u32,
     ensures cause { HasChangeCause (S.faults space.old) (S.faults space.new) result }
 {
     match target {
-        Target::Node(id) => delete_node(space, names, id),
+        Target::Node(id) => delete_node(alloc, space, names, id),
         Target::Edge(id) => delete_edge(space, names, id),
     }
 }
@@ -238,6 +244,7 @@ fn delete<S: Space>(space: &mut S, names: &Names, target: Target) -> Result<u32,
 
 /// Sets the pairs, from left to right, on each element of the results in turn.
 fn set_each<S: Space>(
+    alloc: Global,
     space: &mut S,
     names: &mut Names,
     items: &[Item],
@@ -260,7 +267,7 @@ fn set_each<S: Space>(
 {
     let mut weight = 0;
     for item in items {
-        let more = set_item(space, names, item, pairs)?;
+        let more = set_item(alloc, space, names, item, pairs)?;
         let both = both_weights(weight, more)?;
         weight = both;
     }
@@ -269,6 +276,7 @@ fn set_each<S: Space>(
 
 /// Sets the pairs, from left to right, on a result; a value has none.
 fn set_item<S: Space>(
+    alloc: Global,
     space: &mut S,
     names: &mut Names,
     item: &Item,
@@ -291,14 +299,15 @@ fn set_item<S: Space>(
     ensures cause { HasChangeCause (S.faults space.old) (S.faults space.new) result }
 {
     match item {
-        Item::Vertex(id) => set_pairs(space, names, Target::Node(*id), pairs),
-        Item::Edge { id, .. } => set_pairs(space, names, Target::Edge(*id), pairs),
+        Item::Vertex(id) => set_pairs(alloc, space, names, Target::Node(*id), pairs),
+        Item::Edge { id, .. } => set_pairs(alloc, space, names, Target::Edge(*id), pairs),
         Item::Value(_) => Ok(0),
     }
 }
 
 /// Sets the pairs, from left to right, on an element.
 fn set_pairs<S: Space>(
+    alloc: Global,
     space: &mut S,
     names: &mut Names,
     target: Target,
@@ -319,7 +328,7 @@ fn set_pairs<S: Space>(
 {
     let mut weight = 0;
     for pair in pairs {
-        let more = set(space, names, target, &pair.key, &pair.value)?;
+        let more = set(alloc, space, names, target, &pair.key, &pair.value)?;
         let both = both_weights(weight, more)?;
         weight = both;
     }
@@ -330,6 +339,7 @@ fn set_pairs<S: Space>(
 
 /// Adds a vertex.
 fn add_vertex<S: Space>(
+    alloc: Global,
     space: &mut S,
     names: &mut Names,
     label: &Text,
@@ -355,7 +365,7 @@ fn add_vertex<S: Space>(
     ensures onward { S.onward space.old space.new }
     ensures cause { HasChangeCause (S.faults space.old) (S.faults space.new) result }
 {
-    let Added { id, weight } = add_node(space, names, label, pairs)?;
+    let Added { id, weight } = add_node(alloc, space, names, label, pairs)?;
     show(shown, Item::Vertex(id))?;
     Ok(weight)
 }

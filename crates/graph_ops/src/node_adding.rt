@@ -7,20 +7,23 @@ ghost use Rattle.plain_graph.specs.Properties.{keys_in, no_properties, with_pair
 ghost use Rattle.plain_graph.specs.Refusals.{most_names};
 ghost use Rattle.plain_graph.specs.Reply.{NodeMade};
 ghost use Rattle.plain_graph.specs.declared.command.Command.TheVariants as commands;
-ghost use Rattle.rec_bytes.specs.Format.{nodes_file};
+ghost use Rattle.rec_bytes.specs.Format.{index_file, nodes_file};
 ghost use Rattle.id_freelist.specs.Taking.{IsTakeDamage};
 ghost use Rattle.rec_bytes.specs.Key.{IsKey};
+ghost use Rattle.rec_bytes.specs.Space.{meta_of};
 ghost use Rattle.store_rules.specs.Views.{key_in};
 ghost use Rattle.store_rules.specs.Writes.{WritesAtMost, WritesBeside};
 ghost use Rattle.graph_ops.specs.Causes.{IsCaused, IsStillCaused};
 ghost use Rattle.graph_ops.specs.Change.{IsCounted, IsRefusal, MakesChange};
 ghost use Rattle.graph_ops.specs.ChangeFault.{HasChangeCause, IsFailure, IsOutside, LeavesSpace};
 ghost use Rattle.graph_ops.specs.Damage.{AddsElement, BlamesAdding, BlamesBroken, IfBlames};
+ghost use Rattle.graph_ops.specs.Entries.{WeighsNode};
 ghost use Rattle.graph_ops.specs.NodeAdding.{IsFullOfNodes, IsSparse, PutsNode, new_row};
 ghost use Rattle.graph_ops.specs.Rooms.{HasRoom};
-ghost use Rattle.graph_ops.specs.Store.{IsStore, graph_in};
+ghost use Rattle.graph_ops.specs.Store.{IsMidway, IsStore, graph_in};
 
 use crate::assigning::put_properties;
+use crate::entries::{enter_values, entry_count, listed_pairs};
 use crate::owners::node_owner;
 use crate::preparing::prepare;
 use crate::rooms::test_room;
@@ -29,10 +32,13 @@ use id_freelist::take;
 use name_store::Names;
 use node_store::{NodeRow, save};
 use plain_graph::{Pairs, Text};
-use rec_bytes::{NIL, NODES, Space};
+use rec_bytes::{INDEX, NIL, NODES, Reads, Space};
+use std::alloc::Global;
 
-/// Adds a node with properties. Of a key that comes twice the last value stands.
+/// Adds a node with properties, and their entries to the indexes. Of a key that comes twice the
+/// last value stands.
 pub fn add_node<S: Space>(
+    alloc: Global,
     space: &mut S,
     names: &mut Names,
     label: &Text,
@@ -49,7 +55,8 @@ pub fn add_node<S: Space>(
         (S.state space.old) (S.state space.new) names.old.names names.new.names) }
     ensures still { S.tells → IfErr result (IsStillCaused (commands.Node label.now pairs.now)
         (S.state space.new) names.old.names names.new.names) }
-    ensures damaged { S.tells → IfErr result (BlamesAdding nodes_file (S.state space.old)) }
+    ensures damaged { S.tells → IfErr result
+        (BlamesAdding nodes_file (S.state space.old) (S.state space.new)) }
     ensures counts { S.tells → IsStore (S.state space.old) names.old.names
         → IfErr result (IsCounted (S.state space.old)) }
     ensures full { IsStore (S.state space.old) names.old.names → IsFullOfNodes (S.state space.old)
@@ -58,7 +65,10 @@ pub fn add_node<S: Space>(
         → UsesNames names.old.names (label.now ∷ keys_in pairs.now) used
         → most_names < length used → IsErr result }
     ensures leaves { S.tells → IfErr result (LeavesSpace (S.state space.old) (S.state space.new)) }
-    ensures weight { IfOk result (λ added. added.weight
+    ensures weight { IfOk result (λ added. WeighsNode pairs.now
+        (length names.new.names - length names.old.names) added.weight) }
+    ensures unindexed { S.tells → (meta_of (S.state space.old) index_file).live ≡ 0
+        → IfOk result (λ added. added.weight
         ≡ 1 + properties_weight (with_pairs no_properties pairs.now)
         + (length names.new.names - length names.old.names)) }
     // it becomes dense only where it gets more edges than a sparse one may have
@@ -68,7 +78,7 @@ pub fn add_node<S: Space>(
     ensures prefix { (rest : List (List ℕ)) × (names.new.names ≡ names.old.names ++ rest) }
     ensures writes { IfOk result (λ added.
         WritesAtMost added.weight (S.state space.old) (S.state space.new)) }
-    ensures refused_writes { OnErr result (WritesAtMost 772
+    ensures refused_writes { OnErr result (WritesAtMost 868
         (S.state space.old) (S.state space.new)) }
     ensures onward { S.onward space.old space.new }
     ensures cause { HasChangeCause (S.faults space.old) (S.faults space.new) result }
@@ -76,11 +86,22 @@ pub fn add_node<S: Space>(
     let pairs = pairs.as_slice();
     test_room(space, NODES, 1)?;
     let prepared = prepare(space, names, label, pairs)?;
+    let listed = listed_pairs(alloc, space)?;
+    let entries = entry_count(&listed, prepared.label, &prepared.assigned);
+    test_room(space, INDEX, entries)?;
     let id = put_node(space, prepared.label)?;
     put_properties(space, node_owner(id), &prepared.assigned, pairs)?;
+    enter_values(
+        space,
+        &listed,
+        prepared.label,
+        id,
+        &prepared.assigned,
+        pairs,
+    )?;
     Ok(Added {
         id,
-        weight: 1 + prepared.weight,
+        weight: 1 + prepared.weight + 3 * entries,
     })
 }
 
@@ -88,9 +109,9 @@ pub fn add_node<S: Space>(
 /// identifier.
 fn put_node<S: Space>(space: &mut S, label: u32) -> Result<u32, ChangeFault>
     ensures put { S.tells → IfOk result (λ id. (names : List (List ℕ)) (text : List ℕ)
-        → IsStore (S.state space.old) names → slice_get names label ≡ Some text
-        → PutsNode (S.state space.old) (S.state space.new) names text id) }
-    ensures sound { S.tells → (names : List (List ℕ)) → IsStore (S.state space.old) names
+        → IsMidway (S.state space.old) names → slice_get names label ≡ Some text
+        → PutsNode (S.state space.old) (S.state space.new) names label text id) }
+    ensures sound { S.tells → (names : List (List ℕ)) → IsMidway (S.state space.old) names
         → HasRoom (S.state space.old) nodes_file 1 → IfErr result IsOutside }
     ensures failure { S.tells → HasRoom (S.state space.old) nodes_file 1
         → IfErr result IsFailure }

@@ -1,4 +1,4 @@
-ghost use Rattle.std.specs.Prelude.{◌≡◌, ◌+◌, ◌≤◌, IfErr, IfOk, OnErr, OnOk};
+ghost use Rattle.std.specs.Prelude.{◌+◌, ◌≤◌, IfErr, IfOk, OnErr, OnOk};
 ghost use Rattle.plain_graph.specs.Changes.{most_weight, start_weight};
 ghost use Rattle.plain_graph.specs.Reply.{Done};
 ghost use Rattle.plain_graph.specs.declared.command.Command.TheVariants as commands;
@@ -11,16 +11,23 @@ ghost use Rattle.graph_ops.specs.NodeDeleting.{HasDegree, IsDeleteCause, KeepsOt
 ghost use Rattle.graph_ops.specs.Store.{IsStore, graph_in};
 
 use crate::ChangeFault;
+use crate::entries::{held_values, leave_values};
 use crate::owners::node_owner;
 use id_freelist::give;
 use name_store::Names;
 use node_store::load;
 use prop_store::drop_all;
 use rec_bytes::{NODES, Space};
+use std::alloc::Global;
 
-/// Deletes a node that has no relationships, with its properties, and answers the weight of the
-/// change. Names stay.
-pub fn delete_node<S: Space>(space: &mut S, names: &Names, id: u32) -> Result<u32, ChangeFault>
+/// Deletes a node that has no relationships, with its properties and their entries in the indexes,
+/// and answers the weight of the change. Names stay.
+pub fn delete_node<S: Space>(
+    alloc: Global,
+    space: &mut S,
+    names: &Names,
+    id: u32,
+) -> Result<u32, ChangeFault>
     ensures made { S.tells → IfOk result (λ weight. IsStore (S.state space.old) names.now.names
         → MakesChange (commands.Delete (targets.Node id)) Done weight
         (S.state space.old) (S.state space.new) names.now.names) }
@@ -31,7 +38,8 @@ pub fn delete_node<S: Space>(space: &mut S, names: &Names, id: u32) -> Result<u3
         (S.state space.old) (S.state space.new) names.now.names names.now.names) }
     ensures still { S.tells → IfErr result (IsStillCaused (commands.Delete (targets.Node id))
         (S.state space.new) names.now.names names.now.names) }
-    ensures found { S.tells → IfErr result (IsDeleteCause (S.state space.old) id) }
+    ensures found { S.tells → IfErr result (IsDeleteCause (S.state space.old)
+        (S.state space.new) id) }
     ensures lone { S.tells → OnOk result (HasDegree (S.state space.old).records id 0) }
     ensures kinds { S.tells → IfOk result (λ _. IsStore (S.state space.old) names.now.names
         → KeepsOtherKinds (S.state space.old) (S.state space.new) id) }
@@ -39,7 +47,7 @@ pub fn delete_node<S: Space>(space: &mut S, names: &Names, id: u32) -> Result<u3
     ensures light { IfOk result (λ weight. weight + start_weight ≤ most_weight) }
     ensures writes { IfOk result (λ weight.
         WritesAtMost weight (S.state space.old) (S.state space.new)) }
-    ensures refused_writes { OnErr result (WritesAtMost 737
+    ensures refused_writes { OnErr result (WritesAtMost 785
         (S.state space.old) (S.state space.new)) }
     ensures onward { S.onward space.old space.new }
     ensures cause { HasChangeCause (S.faults space.old) (S.faults space.new) result }
@@ -53,7 +61,9 @@ pub fn delete_node<S: Space>(space: &mut S, names: &Names, id: u32) -> Result<u3
             degree: node.degree,
         });
     }
+    let held = held_values(alloc, space, node.label, id)?;
     let dropped = drop_all(space, node_owner(id))?;
     give(space, NODES, id)?;
-    Ok(1 + dropped.properties + dropped.blocks)
+    let entries = leave_values(space, &held)?;
+    Ok(1 + dropped.properties + dropped.blocks + entries)
 }

@@ -7,7 +7,7 @@ ghost use Rattle.rec_bytes.specs.Space.{SameButReads};
 ghost use Rattle.graph_ops.specs.ChangeFault.{HasChangeCause};
 ghost use Rattle.graph_ops.specs.Damage.{BlamesBroken};
 ghost use Rattle.graph_ops.specs.Owners.{IsAbsent, IsMissing, MayMiss, owner_of};
-ghost use Rattle.graph_ops.specs.Store.{IsStore, graph_in};
+ghost use Rattle.graph_ops.specs.Store.{IsMidway, graph_in};
 
 use crate::ChangeFault;
 use plain_graph::Target;
@@ -44,7 +44,7 @@ pub(crate) fn find_owner<R: Reads>(space: &mut R, target: Target) -> Result<Owne
     ensures owner { IfOk result (λ owner. owner ≡ owner_of target) }
     ensures there { R.tells
         → OnOk result (has_element (graph_in (R.state space.old)) target ≡ true) }
-    ensures refused { R.tells → (names : List (List ℕ)) → IsStore (R.state space.old) names
+    ensures refused { R.tells → (names : List (List ℕ)) → IsMidway (R.state space.old) names
         → IfErr result (IsMissing (graph_in (R.state space.old)) target) }
     ensures in_use { R.tells
         → OnOk result (IsInUse (R.state space.old).records (owner_of target)) }

@@ -17,7 +17,7 @@ ghost use Rattle.graph_ops.specs.ChangeFault.{HasChangeCause, LeavesSpace};
 ghost use Rattle.graph_ops.specs.Damage.{KeepsBeyond};
 ghost use Rattle.graph_ops.specs.Preparing.{IsLineCause, IsPrepared, NeedForPairs, line_reasons};
 ghost use Rattle.graph_ops.specs.Rooms.{KeepsElementMetas};
-ghost use Rattle.graph_ops.specs.Store.{IsStore, graph_in};
+ghost use Rattle.graph_ops.specs.Store.{IsMidway, graph_in};
 
 use crate::ChangeFault;
 use crate::assigning::{Assignment, assign_pairs, reserve_properties};
@@ -48,10 +48,10 @@ pub(crate) fn prepare<S: Space>(
     requires label { IsShortName label.now }
     requires pairs { ArePairs pairs.now }
     ensures prepared { S.tells → IfOk result (λ prepared.
-        IsStore (S.state space.old) names.old.names
+        IsMidway (S.state space.old) names.old.names
         → IsPrepared (S.state space.old) (S.state space.new) names.new.names
         label.now pairs.now prepared) }
-    ensures refused { S.tells → IsStore (S.state space.old) names.old.names → IfErr result
+    ensures refused { S.tells → IsMidway (S.state space.old) names.old.names → IfErr result
         (IsRefusedBy line_reasons (S.state space.old).shape.limit (graph_in (S.state space.old))
         (commands.Node label.now pairs.now)) }
     ensures caused { S.tells → IfErr result

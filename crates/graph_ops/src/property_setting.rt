@@ -12,19 +12,22 @@ ghost use Rattle.store_rules.specs.Writes.{WritesAtMost};
 ghost use Rattle.graph_ops.specs.Causes.{IsCaused, IsStillCaused};
 ghost use Rattle.graph_ops.specs.Change.{IsRefusal, IsSetCount, MakesChange};
 ghost use Rattle.graph_ops.specs.ChangeFault.{HasChangeCause, LeavesSpace};
-ghost use Rattle.graph_ops.specs.Damage.{BlamesBroken, BlamesGiven};
+ghost use Rattle.graph_ops.specs.Damage.{BlamesGiven, BlamesTaken};
 ghost use Rattle.graph_ops.specs.Store.{IsStore, graph_in};
 
 use crate::ChangeFault;
 use crate::blocks::block_count;
+use crate::entries::{change_entry, indexed_value, leave_entry};
 use crate::owners::find_owner;
 use name_store::Names;
 use plain_graph::{Target, Text, Value};
 use rec_bytes::{Reads, Space};
+use std::alloc::Global;
 
 /// Gives a key of an element a value, and answers the weight of the change. A value that the key
-/// had is gone, with its blocks.
+/// had is gone, with its blocks and its entry in an index.
 pub fn set<S: Space>(
+    alloc: Global,
     space: &mut S,
     names: &mut Names,
     target: Target,
@@ -45,7 +48,7 @@ pub fn set<S: Space>(
         names.old.names names.new.names) }
     ensures damaged { S.tells → IfErr result
         (BlamesGiven S.tells (22 + blocks_of value.now) (S.state space.old)
-        (interned (S.state space.old) names.old.names key.now)) }
+        (interned (S.state space.old) names.old.names key.now) (S.state space.new)) }
     ensures counts { S.tells → IfErr result (IsSetCount (S.state space.old).shape) }
     ensures names_full { (used : List (List ℕ)) → UsesNames names.old.names (key.now ∷ []) used
         → most_names < length used → IsErr result }
@@ -54,7 +57,7 @@ pub fn set<S: Space>(
     ensures prefix { (rest : List (List ℕ)) × (names.new.names ≡ names.old.names ++ rest) }
     ensures writes { IfOk result (λ weight.
         WritesAtMost weight (S.state space.old) (S.state space.new)) }
-    ensures refused_writes { OnErr result (WritesAtMost 47
+    ensures refused_writes { OnErr result (WritesAtMost 53
         (S.state space.old) (S.state space.new)) }
     ensures onward { S.onward space.old space.new }
     ensures cause { HasChangeCause (S.faults space.old) (S.faults space.new) result }
@@ -62,13 +65,16 @@ pub fn set<S: Space>(
     let owner = find_owner(space, target)?;
     let known = names.count();
     let number = names.intern(space, key.as_bytes())?;
+    let held = indexed_value(alloc, space, target, number)?;
     let released = prop_store::set(space, owner, number, value)?;
-    Ok(2 + block_count(value) + released + (names.count() - known))
+    let entries = change_entry(space, &held, value)?;
+    Ok(2 + block_count(value) + released + (names.count() - known) + entries)
 }
 
 /// Takes the value of a key of an element away, and answers the weight of the change. Where the
 /// element hasn't the key nothing changes. Names stay.
 pub fn unset<S: Space>(
+    alloc: Global,
     space: &mut S,
     names: &Names,
     target: Target,
@@ -84,12 +90,13 @@ pub fn unset<S: Space>(
         (S.state space.old) (S.state space.new) names.now.names names.now.names) }
     ensures still { S.tells → IfErr result (IsStillCaused (commands.Unset target key.now)
         (S.state space.new) names.now.names names.now.names) }
-    ensures damaged { S.tells → IfErr result (BlamesBroken (S.state space.old)) }
+    ensures damaged { S.tells
+        → IfErr result (BlamesTaken (S.state space.old) (S.state space.new)) }
     ensures leaves { IfErr result (LeavesSpace (S.state space.old) (S.state space.new)) }
     ensures light { IfOk result (λ weight. weight + start_weight ≤ most_weight) }
     ensures writes { IfOk result (λ weight.
         WritesAtMost weight (S.state space.old) (S.state space.new)) }
-    ensures refused_writes { OnErr result (WritesAtMost 24
+    ensures refused_writes { OnErr result (WritesAtMost 27
         (S.state space.old) (S.state space.new)) }
     ensures onward { S.onward space.old space.new }
     ensures cause { HasChangeCause (S.faults space.old) (S.faults space.new) result }
@@ -98,8 +105,10 @@ pub fn unset<S: Space>(
     let Some(number) = names.find(key.as_bytes()) else {
         return Ok(2);
     };
-    match prop_store::unset(space, owner, number)? {
-        Some(released) => Ok(2 + released),
-        None => Ok(2),
-    }
+    let held = indexed_value(alloc, space, target, number)?;
+    let Some(released) = prop_store::unset(space, owner, number)? else {
+        return Ok(2);
+    };
+    let entries = leave_entry(space, &held)?;
+    Ok(2 + released + entries)
 }

@@ -7,8 +7,8 @@ use crate::spaces::new_space;
 use crate::spelling::{done, spell};
 use crate::write_sets::Sets;
 use crate::{
-    chains, edges_met, forms, graphs, groups, identifiers, names, nodes, paths, properties,
-    records, relationships, runs, spaces, write_sets,
+    chains, edges_met, forms, graphs, groups, identifiers, indexes, names, nodes, paths,
+    properties, records, relationships, runs, spaces, write_sets,
 };
 use name_store::Names;
 use path_find::Answer;
@@ -105,6 +105,7 @@ impl Bench {
             b"chain_edit" => chains::answer(alloc, space, call),
             b"group_store" => groups::answer(alloc, space, call),
             b"prop_store" => properties::answer(alloc, space, call),
+            b"prop_index" => indexes::answer(alloc, space, call),
             b"store_check" => spell(alloc, &check(alloc, space)),
             _ => self.answer_by_more(call),
         }

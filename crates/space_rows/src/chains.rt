@@ -1,4 +1,4 @@
-ghost use Rattle.std.specs.Prelude.{◌≡◌, IfOk};
+ghost use Rattle.std.specs.Prelude.{IfOk};
 ghost use Rattle.chain_edit.specs.Heads.{head_of, IsHead};
 
 use crate::call::{Call, key_of};

@@ -21,7 +21,7 @@ pub(crate) fn answer(
         (b"add_node", 0) => node(alloc, space, names, call),
         (b"add_nodes", 1) => nodes(alloc, space, names, call),
         (b"add_edge", 2) => edge(alloc, space, names, call),
-        (b"delete_node", 1) => spell(alloc, &delete_node(space, names, call.at(0))),
+        (b"delete_node", 1) => spell(alloc, &delete_node(alloc, space, names, call.at(0))),
         (b"delete_edge", 1) => spell(alloc, &delete_edge(space, names, call.at(0))),
         (b"set", 2) => set_one(alloc, space, names, call),
         (b"unset", 2) => unset_one(alloc, space, names, call),
@@ -38,7 +38,7 @@ fn node(
 ) -> Result<String, RowFault> {
     let label = Text::new(Vec::from_slice(alloc, name_in(call)?)?);
     let no_pairs = Pairs::new(Vec::new(alloc));
-    spell(alloc, &add_node(space, names, &label, &no_pairs))
+    spell(alloc, &add_node(alloc, space, names, &label, &no_pairs))
 }
 
 /// Adds so many nodes without properties. Their number is answered.
@@ -51,7 +51,7 @@ fn nodes(
     for _ in 0..call.at(0) {
         let label = Text::new(Vec::from_slice(alloc, name_in(call)?)?);
         let no_pairs = Pairs::new(Vec::new(alloc));
-        if add_node(space, names, &label, &no_pairs).is_err() {
+        if add_node(alloc, space, names, &label, &no_pairs).is_err() {
             return Err(RowFault::Malformed);
         }
     }
@@ -88,7 +88,10 @@ fn set_one(
 ) -> Result<String, RowFault> {
     let key = Text::new(Vec::from_slice(alloc, name_in(call)?)?);
     let value = value_in(alloc, call)?;
-    spell(alloc, &set(space, names, target_in(call), &key, &value))
+    spell(
+        alloc,
+        &set(alloc, space, names, target_in(call), &key, &value),
+    )
 }
 
 fn unset_one(
@@ -98,5 +101,5 @@ fn unset_one(
     call: &Call,
 ) -> Result<String, RowFault> {
     let key = Text::new(Vec::from_slice(alloc, name_in(call)?)?);
-    spell(alloc, &unset(space, names, target_in(call), &key))
+    spell(alloc, &unset(alloc, space, names, target_in(call), &key))
 }

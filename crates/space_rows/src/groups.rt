@@ -1,5 +1,3 @@
-ghost use Rattle.std.specs.Prelude.{◌≤◌};
-
 use crate::call::{Call, key_of};
 use crate::chains::head_in;
 use crate::fault::RowFault;

@@ -27,6 +27,7 @@ mod forms;
 mod graphs;
 mod groups;
 mod identifiers;
+mod indexes;
 mod mutations;
 mod names;
 mod nodes;

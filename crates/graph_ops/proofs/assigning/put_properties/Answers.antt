@@ -1,10 +1,22 @@
 use Rattle.std.specs.FinMap as maps
-use Rattle.std.proofs.Common.{◌≡◌, ◌+◌, ◌<◌, ℕ, true, ⊎_elim, None, [], get_or, length, ◌∙◌, sym, ap, subst, inl, arith, refl}
-use Rattle.std.proofs.lemmas.List.{get_or_read}
+use Rattle.std.proofs.Common.{◌≡◌, ◌+◌, ◌<◌, ℕ, true, ⊎_elim, None, Some, List, [], get_or, length, ◌∙◌, sym, ap, subst, inl, arith, refl}
+use Rattle.std.proofs.lemmas.List.{get_or_read, take_all}
 use Rattle.std.proofs.lemmas.List.Sums.{get_or-le-sum_by, sum_by-take-le, sum_by_more}
 use Rattle.plain_graph.specs.Properties.{blocks_of}
 use Rattle.plain_graph.specs.declared.pairs.Pair.{Pair}
 use Rattle.plain_graph.specs.declared.value.Value.TheVariants as values
+use Rattle.plain_graph.specs.declared.command.Target.TheVariants as targets
+use Rattle.rec_bytes.specs.Format as format
+use Rattle.store_rules.specs.IndexChange.{ChangesValue}
+use Rattle.store_rules.specs.Indexes.{wanted_in}
+use Rattle.store_rules.specs.Properties.{Property}
+use Rattle.prop_store.specs.Alone.{IsKnownKey, LacksKey, OwnsProperties, SetsAlone}
+use Rattle.prop_store.specs.Owner.{IsOwner}
+use Rattle.prop_store.proofs.ElementGraphs.{count_is, lacks_key, listed_at, owns_listed}
+use Rattle.graph_ops.specs.Entries.{with_assigned}
+use Rattle.graph_ops.specs.Owners.{owner_of}
+use Rattle.graph_ops.proofs.GivenValues.{more_given, none_given}
+use Rattle.graph_ops.proofs.KeptIndexes.{properties_keep}
 use Rattle.prop_store.specs.Changing.{HasKey, IsSetRefusal, SetsValue, properties_of, text_at}
 use Rattle.prop_store.specs.declared.owner.Owner.{Owner}
 use Rattle.rec_bytes.specs.RecordFiles.{is_meta_file}
@@ -13,7 +25,7 @@ use Rattle.graph_ops.specs.ChangeFault.{IsOutside, MayComeLate, of_set}
 use Rattle.graph_ops.specs.declared.assigning.Assignment.{Assignment}
 use Rattle.graph_ops.proofs.Assigned.{pair_form}
 use Rattle.graph_ops.proofs.Exits.{fault_exit, set_late}
-use Rattle.graph_ops.proofs.PairsPut.{all_put, key_fits, key_new, key_there, none_put, put_more, put_outside}
+use Rattle.graph_ops.proofs.PairsPut.{added_value, all_put, index_kept, key_fits, key_new, key_there, label_at, label_kept, none_put, put_more, put_outside}
 use Rattle.store_rules.proofs.WriteLaws.{beside_more, beside_then, beside_written, more_written, then_written, this_written}
 use Rattle.graph_ops.proofs.Writes.{on_any_err, touched_written}
 use Rattle.graph_ops.proofs.Causes.{add_caused, set_blamed}
@@ -29,6 +41,8 @@ loop-assignment-init g c =
     let s = g.S.Reads.state c.args.space.now in
     record {
       put = λ tells names target is can. none_put s names target (pairs_of names c.args.pairs.now c.args.assigned.now) can.store;
+      values = λ tells names id is can e. none_given (wanted_in s.records) (label_at s.records id) id c.args.pairs.now e;
+      indexes = λ tells names id is can are. are;
       shape = λ tells. refl;
       adds = λ tells. adds_none c.args.owner.key s s refl (λ q beyond. refl);
       writes = this_written c.args.owner.key s s [] (λ q i. absurd i) (record { each = λ q w. inl w });
@@ -69,6 +83,31 @@ loop-assignment-preserved g c =
           let added = subst (λ (o : Owner). HasKey t o (this g at).key → maps.get (properties_of t o) (text_at t (this g at).key) ≡ None → maps.len (properties_of t o) < 32 → SetsValue t u o (this g at).key value 0) is (c.in_ok-add.ensures.added tells) in
           put_more s t names target pairs assigned i can c.requires.few put lt shape u value (value_is g at)
           (added (key_there s t names target pairs assigned i can c.requires.few put lt shape) (key_new s t names target pairs assigned i can c.requires.few put lt shape) (key_fits s t names target pairs assigned i can c.requires.few put lt shape));
+      values = λ tells names id is can.
+          let target = targets.Node id in
+          let put = inv.put tells names target is can in
+          let lt = c.loop-assignment-test.true in
+          let shape = inv.shape tells in
+          let owned = subst IsOwner is c.requires.owner in
+          let there = key_there s t names target pairs assigned i can c.requires.few put lt shape in
+          let none = key_new s t names target pairs assigned i can c.requires.few put lt shape in
+          let has = there.element in
+          let alone = subst (λ (o : Owner). (es : List Property) → OwnsProperties t o es → IsKnownKey t (this g at).key → LacksKey es (this g at).key → length es < 32 → SetsAlone t u o es (this g at).key value 0) is (c.in_ok-add.ensures.alone tells) in
+          let es = listed_at t (owner_of target) owned has in
+          let few = key_fits s t names target pairs assigned i can c.requires.few put lt shape in
+          let count = count_is t (owner_of target) owned has in
+          let sets = alone es (owns_listed t (owner_of target) owned has) there.known (lacks_key t (owner_of target) owned has (this g at).key none) (omega arith) in
+          more_given t.records u.records (wanted_in s.records) (label_at s.records id) id pairs assigned i (record { key = 0; pair = 0 }) value lt (value_is g at)
+          (subst (λ l. ChangesValue t.records u.records l (this g at).key id None (Some value)) (label_kept s.records t.records id put.keeps) (added_value t u id (this g at).key value owned there none sets))
+          (inv.values tells names id is can);
+      indexes = λ tells names id is can.
+          let target = targets.Edge id in
+          let put = inv.put tells names target is can in
+          let lt = c.loop-assignment-test.true in
+          let shape = inv.shape tells in
+          let added = subst (λ (o : Owner). HasKey t o (this g at).key → maps.get (properties_of t o) (text_at t (this g at).key) ≡ None → maps.len (properties_of t o) < 32 → SetsValue t u o (this g at).key value 0) is (c.in_ok-add.ensures.added tells) in
+          let sets = added (key_there s t names target pairs assigned i can c.requires.few put lt shape) (key_new s t names target pairs assigned i can c.requires.few put lt shape) (key_fits s t names target pairs assigned i can c.requires.few put lt shape) in
+          λ are. properties_keep t u t.shape format.relationships_file id sets.changes.before sets.changes.after sets.changes.changes refl put.store.store (inv.indexes tells names id is can are);
       shape = λ tells. (g.met.S.Reads.onward_shape _ _ c.add.ensures.onward) ∙ inv.shape tells;
       adds = λ tells. adds_then c.args.owner.key s t u (inv.adds tells) (adds_value g.S.Reads.tells c.args.owner.key _ _ t u tells (g.met.S.Reads.onward_shape _ _ c.add.ensures.onward) c.add.ensures.touches);
       writes =
@@ -101,6 +140,22 @@ returns-in_err-add-clause-sound g c tells names target is can room =
 pub returns-clause-put : goal.returns-clause-put
 returns-clause-put g c tells names target is can =
     all_put (g.S.Reads.state c.args.space.now) (g.S.Reads.state c.loop-assignment.space) names target c.args.pairs.now c.args.assigned.now c.loop-assignment.assignment-index c.loop-assignment-test.false (c.loop-assignment.invariant.put tells names target is can)
+
+pub returns-clause-values : goal.returns-clause-values
+returns-clause-values g c tells names id is can =
+    let s = g.S.Reads.state c.args.space.now in
+    let t = g.S.Reads.state c.loop-assignment.space in
+    let assigned = c.args.assigned.now in
+    let i = c.loop-assignment.assignment-index in
+    let put = c.loop-assignment.invariant.put tells names (targets.Node id) is can in
+    record {
+      file = index_kept s.records t.records (targets.Node id) put.keeps;
+      values = λ e. c.loop-assignment.invariant.values tells names id is can e
+          ∙ ap (λ (l : List Assignment). with_assigned (wanted_in s.records) (label_at s.records id) id c.args.pairs.now l e) (take_all i assigned c.loop-assignment-test.false);
+    }
+
+pub returns-clause-indexes : goal.returns-clause-indexes
+returns-clause-indexes g c tells names id is can = c.loop-assignment.invariant.indexes tells names id is can
 
 pub returns-in_err-add-clause-late : goal.returns-in_err-add-clause-late
 returns-in_err-add-clause-late g c tells = fault_exit of_set MayComeLate c.in_err-add.field-0.0 c.from_residual.result c.from_residual.ensures.1 (set_late _ _ _ (g.S.Reads.state c.add.new.space) c.in_err-add.field-0.0 (c.in_err-add.ensures.caused tells))

@@ -19,10 +19,12 @@ use Rattle.graph_ops.specs.EdgeEnds.{AtEach, source_of, target_of}
 use Rattle.graph_ops.specs.EdgePlacing.{PutsEdge}
 use Rattle.graph_ops.specs.NodeDeleting.{HasDegree}
 use Rattle.graph_ops.specs.Preparing.{IsPrepared}
-use Rattle.graph_ops.specs.Store.{IsStore, graph_in}
+use Rattle.graph_ops.specs.Store.{IsMidway, graph_in}
+use Rattle.store_rules.specs.Indexes.{AreIndexed, wanted_in}
 use Rattle.graph_ops.proofs.EdgeAdded.{can_put, degree_kept, edges_refused, lacks_full, line_refused, made, not_full, put_room, room_kept}
 use Rattle.graph_ops.proofs.Counted.{absent_counted, counted_read, outside_counted, room_counted}
 use Rattle.graph_ops.proofs.Elements.{found_there}
+use Rattle.graph_ops.proofs.KeptIndexes.{midway}
 use Rattle.graph_ops.proofs.EndLaws.{at_more, at_nodes, at_source, at_target}
 use Rattle.graph_ops.proofs.Exits.{failure_late, fault_exit, late_leaves}
 use Rattle.graph_ops.proofs.Readings.{made_read, refused_read, store_read}
@@ -44,7 +46,8 @@ use Rattle.graph_ops.proofs.edge_adding.add_edge.Given.{Over}
 
 -- ---- an end is no node
 pub returns-in_err-ends-clause-refused : goal.returns-in_err-ends-clause-refused
-returns-in_err-ends-clause-refused g c tells store =
+returns-in_err-ends-clause-refused g c tells whole =
+    let store = midway _ _ whole in
     let s = g.S.Reads.state c.args.space.now in
     let command = commands.Edge c.args.from c.args.label.now c.args.to c.args.pairs.now in
     fault_exit (λ f. f) (IsRefusal s.shape.limit (graph_in s) command) c.in_err-ends.field-0.0 c.from_residual.result c.from_residual.ensures.1
@@ -68,8 +71,8 @@ target_now g c tells =
     let ends = c.in_ok-ends.ends in
     subst (λ k. HasDegree n.records k (target_of ends).degree) c.in_ok-ends.ensures.ends.enters (at_target (HasEndDegree n.records) ends (degrees_now g c tells))
 
-module _ (g : Over) (c : In_ok-ends g) (tells : g.S.Reads.tells) (store : IsStore (g.S.Reads.state c.args.space.now) c.args.names.now.names) where
-  kept : IsStore (g.S.Reads.state c.end_degrees.new.space) c.args.names.now.names
+module _ (g : Over) (c : In_ok-ends g) (tells : g.S.Reads.tells) (store : IsMidway (g.S.Reads.state c.args.space.now) c.args.names.now.names) where
+  kept : IsMidway (g.S.Reads.state c.end_degrees.new.space) c.args.names.now.names
   kept = store_read (g.S.Reads.state c.args.space.now) (g.S.Reads.state c.end_degrees.new.space) c.args.names.now.names c.end_degrees.ensures.state store
 
   leaves_node : has_node (graph_in (g.S.Reads.state c.end_degrees.new.space)) c.args.from ≡ true
@@ -79,7 +82,8 @@ module _ (g : Over) (c : In_ok-ends g) (tells : g.S.Reads.tells) (store : IsStor
   enters_node = found_there (g.S.Reads.state c.end_degrees.new.space) c.args.names.now.names c.args.to (target_of c.in_ok-ends.ends).degree kept (target_now g c tells)
 
 pub returns-in_err-test_room-clause-refused : goal.returns-in_err-test_room-clause-refused
-returns-in_err-test_room-clause-refused g c tells store =
+returns-in_err-test_room-clause-refused g c tells whole =
+    let store = midway _ _ whole in
     let at = (goal.at.returns-in_err-test_room-clause-refused g c).In_ok-ends in
     let s = g.S.Reads.state c.args.space.now in
     let n = g.S.Reads.state c.end_degrees.new.space in
@@ -93,16 +97,16 @@ returns-in_err-test_room-clause-refused g c tells store =
     fault _ why.is (lacks_full n names (kept g at tells store) fault why)))
 
 -- ---- there is room for an edge
-module _ (g : Over) (c : In_ok-test_room g) (tells : g.S.Reads.tells) (store : IsStore (g.S.Reads.state c.args.space.now) c.args.names.now.names) where
+module _ (g : Over) (c : In_ok-test_room g) (tells : g.S.Reads.tells) (store : IsMidway (g.S.Reads.state c.args.space.now) c.args.names.now.names) where
   room : ¬ IsFullOfEdges (g.S.Reads.state c.end_degrees.new.space)
   room = not_full (g.S.Reads.state c.end_degrees.new.space) c.args.names.now.names (kept g (goal.at.In_ok-test_room g c).In_ok-ends tells store) c.in_ok-test_room.ensures.room
 
 pub returns-in_err-prepared-clause-refused : goal.returns-in_err-prepared-clause-refused
-returns-in_err-prepared-clause-refused g c tells store =
+returns-in_err-prepared-clause-refused g c tells whole =
+    let store = midway _ _ whole in
     let at = goal.at.returns-in_err-prepared-clause-refused g c in
     let s = g.S.Reads.state c.args.space.now in
     let n = g.S.Reads.state c.end_degrees.new.space in
-    let names = c.args.names.now.names in
     let pairs = c.as_slice-pairs.result.now in
     let command = commands.Edge c.args.from c.args.label.now c.args.to pairs in
     let fault = c.in_err-prepared.field-0.0 in
@@ -113,7 +117,7 @@ returns-in_err-prepared-clause-refused g c tells store =
     (room g at.In_ok-test_room tells store) fault (c.in_err-prepared.ensures.refused tells (kept g at.In_ok-ends tells store)))))
 
 -- ---- the edge's record and its chains
-module _ (g : Over) (c : In_ok-prepared g) (tells : g.S.Reads.tells) (store : IsStore (g.S.Reads.state c.args.space.now) c.args.names.now.names) where
+module _ (g : Over) (c : In_ok-prepared g) (tells : g.S.Reads.tells) (store : IsMidway (g.S.Reads.state c.args.space.now) c.args.names.now.names) where
   at_hand : IsPrepared (g.S.Reads.state c.end_degrees.new.space) (g.S.Reads.state c.prepare.new.space) c.prepare.new.names.names c.args.label.now c.as_slice-pairs.result.now c.in_ok-prepared.prepared
   at_hand = c.in_ok-prepared.ensures.prepared tells (kept g (goal.at.In_ok-prepared g c).In_ok-ends tells store)
 
@@ -128,7 +132,7 @@ module _ (g : Over) (c : In_ok-prepared g) (tells : g.S.Reads.tells) (store : Is
   limit_kept = ap (λ (h : Shape). h.threshold) (c.shape-threshold.ensures.is ∙ sym at_hand.kept.shape)
 
 -- only the machine can fail
-edge_outside : (g : Over) (c : In_err-id g) → g.S.Reads.tells → IsStore (g.S.Reads.state c.args.space.now) c.args.names.now.names → IsOutside c.in_err-id.field-0.0
+edge_outside : (g : Over) (c : In_err-id g) → g.S.Reads.tells → IsMidway (g.S.Reads.state c.args.space.now) c.args.names.now.names → IsOutside c.in_err-id.field-0.0
 edge_outside g c tells store =
     let at = goal.at.In_err-id g c in
     let hand = at_hand g at.In_ok-prepared tells store in
@@ -136,7 +140,8 @@ edge_outside g c tells store =
     (room_kept (g.S.Reads.state c.end_degrees.new.space) c.args.names.now.names (kept g at.In_ok-ends tells store) (g.S.Reads.state c.prepare.new.space) c.prepare.new.names.names hand.kept c.in_ok-test_room.ensures.room)
 
 pub returns-in_err-id-clause-refused : goal.returns-in_err-id-clause-refused
-returns-in_err-id-clause-refused g c tells store =
+returns-in_err-id-clause-refused g c tells whole =
+    let store = midway _ _ whole in
     let s = g.S.Reads.state c.args.space.now in
     let command = commands.Edge c.args.from c.args.label.now c.args.to c.args.pairs.now in
     fault_exit (λ f. f) (IsRefusal s.shape.limit (graph_in s) command) c.in_err-id.field-0.0 c.from_residual-in_err-id.result c.from_residual-in_err-id.ensures.1
@@ -157,7 +162,7 @@ returns-in_err-id-clause-refused_writes g c =
     on_any_err _ _ (more_written (omega arith) (then_written read (then_written c.prepare.ensures.few_writes c.in_err-id.ensures.err_writes)))
 
 -- ---- its properties
-puts : (g : Over) (c : In_ok-id g) → g.S.Reads.tells → IsStore (g.S.Reads.state c.args.space.now) c.args.names.now.names
+puts : (g : Over) (c : In_ok-id g) → g.S.Reads.tells → IsMidway (g.S.Reads.state c.args.space.now) c.args.names.now.names
     → PutsEdge (g.S.Reads.state c.prepare.new.space) (g.S.Reads.state c.put_edge.new.space) c.prepare.new.names.names c.args.from c.args.label.now c.args.to c.in_ok-id.id
 puts g c tells store =
     let at = (goal.at.In_ok-id g c).In_ok-prepared in
@@ -167,7 +172,7 @@ puts g c tells store =
     at_nodes (λ from to. PutsEdge u v c.prepare.new.names.names from c.args.label.now to c.in_ok-id.id) c.in_ok-ends.ends c.args.from c.args.to c.in_ok-ends.ensures.ends
     (c.in_ok-id.ensures.put tells (limit_kept g at tells store) c.prepare.new.names.names c.args.label.now hand.kept.store hand.label_is (degrees_kept g at tells store))
 
-can : (g : Over) (c : After-put_properties g) → g.S.Reads.tells → IsStore (g.S.Reads.state c.args.space.now) c.args.names.now.names
+can : (g : Over) (c : After-put_properties g) → g.S.Reads.tells → IsMidway (g.S.Reads.state c.args.space.now) c.args.names.now.names
     → CanPut (g.S.Reads.state c.put_edge.new.space) c.prepare.new.names.names (targets.Edge c.in_ok-id.id) c.as_slice-pairs.result.now c.deref.result.now
 can g c tells store =
     let at = goal.at.After-put_properties g c in
@@ -175,7 +180,7 @@ can g c tells store =
     (can_put (g.S.Reads.state c.end_degrees.new.space) (g.S.Reads.state c.prepare.new.space) (g.S.Reads.state c.put_edge.new.space) c.args.names.now.names c.prepare.new.names.names c.args.from c.args.label.now c.args.to c.as_slice-pairs.result.now c.in_ok-id.id
     c.in_ok-prepared.prepared (kept g at.In_ok-ends tells store) (at_hand g at.In_ok-prepared tells store) (puts g at.In_ok-id tells store) ((g.met.S.Reads.onward_shape _ _ c.put_edge.ensures.onward)))
 
-properties_outside : (g : Over) (c : In_err-put_properties g) → g.S.Reads.tells → IsStore (g.S.Reads.state c.args.space.now) c.args.names.now.names → IsOutside c.in_err-put_properties.field-0.0
+properties_outside : (g : Over) (c : In_err-put_properties g) → g.S.Reads.tells → IsMidway (g.S.Reads.state c.args.space.now) c.args.names.now.names → IsOutside c.in_err-put_properties.field-0.0
 properties_outside g c tells store =
     let at = goal.at.In_err-put_properties g c in
     c.in_err-put_properties.ensures.sound tells c.prepare.new.names.names (targets.Edge c.in_ok-id.id) c.edge_owner.ensures (can g at.After-put_properties tells store)
@@ -184,7 +189,8 @@ properties_outside g c tells store =
     c.in_ok-prepared.prepared (kept g at.In_ok-ends tells store) (at_hand g at.In_ok-prepared tells store) (puts g at.In_ok-id tells store) ((g.met.S.Reads.onward_shape _ _ c.put_edge.ensures.onward))))
 
 pub returns-in_err-put_properties-clause-refused : goal.returns-in_err-put_properties-clause-refused
-returns-in_err-put_properties-clause-refused g c tells store =
+returns-in_err-put_properties-clause-refused g c tells whole =
+    let store = midway _ _ whole in
     let s = g.S.Reads.state c.args.space.now in
     let command = commands.Edge c.args.from c.args.label.now c.args.to c.args.pairs.now in
     fault_exit (λ f. f) (IsRefusal s.shape.limit (graph_in s) command) c.in_err-put_properties.field-0.0 c.from_residual-in_err-put_properties.result c.from_residual-in_err-put_properties.ensures.1
@@ -227,14 +233,16 @@ pub returns-clause-onward : goal.returns-clause-onward
 returns-clause-onward g c = onward g (goal.at.returns-clause-onward g c).After-put_properties
 
 pub returns-clause-full : goal.returns-clause-full
-returns-clause-full g c store full =
+returns-clause-full g c whole full =
+    let store = midway _ _ whole in
     let s = g.S.Reads.state c.args.space.now in
     let n = g.S.Reads.state c.end_degrees.new.space in
     let same = c.end_degrees.ensures.state in
     absurd (not_full n c.args.names.now.names (store_read s n c.args.names.now.names same store) c.in_ok-test_room.ensures.room (subst IsFullOfEdges (sym same) full))
 
 pub returns-clause-made : goal.returns-clause-made
-returns-clause-made g c tells store =
+returns-clause-made g c tells whole =
+    let store = midway _ _ whole in
     let at = goal.at.returns-clause-made g c in
     let s = g.S.Reads.state c.args.space.now in
     let n = g.S.Reads.state c.end_degrees.new.space in
@@ -251,13 +259,15 @@ returns-clause-made g c tells store =
     made_read s n w names (commands.Edge c.args.from c.args.label.now c.args.to c.args.pairs.now) (EdgeMade id) weight c.end_degrees.ensures.state
     (subst (λ l. MakesChange (commands.Edge c.args.from c.args.label.now c.args.to l) (EdgeMade id) weight n w names) c.as_slice-pairs.ensures
     (made n u v c.args.names.now.names names c.args.from c.args.label.now c.args.to pairs id c.in_ok-prepared.prepared (kept g at.In_ok-ends tells store) hand (puts g at.In_ok-id tells store) ((g.met.S.Reads.onward_shape _ _ c.put_edge.ensures.onward))
-    w put (room g at.In_ok-test_room tells store) (source_of ends).degree (target_of ends).degree (source_now g at.In_ok-ends tells) (target_now g at.In_ok-ends tells) weight c.ends_weight-moved.result refl
+    w put (room g at.In_ok-test_room tells store) (source_of ends).degree (target_of ends).degree (source_now g at.In_ok-ends tells) (target_now g at.In_ok-ends tells) (subst (λ (z : State). AreIndexed z.records (wanted_in z.records)) (sym c.end_degrees.ensures.state) whole.store.indexes)
+    (c.in_ok-put_properties.ensures.indexes tells names id c.edge_owner.ensures (can g at.After-put_properties tells store)) weight c.ends_weight-moved.result refl
     (c.ends_weight-moved.ensures.is ∙ ends_weigh c.shape-threshold.result.threshold c.args.from c.args.to ends c.in_ok-ends.ensures.ends
     ∙ ap (λ (h : Shape). degrees_weight h.threshold c.args.from (source_of ends).degree c.args.to (target_of ends).degree) c.shape-threshold.ensures.is)))
 
 -- its properties leave it in its place
 pub returns-clause-first : goal.returns-clause-first
-returns-clause-first g c tells store =
+returns-clause-first g c tells whole =
+    let store = midway _ _ whole in
     let at = goal.at.returns-clause-first g c in
     let v = g.S.Reads.state c.put_edge.new.space in
     let w = g.S.Reads.state c.put_properties.new.space in
@@ -287,15 +297,14 @@ returns-clause-writes g c =
 
 -- ---- what refusals count
 pub returns-in_err-ends-clause-counts : goal.returns-in_err-ends-clause-counts
-returns-in_err-ends-clause-counts g c tells store =
+returns-in_err-ends-clause-counts g c tells whole =
     let s = g.S.Reads.state c.args.space.now in
     let fault = c.in_err-ends.field-0.0 in
     fault_exit (λ f. f) (IsCounted s) fault c.from_residual.result c.from_residual.ensures.1
     (⊎_elim (absent_counted s (targets.Node c.args.from) fault) (absent_counted s (targets.Node c.args.to) fault) (c.in_err-ends.ensures.absent tells))
 
 pub returns-in_err-test_room-clause-counts : goal.returns-in_err-test_room-clause-counts
-returns-in_err-test_room-clause-counts g c tells store =
-    let at = (goal.at.returns-in_err-test_room-clause-counts g c).In_ok-ends in
+returns-in_err-test_room-clause-counts g c tells whole =
     let s = g.S.Reads.state c.args.space.now in
     let n = g.S.Reads.state c.end_degrees.new.space in
     let fault = c.in_err-test_room.field-0.0 in
@@ -303,21 +312,22 @@ returns-in_err-test_room-clause-counts g c tells store =
     (counted_read s n c.end_degrees.ensures.state fault (room_counted n n format.relationships_file 1 refl fault c.in_err-test_room.ensures.full))
 
 pub returns-in_err-prepared-clause-counts : goal.returns-in_err-prepared-clause-counts
-returns-in_err-prepared-clause-counts g c tells store =
-    let at = (goal.at.returns-in_err-prepared-clause-counts g c).In_ok-ends in
+returns-in_err-prepared-clause-counts g c tells whole =
     let s = g.S.Reads.state c.args.space.now in
     let n = g.S.Reads.state c.end_degrees.new.space in
     let fault = c.in_err-prepared.field-0.0 in
     fault_exit (λ f. f) (IsCounted s) fault c.from_residual-in_err-prepared.result c.from_residual-in_err-prepared.ensures.1 (counted_read s n c.end_degrees.ensures.state fault (c.in_err-prepared.ensures.counts tells))
 
 pub returns-in_err-id-clause-counts : goal.returns-in_err-id-clause-counts
-returns-in_err-id-clause-counts g c tells store =
+returns-in_err-id-clause-counts g c tells whole =
+    let store = midway _ _ whole in
     let s = g.S.Reads.state c.args.space.now in
     fault_exit (λ f. f) (IsCounted s) c.in_err-id.field-0.0 c.from_residual-in_err-id.result c.from_residual-in_err-id.ensures.1
     (outside_counted s c.in_err-id.field-0.0 (edge_outside g (goal.at.returns-in_err-id-clause-counts g c).In_err-id tells store))
 
 pub returns-in_err-put_properties-clause-counts : goal.returns-in_err-put_properties-clause-counts
-returns-in_err-put_properties-clause-counts g c tells store =
+returns-in_err-put_properties-clause-counts g c tells whole =
+    let store = midway _ _ whole in
     let s = g.S.Reads.state c.args.space.now in
     fault_exit (λ f. f) (IsCounted s) c.in_err-put_properties.field-0.0 c.from_residual-in_err-put_properties.result c.from_residual-in_err-put_properties.ensures.1
     (outside_counted s c.in_err-put_properties.field-0.0 (properties_outside g (goal.at.returns-in_err-put_properties-clause-counts g c).In_err-put_properties tells store))

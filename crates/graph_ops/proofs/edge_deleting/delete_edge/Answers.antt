@@ -15,7 +15,8 @@ use Rattle.store_rules.specs.Writes.{WritesAtMost, WritesBeside}
 use Rattle.graph_ops.specs.Change.{IsRefusal}
 use Rattle.graph_ops.specs.ChangeFault.{LeavesSpace, of_fault, of_row}
 use Rattle.graph_ops.specs.EdgeDeleting.{BlamesDeleting, HasBareRow}
-use Rattle.graph_ops.specs.Store.{IsStore, graph_in}
+use Rattle.graph_ops.specs.Store.{IsMidway, graph_in}
+use Rattle.graph_ops.proofs.KeptIndexes.{midway}
 use Rattle.graph_ops.proofs.Deleting.{edge_element, edge_lacked, edge_made, left_bare, left_store}
 use Rattle.graph_ops.proofs.Elements.{edge_missing, same_rel}
 use Rattle.graph_ops.specs.Causes.{IsCaused, IsStillCaused}
@@ -55,7 +56,8 @@ module _ (g : Over) (c : After-drop_all g) where
   was_read = loaded g (goal.at.After-drop_all g c).After-load
 
 pub returns-in_err-dropped-clause-refused : goal.returns-in_err-dropped-clause-refused
-returns-in_err-dropped-clause-refused g c tells store =
+returns-in_err-dropped-clause-refused g c tells whole =
+    let store = midway _ _ whole in
     let s = g.S.Reads.state c.args.space.now in
     let v = g.S.Reads.state c.load.new.space in
     let at = (goal.at.returns-in_err-dropped-clause-refused g c).After-drop_all in
@@ -65,7 +67,7 @@ returns-in_err-dropped-clause-refused g c tells store =
     (c.in_err-dropped.ensures.sound tells (subst (HasElement v) (sym c.edge_owner.ensures) element)))
 
 -- the edge before it is taken out of the chains
-module _ (g : Over) (c : After-take_edge g) (tells : g.S.Reads.tells) (store : IsStore (g.S.Reads.state c.args.space.now) c.args.names.now.names) where
+module _ (g : Over) (c : After-take_edge g) (tells : g.S.Reads.tells) (store : IsMidway (g.S.Reads.state c.args.space.now) c.args.names.now.names) where
   abbrev s : State
   s = g.S.Reads.state c.args.space.now
 
@@ -84,7 +86,7 @@ module _ (g : Over) (c : After-take_edge g) (tells : g.S.Reads.tells) (store : I
   read : SameButReads s v
   read = was_read g (goal.at.After-take_edge g c).After-drop_all
 
-  left : IsStore u names
+  left : IsMidway u names
   left = left_store s v names c.args.id c.in-Some.rel store there read u c.edge_owner.result c.edge_owner.ensures c.in_ok-dropped.dropped (c.in_ok-dropped.ensures.dropped tells)
 
   bare : HasBareRow u.records c.args.id c.in-Some.rel
@@ -92,7 +94,8 @@ module _ (g : Over) (c : After-take_edge g) (tells : g.S.Reads.tells) (store : I
 
 -- failures that are met then
 pub returns-in_err-take_edge-clause-refused : goal.returns-in_err-take_edge-clause-refused
-returns-in_err-take_edge-clause-refused g c tells store =
+returns-in_err-take_edge-clause-refused g c tells whole =
+    let store = midway _ _ whole in
     let s = g.S.Reads.state c.args.space.now in
     let at = (goal.at.returns-in_err-take_edge-clause-refused g c).After-take_edge in
     fault_exit (λ f. f) (IsRefusal s.shape.limit (graph_in s) (commands.Delete (targets.Edge c.args.id))) c.in_err-take_edge.field-0.0 c.from_residual-in_err-take_edge.result c.from_residual-in_err-take_edge.ensures.1
@@ -107,15 +110,17 @@ returns-in_err-take_edge-clause-leaves g c =
     (late_leaves s t c.in_err-take_edge.field-0.0 (failure_late c.in_err-take_edge.field-0.0 c.in_err-take_edge.ensures.failure))
 
 pub returns-clause-made : goal.returns-clause-made
-returns-clause-made g c tells store =
+returns-clause-made g c tells whole =
+    let store = midway _ _ whole in
     let at = (goal.at.returns-clause-made g c).After-take_edge in
     let names = c.args.names.now.names in
     edge_made (g.S.Reads.state c.args.space.now) (g.S.Reads.state c.load.new.space) names c.args.id c.in-Some.rel store (there g at tells store) (read g at tells store)
     (g.S.Reads.state c.drop_all.new.space) c.edge_owner.result c.edge_owner.ensures c.in_ok-dropped.dropped (c.in_ok-dropped.ensures.dropped tells)
-    (g.S.Reads.state c.take_edge.new.space) (c.in_ok-take_edge.ensures.taken tells names (left g at tells store) (bare g at tells store))
+    (g.S.Reads.state c.take_edge.new.space) whole.store.indexes (c.in_ok-take_edge.ensures.taken tells names (left g at tells store) (bare g at tells store))
 
 pub returns-clause-kinds : goal.returns-clause-kinds
-returns-clause-kinds g c tells store n =
+returns-clause-kinds g c tells whole n =
+    let store = midway _ _ whole in
     let at = (goal.at.returns-clause-kinds g c).After-take_edge in
     let s = g.S.Reads.state c.args.space.now in
     let v = g.S.Reads.state c.load.new.space in

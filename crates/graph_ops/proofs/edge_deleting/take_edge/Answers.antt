@@ -51,7 +51,6 @@ pub returns-clause-damaged : goal.returns-clause-damaged
 returns-clause-damaged g c tells ends =
     let s = g.S.Reads.state c.args.space.now in
     let t = g.S.Reads.state c.edge_ends.new.space in
-    let u = g.S.Reads.state c.unlink_edge.new.space in
     let has = c.in_ok-ends.ensures.heads tells in
     let left = c.in_ok-ends.ensures.counts tells in
     let from = c.in_ok-ends.ensures.nodes.0 in

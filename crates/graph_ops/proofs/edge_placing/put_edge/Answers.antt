@@ -9,7 +9,7 @@ use Rattle.graph_ops.specs.ChangeFault.{IsOutside}
 use Rattle.graph_ops.specs.EdgeEnds.{AtEach, source_of}
 use Rattle.graph_ops.specs.EdgeOpening.{ends_moved, from_of, to_of}
 use Rattle.graph_ops.specs.EdgePlacing.{PutsEdge}
-use Rattle.graph_ops.specs.Store.{IsStore}
+use Rattle.graph_ops.specs.Store.{IsMidway}
 use Rattle.graph_ops.proofs.EdgeOpened.{puts_through}
 use Rattle.graph_ops.proofs.ElementRooms.{room_still}
 use Rattle.graph_ops.proofs.Exits.{fault_exit}
@@ -36,7 +36,7 @@ returns-clause-put g c tells limit =
     let u = g.S.Reads.state c.join_edge.new.space in
     let nodes = c.in_ok-ends.ensures.nodes in
     if_ok c.join_edge.result _
-    (λ id. (names : List (List ℕ)) (text : List ℕ) → IsStore s names → slice_get names c.args.joint.label ≡ Some text → AtEach (HasEndDegree s.records) c.args.joint.ends
+    (λ id. (names : List (List ℕ)) (text : List ℕ) → IsMidway s names → slice_get names c.args.joint.label ≡ Some text → AtEach (HasEndDegree s.records) c.args.joint.ends
     → PutsEdge s u names (from_of c.args.joint) text (to_of c.args.joint) id)
     (λ id joined names text store at degrees.
     let opens = c.in_ok-ends.ensures.opened tells names (record { limit = limit; store = store; named = (number_in s.records names c.args.joint.label text store.names at).0; degrees = degrees }) in

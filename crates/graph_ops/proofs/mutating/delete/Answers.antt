@@ -3,16 +3,18 @@ use Rattle.std.proofs.lemmas.Result.{IfErr-weaker}
 use Rattle.rec_bytes.specs.declared.damage.Damage.{Damage}
 use Rattle.rec_bytes.specs.Space.{State}
 use Rattle.prop_store.specs.Fault.{SharesBlock}
-use Rattle.graph_ops.specs.Damage.{IfBlames, IsBroken}
+use Rattle.graph_ops.specs.Damage.{IfBlames, IsBroken, IsEntryDamage}
 use Rattle.graph_ops.specs.NodeDeleting.{IsDeleteCause}
 use Rattle.graph_ops.specs.declared.change_fault.ChangeFault.{ChangeFault}
-use Rattle.graph_ops.specs.declared.change_fault.ChangeFault.TheVariants.{NoNode, NoEdge, HasRelationships, Full, NamesFull, PropsFull, Memory, Disk, Damaged}
+use Rattle.graph_ops.specs.declared.change_fault.ChangeFault.TheVariants.{NoNode, NoEdge, HasRelationships, IndexThere, TooManyIndexes, IndexTooLarge, Full, NamesFull, PropsFull, Memory, Disk, Damaged}
 use Rattle.std.specs.Prelude.{IfErr, IfOk}
 use Rattle.graph_ops.specs.Causes.{IsStillCaused}
 use Rattle.plain_graph.specs.Reply.{Done}
 use Rattle.plain_graph.specs.declared.command.Command.TheVariants as commands
 use Rattle.plain_graph.specs.declared.command.Target.{Target}
 use Rattle.graph_ops.specs.Mutating.{BlamesDeletion, MakesPart, any_replies}
+use Rattle.graph_ops.specs.Change.{IsRefusal}
+use Rattle.graph_ops.specs.Store.{graph_in}
 use Rattle.graph_ops.proofs.Parts.{one_result}
 use Rattle.graph_ops.proofs.mutating.delete.Goals as goal
 
@@ -46,26 +48,39 @@ returns-in-Edge-clause-still g c tells =
 
 -- ---- which record is blamed
 
-found_blames : (s : State) (id : ℕ) (fault : ChangeFault) → IsDeleteCause s id fault → IfBlames (λ (damage : Damage). IsBroken s damage ⊎ SharesBlock s.records damage) fault
-found_blames s id (NoNode missing) why = tt
-found_blames s id (NoEdge missing) why = absurd why
-found_blames s id (HasRelationships of degree) why = tt
-found_blames s id (Full file live) why = absurd why
-found_blames s id (NamesFull count) why = absurd why
-found_blames s id (PropsFull count) why = absurd why
-found_blames s id Memory why = tt
-found_blames s id Disk why = tt
-found_blames s id (Damaged damage) why = ⊎_elim (λ broken. inl broken) (λ k. inr k.1) why
+found_blames : (s t : State) (id : ℕ) (fault : ChangeFault) → IsDeleteCause s t id fault → IfBlames (λ (damage : Damage). IsBroken s damage ⊎ (SharesBlock s.records damage ⊎ IsEntryDamage t damage)) fault
+found_blames s t id (NoNode missing) why = tt
+found_blames s t id (NoEdge missing) why = absurd why
+found_blames s t id (HasRelationships of degree) why = tt
+found_blames s t id IndexThere why = absurd why
+found_blames s t id TooManyIndexes why = absurd why
+found_blames s t id (IndexTooLarge count) why = absurd why
+found_blames s t id (Full file live) why = absurd why
+found_blames s t id (NamesFull count) why = absurd why
+found_blames s t id (PropsFull count) why = absurd why
+found_blames s t id Memory why = tt
+found_blames s t id Disk why = tt
+found_blames s t id (Damaged damage) why = ⊎_elim (λ broken. inl broken) (λ k. inr (⊎_elim (λ shares. inl shares.1) (λ entry. inr entry) k)) why
 
 pub returns-in-Node-clause-damaged : goal.returns-in-Node-clause-damaged
 returns-in-Node-clause-damaged g c tells =
     let s = g.S.Reads.state c.args.space.now in
     let t = g.S.Reads.state c.delete_node.new.space in
     subst (λ (target : Target). IfErr c.delete_node.result (BlamesDeletion s t target)) (sym c.in-Node.is)
-    (IfErr-weaker c.delete_node.result (IsDeleteCause s c.in-Node.id) (IfBlames (λ (damage : Damage). IsBroken s damage ⊎ SharesBlock s.records damage)) (found_blames s c.in-Node.id) (c.delete_node.ensures.found tells))
+    (IfErr-weaker c.delete_node.result (IsDeleteCause s t c.in-Node.id) (IfBlames (λ (damage : Damage). IsBroken s damage ⊎ (SharesBlock s.records damage ⊎ IsEntryDamage t damage))) (found_blames s t c.in-Node.id) (c.delete_node.ensures.found tells))
 
 pub returns-in-Edge-clause-damaged : goal.returns-in-Edge-clause-damaged
 returns-in-Edge-clause-damaged g c tells =
     let s = g.S.Reads.state c.args.space.now in
     let t = g.S.Reads.state c.delete_edge.new.space in
     subst (λ (target : Target). IfErr c.delete_edge.result (BlamesDeletion s t target)) (sym c.in-Edge.is) (c.delete_edge.ensures.damaged tells)
+
+pub returns-in-Node-clause-refused : goal.returns-in-Node-clause-refused
+returns-in-Node-clause-refused g c = λ tells store.
+    let s = g.S.Reads.state c.args.space.now in
+    subst (λ (target : Target). IfErr c.delete_node.result (IsRefusal s.shape.limit (graph_in s) (commands.Delete target))) (sym c.in-Node.is) (c.delete_node.ensures.refused tells store)
+
+pub returns-in-Edge-clause-refused : goal.returns-in-Edge-clause-refused
+returns-in-Edge-clause-refused g c = λ tells store.
+    let s = g.S.Reads.state c.args.space.now in
+    subst (λ (target : Target). IfErr c.delete_edge.result (IsRefusal s.shape.limit (graph_in s) (commands.Delete target))) (sym c.in-Edge.is) (c.delete_edge.ensures.refused tells store)

@@ -10,7 +10,7 @@ use Rattle.graph_ops.specs.Assigning.{HasPropertyRoom, IsReserveFault, assigned_
 use Rattle.graph_ops.specs.Change.{IsCounted, IsRefusedBy}
 use Rattle.graph_ops.specs.ChangeFault.{of_intern}
 use Rattle.graph_ops.specs.Preparing.{IsLineCause, line_reasons}
-use Rattle.graph_ops.specs.Store.{IsStore, KeepsElements, graph_in}
+use Rattle.graph_ops.specs.Store.{IsMidway, KeepsElements, graph_in}
 use Rattle.graph_ops.proofs.Counted.{assign_counted, count_full, reserve_counted}
 use Rattle.graph_ops.proofs.Exits.{fault_exit}
 use Rattle.graph_ops.proofs.Interned.{keeps_interned, keeps_then, metas_interned, metas_then, name_written, one_written}
@@ -56,7 +56,7 @@ returns-in_err-assigned-clause-refused g c tells store =
     (assign_refused_by s c.args.names.now.names c.intern.new.self.names c.args.label.now c.args.pairs.now store (uses g (goal.at.returns-in_err-assigned-clause-refused g c).In_ok-label) c.in_err-assigned.field-0.0 c.in_err-assigned.ensures.refused)
 
 -- the elements are kept
-kept : (g : Over) (c : In_ok-assigned g) → g.S.Reads.tells → IsStore (g.S.Reads.state c.args.space.now) c.args.names.now.names → KeepsElements (g.S.Reads.state c.args.space.now) (g.S.Reads.state c.assign_pairs.new.space) c.assign_pairs.new.names.names
+kept : (g : Over) (c : In_ok-assigned g) → g.S.Reads.tells → IsMidway (g.S.Reads.state c.args.space.now) c.args.names.now.names → KeepsElements (g.S.Reads.state c.args.space.now) (g.S.Reads.state c.assign_pairs.new.space) c.assign_pairs.new.names.names
 kept g c tells store =
     let at = (goal.at.In_ok-assigned g c).In_ok-label in
     let s = g.S.Reads.state c.args.space.now in
