@@ -160,7 +160,7 @@ fn lines_that_need_no_disk_make_no_call(rt: HostRuntime) -> Result<(), Fail> {
         error transaction open\nerror syntax 4\nok\nok\nok\n@1 ok\n\
         @1 nodes 1 edges 0 properties 0 blocks 0 names 1\n@1 error snapshot open\n@2 ok\n@2 ok\n\
         @2 error no snapshot\n@1 error read only\nerror writer\nfault disk\nerror failed\n\
-        @1 error syntax 3\n@1 error read only\n@1 error read only\n@1 error failed\n\
+        @1 error syntax 4\n@1 error read only\n@1 error read only\n@1 error failed\n\
         @1 error failed\n@2 error failed\n@1 error failed\nerror writer\nerror writer\n\
         error failed\n";
     let ended = run_until(alloc, script, stop)?;

@@ -1,4 +1,4 @@
--- A follower's records are a well-formed store with the sender's graph, as the sender's are.
+-- A follower's records are a store with the sender's graph, as the sender's are.
 use Rattle.std.proofs.Common.{◌≡◌, ◌≢◌, ◌∙◌, ap, sym, subst, inl, inr, ℕ, zero, suc, ◌+◌, ◌<◌, ◌≤◌, Bool, true, false, cond, List, [], ◌∷◌, Option, None, Some, length, refl, arith}
 use mathlib.Core.Bool.{false≢true}
 use Rattle.std.specs.List.{slice_get}
@@ -11,9 +11,9 @@ use Rattle.rec_bytes.specs.Record.{as_64, with_bytes, with_field, zeros, zeros_f
 use Rattle.rec_bytes.specs.Space.{blank_records}
 use Rattle.rec_bytes.proofs.KeyLaws.{key_eq-other}
 use Rattle.rec_bytes.proofs.Spaces.{laid_over-other}
-use Rattle.store_rules.specs.Rules.{IsWellFormed}
+use Rattle.store_rules.specs.Indexes.{IsIndexed}
 use Rattle.store_rules.proofs.NewStores.{new_store_empty}
-use Rattle.store_rules.proofs.NumberedStores.{graph-numbered, well_numbered}
+use Rattle.store_rules.proofs.NumberedStores.{graph-numbered, indexed_numbered}
 use Rattle.follower.specs.Sent.{HoldsSent, IsSent, StandsFor, sent_graph}
 use Rattle.txn_core.specs.Shipped.{is_shipped, taken_key}
 use Rattle.follower.specs.Shipment.{Ascend, writes_of}
@@ -50,8 +50,8 @@ sender_number shape sent (suc j) is below =
 
 -- ---- what a content of a follower's disk stands for
 
-pub follower_well : (shape : Shape) (sent : List (List ℕ)) (j : ℕ) → IsSent shape sent → j ≤ length sent → IsWellFormed (follower_records shape sent j) shape
-follower_well shape sent j is below = well_numbered (sender_records shape sent j) (number_record j) shape (sender_number shape sent j is below) (number_rest j) (is.stored j below)
+pub follower_well : (shape : Shape) (sent : List (List ℕ)) (j : ℕ) → IsSent shape sent → j ≤ length sent → IsIndexed (follower_records shape sent j) shape
+follower_well shape sent j is below = indexed_numbered (sender_records shape sent j) (number_record j) shape (sender_number shape sent j is below) (number_rest j) (is.stored j below)
 
 pub taken_stands : (shape : Shape) (sent : List (List ℕ)) (j : ℕ) (content : _) → IsSent shape sent → j ≤ length sent → HoldsSent shape sent j content → StandsFor content shape (sent_graph shape sent j)
 taken_stands shape sent j content is below (inl redoes) = inr (record {

@@ -63,13 +63,13 @@ module _ (space : Key → Rec) (shape : Shape) (are : AreInRange space shape) wh
 
 module _ (shape : Shape) (sent : List (List ℕ)) (j : ℕ) (is : IsSent shape sent) (below : j ≤ length sent) where
   pub follower_made : IsMade (follower_records shape sent j) shape
-  follower_made = made (follower_records shape sent j) shape (follower_well shape sent j is below).ranges
+  follower_made = made (follower_records shape sent j) shape (follower_well shape sent j is below).store.ranges
 
   pub follower_not_old : ¬ IsOld (follower_records shape sent j)
-  follower_not_old = not_old (follower_records shape sent j) shape (follower_well shape sent j is below).ranges
+  follower_not_old = not_old (follower_records shape sent j) shape (follower_well shape sent j is below).store.ranges
 
   pub follower_raised : raised shape (follower_records shape sent j) ≡ follower_records shape sent j
-  follower_raised = raised_same (follower_records shape sent j) shape (follower_well shape sent j is below).ranges
+  follower_raised = raised_same (follower_records shape sent j) shape (follower_well shape sent j is below).store.ranges
 
   -- an opening leaves the same records
   pub left_redoes : (left : Files) → IsOldOrRaised shape (follower_records shape sent j) left → Redoes left (follower_records shape sent j)

@@ -10,29 +10,29 @@ use Rattle.rec_bytes.specs.Space.{blank_records}
 use Rattle.record_file.specs.Records.{IsUnmade, record_at}
 use Rattle.record_file.specs.Redone.{Redoes}
 use Rattle.store_rules.specs.Graph.{graph_of}
-use Rattle.store_rules.specs.Rules.{IsWellFormed}
+use Rattle.store_rules.specs.Indexes.{IsIndexed}
 use Rattle.follower.specs.Shipment.{IsShipment, number_of}
 use Rattle.follower.specs.Taken.{follower_records, sender_records}
 
 -- The shipments of a sender with a store of this shape, from number 1 on: one for each of its
--- transactions, from the making of its store on. After each the sender's records are a well-formed
--- store of this shape.
+-- transactions, from the making of its store on. After each the sender's records are a store
+-- of this shape that keeps all rules.
 pub record IsSent (shape : Shape) (sent : List (List ℕ)) : Type 0 where
   pub few : length sent < 2 ^ 64
   pub each : (i : ℕ) (bytes : List ℕ) → slice_get sent i ≡ Some bytes
       → IsShipment shape bytes × (number_of bytes ≡ i + 1)
-  pub stored : (j : ℕ) → j ≤ length sent → IsWellFormed (sender_records shape sent j) shape
+  pub stored : (j : ℕ) → j ≤ length sent → IsIndexed (sender_records shape sent j) shape
 
 -- the sender's graph after its first transactions, so many of them
 abbrev pub sent_graph : Shape → List (List ℕ) → ℕ → Graph
 sent_graph shape sent j = graph_of (sender_records shape sent j)
 
--- The entries of the log, laid over the records of the files, make a well-formed store of this
--- shape, of the newest version, whose graph this is.
+-- The entries of the log, laid over the records of the files, make a store of this shape, of
+-- the newest version, that keeps all rules and whose graph this is.
 pub record IsServed (content : Files) (shape : Shape) (graph : Graph) : Type 0 where
   pub space : Key → Rec
   pub redoes : Redoes content space
-  pub store : IsWellFormed space shape
+  pub store : IsIndexed space shape
   pub graph_is : graph ≡ graph_of space
 
 -- the content stands for this graph, under this shape; one in which no store was made stands for

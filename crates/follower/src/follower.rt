@@ -1,4 +1,4 @@
-ghost use Rattle.std.specs.Prelude.{◌≡◌, ◌↔◌, IfErr, IfOk, IsTrue, OnErr, OnOk, false, true};
+ghost use Rattle.std.specs.Prelude.{◌≡◌, ◌↔◌, IfErr, IfOk, IsTrue, false, true};
 ghost use Rattle.rec_bytes.specs.Shape.{is_allowed};
 ghost use Rattle.txn_core.specs.Config.{shape_of};
 ghost use Rattle.txn_core.specs.Store.{committed};

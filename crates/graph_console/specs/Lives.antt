@@ -48,9 +48,9 @@ module _ {D : Type 0} (g : Ghosts D) where
       (image : Files) → g.may_leave now image → g.left_since w.disk w.since image
 
   -- Graphs that a disk may have after these events, the last of which stands first, where it had
-  -- this one before them; or where the last run is stopped inside. A run that came to its end leaves
-  -- one that its last state admits; one that was stopped leaves one from before, or one that a state
-  -- admits to which its first exchanges lead. Each run begins with one that was left.
+  -- this one before them; or where the last run is stopped inside. A run that came to its end
+  -- leaves one that its last state admits; one that was stopped leaves one from before, or one that
+  -- a state admits to which its first exchanges lead. Each run begins with one that was left.
   abbrev pub MayHave : Bool → Graph → List (Event D) → Graph → Type 0
   MayHave inside start [] graph = graph ≡ start
   MayHave false start (Runs options first run last now ∷ earlier) graph =

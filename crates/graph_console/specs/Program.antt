@@ -47,7 +47,8 @@ config_for options = record { threshold = options.threshold; limit = options.lim
 
 abbrev pub usage_line : List ℕ
 usage_line =
-    text_line (codes "usage: run [--threshold N] [--limit N] | sample SEED COUNT | follow SEED COUNT")
+    text_line
+    (codes "usage: run [--threshold N] [--limit N] | sample SEED COUNT | follow SEED COUNT")
 
 abbrev pub memory_line : List ℕ
 memory_line = fault_line WantOfMemory

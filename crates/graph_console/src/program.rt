@@ -1,4 +1,5 @@
-ghost use Rattle.std.specs.Prelude.{Bool, ◌≡◌, ◌≢◌, ◌⊎◌, ◌+◌, ◌^◌, ◌≤◌, length, map, string_bytes, true};
+ghost use Rattle.std.specs.Prelude.{◌≡◌, ◌≢◌, ◌⊎◌, ◌+◌, ◌^◌, ◌≤◌, Bool, length, map, string_bytes};
+ghost use Rattle.std.specs.Prelude.{true};
 ghost use Rattle.fault_count.specs.Cause.{Rose};
 ghost use Rattle.console_words.specs.Words.{AsksFor};
 ghost use Rattle.console_words.specs.declared.run_options.RunOptions.{RunOptions};
@@ -36,8 +37,8 @@ const USAGE: &[u8] =
 
 /// The program: `run` opens the store of the disk, or makes one, serves the lines of the input on
 /// its graph, and gives each reply to the output. `sample` does so with generated lines on a store
-/// of its own, and `follow` has a follower take them over. `words` are the program's words, its name
-/// first.
+/// of its own, and `follow` has a follower take them over. `words` are the program's words, its
+/// name first.
 pub fn graph_main<S: Source, K: Sink, D: Disk>(
     alloc: Global,
     words: Vec<String>,

@@ -30,6 +30,7 @@ made-good (commands.Edge from label to pairs) reply tells = subst IsGood (sym te
 made-good (commands.Set target key value) reply tells = subst IsGood (sym tells) tt
 made-good (commands.Unset target key) reply tells = subst IsGood (sym tells) tt
 made-good (commands.Delete target) reply tells = subst IsGood (sym tells) tt
+made-good (commands.Index label key) reply tells = subst IsGood (sym tells) tt
 made-good (commands.Mutate reading mutation) reply tells = subst IsGood (sym tells.1) tt
 made-good _ reply tells = absurd tells
 

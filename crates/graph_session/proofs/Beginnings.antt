@@ -33,8 +33,9 @@ use Rattle.txn_core.specs.declared.open_fault.OpenFault.{OpenFault}
 use Rattle.txn_core.specs.declared.open_fault.OpenFault.TheVariants as refusals
 use Rattle.txn_core.specs.declared.store.Store.{Store}
 use Rattle.store_rules.specs.Graph.{graph_of, names_of}
-use Rattle.store_rules.specs.Rules.{IsWellFormed}
-use Rattle.store_rules.proofs.NewStores.{new_store_empty, new_well}
+use Rattle.store_rules.specs.Indexes.{IsIndexed}
+use Rattle.store_rules.proofs.NewIndexes.{new_indexed}
+use Rattle.store_rules.proofs.NewStores.{new_store_empty}
 use Rattle.rec_bytes.specs.Fault.{NotDamaged}
 use Rattle.name_store.specs.Loading.{AreLoadable, IsLoadFault, IsNameDamage, after_names, name_mark}
 use Rattle.name_store.specs.Loading.IsNameDamage.{HighMark, SameText, WrongForm, WrongText}
@@ -46,7 +47,7 @@ use Rattle.graph_session.specs.Known.{as_known}
 use Rattle.graph_session.specs.Opening.{IsUnopened, LeavesByOpening, LeavesOldOrSame, LeavesRefused, Opens, RefusesContent, StandsForOne, Starts, StartsAs, unloaded}
 use Rattle.graph_session.specs.Stands.{Stands}
 use Rattle.graph_session.specs.State.{Live, State}
-use Rattle.graph_session.specs.Versions.{IsWellFormedIn}
+use Rattle.graph_session.specs.Versions.{IsIndexedIn}
 use Rattle.graph_session.specs.declared.health.Health.TheVariants as healths
 use Rattle.graph_session.proofs.Knowing.{on_disk-known, told_of}
 use Rattle.graph_session.proofs.Openings.{starts-stands}
@@ -54,41 +55,41 @@ use Rattle.graph_session.proofs.Stands.{Redoes-only, Stands-only, all-admitted, 
 use Rattle.graph_session.proofs.States.{same_one}
 use Rattle.graph_session.proofs.StoreRecords.{draft-read}
 use Rattle.graph_session.proofs.Streams.{Rose-from}
-use Rattle.graph_session.proofs.Versions.{graph_of-raised, newest-well_formed}
+use Rattle.graph_session.proofs.Versions.{graph_of-raised, newest-indexed}
 
 -- ---- the records of the store
 
--- the names of a well-formed store are loaded
-loadable : (space : Key → Rec) (shape : Shape) → IsWellFormed space shape → AreLoadable space
-loadable space shape store = AreLoadable-AreInRange space shape store.ranges store.names
+-- the names of a store are loaded
+loadable : (space : Key → Rec) (shape : Shape) → IsIndexed space shape → AreLoadable space
+loadable space shape store = AreLoadable-AreInRange space shape store.store.ranges store.store.names
 
 zeros-rest : zeros_from taken_rest zeros ≡ true
 unfolding zeros_from as_64
 zeros-rest = refl
 
--- a new store is well-formed: no transaction was taken over where none was made
-new-well_formed : (content : Files) (shape : Shape) → IsUnmade content → is_allowed shape ≡ true → IsWellFormed (made_over content shape) shape
-new-well_formed content shape unmade allowed = new_well (record_at content) shape allowed (ap (λ (r : Rec). zeros_from taken_rest r) (unmade.blank taken_id (omega arith)) ∙ zeros-rest)
+-- a new store keeps all rules: no transaction was taken over where none was made
+new-indexed : (content : Files) (shape : Shape) → IsUnmade content → is_allowed shape ≡ true → IsIndexed (made_over content shape) shape
+new-indexed content shape unmade allowed = new_indexed (record_at content) shape allowed (ap (λ (r : Rec). zeros_from taken_rest r) (unmade.blank taken_id (omega arith)) ∙ zeros-rest)
 
-new-store : (content : Files) (config : Config) (shape : Shape) (space : Key → Rec) → IsUnmade content → is_allowed (shape_of config) ≡ true → shape ≡ shape_of config → space ≡ made_over content shape → IsWellFormed space shape
+new-store : (content : Files) (config : Config) (shape : Shape) (space : Key → Rec) → IsUnmade content → is_allowed (shape_of config) ≡ true → shape ≡ shape_of config → space ≡ made_over content shape → IsIndexed space shape
 new-store content config shape space unmade allowed shape_is space_is =
-    subst (λ (records : Key → Rec). IsWellFormed records shape) (sym space_is)
-    (subst (λ (s : Shape). IsWellFormed (made_over content s) s) (sym shape_is) (new-well_formed content (shape_of config) unmade allowed))
+    subst (λ (records : Key → Rec). IsIndexed records shape) (sym space_is)
+    (subst (λ (s : Shape). IsIndexed (made_over content s) s) (sym shape_is) (new-indexed content (shape_of config) unmade allowed))
 
 -- The records that a content that stands for a graph redoes to are those of its store.
-found-store : (content : Files) (shape other : Shape) (before : Key → Rec) (graph : Graph) → Redoes content before → finding.IsMade before shape → Stands content other graph → IsWellFormedIn before shape
+found-store : (content : Files) (shape other : Shape) (before : Key → Rec) (graph : Graph) → Redoes content before → finding.IsMade before shape → Stands content other graph → IsIndexedIn before shape
 found-store content shape other before graph redoes found (inl unmade) = absurd (unmade-not_found content shape before unmade.0 redoes found)
 found-store content shape other before graph redoes found (inr made) =
     let same : made.space ≡ before = Redoes-only content made.space before made.redoes redoes in
     let shapes : other ≡ shape = same_one other shape (sym made.store.made.own ∙ ap (λ (records : Key → Rec). shape_of_record (records own_key)) same ∙ found.own) in
-    subst (λ (s : Shape). IsWellFormedIn before s) shapes (subst (λ (records : Key → Rec). IsWellFormedIn records other) same made.store)
+    subst (λ (s : Shape). IsIndexedIn before s) shapes (subst (λ (records : Key → Rec). IsIndexedIn records other) same made.store)
 
--- The store that is opened is well-formed, where the content stands for a graph.
+-- The store that is opened keeps all rules, where the content stands for a graph.
 opened-store : (content : Files) (config : Config) (shape : Shape) (space : Key → Rec) → is_allowed (shape_of config) ≡ true → opening.Opens content config shape space
-    → (other : Shape) (graph : Graph) → Stands content other graph → IsWellFormed space shape
+    → (other : Shape) (graph : Graph) → Stands content other graph → IsIndexed space shape
 opened-store content config shape space allowed (inl new) other graph stands = new-store content config shape space new.0 allowed new.1 new.2
 opened-store content config shape space allowed (inr (before, redoes, found, suits, is)) other graph stands =
-    subst (λ (records : Key → Rec). IsWellFormed records shape) (sym is) (found-store content shape other before graph redoes found stands).store
+    subst (λ (records : Key → Rec). IsIndexed records shape) (sym is) (found-store content shape other before graph redoes found stands).store
 
 -- the state that a session over these records begins with
 abbrev pub beginning : Shape → (Key → Rec) → State
@@ -98,7 +99,7 @@ opened-starts : (content : Files) (config : Config) (shape : Shape) (space : Key
     → Starts content config (beginning shape space)
 opened-starts content config shape space (inl new) other graph stands = inl (new.0, new.1, ap graph_of new.2 ∙ new_store_empty (record_at content) shape)
 opened-starts content config shape space (inr (before, redoes, found, suits, is)) other graph stands =
-    let same : graph_of space ≡ graph_of before = ap graph_of is ∙ graph_of-raised shape before in
+    let same : graph_of space ≡ graph_of before = ap graph_of is ∙ graph_of-raised shape before found in
     inr (
       record { space = before; redoes = redoes; store = found-store content shape other before graph redoes found stands; graph_is = same },
       suits,
@@ -122,7 +123,7 @@ left-new content images config allowed unmade left (inr (inr redoes)) =
       inr (record {
         space = made_over content shape;
         redoes = redoes;
-        store = newest-well_formed (made_over content shape) shape (new-well_formed content shape unmade allowed);
+        store = newest-indexed (made_over content shape) shape (new-indexed content shape unmade allowed);
         graph_is = sym (new_store_empty (record_at content) shape);
       }),
     ))
@@ -205,7 +206,7 @@ record BeginsOver {D : Type 0} (g : Ghosts D) (session : SessionView D) (shape :
   live : IsTrue session.console.is_live
   closed : session.console.is_open ≡ false
   no_draft : session.console.draft ≡ []
-  store : g.tells_reads → IsWellFormed space shape
+  store : g.tells_reads → IsIndexed space shape
   committed : session.console.committed ≡ space
   working : session.console.working ≡ space
   names : g.tells_reads → session.console.names ≡ names_of space
@@ -266,7 +267,7 @@ module _ {D : Type 0} {g : Ghosts D} (counts : CountsNow g) (config : Config) (o
   loaded-leaves : LeavesByOpening g config old loaded.base.disk.now
   loaded-leaves = loading-leaves g config old opened.base.disk.now loaded.base.disk.now counts (opening-leaves g config old opened.base.disk.now opens.allowed opens.leaves) reads.disk
 
-  store-of : (known : Bool) → ((as_known known g).tells_reads → StandsForOne (as_known known g) old) → (as_known known g).tells_reads → IsWellFormed (committed opened) opened.base.shape
+  store-of : (known : Bool) → ((as_known known g).tells_reads → StandsForOne (as_known known g) old) → (as_known known g).tells_reads → IsIndexed (committed opened) opened.base.shape
   store-of known stands told = let one = stands told in opened-store (g.reads old) config opened.base.shape (committed opened) opens.allowed (opens.opened (told_of known g told)) one.shape one.graph one.stands
 
   -- The records of a store whose names are damaged stay, but for the version.

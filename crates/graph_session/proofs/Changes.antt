@@ -16,7 +16,7 @@ use Rattle.plain_graph.specs.declared.command.Command.{Command}
 use Rattle.rec_bytes.specs.declared.key.Key.{Key}
 use Rattle.rec_bytes.specs.declared.record.Rec.{Rec}
 use Rattle.store_rules.specs.Graph.{graph_of}
-use Rattle.store_rules.specs.Rules.{IsWellFormed}
+use Rattle.store_rules.specs.Indexes.{IsIndexed}
 use Rattle.graph_session.specs.Answer.{Settles}
 use Rattle.graph_session.specs.Console.{IsAt, SessionView, TellsAll}
 use Rattle.graph_session.specs.Effects.{CommitsAlone, CommitsFrom, FailsDrafted, IsAloneInDoubt, Keeps, Stays}
@@ -71,9 +71,9 @@ leaves-change old new line command change leaves = by (kind_of command) change
     by Change is = leaves
     by Question is = absurd is
 
--- The records are those of a well-formed store, and these are the names of its graph.
+-- The records are those of a store, and these are the names of its graph.
 pub record IsGrown (state : State) (records : Key → Rec) (names : List (List ℕ)) : Type 0 where
-  pub store : IsWellFormed records state.shape
+  pub store : IsIndexed records state.shape
   pub named : names ≡ (graph_of records).names
 
 -- the state in which this transaction is open
@@ -91,10 +91,10 @@ module _ {D : Type 0} {g : Ghosts D} {old : SessionView D} {state : State} (at :
   change-reached = reached state only (inl (not_failed at live)) (λ needs. absurd (change-none command change needs)) (λ needs. absurd (change-one command change needs))
 
 module _ {D : Type 0} {g : Ghosts D} {old : SessionView D} {state : State} (at : IsAt g old state) (live : old.console.health ≡ healths.Live) where
-  alone-one : (now : Key → Rec) → (g.tells_reads → IsWellFormed now state.shape) → g.tells_reads → IsOneOf (changed state (graph_of now)) now
+  alone-one : (now : Key → Rec) → (g.tells_reads → IsIndexed now state.shape) → g.tells_reads → IsOneOf (changed state (graph_of now)) now
   alone-one now store told = own-one (changed state (graph_of now)) now (is_live at live) (store told) refl
 
-  doubt-one : (now : Key → Rec) → (g.tells_reads → IsWellFormed now state.shape) → g.tells_reads → IsOneOf (in_doubt state (graph_of now)) now
+  doubt-one : (now : Key → Rec) → (g.tells_reads → IsIndexed now state.shape) → g.tells_reads → IsOneOf (in_doubt state (graph_of now)) now
   doubt-one now store told = record { store = store told; admits = (1, omega arith, refl) }
 
 module _ {D : Type 0} {g : Ghosts D} {old new : SessionView D} {state : State} (at : IsAt g old state) (live : old.console.health ≡ healths.Live) where

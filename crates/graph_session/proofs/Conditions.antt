@@ -76,7 +76,7 @@ weight-light state command weight one fits other weighs = let same = one other w
 
 -- No reason holds of a line of blanks, and none of another command that neither changes the graph nor names a node of it.
 pub idle_reasons : NoReason change_reasons 0 empty_graph commands.Blank
-idle_reasons = unchanging-free commands.Blank (λ h. h) 0 empty_graph tt
+idle_reasons = unchanging-free commands.Blank (λ h. h) 0 empty_graph tt tt
 
 module _ (state : State) {line : List ℕ} {command : Command} (only : SpellsOnly line command) where
   -- a line that spells a command has no fault of the grammar

@@ -16,7 +16,7 @@ use Rattle.rec_bytes.specs.declared.key.Key.{Key}
 use Rattle.rec_bytes.specs.declared.record.Rec.{Rec}
 use Rattle.rec_bytes.specs.declared.shape.Shape.{Shape}
 use Rattle.store_rules.specs.Graph.{graph_of, names_of}
-use Rattle.store_rules.specs.Rules.{IsWellFormed}
+use Rattle.store_rules.specs.Indexes.{IsIndexed}
 use Rattle.txn_core.specs.Store.{drafted, state_of, working}
 use Rattle.txn_core.proofs.StoreRecords.{committed-beneath, committed-read, drafted-none, working-beneath, working-read}
 use Rattle.graph_ops.specs.Store.{graph_in}
@@ -67,7 +67,7 @@ module _ {D : Type 0} {g : Ghosts D} where
     has-store =
         let none : drafted old.store ≡ working old.store = drafted-none old.store at.no_draft in
         record {
-          store = subst (λ (shape : Shape). IsWellFormed (drafted old.store) shape) at.shape (subst (λ (records : Key → Rec). IsWellFormed records state.shape) (sym none) (held at live told).working);
+          store = subst (λ (shape : Shape). IsIndexed (drafted old.store) shape) at.shape (subst (λ (records : Key → Rec). IsIndexed records state.shape) (sym none) (held at live told).working);
           names = names-working at live told ∙ ap names_of (sym none);
         }
 
@@ -162,8 +162,8 @@ module _ {D : Type 0} {g : Ghosts D} where
           settles-kept at live transaction is spelled change (reply_of made.answer) (made-good command (reply_of made.answer) tells) made.weight (keeps-known known (keeps-kept made.weight kept))
           (λ told. record {
             store =
-                subst (λ (shape : Shape). IsWellFormed (working new.store) shape) (only.base.shape ∙ sym at.shape)
-                (subst (λ (records : Key → Rec). IsWellFormed records mid.store.base.shape) (sym kept.working) (has-draft told).store.store);
+                subst (λ (shape : Shape). IsIndexed (working new.store) shape) (only.base.shape ∙ sym at.shape)
+                (subst (λ (records : Key → Rec). IsIndexed records mid.store.base.shape) (sym kept.working) (has-draft told).store.store);
             named = kept.names ∙ (has-draft told).store.names ∙ ap names_of (sym kept.working);
           })
           (λ told.

@@ -18,7 +18,7 @@ use Rattle.rec_bytes.specs.declared.record.Rec.{Rec}
 use Rattle.rec_bytes.specs.declared.shape.Shape.{Shape}
 use Rattle.record_file.specs.Redone.{Redoes}
 use Rattle.store_rules.specs.Graph.{graph_of}
-use Rattle.store_rules.specs.Rules.{IsWellFormed}
+use Rattle.store_rules.specs.Indexes.{IsIndexed}
 use Rattle.txn_core.specs.Base.{SameBeneath}
 use Rattle.txn_core.specs.Store.{committed, drafted, state_of}
 use Rattle.txn_core.proofs.StoreRecords.{committed-beneath, committed-read, drafted-none, working-none}
@@ -79,8 +79,8 @@ module _ {D : Type 0} {g : Ghosts D} {begun mid : Session D g} (old new : Sessio
     has-begun : HasStore begun
     has-begun = record {
       store =
-          subst (λ (shape : Shape). IsWellFormed (drafted begun.store) shape) (at.shape ∙ sym same.shape)
-          (subst (λ (records : Key → Rec). IsWellFormed records state.shape) (sym drafted-begun) (held at live told).committed);
+          subst (λ (shape : Shape). IsIndexed (drafted begun.store) shape) (at.shape ∙ sym same.shape)
+          (subst (λ (records : Key → Rec). IsIndexed records state.shape) (sym drafted-begun) (held at live told).committed);
       names = names ∙ (held at live told).names ∙ ap (λ (graph : Graph). graph.names) (seen_closed state (is_closed at closed) ∙ sym begun-graph);
     }
 
@@ -241,8 +241,8 @@ module _ {D : Type 0} {g : Ghosts D} {begun mid : Session D g} (old new : Sessio
       draft-told : (as_known known g).tells_reads → HasDraft command begun mid made
       draft-told = alone-draft made known change has spelled at
 
-      alone-store : (as_known known g).tells_reads → IsWellFormed (drafted mid.store) state.shape
-      alone-store told = subst (λ (shape : Shape). IsWellFormed (drafted mid.store) shape) (shape-mid ∙ sym at.shape) (draft-told told).store.store
+      alone-store : (as_known known g).tells_reads → IsIndexed (drafted mid.store) state.shape
+      alone-store told = subst (λ (shape : Shape). IsIndexed (drafted mid.store) shape) (shape-mid ∙ sym at.shape) (draft-told told).store.store
 
       alone-changes : (as_known known g).tells_reads → LineChanges state.shape.limit state.committed command (reply_of made.answer) (graph_of (drafted mid.store))
       alone-changes told =

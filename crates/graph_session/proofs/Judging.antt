@@ -12,6 +12,7 @@ use Rattle.rec_bytes.specs.declared.space.Reads.{Ghosts as SpaceGhosts}
 use Rattle.store_check.specs.Verdicts.{IsLeastBroken}
 use Rattle.store_check.specs.declared.verdict.Verdict.TheVariants as verdicts
 use Rattle.store_rules.specs.Graph.{graph_of}
+use Rattle.store_rules.specs.Indexes.{IsIndexed}
 use Rattle.store_rules.specs.Rules.{IsWellFormed}
 use Rattle.traversal_run.specs.Reading.{IsRead}
 use Rattle.graph_session.specs.Answer.{Gives}
@@ -27,7 +28,7 @@ check-spared (inr (inr e)) = cc
 
 module _ {R K : Type 0} {space : SpaceGhosts R} {sink : SinkGhosts K} (names : List (List ℕ)) {a b : R} (read : IsRead space a b) {mark : List ℕ} {before after : K} {turn : Turn} where
   -- the records keep the rules
-  pub gives-sound : (space.tells → IsWellFormed (space.state a).records (space.state a).shape) → Gives sink (marked_text mark (Told [] sound_text)) before after turn → GivesReading space sink names commands.Check mark a b before after turn
+  pub gives-sound : (space.tells → IsIndexed (space.state a).records (space.state a).shape) → Gives sink (marked_text mark (Told [] sound_text)) before after turn → GivesReading space sink names commands.Check mark a b before after turn
   gives-sound keeps gives = record {
     reply = Told [] sound_text;
     form = (one_line sound_text, inl refl, refl, refl);
@@ -41,13 +42,13 @@ module _ {R K : Type 0} {space : SpaceGhosts R} {sink : SinkGhosts K} (names : L
 
   -- a rule is broken, so it is no store that stands for a graph
   pub gives-broken : (damage : Damage) → (space.tells → IsLeastBroken (space.state a).records (space.state a).shape 1 damage)
-      → (space.tells → IsWellFormed (space.state a).records (space.state a).shape → verdicts.Broken damage ≡ verdicts.Sound)
+      → (space.tells → IsIndexed (space.state a).records (space.state a).shape → verdicts.Broken damage ≡ verdicts.Sound)
       → Gives sink (marked_text mark (Told [] (broken_text damage.file damage.id damage.rule))) before after turn → GivesReading space sink names commands.Check mark a b before after turn
   gives-broken damage least breaks gives = record {
     reply = Told [] (broken_text damage.file damage.id damage.rule);
     form = (one_line (broken_text damage.file damage.id damage.rule), inr (damage.file, damage.id, damage.rule, refl), refl, refl);
     gives = gives;
-    means = λ told store. absurd (let same = breaks told store.store in cc);
+    means = λ told store. absurd (let same = breaks told (record { store = store.named.store; indexes = store.indexes }) in cc);
     verdict = λ told is. (refl, inr (damage, refl, least told));
     told = λ blames. absurd (blames refl);
     read = read;
@@ -87,7 +88,7 @@ gives-counts names read counts are gives = record {
   reply = Told [] (counts_text counts);
   form = (one_line (counts_text counts), (counts, refl), refl, refl);
   gives = gives;
-  means = λ told store. ((λ limit. idle_reasons), (one_line (counts_text counts), ap (λ (c : Counts). one_line (counts_text c)) (are store.store), refl, refl, refl));
+  means = λ told store. ((λ limit. idle_reasons), (one_line (counts_text counts), ap (λ (c : Counts). one_line (counts_text c)) (are store.named.store), refl, refl, refl));
   verdict = λ told is. cc;
   told = λ blames. absurd (blames refl);
   read = read;

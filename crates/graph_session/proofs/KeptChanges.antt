@@ -13,7 +13,7 @@ use Rattle.rec_bytes.specs.declared.key.Key.{Key}
 use Rattle.rec_bytes.specs.declared.record.Rec.{Rec}
 use Rattle.rec_bytes.specs.declared.shape.Shape.{Shape}
 use Rattle.store_rules.specs.Graph.{graph_of, names_of}
-use Rattle.store_rules.specs.Rules.{IsWellFormed}
+use Rattle.store_rules.specs.Indexes.{IsIndexed}
 use Rattle.snap_store.specs.Keeping.{KeepsHeld}
 use Rattle.snap_store.specs.Snaps.{Snapshots}
 use Rattle.txn_core.specs.Base.{SameBeneath}
@@ -72,6 +72,7 @@ made-confirmed (commands.Edge from label to pairs) reply tells = subst Confirms 
 made-confirmed (commands.Set target key value) reply tells = subst Confirms (sym tells) tt
 made-confirmed (commands.Unset target key) reply tells = subst Confirms (sym tells) tt
 made-confirmed (commands.Delete target) reply tells = subst Confirms (sym tells) tt
+made-confirmed (commands.Index label key) reply tells = subst Confirms (sym tells) tt
 made-confirmed (commands.Mutate reading mutation) reply tells = subst Confirms (sym tells.1) tt
 made-confirmed _ reply tells = absurd tells
 
@@ -121,12 +122,12 @@ module _ {D : Type 0} {g : Ghosts D} {command : Command} (change : IsChange comm
   module _ {begun mid : Session D g} (old new : Session D g) (live : old.health ≡ healths.Live) (closed : old.store.base.in_transaction ≡ false) (idle : length old.store.base.own.pairs ≡ 0)
       (same : SameBeneath old.store.base begun.store.base) (own : begun.store.base.own.pairs ≡ []) (draft : begun.store.draft.pairs ≡ []) (names : begun.names.names ≡ old.names.names) (health : begun.health ≡ old.health)
       (snaps : begun.snaps ≡ old.snaps) (only : OnlyDrafts begun mid) where
-    weighs-alone : (made : Drafted) → start_weight + made.weight ≤ most_weight → Drafts command begun mid (Ok made) → g.tells_reads → IsWellFormed (committed old.store) old.store.base.shape
+    weighs-alone : (made : Drafted) → start_weight + made.weight ≤ most_weight → Drafts command begun mid (Ok made) → g.tells_reads → IsIndexed (committed old.store) old.store.base.shape
         → old.names.names ≡ names_of (committed old.store) → LineWeighs old.store.base.shape.limit old.store.base.shape.threshold (graph_of (committed old.store)) command made.weight
     weighs-alone made light drafts told store named =
         let is = drafted-begun old new live closed idle same own draft names health only in
         let has : HasStore begun = record {
-          store = subst (λ (shape : Shape). IsWellFormed (drafted begun.store) shape) (sym same.shape) (subst (λ (records : Key → Rec). IsWellFormed records old.store.base.shape) (sym is) store);
+          store = subst (λ (shape : Shape). IsIndexed (drafted begun.store) shape) (sym same.shape) (subst (λ (records : Key → Rec). IsIndexed records old.store.base.shape) (sym is) store);
           names = names ∙ named ∙ ap names_of (sym is);
         } in
         let made_line = drafts.1 told has in

@@ -1,6 +1,7 @@
 pub mod Answering
 pub mod Anyhow
 pub mod Asking
+pub mod AskedIndexes
 pub mod AtOnce
 pub mod Beginnings
 pub mod ChangeEnds
@@ -14,7 +15,9 @@ pub mod Expansion
 pub mod FailedReads
 pub mod Finishing
 pub mod FinishingAlone
+pub mod FoundNodes
 pub mod Held
+pub mod IndexQuestions
 pub mod Judging
 pub mod Knowing
 pub mod KeptChanges
@@ -22,6 +25,7 @@ pub mod Known
 pub mod LineMoves
 pub mod Lifting
 pub mod LineDrafts
+pub mod ListedIndexes
 pub mod ListedLines
 pub mod Moves
 pub mod NodeQuestions

@@ -72,6 +72,9 @@ pub change-refused : (limit : ℕ) (graph : Graph) (command : Command) (fault : 
 change-refused limit graph command (faults.NoNode id) why = change_first limit graph command (refusals.NoNode id) why
 change-refused limit graph command (faults.NoEdge id) why = change_first limit graph command (refusals.NoEdge id) why
 change-refused limit graph command (faults.HasRelationships id degree) why = change_first limit graph command (refusals.HasRelationships id) why
+change-refused limit graph command faults.IndexThere why = change_first limit graph command refusals.IndexThere why
+change-refused limit graph command faults.TooManyIndexes why = change_first limit graph command refusals.TooManyIndexes why
+change-refused limit graph command (faults.IndexTooLarge count) why = change_first limit graph command (refusals.IndexTooLarge count) why
 change-refused limit graph command (faults.Full file live) why = change_first limit graph command (full_of file) why
 change-refused limit graph command (faults.NamesFull count) why = change_first limit graph command refusals.FullNames why
 change-refused limit graph command (faults.PropsFull count) why = change_first limit graph command refusals.TooManyProperties why
@@ -114,6 +117,9 @@ module _ (old mid : Space) (same : SameButReads old mid) where
         by (faults.NoNode id) why = first (refusals.NoNode id) why
         by (faults.NoEdge id) why = first (refusals.NoEdge id) why
         by (faults.HasRelationships id degree) why = first (refusals.HasRelationships id) why
+        by faults.IndexThere why = first refusals.IndexThere why
+        by faults.TooManyIndexes why = first refusals.TooManyIndexes why
+        by (faults.IndexTooLarge count) why = first (refusals.IndexTooLarge count) why
         by (faults.Full file live) why = first (full_of file) why
         by (faults.NamesFull count) why = first refusals.FullNames why
         by (faults.PropsFull count) why = first refusals.TooManyProperties why
@@ -160,6 +166,9 @@ module _ {D : Type 0} {g : Ghosts D} (command : Command) (old : Session D g) (no
       by (faults.NoNode id) why rose = why
       by (faults.NoEdge id) why rose = why
       by (faults.HasRelationships id degree) why rose = why
+      by faults.IndexThere why rose = why
+      by faults.TooManyIndexes why rose = why
+      by (faults.IndexTooLarge count) why rose = why
       by (faults.Full file live) why rose = why
       by (faults.NamesFull count) why rose = why
       by (faults.PropsFull count) why rose = why

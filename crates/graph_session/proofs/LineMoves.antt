@@ -39,6 +39,7 @@ made-confirms (commands.Edge from label to pairs) reply tells = subst Confirms (
 made-confirms (commands.Set target key value) reply tells = subst Confirms (sym tells) tt
 made-confirms (commands.Unset target key) reply tells = subst Confirms (sym tells) tt
 made-confirms (commands.Delete target) reply tells = subst Confirms (sym tells) tt
+made-confirms (commands.Index label key) reply tells = subst Confirms (sym tells) tt
 made-confirms (commands.Mutate reading mutation) reply tells = subst Confirms (sym tells.1) tt
 made-confirms _ reply tells = absurd tells
 

@@ -23,11 +23,11 @@ use Rattle.traversal_run.specs.Reading.{IsNamedStore, IsRead}
 use Rattle.graph_session.specs.Answer.{Gives}
 use Rattle.graph_session.specs.Answering.{reply_of}
 use Rattle.graph_session.specs.EdgeResults.{answer_for}
-use Rattle.graph_session.specs.MayStep.{IsRefusable}
+use Rattle.graph_session.specs.MayStep.{IsRefusable, LacksAsked}
 use Rattle.graph_session.specs.Questions.{GivesReading}
 use Rattle.graph_session.specs.State.{AreSpared, IsSpared}
 use Rattle.graph_session.specs.declared.turn.Turn.{Turn}
-use Rattle.graph_session.proofs.Reasons.{AsksSome, HasNodes, LacksNode, empty-lacks, unchanging-free, unchanging-refused}
+use Rattle.graph_session.proofs.Reasons.{AsksSome, HasNodes, LacksNode, asks-no_index, empty-lacks, unchanging-free, unchanging-refused}
 use Rattle.graph_session.proofs.Spelling.{asks-unchanging}
 
 -- A line that asks of nodes: it reads, and some answer has its form.
@@ -36,6 +36,11 @@ pub record AsksNodes (command : Command) : Type 0 where
   pub some : AsksSome (nodes_of command)
   pub reading : Reading
   pub formed : IsFormed command reading
+
+-- it may be refused for a node that is missing
+asks-lacked : (command : Command) → AsksSome (nodes_of command) → (id : ℕ) → LacksAsked command (refusals.NoNode id)
+asks-lacked (commands.Find label key value) some id = absurd some
+asks-lacked command some id = (id, refl)
 
 -- lines of this kind may lack memory, but for one that asks of no node
 reads-lacks : (kind : Kind) → AreQuestions kind → ¬ AreSpared kind
@@ -91,7 +96,7 @@ module _ {R K : Type 0} {space : SpaceGhosts R} {sink : SinkGhosts K} {names : L
     reply = Told reading.lines reading.last;
     form = (reading, formed, refl, refl);
     gives = gives;
-    means = λ told store. ((λ limit. unchanging-free command (asks-idle asks) limit (graph_of (space.state a).records) (has told store)), (reading, shows told store, none, refl, refl));
+    means = λ told store. ((λ limit. unchanging-free command (asks-idle asks) limit (graph_of (space.state a).records) (has told store.named) (asks-no_index command asks.some (graph_of (space.state a).records))), (reading, shows told store.named, none, refl, refl));
     verdict = λ told is. absurd (asks-unchecked asks is);
     told = λ blames. absurd (blames refl);
     read = read;
@@ -105,9 +110,9 @@ module _ {R K : Type 0} {space : SpaceGhosts R} {sink : SinkGhosts K} {names : L
       → Gives sink (marked_text mark (reply_of (answer_for fault))) before after turn → GivesReading space sink names command mark a b before after turn
   gives-unknown (faults.NoNode id) rose missing sound gives = record {
     reply = Refused (refusals.NoNode id);
-    form = (asks-refusable asks, id, refl);
+    form = (asks-refusable asks, asks-lacked command asks.some id);
     gives = gives;
-    means = λ told store limit. unchanging-refused command (asks-idle asks) limit (graph_of (space.state a).records) id (missing told store id refl);
+    means = λ told store limit. unchanging-refused command (asks-idle asks) limit (graph_of (space.state a).records) id (missing told store.named id refl);
     verdict = λ told is. absurd (asks-unchecked asks is);
     told = λ blames. absurd (blames refl);
     read = read;
@@ -137,7 +142,7 @@ module _ {R K : Type 0} {space : SpaceGhosts R} {sink : SinkGhosts K} {names : L
     reply = Faulted [] (DamagedRecord damage.file damage.id);
     form = (asks-unspared asks, asks.reading, asks.formed, asks-unchecked asks, (asks.reading.lines, refl));
     gives = gives;
-    means = λ told store. sound told store damage refl;
+    means = λ told store. sound told store.named damage refl;
     verdict = λ told is. absurd (asks-unchecked asks is);
     told = λ blames. absurd (blames refl);
     read = read;

@@ -19,7 +19,7 @@ use Rattle.graph_session.specs.Stands.{IsAdmitted, IsMade, Stands}
 use Rattle.graph_session.specs.State.{Admits, Live, State}
 use Rattle.graph_session.proofs.Stands.{Redoes-only, admits-own, stands-recoverable, unmade-not_made}
 use Rattle.graph_session.proofs.States.{same_one}
-use Rattle.graph_session.proofs.Versions.{graph_of-raised, newest-well_formed}
+use Rattle.graph_session.proofs.Versions.{graph_of-raised, newest-indexed}
 
 -- what redoes to the records of a made store, as they were or in the newest version, stands for its graph
 pub redone-made : (content left : Files) (shape : Shape) (graph : Graph) (space : Key → Rec) → IsMade content shape graph → Redoes content space → IsOldOrRaised shape space left → IsMade left shape graph
@@ -32,8 +32,8 @@ redone-made content left shape graph space made redoes (inl same) = record {
 redone-made content left shape graph space made redoes (inr newest) = record {
   space = raised shape made.space;
   redoes = subst (λ (records : Key → Rec). Redoes left (raised shape records)) (Redoes-only content space made.space redoes made.redoes) newest;
-  store = newest-well_formed (raised shape made.space) shape made.store.store;
-  graph_is = made.graph_is ∙ sym (graph_of-raised shape made.space);
+  store = newest-indexed (raised shape made.space) shape made.store.store;
+  graph_is = made.graph_is ∙ sym (graph_of-raised shape made.space made.store.made);
 }
 
 -- a content has a store of one shape

@@ -319,8 +319,8 @@ module _ {D : Type 0} {g : Ghosts D} {view : SharedView D} {state : SharedState}
   serves-none served about = none-both reader_early (of_snapshots change_reasons) state reader line (serves-early served) (unreasoned state reader only change_reasons (free about))
     where
       free : (command ≡ commands.Snapshot) ⊎ (command ≡ commands.Release) → (graph : Graph) → NoReason change_reasons state.writer.shape.limit graph command
-      free (inl is) graph = subst (NoReason change_reasons state.writer.shape.limit graph) (sym is) (unchanging-free commands.Snapshot (λ h. h) state.writer.shape.limit graph tt)
-      free (inr is) graph = subst (NoReason change_reasons state.writer.shape.limit graph) (sym is) (unchanging-free commands.Release (λ h. h) state.writer.shape.limit graph tt)
+      free (inl is) graph = subst (NoReason change_reasons state.writer.shape.limit graph) (sym is) (unchanging-free commands.Snapshot (λ h. h) state.writer.shape.limit graph tt tt)
+      free (inr is) graph = subst (NoReason change_reasons state.writer.shape.limit graph) (sym is) (unchanging-free commands.Release (λ h. h) state.writer.shape.limit graph tt tt)
 
   -- a reason of the snapshot's graph refuses a command that is served
   pub serves-refused : ServesReader reader view command → (graph : Graph) → Sees state.readers reader graph → (why : Refusal) → FirstReason change_reasons state.writer.shape.limit graph command why

@@ -17,7 +17,7 @@ use Rattle.rec_bytes.specs.declared.record.Rec.{Rec}
 use Rattle.rec_bytes.specs.declared.shape.Shape.{Shape}
 use Rattle.record_file.specs.Records.{IsUnmade}
 use Rattle.store_rules.specs.Graph.{graph_of}
-use Rattle.store_rules.specs.Rules.{IsWellFormed}
+use Rattle.store_rules.specs.Indexes.{IsIndexed}
 use Rattle.txn_core.specs.Config.{shape_of}
 use Rattle.txn_core.specs.Opening as store
 use Rattle.txn_core.specs.declared.config.Config.{Config}
@@ -69,9 +69,9 @@ module _ (bytes : List ℕ) where
   long : (sent : List (List ℕ)) → length (sent ++ bytes ∷ []) ≡ length sent + 1
   long sent = length-append sent (bytes ∷ [])
 
-  -- it is the next, and after it the records are well-formed
+  -- it is the next, and after it the records keep all rules
   sent_more : (shape : Shape) (sent : List (List ℕ)) → IsSent shape sent → length sent + 1 < 2 ^ 64 → IsShipment shape bytes → number_of bytes ≡ length sent + 1
-      → IsWellFormed (sender_records shape (sent ++ bytes ∷ []) (length sent + 1)) shape → IsSent shape (sent ++ bytes ∷ [])
+      → IsIndexed (sender_records shape (sent ++ bytes ∷ []) (length sent + 1)) shape → IsSent shape (sent ++ bytes ∷ [])
   sent_more shape sent is few shipment number well = record {
     few = let all = long sent in omega (arith, all, few);
     each = λ i found got. ⊎_elim
@@ -82,8 +82,8 @@ module _ (bytes : List ℕ) where
         ))
         (got_more sent i found got);
     stored = λ j le. ⊎_elim
-        (λ (before : j ≤ length sent). subst (λ (records : Key → Rec). IsWellFormed records shape) (sym (records_before shape sent j before)) (is.stored j before))
-        (λ (last : j ≡ length sent + 1). subst (λ (n : ℕ). IsWellFormed (sender_records shape (sent ++ bytes ∷ []) n) shape) (sym last) well)
+        (λ (before : j ≤ length sent). subst (λ (records : Key → Rec). IsIndexed records shape) (sym (records_before shape sent j before)) (is.stored j before))
+        (λ (last : j ≡ length sent + 1). subst (λ (n : ℕ). IsIndexed (sender_records shape (sent ++ bytes ∷ []) n) shape) (sym last) well)
         (let all = long sent in up_to j (length sent) (omega (arith, all, le)));
   }
     where
@@ -93,11 +93,11 @@ module _ (bytes : List ℕ) where
 -- ---- a new store
 
 -- nothing was sent
-none_sent : (shape : Shape) → IsWellFormed (new_records shape) shape → IsSent shape []
+none_sent : (shape : Shape) → IsIndexed (new_records shape) shape → IsSent shape []
 none_sent shape well = record {
   few = omega arith;
   each = λ i bytes got. absurd cc;
-  stored = λ j le. let none : j ≡ 0 = omega (arith, le) in subst (λ (n : ℕ). IsWellFormed (sender_records shape [] n) shape) (sym none) well;
+  stored = λ j le. let none : j ≡ 0 = omega (arith, le) in subst (λ (n : ℕ). IsIndexed (sender_records shape [] n) shape) (sym none) well;
 }
 
 state_is : (state : State) (shape : Shape) (graph : Graph) → state.shape ≡ shape → state.committed ≡ graph → state.open_one ≡ None → state.standing ≡ Live → state ≡ record { shape = shape; committed = graph; open_one = None; standing = Live }
@@ -136,7 +136,7 @@ module _ {D : Type 0} (g : DiskGhosts D) (told : g.tells_reads) (config : Config
         is_at = at-new;
         shape_is = refl;
         allowed = allowed;
-        well = none_sent (shape_of config) (subst (λ (records : Key → Rec). IsWellFormed records (shape_of config)) committed-new holds.committed);
+        well = none_sent (shape_of config) (subst (λ (records : Key → Rec). IsIndexed records (shape_of config)) committed-new holds.committed);
         committed = λ live. committed-new;
         graph = λ live. sym holds.committed_graph ∙ ap graph_of committed-new;
       }
@@ -215,10 +215,10 @@ module _ {D : Type 0} (g : DiskGhosts D) (told : g.tells_reads) (shape : Shape) 
       ∙ ap (laid_over (sender_records shape sent (length sent))) (sym (writes-back shape (length sent + 1) tap was.allowed small are))
       ∙ sym (records_after bytes shape sent) in
       let live : after.writer.standing ≡ Live = standing-live after.writer.standing (sym at-after.writer.health ∙ moves.live acknowledges.1 was_live) in
-      let well : IsWellFormed new.session.console.committed shape = subst (IsWellFormed new.session.console.committed) (at-after.writer.shape ∙ moves.shape ∙ shape-old) (at-after.writer.holds told live).committed in
+      let well : IsIndexed new.session.console.committed shape = subst (IsIndexed new.session.console.committed) (at-after.writer.shape ∙ moves.shape ∙ shape-old) (at-after.writer.holds told live).committed in
       has-sent (sent ++ bytes ∷ [])
       (sent_more bytes shape sent was.well small (shipment-back shape (length sent + 1) tap was.allowed small are) (number-back shape (length sent + 1) tap was.allowed small are)
-      (subst (λ (space : Key → Rec). IsWellFormed space shape) records well))
+      (subst (λ (space : Key → Rec). IsIndexed space shape) records well))
       (λ still. records ∙ ap (sender_records shape (sent ++ bytes ∷ [])) (sym (long bytes sent)))
 
   pub goes_on-sent : (later : List (List ℕ)) → Sends line old reply new tap shape sent later → HasSent g shape later new after

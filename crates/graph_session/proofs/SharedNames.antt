@@ -35,6 +35,7 @@ changes-begins limit old (commands.Set target key value) reply new (is, sets) = 
 changes-begins limit old (commands.Unset target key) reply new (is, unsets) = begin-all new.names old.names unsets.names
 changes-begins limit old (commands.Delete (targets.Node id)) reply new (is, removes) = begin-all new.names old.names removes.names
 changes-begins limit old (commands.Delete (targets.Edge id)) reply new (is, removes) = begin-all new.names old.names removes.names
+changes-begins limit old (commands.Index label key) reply new (is, adds) = uses_prefix old.names (label ∷ key ∷ []) new.names adds.names
 changes-begins limit old command reply new never = absurd never
 
 -- and so do changes one after the other

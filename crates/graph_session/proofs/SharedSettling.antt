@@ -15,7 +15,7 @@ use Rattle.rec_bytes.specs.declared.record.Rec.{Rec}
 use Rattle.record_file.specs.Redone.{Redoes}
 use Rattle.rec_bytes.specs.declared.shape.Shape.{Shape}
 use Rattle.store_rules.specs.Graph.{graph_of, names_of}
-use Rattle.store_rules.specs.Rules.{IsWellFormed}
+use Rattle.store_rules.specs.Indexes.{IsIndexed}
 use Rattle.graph_session.specs.Answer.{Settles}
 use Rattle.graph_session.specs.Console.{BeginWith}
 use Rattle.graph_session.specs.Known.{as_known}
@@ -43,6 +43,7 @@ weighs-kind limit threshold graph (commands.Edge from label to pairs) weight wei
 weighs-kind limit threshold graph (commands.Set target key value) weight weighs = refl
 weighs-kind limit threshold graph (commands.Unset target key) weight weighs = refl
 weighs-kind limit threshold graph (commands.Delete target) weight weighs = refl
+weighs-kind limit threshold graph (commands.Index label key) weight weighs = refl
 weighs-kind limit threshold graph (commands.Mutate reading mutation) weight weighs = refl
 weighs-kind limit threshold graph command weight never = absurd never
 
@@ -177,12 +178,12 @@ module _ {D : Type 0} {g : Ghosts D} (known : Bool) {line : List ℕ} {command :
       settled-kept live (start_weight + more) kept (λ told. inr (is_closed at.writer closed, command, only.spelled, more, weighed-so told live closed more (weighs (told_of known g told)), refl))
     where
       weighed-so : (told : (as_known known g).tells_reads) → old.session.console.health ≡ healths.Live → old.session.console.is_open ≡ false → (more : ℕ)
-          → (IsWellFormed old.session.console.committed old.session.console.shape → old.session.console.names ≡ names_of old.session.console.committed
+          → (IsIndexed old.session.console.committed old.session.console.shape → old.session.console.names ≡ names_of old.session.console.committed
           → LineWeighs old.session.console.shape.limit old.session.console.shape.threshold (graph_of old.session.console.committed) command more)
           → LineWeighs state.writer.shape.limit state.writer.shape.threshold state.writer.committed command more
       weighed-so told live closed more weighs =
           let had = held at.writer live told in
-          let there = weighs (subst (λ (shape : Shape). IsWellFormed old.session.console.committed shape) at.writer.shape had.committed)
+          let there = weighs (subst (λ (shape : Shape). IsIndexed old.session.console.committed shape) at.writer.shape had.committed)
           (had.names ∙ ap (λ (graph : Graph). graph.names) (seen_closed state.writer (is_closed at.writer closed) ∙ sym had.committed_graph)) in
           subst (λ (shape : Shape). LineWeighs shape.limit shape.threshold state.writer.committed command more) (sym at.writer.shape)
           (subst (λ (graph : Graph). LineWeighs old.session.console.shape.limit old.session.console.shape.threshold graph command more) had.committed_graph there)

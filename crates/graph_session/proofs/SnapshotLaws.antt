@@ -9,7 +9,7 @@ use Rattle.rec_bytes.specs.declared.record.Rec.{Rec}
 use Rattle.rec_bytes.specs.declared.shape.Shape.{Shape}
 use Rattle.record_file.specs.Redone.{Redoes}
 use Rattle.store_rules.specs.Graph.{graph_of}
-use Rattle.store_rules.specs.Rules.{IsWellFormed}
+use Rattle.store_rules.specs.Indexes.{IsIndexed}
 use Rattle.snap_store.specs.Keeping.{KeepsHeld}
 use Rattle.snap_store.specs.Layers.{Layers, is_open, readers_of, sees}
 use Rattle.snap_store.specs.Snaps.{Snapshots, with_room}
@@ -32,7 +32,7 @@ begin-on a b c (more, is) (less, was) = (less ++ more, is ∙ ap (λ xs. xs ++ m
 pub shows-on : (before after : Layers) (old new : Shape) (earlier later : Key → Rec) (snapshot : Snapshot) → new ≡ old
     → sees after snapshot.reader later ≡ sees before snapshot.reader earlier → ShowsGraph before old earlier snapshot → ShowsGraph after new later snapshot
 shows-on before after old new earlier later snapshot shape sight shows = record {
-  store = subst (λ (records : Key → Rec). IsWellFormed records new) (sym sight) (subst (IsWellFormed (sees before snapshot.reader earlier)) (sym shape) shows.store);
+  store = subst (λ (records : Key → Rec). IsIndexed records new) (sym sight) (subst (IsIndexed (sees before snapshot.reader earlier)) (sym shape) shows.store);
   graph = ap graph_of sight ∙ shows.graph;
 }
 

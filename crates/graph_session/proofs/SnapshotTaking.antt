@@ -10,7 +10,7 @@ use Rattle.rec_bytes.specs.declared.key.Key.{Key}
 use Rattle.rec_bytes.specs.declared.record.Rec.{Rec}
 use Rattle.record_file.specs.Redone.{Redoes}
 use Rattle.store_rules.specs.Graph.{graph_of}
-use Rattle.store_rules.specs.Rules.{IsWellFormed}
+use Rattle.store_rules.specs.Indexes.{IsIndexed}
 use Rattle.snap_store.specs.Layers.{AreDistinct, Layer, Layers, SameSights, is_open, joined, readers_of, released, released_behind, sees, total}
 use Rattle.snap_store.specs.Snaps.{Snapshots, no_snapshots, taken}
 use Rattle.snap_store.specs.Sums.{AreCovered}
@@ -152,7 +152,7 @@ module _ {D : Type 0} (g : Ghosts D) (held : Snapshots) (disk : D) (state : Shar
         let found = stored told in
         let same : committed ≡ found.2.space = Redoes-only (g.reads disk) committed found.2.space redoes found.2.redoes in
         record {
-          store = subst (λ (records : Key → Rec). IsWellFormed records state.writer.shape) (sym (own committed ∙ same)) found.2.store;
+          store = subst (λ (records : Key → Rec). IsIndexed records state.writer.shape) (sym (own committed ∙ same)) found.2.store;
           graph = ap graph_of (own committed ∙ same) ∙ sym found.2.graph_is ∙ admits-only state.writer found.0 live found.1;
         }
 

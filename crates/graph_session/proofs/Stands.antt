@@ -17,11 +17,11 @@ use Rattle.record_file.specs.Unique.{entries_unique}
 use Rattle.recovery.specs.Finding as finding
 use Rattle.recovery.specs.Finding.{IsRecoverable}
 use Rattle.store_rules.specs.Graph.{graph_of}
-use Rattle.store_rules.specs.Rules.{IsWellFormed}
+use Rattle.store_rules.specs.Indexes.{IsIndexed}
 use Rattle.follower.specs.Sent.{IsServed}
 use Rattle.graph_session.specs.Stands.{AreAdmitted, HoldsAdmitted, IsAdmitted, IsAdmittedByEither, IsMade, Stands}
 use Rattle.graph_session.specs.State.{Admits, Live, Standing, State, graphs_from}
-use Rattle.graph_session.proofs.Versions.{newest-well_formed}
+use Rattle.graph_session.proofs.Versions.{newest-indexed}
 
 -- a content redoes to one space
 pub Redoes-only : (content : Files) (a b : Key → Rec) → Redoes content a → Redoes content b → a ≡ b
@@ -72,13 +72,13 @@ pub served-made : (content : Files) (shape : Shape) (graph : Graph) → IsServed
 served-made content shape graph served = record {
   space = served.space;
   redoes = served.redoes;
-  store = newest-well_formed served.space shape served.store;
+  store = newest-indexed served.space shape served.store;
   graph_is = served.graph_is;
 }
 
--- the records are those of a well-formed store, and the state admits their graph
+-- the records are those of a store, and the state admits their graph
 pub record IsOneOf (state : State) (space : Key → Rec) : Type 0 where
-  pub store : IsWellFormed space state.shape
+  pub store : IsIndexed space state.shape
   pub admits : Admits state (graph_of space)
 
 -- a content that holds an admitted graph stands for it
@@ -123,5 +123,5 @@ admits-only state graph live admits = only (subst (λ (standing : Standing). Con
         sym (subst (λ (k : ℕ). slice_index_or (state.committed ∷ []) k graph ≡ graph) first h.2)
 
 -- the records of a live console's graph
-pub own-one : (state : State) (space : Key → Rec) → state.standing ≡ Live → IsWellFormed space state.shape → graph_of space ≡ state.committed → IsOneOf state space
+pub own-one : (state : State) (space : Key → Rec) → state.standing ≡ Live → IsIndexed space state.shape → graph_of space ≡ state.committed → IsOneOf state space
 own-one state space live store same = record { store = store; admits = subst (λ (graph : Graph). Admits state graph) (sym same) (admits-own state live) }

@@ -14,7 +14,7 @@ use Rattle.rec_bytes.specs.declared.key.Key.{Key}
 use Rattle.rec_bytes.specs.declared.record.Rec.{Rec}
 use Rattle.record_file.specs.Redone.{Redoes}
 use Rattle.store_rules.specs.Graph.{graph_of, names_of}
-use Rattle.store_rules.specs.Rules.{IsWellFormed}
+use Rattle.store_rules.specs.Indexes.{IsIndexed}
 use Rattle.graph_session.specs.Answer.{Settles}
 use Rattle.graph_session.specs.Console.{IsAt, SessionView, TellsAll}
 use Rattle.graph_session.specs.Effects.{IsBrought, IsFound, IsLost, IsStopped, LeavesCommitted, LeavesSame}
@@ -187,7 +187,7 @@ module _ {D : Type 0} {g : Ghosts D} {old new : SessionView D} {state : State} (
   found-same : (told : g.tells_reads) → new.console.committed ≡ (at.reads told).2.space
   found-same told = is.committed told (at.reads told).2.space (at.reads told).2.redoes
 
-  found-store : (told : g.tells_reads) → IsWellFormed new.console.committed state.shape
+  found-store : (told : g.tells_reads) → IsIndexed new.console.committed state.shape
   found-store told = rw (found-same told) (at.reads told).2.store
 
   found-one : g.tells_reads → IsOneOf after_found new.console.committed

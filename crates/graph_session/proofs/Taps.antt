@@ -1,5 +1,5 @@
 -- What a line leaves in the set that takes the records of its transaction.
-use Rattle.std.proofs.Common.{◌≡◌, ◌≢◌, ◌∙◌, Bool, true, false, Option, None, Some, List, ℕ, [], ◌∷◌, Ok, Err, Result, inl, inr, refl, sym, ap, subst, true≢false}
+use Rattle.std.proofs.Common.{◌≡◌, ◌≢◌, ◌∙◌, Bool, true, Option, None, Some, List, ℕ, [], ◌∷◌, Ok, Err, Result, inl, inr, refl, sym, ap, subst, true≢false}
 use Rattle.disk_model.specs.declared.disk.Disk.{Ghosts as DiskGhosts}
 use Rattle.stream_io.specs.Lines.{InputLine, Whole}
 use Rattle.stream_io.specs.declared.streams.Sink.{Ghosts as SinkGhosts}

@@ -1,53 +1,73 @@
 -- Stores of every version, and the same stores in the newest one.
-use Rattle.std.proofs.Common.{◌≡◌, ℕ, zero, suc, ◌<◌, Bool, true, false, cond, nat_lt, refl, sym, subst, arith}
+use Rattle.std.proofs.Common.{◌≡◌, ◌∙◌, ℕ, zero, suc, ◌<◌, Bool, true, false, cond, nat_lt, refl, sym, ap, subst, arith}
+use Rattle.std.proofs.lemmas.Bool.Decides.{nat_tests}
+use Rattle.plain_graph.specs.Graph.{Graph}
 use Rattle.rec_bytes.specs.Creation.{own_key, raised, raising_pairs}
-use Rattle.rec_bytes.specs.Format.{meta_records, newest_version}
+use Rattle.rec_bytes.specs.Format.{index_file, meta_high, meta_records, names_file, newest_version}
+use Rattle.rec_bytes.specs.Record.{field, zeros}
+use Rattle.rec_bytes.specs.RecordFiles.{meta_key_of}
 use Rattle.rec_bytes.specs.Shape.{version_of}
 use Rattle.rec_bytes.specs.Space.{laid_over}
 use Rattle.rec_bytes.specs.declared.key.Key.{Key}
+use Rattle.rec_bytes.specs.declared.meta.Meta.{Meta}
 use Rattle.rec_bytes.specs.declared.record.Rec.{Rec}
 use Rattle.rec_bytes.specs.declared.shape.Shape.{Shape}
+use Rattle.rec_bytes.proofs.CreationPairs.{first_meta-says}
 use Rattle.recovery.specs.Finding as finding
-use Rattle.store_rules.specs.Graph.{graph_of}
-use Rattle.store_rules.specs.Rules.{IsWellFormed}
+use Rattle.store_rules.specs.Graph.{graph_of, indexes_from}
+use Rattle.store_rules.specs.Indexes.{IsIndexed}
+use Rattle.store_rules.specs.Views.{high, kind_in, rec_at}
 use Rattle.txn_core.specs.Again.{IsOld}
 use Rattle.txn_core.proofs.Raising.{raised_newest}
-use Rattle.graph_session.specs.Versions.{IsWellFormedIn}
+use Rattle.graph_session.specs.Versions.{IsIndexedIn}
 
-module _ (space : Key → Rec) (shape : Shape) (store : IsWellFormed space shape) where
-  -- the records of a well-formed store say the newest version
+module _ (space : Key → Rec) (shape : Shape) (store : IsIndexed space shape) where
+  -- the records of a store say the newest version
   pub newest-not_old : ¬ IsOld space
-  newest-not_old old = let newest : version_of (space own_key) ≡ newest_version = store.ranges.newest in omega (arith, old, newest)
+  newest-not_old old = let newest : version_of (space own_key) ≡ newest_version = store.store.ranges.newest in omega (arith, old, newest)
 
   metas-right : (id : ℕ) → id < meta_records → finding.HasMetaRight space shape id
   metas-right zero low = tt
-  metas-right (suc zero) low = store.ranges.metas 1 refl
-  metas-right (suc (suc zero)) low = store.ranges.metas 2 refl
-  metas-right (suc (suc (suc zero))) low = store.ranges.metas 3 refl
-  metas-right (suc (suc (suc (suc zero)))) low = store.ranges.metas 4 refl
-  metas-right (suc (suc (suc (suc (suc zero))))) low = store.ranges.metas 5 refl
-  metas-right (suc (suc (suc (suc (suc (suc zero)))))) low = store.ranges.metas 6 refl
-  metas-right (suc (suc (suc (suc (suc (suc (suc zero))))))) low = store.ranges.taken
+  metas-right (suc zero) low = store.store.ranges.metas 1 refl
+  metas-right (suc (suc zero)) low = store.store.ranges.metas 2 refl
+  metas-right (suc (suc (suc zero))) low = store.store.ranges.metas 3 refl
+  metas-right (suc (suc (suc (suc zero)))) low = store.store.ranges.metas 4 refl
+  metas-right (suc (suc (suc (suc (suc zero))))) low = store.store.ranges.metas 5 refl
+  metas-right (suc (suc (suc (suc (suc (suc zero)))))) low = store.store.ranges.metas 6 refl
+  metas-right (suc (suc (suc (suc (suc (suc (suc zero))))))) low = store.store.ranges.taken
   metas-right (suc (suc (suc (suc (suc (suc (suc (suc zero)))))))) low = record {
     before = λ old. absurd (newest-not_old old);
-    since = λ newest. store.ranges.metas 8 refl;
+    since = λ newest. store.store.ranges.metas 8 refl;
   }
   metas-right (suc (suc (suc (suc (suc (suc (suc (suc (suc k))))))))) low = absurd (omega (arith, low))
 
   -- recovery finds it
   pub newest-made : finding.IsMade space shape
-  newest-made = record { own = store.ranges.own; metas = metas-right }
+  newest-made = record { own = store.store.ranges.own; metas = metas-right }
 
-  -- and it is a well-formed store of a known version
-  pub newest-well_formed : IsWellFormedIn space shape
-  newest-well_formed =
-      let newest : version_of (space own_key) ≡ newest_version = store.ranges.newest in
-      record { made = newest-made; store = subst (λ (records : Key → Rec). IsWellFormed records shape) (sym (raised_newest shape space (omega (arith, newest)))) store }
+  -- and it is a store of a known version
+  pub newest-indexed : IsIndexedIn space shape
+  newest-indexed =
+      let newest : version_of (space own_key) ≡ newest_version = store.store.ranges.newest in
+      record { made = newest-made; store = subst (λ (records : Key → Rec). IsIndexed records shape) (sym (raised_newest shape space (omega (arith, newest)))) store }
 
--- the graph is the same in the newest version
-pub graph_of-raised : (shape : Shape) (space : Key → Rec) → graph_of (raised shape space) ≡ graph_of space
-graph_of-raised shape space = pick (nat_lt (version_of (space own_key)) newest_version)
+-- before the version that brings the index its meta record says that nothing was given out
+blank_high : field 4 zeros meta_high ≡ 0
+unfolding field
+blank_high = refl
+
+-- the graph of a store is the same in the newest version: one that is older has no index
+pub graph_of-raised : (shape : Shape) (space : Key → Rec) → finding.IsMade space shape → graph_of (raised shape space) ≡ graph_of space
+graph_of-raised shape space made = pick (nat_lt (version_of (space own_key)) newest_version) refl
   where
-    pick : (old : Bool) → graph_of (cond old (laid_over space (raising_pairs shape)) space) ≡ graph_of space
-    pick true = refl
-    pick false = refl
+    -- the graph with the indexes below a mark
+    below : ℕ → Graph
+    below mark = record (graph_of space) {
+      indexes = indexes_from (λ x. kind_in mark (rec_at space index_file x) x) (rec_at space index_file) mark (rec_at space names_file) (high space names_file);
+    }
+
+    pick : (old : Bool) → nat_lt (version_of (space own_key)) newest_version ≡ old → graph_of (cond old (laid_over space (raising_pairs shape)) space) ≡ graph_of space
+    pick true is =
+        let blank : space (meta_key_of index_file) ≡ zeros = (made.metas index_file (omega arith)).before (grind (arith, nat_tests)) in
+        ap below (ap (λ (m : Meta). m.high) (first_meta-says index_file) ∙ sym (ap (λ (r : Rec). field 4 r meta_high) blank ∙ blank_high))
+    pick false is = refl

@@ -1,12 +1,15 @@
 -- What a change weighs.
 use Rattle.std.specs.Prelude.{min}
 use Rattle.std.proofs.Common.{◌≡◌, ◌+◌, ◌∙◌, ◌<◌, ◌≤◌, ℕ, Bool, true, false, nat_lt, List, [], ◌∷◌, length, inl, inr, refl, sym, ap, subst, arith}
+use Rattle.std.specs.FinMap as maps
 use Rattle.std.proofs.Math.Nat.{min-eq_left, min-eq_right, min-le_left}
 use Rattle.std.proofs.lemmas.Bool.Decides.{nat_tests}
 use Rattle.plain_graph.specs.Changes.{IsChange, Weighs, ends_weight, properties_weight}
 use Rattle.plain_graph.specs.Graph.{Graph, NeedsNames, UsesName, UsesNames, properties_at}
+use Rattle.plain_graph.specs.Indexes.{element_weight, entries_weight, indexed_count}
 use Rattle.plain_graph.specs.LineChanges.{LineWeighs}
 use Rattle.plain_graph.specs.Properties.{blocks_at, blocks_of, keys_in, no_properties, with_pairs}
+use Rattle.plain_graph.specs.Values.{is_text}
 use Rattle.plain_graph.specs.declared.command.Command.{Command}
 use Rattle.plain_graph.specs.declared.command.Command.TheVariants as commands
 use Rattle.plain_graph.specs.declared.command.Target.TheVariants as targets
@@ -40,13 +43,15 @@ weight-only of names line a b h k = h.2 ∙ ap of (NeedsNames-only names line h.
 
 -- a change weighs one number
 pub Weighs-only : (threshold : ℕ) (graph : Graph) (command : Command) (a b : ℕ) → Weighs threshold graph command a → Weighs threshold graph command b → a ≡ b
-Weighs-only threshold graph (commands.Node label pairs) a b h k = weight-only (λ (n : ℕ). 1 + properties_weight (with_pairs no_properties pairs) + n) graph.names (label ∷ keys_in pairs) a b h k
+Weighs-only threshold graph (commands.Node label pairs) a b h k = weight-only (λ (n : ℕ). 1 + properties_weight (with_pairs no_properties pairs) + n + entries_weight graph label (λ key. true) no_properties (with_pairs no_properties pairs)) graph.names (label ∷ keys_in pairs) a b h k
 Weighs-only threshold graph (commands.Edge from label to pairs) a b h k =
     weight-only (λ (n : ℕ). 9 + properties_weight (with_pairs no_properties pairs) + n + ends_weight threshold graph from to) graph.names (label ∷ keys_in pairs) a b h k
-Weighs-only threshold graph (commands.Set target key value) a b h k = weight-only (λ (n : ℕ). 2 + blocks_of value + blocks_at (properties_at graph target) key + n) graph.names (key ∷ []) a b h k
+Weighs-only threshold graph (commands.Set target key value) a b h k =
+    weight-only (λ (n : ℕ). 2 + blocks_of value + blocks_at (properties_at graph target) key + n + element_weight graph target (is_text key) (maps.insert (properties_at graph target) key value)) graph.names (key ∷ []) a b h k
 Weighs-only threshold graph (commands.Unset target key) a b h k = h ∙ sym k
 Weighs-only threshold graph (commands.Delete (targets.Node id)) a b h k = h ∙ sym k
 Weighs-only threshold graph (commands.Delete (targets.Edge id)) a b h k = h ∙ sym k
+Weighs-only threshold graph (commands.Index label key) a b h k = weight-only (λ (n : ℕ). 13 + n + indexed_count graph label key) graph.names (label ∷ key ∷ []) a b h k
 Weighs-only threshold graph _ a b h k = absurd h
 
 -- ---- what is told of a weight
@@ -75,6 +80,7 @@ Weighs-change threshold graph (commands.Set target key value) weight h = tt
 Weighs-change threshold graph (commands.Unset target key) weight h = tt
 Weighs-change threshold graph (commands.Delete (targets.Node id)) weight h = tt
 Weighs-change threshold graph (commands.Delete (targets.Edge id)) weight h = tt
+Weighs-change threshold graph (commands.Index label key) weight h = tt
 Weighs-change threshold graph _ weight h = absurd h
 
 pub LineWeighs-change : (limit threshold : ℕ) (graph : Graph) (command : Command) (weight : ℕ) → LineWeighs limit threshold graph command weight → IsChange command

@@ -7,7 +7,7 @@ use Rattle.rec_bytes.specs.declared.record.Rec.{Rec}
 use Rattle.rec_bytes.specs.declared.shape.Shape.{Shape}
 use Rattle.plain_graph.specs.Graph.{Graph}
 use Rattle.store_rules.specs.Graph.{graph_of}
-use Rattle.store_rules.specs.Rules.{IsWellFormed}
+use Rattle.store_rules.specs.Indexes.{IsIndexed}
 use Rattle.graph_session.specs.Stands.{AreAdmitted, HoldsAdmitted}
 use Rattle.graph_session.specs.State.{Admits, IsFailed, Live, State, Transaction, health_at, seen}
 use Rattle.graph_session.specs.declared.health.Health.{Health}
@@ -44,14 +44,14 @@ TellsAll g = g.tells_reads × g.tells_images
 abbrev pub BeginWith : List (List ℕ) → List (List ℕ) → Type 0
 BeginWith names first = (more : List (List ℕ)) × (names ≡ first ++ more)
 
--- The records of a live console are those of well-formed stores, whose graphs are the committed one
--- and the one that a line sees. The names in memory are those of the latter: the committed ones,
--- and those that the open transaction brought.
+-- The records of a live console are those of stores that keep all rules, whose graphs are the
+-- committed one and the one that a line sees. The names in memory are those of the latter: the
+-- committed ones, and those that the open transaction brought.
 pub record HoldsGraphs (console : ConsoleView) (state : State) : Type 0 where
   pub live : IsTrue console.is_live
-  pub committed : IsWellFormed console.committed state.shape
+  pub committed : IsIndexed console.committed state.shape
   pub committed_graph : graph_of console.committed ≡ state.committed
-  pub working : IsWellFormed console.working state.shape
+  pub working : IsIndexed console.working state.shape
   pub working_graph : graph_of console.working ≡ seen state
   pub names : console.names ≡ (seen state).names
   pub brought : BeginWith console.names state.committed.names

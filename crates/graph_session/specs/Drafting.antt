@@ -43,6 +43,9 @@ abbrev pub answer_for : ChangeFault → Answer
 answer_for (faults.NoNode id) = answers.Refused (refusals.NoNode id)
 answer_for (faults.NoEdge id) = answers.Refused (refusals.NoEdge id)
 answer_for (faults.HasRelationships id degree) = answers.Refused (refusals.HasRelationships id)
+answer_for faults.IndexThere = answers.Refused refusals.IndexThere
+answer_for faults.TooManyIndexes = answers.Refused refusals.TooManyIndexes
+answer_for (faults.IndexTooLarge count) = answers.Refused (refusals.IndexTooLarge count)
 answer_for (faults.Full file live) = answers.Refused (full_of file)
 answer_for (faults.NamesFull count) = answers.Refused refusals.FullNames
 answer_for (faults.PropsFull count) = answers.Refused refusals.TooManyProperties
@@ -86,7 +89,7 @@ IsUnkeptAlone weight answer =
     ⊎ (answer ≡ answers.NoMemory)
 
 module _ {D : Type 0} {g : Ghosts D} where
-  -- the records with the draft are a well-formed store, whose names are those in memory
+  -- the records with the draft are a store that keeps all rules, whose names are those in memory
   abbrev pub HasStore : Session D g → Type 0
   HasStore session = IsStore (state_of session.store) session.names.names
 

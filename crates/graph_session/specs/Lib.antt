@@ -6,7 +6,9 @@ pub mod Drafting
 pub mod EdgeResults
 pub mod Effects
 pub mod Exchange
+pub mod IndexResults
 pub mod Known
+pub mod IndexedStores
 pub mod LineBuffer
 pub mod MayStep
 pub mod Moments

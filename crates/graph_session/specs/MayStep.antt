@@ -1,5 +1,5 @@
--- What a line may do over any disk, whatever is in it: by its command and the reply, what becomes of
--- the session, of its records and of the disk.
+-- What a line may do over any disk, whatever is in it: by its command and the reply, what becomes
+-- of the session, of its records and of the disk.
 use Rattle.std.specs.Prelude.{◌≡◌, ◌≢◌, ◌⊎◌, ◌≤◌, ℕ, true, false, Some, List, []}
 use Rattle.fault_count.specs.Cause.{Rose}
 use Rattle.disk_model.specs.declared.disk.Disk.{Ghosts}
@@ -43,6 +43,7 @@ TellsMade (commands.Edge from label to pairs) reply = (id : ℕ) × (reply ≡ E
 TellsMade (commands.Set target key value) reply = reply ≡ Done
 TellsMade (commands.Unset target key) reply = reply ≡ Done
 TellsMade (commands.Delete target) reply = reply ≡ Done
+TellsMade (commands.Index label key) reply = reply ≡ Done
 TellsMade (commands.Mutate reading mutation) reply =
     (results : List Item) × (reply ≡ mutated_reply results)
 TellsMade _ reply = ⊥
@@ -64,8 +65,13 @@ IsRefusable command =
     (limit : ℕ) × (graph : Graph) × (why : Refusal)
     × FirstReason line_reasons limit graph command why
 
+-- What a line that reads may be refused for: the index that it asks of is missing, or a node is.
+abbrev pub LacksAsked : Command → Refusal → Type 0
+LacksAsked (commands.Find label key value) why = why ≡ refusals.NoIndex
+LacksAsked command why = (id : ℕ) × (why ≡ refusals.NoNode id)
+
 -- The reply to a line that reads: an answer of its form, or the first lines of one and a fault, or
--- that a node is missing. What never lacks memory has no fault.
+-- that what it asks of is missing. What never lacks memory has no fault.
 abbrev pub MayTell : Command → Reply → Type 0
 MayTell command (Told lines last) =
     (reading : Reading) × IsFormed command reading × (lines ≡ reading.lines)
@@ -74,7 +80,7 @@ MayTell command (Faulted lines fault) =
     (¬ IsSpared command) × (reading : Reading) × IsFormed command reading
     × MayStop command reading fault × AreFirst lines reading.lines
 MayTell command (Refused why) =
-    IsRefusable command × (id : ℕ) × (why ≡ refusals.NoNode id)
+    IsRefusable command × LacksAsked command why
 MayTell command _ = ⊥
 
 -- the line is too long, or has this fault of the grammar

@@ -11,9 +11,10 @@ use Rattle.plain_graph.specs.declared.command.Command.{Command}
 use Rattle.plain_graph.specs.declared.command.Command.TheVariants as commands
 use Rattle.rec_bytes.specs.declared.space.Reads.{Ghosts as SpaceGhosts}
 use Rattle.store_rules.specs.Graph.{graph_of}
-use Rattle.traversal_run.specs.Reading.{IsNamedStore, IsRead}
+use Rattle.traversal_run.specs.Reading.{IsRead}
 use Rattle.graph_session.specs.Answer.{Gives}
 use Rattle.graph_session.specs.Exchange.{ShowsPast, ShowsSome, told_fault}
+use Rattle.graph_session.specs.IndexedStores.{IsIndexedStore}
 use Rattle.graph_session.specs.MayStep.{MayTell}
 use Rattle.graph_session.specs.State.{IsSpared}
 use Rattle.graph_session.specs.Verdicts.{TellsVerdict}
@@ -45,9 +46,9 @@ Means graph command (Refused why) =
 Means graph command _ = ⊥
 
 -- A reply to the command was given to the sink, with this mark before each line; where the sink
--- failed it is a whole one, of which a prefix was taken. Over a well-formed store with these names
--- the reply is what the graph means. Over any records `check` tells a verdict on them. The disk is
--- blamed only where it failed.
+-- failed it is a whole one, of which a prefix was taken. Over a store with its indexes and these
+-- names the reply is what the graph means. Over any records `check` tells a verdict on them. The
+-- disk is blamed only where it failed.
 pub record GivesReading {R K : Type 0} (space : SpaceGhosts R) (sink : SinkGhosts K)
     (names : List (List ℕ)) (command : Command) (mark : List ℕ) (old new : R) (before after : K)
     (turn : Turn) : Type 0 where
@@ -55,7 +56,7 @@ pub record GivesReading {R K : Type 0} (space : SpaceGhosts R) (sink : SinkGhost
   pub form : MayTell command reply
   pub gives : Gives sink (marked_text mark reply) before after turn
   pub means : space.tells
-      → IsNamedStore (space.state old).records (space.state old).shape names
+      → IsIndexedStore (space.state old).records (space.state old).shape names
       → Means (graph_of (space.state old).records) command reply
   pub verdict : space.tells → command ≡ commands.Check
       → TellsVerdict (space.state old).records (space.state old).shape reply

@@ -87,7 +87,8 @@ conditions_of (reason ∷ later) = refused_by reason ∷ conditions_of later
 abbrev pub early_order : List Condition
 early_order = line_too_long ∷ grammar_fault ∷ store_failed ∷ transaction_open ∷ no_transaction ∷ []
 
--- those of changes and of a node whose edges are asked for, and of the transaction's weight
+-- those of changes, of the nodes and of the index that a line asks of, and of the transaction's
+-- weight
 abbrev pub late_order : List Condition
 late_order = conditions_of line_reasons ++ transaction_full ∷ []
 

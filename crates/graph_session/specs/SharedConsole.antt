@@ -8,7 +8,7 @@ use Rattle.rec_bytes.specs.declared.shape.Shape.{Shape}
 use Rattle.record_file.specs.Redone.{Redoes}
 use Rattle.plain_graph.specs.Graph.{Graph}
 use Rattle.store_rules.specs.Graph.{graph_of}
-use Rattle.store_rules.specs.Rules.{IsWellFormed}
+use Rattle.store_rules.specs.Indexes.{IsIndexed}
 use Rattle.snap_store.specs.Layers.{AreDistinct, Layer, Layers, readers_of, sees}
 use Rattle.snap_store.specs.Snaps.{Snapshots, has_ended}
 use Rattle.snap_store.specs.Sums.{AreCovered}
@@ -22,11 +22,11 @@ use Rattle.graph_session.specs.declared.health.Health.TheVariants as healths
 abbrev pub snapshot_readers : List Snapshot → List ℕ
 snapshot_readers snapshots = map (λ (snapshot : Snapshot). snapshot.reader) snapshots
 
--- Through the layers over these committed records the snapshot sees its graph, in a well-formed
--- store.
+-- Through the layers over these committed records the snapshot sees its graph, in a store that
+-- keeps all rules.
 pub record ShowsGraph (layers : Layers) (shape : Shape) (committed : Key → Rec)
     (snapshot : Snapshot) : Type 0 where
-  pub store : IsWellFormed (sees layers snapshot.reader committed) shape
+  pub store : IsIndexed (sees layers snapshot.reader committed) shape
   pub graph : graph_of (sees layers snapshot.reader committed) ≡ snapshot.graph
 
 -- Of each snapshot, no more records are kept in its layer and in younger ones than its sum says.

@@ -14,7 +14,7 @@ use Rattle.rec_bytes.specs.Pairs.{IsOrdered, Pairs, find_pair}
 use Rattle.rec_bytes.specs.Space.{IsAmong}
 use Rattle.rec_bytes.specs.declared.key.Key.{Key}
 use Rattle.store_rules.specs.Graph.{graph_of, names_of}
-use Rattle.store_rules.specs.Rules.{IsWellFormed}
+use Rattle.store_rules.specs.Indexes.{IsIndexed}
 use Rattle.store_rules.specs.Writes.{meta_keys}
 use Rattle.snap_store.specs.Keeping.{KeepsHeld}
 use Rattle.snap_store.specs.Snaps.{Snapshots}
@@ -69,7 +69,7 @@ module _ {D : Type 0} (g : Ghosts D) (old : SharedView D) (reply : Reply) (new :
       × ((old.session.console.is_open ≡ true)
       ⊎ ((¬ Confirms reply) × OnlyReads g old.session.disk new.session.disk)))
       ⊎ ((old.session.console.is_open ≡ false) × (more : ℕ) × KeepsFor (start_weight + more)
-      × (g.tells_reads → IsWellFormed old.session.console.committed old.session.console.shape
+      × (g.tells_reads → IsIndexed old.session.console.committed old.session.console.shape
       → old.session.console.names ≡ names_of old.session.console.committed
       → LineWeighs old.session.console.shape.limit old.session.console.shape.threshold
       (graph_of old.session.console.committed) command more))

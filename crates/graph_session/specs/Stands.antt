@@ -9,15 +9,15 @@ use Rattle.record_file.specs.Records.{IsUnmade}
 use Rattle.record_file.specs.Redone.{Redoes}
 use Rattle.follower.specs.Sent.{IsServed}
 use Rattle.store_rules.specs.Graph.{graph_of}
-use Rattle.graph_session.specs.Versions.{IsWellFormedIn}
+use Rattle.graph_session.specs.Versions.{IsIndexedIn}
 use Rattle.graph_session.specs.State.{Admits, State}
 
--- The entries of the log, laid over the records of the files, make a well-formed store of this
--- shape, of whatever version, whose graph this is.
+-- The entries of the log, laid over the records of the files, make a store of this shape, of
+-- whatever version, that keeps all rules and whose graph this is.
 pub record IsMade (content : Files) (shape : Shape) (graph : Graph) : Type 0 where
   pub space : Key → Rec
   pub redoes : Redoes content space
-  pub store : IsWellFormedIn space shape
+  pub store : IsIndexedIn space shape
   pub graph_is : graph ≡ graph_of space
 
 -- The content stands for this graph, under this shape; one in which no store was made stands for

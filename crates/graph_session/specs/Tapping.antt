@@ -1,5 +1,5 @@
 -- What a line leaves in the set that takes the records of its transaction.
-use Rattle.std.specs.Prelude.{◌≡◌, ◌⊎◌, ◌≤◌, ℕ, Bool, false, Option, None, Some, [], ◌∷◌, length}
+use Rattle.std.specs.Prelude.{◌≡◌, ◌⊎◌, ◌≤◌, Bool, false, Option, None, Some, [], ◌∷◌, length}
 use Rattle.std.proofs.Props.{props}
 use Rattle.disk_model.specs.declared.disk.Disk.{Ghosts as DiskGhosts}
 use Rattle.stream_io.specs.Lines.{InputLine}

@@ -9,7 +9,7 @@ use Rattle.rec_bytes.specs.declared.damage.Damage.{Damage}
 use Rattle.rec_bytes.specs.declared.shape.Shape.{Shape}
 use Rattle.snap_store.specs.Layers.{is_open, sees}
 use Rattle.store_check.specs.Verdicts.{IsLeastBroken}
-use Rattle.store_rules.specs.Rules.{IsWellFormed}
+use Rattle.store_rules.specs.Indexes.{IsIndexed}
 use Rattle.store_rules.specs.Views.{Records}
 use Rattle.graph_session.specs.Answer.{Gives}
 use Rattle.graph_session.specs.Console.{ConsoleView}
@@ -27,7 +27,7 @@ LeavesUnjudged (DamagedRecord file id) = ⊥
 -- record that breaks it
 abbrev pub IsVerdict : Records → Shape → List ℕ → Type 0
 IsVerdict records shape text =
-    ((text ≡ sound_text) × IsWellFormed records shape)
+    ((text ≡ sound_text) × IsIndexed records shape)
     ⊎ ((damage : Damage) × (text ≡ broken_text damage.file damage.id damage.rule)
     × IsLeastBroken records shape 1 damage)
 
@@ -50,7 +50,7 @@ SeesRecords view (suc reader) records =
     × (records ≡ sees view.held.open_ones (suc reader) view.session.console.committed)
 
 -- The reply was given to the sink, with this mark before each line. Where the disk tells its reads,
--- it tells the verdict on these records, also where they are those of no well-formed store.
+-- it tells the verdict on these records, also where they are those of no store.
 pub record Judges {K : Type 0} (tells : Type 0) (sink : SinkGhosts K) (mark : List ℕ)
     (records : Records) (shape : Shape) (before after : K) (turn : Turn) : Type 0 where
   pub reply : Reply

@@ -27,12 +27,13 @@ use crate::{Health, Session};
 use disk_model::Disk;
 use fault_count::Failed;
 use graph_ops::{
-    Added, ChangeFault, Mutated, add_edge, add_node, delete_edge, delete_node, mutate, set, unset,
+    Added, ChangeFault, Mutated, add_edge, add_node, delete_edge, delete_node, index, mutate, set,
+    unset,
 };
 use plain_graph::{
     Item, MOST_WEIGHT, Mutation, Pairs, Query, Refusal, START_WEIGHT, Target, Text, Value,
 };
-use rec_bytes::{Fault, NODES, PROPERTIES, RELATIONSHIPS, WriteSet};
+use rec_bytes::{Fault, INDEX, NODES, PROPERTIES, RELATIONSHIPS, WriteSet};
 use std::alloc::AllocError;
 use traversal_run::items_of;
 use txn_core::Store;
@@ -193,6 +194,29 @@ impl<'d, D: Disk> Session<'d, D> {
         }
     }
 
+    /// Makes an index, as `make_node` makes a node.
+    pub(crate) fn make_index(
+        &mut self,
+        label: &Text,
+        key: &Text,
+        tap: &mut Option<WriteSet>,
+    ) -> Answer
+        requires form { HasForm (commands.Index label.now key.now) }
+        requires room { HasRoom tap.old }
+        requires live { self.old.health ≡ healths.Live }
+        ensures settles { SettlesCommand D.Disk (commands.Index label.now key.now)
+            (view self.old) (view self.new) (reply_of result) }
+        ensures keeps { KeepsOlds D.Disk (commands.Index label.now key.now)
+            (shared_view self.old) (reply_of result) (shared_view self.new) }
+        ensures taps { Takes (TapsCommand D.Disk (commands.Index label.now key.now)
+            (view self.old) (reply_of result) (view self.new)) tap.old tap.new }
+        ensures same_disk { HaveSameDisk self.old self.new }
+    {
+        let begun = self.begin_change();
+        let drafted = self.draft_index(label, key);
+        self.end_change(begun, drafted, tap)
+    }
+
     /// Makes the changes of a mutating query, as `make_node` makes a node.
     pub(crate) fn mutate(
         &mut self,
@@ -256,7 +280,7 @@ impl<'d, D: Disk> Session<'d, D> {
         ensures only { OnlyDrafts self.old self.new }
         ensures drafts { Drafts (commands.Node label.now pairs.now) self.old self.new result }
     {
-        match add_node(&mut self.store, &mut self.names, label, pairs) {
+        match add_node(self.alloc, &mut self.store, &mut self.names, label, pairs) {
             Ok(Added { id, weight }) => Ok(Drafted {
                 answer: Answer::NodeMade(id),
                 weight,
@@ -294,7 +318,14 @@ impl<'d, D: Disk> Session<'d, D> {
         ensures drafts { Drafts (commands.Set target key.now value.now)
             self.old self.new result }
     {
-        match set(&mut self.store, &mut self.names, target, key, value) {
+        match set(
+            self.alloc,
+            &mut self.store,
+            &mut self.names,
+            target,
+            key,
+            value,
+        ) {
             Ok(weight) => Ok(Drafted {
                 answer: Answer::Done,
                 weight,
@@ -308,7 +339,7 @@ impl<'d, D: Disk> Session<'d, D> {
         ensures only { OnlyDrafts self.old self.new }
         ensures drafts { Drafts (commands.Unset target key.now) self.old self.new result }
     {
-        match unset(&mut self.store, &self.names, target, key) {
+        match unset(self.alloc, &mut self.store, &self.names, target, key) {
             Ok(weight) => Ok(Drafted {
                 answer: Answer::Done,
                 weight,
@@ -336,7 +367,22 @@ impl<'d, D: Disk> Session<'d, D> {
         ensures only { OnlyDrafts self.old self.new }
         ensures drafts { Drafts (commands.Delete (targets.Node id)) self.old self.new result }
     {
-        match delete_node(&mut self.store, &self.names, id) {
+        match delete_node(self.alloc, &mut self.store, &self.names, id) {
+            Ok(weight) => Ok(Drafted {
+                answer: Answer::Done,
+                weight,
+            }),
+            Err(fault) => Err(answer_of(fault)),
+        }
+    }
+
+    // An index in the draft.
+    fn draft_index(&mut self, label: &Text, key: &Text) -> Result<Drafted, Answer>
+        requires { HasForm (commands.Index label.now key.now) }
+        ensures only { OnlyDrafts self.old self.new }
+        ensures drafts { Drafts (commands.Index label.now key.now) self.old self.new result }
+    {
+        match index(self.alloc, &mut self.store, &mut self.names, label, key) {
             Ok(weight) => Ok(Drafted {
                 answer: Answer::Done,
                 weight,
@@ -471,8 +517,8 @@ impl<'d, D: Disk> Session<'d, D> {
         }
     }
 
-    // Commits the change, or leaves open whether it is on the disk. What it replaces is kept for the
-    // snapshots first; where that can't be read, nothing is committed.
+    // Commits the change, or leaves open whether it is on the disk. What it replaces is kept for
+    // the snapshots first; where that can't be read, nothing is committed.
     fn commit_alone(&mut self, answer: Answer, tap: &mut Option<WriteSet>) -> Answer
         requires opened { IsTrue self.old.store.base.in_transaction }
         requires live { IsTrue self.old.store.base.live }
@@ -535,6 +581,9 @@ fn answer_of(fault: ChangeFault) -> Answer
     match fault {
         ChangeFault::NoNode { id } => Answer::Refused(Refusal::NoNode { id }),
         ChangeFault::NoEdge { id } => Answer::Refused(Refusal::NoEdge { id }),
+        ChangeFault::IndexThere => Answer::Refused(Refusal::IndexThere),
+        ChangeFault::TooManyIndexes => Answer::Refused(Refusal::TooManyIndexes),
+        ChangeFault::IndexTooLarge { count } => Answer::Refused(Refusal::IndexTooLarge { count }),
         ChangeFault::Full { file, .. } => Answer::Refused(full_of(file)),
         ChangeFault::NamesFull { .. } => Answer::Refused(Refusal::FullNames),
         ChangeFault::PropsFull { .. } => Answer::Refused(Refusal::TooManyProperties),
@@ -566,6 +615,7 @@ fn full_of(file: u8) -> Refusal
         NODES => Refusal::FullNodes,
         RELATIONSHIPS => Refusal::FullEdges,
         PROPERTIES => Refusal::FullProperties,
+        INDEX => Refusal::FullIndex,
         _ => Refusal::FullStrings,
     }
 }

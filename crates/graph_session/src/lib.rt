@@ -1,7 +1,7 @@
 //! The console of all sessions, of which one writes and the others read snapshots: a line in, one
 //! step of the console, its reply out. When a step returns, a change that was answered is on the
-//! disk. Nothing of the graph is kept in memory but its names and the old records that open snapshots
-//! need; a query reads the records as it goes.
+//! disk. Nothing of the graph is kept in memory but its names and the old records that open
+//! snapshots need; a query reads the records as it goes.
 #![tactic(auto)]
 
 mod answer;

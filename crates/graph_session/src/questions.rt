@@ -5,6 +5,7 @@ use crate::Turn;
 use crate::questions::counts::give_counts;
 use crate::questions::degrees::give_degree;
 use crate::questions::edge_results::give_edges;
+use crate::questions::index_results::give_found;
 use crate::questions::query_results::give_query;
 use crate::questions::verdicts::give_verdict;
 use crate::questions::walks::{give_levels, give_walk};
@@ -17,6 +18,7 @@ use stream_io::Sink;
 mod counts;
 mod degrees;
 mod edge_results;
+mod index_results;
 mod query_results;
 mod verdicts;
 mod walks;
@@ -64,6 +66,9 @@ pub(crate) fn answer_question<R: Reads, K: Sink>(
         } => give_levels(
             alloc, space, names, *from, *to, *direction, label, mark, output,
         ),
+        Command::Find { label, key, value } => {
+            give_found(alloc, space, names, label, key, value, mark, output)
+        }
         Command::Query(query) => give_query(alloc, space, names, query, mark, output),
         _ => Turn::Go,
     }

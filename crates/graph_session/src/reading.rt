@@ -131,7 +131,7 @@ fn is_of_readers(command: &Command) -> bool
         Command::Checkpoint | Command::Reopen => false,
         Command::Node { .. } | Command::Edge { .. } => false,
         Command::Set { .. } | Command::Unset { .. } | Command::Delete(_) => false,
-        Command::Mutate { .. } => false,
+        Command::Index { .. } | Command::Mutate { .. } => false,
         _ => true,
     }
 }

@@ -22,10 +22,10 @@ ghost use Rattle.graph_session.specs.Settling.{IsLoud, IsParsed, SettlesCommand,
 ghost use Rattle.graph_session.specs.SharedExchange.{IsOfSnapshots};
 ghost use Rattle.graph_session.specs.SnapshotEffects.{KeepsOlds};
 ghost use Rattle.graph_session.specs.State.{mark_in};
-ghost use Rattle.graph_session.specs.Tapping.{AllShip-prop, HasRoom, Takes, TapsAnswer, TapsCommand, TapsLine};
+ghost use Rattle.graph_session.specs.Tapping.{AllShip-prop, HasRoom, Takes, TapsAnswer};
+ghost use Rattle.graph_session.specs.Tapping.{TapsCommand, TapsLine};
 ghost use Rattle.graph_session.specs.Verdicts.{Judges, SeesRecords, seen_records};
 ghost use Rattle.store_rules.specs.Views.{Records};
-ghost use Rattle.snap_store.specs.Snaps.{IsReader};
 ghost use Rattle.txn_core.specs.Shipped.{AllShip};
 ghost use Rattle.gremlin_parse.specs.Tags.{session_of};
 ghost use Rattle.gremlin_parse.specs.Lines.{Spells};
@@ -332,6 +332,7 @@ impl<'d, D: Disk> Session<'d, D> {
             Command::Set { target, key, value } => Some(self.set_value(*target, key, value, tap)),
             Command::Unset { target, key } => Some(self.unset_value(*target, key, tap)),
             Command::Delete(target) => Some(self.delete(*target, tap)),
+            Command::Index { label, key } => Some(self.make_index(label, key, tap)),
             Command::Mutate { reading, mutation } => Some(self.mutate(reading, mutation, tap)),
             _ => None,
         }

@@ -1,6 +1,6 @@
 ghost use Rattle.std.specs.Prelude.{◌≡◌, ◌≤◌, IfOk, List, ℕ, length, map};
 ghost use Rattle.plain_graph.specs.Graph.{has_node};
-ghost use Rattle.plain_graph.specs.Lines.{HasForm, expansion, listed};
+ghost use Rattle.plain_graph.specs.Lines.{HasForm, expansion};
 ghost use Rattle.plain_graph.specs.Reply.{Told, end_text, item_line, marked_text};
 ghost use Rattle.plain_graph.specs.declared.command.Command.TheVariants as commands;
 ghost use Rattle.plain_graph.specs.declared.item.Item.TheVariants as items;

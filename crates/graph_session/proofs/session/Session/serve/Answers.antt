@@ -1,4 +1,4 @@
-use Rattle.std.proofs.Common.{◌∙◌, ◌≡◌, ℕ, subst, sym}
+use Rattle.std.proofs.Common.{◌∙◌, ℕ, subst, sym}
 use Rattle.graph_session.specs.Settling.{IsParsed}
 use Rattle.graph_session.proofs.Taps.{takes-nothing, taps-nothing}
 use Rattle.graph_session.proofs.session.Session.serve.Goals as goal

@@ -1,4 +1,4 @@
-use Rattle.std.proofs.Common.{Bool, subst, sym}
+use Rattle.std.proofs.Common.{subst, sym}
 use Rattle.plain_graph.specs.declared.command.Command.{Command}
 use Rattle.graph_session.specs.Tapping.{EndsOne}
 use Rattle.graph_session.proofs.Taps.{begin-ends, checkpoint-ends, reopen-ends, rollback-ends, takes-nothing, takes-weaker, taps-other}

@@ -1,0 +1,33 @@
+-- What the nodes that an index finds are told as.
+use Rattle.std.specs.Prelude.{◌≡◌, ℕ, true, false, List}
+use Rattle.plain_graph.specs.Graph.{Graph}
+use Rattle.plain_graph.specs.Indexes.{has_index}
+use Rattle.plain_graph.specs.Reply.{item_line}
+use Rattle.plain_graph.specs.declared.item.Item.TheVariants as items
+use Rattle.plain_graph.specs.declared.refusal.Refusal.TheVariants as refusals
+use Rattle.prop_index.specs.declared.lookup_fault.LookupFault.{LookupFault}
+use Rattle.prop_index.specs.declared.lookup_fault.LookupFault.TheVariants as faults
+use Rattle.graph_session.specs.declared.answer.Answer.{Answer}
+use Rattle.graph_session.specs.declared.answer.Answer.TheVariants as answers
+
+-- the graph has an index of the label and the key
+abbrev pub HasIndex : Graph → List ℕ → List ℕ → Type 0
+HasIndex graph label key = has_index graph label key ≡ true
+
+-- In a store there is no such index where it is said so, and no record is damaged.
+abbrev pub IsIndexRefusal : Graph → List ℕ → List ℕ → LookupFault → Type 0
+IsIndexRefusal graph label key faults.NoIndex = has_index graph label key ≡ false
+IsIndexRefusal graph label key faults.Memory = Unit {0}
+IsIndexRefusal graph label key faults.Disk = Unit {0}
+IsIndexRefusal graph label key (faults.Damaged damage) = ⊥
+
+-- the line of a node
+abbrev pub vertex_line : ℕ → List ℕ
+vertex_line id = item_line (items.Vertex id)
+
+-- the answer where no nodes are found
+abbrev pub answer_for : LookupFault → Answer
+answer_for faults.NoIndex = answers.Refused refusals.NoIndex
+answer_for faults.Memory = answers.NoMemory
+answer_for faults.Disk = answers.DiskFailed
+answer_for (faults.Damaged damage) = answers.Damaged damage
