@@ -102,13 +102,14 @@ def what_is_answered(folder):
         assert found["rows"] == [{"node": 0}, {"node": 2}] and len(found["graph"]["nodes"]) == 2, f"{found}"
         found = asks(address, "ask", line="levels 1 2 out")[1]
         assert found["rows"] == [{"node": 1, "level": 0}, {"node": 2, "level": 1}], f"{found}"
+        assert asks(address, "ask", line="find person name 'marko'")[1]["reply"] == "error no index"
         assert asks(address, "ask", line="path 2 0 out")[1]["reply"] == "no path"
         assert asks(address, "ask", line="degree 0 both")[1]["reply"] == "degree 2"
         assert asks(address, "ask", line="g.V(")[1]["place"] == 4
         assert asks(address, "ask", line="stats")[1]["reply"].startswith("nodes 3 edges 3")
         assert asks(address, "around", id=2)[1]["count"] == 2
         assert asks(address, "edge", id=0)[1]["edges"][0]["properties"] == {"since": 2009}
-        for line in ("node a", "delete edge 0", "g.E().drop()", "g . addV('a')", "begin", "checkpoint", "quit", "@1 quit", "g.V()\nnode a", "", "x" * 9_000):
+        for line in ("node a", "delete edge 0", "g.E().drop()", "g . addV('a')", "begin", "checkpoint", "index a b", "quit", "@1 quit", "g.V()\nnode a", "", "x" * 9_000):
             status, found = asks(address, "ask", line=line)
             assert status == 400 and found["fault"], f"{line}: {found}"
         for words in ({"ids": [-1]}, {"ids": "0"}, {"ids": [True]}, {}):
@@ -125,6 +126,8 @@ def what_is_written(folder):
         assert asks(address, "ask", line="g.V(3).property('nick','Z')")[1]["rows"] == [{"node": 3}]
         assert "relationships" in asks(address, "ask", line="g.V().drop()")[1]["reply"]
         assert asks(address, "ask", line="g.V(3)")[1]["graph"]["nodes"][0]["properties"] == {"nick": "Z"}
+        assert asks(address, "ask", line="index person nick")[1]["reply"] == "ok"
+        assert asks(address, "ask", line="find person nick 'Z'")[1]["rows"] == [{"node": 3}]
         asks(address, "ask", line="begin")
         assert asks(address, "ask", line="set node 3 fresh 1")[1]["reply"] == "ok"
         assert asks(address, "ask", line="g.V(3)")[1]["graph"]["nodes"][0]["properties"] == {"nick": "Z"}

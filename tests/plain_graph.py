@@ -21,7 +21,7 @@ RELATIONS = {"gt": operator.gt, "gte": operator.ge, "lt": operator.lt, "lte": op
 KINDS = {"node": 0, "edge": 1}
 # What names the session of a line, the first words of lines that only read, and those about a snapshot.
 TAG = re.compile(r"[ \t]*@([0-7])[ \t](.*)", re.S)
-QUESTIONS = ("stats", "check", "expand", "degree", "path", "levels", "g")
+QUESTIONS = ("stats", "check", "expand", "degree", "path", "levels", "find", "g")
 OF_SNAPSHOTS = ("snapshot", "release")
 # The steps with which a query changes the graph.
 MUTATING = ("addV", "addE", "property", "drop")
@@ -180,7 +180,7 @@ class PlainGraph:
     def __init__(self):
         self.elements = [{}, {}]
         self.free, self.next = [[], []], [0, 0]
-        self.names = set()
+        self.names, self.indexes = set(), set()
         self.before = self.leaving = self.entering = None
 
     def answer(self, line):
@@ -207,10 +207,10 @@ class PlainGraph:
         return self.state() if self.before is None else self.before
 
     def state(self):
-        return pickle.dumps((self.elements, self.free, self.next, self.names))
+        return pickle.dumps((self.elements, self.free, self.next, self.names, self.indexes))
 
     def restore(self, state):
-        self.elements, self.free, self.next, self.names = pickle.loads(state)
+        self.elements, self.free, self.next, self.names, self.indexes = pickle.loads(state)
         self.leaving = None
 
     def line_begin(self, tokens):
@@ -246,6 +246,16 @@ class PlainGraph:
             f"nodes {len(nodes)} edges {len(edges)} properties {len(values)} blocks {sum(map(blocks, values))}"
             f" names {len(self.names)}"
         )
+
+    def line_find(self, tokens):
+        index, value = (tokens.take("word"), tokens.take("word")), tokens.value()
+        tokens.end()
+        if index not in self.indexes:
+            raise Refused("error no index")
+        label, key = index
+        nodes = sorted(self.elements[0].values(), key=lambda it: it.id)
+        there = [it for it in nodes if it.label == label and key in it.properties]
+        return listed(item_text(it) for it in there if rank(it.properties[key]) == rank(value))
 
     # --- paths
 
@@ -302,6 +312,14 @@ class PlainGraph:
     def element(self, tokens):
         kind = tokens.take(*KINDS)
         return kind, self.find(kind, int(tokens.take("number")))
+
+    def line_index(self, tokens):
+        index = tokens.take("word"), tokens.take("word")
+        tokens.end()
+        if index in self.indexes:
+            raise Refused("error index there")
+        self.indexes.add(index)
+        self.names |= set(index)
 
     def line_node(self, tokens):
         return f"node {self.make(0, tokens.take('word'), tokens.pairs()).id}"

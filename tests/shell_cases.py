@@ -107,6 +107,37 @@ def names(folder):
     assert says(folder / "new", ".names", "node a", ".names") == "no names\nnode 0\nname  used as\n----  -------\na     label\n"
 
 
+INDEXES = """label   key
+------  ----
+city    area
+person  name
+"""
+
+
+def indexes(folder):
+    """Indexes stand in the files after a checkpoint, and a dump makes those that the session sees."""
+    (folder / "new").mkdir()
+    assert says(folder / "new", ".indexes", "index a b", ".indexes") == "no indexes\nok\nlabel  key\n-----  ---\na      b\n"
+    graph(folder / "one", MODERN + "index person name\nindex city area\n")
+    assert says(folder / "one", ".indexes") == INDEXES
+    refused = says(folder / "one", "begin", "index a b", ".indexes", "rollback", ".indexes", status=REFUSED)
+    assert refused == "ok\nok\nerror transaction open\nok\n" + INDEXES, refused
+    found = says(folder / "one", ".mode table", "find person name 'vadas'", "find person name 1", "find person age 29", status=REFUSED)
+    assert found == "node\n----\n   1\nerror no index\n", found
+    before = says(folder / "one", ".dump")
+    assert before.startswith("index city area\nindex person name\nbegin\nnode person "), before
+    taken = ".session 1", "snapshot", "@0 index software name", ".indexes", ".dump"
+    shown = says(folder / "one", *taken)
+    assert "software  name\n" in shown and shown.endswith("name\n" + before), shown
+    ran = call(folder / "one", words=["--quiet", "--lines", "-"], program=EXPORT)
+    lines = says(folder / "one", ".dump lines", ".dump")
+    assert ran.out.decode() == lines == before.replace("person name\n", "person name\nindex software name\n", 1), f"{ran}"
+    (folder / "two").mkdir()
+    assert says(folder / "two", ".read ../one/lines", ".indexes", ".dump").endswith(lines)
+    part = call(folder / "one", words=["--quiet", "--lines", "-", "--from", "g.V(0)"], program=EXPORT)
+    assert part.out.startswith(b"begin\nnode person "), f"{part}"
+
+
 def drop(folder):
     graph(folder)
     assert says(folder, ".drop 0", "stats") == "node 0 and 3 edges are deleted\n" + stats(2, 10, properties=4).decode()
@@ -239,6 +270,9 @@ COMPLETED = (
     ("expand 0 ", "o", ["out"]),
     ("path 0 1 ", "", ["out", "in", "both", "knows", "name"]),
     ("", "pa", ["path"]),
+    ("", "in", ["index"]),
+    ("", "fi", ["find"]),
+    ("find ", "k", ["knows"]),
     ("degree ", "i", ["in"]),
     ("", "sn", ["snapshot"]),
     ("@1 ", "g", ["g.V()", "g.E()", "g.addV("]),
@@ -256,6 +290,7 @@ CASES = {
     "shell: lines of -c": lines_of_words,
     "shell: results as a table, as CSV and as JSON": modes,
     "shell: names": names,
+    "shell: indexes": indexes,
     "shell: a node with its edges": drop,
     "shell: queries that change the graph": queries_that_change,
     "shell: dump and read": dump_and_read,

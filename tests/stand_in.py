@@ -19,7 +19,7 @@ sys.dont_write_bytecode = True
 from plain_graph import PlainGraph
 
 STORED, COUNTS = pathlib.Path("stored"), pathlib.Path("counts")
-CHANGES = ("node", "edge", "set", "unset", "delete", "commit")
+CHANGES = ("node", "edge", "set", "unset", "delete", "index", "commit")
 
 
 def options(words):

@@ -101,6 +101,17 @@ def names_of(word: str) -> List[str]:
         raise argparse.ArgumentTypeError(bad.why) from None
 
 
+def pair_of(word: str) -> Tuple[str, str]:
+    """A label and a key with a colon between them."""
+    label, colon, key = word.partition(":")
+    if not colon:
+        raise argparse.ArgumentTypeError("it is a label and a key with a colon between them")
+    try:
+        return name(label, "label"), name(key, "key")
+    except Bad as bad:
+        raise argparse.ArgumentTypeError(bad.why) from None
+
+
 def keys_in(path: str) -> List[str]:
     """The keys of properties in the header of a table of nodes or of edges."""
     faults: List[Refused] = []

@@ -12,7 +12,7 @@ from nipakeel_tools.backup import back_up
 from nipakeel_tools.client import NotAnswered
 from nipakeel_tools.limits import SESSIONS
 from nipakeel_tools.lines import help_lines
-from nipakeel_tools.names import names_of_store
+from nipakeel_tools.names import has_index, indexes_in, indexes_of_store, names_of_store
 from nipakeel_tools.query import Asking
 from nipakeel_tools.showing import MODES, as_table
 from nipakeel_tools.writers import WRITTEN, Kept, write_lines
@@ -49,6 +49,13 @@ def names(shell: Any) -> None:
     shell.names = found.all
     rows: List[Dict[str, Any]] = [{"name": it, "used as": ", ".join(found.uses(it)) or "none"} for it in sorted(found.all)]
     shell.shows_lines(as_table(rows, []) if rows else ["no names"])
+
+
+def indexes(shell: Any) -> None:
+    """All indexes of the store. It takes a checkpoint, as no line lists them."""
+    found = indexes_of_store(shell.program, shell.folder)
+    rows: List[Dict[str, Any]] = [{"label": label, "key": key} for label, key in found]
+    shell.shows_lines(as_table(rows, []) if rows else ["no indexes"])
 
 
 def mode(shell: Any, *words: str) -> None:
@@ -102,6 +109,7 @@ def dump(shell: Any, *path: str) -> None:
         nodes, edges = Kept("nodes", node_file), Kept("edges", edge_file)
         asked = Asking(lambda: shell.program, keys)
         asked.begin()
+        nodes.indexes = [it for it in indexes_in(shell.folder) if has_index(shell.program, it)]
         for kept, kind, count in ((nodes, "V", asked.counts[0]), (edges, "E", asked.counts[1])):
             for page in asked.every(kind, count):
                 kept.add(page)
@@ -149,6 +157,7 @@ def leave(shell: Any) -> None:
 DOT_COMMANDS: Dict[str, Any] = {
     ".help": (tell_help, 0, 9, ".help WORD"),
     ".names": (names, 0, 0, ".names"),
+    ".indexes": (indexes, 0, 0, ".indexes"),
     ".mode": (mode, 0, 1, f".mode {'|'.join(MODES)}"),
     ".session": (session, 0, 1, ".session K"),
     ".timer": (switch("timer"), 1, 1, ".timer on|off"),

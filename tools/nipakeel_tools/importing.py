@@ -10,10 +10,12 @@ import time
 from typing import Deque, Iterator, List, Optional, Sequence
 
 from nipakeel_tools import limits
-from nipakeel_tools.client import Ended, Program
+from nipakeel_tools.client import Ended, NotAnswered, Program
 from nipakeel_tools.command import DiskFailed, Options
 from nipakeel_tools.journal import BadJournal, Entry, Journal, Transaction, again, packed
-from nipakeel_tools.limits import DEFAULT_THRESHOLD, MOST_LINE, MOST_WEIGHT
+from nipakeel_tools.limits import DEFAULT_THRESHOLD, MOST_INDEXED, MOST_LINE, MOST_WEIGHT
+from nipakeel_tools.names import indexes_in
+from nipakeel_tools.query import Unfit
 from nipakeel_tools.readers import Table
 from nipakeel_tools.rows import Builder, Node, Refused
 from nipakeel_tools.values import Bad, spell_value, text_of, to_bytes
@@ -22,6 +24,8 @@ from nipakeel_tools.values import Bad, spell_value, text_of, to_bytes
 MOST_INPUT = limits.MOST_INPUT - MOST_WEIGHT * (MOST_LINE + 1)
 # How many transactions are made before they are sent, so that one sync of the journal does for their entries.
 MOST_AHEAD = 8
+# How the refusal of an index begins that would have too many nodes.
+TOO_LARGE = b"error index too large "
 # Seconds between two lines of progress, at a terminal and elsewhere.
 OFTEN, SELDOM = 0.2, 10
 
@@ -95,6 +99,7 @@ class Import:
             self.journal.keep(self.journal.stored(counts))
             entries = list(self.journal.entries)
             self.has_tables_of(entries)
+            self.indexes()
             if self.builder.merge is not None:
                 self.finds_there(self.builder.merge, entries)
             for kind in ("nodes", "edges"):
@@ -110,6 +115,23 @@ class Import:
             if it.table >= kinds.count(it.kind):
                 what = f"table {it.table + 1} of {it.kind}"
                 raise BadJournal(f"{self.options.journal}: rows of {what} are in, and no such table is given")
+
+    def indexes(self) -> None:
+        """Makes the indexes that are asked for, while the store has the fewest nodes. The entries of all of them weigh."""
+        for there in indexes_in(self.options.folder):
+            self.builder.knows_index(*there)
+        for label, key in self.options.index:
+            line = f"index {label} {key}"
+            reply = self.program.ask(line.encode())
+            if reply.startswith(TOO_LARGE):
+                count = int(reply.removeprefix(TOO_LARGE))
+                raise Unfit(
+                    f"{line} is refused: {count:,} nodes of the store have the label and the key, and when an index is"
+                    f" made at most {MOST_INDEXED:,} may; later it takes any number"
+                )
+            if reply not in (b"ok", b"error index there"):
+                raise NotAnswered(line.encode(), reply)
+            self.builder.knows_index(label, key)
 
     def finds_there(self, key: str, entries: Sequence[Entry]) -> None:
         """Finds the nodes by which rows are merged: those that have the key and didn't come by this import."""

@@ -9,7 +9,7 @@ from typing import List, Optional, Sequence
 SHOWN_STATES = {"live": "", "open": " (open)", "failed": " (failed)"}
 # Faults that have a place, which is the last word of the reply.
 PLACED = re.compile(rb"error (?:syntax|name length|text length|number range|step kind|too many steps|times range) ([0-9]+)")
-CHANGES = (b"node", b"edge", b"set", b"unset", b"delete")
+CHANGES = (b"node", b"edge", b"set", b"unset", b"delete", b"index")
 # A text between quotes, and what makes a query one that changes the graph, once there are no such texts in it.
 QUOTED = re.compile(rb"""'(?:[^'\\]|\\.)*'|"(?:[^"\\]|\\.)*\"""", re.S)
 MUTATES = re.compile(rb"\.[ \t]*(?:addV|addE|property|drop)\b")
@@ -22,6 +22,8 @@ HELP = [
     ("unset node ID KEY", "takes a key of a node away; unset edge does so for an edge"),
     ("delete node ID", "deletes a node that has no edges"),
     ("delete edge ID", "deletes an edge"),
+    ("index LABEL KEY", "makes an index of the nodes of a label by the values of a key; none is taken away"),
+    ("find LABEL KEY VALUE", "the nodes of the label whose key has the value, by their index"),
     ("begin", "opens a transaction"),
     ("commit", "stores all changes of the transaction"),
     ("rollback", "drops them"),
@@ -61,6 +63,7 @@ HELP = [
 DOTS = [
     (".help WORD", "this list, or its lines with the word"),
     (".names", "the labels, types and keys of the store"),
+    (".indexes", "the label and the key of each index; it makes a checkpoint, so no transaction may be open"),
     (".mode table", "how results are shown: table, csv, json, or lines as the program has them"),
     (".session 1", "later lines are of session 1; .session 0 writes again; .session tells it"),
     (".timer on", "tells after each line how long it took; off"),
@@ -76,8 +79,8 @@ VALUES = "A value is a number, true, false, or a text between two ' or two \". d
 STEP = re.compile(r"\.([A-Za-z]+)\(")
 STEPS = sorted({*STEP.findall(" ".join(line for line, _ in HELP)), "in", "both", "inE", "bothE", "inV"} - {"V", "E"})
 # Lines that are answered with results, as a query is, and those with a direction after their identifiers.
-LISTS = ("expand", "path", "levels")
-DIRECTED = (*LISTS, "degree")
+LISTS = ("expand", "path", "levels", "find")
+DIRECTED = ("expand", "path", "levels", "degree")
 WORDS_AFTER = {
     **dict.fromkeys(("set", "unset", "delete"), ["node", "edge"]), **dict.fromkeys(DIRECTED, ["out", "in", "both"]),
 }

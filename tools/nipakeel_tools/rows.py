@@ -5,7 +5,7 @@ from __future__ import annotations
 import dataclasses
 from typing import Dict, List, Optional, Tuple
 
-from nipakeel_tools.limits import DEFAULT_THRESHOLD, EDGE_WEIGHT, MOST_LINE, MOST_PROPERTIES, NODE_WEIGHT
+from nipakeel_tools.limits import DEFAULT_THRESHOLD, EDGE_WEIGHT, ENTRY_WEIGHT, MOST_LINE, MOST_PROPERTIES, NODE_WEIGHT
 from nipakeel_tools.values import SPELLERS, Bad, Speller, name, shown, to_bytes
 
 
@@ -70,6 +70,8 @@ class Builder:
     def __init__(self, threshold: int = DEFAULT_THRESHOLD, merge: Optional[str] = None) -> None:
         self.spaces: Dict[str, Space] = {}
         self.names: set[str] = set()
+        # The keys that the store has an index of, by label: each entry weighs.
+        self.indexed: Dict[str, set[str]] = {}
         self.past_threshold, self.at_threshold = threshold + 1, 2 * (threshold + 1)
         self.merge, self.merged = merge, 0
         # The nodes by their value of the key, as a line spells it. None where several of the store have it.
@@ -77,6 +79,11 @@ class Builder:
 
     def space(self, which: str) -> Space:
         return self.spaces.setdefault(which, {})
+
+    def knows_index(self, label: str, key: str) -> None:
+        """The store has an index of this label and key from now on, and so it has both names."""
+        self.indexed.setdefault(label, set()).add(key)
+        self.names |= {label, key}
 
     def name_weight(self, word: str, what: str) -> int:
         """1 where the name is new in this import, which the store may know."""
@@ -125,6 +132,8 @@ class Builder:
         new = self.name_weight(label, "label")
         pairs, weight = self.pairs(fields)
         text = fitting(f"node {label}{pairs}")
+        if label in self.indexed:
+            weight += ENTRY_WEIGHT * sum(bool(value) and it.key in self.indexed[label] for it, value in fields)
         known[outer] = node
         return Row(at, text, NODE_WEIGHT + new + weight, outer, node)
 

@@ -9,6 +9,7 @@ from typing import IO, Any, Callable, Dict, Iterable, Iterator, Sequence, Set, T
 from xml.sax.saxutils import escape, quoteattr
 
 from nipakeel_tools.journal import groups
+from nipakeel_tools.names import Pair
 from nipakeel_tools.query import Edge, Element, Unfit
 from nipakeel_tools.readers import fields_of
 from nipakeel_tools.rows import Builder, Row
@@ -34,6 +35,8 @@ class Kept:
         # By key the types of its values, and whether an empty text is among them.
         self.types: Dict[str, Set[type]] = {}
         self.empty: Set[str] = set()
+        # Of nodes, the indexes that the graph has.
+        self.indexes: Sequence[Pair] = ()
 
     def add(self, elements: Sequence[Element]) -> None:
         for it in elements:
@@ -70,8 +73,12 @@ def write_json_lines(file: TextIO, nodes: Kept, edges: Kept) -> None:
 
 
 def write_lines(file: TextIO, nodes: Kept, edges: Kept) -> None:
-    """The lines that make the graph in a new store, where nodes get the identifiers from 0 on."""
+    """The lines that make the graph in a new store, where nodes get the identifiers from 0 on. Indexes come first, since
+    one can't be made of many nodes."""
     builder = Builder()
+    for label, key in nodes.indexes:
+        file.write(f"index {label} {key}\n")
+        builder.knows_index(label, key)
     known = builder.space("")
     node_rows = (builder.node(0, str(it["node"]), it["label"], fields_of(it["properties"]), known) for it in nodes.elements())
     write_groups(file, numbered(filter(None, node_rows)))
