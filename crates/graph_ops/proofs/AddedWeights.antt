@@ -197,7 +197,7 @@ module _ (s : State) (names : List (List ℕ)) (store : IsStore s names) (label 
 
   one_gets : (d : ℕ) → In d ds → of_definition s.records weigh d ≡ (if gets d then 3 else 0)
   one_gets d i =
-      let low = (apart s.records s.shape store.store.store.ranges (wanted_in s.records) store.store.indexes).named d i in
+      let low = (apart s.records store.store.store.defined (wanted_in s.records) store.store.indexes).named d i in
       rw (text_test (rec_at s.records format.names_file) (high s.records format.names_file) store.store.store.names (indexed_label s.records d) label low.0 label_low, has_given (indexed_key s.records d) low.1, no_key (text s.records (indexed_key s.records d)))
       (by (nat_eq (indexed_label s.records d) label) (given (indexed_key s.records d)))
     where
@@ -218,7 +218,7 @@ module _ (s : State) (names : List (List ℕ)) (store : IsStore s names) (label 
       ∙ sym (ap length (map_filter listed assigned)) ∙ length-map (indexed_of (map (pair_of s.records) ds) label assigned) (λ (a : Assignment). a.key)
     where
       once : AreOnce (map (indexed_key s.records) (filter gets ds))
-      once = once_map (indexed_key s.records) (filter gets ds) (once_filter gets ds (apart s.records s.shape store.store.store.ranges (wanted_in s.records) store.store.indexes).once)
+      once = once_map (indexed_key s.records) (filter gets ds) (once_filter gets ds (apart s.records store.store.store.defined (wanted_in s.records) store.store.indexes).once)
           (λ d e i j same.
           let p = in_filter gets d ds i in
           let q = in_filter gets e ds j in
@@ -246,7 +246,7 @@ module _ (s : State) (names : List (List ℕ)) (store : IsStore s names) (label 
 
   pub added_weighs : entries_weight (graph_in s) (text s.records label) (λ key. true) no_properties (with_pairs no_properties pairs) ≡ 3 * length (indexed_of (map (pair_of s.records) ds) label assigned)
   added_weighs =
-      sum_indexes s.records s.shape store.store.store.ranges (wanted_in s.records) store.store.indexes weigh
+      sum_indexes s.records store.store.store.defined (wanted_in s.records) store.store.indexes weigh
       ∙ sum_same (of_definition s.records weigh) (λ d. if gets d then 3 else 0) ds one_gets
       ∙ threes gets ds
       ∙ ap (λ n. 3 * n) as_many
@@ -255,12 +255,12 @@ module _ (s : State) (names : List (List ℕ)) (store : IsStore s names) (label 
   pub added_count : entry_count (graph_in s) (text s.records label) (with_pairs no_properties pairs) ≡ length (indexed_of (map (pair_of s.records) ds) label assigned)
   added_count =
       counted (λ (index : Index). is_text index.label (text s.records label) && is_some (maps.get (with_pairs no_properties pairs) index.key)) (indexes_of s.records)
-      ∙ sum_indexes s.records s.shape store.store.store.ranges (wanted_in s.records) store.store.indexes (λ (index : Index). if is_text index.label (text s.records label) && is_some (maps.get (with_pairs no_properties pairs) index.key) then 1 else 0)
+      ∙ sum_indexes s.records store.store.store.defined (wanted_in s.records) store.store.indexes (λ (index : Index). if is_text index.label (text s.records label) && is_some (maps.get (with_pairs no_properties pairs) index.key) then 1 else 0)
       ∙ sum_same (of_definition s.records (λ (index : Index). if is_text index.label (text s.records label) && is_some (maps.get (with_pairs no_properties pairs) index.key) then 1 else 0)) (λ d. if gets d then 1 else 0) ds one_counts
       ∙ units gets ds
       ∙ as_many
     where
       one_counts : (d : ℕ) → In d ds → of_definition s.records (λ (index : Index). if is_text index.label (text s.records label) && is_some (maps.get (with_pairs no_properties pairs) index.key) then 1 else 0) d ≡ (if gets d then 1 else 0)
       one_counts d i =
-          let low = (apart s.records s.shape store.store.store.ranges (wanted_in s.records) store.store.indexes).named d i in
+          let low = (apart s.records store.store.store.defined (wanted_in s.records) store.store.indexes).named d i in
           rw (text_test (rec_at s.records format.names_file) (high s.records format.names_file) store.store.store.names (indexed_label s.records d) label low.0 label_low, has_given (indexed_key s.records d) low.1) refl

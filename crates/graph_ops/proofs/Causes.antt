@@ -90,7 +90,7 @@ module _ (command : Command) (s t : State) (names now : List (List ℕ)) where
 
   -- ---- rooms
 
-  pub room_caused : (file count : ℕ) → AsksRoom command file count → (fault : ChangeFault) → LacksRoom s file count fault → IsCaused command s t names now fault
+  pub room_caused : (file count : ℕ) → AsksRoom command s.records now file count → (fault : ChangeFault) → LacksRoom s file count fault → IsCaused command s t names now fault
   room_caused file count asks fault why = subst (IsCaused command s t names now) (sym why.is) (inl (count, asks, record { is = refl; lacks = why.lacks }))
 
   -- ---- values

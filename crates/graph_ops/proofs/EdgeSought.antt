@@ -19,7 +19,7 @@ use Rattle.rel_store.specs.Loading.{mark_damage, row_at}
 use Rattle.rel_store.specs.declared.rel_row.RelRow.{RelRow}
 use Rattle.rel_store.proofs.Rows as rel_rows
 use Rattle.store_rules.specs.Breaking.{Breaks, DegreeKeeps, GroupKeeps, IsGroupHeadOf, IsHeadChain, IsMetaKept, group_head}
-use Rattle.store_rules.specs.Breaking.Breaks.{FreeList, GroupChains, GroupOwner, NameCount, NodeChain, OffFreeList, OwnRecord, OwnerGroups, RecordRange, RelEnds, WrongBlock, WrongDegree, WrongElement, WrongHolding, WrongIndex, WrongMeta, WrongName, WrongText}
+use Rattle.store_rules.specs.Breaking.Breaks.{FreeList, GroupChains, GroupOwner, NameCount, NodeChain, OffFreeList, OwnRecord, OwnerGroups, RecordRange, RelEnds, WrongBlock, WrongDefinition, WrongDegree, WrongElement, WrongHolding, WrongIndex, WrongMeta, WrongName, WrongText}
 use Rattle.store_rules.specs.Chains.{IsChain, IsWalk, next_in, place_of, prev_in}
 use Rattle.store_rules.specs.PropertyChange.{Apart}
 use Rattle.store_rules.specs.Ranges.{Layout, layout_by}
@@ -64,6 +64,7 @@ group_broken r shape g d e (WrongElement file x m lt k) = absurd (let f = ap (λ
 group_broken r shape g d e (WrongHolding p k) = absurd (let f = ap (λ (d : Damage). d.rule) e in omega arith)
 group_broken r shape g d e (WrongText p lt k) = absurd (let f = ap (λ (d : Damage). d.rule) e in omega arith)
 group_broken r shape g d e (WrongBlock b k) = absurd (let f = ap (λ (d : Damage). d.rule) e in omega arith)
+group_broken r shape g d e (WrongDefinition x lt k) = absurd (let f = ap (λ (d : Damage). d.rule) e in omega arith)
 group_broken r shape g d e (WrongName x lt k) = absurd (let f = ap (λ (d : Damage). d.rule) e in omega arith)
 group_broken r shape g d e (WrongDegree n lt k) = absurd (let f = ap (λ (d : Damage). d.rule) e in omega arith)
 group_broken r shape g d e (WrongIndex x bad) = absurd (let f = ap (λ (d : Damage). d.rule) e in let k = index_rule r x bad in omega arith)
@@ -85,6 +86,7 @@ degree_broken r shape n d e (WrongElement file x m lt k) = absurd (let f = ap (�
 degree_broken r shape n d e (WrongHolding p k) = absurd (let f = ap (λ (d : Damage). d.rule) e in omega arith)
 degree_broken r shape n d e (WrongText p lt k) = absurd (let f = ap (λ (d : Damage). d.rule) e in omega arith)
 degree_broken r shape n d e (WrongBlock b k) = absurd (let f = ap (λ (d : Damage). d.rule) e in omega arith)
+degree_broken r shape n d e (WrongDefinition x lt k) = absurd (let f = ap (λ (d : Damage). d.rule) e in omega arith)
 degree_broken r shape n d e (WrongName x lt k) = absurd (let f = ap (λ (d : Damage). d.rule) e in omega arith)
 degree_broken r shape n d e (WrongDegree m lt k) = subst (λ z. (z < high r format.nodes_file) × (¬ DegreeKeeps r shape.threshold z)) (ap (λ (d : Damage). d.id) e) (lt, k)
 degree_broken r shape n d e (WrongIndex x bad) = absurd (let f = ap (λ (d : Damage). d.rule) e in let k = index_rule r x bad in omega arith)
@@ -106,6 +108,7 @@ meta_broken r shape d e (WrongElement file x m lt k) = absurd (let f = ap (λ (d
 meta_broken r shape d e (WrongHolding p k) = absurd (let f = ap (λ (d : Damage). d.rule) e in omega arith)
 meta_broken r shape d e (WrongText p lt k) = absurd (let f = ap (λ (d : Damage). d.rule) e in omega arith)
 meta_broken r shape d e (WrongBlock b k) = absurd (let f = ap (λ (d : Damage). d.rule) e in omega arith)
+meta_broken r shape d e (WrongDefinition x lt k) = absurd (let f = ap (λ (d : Damage). d.rule) e in omega arith)
 meta_broken r shape d e (WrongName x lt k) = absurd (let f = ap (λ (d : Damage). d.rule) e in omega arith)
 meta_broken r shape d e (WrongDegree n lt k) = absurd (let f = ap (λ (d : Damage). d.rule) e in omega arith)
 meta_broken r shape d e (WrongIndex x bad) = absurd (let f = ap (λ (d : Damage). d.rule) e in let k = index_rule r x bad in omega arith)

@@ -1,26 +1,23 @@
 -- The indexes of the graph are those of the definitions, one for one.
 use Rattle.std.proofs.Common.{◌≡◌, ◌≢◌, ⊎_elim, inl, inr, ℕ, zero, suc, ◌+◌, ◌<◌, nat_eq, nat_lt, Bool, true, false, ◌&&◌, ◌||◌, if◌then◌else◌, cond, Option, None, Some, List, [], ◌∷◌, length, ap, sym, ◌∙◌, subst, arith, refl}
 use Rattle.std.specs.List.{flat_map, list_any, sum_by}
-use Rattle.std.proofs.lemmas.Bool.{cases_lt, false≢true}
+use Rattle.std.proofs.lemmas.Bool.{false≢true}
 use Rattle.std.proofs.lemmas.List.Sums.{sum_by-append, sum_by-cons}
 use Rattle.plain_graph.specs.Graph.{Index}
-use Rattle.rec_bytes.specs.declared.shape.Shape.{Shape}
-use Rattle.rec_bytes.specs.declared.record.Rec.{Rec}
 use Rattle.rec_bytes.specs.Format as format
-use Rattle.rec_bytes.specs.Record.{field}
 use Rattle.store_rules.specs.Chains.{In}
 use Rattle.store_rules.specs.Graph.{index_from, indexes_of, is_definition_of}
 use Rattle.store_rules.specs.Indexes.{AreIndexed, Entries, IsDefinition, IsEntry, IsHeads, IsOfIndex, first_definition, indexed_key, indexed_label, next_definition}
 use Rattle.store_rules.specs.Properties.{AreOnce}
-use Rattle.store_rules.specs.Ranges.{AreInRange, Fits, Layout, all_point, bytes_of, layout_by, may, must, pointers_from}
 use Rattle.rec_bytes.specs.Meta as metas
 use Rattle.store_rules.specs.RuleList.{IsSameFile}
 use Rattle.store_rules.specs.Rows.{collect, ids, option_list}
 use Rattle.store_rules.specs.Views.{Records, high, kind_at, kind_in, rec_at, text_of}
 use Rattle.store_rules.proofs.Counts.{ids_in, in_ids}
-use Rattle.store_rules.proofs.NumberLaws.{and_parts, eq_false, eq_true, lt_false, lt_true, nat_cases}
+use Rattle.store_rules.proofs.DefinedStays.{Defines}
+use Rattle.store_rules.proofs.NumberLaws.{and_parts, eq_false, eq_true, lt_true, nat_cases}
 use Rattle.store_rules.proofs.OnceLaws.{once_walk}
-use Rattle.store_rules.proofs.ViewLaws.{kind_below, kind_low, live_true}
+use Rattle.store_rules.proofs.ViewLaws.{kind_below, live_true}
 
 -- ---- sums over the numbers below a mark
 
@@ -74,29 +71,6 @@ pub same_truth : (a b : Bool) → (a ≡ true → b ≡ true) → (b ≡ true �
 same_truth true b one two = sym (one refl)
 same_truth false true one two = two refl
 same_truth false false one two = refl
-
--- ---- the label and the key of a definition are names
-
-abbrev definition_layout_is : Layout
-definition_layout_is = record {
-  pointers = must format.definition_label format.names_file ∷ must format.definition_key format.names_file ∷ may format.definition_next format.index_file
-      ∷ pointers_from format.definition_head_count (λ place. must place format.index_file) format.definition_heads;
-  used = bytes_of format.kind 1 ∷ bytes_of format.definition_label 60 ∷ [];
-}
-
-pub names_low : (marks : ℕ → ℕ) (r : Rec) → field 1 r format.kind ≡ format.definition → Fits marks format.index_file r → (field 4 r format.definition_label < marks format.names_file) × (field 4 r format.definition_key < marks format.names_file)
-names_low marks r kind fits =
-    let is : definition_layout_is ≡ fits.layout = inner definition_layout_is fits.layout (subst (λ k. layout_by format.index_file r k ≡ Some fits.layout) kind fits.is) in
-    let all = subst (λ (l : Layout). all_point marks r l.pointers ≡ true) (sym is) fits.point in
-    let first = and_parts _ _ all in
-    let second = and_parts _ _ first.1 in
-    (below (field 4 r format.definition_label) (marks format.names_file) first.0, below (field 4 r format.definition_key) (marks format.names_file) second.0)
-  where
-    inner : (a b : Layout) → Some a ≡ Some b → a ≡ b
-    inner a b e = cc
-
-    below : (a b : ℕ) → (nat_lt a b || false) ≡ true → a < b
-    below a b e = ⊎_elim (λ lt. lt) (λ ge. absurd (false≢true (sym (ap (λ z. z || false) (lt_false a b ge)) ∙ e))) (cases_lt a b)
 
 -- ---- the indexes of a graph
 
@@ -251,16 +225,10 @@ module _ (s : Records) where
             some [] d i = elim i [ ]
             some (x ∷ xs) d i = lt_true 0 (suc (length xs)) (omega arith)
 
-  module _ (shape : Shape) (ranges : AreInRange s shape) (wanted : Entries) (ix : AreIndexed s wanted) where
-    -- a definition's label and key are names
-    named : (d : ℕ) → kind_at s format.index_file d ≡ format.definition → (indexed_label s d < count) × (indexed_key s d < count)
-    named d kind =
-        let lt = kind_below (high s format.index_file) (rec_at s format.index_file d) d (λ e. let q = sym e ∙ kind in omega arith) in
-        names_low (high s) (rec_at s format.index_file d) (sym (kind_low (high s format.index_file) (rec_at s format.index_file d) d lt) ∙ kind) (ranges.fit format.index_file d refl lt)
-
+  module _ (defined : Defines s) (wanted : Entries) (ix : AreIndexed s wanted) where
     pub apart : AreApart ix.definitions
     apart = record {
-      named = λ d i. named d (ix.defined d i);
+      named = λ d i. let kind = ix.defined d i in (defined.labels d kind, defined.keys d kind);
       distinct = ix.distinct;
       once = once_walk (next_definition s) (first_definition s) ix.definitions ix.walk;
     }

@@ -46,7 +46,7 @@ module _ (s t : Records) (beside : KeepsBesideIndex s t) where
   rels_same : rel_at t ≡ rel_at s
   rels_same = λ i x. row_if (kinds_beside format.relationships_file refl (λ e. omega arith) i x) (rel_in (file_same format.relationships_file refl (λ e. omega arith) i x) x)
 
-  files_same : property_records t ≡ property_records s
+  pub files_same : property_records t ≡ property_records s
   files_same = λ i. record { properties = file_same format.properties_file refl (λ e. omega arith) i; strings = file_same format.strings_file refl (λ e. omega arith) i }
 
   -- the nodes have the values that they had

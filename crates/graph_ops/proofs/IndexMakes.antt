@@ -2,9 +2,8 @@
 use Rattle.std.specs.Option.{option_map}
 use Rattle.std.specs.Prelude.{Contains, is_some, slice_get}
 use Rattle.std.specs.List.{filter, list_any, sum_by}
-use Rattle.std.proofs.Common.{◌≡◌, ◌≢◌, ⊎_elim, inl, inr, ℕ, ◌+◌, ◌-◌, ◌<◌, ◌≤◌, Bool, true, false, ◌&&◌, Option, None, Some, List, [], ◌∷◌, ◌++◌, length, ap, sym, ◌∙◌, subst, arith, refl}
+use Rattle.std.proofs.Common.{◌≡◌, ◌≢◌, ⊎_elim, inl, inr, ℕ, ◌+◌, ◌-◌, ◌<◌, ◌≤◌, Bool, true, false, ◌&&◌, Option, None, Some, List, [], ◌∷◌, length, ap, sym, ◌∙◌, subst, arith, refl}
 use Rattle.std.proofs.lemmas.Bool.{cases_lt, false≢true}
-use Rattle.std.proofs.lemmas.Option.{slice_get_within}
 use Rattle.plain_graph.specs.Changes.{Changes, Weighs}
 use Rattle.plain_graph.specs.Graph.{Index, Node, UsesName, UsesNames}
 use Rattle.plain_graph.specs.Indexes.{has_index, has_key, index_records, indexed_count, is_of, with_index}
@@ -31,7 +30,7 @@ use Rattle.store_rules.proofs.NumberLaws.{eq_true}
 use Rattle.name_store.specs.Interning.{IsFullFault, interned}
 use Rattle.name_store.specs.declared.intern_fault.InternFault.{InternFault}
 use Rattle.name_store.specs.declared.intern_fault.InternFault.TheVariants as intern
-use Rattle.name_store.proofs.FirstNames.{length-names_of, slice_get-push_old}
+use Rattle.name_store.proofs.FirstNames.{length-names_of}
 use Rattle.prop_index.specs.Collecting.{content_at, content_of}
 use Rattle.prop_index.specs.Defining.{AreNamesOf}
 use Rattle.prop_index.specs.Making.{IsMakeRefusal, MakesIndex, count_of}
@@ -46,6 +45,7 @@ use Rattle.graph_ops.specs.Store.{IsStore, KeepsElements, graph_in}
 use Rattle.graph_ops.proofs.GraphPairs.{defined_among, has_pair, in_any, is_among, is_defined}
 use Rattle.graph_ops.proofs.IndexBeside.{KeepsBesideIndex, graph_edges_beside, graph_nodes_beside, names_beside}
 use Rattle.graph_ops.proofs.IndexMade.{index_placed}
+use Rattle.graph_ops.proofs.IndexNumbers.{number_stays}
 use Rattle.graph_ops.proofs.IndexRefused.{second_lacks}
 use Rattle.graph_ops.proofs.IndexTested.{index_count_is, known_index}
 use Rattle.graph_ops.proofs.Interned.{keeps_interned, keeps_then}
@@ -141,9 +141,7 @@ module _ (old s a b : State) (names first last : List (List ℕ)) (label key : L
   numbered_store = store_now b last kept.store (kept.keeps read.store.indexes)
 
   label_last : slice_get last l ≡ Some label
-  label_last = ⊎_elim
-      (λ (i : Contains first key × (last ≡ first)). ap (λ ns. slice_get ns l) i.1 ∙ given.label_at)
-      (λ (i : (¬ Contains first key) × (last ≡ first ++ key ∷ [])). ap (λ ns. slice_get ns l) i.1 ∙ slice_get-push_old first key l (slice_get_within first l label given.label_at) ∙ given.label_at) given.key_uses
+  label_last = number_stays first key last l label given.label_at given.key_uses
 
   abbrev label_in : (l < high b.records format.names_file) × (text_of (rec_at b.records format.names_file l) ≡ label)
   label_in = number_in b.records last l label kept.store.names label_last
@@ -204,8 +202,8 @@ module _ (old s a b : State) (names first last : List (List ℕ)) (label key : L
           may.1.0 refusals.TooManyIndexes (omega (arith, n, many, same_count), refl)
 
       refused_here : (fault : MakeFault) → IsMakeRefusal b was l k fault → IsRefusal s.shape.limit (graph_in s) (commands.Index label key) (of_make fault)
-      refused_here makes.There why = none_there why.definition why.listed why.pair
-      refused_here makes.Many why = few_defined why.1
+      refused_here makes.There why = absurd (none_there why.definition why.listed why.pair)
+      refused_here makes.Many why = absurd (few_defined why.1)
       refused_here (makes.TooLarge count) why =
           let n = counted in
           let is = why.1 in

@@ -1,5 +1,7 @@
 -- Why no index is made, in a store and over any records.
-use Rattle.std.proofs.Common.{◌≡◌, ℕ, ◌+◌, List, [], ◌∷◌, ◌++◌, length, Contains, ap, sym, ◌∙◌, subst, inl, inr, arith, refl}
+use Rattle.std.specs.Prelude.{slice_get}
+use Rattle.std.proofs.Common.{◌≡◌, ⊎_elim, ℕ, ◌+◌, ◌<◌, ◌≤◌, Some, List, [], ◌∷◌, ◌++◌, length, Contains, ap, sym, ◌∙◌, subst, inl, inr, arith, refl}
+use Rattle.std.proofs.lemmas.Bool.{cases_lt}
 use Rattle.std.proofs.lemmas.List.{length-append}
 use Rattle.plain_graph.specs.Graph.{UsesName}
 use Rattle.plain_graph.specs.Refusals.{most_names}
@@ -8,20 +10,25 @@ use Rattle.rec_bytes.specs.Format as format
 use Rattle.rec_bytes.specs.RecordFiles.{room_of}
 use Rattle.rec_bytes.specs.Space.{SameButReads, State, meta_of}
 use Rattle.rec_bytes.specs.declared.meta.Meta.{Meta}
+use Rattle.rec_bytes.specs.declared.shape.Shape.{Shape}
 use Rattle.name_store.specs.Interning.{IsFullFault, interned}
 use Rattle.name_store.specs.declared.intern_fault.InternFault.{InternFault}
 use Rattle.name_store.specs.declared.intern_fault.InternFault.TheVariants as intern
-use Rattle.prop_index.specs.Making.{IsMakeCause, IsUnwrittenFull}
+use Rattle.prop_index.specs.MakeFault as makes_fault
+use Rattle.prop_index.specs.Making.{AreManyMet, HasPairMet, IsMakeCause, IsUnwrittenFull, count_of}
 use Rattle.prop_index.specs.declared.make_fault.MakeFault.{MakeFault}
 use Rattle.prop_index.specs.declared.make_fault.MakeFault.TheVariants as makes
 use Rattle.graph_ops.specs.Assigning.{LacksNames}
-use Rattle.graph_ops.specs.Causes.{IsCaused, IsStillCaused, IsStillDamage}
+use Rattle.graph_ops.specs.Causes.{IsCaused}
 use Rattle.graph_ops.specs.Change.{IsCounted}
 use Rattle.graph_ops.specs.ChangeFault.{LeavesSpace, of_intern, of_make}
+use Rattle.graph_ops.specs.Damage.{BlamesBroken}
 use Rattle.graph_ops.specs.declared.change_fault.ChangeFault.{ChangeFault}
 use Rattle.graph_ops.specs.declared.change_fault.ChangeFault.TheVariants.{NoNode, NoEdge, HasRelationships, IndexThere, TooManyIndexes, IndexTooLarge, Full, NamesFull, PropsFull, Memory, Disk, Damaged}
-use Rattle.graph_ops.proofs.Adding.{beyond_then, index_beyond, interned_beyond}
-use Rattle.graph_ops.proofs.Causes.{any_blamed}
+use Rattle.graph_ops.proofs.Adding.{beyond_then, index_beyond, interned_beside, interned_beyond}
+use Rattle.graph_ops.proofs.Interned.{shape_interned}
+use Rattle.prop_store.specs.FileChange.{IsSameBeside}
+use Rattle.prop_store.proofs.FileSteps.{beside_then}
 
 -- ---- names
 
@@ -38,27 +45,70 @@ name_caused s t old now names label key text lacks intern.Disk why = tt
 
 -- ---- the index
 
--- The space `m` is that with the new names.
-pub make_caused : (s m t : State) (old now : List (List ℕ)) (label key : List ℕ) (l k : ℕ) → meta_of m format.index_file ≡ meta_of s format.index_file → (fault : MakeFault) → IsMakeCause m l k fault → IsCaused (commands.Index label key) s t old now (of_make fault)
-make_caused s m t old now label key l k same makes.There why = tt
-make_caused s m t old now label key l k same makes.Many why = tt
-make_caused s m t old now label key l k same (makes.TooLarge count) why = why.1
-make_caused s m t old now label key l k same (makes.Full live) why =
-    let room = room_of s.shape format.index_file in
-    inl (14 + room, (refl, omega arith), record { is = ap (λ n. Full format.index_file n) (why.0 ∙ ap (λ (r : Meta). r.live) same); lacks = omega arith })
-make_caused s m t old now label key l k same makes.Memory why = tt
-make_caused s m t old now label key l k same makes.Disk why = tt
-make_caused s m t old now label key l k same (makes.Damaged damage) why = tt
+-- What is so after the label and the key became names with these numbers, by the space as it was.
+pub record IsNamedFor (s m : State) (now : List (List ℕ)) (label key : List ℕ) (l k : ℕ) : Type 0 where
+  pub label_at : slice_get now l ≡ Some label
+  pub key_at : slice_get now k ≡ Some key
+  pub count : count_of m.records l k ≡ count_of s.records l k
+  pub meta : meta_of m format.index_file ≡ meta_of s format.index_file
+  pub shape : m.shape ≡ s.shape
+  pub free : ¬ HasPairMet m.records l k
+  pub few : ¬ AreManyMet m.records
 
--- so it is by the space as it is left
-pub make_still : (m t : State) (old now : List (List ℕ)) (label key : List ℕ) (l k : ℕ) (fault : MakeFault) → IsUnwrittenFull m t fault → IsMakeCause m l k fault → IsCaused (commands.Index label key) t t old now (of_make fault)
-make_still m t old now label key l k makes.There left why = tt
-make_still m t old now label key l k makes.Many left why = tt
-make_still m t old now label key l k (makes.TooLarge count) left why = why.1
-make_still m t old now label key l k (makes.Full live) left why = make_caused t m t old now label key l k (subst (λ (z : State). meta_of m format.index_file ≡ meta_of z format.index_file) (sym left) refl) (makes.Full live) why
-make_still m t old now label key l k makes.Memory left why = tt
-make_still m t old now label key l k makes.Disk left why = tt
-make_still m t old now label key l k (makes.Damaged damage) left why = tt
+-- The space `m` is that with the new names.
+module _ (m : State) (old now : List (List ℕ)) (label key : List ℕ) (l k : ℕ) where
+  pub make_caused : (s t : State) → IsNamedFor s m now label key l k → (fault : MakeFault) → IsMakeCause m l k fault → IsCaused (commands.Index label key) s t old now (of_make fault)
+  make_caused s t named makes.There why = absurd (named.free why)
+  make_caused s t named makes.Many why = absurd (named.few why)
+  make_caused s t named (makes.TooLarge count) why =
+      (why.1, record { label_number = l; key_number = k; label_named = named.label_at; key_named = named.key_at; count_is = why.0 ∙ named.count })
+  make_caused s t named (makes.Full live) why =
+      let taken = 13 + count_of m.records l k in
+      let past = ⊎_elim
+      (λ (lt : room_of m.shape format.index_file < (meta_of m format.index_file).live + taken). lt)
+      (λ (fits : (meta_of m format.index_file).live + taken ≤ room_of m.shape format.index_file). absurd (why.1 fits)) (cases_lt (room_of m.shape format.index_file) ((meta_of m format.index_file).live + taken)) in
+      let count_is = named.count in
+      let live_is = ap (λ (r : Meta). r.live) named.meta in
+      let room_is = ap (λ (h : Shape). room_of h format.index_file) named.shape in
+      inl (
+        13 + count_of s.records l k,
+        (refl, (count_of s.records l k, record { label_number = l; key_number = k; label_named = named.label_at; key_named = named.key_at; count_is = refl }, refl)),
+        record { is = ap (λ n. Full format.index_file n) (why.0 ∙ live_is); lacks = omega (arith, past, count_is, live_is, room_is) },
+      )
+  make_caused s t named makes.Memory why = tt
+  make_caused s t named makes.Disk why = tt
+  make_caused s t named (makes.Damaged damage) why = tt
+
+  -- so it is by the space as it is left
+  pub make_still : (s t : State) → IsNamedFor s m now label key l k → count_of t.records l k ≡ count_of m.records l k → (fault : MakeFault) → IsUnwrittenFull m t fault → IsMakeCause m l k fault → IsCaused (commands.Index label key) t t old now (of_make fault)
+  make_still s t named same makes.There left why = absurd (named.free why)
+  make_still s t named same makes.Many left why = absurd (named.few why)
+  make_still s t named same (makes.TooLarge count) left why =
+      (why.1, record { label_number = l; key_number = k; label_named = named.label_at; key_named = named.key_at; count_is = why.0 ∙ sym same })
+  make_still s t named same (makes.Full live) left why =
+      make_caused t t (subst (λ (z : State). IsNamedFor z m now label key l k) (sym left)
+      (record { label_at = named.label_at; key_at = named.key_at; count = refl; meta = refl; shape = refl; free = named.free; few = named.few })) (makes.Full live) why
+  make_still s t named same makes.Memory left why = tt
+  make_still s t named same makes.Disk left why = tt
+  make_still s t named same (makes.Damaged damage) left why = tt
+
+  pub make_leaves : (s t : State) → IsNamedFor s m now label key l k → (fault : MakeFault) → IsMakeCause m l k fault → LeavesSpace s t (of_make fault)
+  make_leaves s t named makes.There why = absurd (named.free why)
+  make_leaves s t named makes.Many why = absurd (named.few why)
+  make_leaves s t named (makes.TooLarge count) why = tt
+  make_leaves s t named (makes.Full live) why = tt
+  make_leaves s t named makes.Memory why = tt
+  make_leaves s t named makes.Disk why = tt
+  make_leaves s t named (makes.Damaged damage) why = tt
+
+pub make_blamed : (t : State) (fault : MakeFault) → makes_fault.BlamesBroken t.records t.shape fault → BlamesBroken t (of_make fault)
+make_blamed t makes.There told = tt
+make_blamed t makes.Many told = tt
+make_blamed t (makes.TooLarge count) told = tt
+make_blamed t (makes.Full live) told = tt
+make_blamed t makes.Memory told = tt
+make_blamed t makes.Disk told = tt
+make_blamed t (makes.Damaged damage) told = told
 
 -- ---- what a refusal leaves
 
@@ -67,16 +117,18 @@ name_leaves s t (intern.NamesFull count) = tt
 name_leaves s t intern.Memory = tt
 name_leaves s t intern.Disk = tt
 
-pub make_leaves : (s t : State) (fault : MakeFault) → LeavesSpace s t (of_make fault)
-make_leaves s t makes.There = tt
-make_leaves s t makes.Many = tt
-make_leaves s t (makes.TooLarge count) = tt
-make_leaves s t (makes.Full live) = tt
-make_leaves s t makes.Memory = tt
-make_leaves s t makes.Disk = tt
-make_leaves s t (makes.Damaged damage) = tt
-
 -- ---- what follows of each
+
+-- names leave all other records
+pub records_named : (s p m t : State) (old now : List (List ℕ)) (label key : List ℕ) → SameButReads s p → m ≡ interned p old label → t ≡ interned m now key → IsSameBeside format.names_file s.records t.records
+records_named s p m t old now label key read first second =
+    subst (λ r. IsSameBeside format.names_file r t.records) (ap (λ (z : State). z.records) read)
+    (beside_then format.names_file p.records m.records t.records (interned_beside p m old label first) (interned_beside m t now key second))
+
+-- and the shape
+pub shape_named : (s p m t : State) (old now : List (List ℕ)) (label key : List ℕ) → SameButReads s p → m ≡ interned p old label → t ≡ interned m now key → t.shape ≡ s.shape
+shape_named s p m t old now label key read first second =
+    shape_interned m t now key second ∙ shape_interned p m old label first ∙ ap (λ (z : State). z.shape) read
 
 -- names leave what the meta record of the indexes says
 pub meta_named : (s p m t : State) (old now : List (List ℕ)) (label key : List ℕ) → SameButReads s p → m ≡ interned p old label → t ≡ interned m now key → meta_of t format.index_file ≡ meta_of s format.index_file
@@ -98,7 +150,3 @@ caused_counted s t old now label key (PropsFull count) why = why.1
 caused_counted s t old now label key Memory why = tt
 caused_counted s t old now label key Disk why = tt
 caused_counted s t old now label key (Damaged damage) why = tt
-
--- no record has to be blamed by the space as it is left
-pub caused_still : (t : State) (old now : List (List ℕ)) (label key : List ℕ) (fault : ChangeFault) → IsCaused (commands.Index label key) t t old now fault → IsStillCaused (commands.Index label key) t old now fault
-caused_still t old now label key fault why = record { caused = why; damaged = any_blamed (IsStillDamage (commands.Index label key) t) (λ damage. tt) fault }

@@ -1,5 +1,5 @@
 -- What the test of a label and a key finds among the definitions.
-use Rattle.std.proofs.Common.{◌≡◌, ◌⊎◌, ⊎_elim, inl, inr, ℕ, ◌+◌, ◌<◌, ◌≤◌, nat_eq, nat_lt, Bool, true, false, ◌&&◌, ◌||◌, cond, Some, List, [], ◌∷◌, length, map, slice_get, Contains, ap, sym, ◌∙◌, arith, refl}
+use Rattle.std.proofs.Common.{◌≡◌, ⊎_elim, inl, inr, ℕ, ◌+◌, ◌<◌, ◌≤◌, nat_eq, nat_lt, Bool, true, false, ◌&&◌, ◌||◌, cond, Some, List, [], ◌∷◌, length, map, slice_get, Contains, ap, sym, ◌∙◌, arith, refl}
 use Rattle.std.specs.List.{list_any, sum_by}
 use Rattle.std.proofs.lemmas.Bool.{false≢true}
 use Rattle.std.proofs.lemmas.List.Sums.{sum_by-cons}
@@ -18,14 +18,16 @@ use Rattle.store_rules.specs.Chains.{In}
 use Rattle.store_rules.specs.Indexes.{indexed_key, indexed_label, wanted_in}
 use Rattle.store_rules.specs.Views.{Records, high, rec_at}
 use Rattle.store_rules.proofs.NumberLaws.{and_parts, lt_true}
-use Rattle.name_store.proofs.FirstNames.{contains_at, first-names_of}
+use Rattle.name_store.proofs.FirstNames.{contains_at, first-names_of, length-names_of}
 use Rattle.prop_index.specs.Listing.{ArePairsMet, pair_of}
 use Rattle.prop_index.specs.declared.listing.IndexPair.{IndexPair}
-use Rattle.graph_ops.specs.Causes.{HasDefinition, HasManyDefinitions}
+use Rattle.graph_ops.specs.Causes.{HasIndexOf, HasManyDefinitions}
 use Rattle.graph_ops.specs.Entries.{is_listed, is_pair}
-use Rattle.graph_ops.specs.Indexing.{HasNamed, IsUnlisted, LacksNamed, MayIndex, pair_reasons}
+use Rattle.graph_ops.specs.Indexing.{IsPairOf, MayIndex, pair_reasons}
 use Rattle.graph_ops.specs.Store.{IsStore, graph_in}
 use Rattle.graph_ops.proofs.GraphPairs.{any_in, apart, index_at, is_among, same_number, sum_indexes, text}
+use Rattle.graph_ops.proofs.IndexNumbers.{key_number, pair_named}
+use Rattle.graph_ops.proofs.LineNames.{some_names}
 use Rattle.graph_ops.proofs.NodePut.{number_in}
 use Rattle.graph_ops.proofs.PairWeights.{text_test}
 
@@ -44,10 +46,12 @@ listed_has s ds l k is =
 
 -- ---- over any records
 
-pub there_caused : (s : Records) (names : List (List ℕ)) (pairs : List IndexPair) (l k : ℕ) (label key : List ℕ) → ArePairsMet s pairs → slice_get names l ≡ Some label → slice_get names k ≡ Some key → is_listed pairs l k ≡ true → HasDefinition s names label key
-there_caused s names pairs l k label key met label_is key_is is =
-    let found = listed_has s met.definitions l k (ap (λ xs. is_listed xs l k) (sym met.pairs_are) ∙ is) in
-    (found.0, met.defined found.0 found.1, ap (slice_get names) found.2 ∙ label_is, ap (slice_get names) found.3 ∙ key_is)
+pub there_caused : (s : Records) (names : List (List ℕ)) (pairs : List IndexPair) (label key : List ℕ) (pair : IndexPair) → ArePairsMet s pairs → IsPairOf names label key pair → is_listed pairs pair.label pair.key ≡ true → HasIndexOf s names label key
+there_caused s names pairs label key pair met numbers is =
+    let used = some_names names (label ∷ key ∷ []) in
+    let at = pair_named names label key pair numbers used.0 used.1 in
+    let found = listed_has s met.definitions pair.label pair.key (ap (λ xs. is_listed xs pair.label pair.key) (sym met.pairs_are) ∙ is) in
+    (used.0, used.1, (found.0, met.defined found.0 found.1, ap (slice_get used.0) found.2 ∙ at.0, ap (slice_get used.0) found.3 ∙ at.1))
 
 pub many_caused : (s : Records) (pairs : List IndexPair) → ArePairsMet s pairs → 16 ≤ length pairs → HasManyDefinitions s
 many_caused s pairs met many = (met.definitions, met.walk, let n = ap length met.pairs_are ∙ length-map met.definitions (pair_of s) in omega (arith, n, many))
@@ -94,10 +98,10 @@ module _ (s : State) (names : List (List ℕ)) (whole : IsStore s names) where
   ds = whole.store.indexes.definitions
 
   low : (d : ℕ) → In d ds → (indexed_label s.records d < high s.records format.names_file) × (indexed_key s.records d < high s.records format.names_file)
-  low d i = (apart s.records s.shape whole.store.store.ranges (wanted_in s.records) whole.store.indexes).named d i
+  low d i = (apart s.records whole.store.store.defined (wanted_in s.records) whole.store.indexes).named d i
 
   sums : (f : Index → ℕ) → sum_by f (graph_in s).indexes ≡ sum_by (λ d. f (index_at s.records (indexed_label s.records d) (indexed_key s.records d))) ds
-  sums f = sum_indexes s.records s.shape whole.store.store.ranges (wanted_in s.records) whole.store.indexes f
+  sums f = sum_indexes s.records whole.store.store.defined (wanted_in s.records) whole.store.indexes f
 
   pub index_count_is : length (graph_in s).indexes ≡ length ds
   index_count_is = sym (index_ones (graph_in s).indexes) ∙ sums (λ x. 1) ∙ ones ds
@@ -138,12 +142,30 @@ module _ (s : State) (names : List (List ℕ)) (whole : IsStore s names) where
       listed_is : (l k : ℕ) → is_among s.records ds l k ≡ is_listed pairs l k
       listed_is l k = sym (listed_among s.records ds l k) ∙ ap (λ xs. is_listed xs l k) (sym are)
 
-      pub named_there : HasNamed pairs names label key → has_index (graph_in s) label key ≡ true
-      named_there named = known_index named.label_number named.key_number named.label_named named.key_named ∙ listed_is named.label_number named.key_number ∙ named.listed
+      names_high : length names ≡ high s.records format.names_file
+      names_high = ap length whole.names ∙ length-names_of s.records
 
-      pub lacks_there : LacksNamed pairs names label key → has_index (graph_in s) label key ≡ false
-      lacks_there lacks = ⊎_elim label_unknown (λ (rest : (¬ Contains names key) ⊎ IsUnlisted pairs names label key). ⊎_elim key_unknown
-          (λ (one : IsUnlisted pairs names label key). known_index one.label_number one.key_number one.label_named one.key_named ∙ listed_is one.label_number one.key_number ∙ one.unlisted) rest) lacks
+      module _ (pair : IndexPair) (numbers : IsPairOf names label key pair) where
+        -- the numbers of a pair that is listed are those of names
+        pub listed_there : is_listed pairs pair.label pair.key ≡ true → has_index (graph_in s) label key ≡ true
+        listed_there is =
+            let found = listed_has s.records ds pair.label pair.key (ap (λ xs. is_listed xs pair.label pair.key) (sym are) ∙ is) in
+            let own = low found.0 found.1 in
+            let n = names_high in
+            let label_same = found.2 in
+            let key_same = found.3 in
+            let label_at : slice_get names pair.label ≡ Some label = ⊎_elim (λ (at : slice_get names pair.label ≡ Some label). at)
+            (λ (new : (¬ Contains names label) × (pair.label ≡ length names)). let e = new.1 in let lt = own.0 in absurd (omega (arith, n, e, lt, label_same))) numbers.label_is in
+            let key_at : slice_get names pair.key ≡ Some key = ⊎_elim (λ (at : slice_get names pair.key ≡ Some key). at)
+            (λ (new : (¬ Contains names key) × (pair.key ≡ length names)). let e = new.1 in let lt = own.1 in absurd (omega (arith, n, e, lt, key_same))) (key_number names label key pair numbers label_at) in
+            known_index pair.label pair.key label_at key_at ∙ listed_is pair.label pair.key ∙ is
+
+        pub unlisted_free : is_listed pairs pair.label pair.key ≡ false → has_index (graph_in s) label key ≡ false
+        unlisted_free is = ⊎_elim
+            (λ (label_at : slice_get names pair.label ≡ Some label). ⊎_elim
+            (λ (key_at : slice_get names pair.key ≡ Some key). known_index pair.label pair.key label_at key_at ∙ listed_is pair.label pair.key ∙ is)
+            (λ (new : (¬ Contains names key) × (pair.key ≡ length names)). key_unknown new.0) (key_number names label key pair numbers label_at))
+            (λ (new : (¬ Contains names label) × (pair.label ≡ length names)). label_unknown new.0) numbers.label_is
 
       pub pairs_long : length pairs ≡ length ds
       pairs_long = ap length are ∙ length-map ds (pair_of s.records)

@@ -1,6 +1,8 @@
 -- A name that gets its number keeps a store, its nodes and its edges.
+use Rattle.std.specs.Cmp.Lexicographic.{pointwise}
+use Rattle.std.specs.List.{list_any}
 use Rattle.std.specs.Prelude.{Contains}
-use Rattle.std.proofs.Common.{◌≡◌, ◌≢◌, ℕ, ◌-◌, List, [], ◌∷◌, ◌++◌, length, sym, ap, ◌∙◌, subst, inl, inr, ⊎_elim, arith, refl}
+use Rattle.std.proofs.Common.{◌≡◌, ◌≢◌, ℕ, ◌-◌, nat_eq, Bool, true, false, cond, List, [], ◌∷◌, ◌++◌, length, sym, ap, ◌∙◌, subst, inl, inr, ⊎_elim, arith, refl}
 use Rattle.std.proofs.lemmas.List.{length-append}
 use Rattle.plain_graph.specs.Graph.{UsesName}
 use Rattle.plain_graph.specs.Names.{IsShortName}
@@ -30,6 +32,13 @@ named-shape : (s : State) (id : ℕ) (text : List ℕ) → (named s id text).sha
 unfolding named
 named-shape s id text = refl
 
+pub shape_interned : (s t : State) (names : List (List ℕ)) (text : List ℕ) → t ≡ interned s names text → t.shape ≡ s.shape
+shape_interned s t names text is = ap (λ (z : State). z.shape) is ∙ by (list_any (pointwise nat_eq text) names)
+  where
+    by : (b : Bool) → (cond b s (named s (length names) text)).shape ≡ s.shape
+    by true = refl
+    by false = named-shape s (length names) text
+
 -- a name that is new goes to the end
 keeps_named : (s : State) (old : List (List ℕ)) (text : List ℕ) → IsMidway s old → IsShortName text → ¬ Contains old text → length old ≢ format.most_names → KeepsElements s (named s (length old) text) (old ++ text ∷ [])
 keeps_named s old text store short lacks few =
@@ -48,7 +57,7 @@ keeps_named s old text store short lacks few =
       shape = named-shape s count text;
       nodes = nodes_stay s.records v s.shape (name_record text) text there store.store;
       edges = edges_stay s.records v s.shape (name_record text) text there store.store;
-      indexes = named_indexes s.records v s.shape (name_record text) text there store.store.ranges;
+      indexes = named_indexes s.records v s.shape (name_record text) text there store.store.defined;
       keeps = named_indexed s.records v s.shape (name_record text) text there;
     })
 

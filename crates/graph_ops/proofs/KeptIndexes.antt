@@ -17,7 +17,7 @@ use Rattle.store_rules.specs.Views.{Records, high, key_in, kind_in, rec_at}
 use Rattle.store_rules.proofs.Changes as ch
 use Rattle.store_rules.proofs.EdgeChange as ec
 use Rattle.store_rules.proofs.EdgeChange.{IsEdgeChange}
-use Rattle.store_rules.proofs.IndexKept.{changed_index, edge_index, properties_index}
+use Rattle.store_rules.proofs.IndexKept.{changed_index, properties_index}
 use Rattle.store_rules.proofs.IndexStays.{indexes_stay, wanted_same}
 use Rattle.store_rules.proofs.MetaLaws.{not_meta_key}
 use Rattle.store_rules.proofs.NodeChange as nc
@@ -44,7 +44,7 @@ graph_indexes s t same names mark = λ i. indexes_from (λ x. kind_in (metas.met
 
 -- where a relationship came or went
 pub edge_graph_indexes : (s t : Records) (id : ℕ) → IsEdgeChange s t id → indexes_of t ≡ indexes_of s
-edge_graph_indexes s t id change = graph_indexes s t (edge_index s t id change) (ec.name_file s t id change) (ec.name_mark s t id change)
+edge_graph_indexes s t id change = graph_indexes s t (ec.index_same s t id change) (ec.name_file s t id change) (ec.name_mark s t id change)
 
 -- where a node came or went
 pub node_graph_indexes : (s t : Records) (id : ℕ) → ch.IsChanged s t format.nodes_file id → indexes_of t ≡ indexes_of s

@@ -181,8 +181,8 @@ module _ (s : State) (id : ℕ) (store : IsIndexed s.records s.shape) (owned : I
   records_more =
       let there = any_in (has_pair s.records label number) store.indexes.definitions listed in
       let pair = pair_is s.records label number there.0 there.2 in
-      let one : index_records g ≡ sum_by (of_definition s.records before) store.indexes.definitions = sum_indexes s.records s.shape store.store.ranges (wanted_in s.records) store.indexes before in
-      let other : index_records (with_value g (targets.Node id) key value) ≡ sum_by (of_definition s.records after) store.indexes.definitions = sum_indexes s.records s.shape store.store.ranges (wanted_in s.records) store.indexes after in
+      let one : index_records g ≡ sum_by (of_definition s.records before) store.indexes.definitions = sum_indexes s.records store.store.defined (wanted_in s.records) store.indexes before in
+      let other : index_records (with_value g (targets.Node id) key value) ≡ sum_by (of_definition s.records after) store.indexes.definitions = sum_indexes s.records store.store.defined (wanted_in s.records) store.indexes after in
       let at : of_definition s.records before there.0 < of_definition s.records after there.0
       = subst (λ x. before (index_at s.records x (indexed_key s.records there.0)) < after (index_at s.records x (indexed_key s.records there.0))) (sym pair.0)
       (subst (λ y. before (index_at s.records label y) < after (index_at s.records label y)) (sym pair.1) own) in

@@ -67,7 +67,10 @@ mod LiveIndexes
 mod SetRefused
 mod AddedWeights
 mod NodeEntries
+mod IndexCounted
+mod IndexFree
 mod IndexMade
+mod IndexNumbers
 mod IndexPlaced
 mod IndexRefused
 mod IndexTested

@@ -57,7 +57,8 @@ pub uses_once : (a : List (List ℕ)) (xs b c : List (List ℕ)) → UsesNames a
 uses_once a [] b c h k = h ∙ sym k
 uses_once a (x ∷ xs) b c h k = uses_once k.0 xs b c (subst (λ z. UsesNames z xs b) (name_once a x h.0 k.0 h.1 k.1) h.2) k.2
 
-some_names : (a xs : List (List ℕ)) → (b : List (List ℕ)) × UsesNames a xs b
+-- there are some after each line
+pub some_names : (a xs : List (List ℕ)) → (b : List (List ℕ)) × UsesNames a xs b
 some_names a [] = (a, refl)
 some_names a (x ∷ xs) = let one = some_name a x in let rest = some_names one.0 xs in (rest.0, (one.0, one.1, rest.1))
 

@@ -172,7 +172,7 @@ module _ (s : State) (store : IsIndexed s.records s.shape) where
     -- ---- they are the index's nodes in the graph
 
     low : (indexed_label s.records d < high s.records format.names_file) × (indexed_key s.records d < high s.records format.names_file)
-    low = (apart s.records s.shape store.store.ranges (wanted_in s.records) ix).named d i
+    low = (apart s.records store.store.defined (wanted_in s.records) ix).named d i
 
     abbrev index : Index
     index = index_at s.records (indexed_label s.records d) (indexed_key s.records d)
@@ -194,7 +194,7 @@ module _ (s : State) (store : IsIndexed s.records s.shape) where
       ∙ ap (λ n. 13 * length ix.definitions + n) (length-flat_map entries ix.definitions)
       ∙ both ix.definitions
       ∙ sym (sum_same (of_definition s.records (λ (index : Index). 13 + length (indexed_nodes (graph_of s.records) index))) (λ d. 13 + length (entries d)) ix.definitions (λ d i. ap (λ n. 13 + n) (nodes_count d i)))
-      ∙ sym (sum_indexes s.records s.shape store.store.ranges (wanted_in s.records) ix (λ (index : Index). 13 + length (indexed_nodes (graph_of s.records) index)))
+      ∙ sym (sum_indexes s.records store.store.defined (wanted_in s.records) ix (λ (index : Index). 13 + length (indexed_nodes (graph_of s.records) index)))
     where
       both : (ds : List ℕ) → 13 * length ds + sum_by (λ d. length (entries d)) ds ≡ sum_by (λ d. 13 + length (entries d)) ds
       both [] = refl

@@ -137,7 +137,7 @@ module _ (n u t : State) (names : List (List ℕ)) (id : ℕ) (store : IsStore n
       -- a pair of the definitions then was one before
       listed_then : (d : ℕ) → In d left.definitions → list_any (is_pair (indexed_label v.records d) (indexed_key v.records d)) (map (pair_of n.records) store.store.indexes.definitions) ≡ true
       listed_then d i =
-          let low = (apart v.records v.shape keeps.ranges (without_held (wanted_in n.records) held) left).named d i in
+          let low = (apart v.records keeps.defined (without_held (wanted_in n.records) held) left).named d i in
           let mark = mark_same t.records v.records beside format.names_file (λ e. omega arith) ∙ gone_mark in
           listed_among n.records store.store.indexes.definitions (indexed_label v.records d) (indexed_key v.records d)
           ∙ sym (pairs_same n.records v.records n.shape v.shape store.store.store keeps (wanted_in n.records) (without_held (wanted_in n.records) held) store.store.indexes left (graph ∙ gone_indexes) (file_same t.records v.records beside format.names_file refl (λ e. omega arith) ∙ gone_names) mark

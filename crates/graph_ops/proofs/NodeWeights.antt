@@ -72,7 +72,7 @@ module _ (s : State) (id : ℕ) (store : IsIndexed s.records s.shape) (owned : I
 
   one_in : (d : ℕ) → In d store.indexes.definitions → of_definition s.records weigh d ≡ (if is_in d then 3 else 0)
   one_in d i =
-      let low = (apart s.records s.shape store.store.ranges (wanted_in s.records) store.indexes).named d i in
+      let low = (apart s.records store.store.defined (wanted_in s.records) store.indexes).named d i in
       rw (text_test (rec_at s.records format.names_file) (high s.records format.names_file) store.store.names (indexed_label s.records d) label low.0 label_low, key_held (indexed_key s.records d) low.1, no_key (text s.records (indexed_key s.records d)))
       (by (nat_eq (indexed_label s.records d) label) (is_some (node_value s.records label (indexed_key s.records d) id)))
     where
@@ -88,7 +88,7 @@ module _ (s : State) (id : ℕ) (store : IsIndexed s.records s.shape) (owned : I
   pub node_entries : element_weight (graph_of s.records) (targets.Node id) (λ key. true) no_properties ≡ 3 * length (filter is_in store.indexes.definitions)
   node_entries =
       node_weighs s.records id has.used (λ key. true) no_properties
-      ∙ sum_indexes s.records s.shape store.store.ranges (wanted_in s.records) store.indexes weigh
+      ∙ sum_indexes s.records store.store.defined (wanted_in s.records) store.indexes weigh
       ∙ sum_same (of_definition s.records weigh) (λ d. if is_in d then 3 else 0) store.indexes.definitions one_in
       ∙ threes is_in store.indexes.definitions
 

@@ -67,7 +67,7 @@ module _ (s : Records) (shape : Shape) (store : IsWellFormed s shape) (wanted : 
 
   one_weighs : (d : ℕ) → In d ix.definitions → of_definition s weigh d ≡ cond (has_pair s label key d) (weight (text s key)) 0
   one_weighs d i =
-      let low = (apart s shape store.ranges wanted ix).named d i in
+      let low = (apart s store.defined wanted ix).named d i in
       let names = rec_at s format.names_file in
       let mark = high s format.names_file in
       rw (text_test names mark store.names (indexed_label s d) label low.0 label_low, text_test names mark store.names key (indexed_key s d) key_low low.1) (by (nat_eq (indexed_label s d) label))
@@ -84,5 +84,5 @@ module _ (s : Records) (shape : Shape) (store : IsWellFormed s shape) (wanted : 
 
   -- so the pair's definition, if there is one, counts alone
   pub pair_weight : sum_by weigh (indexes_of s) ≡ cond (is_among s ix.definitions label key) (weight (text s key)) 0
-  pair_weight = sum_indexes s shape store.ranges wanted ix weigh ∙ sum_same (of_definition s weigh) (λ d. cond (has_pair s label key d) (weight (text s key)) 0) ix.definitions one_weighs
-      ∙ sum_one s label key (weight (text s key)) ix.definitions (apart s shape store.ranges wanted ix)
+  pair_weight = sum_indexes s store.defined wanted ix weigh ∙ sum_same (of_definition s weigh) (λ d. cond (has_pair s label key d) (weight (text s key)) 0) ix.definitions one_weighs
+      ∙ sum_one s label key (weight (text s key)) ix.definitions (apart s store.defined wanted ix)

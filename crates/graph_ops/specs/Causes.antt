@@ -1,7 +1,8 @@
 -- Why a change is refused, by what the records say, whether or not they keep the rules.
-use Rattle.std.specs.Prelude.{◌≡◌, ◌≢◌, ◌⊎◌, ◌<◌, ◌≤◌, ℕ, List, [], ◌∷◌, None, Some, length}
+use Rattle.std.specs.Prelude.{◌≡◌, ◌≢◌, ◌⊎◌, ◌+◌, ◌<◌, ◌≤◌, ℕ, List, [], ◌∷◌, None, Some, length}
 use Rattle.std.specs.Prelude.{slice_get}
 use Rattle.std.specs.FinMap as maps
+use Rattle.plain_graph.specs.Graph.{UsesNames}
 use Rattle.plain_graph.specs.Indexes.{most_indexed, most_indexes}
 use Rattle.plain_graph.specs.Properties.{blocks_of, keys_in, no_properties, with_pairs}
 use Rattle.plain_graph.specs.Refusals.{most_names, most_properties}
@@ -10,6 +11,7 @@ use Rattle.plain_graph.specs.declared.command.Command.TheVariants as commands
 use Rattle.plain_graph.specs.declared.command.Target.{Target}
 use Rattle.plain_graph.specs.declared.command.Target.TheVariants as targets
 use Rattle.plain_graph.specs.declared.pairs.Pair.{Pair}
+use Rattle.prop_index.specs.Making.{count_of}
 use Rattle.prop_store.specs.Finding.{IsCrowded, LacksMet}
 use Rattle.prop_store.specs.SetFault.{IsFullFile, IsNeeded}
 use Rattle.rec_bytes.specs.declared.damage.Damage.{Damage}
@@ -49,6 +51,21 @@ HasDefinition records names label key =
     × (slice_get names (indexed_label records d) ≡ Some label)
     × (slice_get names (indexed_key records d) ≡ Some key)
 
+-- so one has, by the numbers that they have, or get as they become names
+abbrev pub HasIndexOf : Records → List (List ℕ) → List ℕ → List ℕ → Type 0
+HasIndexOf records names label key =
+    (used : List (List ℕ)) × UsesNames names (label ∷ key ∷ []) used
+    × HasDefinition records used label key
+
+-- So many nodes of the label have the key, by their numbers among the names.
+pub record HasCount (records : Records) (names : List (List ℕ)) (label key : List ℕ) (count : ℕ)
+    : Type 0 where
+  pub label_number : ℕ
+  pub key_number : ℕ
+  pub label_named : slice_get names label_number ≡ Some label
+  pub key_named : slice_get names key_number ≡ Some key
+  pub count_is : count ≡ count_of records label_number key_number
+
 -- there are as many definitions as there may be
 abbrev pub HasManyDefinitions : Records → Type 0
 HasManyDefinitions records =
@@ -80,17 +97,19 @@ AsksNames names (commands.Index label key) = LacksNames names (label ∷ key ∷
 AsksNames names _ = ⊥
 
 -- A new element needs so many records of the file: its own one, or those of its properties, and a
--- node at most one of the indexes for each. An
--- index needs one for its definition, twelve for its buckets, and one for each node.
-abbrev pub AsksRoom : Command → ℕ → ℕ → Type 0
-AsksRoom (commands.Node label pairs) file count =
+-- node at most one of the indexes for each. An index needs one for its definition, twelve for its
+-- buckets, and one for each node of the label that has the key.
+abbrev pub AsksRoom : Command → Records → List (List ℕ) → ℕ → ℕ → Type 0
+AsksRoom (commands.Node label pairs) records names file count =
     ((file ≡ format.nodes_file) × (count ≡ 1))
     ⊎ (NeedForPairs pairs file count
     ⊎ ((file ≡ format.index_file) × (count ≤ maps.len (with_pairs no_properties pairs))))
-AsksRoom (commands.Edge from label to pairs) file count =
+AsksRoom (commands.Edge from label to pairs) records names file count =
     ((file ≡ format.relationships_file) × (count ≡ 1)) ⊎ NeedForPairs pairs file count
-AsksRoom (commands.Index label key) file count = (file ≡ format.index_file) × (13 ≤ count)
-AsksRoom _ file count = ⊥
+AsksRoom (commands.Index label key) records names file count =
+    (file ≡ format.index_file)
+    × ((n : ℕ) × HasCount records names label key n × (count ≡ 13 + n))
+AsksRoom _ records names file count = ⊥
 
 -- The records of the element lead to no property with the key, by its number among these names.
 pub record LacksKey (records : Records) (names : List (List ℕ)) (target : Target) (key : List ℕ)
@@ -136,7 +155,8 @@ AsksTooMany _ records names = ⊥
 -- is told as values are given that need a record of it: by the space as it is left it is full.
 abbrev pub IsFull : Command → State → State → List (List ℕ) → ℕ → ℕ → Type 0
 IsFull command s t now file live =
-    ((count : ℕ) × AsksRoom command file count × LacksRoom s file count (Full file live))
+    ((count : ℕ) × AsksRoom command s.records now file count
+    × LacksRoom s file count (Full file live))
     ⊎ (AsksRecord command s.records now file × IsFullFile t file live)
 
 -- Why the command is refused, by the space and the names as they were and as they are left. A
@@ -148,11 +168,12 @@ IsCaused command s t names now (NoEdge id) =
     AsksEdge command id × (rels.row_at s.records id ≡ None)
 IsCaused command s t names now (HasRelationships id degree) =
     (command ≡ commands.Delete (targets.Node id)) × HasDegree s.records id degree × (degree ≢ 0)
-IsCaused command s t names now IndexThere = AsksIndex command (HasDefinition s.records names)
+IsCaused command s t names now IndexThere = AsksIndex command (HasIndexOf s.records names)
 IsCaused command s t names now TooManyIndexes =
     AsksIndex command (λ label key. HasManyDefinitions s.records)
 IsCaused command s t names now (IndexTooLarge count) =
-    AsksIndex command (λ label key. most_indexed < count)
+    AsksIndex command
+    (λ label key. (most_indexed < count) × HasCount s.records now label key count)
 IsCaused command s t names now (Full file live) = IsFull command s t now file live
 IsCaused command s t names now (NamesFull count) = AsksNames names command × (count ≡ most_names)
 IsCaused command s t names now (PropsFull count) =
@@ -167,6 +188,7 @@ abbrev pub IsStillDamage : Command → State → Damage → Type 0
 IsStillDamage (commands.Node label pairs) t damage = IsBroken t damage
 IsStillDamage (commands.Edge from label to pairs) t damage = IsLinkingDamage t from to damage
 IsStillDamage (commands.Set target key value) t damage = IsBroken t damage
+IsStillDamage (commands.Index label key) t damage = IsBroken t damage
 IsStillDamage _ t damage = Unit {0}
 
 -- Why the command is refused, by the space as it is left alone.

@@ -2,7 +2,6 @@
 use Rattle.std.specs.Prelude.{◌≡◌, ℕ, nat_eq, Bool, false, ◌||◌, Result}
 use Rattle.std.specs.Bool.{OnTrue}
 use Rattle.rec_bytes.specs.Format as format
-use Rattle.rec_bytes.specs.declared.damage.Damage.{Damage}
 use Rattle.rec_bytes.specs.declared.space.SpaceFault.{SpaceFault}
 use Rattle.rec_bytes.specs.declared.space.SpaceFault.TheVariants as space
 use Rattle.rec_bytes.specs.declared.row_fault.RowFault.{RowFault}
@@ -59,14 +58,9 @@ of_set set.Memory = Memory
 of_set set.Disk = Disk
 of_set (set.Damaged damage) = Damaged damage
 
--- the records of the indexes name what they may not
-abbrev pub index_damage : Damage
-index_damage = record { file = format.meta_file; id = format.index_file; rule = 8 }
-
--- The pair and the number of indexes are tested before the first write.
 abbrev pub of_make : MakeFault → ChangeFault
-of_make makes.There = Damaged index_damage
-of_make makes.Many = Damaged index_damage
+of_make makes.There = IndexThere
+of_make makes.Many = TooManyIndexes
 of_make (makes.TooLarge count) = IndexTooLarge count
 of_make (makes.Full live) = Full format.index_file live
 of_make makes.Memory = Memory

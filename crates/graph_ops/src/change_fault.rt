@@ -2,7 +2,7 @@ use id_freelist::TakeFault;
 use name_store::InternFault;
 use prop_index::MakeFault;
 use prop_store::SetFault;
-use rec_bytes::{Damage, Fault, INDEX, INDEX_RULE, META, RowFault, SpaceFault};
+use rec_bytes::{Damage, Fault, INDEX, RowFault, SpaceFault};
 use thiserror::Error;
 
 /// Why a change was refused.
@@ -145,12 +145,8 @@ impl From<MakeFault> for ChangeFault {
 
     fn from(fault: MakeFault) -> ChangeFault {
         match fault {
-            // tested before the first write: it is so then for what the records name wrongly
-            MakeFault::There | MakeFault::Many => ChangeFault::Damaged(Damage {
-                file: META,
-                id: INDEX as u32,
-                rule: INDEX_RULE,
-            }),
+            MakeFault::There => ChangeFault::IndexThere,
+            MakeFault::Many => ChangeFault::TooManyIndexes,
             MakeFault::TooLarge { count } => ChangeFault::IndexTooLarge { count },
             MakeFault::Full { live } => ChangeFault::Full { file: INDEX, live },
             MakeFault::Memory => ChangeFault::Memory,

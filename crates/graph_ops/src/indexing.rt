@@ -1,7 +1,7 @@
 //! An index that is made.
 
 ghost use Rattle.std.specs.Prelude.{◌≡◌, ◌++◌, ◌+◌, ◌-◌, ◌<◌, ◌≤◌, [], ◌∷◌, ℕ, List, IfErr, IfOk};
-ghost use Rattle.std.specs.Prelude.{IsErr, OnErr, OnOk, false, length, true};
+ghost use Rattle.std.specs.Prelude.{IsErr, OnErr, OnOk, length};
 ghost use Rattle.plain_graph.specs.Changes.{most_weight, start_weight};
 ghost use Rattle.plain_graph.specs.Graph.{UsesNames};
 ghost use Rattle.plain_graph.specs.Lines.{HasForm};
@@ -13,7 +13,14 @@ ghost use Rattle.store_rules.specs.Writes.{WritesAtMost};
 ghost use Rattle.graph_ops.specs.Causes.{IsCaused, IsStillCaused};
 ghost use Rattle.graph_ops.specs.Change.{IsCounted, IsRefusal, IsRefusedBy, MakesChange};
 ghost use Rattle.graph_ops.specs.ChangeFault.{HasChangeCause, LeavesSpace};
-ghost use Rattle.graph_ops.specs.Indexing.{HasNamed, LacksNamed, MayIndex, pair_reasons};
+ghost use Rattle.graph_ops.specs.Damage.{BlamesBroken};
+ghost use Rattle.graph_ops.specs.Indexing.{
+  IsNumberOf,
+  IsPairOf,
+  LacksIndex,
+  MayIndex,
+  pair_reasons,
+};
 ghost use Rattle.graph_ops.specs.Store.{IsStore, graph_in};
 
 use crate::ChangeFault;
@@ -47,6 +54,7 @@ pub fn index<S: Space>(
         (S.state space.old) (S.state space.new) names.old.names names.new.names) }
     ensures still { S.tells → IfErr result (IsStillCaused (commands.Index label.now key.now)
         (S.state space.new) names.old.names names.new.names) }
+    ensures damaged { S.tells → IfErr result (BlamesBroken (S.state space.new)) }
     ensures counts { S.tells → IsStore (S.state space.old) names.old.names
         → IfErr result (IsCounted (S.state space.old)) }
     ensures names_full { (used : List (List ℕ))
@@ -70,8 +78,8 @@ pub fn index<S: Space>(
     Ok(13 + (names.count() - known) + count)
 }
 
-/// Tests that the label and the key have no index, and that there may be one more. This comes
-/// before they become names.
+/// Tests that no index has the numbers that the label and the key have, or get as they become
+/// names, and that there may be one more. This comes before they become names.
 fn test_pair<R: Reads>(
     alloc: Global,
     space: &mut R,
@@ -81,17 +89,21 @@ fn test_pair<R: Reads>(
 ) -> Result<(), ChangeFault>
     ensures may { R.tells → IsStore (R.state space.old) names.now.names
         → OnOk result (MayIndex (R.state space.old) label.now key.now) }
+    ensures tested { R.tells → OnOk result
+        (LacksIndex (R.state space.old).records names.now.names label.now key.now) }
     ensures refused { R.tells → IsStore (R.state space.old) names.now.names → IfErr result
         (IsRefusedBy pair_reasons (R.state space.old).shape.limit (graph_in (R.state space.old))
         (commands.Index label.now key.now)) }
     ensures caused { R.tells → IfErr result (IsCaused (commands.Index label.now key.now)
         (R.state space.old) (R.state space.new) names.now.names names.now.names) }
+    ensures damaged { R.tells → IfErr result (BlamesBroken (R.state space.old)) }
     ensures same { SameButReads (R.state space.old) (R.state space.new) }
     ensures onward { R.onward space.old space.new }
     ensures cause { HasChangeCause (R.faults space.old) (R.faults space.new) result }
 {
+    let pair = pair_of(names, label, key);
     let listed = indexes(alloc, space)?;
-    if has_named(&listed, names, label, key) {
+    if has_pair(&listed, pair.label, pair.key) {
         return Err(ChangeFault::IndexThere);
     }
     if listed.len() >= MOST_INDEXES {
@@ -100,16 +112,29 @@ fn test_pair<R: Reads>(
     Ok(())
 }
 
-/// Whether the label and the key are names, and by their numbers one of the pairs.
-fn has_named(pairs: &[IndexPair], names: &Names, label: &Text, key: &Text) -> bool
-    ensures has { result ≡ true → HasNamed pairs.now names.now.names label.now key.now }
-    ensures lacks { result ≡ false → LacksNamed pairs.now names.now.names label.now key.now }
+/// The numbers that the label and the key have, or get as they become names.
+fn pair_of(names: &Names, label: &Text, key: &Text) -> IndexPair
+    ensures { IsPairOf names.now.names label.now key.now result }
 {
-    let Some(label) = names.find(label.as_bytes()) else {
-        return false;
-    };
-    let Some(key) = names.find(key.as_bytes()) else {
-        return false;
-    };
-    has_pair(pairs, label, key)
+    let label_number = number_of(names, label);
+    let key_number = number_of(names, key);
+    if label_number == key_number && label.as_bytes() != key.as_bytes() {
+        // Both are new, and the key comes after the label.
+        return IndexPair {
+            label: label_number,
+            key: key_number + 1,
+        };
+    }
+    IndexPair {
+        label: label_number,
+        key: key_number,
+    }
+}
+
+/// The number of a text among the names, or the one that it gets if it becomes the next name.
+fn number_of(names: &Names, text: &Text) -> u32
+    ensures is { IsNumberOf names.now.names text.now result }
+    ensures few { result ≤ most_names }
+{
+    names.find(text.as_bytes()).unwrap_or(names.count())
 }

@@ -37,7 +37,7 @@ use Rattle.group_store.proofs.Regrouping.{IsFrame, others_stay, regroups_of}
 -- ---- the rules, in the words of what is left
 
 pub others_of : (records : Records) (shape : Shape) (most : ℕ) (empty : List ℕ) → KeepsRules records shape most empty → KeepsOthers records shape most
-others_of records shape most empty keeps = record { ranges = keeps.ranges; split = keeps.split; kept = keeps.kept; properties = keeps.properties; named = keeps.named; names = keeps.names; degrees = keeps.degrees }
+others_of records shape most empty keeps = record { ranges = keeps.ranges; split = keeps.split; kept = keeps.kept; properties = keeps.properties; named = keeps.named; defined = keeps.defined; names = keeps.names; degrees = keeps.degrees }
 
 -- ---- the record of the node
 

@@ -318,7 +318,7 @@ module _ (s : State) (node g most : ℕ) (empty : List ℕ) (well : KeepsRules s
       (well.exact h q (sym (group_stays_at h ne) ∙ is) (sym (d.kind_stays s t node g free xs can gives h ne) ∙ kind))
 
   others : KeepsOthers s.records s.shape most
-  others = record { ranges = well.ranges; split = well.split; kept = well.kept; properties = well.properties; named = well.named; names = well.names; degrees = well.degrees }
+  others = record { ranges = well.ranges; split = well.split; kept = well.kept; properties = well.properties; named = well.named; defined = well.defined; names = well.names; degrees = well.degrees }
 
   -- ---- all of it
   keeps_now : KeepsRules t.records s.shape most empty
@@ -333,6 +333,7 @@ module _ (s : State) (node g most : ℕ) (empty : List ℕ) (well : KeepsRules s
         exact = exact_now;
         properties = o.properties;
         named = o.named;
+        defined = o.defined;
         names = o.names;
         degrees = o.degrees;
       }

@@ -33,6 +33,7 @@ may_be s shape most few many more well = record {
   exact = well.exact;
   properties = well.properties;
   named = well.named;
+  defined = well.defined;
   names = well.names;
   degrees = well.degrees;
 }
@@ -58,6 +59,7 @@ is_not s shape most g empty filled well = record {
   exact = well.exact;
   properties = well.properties;
   named = well.named;
+  defined = well.defined;
   names = well.names;
   degrees = well.degrees;
 }

@@ -35,7 +35,7 @@ use Rattle.group_store.proofs.Regrouping.{regroups_both, regroups_read}
 
 pub all_but : (s : Records) (shape : Shape) (node most : ℕ) (empty : List ℕ) → KeepsRules s shape most empty → KeepsBut s shape node [] most empty
 all_but s shape node most empty well = record {
-  others = record { ranges = well.ranges; split = well.split; kept = well.kept; properties = well.properties; named = well.named; names = well.names; degrees = well.degrees };
+  others = record { ranges = well.ranges; split = well.split; kept = well.kept; properties = well.properties; named = well.named; defined = well.defined; names = well.names; degrees = well.degrees };
   linked = record {
     ends = well.linked.ends;
     typed = λ x n row live end dense out. well.linked.typed x n row live end dense;
@@ -62,6 +62,7 @@ but_all s shape node most empty well exact = record {
   exact = exact;
   properties = well.others.properties;
   named = well.others.named;
+  defined = well.others.defined;
   names = well.others.names;
   degrees = well.others.degrees;
 }

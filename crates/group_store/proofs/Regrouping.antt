@@ -17,6 +17,7 @@ use Rattle.store_rules.specs.Ranges.{AreInRange, is_reused}
 use Rattle.store_rules.specs.Rows.{collect, ids}
 use Rattle.store_rules.specs.Rules.{AreNamed, AreNames, HaveProperties, IsSplit, PropertyFiles, degree_of, next_free, property_files}
 use Rattle.store_rules.specs.Views.{GroupRow, NodeRow, Records, RelRow, degree, group_at, high, is_live, key_in, kind_at, kind_in, node_at, node_in, rec_at, rel_at, row_if, text_of}
+use Rattle.store_rules.proofs.DefinedStays.{defined_stay}
 use Rattle.store_rules.proofs.ChainLaws.{walk_stays}
 use Rattle.store_rules.proofs.Frames.{IsSame, files_same, records_same, split_same}
 use Rattle.store_rules.proofs.MetaLaws.{meta_of_reused, not_meta_key}
@@ -182,6 +183,10 @@ module _ (s t : Records) (node : ℕ) (h : IsFrame s t node) where
         (subst (HaveProperties (property_files s) (node_at s) (rel_at s)) (sym name_mark) old.properties)));
     named = subst (λ (n : ℕ → Option NodeRow). AreNamed n (rel_at t) (high t format.names_file)) (sym nodes_same)
         (subst (λ (r : ℕ → Option RelRow). AreNamed (node_at s) r (high t format.names_file)) (sym rels_same) (subst (AreNamed (node_at s) (rel_at s)) (sym name_mark) old.named));
+    defined = defined_stay s t (record {
+      records = λ i x. (file_same format.index_file refl (λ e. omega arith) (λ e. omega arith) (λ e. omega arith)).each x i;
+      meta = meta_same format.index_file (λ e. omega arith);
+    }) (omega (arith, name_mark)) old.defined;
     names = subst (λ (r : ℕ → Rec). AreNames r (high t format.names_file)) (sym name_file) (subst (AreNames (rec_at s format.names_file)) (sym name_mark) old.names);
     degrees = record {
       each = λ n used. degree_same n ∙ old.degrees.each n (used_was n used)

@@ -22,7 +22,8 @@ use Rattle.store_rules.specs.Breaking.{IsHeadChain}
 use Rattle.store_rules.specs.Chains.{In, IsWalk}
 use Rattle.store_rules.specs.Ends.{Regroups}
 use Rattle.store_rules.specs.Ranges.{AreInRange, is_reused}
-use Rattle.store_rules.specs.Rules.{AllListed, AreAllLive, AreCounted, AreNamed, AreNames, HasEnds}
+use Rattle.store_rules.specs.Rules.{AllListed, AreAllLive, AreCounted, AreDefined, AreNamed}
+use Rattle.store_rules.specs.Rules.{AreNames, HasEnds}
 use Rattle.store_rules.specs.Rules.{HasGroup, HaveProperties, Head, IsEnd, IsGrouped}
 use Rattle.store_rules.specs.Rules.{HasCounts, IsSplit, Owns, StandsAt, first_of}
 use Rattle.store_rules.specs.Rules.{property_files}
@@ -41,6 +42,8 @@ pub record KeepsOthers (records : Records) (shape : Shape) (most : ℕ) : Type 0
   pub properties : HaveProperties (property_files records) (node_at records) (rel_at records)
       (high records format.names_file)
   pub named : AreNamed (node_at records) (rel_at records) (high records format.names_file)
+  pub defined : AreDefined (kind_at records format.index_file)
+      (rec_at records format.index_file) (high records format.names_file)
   pub names : AreNames (rec_at records format.names_file) (high records format.names_file)
   pub degrees : AreCounted (kind_at records format.nodes_file) (degree records) (rel_at records)
       (high records format.relationships_file) most

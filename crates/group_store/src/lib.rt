@@ -1,6 +1,6 @@
 //! Groups of dense nodes: the record of a group as a row of named fields, and the chain of a node's
 //! groups, of which one is found, made or dropped. A walk and a search cost a read for each group,
-//! a change at most five reads and four writes. A node becomes dense at the cost of a read, a
+//! a change at most five reads and four writes. A node becomes dense at the cost of two reads, a
 //! search and two changes for each of its relationships. Only a walk takes memory of its own, for
 //! its rows.
 #![tactic(auto)]

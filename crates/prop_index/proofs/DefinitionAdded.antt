@@ -101,9 +101,8 @@ module _ (s m t : State) (label key first id : ℕ) (rec : Rec) (store : KeepsSt
       ⊎_elim (λ (n : first_definition s.records ≡ format.nil). inl (e ∙ n)) (λ (lt : first_definition s.records < high s.records format.index_file). inr (omega (arith, e, lt, more, most)))
       ((ranges.metas format.index_file refl).first refl)
 
-  names_are : high t.records format.names_file ≡ high s.records format.names_file
-  names_are = ap (λ (r : Rec). (metas.meta_of r).high)
-      (added.grows.others (meta_key_of format.names_file) other not_index ∙ heads.grows.others (meta_key_of format.names_file) other not_index)
+  names_are : high m.records format.names_file ≡ high s.records format.names_file
+  names_are = ap (λ (r : Rec). (metas.meta_of r).high) (heads.grows.others (meta_key_of format.names_file) other not_index)
     where
       other : format.meta_file ≢ format.index_file
       other e = omega (arith, e)
@@ -111,15 +110,15 @@ module _ (s m t : State) (label key first id : ℕ) (rec : Rec) (store : KeepsSt
       not_index : meta_key_of format.names_file ≢ meta_key_of format.index_file
       not_index e = let i = ap (λ (k : Key). k.id) e in omega (arith, i)
 
-  label_low : field 4 rec format.definition_label < high t.records format.names_file
-  label_low = let l = named.label_low in omega (arith, rec_label, names_are, l)
-
-  key_low : field 4 rec format.definition_key < high t.records format.names_file
-  key_low = let l = named.key_low in omega (arith, rec_key, names_are, l)
+  of_names : AreNamesOf m.records (field 4 rec format.definition_label) (field 4 rec format.definition_key)
+  of_names = record {
+    label_low = let l = named.label_low in omega (arith, rec_label, names_are, l);
+    key_low = let l = named.key_low in omega (arith, rec_key, names_are, l);
+  }
 
   kept : KeepsStore w
   kept = first_kept t.records id small t.shape (inr added.low)
-      (added.kept (fits-definition (high t.records) rec rec_kind rec_blank label_low key_low first_low (λ c lt. let a = heads.low c lt in let b = added.grows.more in omega (arith, a, b))))
+      (added.kept (fits-definition (high t.records) rec rec_kind rec_blank first_low (λ c lt. let a = heads.low c lt in let b = added.grows.more in omega (arith, a, b))) (λ _. of_names))
 
   meta_is : metas.meta_of (w.records (meta_key_of format.index_file)) ≡ metas.meta_of (t.records (meta_key_of format.index_file))
   meta_is = ap metas.meta_of (put_same t.records (meta_key_of format.index_file) (with_field 4 (t.records (meta_key_of format.index_file)) format.meta_definition id)) ∙ meta_of-definition (t.records (meta_key_of format.index_file)) id

@@ -76,8 +76,9 @@ module _ (old now : State) (key hash : ℕ) (value : Value) (xs : List ℕ) (at 
       by [] walk all = sym (append_none nodes) ∙ all
       by (x ∷ ys) walk all = absurd (walk.1 (sym walk.0 ∙ end))
 
-  pub gather_cost : at ≡ format.nil → ReadsAtMost (length xs + 55 * count_hashed old.records hash xs) old now
-  gather_cost end =
+  -- its reads, wherever it ends
+  pub gather_cost : ReadsAtMost (length xs + 55 * count_hashed old.records hash xs) old now
+  gather_cost =
       let counted = h.counted in
       let all = h.all_hashed in
       reads_then (count + 55 * h.hashed) 0 (length xs + 55 * count_hashed old.records hash xs) old now now (omega (arith, counted, all)) h.reads (reads_none 0 now)

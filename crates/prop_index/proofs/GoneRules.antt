@@ -113,7 +113,7 @@ module _ (s : State) (slot : Slot) (first x : ℕ) (xs : List ℕ) (is : IsBucke
       let under = kind_below (high two.records format.index_file) (rec_at two.records format.index_file before) before used_two in
       let byte : field 1 (rec_at two.records format.index_file before) format.kind ≡ format.indexed = sym (kind_low (high two.records format.index_file) (rec_at two.records format.index_file before) before under) ∙ k in
       subst (λ (z : State). IsWellFormed z.records s.shape) (sym (led-some two slot before after some))
-      (set_kept two.records before format.indexed_next after used_two (omega arith) s.shape (fits_entry_next (high two.records) (rec_at two.records format.index_file before) after after_fits after_low byte) rules_two))
+      (set_kept two.records before format.indexed_next after used_two (omega arith) s.shape (λ q. omega (arith, k, q)) (fits_entry_next (high two.records) (rec_at two.records format.index_file before) after after_fits after_low byte) rules_two))
       (nat_cases before format.nil)
 
   -- The entry is out of its bucket, and the rules hold.

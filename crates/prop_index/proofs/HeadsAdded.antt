@@ -110,5 +110,5 @@ module _ (s m t : State) (start rec : Rec) (n id : ℕ) (low : n < 12) (old : Ar
     kinds = λ y out. let o = out_of y out in new.kinds y o.0 ∙ old.kinds y o.1;
     records = λ y out. let o = out_of y out in new.records y o.0 ∙ old.records y o.1;
     grows = grows_then s m t n 1 (n + 1) refl old.grows new.grows;
-    kept = new.kept (fits-empty_heads (high t.records));
+    kept = new.kept (fits-empty_heads (high t.records)) (λ q. let k = empty_heads-kind in absurd (omega (arith, k, q)));
   }

@@ -1,5 +1,5 @@
 -- A lookup in a store.
-use Rattle.std.proofs.Common.{◌≡◌, ◌≢◌, ◌<◌, ◌+◌, ◌*◌, ℕ, true, List, length, refl, sym, ◌∙◌, subst, inl, arith}
+use Rattle.std.proofs.Common.{◌≡◌, ◌≢◌, ◌⊎◌, ⊎_elim, ◌<◌, ◌+◌, ◌*◌, ℕ, true, List, [], ◌∷◌, length, refl, sym, ◌∙◌, subst, inl, inr, arith}
 use Rattle.std.specs.List.Sorted.{IsNonDecreasing, IsPermutation}
 use Rattle.std.specs.Prelude.{Result, Err, IfErr}
 use Rattle.std.specs.Result.{IsErrAnd}
@@ -15,9 +15,10 @@ use Rattle.rec_bytes.specs.declared.shape.Shape.{Shape}
 use Rattle.prop_store.specs.Fault as props
 use Rattle.store_rules.specs.Chains.{In, IsWalk}
 use Rattle.store_rules.specs.Hashes.{bucket_of, hash_of}
-use Rattle.store_rules.specs.Indexes.{IsIndexed, entry_node, first_definition, indexed_key, next_definition, wanted_in}
+use Rattle.store_rules.specs.Indexes.{IsIndexed, entry_node, first_definition, indexed_key, indexed_label, next_definition, wanted_in}
 use Rattle.store_rules.specs.Ranges.{AreInRange}
 use Rattle.store_rules.specs.Views.{Records, high, kind_at, rec_at}
+use Rattle.store_rules.proofs.NumberLaws.{nat_cases}
 use Rattle.store_rules.proofs.PropertyWalks.{walk_is}
 use Rattle.store_rules.proofs.Shapes.{high_most}
 use Rattle.store_rules.proofs.ViewLaws.{kind_below}
@@ -26,11 +27,12 @@ use Rattle.prop_store.specs.Owner.{IsOwner}
 use Rattle.prop_store.specs.Reading.{ReadsAtMost}
 use Rattle.prop_store.proofs.ElementChanges.{has_properties}
 use Rattle.prop_store.proofs.ElementGraphs.{listed_at, owns_listed}
-use Rattle.prop_store.proofs.ReadCounts.{reads_then}
+use Rattle.prop_store.proofs.ReadCounts.{reads_more, reads_then}
 use Rattle.prop_index.specs.Collecting.{AreNodesReadable}
+use Rattle.prop_index.specs.Finding.{AreOfOthers, IsPair}
 use Rattle.prop_index.specs.Gathering.{AreEntries, AreReadable, IsListedNode, count_hashed, node_owner, nodes_with}
 use Rattle.prop_index.specs.Heads.{IsFoundBucket}
-use Rattle.prop_index.specs.Looking.{BlamesBroken, IsLookupCause, IsRefusal, ReadsForLookup, found_in, of_fault}
+use Rattle.prop_index.specs.Looking.{BlamesBroken, IsLookupCause, IsRefusal, ReadsForEither, ReadsForLookup, ReadsForRefusal, found_in, of_fault}
 use Rattle.prop_index.specs.Reading.{HasRoom}
 use Rattle.prop_index.specs.declared.heads.Bucket.{Bucket}
 use Rattle.prop_index.specs.declared.lookup_fault.LookupFault.{LookupFault}
@@ -128,6 +130,61 @@ module _ (s : State) (store : IsIndexed s.records s.shape) where
           bucket = walk s store d found.listed value;
           reads = reads_then (2 + length store.indexes.definitions) (length xs + 55 * count_hashed s.records (hash_of value) xs) _ s z after (omega arith) first gathered;
         }
+
+-- The pair has a definition among these.
+record IsPairListed (records : Records) (ds : List ℕ) (label key : ℕ) : Type 0 where
+  pub definition : ℕ
+  pub listed : In definition ds
+  pub pair : IsPair records label key definition
+
+-- so it is, or all are of others
+pair_listed : (records : Records) (label key : ℕ) (ds : List ℕ) → IsPairListed records ds label key ⊎ AreOfOthers records ds label key
+pair_listed records label key [] = inr (λ d i. elim i [ ])
+pair_listed records label key (e ∷ es) = by (nat_cases (indexed_label records e) label) (nat_cases (indexed_key records e) key) (pair_listed records label key es)
+  where
+    past : (¬ IsPair records label key e) → IsPairListed records es label key ⊎ AreOfOthers records es label key → IsPairListed records (e ∷ es) label key ⊎ AreOfOthers records (e ∷ es) label key
+    past other (inl h) = inl (record { definition = h.definition; listed = inr h.listed; pair = h.pair })
+    past other (inr h) = inr (λ d i. ⊎_elim (λ (at : d ≡ e). subst (λ x. ¬ IsPair records label key x) (sym at) other) (λ (j : In d es). h d j) i)
+
+    by : (indexed_label records e ≡ label) ⊎ (indexed_label records e ≢ label) → (indexed_key records e ≡ key) ⊎ (indexed_key records e ≢ key)
+        → IsPairListed records es label key ⊎ AreOfOthers records es label key → IsPairListed records (e ∷ es) label key ⊎ AreOfOthers records (e ∷ es) label key
+    by (inl same_label) (inl same_key) rest = inl (record { definition = e; listed = inl refl; pair = (same_label, same_key) })
+    by (inl same_label) (inr other) rest = past (λ p. other p.1) rest
+    by (inr other) same_key rest = past (λ p. other p.0) rest
+
+-- the reads that end before a bucket is read
+pub early_reads : (s : State) (store : IsIndexed s.records s.shape) (label key : ℕ) (value : Value) (z : State) → ReadsAtMost (2 + length store.indexes.definitions) s z
+    → (AreOfOthers s.records store.indexes.definitions label key → ReadsAtMost (1 + length store.indexes.definitions) s z) → ReadsForEither label key value s z
+early_reads s store label key value z most none = ⊎_elim
+    (λ (h : IsPairListed s.records store.indexes.definitions label key). inl (record {
+      definitions = store.indexes.definitions;
+      walk = store.indexes.walk;
+      definition = h.definition;
+      listed = h.listed;
+      pair = h.pair;
+      entries = store.indexes.lists h.definition (bucket_of (hash_of value));
+      bucket = walk s store h.definition h.listed value;
+      reads = reads_more (2 + length store.indexes.definitions) _ s z (omega arith) most;
+    }))
+    (λ (h : AreOfOthers s.records store.indexes.definitions label key). inr (record {
+      definitions = store.indexes.definitions;
+      walk = store.indexes.walk;
+      none = h;
+      reads = none h;
+    }))
+    (pair_listed s.records label key store.indexes.definitions)
+
+fault_reads : (label key : ℕ) (value : Value) (s z : State) (f : Fault) → ReadsForEither label key value s z → ReadsForRefusal label key value s z (of_fault f)
+fault_reads label key value s z fault.Memory is = is
+fault_reads label key value s z fault.Disk is = is
+fault_reads label key value s z (fault.Damaged damage) is = is
+
+pub reads_exit : {T : Type 0} (label key : ℕ) (value : Value) (s z : State) (r : Result T LookupFault) (f : Fault) → IsErrAnd r (λ e. e ≡ of_fault f) → ReadsForEither label key value s z
+    → IfErr r (ReadsForRefusal label key value s z)
+reads_exit {T = T} label key value s z r f h is =
+    let p = err_from_is_err_and r h in
+    subst (λ (q : Result T LookupFault). IfErr q (ReadsForRefusal label key value s z)) (sym p.1)
+    (subst (ReadsForRefusal label key value s z) (sym p.2) (fault_reads label key value s z f is))
 
 -- what reads blame
 pub read_lookup : (records : Records) (shape : Shape) (f : Fault) → props.BlamesBroken records shape f → BlamesBroken records shape (of_fault f)

@@ -146,14 +146,11 @@ must_points marks rec (suc n) b low =
     rw (here, rest) refl
 
 pub fits-definition : (marks : ℕ → ℕ) (rec : Rec) → field 1 rec format.kind ≡ format.definition → ((i : ℕ) → 1 ≤ i → i < 4 → field 1 rec i ≡ 0)
-    → field 4 rec format.definition_label < marks format.names_file → field 4 rec format.definition_key < marks format.names_file
     → IsLow (marks format.index_file) (field 4 rec format.definition_next) → ((c : ℕ) → c < 12 → field 4 rec (format.definition_heads + 4 * c) < marks format.index_file) → Fits marks format.index_file rec
-fits-definition marks rec kind blank label key next low = record {
+fits-definition marks rec kind blank next low = record {
   layout = definition_table;
   is = ap (layout_by format.index_file rec) kind;
   point = rw (
-    lt_true (field 4 rec format.definition_label) (marks format.names_file) label,
-    lt_true (field 4 rec format.definition_key) (marks format.names_file) key,
     low_points (field 4 rec format.definition_next) (marks format.index_file) next,
     heads,
   ) refl;
@@ -162,7 +159,7 @@ fits-definition marks rec kind blank label key next low = record {
   where
     definition_table : Layout
     definition_table = record {
-      pointers = must format.definition_label format.names_file ∷ must format.definition_key format.names_file ∷ may format.definition_next format.index_file ∷ pointers_from format.definition_head_count (λ place. must place format.index_file) format.definition_heads;
+      pointers = may format.definition_next format.index_file ∷ pointers_from format.definition_head_count (λ place. must place format.index_file) format.definition_heads;
       used = bytes_of format.kind 1 ∷ bytes_of format.definition_label 60 ∷ [];
     }
 

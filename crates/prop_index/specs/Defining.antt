@@ -46,7 +46,9 @@ pub record IsRecordAdded (s t : State) (rec : Rec) (id : ℕ) : Type 0 where
       → kind_at t.records format.index_file y ≡ kind_at s.records format.index_file y
   pub records : (y : ℕ) → y ≢ id → index_rec t.records y ≡ index_rec s.records y
   pub grows : GrowsBy s t 1
-  pub kept : Fits (high t.records) format.index_file rec → KeepsStore t
+  pub kept : Fits (high t.records) format.index_file rec
+      → (field 1 rec format.kind ≡ format.definition → AreNamesOf s.records
+      (field 4 rec format.definition_label) (field 4 rec format.definition_key)) → KeepsStore t
 
 -- The first heads that the record of a definition names are in use, with empty buckets, and were
 -- free. What stands before them in it is what it was.

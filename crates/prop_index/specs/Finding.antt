@@ -19,13 +19,17 @@ pub record IsOfPair (records : Records) (label key : ℕ) (found : Definition) :
   pub used : kind_at records format.index_file found.id ≡ format.definition
   pub pair : IsPair records label key found.id
 
+-- none of these definitions has the label and the key
+abbrev pub AreOfOthers : Records → List ℕ → ℕ → ℕ → Type 0
+AreOfOthers records ds label key = (d : ℕ) → In d ds → ¬ IsPair records label key d
+
 -- None of the definitions to which the chain leads, each in use, has the label and the key.
 pub record LeadsToNone (records : Records) (label key : ℕ) : Type 0 where
   pub definitions : List ℕ
   pub walk : IsWalk (next_definition records) (first_definition records) definitions
   pub defined : (d : ℕ) → In d definitions
       → kind_at records format.index_file d ≡ format.definition
-  pub none : (d : ℕ) → In d definitions → ¬ IsPair records label key d
+  pub none : AreOfOthers records definitions label key
 
 abbrev pub IsDefined : Records → ℕ → ℕ → Option Definition → Type 0
 IsDefined records label key None = LeadsToNone records label key
@@ -33,5 +37,5 @@ IsDefined records label key (Some found) = IsOfPair records label key found
 
 -- it is one of these, or none of them has the label and the key
 abbrev pub IsFound : Records → List ℕ → ℕ → ℕ → Option Definition → Type 0
-IsFound records ds label key None = (d : ℕ) → In d ds → ¬ IsPair records label key d
+IsFound records ds label key None = AreOfOthers records ds label key
 IsFound records ds label key (Some found) = In found.id ds

@@ -8,7 +8,7 @@ use Rattle.store_rules.specs.Hashes.{bucket_of}
 use Rattle.store_rules.specs.IndexBreaking.{HasHead}
 use Rattle.store_rules.specs.Indexes.{heads_of, index_rec}
 use Rattle.store_rules.specs.Views.{Records, kind_at}
-use Rattle.prop_index.specs.Finding.{IsPair}
+use Rattle.prop_index.specs.Finding.{AreOfOthers, IsPair}
 use Rattle.prop_index.specs.declared.heads.Bucket.{Bucket}
 use Rattle.prop_index.specs.declared.heads.Slot.{Slot}
 
@@ -49,8 +49,7 @@ pub record IsFoundBucket (records : Records) (definitions : List ℕ) (label key
 
 -- so it is, or no definition has the label and the key
 abbrev pub IsBucketSought : Records → List ℕ → ℕ → ℕ → ℕ → Option Bucket → Type 0
-IsBucketSought records definitions label key hash None =
-    (d : ℕ) → In d definitions → ¬ IsPair records label key d
+IsBucketSought records definitions label key hash None = AreOfOthers records definitions label key
 IsBucketSought records definitions label key hash (Some bucket) =
     IsFoundBucket records definitions label key hash bucket
 

@@ -1,5 +1,5 @@
 -- What a lookup answers and reads.
-use Rattle.std.specs.Prelude.{ℕ, ◌+◌, ◌*◌, ◌<◌, Bool, ◌&&◌, List, Result, length, map}
+use Rattle.std.specs.Prelude.{◌⊎◌, ℕ, ◌+◌, ◌*◌, ◌<◌, Bool, ◌&&◌, List, Result, length, map}
 use Rattle.std.specs.List.{filter}
 use Rattle.std.specs.FinMap as maps
 use Rattle.plain_graph.specs.Graph.{Graph, Node, node_number}
@@ -17,7 +17,7 @@ use Rattle.store_rules.specs.Indexes.{first_definition, first_entry, has_value}
 use Rattle.store_rules.specs.Indexes.{next_definition, next_entry, node_value}
 use Rattle.store_rules.specs.Rows.{ids}
 use Rattle.store_rules.specs.Views.{Records, high, rec_at, text_of}
-use Rattle.prop_index.specs.Finding.{IsPair, LeadsToNone}
+use Rattle.prop_index.specs.Finding.{AreOfOthers, IsPair, LeadsToNone}
 use Rattle.prop_index.specs.Gathering.{count_hashed}
 use Rattle.prop_index.specs.declared.lookup_fault.LookupFault.{LookupFault}
 use Rattle.prop_index.specs.declared.lookup_fault.LookupFault.TheVariants as lookups
@@ -57,10 +57,10 @@ pub record AreNumbered (records : Records) (label key : ℕ) : Type 0 where
 abbrev pub IsUnlisted : Records → ℕ → ℕ → Type 0
 IsUnlisted records label key =
     (ds : List ℕ) → IsWalk (next_definition records) (first_definition records) ds
-    → (d : ℕ) → In d ds → ¬ IsPair records label key d
+    → AreOfOthers records ds label key
 
--- The reads of a lookup: two, one for each definition, one for each entry of the bucket, and 55 for
--- each of these with the value's hash.
+-- The reads of a lookup for a pair that has an index: two, one for each definition, one for each
+-- entry of the bucket, and 55 for each of these with the value's hash.
 pub record ReadsForLookup (label key : ℕ) (value : Value) (old new : State) : Type 0 where
   pub definitions : List ℕ
   pub walk : IsWalk (next_definition old.records) (first_definition old.records) definitions
@@ -72,6 +72,26 @@ pub record ReadsForLookup (label key : ℕ) (value : Value) (old new : State) : 
       (first_entry old.records definition (bucket_of (hash_of value))) entries
   pub reads : ReadsAtMost (2 + length definitions + length entries
       + 55 * count_hashed old.records (hash_of value) entries) old new
+
+-- Those for a pair that has none: one, and one for each definition.
+pub record ReadsForNone (label key : ℕ) (old new : State) : Type 0 where
+  pub definitions : List ℕ
+  pub walk : IsWalk (next_definition old.records) (first_definition old.records) definitions
+  pub none : AreOfOthers old.records definitions label key
+  pub reads : ReadsAtMost (1 + length definitions) old new
+
+-- those of one or the other, by whether the pair has an index
+abbrev pub ReadsForEither : ℕ → ℕ → Value → State → State → Type 0
+ReadsForEither label key value old new =
+    ReadsForLookup label key value old new ⊎ ReadsForNone label key old new
+
+-- Those of a lookup that is refused: no more where memory or the disk fails.
+abbrev pub ReadsForRefusal : ℕ → ℕ → Value → State → State → LookupFault → Type 0
+ReadsForRefusal label key value old new lookups.NoIndex = ReadsForNone label key old new
+ReadsForRefusal label key value old new lookups.Memory = ReadsForEither label key value old new
+ReadsForRefusal label key value old new lookups.Disk = ReadsForEither label key value old new
+ReadsForRefusal label key value old new (lookups.Damaged damage) =
+    ReadsForEither label key value old new
 
 -- a fault of records that are read as one of a lookup
 abbrev pub of_fault : Fault → LookupFault

@@ -1,6 +1,6 @@
 //! The definition of a pair.
 
-ghost use Rattle.std.specs.Prelude.{◌≡◌, ◌↔◌, ◌+◌, ℕ, List, IfErr, IfOk, IsTrue, length, OnOk};
+ghost use Rattle.std.specs.Prelude.{◌≡◌, ◌↔◌, ◌+◌, ℕ, List, IfErr, IfOk, IsTrue, length};
 ghost use Rattle.rec_bytes.specs.Record.{field};
 ghost use Rattle.prop_index.specs.Blaming.{NamesIndexes};
 ghost use Rattle.prop_index.specs.Finding.{IsDefined, IsFound};
@@ -42,7 +42,7 @@ pub(crate) fn find_definition<R: Reads>(
         (BlamesBroken (R.state space.old).records (R.state space.old).shape) }
     ensures names { R.tells → IfErr result NamesIndexes }
     ensures cost { R.tells → (ds : List ℕ) → AreDefinitions (R.state space.old).records ds
-        → OnOk result (ReadsAtMost (1 + length ds) (R.state space.old) (R.state space.new)) }
+        → ReadsAtMost (1 + length ds) (R.state space.old) (R.state space.new) }
     ensures at_most { ReadsAtMost 17 (R.state space.old) (R.state space.new) }
     ensures onward { R.onward space.old space.new }
     ensures cause { HasFaultCause (R.faults space.old) (R.faults space.new) result }

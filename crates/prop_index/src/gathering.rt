@@ -50,9 +50,8 @@ pub(crate) fn gather<R: Reads>(
     ensures sound { R.tells → (xs : List ℕ) → AreEntries (R.state space.old) first xs
         → AreReadable (R.state space.old) sought.hash xs → NotDamaged result }
     ensures cost { R.tells → (xs : List ℕ) → AreEntries (R.state space.old) first xs
-        → OnOk result (ReadsAtMost (length xs
-        + 55 * count_hashed (R.state space.old).records sought.hash xs)
-        (R.state space.old) (R.state space.new)) }
+        → ReadsAtMost (length xs + 55 * count_hashed (R.state space.old).records sought.hash xs)
+        (R.state space.old) (R.state space.new) }
     ensures damaged { R.tells → (d b : ℕ) → IsEntryAt (R.state space.old) d b 0 first named
         → IfErr result (BlamesBroken (R.state space.old).records (R.state space.old).shape) }
     ensures same { SameButReads (R.state space.old) (R.state space.new) }

@@ -1,9 +1,9 @@
 //! The first entries of buckets.
 
-ghost use Rattle.std.specs.Prelude.{◌≡◌, ◌<◌, ◌≤◌, ◌+◌, ◌/◌, IfErr, IfNone, IfOk, IfSome, OnOk};
+ghost use Rattle.std.specs.Prelude.{◌≡◌, ◌<◌, ◌≤◌, ◌+◌, ◌/◌, IfErr, IfNone, IfOk, IfSome};
 ghost use Rattle.std.specs.Prelude.{length};
 ghost use Rattle.prop_index.specs.Blaming.{NamesIndexes};
-ghost use Rattle.prop_index.specs.Finding.{LeadsToNone};
+ghost use Rattle.prop_index.specs.Finding.{AreOfOthers, LeadsToNone};
 ghost use Rattle.prop_index.specs.Heads.{IfBucketMet, IsBucketOf, IsBucketSought, IsSlotOf};
 ghost use Rattle.prop_index.specs.Reading.{HasRoom};
 ghost use Rattle.prop_store.specs.Fault.{BlamesBroken};
@@ -107,8 +107,11 @@ pub(crate) fn find_bucket<R: Reads>(
     ensures names { R.tells → IfErr result NamesIndexes }
     ensures cost { R.tells → (wanted : Entries)
         → (ix : AreIndexed (R.state space.old).records wanted)
-        → OnOk result (ReadsAtMost (2 + length ix.definitions)
-        (R.state space.old) (R.state space.new)) }
+        → ReadsAtMost (2 + length ix.definitions) (R.state space.old) (R.state space.new) }
+    ensures cost_of_none { R.tells → (wanted : Entries)
+        → (ix : AreIndexed (R.state space.old).records wanted)
+        → AreOfOthers (R.state space.old).records ix.definitions label key
+        → ReadsAtMost (1 + length ix.definitions) (R.state space.old) (R.state space.new) }
     ensures key { IfOk result (λ found. IfSome found
         (λ bucket. IsKey (key_in format.index_file bucket.slot.id))) }
     ensures place { IfOk result (λ found. IfSome found (λ bucket. bucket.slot.place + 4 ≤ 64)) }

@@ -1,6 +1,7 @@
 //! Indexes of the nodes of a label by the value of a key: an entry for each node, in one of 180
 //! buckets by the hash of its value. A lookup reads the definitions, one bucket, and the value of
-//! each node in it with the hash that is sought. Only a lookup and a list take memory of their own.
+//! each node in it with the hash that is sought. A lookup, a list and an index that is made take
+//! memory of their own.
 #![tactic(auto)]
 
 mod collecting;

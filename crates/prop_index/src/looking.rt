@@ -10,6 +10,7 @@ ghost use Rattle.prop_index.specs.Looking.{
   IsLookupCause,
   IsRefusal,
   ReadsForLookup,
+  ReadsForRefusal,
   found_in,
   nodes_in,
 };
@@ -44,6 +45,10 @@ pub fn lookup<R: Reads>(
         (IsLookupCause (R.state space.old).records label key) }
     ensures cost { R.tells → IsIndexed (R.state space.old).records (R.state space.old).shape
         → OnOk result (ReadsForLookup label key value.now
+        (R.state space.old) (R.state space.new)) }
+    ensures cost_refused { R.tells
+        → IsIndexed (R.state space.old).records (R.state space.old).shape
+        → IfErr result (ReadsForRefusal label key value.now
         (R.state space.old) (R.state space.new)) }
     ensures damaged { R.tells → IfErr result
         (BlamesBroken (R.state space.old).records (R.state space.old).shape) }

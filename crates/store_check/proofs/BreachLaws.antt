@@ -8,7 +8,7 @@ use Rattle.store_rules.specs.Indexes.{IsIndexed}
 use Rattle.store_rules.specs.Rules as rules
 use Rattle.store_rules.specs.Views.{Records, is_live}
 use Rattle.store_rules.specs.Breaking.{Breaks, HasFreeList, Keeps}
-use Rattle.store_rules.specs.Breaking.Breaks.{FreeList, GroupChains, GroupOwner, NameCount, NodeChain, OffFreeList, OwnRecord, OwnerGroups, RecordRange, RelEnds, WrongBlock, WrongDegree, WrongElement, WrongHolding, WrongIndex, WrongMeta, WrongName, WrongText}
+use Rattle.store_rules.specs.Breaking.Breaks.{FreeList, GroupChains, GroupOwner, NameCount, NodeChain, OffFreeList, OwnRecord, OwnerGroups, RecordRange, RelEnds, WrongBlock, WrongDefinition, WrongDegree, WrongElement, WrongHolding, WrongIndex, WrongMeta, WrongName, WrongText}
 use Rattle.store_check.proofs.ElementLaws.{label_kept}
 use Rattle.store_check.proofs.FileLaws.{metas_right}
 use Rattle.chain_check.proofs.GroupChainLaws.{member_keeps, owner_keeps}
@@ -40,6 +40,7 @@ module _ (records : Records) (shape : Shape) where
   not_kept d (WrongHolding p bad) spoken k = bad (held_kept records k p)
   not_kept d (WrongText p lt bad) spoken k = bad (text_kept records k p)
   not_kept d (WrongBlock b bad) spoken k = bad (block_kept records k b)
+  not_kept d (WrongDefinition x lt bad) spoken k = bad (record { label = k.defined.labels x; key = k.defined.keys x })
   not_kept d (WrongName x lt bad) spoken k = bad (name_keeps records k x lt)
   not_kept d (WrongDegree n lt bad) spoken k = bad (record { exact = λ live. k.each n live; few = λ is. k.few n is })
   not_kept d (WrongIndex e bad) spoken k = not_indexed records e bad (subst (λ n. Keeps records shape n) (index_rule records e bad) k)
@@ -64,6 +65,7 @@ module _ (records : Records) (shape : Shape) where
         exact = grouped.exact;
         properties = properties.properties;
         named = properties.named;
+        defined = properties.defined;
         names = names;
         degrees = degrees;
       }
@@ -85,10 +87,11 @@ module _ (records : Records) (shape : Shape) where
   rules_of s d (RelEnds x lt bad) = chained_of records s.store.grouped s.store.linked
   rules_of s d (OwnerGroups n lt bad) = record { grouped = s.store.grouped; exact = s.store.exact }
   rules_of s d (GroupOwner g bad) = record { grouped = s.store.grouped; exact = s.store.exact }
-  rules_of s d (WrongElement file x known lt bad) = record { properties = s.store.properties; named = s.store.named }
-  rules_of s d (WrongHolding p bad) = record { properties = s.store.properties; named = s.store.named }
-  rules_of s d (WrongText p lt bad) = record { properties = s.store.properties; named = s.store.named }
-  rules_of s d (WrongBlock b bad) = record { properties = s.store.properties; named = s.store.named }
+  rules_of s d (WrongElement file x known lt bad) = record { properties = s.store.properties; named = s.store.named; defined = s.store.defined }
+  rules_of s d (WrongHolding p bad) = record { properties = s.store.properties; named = s.store.named; defined = s.store.defined }
+  rules_of s d (WrongText p lt bad) = record { properties = s.store.properties; named = s.store.named; defined = s.store.defined }
+  rules_of s d (WrongBlock b bad) = record { properties = s.store.properties; named = s.store.named; defined = s.store.defined }
+  rules_of s d (WrongDefinition x lt bad) = record { properties = s.store.properties; named = s.store.named; defined = s.store.defined }
   rules_of s d (WrongName x lt bad) = s.store.names
   rules_of s d (WrongDegree n lt bad) = s.store.degrees
   rules_of s d (WrongIndex e bad) = subst (λ n. Keeps records shape n) (sym (index_rule records e bad)) s.indexes

@@ -9,8 +9,9 @@ use Rattle.store_rules.proofs.NumberLaws.{eq_true}
 use Rattle.store_rules.proofs.ViewLaws.{live_true, some_row}
 use Rattle.store_rules.proofs.PropertyWalks.{walk_is}
 use Rattle.store_rules.specs.Breaking.{AreProperties, HasBlock, HasProperty, IsBlockHeldOnce, IsBlockList, IsHeldOnce, IsLong, IsPropertyList, Owns, TextKeeps, first_block, next_block, next_property}
-use Rattle.store_check.specs.Holding.{AreElementsRight, AreTextsRight}
+use Rattle.store_check.specs.Holding.{AreDefinitionsRight, AreElementsRight, AreTextsRight}
 use Rattle.store_check.proofs.BlockLaws.{long_low}
+use Rattle.store_check.proofs.DefinitionLaws.{are_defined}
 use Rattle.store_check.proofs.ElementLaws.{owns_is}
 use Rattle.record_lists.proofs.LiveLaws.{live_below}
 use Rattle.store_check.proofs.PropertyLaws.{properties_one}
@@ -150,9 +151,9 @@ module _ (records : Records) where
     have_texts = record { pieces = λ file p first own. let t = text file p first own in t.list.pieces }
 
   -- where each record keeps it, the store does
-  pub are_properties : AreElementsRight records → AreTextsRight records → AreProperties records
+  pub are_properties : AreElementsRight records → AreTextsRight records → AreDefinitionsRight records → AreProperties records
   unfolding are_held blocks_held
-  are_properties elements blocks = record {
+  are_properties elements blocks definitions = record {
     properties = record {
       held = are_held elements;
       keys = have_keys elements;
@@ -160,6 +161,7 @@ module _ (records : Records) where
       texts = have_texts blocks;
     };
     named = are_named elements;
+    defined = are_defined records definitions;
   }
 
   -- ---- where the store keeps it, each record does

@@ -1,5 +1,6 @@
 pub mod BlockLaws
 pub mod BreachLaws
+pub mod DefinitionLaws
 pub mod ElementLaws
 pub mod FileLaws
 pub mod FreeLaws

@@ -1,10 +1,10 @@
--- What passes over all elements, and over all texts, find.
+-- What passes over all elements, all texts and all definitions find.
 use Rattle.std.specs.Prelude.{◌≡◌, ℕ, ◌<◌, Bool, true, List}
 use Rattle.std.specs.Bool.{Decides}
 use Rattle.rec_bytes.specs.Format as format
 use Rattle.store_rules.specs.Views.{Records, high}
-use Rattle.store_rules.specs.Breaking.{ElementKeeps, HasBlock, HasProperty, IsBlockHeldOnce}
-use Rattle.store_rules.specs.Breaking.{IsHeldOnce, TextKeeps, is_element_file}
+use Rattle.store_rules.specs.Breaking.{DefinitionKeeps, ElementKeeps, HasBlock, HasProperty}
+use Rattle.store_rules.specs.Breaking.{IsBlockHeldOnce, IsHeldOnce, TextKeeps, is_element_file}
 use Rattle.record_lists.specs.Marks.{marked}
 
 -- an element has the property
@@ -42,3 +42,7 @@ pub record AreElementsRight (records : Records) : Type 0 where
 pub record AreTextsRight (records : Records) : Type 0 where
   pub keeps : (p : ℕ) → p < high records format.properties_file → TextKeeps records p
   pub held : (b : ℕ) → IsBlockHeldOnce records b
+
+-- definitions keep the rule
+pub record AreDefinitionsRight (records : Records) : Type 0 where
+  pub keeps : (d : ℕ) → d < high records format.index_file → DefinitionKeeps records d

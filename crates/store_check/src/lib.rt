@@ -3,6 +3,7 @@
 #![tactic(auto)]
 
 mod checking;
+mod definitions;
 mod elements;
 mod free;
 mod layout;

@@ -1,9 +1,11 @@
-//! The fifth rule: properties and blocks are held, and keys, labels and types are names.
+//! The fifth rule: properties and blocks are held, and keys, labels and types are names, those of
+//! definitions too.
 
 ghost use Rattle.std.specs.Prelude.{◌≡◌, IfOk};
 ghost use Rattle.rec_bytes.specs.Space.{HasCause};
 ghost use Rattle.record_lists.specs.Deciding.{AreMarksLow, DecidesRule};
 
+use crate::definitions::check_definitions;
 use crate::elements::check_elements;
 use crate::texts::check_texts;
 use rec_bytes::{Damage, Reads, SpaceFault};
@@ -25,7 +27,10 @@ pub(crate) fn check_properties<R: Reads>(
     if let Some(damage) = check_elements(alloc, space)? {
         return Ok(Some(damage));
     }
-    match check_texts(alloc, space)? {
+    if let Some(damage) = check_texts(alloc, space)? {
+        return Ok(Some(damage));
+    }
+    match check_definitions(space)? {
         Some(damage) => Ok(Some(damage)),
         None => Ok(None),
     }

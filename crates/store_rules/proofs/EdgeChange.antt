@@ -14,11 +14,13 @@ use Rattle.store_rules.specs.Graph.{edge_from, edge_of, graph_of, names_of, node
 use Rattle.store_rules.specs.Properties.{property_records}
 use Rattle.store_rules.specs.Ranges.{AreInRange, is_reused}
 use Rattle.store_rules.specs.Rows.{collect, ids}
+use Rattle.store_rules.specs.RuleList.{IsSameFile}
 use Rattle.store_rules.specs.Rules.{AllListed, AreNamed, AreNames, HasCounts, HasEnds, HasGroup, HasGroups, HaveProperties, IsEnd, IsGrouped, IsLinked, IsSplit, KeepsRules, Owns, PropertyFiles, StandsAt, degree_of, is_filled, next_free, property_files, rel_first}
 use Rattle.store_rules.specs.Views.{GroupRow, NodeRow, Records, RelRow, degree, first_link, group_at, high, is_live, key_in, kind_at, kind_in, node_at, rec_at, rel_at, rel_in, row_if, text_of}
 use Rattle.store_rules.proofs.ChainLaws.{chain_stays, walk_stays}
 use Rattle.store_rules.proofs.Changes as ch
 use Rattle.store_rules.proofs.Changes.{IsChanged}
+use Rattle.store_rules.proofs.DefinedStays.{defined_stay}
 use Rattle.store_rules.proofs.Frames as frames
 use Rattle.store_rules.proofs.Frames.{HoldsNone, IsSame, files_same, owner_beside_rel, properties_bare, records_same}
 use Rattle.store_rules.proofs.MetaLaws.{meta_of_reused, not_meta_key}
@@ -163,6 +165,13 @@ module _ (s t : Records) (id : ℕ) (h : IsEdgeChange s t id) where
   pub name_mark : high t format.names_file ≡ high s format.names_file
   name_mark = mark_same format.names_file (λ e. omega arith)
 
+  -- the file of the index stays
+  pub index_same : IsSameFile s t format.index_file
+  index_same = record {
+    records = λ i x. record_same format.index_file x refl (unlinked format.index_file (inr (omega arith))) i;
+    meta = meta_same format.index_file (λ e. omega arith);
+  }
+
   pub names_stay : names_of t ≡ names_of s
   names_stay = λ i. collect (λ x. Some (text_of (name_file i x))) (name_mark i)
 
@@ -269,6 +278,7 @@ module _ (s t : Records) (shape : Shape) (id : ℕ) {most : ℕ} {before empty :
     exact = λ g row is kind. now.exact g row (ap (λ (f : ℕ → Option GroupRow). f g) (sym (groups_same s t id now.change)) ∙ is) (sym (kind_same s t id now.change format.groups_file g refl (λ e. omega arith)) ∙ kind);
     properties = properties;
     named = named;
+    defined = defined_stay s t (index_same s t id now.change) (let e = name_mark s t id now.change in omega (arith, e)) well.defined;
     names = names;
     degrees = record {
       each = λ n some. now.counted n (λ z. some (kinds n ∙ z));

@@ -1,5 +1,5 @@
 -- A store with indexes stays one where a change leaves their file and what the nodes have.
-use Rattle.std.proofs.Common.{◌≡◌, ◌≢◌, ⊎_elim, inr, ℕ, nat_eq, Bool, true, false, cond, Option, None, Some, List, ap, sym, ◌∙◌, subst, arith, refl}
+use Rattle.std.proofs.Common.{◌≡◌, ◌≢◌, ⊎_elim, ℕ, nat_eq, Bool, true, false, cond, Option, None, Some, List, ap, sym, ◌∙◌, subst, arith, refl}
 use Rattle.rec_bytes.specs.declared.record.Rec.{Rec}
 use Rattle.rec_bytes.specs.declared.shape.Shape.{Shape}
 use Rattle.rec_bytes.specs.Format as format
@@ -20,7 +20,6 @@ use Rattle.store_rules.proofs.NodeGone.{IsBare}
 use Rattle.store_rules.proofs.NodeMade.{IsNewNode}
 use Rattle.store_rules.proofs.NumberLaws.{nat_cases}
 use Rattle.store_rules.proofs.PropertyFrames as fr
-use Rattle.store_rules.proofs.Relinks.{unlinked}
 use Rattle.store_rules.proofs.ViewLaws.{row_none, row_some}
 
 -- ---- the file of the index stays
@@ -34,24 +33,13 @@ changed_index s t file id change other = record {
 
 -- where properties of an element changed
 pub properties_index : (s t : Records) (shape : Shape) (file x : ℕ) (old new : List Property) → ChangesProperties s t shape file x old new → IsSameFile s t format.index_file
-properties_index s t shape file x old new h = record {
-  records = λ i y. fr.record_same s t shape file x old new h format.index_file y refl (λ e. omega arith) (λ e. omega arith)
-      (λ e. absurd (⊎_elim (λ (n : file ≡ format.nodes_file). omega (arith, e, n)) (λ (r : file ≡ format.relationships_file). omega (arith, e, r)) h.element)) i;
-  meta = fr.meta_same s t shape file x old new h format.index_file (λ e. omega arith) (λ e. omega arith);
-}
-
--- where a relationship came or went
-pub edge_index : (s t : Records) (id : ℕ) → IsEdgeChange s t id → IsSameFile s t format.index_file
-edge_index s t id change = record {
-  records = λ i y. ec.record_same s t id change format.index_file y refl (unlinked format.index_file (inr (omega arith))) i;
-  meta = ec.meta_same s t id change format.index_file (λ e. omega arith);
-}
+properties_index s t shape file x old new h = fr.index_same s t shape file x old new h
 
 -- ---- the rule of the indexes stays
 
 -- a relationship that came or went
 pub edge_indexed : (s t : Records) (id : ℕ) → IsEdgeChange s t id → AreIndexed s (wanted_in s) → AreIndexed t (wanted_in t)
-edge_indexed s t id change ix = indexes_stay s t (edge_index s t id change) (wanted_in t)
+edge_indexed s t id change ix = indexes_stay s t (ec.index_same s t id change) (wanted_in t)
     (subst (AreIndexed s) (sym (wanted_same s t (ec.nodes_same s t id change) (ec.files_stay s t id change))) ix)
 
 -- a record of a file that no value is read of

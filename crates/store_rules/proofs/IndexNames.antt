@@ -1,5 +1,5 @@
 -- The indexes stay where a name comes.
-use Rattle.std.proofs.Common.{◌≡◌, ◌⊎◌, ℕ, zero, suc, ◌+◌, ◌<◌, ◌≤◌, Bool, true, false, nat_eq, nat_lt, if◌then◌else◌, Option, None, Some, List, [], ◌∷◌, ◌++◌, length, sym, ap, ◌∙◌, subst, inl, inr, ⊎_elim, arith, refl}
+use Rattle.std.proofs.Common.{◌≡◌, ◌⊎◌, ℕ, zero, suc, ◌<◌, ◌≤◌, Bool, true, false, nat_eq, nat_lt, if◌then◌else◌, Option, None, Some, List, [], ◌∷◌, ◌++◌, length, sym, ap, ◌∙◌, subst, inl, inr, ⊎_elim, arith, refl}
 use Rattle.std.specs.List.{flat_map}
 use Rattle.std.proofs.lemmas.Bool.{eqb-true}
 use Rattle.std.proofs.lemmas.Grind.{flat_map-append}
@@ -11,18 +11,16 @@ use Rattle.rec_bytes.specs.Meta as metas
 use Rattle.rec_bytes.specs.Record.{field}
 use Rattle.store_rules.specs.Graph.{index_from, indexes_from, indexes_of, is_definition_of}
 use Rattle.store_rules.specs.Indexes.{AreIndexed, wanted_in}
-use Rattle.store_rules.specs.Ranges.{AreInRange}
 use Rattle.store_rules.specs.Rows.{collect, ids, option_list}
 use Rattle.store_rules.specs.RuleList.{IsSameFile}
 use Rattle.store_rules.specs.Views.{Records, high, kind_at, kind_in, rec_at, text_of}
 use Rattle.store_rules.proofs.Changes as ch
 use Rattle.store_rules.proofs.Counts.{ids_none}
+use Rattle.store_rules.proofs.DefinedStays.{Defines}
 use Rattle.store_rules.proofs.IndexKept.{changed_index, changed_indexed}
-use Rattle.store_rules.proofs.IndexPointers.{definition_key_low, definition_label_low}
 use Rattle.store_rules.proofs.NameMade.{IsNamed, node_rows, other_name}
 use Rattle.store_rules.proofs.NumberLaws.{and_parts}
 use Rattle.store_rules.proofs.RowLaws.{append_none}
-use Rattle.store_rules.proofs.ViewLaws.{kind_below, kind_low}
 
 -- ---- a table with one number more on each side, where the new ones have none
 
@@ -62,7 +60,7 @@ false_if false not = refl
 
 -- ---- the indexes of a store
 
-module _ (s : Records) (shape : Shape) (ranges : AreInRange s shape) where
+module _ (s : Records) (defined : Defines s) where
   abbrev defines : ℕ → ℕ → ℕ → Bool
   defines = is_definition_of (kind_at s format.index_file) (rec_at s format.index_file)
 
@@ -72,12 +70,9 @@ module _ (s : Records) (shape : Shape) (ranges : AreInRange s shape) where
       let rec = rec_at s format.index_file d in
       let parts = and_parts (nat_eq (kind_at s format.index_file d) format.definition) _ is in
       let pair = and_parts (nat_eq (field 4 rec format.definition_label) label) _ parts.1 in
-      let kind = eqb-true (kind_at s format.index_file d) format.definition parts.0 in
-      let low = kind_below (high s format.index_file) rec d (λ e. omega (arith, e, kind)) in
-      let fits = ranges.fit format.index_file d refl low in
-      let byte : field 1 rec format.kind ≡ format.definition = sym (kind_low (high s format.index_file) rec d low) ∙ kind in (
-        subst (λ n. n < high s format.names_file) (eqb-true (field 4 rec format.definition_label) label pair.0) (definition_label_low (high s) rec fits byte),
-        subst (λ n. n < high s format.names_file) (eqb-true (field 4 rec format.definition_key) key pair.1) (definition_key_low (high s) rec fits byte),
+      let kind = eqb-true (kind_at s format.index_file d) format.definition parts.0 in (
+        subst (λ n. n < high s format.names_file) (eqb-true (field 4 rec format.definition_label) label pair.0) (defined.labels d kind),
+        subst (λ n. n < high s format.names_file) (eqb-true (field 4 rec format.definition_key) key pair.1) (defined.keys d kind),
       )
 
   -- what is no name has no index
@@ -107,14 +102,14 @@ module _ (s t : Records) (shape : Shape) (rec : Rec) (text : List ℕ) (made : I
   text_same x lt = ap text_of (other_name s t shape rec text made x lt)
 
   -- the graph has the indexes that it had
-  pub named_indexes : AreInRange s shape → indexes_of t ≡ indexes_of s
-  named_indexes ranges =
+  pub named_indexes : Defines s → indexes_of t ≡ indexes_of s
+  named_indexes defined =
       (λ i. indexes_from (λ x. kind_in (mark i) (named_index.records i x) x) (named_index.records i) (mark i) (rec_at t format.names_file) (count i))
       ∙ table_grows (from (rec_at s format.names_file)) (from (rec_at t format.names_file)) (high s format.names_file)
       (λ a b la lb. λ i. if nat_lt 0 (length (ids (is_definition_of (kind_at s format.index_file) (rec_at s format.index_file) a b) (high s format.index_file)))
       then Some (record { label = text_same a la i; key = text_same b lb i }) else None)
-      (λ b. none_past s shape ranges (rec_at t format.names_file) (high s format.names_file) b (inl (omega arith)))
-      (λ a. none_past s shape ranges (rec_at t format.names_file) a (high s format.names_file) (inr (omega arith)))
+      (λ b. none_past s defined (rec_at t format.names_file) (high s format.names_file) b (inl (omega arith)))
+      (λ a. none_past s defined (rec_at t format.names_file) a (high s format.names_file) (inr (omega arith)))
     where
       mark : high t format.index_file ≡ high s format.index_file
       mark = ap (λ (r : Rec). (metas.meta_of r).high) named_index.meta

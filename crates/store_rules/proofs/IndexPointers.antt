@@ -50,19 +50,13 @@ laid_points marks r kind p is fits i =
 module _ (marks : ℕ → ℕ) (r : Rec) (fits : Fits marks format.index_file r) where
   -- a definition
   module _ (is : field 1 r format.kind ≡ format.definition) where
-    pub definition_label_low : field 4 r format.definition_label < marks format.names_file
-    definition_label_low = below_of marks r format.definition_label format.names_file (laid_points marks r format.definition (must format.definition_label format.names_file) is fits (inl refl))
-
-    pub definition_key_low : field 4 r format.definition_key < marks format.names_file
-    definition_key_low = below_of marks r format.definition_key format.names_file (laid_points marks r format.definition (must format.definition_key format.names_file) is fits (inr (inl refl)))
-
     pub definition_next_low : IsLow (marks format.index_file) (field 4 r format.definition_next)
-    definition_next_low = low_of marks r format.definition_next format.index_file (laid_points marks r format.definition (may format.definition_next format.index_file) is fits (inr (inr (inl refl))))
+    definition_next_low = low_of marks r format.definition_next format.index_file (laid_points marks r format.definition (may format.definition_next format.index_file) is fits (inl refl))
 
     pub definition_heads_low : (c : ℕ) → c < 12 → field 4 r (format.definition_heads + 4 * c) < marks format.index_file
     definition_heads_low c lt = below_of marks r (format.definition_heads + 4 * c) format.index_file
         (laid_points marks r format.definition (must (format.definition_heads + 4 * c) format.index_file) is fits
-        (inr (inr (inr (from_has (λ place. must place format.index_file) 12 format.definition_heads c lt)))))
+        (inr (from_has (λ place. must place format.index_file) 12 format.definition_heads c lt)))
 
   -- a record of heads
   pub heads_first_low : field 1 r format.kind ≡ format.heads → (place : ℕ) → place < 15 → IsLow (marks format.index_file) (field 4 r (format.heads_first + 4 * place))

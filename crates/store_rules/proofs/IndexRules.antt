@@ -20,17 +20,18 @@ use Rattle.store_rules.specs.Chains.{In, IsWalk}
 use Rattle.store_rules.specs.Ranges.{AreInRange, Fits}
 use Rattle.store_rules.specs.Rows.{ids}
 use Rattle.store_rules.specs.RuleList.{AreSame, IsSameFile, IsSplitFile, KeepsThose, Slack, but_index, reads}
-use Rattle.store_rules.specs.RuleList.Rule.{Counts, Degrees, Grouped, Labels, Linked, Names, Properties, Ranges, Split, Indexed}
+use Rattle.store_rules.specs.RuleList.Rule.{Counts, Defined, Degrees, Grouped, Labels, Linked, Names, Properties, Ranges, Split, Indexed}
 use Rattle.store_rules.specs.Rules.{IsSplit, IsWellFormed, next_free}
 use Rattle.store_rules.specs.Views.{Records, high, is_live, key_in, kind_at, kind_in, rec_at}
 use Rattle.store_rules.proofs.ChainLaws.{walk_stays}
 use Rattle.store_rules.proofs.Changes as ch
 use Rattle.store_rules.proofs.Changes.{IsChanged}
+use Rattle.store_rules.proofs.DefinedStays.{Defines, IsOfNames, defined_alike, defined_with}
 use Rattle.store_rules.proofs.Made.{IsGone, IsMade}
 use Rattle.store_rules.proofs.MetaLaws.{not_meta_key}
 use Rattle.store_rules.proofs.NumberLaws.{and_parts, nat_cases}
 use Rattle.store_rules.proofs.RuleStays.{all_of, by_name, stays}
-use Rattle.store_rules.proofs.ViewLaws.{kind_by, live_true}
+use Rattle.store_rules.proofs.ViewLaws.{kind_by, kind_low, live_true}
 
 -- every other file is as it was
 abbrev pub OthersStay : Records → Records → Type 0
@@ -56,21 +57,22 @@ module _ (s t : Records) (shape : Shape) (others : OthersStay s t) where
     kept = λ is not. (stays s t (Split f) shape slack refl (others f is ne, tt) has).kept is not;
   }
 
-  -- The first rule, and the second of the index, are shown anew.
-  by_rule : AreInRange t shape → IsSplitFile t format.index_file → KeepsThose but_index s shape slack → KeepsThose but_index t shape slack
-  by_rule ranges split all Ranges e = ranges
-  by_rule ranges split all (Split f) e = ⊎_elim (λ (p : f ≡ format.index_file). subst (IsSplitFile t) (sym p) split) (λ (ne : f ≢ format.index_file). split_other f ne (all (Split f) refl)) (nat_cases f format.index_file)
-  by_rule ranges split all Linked e = stays s t Linked shape slack refl (all_same (reads Linked) refl) (all Linked refl)
-  by_rule ranges split all Grouped e = stays s t Grouped shape slack refl (all_same (reads Grouped) refl) (all Grouped refl)
-  by_rule ranges split all Counts e = stays s t Counts shape slack refl (all_same (reads Counts) refl) (all Counts refl)
-  by_rule ranges split all Properties e = stays s t Properties shape slack refl (all_same (reads Properties) refl) (all Properties refl)
-  by_rule ranges split all Labels e = stays s t Labels shape slack refl (all_same (reads Labels) refl) (all Labels refl)
-  by_rule ranges split all Names e = stays s t Names shape slack refl (all_same (reads Names) refl) (all Names refl)
-  by_rule ranges split all Degrees e = stays s t Degrees shape slack refl (all_same (reads Degrees) refl) (all Degrees refl)
-  by_rule ranges split all Indexed e = absurd cc
+  -- The first rule, the second of the index, and that of its definitions are shown anew.
+  by_rule : AreInRange t shape → IsSplitFile t format.index_file → Defines t → KeepsThose but_index s shape slack → KeepsThose but_index t shape slack
+  by_rule ranges split defined all Ranges e = ranges
+  by_rule ranges split defined all (Split f) e = ⊎_elim (λ (p : f ≡ format.index_file). subst (IsSplitFile t) (sym p) split) (λ (ne : f ≢ format.index_file). split_other f ne (all (Split f) refl)) (nat_cases f format.index_file)
+  by_rule ranges split defined all Linked e = stays s t Linked shape slack refl (all_same (reads Linked) refl) (all Linked refl)
+  by_rule ranges split defined all Grouped e = stays s t Grouped shape slack refl (all_same (reads Grouped) refl) (all Grouped refl)
+  by_rule ranges split defined all Counts e = stays s t Counts shape slack refl (all_same (reads Counts) refl) (all Counts refl)
+  by_rule ranges split defined all Properties e = stays s t Properties shape slack refl (all_same (reads Properties) refl) (all Properties refl)
+  by_rule ranges split defined all Labels e = stays s t Labels shape slack refl (all_same (reads Labels) refl) (all Labels refl)
+  by_rule ranges split defined all Defined e = defined
+  by_rule ranges split defined all Names e = stays s t Names shape slack refl (all_same (reads Names) refl) (all Names refl)
+  by_rule ranges split defined all Degrees e = stays s t Degrees shape slack refl (all_same (reads Degrees) refl) (all Degrees refl)
+  by_rule ranges split defined all Indexed e = absurd cc
 
-  pub rules_kept : AreInRange t shape → IsSplitFile t format.index_file → IsWellFormed s shape → IsWellFormed t shape
-  rules_kept ranges split well = all_of t shape slack (by_rule ranges split (by_name s shape shape.threshold [] well))
+  pub rules_kept : AreInRange t shape → IsSplitFile t format.index_file → Defines t → IsWellFormed s shape → IsWellFormed t shape
+  rules_kept ranges split defined well = all_of t shape slack (by_rule ranges split defined (by_name s shape shape.threshold [] well))
 
 of_split : (t : Records) (free : List ℕ) → IsSplit t format.index_file (is_live t format.index_file) free → IsSplitFile t format.index_file
 of_split t free split = record { split = λ is. (free, split); kept = λ is not. absurd (true≢false not) }
@@ -79,19 +81,20 @@ of_split t free split = record { split = λ is. (free, split); kept = λ is not.
 pub changed_others : (s t : Records) (id : ℕ) → IsChanged s t format.index_file id → OthersStay s t
 changed_others s t id change f is ne = record { records = ch.file_same s t format.index_file id change f is ne; meta = ch.other_meta s t format.index_file id change f ne }
 
--- A record that fits came into use.
-pub made_kept : (s t : Records) (shape : Shape) (id : ℕ) (rec : Rec) → IsMade s t shape format.index_file id rec → Fits (high t) format.index_file rec → IsWellFormed s shape → IsWellFormed t shape
-made_kept s t shape id rec made fits well = rules_kept s t shape (changed_others s t id made.change)
+-- A record that fits came into use, and if it is a definition its label and its key are names.
+pub made_kept : (s t : Records) (shape : Shape) (id : ℕ) (rec : Rec) → IsMade s t shape format.index_file id rec → Fits (high t) format.index_file rec → (field 1 rec format.kind ≡ format.definition → IsOfNames s rec) → IsWellFormed s shape → IsWellFormed t shape
+made_kept s t shape id rec made fits names well = rules_kept s t shape (changed_others s t id made.change)
     (ch.in_range s t format.index_file id made.change shape made.meta (λ lt. subst (Fits (high t) format.index_file) (sym made.here) fits) well.ranges)
-    (of_split t made.free made.split) well
+    (of_split t made.free made.split)
+    (defined_with s t id made.change (λ is. subst (IsOfNames s) (sym made.here) (names (ap (λ (r : Rec). field 1 r format.kind) (sym made.here) ∙ sym (kind_low (high t format.index_file) (rec_at t format.index_file id) id made.below) ∙ is))) well.defined) well
 
 -- A record went.
 pub gone_kept : (s t : Records) (shape : Shape) (id : ℕ) → IsGone s t shape format.index_file id → IsWellFormed s shape → IsWellFormed t shape
 gone_kept s t shape id gone well = rules_kept s t shape (changed_others s t id gone.change)
     (ch.in_range s t format.index_file id gone.change shape gone.meta (λ lt. gone.fits) well.ranges)
-    (of_split t gone.free gone.split) well
+    (of_split t gone.free gone.split) (defined_with s t id gone.change (λ is. let e = sym gone.gone ∙ is in omega (arith, e)) well.defined) well
 
--- ---- a number of a record in use was set, and the record still fits
+-- ---- a number of a record in use was set, which is no definition, and the record still fits
 
 module _ (s : Records) (x at to : ℕ) (used : kind_at s format.index_file x ≢ format.free_kind) (behind : 1 ≤ at) where
   abbrev rec : Rec
@@ -146,15 +149,15 @@ module _ (s : Records) (x at to : ℕ) (used : kind_at s format.index_file x ≢
         exact = ap (λ (m : Meta). m.live) meta ∙ k.exact ∙ ap (λ m. length (ids (is_live s format.index_file) m)) (sym (set_mark format.index_file));
       })
 
-  pub set_kept : (shape : Shape) → (Fits (high s) format.index_file (rec_at s format.index_file x) → Fits (high s) format.index_file rec) → IsWellFormed s shape → IsWellFormed set_in shape
-  set_kept shape fits well =
+  pub set_kept : (shape : Shape) → kind_at s format.index_file x ≢ format.definition → (Fits (high s) format.index_file (rec_at s format.index_file x) → Fits (high s) format.index_file rec) → IsWellFormed s shape → IsWellFormed set_in shape
+  set_kept shape plain fits well =
       let ranges : AreInRange s shape = well.ranges in
       let split = well.split format.index_file refl in
       let marks : high s ≡ high set_in = λ i f. sym (set_mark f) i in
       rules_kept s set_in shape set_others
       (ch.in_range s set_in format.index_file x set_change shape (subst (IsMetaInRange shape format.index_file) (sym (set_meta format.index_file)) (ranges.metas format.index_file refl))
       (λ lt. subst (Fits (high set_in) format.index_file) (sym set_here) (subst (λ (m : ℕ → ℕ). Fits m format.index_file rec) marks (fits (ranges.fit format.index_file x refl (let e = set_mark format.index_file in omega arith))))) ranges)
-      (of_split set_in split.0 (set_split split.0 split.1)) well
+      (of_split set_in split.0 (set_split split.0 split.1)) (defined_with s set_in x set_change (λ is. absurd (plain (sym (set_kind x) ∙ is))) well.defined) well
 
 -- ---- the first definition was set
 
@@ -231,4 +234,4 @@ module _ (s : Records) (d : ℕ) (small : d < 2 ^ 32) where
       rules_kept s with_first shape first_others
       (ch.in_range s with_first format.index_file 0 first_change shape (first_range shape low (ranges.metas format.index_file refl))
       (λ lt. subst (Fits (high with_first) format.index_file) (sym (first_record 0)) (subst (λ (m : ℕ → ℕ). Fits m format.index_file (rec_at s format.index_file 0)) marks (ranges.fit format.index_file 0 refl (let e = first_mark format.index_file in omega arith)))) ranges)
-      (of_split with_first split.0 (first_split split.0 split.1)) well
+      (of_split with_first split.0 (first_split split.0 split.1)) (defined_alike s with_first (λ e is. (sym (first_kind e) ∙ is, first_record e)) (let e = first_mark format.names_file in omega (arith, e)) well.defined) well

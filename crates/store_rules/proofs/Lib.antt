@@ -6,6 +6,7 @@ pub mod ChainSteps
 pub mod Changes
 pub mod CountLaws
 pub mod Counts
+pub mod DefinedStays
 pub mod DefinitionMade
 pub mod EdgeChange
 pub mod EdgeGone

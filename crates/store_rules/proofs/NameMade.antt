@@ -20,6 +20,7 @@ use Rattle.store_rules.specs.Rules.{AreNamed, AreNames, HaveProperties, Head, Is
 use Rattle.store_rules.specs.Views.{NodeRow, Records, RelRow, group_at, high, kind_at, node_at, node_in, rec_at, rel_at, row_if, text_of}
 use Rattle.store_rules.proofs.Changes as ch
 use Rattle.store_rules.proofs.Changes.{IsChanged}
+use Rattle.store_rules.proofs.DefinedStays.{changed_defined}
 use Rattle.store_rules.proofs.Frames.{IsSame, kind_same}
 use Rattle.store_rules.proofs.NameRows.{contains_row, rows_same}
 use Rattle.store_rules.proofs.PropertyLists.{map_of-names, properties_from-walk}
@@ -125,6 +126,7 @@ module _ (s t : Records) (shape : Shape) (rec : Rec) (text : List ℕ) (made : I
       exact = un.exact s t format.names_file count made.change refl well.exact;
       properties = properties;
       named = named;
+      defined = changed_defined s t format.names_file count made.change (λ e. omega arith) well.defined;
       names = names;
       degrees = un.degrees s t format.names_file count made.change refl most
           (λ n some. ap (λ r. field 4 r format.node_degree) (nodes_same.each n) ∙ well.degrees.each n (λ z. some (ap (λ (k : ℕ → ℕ). k n) kinds ∙ z)))

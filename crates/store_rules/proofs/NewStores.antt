@@ -137,6 +137,10 @@ module _ (before : Records) (shape : Shape) where
       nodes_named = λ x row e. absurd (not_some (node_at new x) row (no_node x) e);
       rels_named = λ x row e. absurd (not_some (rel_at new x) row (no_rel x) e);
     };
+    defined = record {
+      labels = λ d is. absurd (let z = sym (none_used format.index_file d refl) ∙ is in omega arith);
+      keys = λ d is. absurd (let z = sym (none_used format.index_file d refl) ∙ is in omega arith);
+    };
     names = record {
       form = λ x lt. absurd (nothing_low format.names_file x refl lt);
       distinct = λ x y a b e. absurd (nothing_low format.names_file x refl a);

@@ -12,6 +12,7 @@ use Rattle.store_rules.specs.Rules.{AreCounted, AreNamed, HaveProperties, Head, 
 use Rattle.store_rules.specs.Views.{GroupRow, Records, RelRow, degree, group_at, high, kind_at, node_at, node_in, rec_at, rel_at, rel_in}
 use Rattle.store_rules.proofs.Changes as ch
 use Rattle.store_rules.proofs.Counts.{ids_empty}
+use Rattle.store_rules.proofs.DefinedStays.{changed_defined}
 use Rattle.store_rules.proofs.Frames.{owner_beside_node, properties_bare}
 use Rattle.store_rules.proofs.GraphRows.{degree_in-degree}
 use Rattle.store_rules.proofs.Made.{IsGone}
@@ -101,6 +102,7 @@ module _ (s t : Records) (shape : Shape) (id : ℕ) (lost : IsGone s t shape for
     exact = un.exact s t format.nodes_file id lost.change refl well.exact;
     properties = properties;
     named = named;
+    defined = changed_defined s t format.nodes_file id lost.change (λ e. omega arith) well.defined;
     names = nc.names s t id lost.change shape well;
     degrees = degrees;
   }

@@ -15,6 +15,7 @@ use Rattle.store_rules.specs.Rules.{AreCounted, AreNamed, HaveProperties, Head, 
 use Rattle.store_rules.specs.Views.{NodeRow, Records, RelRow, degree, group_at, high, kind_at, node_at, node_in, rec_at, rel_at, row_if, text_of}
 use Rattle.store_rules.proofs.Changes as ch
 use Rattle.store_rules.proofs.Counts.{ids_none}
+use Rattle.store_rules.proofs.DefinedStays.{changed_defined}
 use Rattle.store_rules.proofs.Frames.{owner_beside_node, properties_bare}
 use Rattle.store_rules.proofs.Made.{IsMade}
 use Rattle.store_rules.proofs.NodeChange as nc
@@ -129,6 +130,7 @@ module _ (s t : Records) (shape : Shape) (id number : ℕ) (rec : Rec) (made : I
     exact = un.exact s t format.nodes_file id made.change refl well.exact;
     properties = properties;
     named = named;
+    defined = changed_defined s t format.nodes_file id made.change (λ e. omega arith) well.defined;
     names = nc.names s t id made.change shape well;
     degrees = degrees;
   }

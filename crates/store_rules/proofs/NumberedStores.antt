@@ -16,7 +16,7 @@ use Rattle.store_rules.specs.Graph.{graph_of}
 use Rattle.store_rules.specs.Indexes.{IsIndexed}
 use Rattle.store_rules.specs.Ranges.{AreInRange, Fits, is_reused}
 use Rattle.store_rules.specs.RuleList.{AreSame, IsSameFile, IsSplitFile, KeepsThose, Slack, but_index, reads}
-use Rattle.store_rules.specs.RuleList.Rule.{Counts, Degrees, Grouped, Labels, Linked, Names, Properties, Ranges, Split, Indexed}
+use Rattle.store_rules.specs.RuleList.Rule.{Counts, Defined, Degrees, Grouped, Labels, Linked, Names, Properties, Ranges, Split, Indexed}
 use Rattle.store_rules.specs.Rules.{IsWellFormed}
 use Rattle.store_rules.specs.Views.{Records, high, rec_at}
 use Rattle.store_rules.proofs.NumberLaws.{and_parts, nat_cases}
@@ -93,6 +93,7 @@ module _ (records : Records) (number : Rec) where
   rules_stay shape slack blank rest all Counts e = stays records numbered Counts shape slack refl (all_same (reads Counts) refl) (all Counts refl)
   rules_stay shape slack blank rest all Properties e = stays records numbered Properties shape slack refl (all_same (reads Properties) refl) (all Properties refl)
   rules_stay shape slack blank rest all Labels e = stays records numbered Labels shape slack refl (all_same (reads Labels) refl) (all Labels refl)
+  rules_stay shape slack blank rest all Defined e = stays records numbered Defined shape slack refl (all_same (reads Defined) refl) (all Defined refl)
   rules_stay shape slack blank rest all Names e = stays records numbered Names shape slack refl (all_same (reads Names) refl) (all Names refl)
   rules_stay shape slack blank rest all Degrees e = stays records numbered Degrees shape slack refl (all_same (reads Degrees) refl) (all Degrees refl)
   rules_stay shape slack blank rest all Indexed e = absurd cc

@@ -8,6 +8,7 @@ use Rattle.rec_bytes.specs.Record.{field}
 use Rattle.rec_bytes.specs.RecordFiles.{is_meta_file, meta_key_of}
 use Rattle.rec_bytes.proofs.Numbers.{Apart}
 use Rattle.store_rules.specs.Properties.{Property}
+use Rattle.store_rules.specs.RuleList.{IsSameFile}
 use Rattle.store_rules.specs.Views.{Records, degree, first_link, group_at, group_in, high, kind_at, kind_in, key_in, node_at, node_in, rec_at, rel_at, rel_in, row_if}
 use Rattle.store_rules.proofs.Frames.{pair_cases}
 use Rattle.store_rules.proofs.MetaLaws.{not_meta_key}
@@ -60,6 +61,13 @@ module _ (s t : Records) (shape : Shape) (file x : ℕ) (old new : List Property
   -- no name is new
   pub name_mark : high t format.names_file ≡ high s format.names_file
   name_mark = mark_same format.names_file (λ e. omega arith) (λ e. omega arith)
+
+  -- the file of the index stays
+  pub index_same : IsSameFile s t format.index_file
+  index_same = record {
+    records = λ i y. record_same format.index_file y refl (λ e. omega arith) (λ e. omega arith) (λ e. omega (arith, h.element)) i;
+    meta = meta_same format.index_file (λ e. omega arith) (λ e. omega arith);
+  }
 
   -- the records of groups stay
   pub group_file : rec_at t format.groups_file ≡ rec_at s format.groups_file

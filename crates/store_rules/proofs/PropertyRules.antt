@@ -18,6 +18,7 @@ use Rattle.store_rules.specs.Rows.{ids}
 use Rattle.store_rules.specs.Rules.{AreAllLive, AreCounted, AreNamed, AreNames, Head, IsGrouped, IsLinked, IsSplit, KeepsRules, Owns, first_of, next_free, AreExact, HasCounts}
 use Rattle.store_rules.specs.Views.{Records, degree, first_link, group_at, high, is_live, kind_at, node_at, rec_at, rel_at, GroupRow}
 use Rattle.store_rules.proofs.ChainLaws.{walk_stays}
+use Rattle.store_rules.proofs.DefinedStays.{defined_stay}
 use Rattle.store_rules.proofs.Frames.{pair_cases}
 use Rattle.store_rules.proofs.MetaLaws.{meta_of_reused}
 use Rattle.store_rules.proofs.NumberLaws.{nat_cases}
@@ -180,6 +181,7 @@ module _ (s t : Records) (shape : Shape) (file x : ℕ) (old new : List Property
     exact = exact well.exact;
     properties = properties_held s t shape file x old new h well;
     named = named well.named;
+    defined = defined_stay s t (fr.index_same s t shape file x old new h) (let e = fr.name_mark s t shape file x old new h in omega (arith, e)) well.defined;
     names = names well.names;
     degrees = degrees well.degrees;
   }

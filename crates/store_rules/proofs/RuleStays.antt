@@ -1,5 +1,5 @@
 -- A rule stays where what it reads stays, and all rules are the parts that they were.
-use Rattle.std.proofs.Common.{◌≡◌, inl, inr, ℕ, Bool, true, List, Option, nat_eq, sym, ap, ◌∙◌, subst, refl, ◌<◌, length}
+use Rattle.std.proofs.Common.{◌≡◌, inl, inr, ℕ, Bool, true, List, Option, nat_eq, sym, ap, ◌∙◌, subst, refl, ◌<◌, length, arith}
 use Rattle.std.specs.Prelude.{not}
 use Rattle.store_rules.specs.Rows.{ids}
 use Rattle.rec_bytes.specs.declared.meta.Meta.{Meta}
@@ -14,8 +14,9 @@ use Rattle.store_rules.specs.Indexes.{AreIndexed, wanted_in}
 use Rattle.store_rules.specs.Properties.{property_records}
 use Rattle.store_rules.specs.Rules.{AreCounted, AreExact, AreNamed, AreNames, HaveProperties, Head, IsGrouped, IsLinked, IsListed, IsSplit, KeepsRules, Owns, PropertyFiles, StandsAt, first_of, property_files}
 use Rattle.store_rules.specs.RuleList.{AreSame, IsSameFile, IsSplitFile, KeepsThose, Rule, Slack, but_index, holds, is_local, reads}
-use Rattle.store_rules.specs.RuleList.Rule.{Counts, Degrees, Grouped, Labels, Linked, Names, Properties, Ranges, Split, Indexed}
+use Rattle.store_rules.specs.RuleList.Rule.{Counts, Defined, Degrees, Grouped, Labels, Linked, Names, Properties, Ranges, Split, Indexed}
 use Rattle.store_rules.specs.Views.{GroupRow, NodeRow, Records, RelRow, degree, first_link, group_at, group_in, high, is_live, kind_at, kind_in, node_at, node_in, rec_at, rel_at, rel_in, row_if}
+use Rattle.store_rules.proofs.DefinedStays.{defined_stay}
 use Rattle.store_rules.proofs.IndexStays.{indexes_stay, wanted_same}
 
 module _ (s t : Records) where
@@ -123,6 +124,7 @@ module _ (s t : Records) where
       subst (λ (v : PropertyFiles × ((ℕ → Option NodeRow) × ((ℕ → Option RelRow) × ℕ))). HaveProperties v.0 v.1.0 v.1.1.0 v.1.1.1)
       (λ i. (sym (files_same same.1.1.0 same.1.1.1.0) i, (sym (nodes_same same.0) i, (sym (rels_same same.1.0) i, sym (high_same format.names_file same.1.1.1.1.0) i)))) h
   stays Labels shape slack local same h = labels_stay same.0 same.1.0 same.1.1.0 h
+  stays Defined shape slack local same h = defined_stay s t same.0 (let e = high_same format.names_file same.1.0 in omega (arith, e)) h
   stays Names shape slack local same h = names_stay same.0 h
   stays Degrees shape slack local same h = degrees_stay slack.most same.0 same.1.0 h
   stays Indexed shape slack local same h =
@@ -139,6 +141,7 @@ by_name records shape most empty well Grouped e = well.grouped
 by_name records shape most empty well Counts e = well.exact
 by_name records shape most empty well Properties e = well.properties
 by_name records shape most empty well Labels e = well.named
+by_name records shape most empty well Defined e = well.defined
 by_name records shape most empty well Names e = well.names
 by_name records shape most empty well Degrees e = well.degrees
 by_name records shape most empty well Indexed e = absurd cc
@@ -153,6 +156,7 @@ all_of records shape slack all = record {
   exact = all Counts refl;
   properties = all Properties refl;
   named = all Labels refl;
+  defined = all Defined refl;
   names = all Names refl;
   degrees = all Degrees refl;
 }

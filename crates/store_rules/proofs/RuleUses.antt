@@ -5,7 +5,7 @@ use Rattle.rec_bytes.specs.Format as format
 use Rattle.store_rules.specs.Chains.{In}
 use Rattle.store_rules.specs.Rules.{is_filled}
 use Rattle.store_rules.specs.RuleList.{KeepsAll, KeepsThose, Rule, Slack, holds}
-use Rattle.store_rules.specs.RuleList.Rule.{Counts, Degrees, Grouped, Labels, Linked, Names, Properties, Ranges, Split, Indexed}
+use Rattle.store_rules.specs.RuleList.Rule.{Counts, Defined, Degrees, Grouped, Labels, Linked, Names, Properties, Ranges, Split, Indexed}
 use Rattle.store_rules.specs.Views.{Records, rec_at}
 
 -- these groups may be empty
@@ -17,6 +17,7 @@ loosens Grouped = true
 loosens Counts = false
 loosens Properties = false
 loosens Labels = false
+loosens Defined = false
 loosens Names = false
 loosens Degrees = false
 loosens Indexed = false
@@ -30,6 +31,7 @@ others_slack records shape most few many Grouped e h = absurd cc
 others_slack records shape most few many Counts e h = h
 others_slack records shape most few many Properties e h = h
 others_slack records shape most few many Labels e h = h
+others_slack records shape most few many Defined e h = h
 others_slack records shape most few many Names e h = h
 others_slack records shape most few many Degrees e h = h
 others_slack records shape most few many Indexed e h = h
@@ -54,6 +56,7 @@ regrouped records shape most few many all grouped rule = by rule (all rule)
     by Counts h = h
     by Properties h = h
     by Labels h = h
+    by Defined h = h
     by Names h = h
     by Degrees h = h
     by Indexed h = h
@@ -88,6 +91,7 @@ is_other Grouped = false
 is_other Counts = false
 is_other Properties = true
 is_other Labels = true
+is_other Defined = true
 is_other Names = true
 is_other Degrees = true
 is_other Indexed = true

@@ -12,7 +12,7 @@ use Rattle.rec_bytes.specs.Shape.{shape_of_record, version_of}
 use Rattle.rec_bytes.specs.Space.{meta_in}
 use Rattle.store_rules.specs.Chains.{In, IsChain, IsWalk, next_in, prev_in}
 use Rattle.store_rules.specs.IndexBreaking.{IndexBreaks}
-use Rattle.store_rules.specs.Indexes.{AreIndexed, wanted_in}
+use Rattle.store_rules.specs.Indexes.{AreIndexed, indexed_key, indexed_label, wanted_in}
 use Rattle.store_rules.specs.Ranges.{AreInRange, Fits, is_reused}
 use Rattle.store_rules.specs.Rows.{ids}
 use Rattle.store_rules.specs.Rules as rules
@@ -37,11 +37,14 @@ pub record AreGroups (records : Records) : Type 0 where
       (rec_at records format.groups_file) (group_at records) (rel_at records)
       (high records format.relationships_file)
 
--- The fifth rule: properties and blocks are held, and keys, labels and types are names.
+-- The fifth rule: properties and blocks are held, and keys, labels and types are names, those of
+-- definitions too.
 pub record AreProperties (records : Records) : Type 0 where
   pub properties : rules.HaveProperties (rules.property_files records) (node_at records)
       (rel_at records) (high records format.names_file)
   pub named : rules.AreNamed (node_at records) (rel_at records) (high records format.names_file)
+  pub defined : rules.AreDefined (kind_at records format.index_file)
+      (rec_at records format.index_file) (high records format.names_file)
 
 -- ---- what each rule says of one record
 
@@ -237,6 +240,13 @@ pub record ElementKeeps (records : Records) (file x : ℕ) : Type 0 where
   pub named : is_live records file x ≡ true
       → label_of records file x < high records format.names_file
 
+-- the fifth rule of a definition of an index: its label and its key are names
+pub record DefinitionKeeps (records : Records) (d : ℕ) : Type 0 where
+  pub label : kind_at records format.index_file d ≡ format.definition
+      → indexed_label records d < high records format.names_file
+  pub key : kind_at records format.index_file d ≡ format.definition
+      → indexed_key records d < high records format.names_file
+
 -- the property is among those from a first one on
 pub record IsAmongProperties (records : Records) (first p : ℕ) : Type 0 where
   pub members : List ℕ
@@ -371,6 +381,8 @@ pub data Breaks (records : Records) (shape : Shape) : Damage → Type 0 where
       → Breaks records shape (damage format.properties_file p 5)
   WrongBlock : (b : ℕ) → ¬ IsBlockHeldOnce records b
       → Breaks records shape (damage format.strings_file b 5)
+  WrongDefinition : (d : ℕ) → d < high records format.index_file → ¬ DefinitionKeeps records d
+      → Breaks records shape (damage format.index_file d 5)
   WrongName : (x : ℕ) → x < high records format.names_file → ¬ NameKeeps records x
       → Breaks records shape (damage format.names_file x 6)
   WrongDegree : (n : ℕ) → n < high records format.nodes_file

@@ -116,12 +116,10 @@ abbrev pub pointers_from : ℕ → (ℕ → Pointer) → ℕ → List Pointer
 pointers_from zero pointer place = []
 pointers_from (suc n) pointer place = pointer place ∷ pointers_from n pointer (place + 4)
 
--- a definition of the index, whose label and key are names, with its records of heads
+-- a definition of the index, whose label and key may be anything, with its records of heads
 abbrev pub definition_layout : Option Layout
 definition_layout = laid
-    (must format.definition_label format.names_file
-    ∷ must format.definition_key format.names_file
-    ∷ may format.definition_next format.index_file
+    (may format.definition_next format.index_file
     ∷ pointers_from format.definition_head_count (λ place. must place format.index_file)
     format.definition_heads)
     (bytes_of format.kind 1 ∷ bytes_of format.definition_label 60 ∷ [])

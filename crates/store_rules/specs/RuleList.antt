@@ -6,8 +6,9 @@ use Rattle.rec_bytes.specs.Format as format
 use Rattle.rec_bytes.specs.RecordFiles.{is_meta_file, meta_key_of}
 use Rattle.store_rules.specs.Indexes.{AreIndexed, wanted_in}
 use Rattle.store_rules.specs.Ranges.{AreInRange, is_reused}
-use Rattle.store_rules.specs.Rules.{AreAllLive, AreCounted, AreExact, AreNamed, AreNames}
-use Rattle.store_rules.specs.Rules.{HaveProperties, IsGrouped, IsLinked, IsSplit, property_files}
+use Rattle.store_rules.specs.Rules.{AreAllLive, AreCounted, AreDefined, AreExact, AreNamed}
+use Rattle.store_rules.specs.Rules.{AreNames, HaveProperties, IsGrouped, IsLinked, IsSplit}
+use Rattle.store_rules.specs.Rules.{property_files}
 use Rattle.store_rules.specs.Views.{Records, degree, first_link, group_at, high, is_live, kind_at}
 use Rattle.store_rules.specs.Views.{node_at, rec_at, rel_at}
 
@@ -20,6 +21,7 @@ pub data Rule : Type 0 where
   Counts : Rule
   Properties : Rule
   Labels : Rule
+  Defined : Rule
   Names : Rule
   Degrees : Rule
   Indexed : Rule
@@ -33,6 +35,7 @@ number Grouped = 4
 number Counts = 4
 number Properties = 5
 number Labels = 5
+number Defined = 5
 number Names = 6
 number Degrees = 7
 number Indexed = 8
@@ -66,6 +69,9 @@ holds Properties records shape slack =
     (high records format.names_file)
 holds Labels records shape slack =
     AreNamed (node_at records) (rel_at records) (high records format.names_file)
+holds Defined records shape slack =
+    AreDefined (kind_at records format.index_file) (rec_at records format.index_file)
+    (high records format.names_file)
 holds Names records shape slack =
     AreNames (rec_at records format.names_file) (high records format.names_file)
 holds Degrees records shape slack =
@@ -91,6 +97,7 @@ but_index Grouped = true
 but_index Counts = true
 but_index Properties = true
 but_index Labels = true
+but_index Defined = true
 but_index Names = true
 but_index Degrees = true
 but_index Indexed = false
@@ -113,6 +120,7 @@ reads Properties =
     format.nodes_file ∷ format.relationships_file ∷ format.properties_file ∷ format.strings_file
     ∷ format.names_file ∷ []
 reads Labels = format.nodes_file ∷ format.relationships_file ∷ format.names_file ∷ []
+reads Defined = format.index_file ∷ format.names_file ∷ []
 reads Names = format.names_file ∷ []
 reads Degrees = format.nodes_file ∷ format.relationships_file ∷ []
 reads Indexed =
@@ -127,6 +135,7 @@ is_local Grouped = true
 is_local Counts = true
 is_local Properties = true
 is_local Labels = true
+is_local Defined = true
 is_local Names = true
 is_local Degrees = true
 is_local Indexed = true

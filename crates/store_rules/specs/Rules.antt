@@ -286,6 +286,13 @@ pub record AreNamed (nodes : ℕ → Option NodeRow)
   pub nodes_named : (x : ℕ) (row : NodeRow) → nodes x ≡ Some row → row.label < names
   pub rels_named : (x : ℕ) (row : RelRow) → rels x ≡ Some row → row.label < names
 
+-- the label and the key of each definition of an index are names
+pub record AreDefined (kind : ℕ → ℕ) (index_file : ℕ → Rec) (names : ℕ) : Type 0 where
+  pub labels : (d : ℕ) → kind d ≡ format.definition
+      → field 4 (index_file d) format.definition_label < names
+  pub keys : (d : ℕ) → kind d ≡ format.definition
+      → field 4 (index_file d) format.definition_key < names
+
 -- ---- the sixth rule: names have their form, and none comes twice
 
 pub record AreNames (name_file : ℕ → Rec) (names : ℕ) : Type 0 where
@@ -329,6 +336,8 @@ pub record KeepsRules (records : Records) (shape : Shape) (most : ℕ) (empty : 
   pub properties : HaveProperties (property_files records) (node_at records) (rel_at records)
       (high records format.names_file)
   pub named : AreNamed (node_at records) (rel_at records) (high records format.names_file)
+  pub defined : AreDefined (kind_at records format.index_file)
+      (rec_at records format.index_file) (high records format.names_file)
   pub names : AreNames (rec_at records format.names_file) (high records format.names_file)
   pub degrees : AreCounted (kind_at records format.nodes_file) (degree records) (rel_at records)
       (high records format.relationships_file) most

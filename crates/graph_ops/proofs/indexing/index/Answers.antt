@@ -1,25 +1,30 @@
 use Rattle.std.specs.Prelude.{Contains}
-use Rattle.std.proofs.Common.{◌≡◌, ◌≢◌, ◌+◌, ◌-◌, ◌≤◌, Some, [], ◌∷◌, ◌++◌, length, ap, sym, ◌∙◌, subst, append_assoc, arith, refl}
+use Rattle.std.proofs.Common.{◌≡◌, ◌≢◌, ◌+◌, ◌≤◌, Some, [], ◌∷◌, ◌++◌, length, ap, sym, ◌∙◌, subst, append_assoc, arith, refl}
 use Rattle.plain_graph.specs.Graph.{UsesName}
 use Rattle.plain_graph.specs.Refusals.{most_names}
 use Rattle.plain_graph.specs.declared.command.Command.TheVariants as commands
 use Rattle.rec_bytes.specs.Format as format
-use Rattle.rec_bytes.specs.Space.{meta_of}
 use Rattle.store_rules.specs.Indexes.{IsIndexed}
 use Rattle.store_rules.specs.Writes.{WritesAtMost}
 use Rattle.store_rules.proofs.WriteLaws.{more_written, none_written, then_written}
 use Rattle.name_store.specs.Interning.{IsFullFault, interned}
+use Rattle.name_store.specs.Names.{AreHeldNames}
 use Rattle.prop_index.specs.Defining.{AreNamesOf}
+use Rattle.prop_index.specs.Making.{count_of}
 use Rattle.graph_ops.specs.Causes.{IsCaused, IsStillCaused}
 use Rattle.graph_ops.specs.Change.{IsCounted, IsRefusal}
+use Rattle.graph_ops.specs.Damage.{BlamesBroken, IsBroken}
 use Rattle.graph_ops.specs.ChangeFault.{LeavesSpace, of_intern, of_make}
 use Rattle.graph_ops.specs.Store.{IsStore, graph_in}
-use Rattle.graph_ops.proofs.Causes.{caused_left}
+use Rattle.graph_ops.proofs.Causes.{broken_left, caused_left, intern_blamed}
 use Rattle.graph_ops.proofs.DiskCauses.{change_cause_passed, intern_cause_passed, later_on, make_cause_passed}
 use Rattle.graph_ops.proofs.Exits.{fault_exit, read_leaves}
-use Rattle.graph_ops.proofs.IndexBeside.{index_written}
+use Rattle.graph_ops.proofs.IndexBeside.{index_written, touched_beside}
 use Rattle.graph_ops.proofs.IndexMakes.{AreNumbered, index_makes, index_refused_key, index_refused_label, index_refused_make, index_refused_pair, numbered_names, numbered_store}
-use Rattle.graph_ops.proofs.IndexRefused.{caused_counted, caused_still, make_caused, make_leaves, make_still, meta_named, name_caused, name_leaves, second_lacks}
+use Rattle.graph_ops.proofs.IndexCounted.{count_beside, count_kept, file_kept}
+use Rattle.graph_ops.proofs.IndexFree.{few_there, none_there}
+use Rattle.graph_ops.proofs.IndexNumbers.{number_stays, pair_is_got}
+use Rattle.graph_ops.proofs.IndexRefused.{IsNamedFor, caused_counted, make_blamed, make_caused, make_leaves, make_still, meta_named, name_caused, name_leaves, records_named, second_lacks, shape_named}
 use Rattle.graph_ops.proofs.Interned.{name_written, one_written}
 use Rattle.graph_ops.proofs.LineNames.{first_lacks, held_name, name_long, name_prefix, uses_once}
 use Rattle.graph_ops.proofs.NewNames.{name_one}
@@ -66,7 +71,18 @@ returns-in_err-test_pair-clause-still g c tells =
     let command = commands.Index c.args.label.now c.args.key.now in
     let fault = c.in_err-test_pair.field-0.0 in
     fault_exit (λ f. f) (IsStillCaused command t names now) fault c.from_residual.result c.from_residual.ensures.1
-    (caused_still t names now label key fault (caused_left command s t t names now c.test_pair.ensures.same fault (c.in_err-test_pair.ensures.caused tells)))
+    (record {
+      caused = caused_left command s t t names now c.test_pair.ensures.same fault (c.in_err-test_pair.ensures.caused tells);
+      damaged = broken_left s t c.test_pair.ensures.same fault (c.in_err-test_pair.ensures.damaged tells);
+    })
+
+pub returns-in_err-test_pair-clause-damaged : goal.returns-in_err-test_pair-clause-damaged
+returns-in_err-test_pair-clause-damaged g c tells =
+    let s = g.S.Reads.state c.args.space.now in
+    let t = g.S.Reads.state c.test_pair.new.space in
+    let fault = c.in_err-test_pair.field-0.0 in
+    fault_exit (λ f. f) (BlamesBroken t) fault c.from_residual.result c.from_residual.ensures.1
+    (broken_left s t c.test_pair.ensures.same fault (c.in_err-test_pair.ensures.damaged tells))
 
 pub returns-in_err-test_pair-clause-counts : goal.returns-in_err-test_pair-clause-counts
 returns-in_err-test_pair-clause-counts g c tells whole =
@@ -137,7 +153,13 @@ returns-in_err-label-clause-still g c tells =
     let command = commands.Index c.args.label.now c.args.key.now in
     let fault = c.in_err-label.field-0.0 in
     fault_exit of_intern (IsStillCaused command t names now) fault c.from_residual-in_err-label.result c.from_residual-in_err-label.ensures.1
-    (caused_still t names now label key (of_intern fault) (name_caused t t names now names label key label (λ all lacks. first_lacks names label (key ∷ []) all lacks) fault (label_full g (goal.at.returns-in_err-label-clause-still g c).In_err-label)))
+    (record { caused = (name_caused t t names now names label key label (λ all lacks. first_lacks names label (key ∷ []) all lacks) fault (label_full g (goal.at.returns-in_err-label-clause-still g c).In_err-label)); damaged = intern_blamed (IsBroken t) fault })
+
+pub returns-in_err-label-clause-damaged : goal.returns-in_err-label-clause-damaged
+returns-in_err-label-clause-damaged g c tells =
+    let t = g.S.Reads.state c.intern.new.space in
+    let fault = c.in_err-label.field-0.0 in
+    fault_exit of_intern (BlamesBroken t) fault c.from_residual-in_err-label.result c.from_residual-in_err-label.ensures.1 (intern_blamed (IsBroken t) fault)
 
 pub returns-in_err-label-clause-counts : goal.returns-in_err-label-clause-counts
 returns-in_err-label-clause-counts g c tells whole =
@@ -212,7 +234,13 @@ returns-in_err-key-clause-still g c tells =
     let command = commands.Index c.args.label.now c.args.key.now in
     let fault = c.in_err-key.field-0.0 in
     fault_exit of_intern (IsStillCaused command t names now) fault c.from_residual-in_err-key.result c.from_residual-in_err-key.ensures.1
-    (caused_still t names now label key (of_intern fault) (name_caused t t names now c.intern.new.self.names label key key (λ all lacks. second_lacks names c.intern.new.self.names label key (label_uses g (goal.at.returns-in_err-key-clause-still g c).After-intern-2) all lacks) fault (key_full g (goal.at.returns-in_err-key-clause-still g c).In_err-key)))
+    (record { caused = (name_caused t t names now c.intern.new.self.names label key key (λ all lacks. second_lacks names c.intern.new.self.names label key (label_uses g (goal.at.returns-in_err-key-clause-still g c).After-intern-2) all lacks) fault (key_full g (goal.at.returns-in_err-key-clause-still g c).In_err-key)); damaged = intern_blamed (IsBroken t) fault })
+
+pub returns-in_err-key-clause-damaged : goal.returns-in_err-key-clause-damaged
+returns-in_err-key-clause-damaged g c tells =
+    let t = g.S.Reads.state c.intern-2.new.space in
+    let fault = c.in_err-key.field-0.0 in
+    fault_exit of_intern (BlamesBroken t) fault c.from_residual-in_err-key.result c.from_residual-in_err-key.ensures.1 (intern_blamed (IsBroken t) fault)
 
 pub returns-in_err-key-clause-counts : goal.returns-in_err-key-clause-counts
 returns-in_err-key-clause-counts g c tells whole =
@@ -265,10 +293,14 @@ module _ (g : Over) (c : After-make g) where
   key_room : ¬ Contains c.intern.new.self.names c.args.key.now → length c.intern.new.self.names ≢ format.most_names
   key_room lacks all = absurd (let e = c.in_ok-key.ensures.full all (subst (λ x. ¬ Contains c.intern.new.self.names x) (sym key_is) lacks) in cc)
 
+  held_first : AreHeldNames c.intern.new.self.names
+  held_first = held_name c.args.names.now.names c.args.label.now c.intern.new.self.names c.count-known.ensures.are_names first_uses c.requires.0 label_room
+
+  held_last : AreHeldNames c.intern-2.new.self.names
+  held_last = held_name c.intern.new.self.names c.args.key.now c.intern-2.new.self.names held_first last_uses c.requires.1 key_room
+
   few_names : length c.intern-2.new.self.names ≤ most_names
-  few_names =
-      let first = held_name c.args.names.now.names c.args.label.now c.intern.new.self.names c.count-known.ensures.are_names first_uses c.requires.0 label_room in
-      (held_name c.intern.new.self.names c.args.key.now c.intern-2.new.self.names first last_uses c.requires.1 key_room).few
+  few_names = held_last.few
 
   few_more : length c.intern-2.new.self.names ≤ length c.args.names.now.names + 2
   few_more =
@@ -288,9 +320,6 @@ module _ (g : Over) (c : After-make g) where
   key_ok : g.S.Reads.tells → g.S.Reads.state c.intern-2.new.space ≡ interned (g.S.Reads.state c.intern.new.space) c.intern.new.self.names c.args.key.now
   key_ok tells = subst (λ x. g.S.Reads.state c.intern-2.new.space ≡ interned (g.S.Reads.state c.intern.new.space) c.intern.new.self.names x) key_is (c.in_ok-key.ensures.ok tells)
 
-  same_meta : g.S.Reads.tells → meta_of (g.S.Reads.state c.intern-2.new.space) format.index_file ≡ meta_of (g.S.Reads.state c.args.space.now) format.index_file
-  same_meta tells = meta_named (g.S.Reads.state c.args.space.now) (g.S.Reads.state c.test_pair.new.space) (g.S.Reads.state c.intern.new.space) (g.S.Reads.state c.intern-2.new.space) c.args.names.now.names c.intern.new.self.names c.args.label.now c.args.key.now c.test_pair.ensures.same (label_ok tells) (key_ok tells)
-
   numbered : g.S.Reads.tells → AreNumbered (g.S.Reads.state c.test_pair.new.space) (g.S.Reads.state c.intern.new.space) (g.S.Reads.state c.intern-2.new.space) c.args.names.now.names c.intern.new.self.names c.intern-2.new.self.names c.args.label.now c.args.key.now c.in_ok-label.label c.in_ok-key.key
   numbered tells = record {
     label_short = c.requires.0;
@@ -304,6 +333,42 @@ module _ (g : Over) (c : After-make g) where
     label_at = c.in_ok-label.ensures.number ∙ ap Some label_is;
     key_at = c.in_ok-key.ensures.number ∙ ap Some key_is;
   }
+
+  -- the test was of the numbers that they got
+  named_for : g.S.Reads.tells → IsNamedFor (g.S.Reads.state c.args.space.now) (g.S.Reads.state c.intern-2.new.space) c.intern-2.new.self.names c.args.label.now c.args.key.now c.in_ok-label.label c.in_ok-key.key
+  named_for tells =
+      let s = g.S.Reads.state c.args.space.now in
+      let p = g.S.Reads.state c.test_pair.new.space in
+      let a = g.S.Reads.state c.intern.new.space in
+      let b = g.S.Reads.state c.intern-2.new.space in
+      let names = c.args.names.now.names in
+      let first = c.intern.new.self.names in
+      let last = c.intern-2.new.self.names in
+      let label = c.args.label.now in
+      let key = c.args.key.now in
+      let l = c.in_ok-label.label in
+      let k = c.in_ok-key.key in
+      let given = numbered tells in
+      let free = c.in_ok-test_pair.ensures.tested tells in
+      let beside = records_named s p a b names first label key c.test_pair.ensures.same given.label_is given.key_is in
+      let file = file_kept s.records b.records beside format.index_file (λ e. omega arith) (λ e. omega arith) in
+      let same = pair_is_got names label key free.pair free.pair_is first last l k held_first.distinct held_last.distinct first_uses last_uses given.label_at given.key_at in
+      record {
+        label_at = number_stays first key last l label given.label_at last_uses;
+        key_at = given.key_at;
+        count = count_kept s.records b.records beside l k;
+        meta = meta_named s p a b names first label key c.test_pair.ensures.same given.label_is given.key_is;
+        shape = shape_named s p a b names first label key c.test_pair.ensures.same given.label_is given.key_is;
+        free = none_there s.records b.records file names label key free l k same;
+        few = few_there s.records b.records file names label key free;
+      }
+
+  -- the nodes are as they were when the names came
+  left_count : g.S.Reads.tells → count_of (g.S.Reads.state c.make.new.space).records c.in_ok-label.label c.in_ok-key.key ≡ count_of (g.S.Reads.state c.intern-2.new.space).records c.in_ok-label.label c.in_ok-key.key
+  left_count tells =
+      let b = g.S.Reads.state c.intern-2.new.space in
+      let t = g.S.Reads.state c.make.new.space in
+      count_beside b.records t.records (touched_beside 1037 b t tells c.make.ensures.at_most) c.in_ok-label.label c.in_ok-key.key
 
   was : g.S.Reads.tells → IsStore (g.S.Reads.state c.args.space.now) c.args.names.now.names → IsIndexed ((g.S.Reads.state c.intern-2.new.space).records) ((g.S.Reads.state c.intern-2.new.space).shape)
   was tells whole = (numbered_store (g.S.Reads.state c.args.space.now) (g.S.Reads.state c.test_pair.new.space) (g.S.Reads.state c.intern.new.space) (g.S.Reads.state c.intern-2.new.space) c.args.names.now.names c.intern.new.self.names c.intern-2.new.self.names c.args.label.now c.args.key.now c.in_ok-label.label c.in_ok-key.key c.test_pair.ensures.same whole (numbered tells)).store
@@ -344,7 +409,7 @@ returns-in_err-count-clause-caused g c tells =
     let command = commands.Index c.args.label.now c.args.key.now in
     let fault = c.in_err-count.field-0.0 in
     fault_exit of_make (IsCaused command s t names now) fault c.from_residual-in_err-count.result c.from_residual-in_err-count.ensures.1
-    (make_caused s (g.S.Reads.state c.intern-2.new.space) t names now label key c.in_ok-label.label c.in_ok-key.key (same_meta g (goal.at.returns-in_err-count-clause-caused g c).After-make tells) fault (c.in_err-count.ensures.caused tells))
+    (make_caused (g.S.Reads.state c.intern-2.new.space) names now label key c.in_ok-label.label c.in_ok-key.key s t (named_for g (goal.at.returns-in_err-count-clause-caused g c).After-make tells) fault (c.in_err-count.ensures.caused tells))
 
 pub returns-in_err-count-clause-still : goal.returns-in_err-count-clause-still
 returns-in_err-count-clause-still g c tells =
@@ -356,7 +421,17 @@ returns-in_err-count-clause-still g c tells =
     let command = commands.Index c.args.label.now c.args.key.now in
     let fault = c.in_err-count.field-0.0 in
     fault_exit of_make (IsStillCaused command t names now) fault c.from_residual-in_err-count.result c.from_residual-in_err-count.ensures.1
-    (caused_still t names now label key (of_make fault) (make_still (g.S.Reads.state c.intern-2.new.space) t names now label key c.in_ok-label.label c.in_ok-key.key fault (c.in_err-count.ensures.unwritten tells) (c.in_err-count.ensures.caused tells)))
+    (record {
+      caused = make_still (g.S.Reads.state c.intern-2.new.space) names now label key c.in_ok-label.label c.in_ok-key.key (g.S.Reads.state c.args.space.now) t (named_for g (goal.at.returns-in_err-count-clause-still g c).After-make tells) (left_count g (goal.at.returns-in_err-count-clause-still g c).After-make tells) fault (c.in_err-count.ensures.unwritten tells) (c.in_err-count.ensures.caused tells);
+      damaged = make_blamed t fault (c.in_err-count.ensures.still tells);
+    })
+
+pub returns-in_err-count-clause-damaged : goal.returns-in_err-count-clause-damaged
+returns-in_err-count-clause-damaged g c tells =
+    let t = g.S.Reads.state c.make.new.space in
+    let fault = c.in_err-count.field-0.0 in
+    fault_exit of_make (BlamesBroken t) fault c.from_residual-in_err-count.result c.from_residual-in_err-count.ensures.1
+    (make_blamed t fault (c.in_err-count.ensures.still tells))
 
 pub returns-in_err-count-clause-counts : goal.returns-in_err-count-clause-counts
 returns-in_err-count-clause-counts g c tells whole =
@@ -368,7 +443,7 @@ returns-in_err-count-clause-counts g c tells whole =
     let key = c.args.key.now in
     let fault = c.in_err-count.field-0.0 in
     fault_exit of_make (IsCounted s) fault c.from_residual-in_err-count.result c.from_residual-in_err-count.ensures.1
-    (caused_counted s t names now label key (of_make fault) (make_caused s (g.S.Reads.state c.intern-2.new.space) t names now label key c.in_ok-label.label c.in_ok-key.key (same_meta g (goal.at.returns-in_err-count-clause-counts g c).After-make tells) fault (c.in_err-count.ensures.caused tells)))
+    (caused_counted s t names now label key (of_make fault) (make_caused (g.S.Reads.state c.intern-2.new.space) names now label key c.in_ok-label.label c.in_ok-key.key s t (named_for g (goal.at.returns-in_err-count-clause-counts g c).After-make tells) fault (c.in_err-count.ensures.caused tells)))
 
 pub returns-in_err-count-clause-leaves : goal.returns-in_err-count-clause-leaves
 returns-in_err-count-clause-leaves g c tells =
@@ -376,7 +451,7 @@ returns-in_err-count-clause-leaves g c tells =
     let t = g.S.Reads.state c.make.new.space in
     let fault = c.in_err-count.field-0.0 in
     fault_exit of_make (LeavesSpace s t) fault c.from_residual-in_err-count.result c.from_residual-in_err-count.ensures.1
-    (make_leaves s t fault)
+    (make_leaves (g.S.Reads.state c.intern-2.new.space) c.args.names.now.names c.intern-2.new.self.names c.args.label.now c.args.key.now c.in_ok-label.label c.in_ok-key.key s t (named_for g (goal.at.returns-in_err-count-clause-leaves g c).After-make tells) fault (c.in_err-count.ensures.caused tells))
 
 pub returns-in_err-count-clause-refused_writes : goal.returns-in_err-count-clause-refused_writes
 returns-in_err-count-clause-refused_writes g c = on_any_err _ _ (made_written g (goal.at.returns-in_err-count-clause-refused_writes g c).After-make)

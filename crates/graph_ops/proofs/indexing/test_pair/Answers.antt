@@ -1,4 +1,4 @@
-use Rattle.std.proofs.Common.{length, ap, subst, arith}
+use Rattle.std.proofs.Common.{◌≡◌, length, ap, sym, ◌∙◌, arith, refl}
 use Rattle.plain_graph.specs.declared.command.Command.TheVariants as commands
 use Rattle.store_rules.specs.Indexes.{wanted_in}
 use Rattle.prop_index.proofs.LinkRules.{store_room}
@@ -6,14 +6,19 @@ use Rattle.prop_store.proofs.ReadCounts.{reads_same}
 use Rattle.graph_ops.specs.Causes.{IsCaused}
 use Rattle.graph_ops.specs.Change.{IsRefusedBy}
 use Rattle.graph_ops.specs.ChangeFault.{of_fault}
-use Rattle.graph_ops.specs.Indexing.{HasNamed, LacksNamed, pair_reasons}
+use Rattle.graph_ops.specs.Damage.{BlamesBroken}
+use Rattle.graph_ops.specs.Entries.{is_listed}
+use Rattle.graph_ops.specs.Indexing.{pair_reasons}
 use Rattle.graph_ops.specs.Store.{graph_in}
+use Rattle.graph_ops.proofs.Broken.{read_broken}
 use Rattle.graph_ops.proofs.Causes.{failure_caused}
 use Rattle.graph_ops.proofs.DiskCauses.{fault_cause_passed}
 use Rattle.graph_ops.proofs.Exits.{fault_exit, fault_fails, fault_outside}
-use Rattle.graph_ops.proofs.IndexTested.{lacks_there, many_caused, many_first, may_index, named_there, pairs_long, there_caused, there_first}
+use Rattle.graph_ops.proofs.IndexTested.{listed_there, many_caused, many_first, may_index, pairs_long, there_caused, there_first, unlisted_free}
 use Rattle.graph_ops.proofs.Reasons.{outside_refused}
+use Rattle.graph_ops.proofs.indexing.test_pair.Given.{Over}
 use Rattle.graph_ops.proofs.indexing.test_pair.Goals as goal
+use Rattle.graph_ops.proofs.indexing.test_pair.Goals.{After-has_pair}
 
 -- ---- the pairs aren't read
 
@@ -34,6 +39,13 @@ returns-in_err-listed-clause-caused g c tells =
     let fault = c.in_err-listed.field-0.0 in
     fault_exit of_fault (IsCaused command s t names names) fault c.from_residual.result c.from_residual.ensures.1 (failure_caused command s t names names (of_fault fault) (fault_fails fault))
 
+pub returns-in_err-listed-clause-damaged : goal.returns-in_err-listed-clause-damaged
+returns-in_err-listed-clause-damaged g c tells =
+    let s = g.R.Reads.state c.args.space.now in
+    let fault = c.in_err-listed.field-0.0 in
+    fault_exit of_fault (BlamesBroken s) fault c.from_residual.result c.from_residual.ensures.1
+    (read_broken s s refl fault (c.in_err-listed.ensures.damaged tells))
+
 pub returns-in_err-listed-clause-same : goal.returns-in_err-listed-clause-same
 returns-in_err-listed-clause-same g c = reads_same 17 _ _ c.indexes.ensures.at_most
 
@@ -43,25 +55,29 @@ returns-in_err-listed-clause-cause g c =
 
 -- ---- the pair has an index
 
-pub returns-then-has_named-clause-refused : goal.returns-then-has_named-clause-refused
-returns-then-has_named-clause-refused g c tells whole =
+module _ (g : Over) (c : After-has_pair g) where
+  -- whether it is one of those that are listed
+  listed_is : c.has_pair.result ≡ is_listed c.in_ok-listed.listed.items c.pair_of-pair.result.label c.pair_of-pair.result.key
+  listed_is = c.has_pair.ensures ∙ ap (λ xs. is_listed xs c.pair_of-pair.result.label c.pair_of-pair.result.key) c.deref.ensures.value
+
+pub returns-then-has_pair-clause-refused : goal.returns-then-has_pair-clause-refused
+returns-then-has_pair-clause-refused g c tells whole =
     let s = g.R.Reads.state c.args.space.now in
     let names = c.args.names.now.names in
     let pairs = c.in_ok-listed.listed.items in
-    let named = subst (λ xs. HasNamed xs names c.args.label.now c.args.key.now) c.deref.ensures.value (c.has_named.ensures.has c.if-has_named.true) in
     there_first s names whole c.args.label.now c.args.key.now
-    (named_there s names whole c.args.label.now c.args.key.now pairs (c.in_ok-listed.ensures.listed tells (wanted_in s.records) whole.store.indexes) named)
+    (listed_there s names whole c.args.label.now c.args.key.now pairs (c.in_ok-listed.ensures.listed tells (wanted_in s.records) whole.store.indexes) c.pair_of-pair.result c.pair_of-pair.ensures
+    (sym (listed_is g (goal.at.returns-then-has_pair-clause-refused g c).After-has_pair) ∙ c.if-has_pair.true))
 
-pub returns-then-has_named-clause-caused : goal.returns-then-has_named-clause-caused
-returns-then-has_named-clause-caused g c tells =
+pub returns-then-has_pair-clause-caused : goal.returns-then-has_pair-clause-caused
+returns-then-has_pair-clause-caused g c tells =
     let s = g.R.Reads.state c.args.space.now in
     let names = c.args.names.now.names in
-    let pairs = c.in_ok-listed.listed.items in
-    let named = subst (λ xs. HasNamed xs names c.args.label.now c.args.key.now) c.deref.ensures.value (c.has_named.ensures.has c.if-has_named.true) in
-    there_caused s.records names pairs named.label_number named.key_number c.args.label.now c.args.key.now (c.in_ok-listed.ensures.walked tells) named.label_named named.key_named named.listed
+    there_caused s.records names c.in_ok-listed.listed.items c.args.label.now c.args.key.now c.pair_of-pair.result (c.in_ok-listed.ensures.walked tells) c.pair_of-pair.ensures
+    (sym (listed_is g (goal.at.returns-then-has_pair-clause-caused g c).After-has_pair) ∙ c.if-has_pair.true)
 
-pub returns-then-has_named-clause-same : goal.returns-then-has_named-clause-same
-returns-then-has_named-clause-same g c = reads_same 17 _ _ c.indexes.ensures.at_most
+pub returns-then-has_pair-clause-same : goal.returns-then-has_pair-clause-same
+returns-then-has_pair-clause-same g c = reads_same 17 _ _ c.indexes.ensures.at_most
 
 -- ---- there are as many as there may be
 
@@ -71,13 +87,13 @@ returns-then-len-ge-MOST_INDEXES-clause-refused g c tells whole =
     let names = c.args.names.now.names in
     let pairs = c.in_ok-listed.listed.items in
     let are = c.in_ok-listed.ensures.listed tells (wanted_in s.records) whole.store.indexes in
-    let lacks = subst (λ xs. LacksNamed xs names c.args.label.now c.args.key.now) c.deref.ensures.value (c.has_named.ensures.lacks c.if-has_named.false) in
+    let unlisted = sym (listed_is g (goal.at.returns-then-len-ge-MOST_INDEXES-clause-refused g c).After-has_pair) ∙ c.if-has_pair.false in
     let long = pairs_long s names whole c.args.label.now c.args.key.now pairs are in
     let n = c.len.ensures in
     let m = c.deref.ensures.len in
     let v = ap length c.deref.ensures.value in
     let many = c.if-len-ge-MOST_INDEXES.true in
-    many_first s names whole c.args.label.now c.args.key.now (lacks_there s names whole c.args.label.now c.args.key.now pairs are lacks) (omega arith)
+    many_first s names whole c.args.label.now c.args.key.now (unlisted_free s names whole c.args.label.now c.args.key.now pairs are c.pair_of-pair.result c.pair_of-pair.ensures unlisted) (omega arith)
 
 pub returns-then-len-ge-MOST_INDEXES-clause-caused : goal.returns-then-len-ge-MOST_INDEXES-clause-caused
 returns-then-len-ge-MOST_INDEXES-clause-caused g c tells =
@@ -99,13 +115,28 @@ returns-clause-may g c tells whole =
     let names = c.args.names.now.names in
     let pairs = c.in_ok-listed.listed.items in
     let are = c.in_ok-listed.ensures.listed tells (wanted_in s.records) whole.store.indexes in
-    let lacks = subst (λ xs. LacksNamed xs names c.args.label.now c.args.key.now) c.deref.ensures.value (c.has_named.ensures.lacks c.if-has_named.false) in
+    let unlisted = sym (listed_is g (goal.at.returns-clause-may g c).After-has_pair) ∙ c.if-has_pair.false in
     let long = pairs_long s names whole c.args.label.now c.args.key.now pairs are in
     let n = c.len.ensures in
     let m = c.deref.ensures.len in
     let v = ap length c.deref.ensures.value in
     let few = c.if-len-ge-MOST_INDEXES.false in
-    may_index s names whole c.args.label.now c.args.key.now (lacks_there s names whole c.args.label.now c.args.key.now pairs are lacks) (omega arith)
+    may_index s names whole c.args.label.now c.args.key.now (unlisted_free s names whole c.args.label.now c.args.key.now pairs are c.pair_of-pair.result c.pair_of-pair.ensures unlisted) (omega arith)
+
+pub returns-clause-tested : goal.returns-clause-tested
+returns-clause-tested g c tells =
+    let n = c.len.ensures in
+    let m = c.deref.ensures.len in
+    let v = ap length c.deref.ensures.value in
+    let few = c.if-len-ge-MOST_INDEXES.false in
+    record {
+      pair = c.pair_of-pair.result;
+      pair_is = c.pair_of-pair.ensures;
+      pairs = c.in_ok-listed.listed.items;
+      met = c.in_ok-listed.ensures.walked tells;
+      unlisted = sym (listed_is g (goal.at.returns-clause-tested g c).After-has_pair) ∙ c.if-has_pair.false;
+      few = omega arith;
+    }
 
 pub returns-clause-same : goal.returns-clause-same
 returns-clause-same g c = reads_same 17 _ _ c.indexes.ensures.at_most

@@ -38,6 +38,7 @@ use Rattle.graph_ops.proofs.NodeAdded.{can_put, full_fault, full_refused, line_r
 use Rattle.graph_ops.proofs.Reasons.{outside_refused}
 use Rattle.store_rules.proofs.WriteLaws.{beside_then, beside_written, more_written, none_written, then_written}
 use Rattle.graph_ops.proofs.Writes.{on_any_err}
+use Rattle.store_rules.specs.Views.{Records}
 use Rattle.graph_ops.specs.Causes.{AsksRoom, IsCaused, IsStillCaused}
 use Rattle.graph_ops.proofs.Causes.{broken_left, entry_caused, failure_caused, line_node, put_caused, room_caused}
 use Rattle.graph_ops.specs.Damage.{BlamesAdding, BreaksAdding, IfBlames, KeepsBeyond}
@@ -217,8 +218,8 @@ returns-in_err-test_room-2-clause-counts g c tells whole =
     (room_counted s u format.index_file c.entry_count-entries.result (index_meta g (goal.at.returns-in_err-test_room-2-clause-counts g c).After-listed_pairs tells) c.in_err-test_room-2.field-0.0 c.in_err-test_room-2.ensures.full)
 
 -- the indexes have at most one entry for each property
-asked : (g : Over) (c : After-entry_count-entries g) → AsksRoom (commands.Node c.args.label.now c.as_slice-pairs.result.now) format.index_file c.entry_count-entries.result
-asked g c = inr (inr (
+asked : (g : Over) (c : After-entry_count-entries g) (records : Records) (now : List (List ℕ)) → AsksRoom (commands.Node c.args.label.now c.as_slice-pairs.result.now) records now format.index_file c.entry_count-entries.result
+asked g c records now = inr (inr (
   refl,
   ⊎_elim
       (λ (k : (format.properties_file ≡ format.properties_file) × (length c.in_ok-prepared.prepared.assigned.items ≡ maps.len (with_pairs no_properties c.as_slice-pairs.result.now))).
@@ -237,7 +238,7 @@ returns-in_err-test_room-2-clause-caused g c tells =
     let fault = c.in_err-test_room-2.field-0.0 in
     subst (λ l. IfErr c.from_residual-in_err-test_room-2.result (IsCaused (commands.Node c.args.label.now l) s u names now)) c.as_slice-pairs.ensures
     (fault_exit (λ f. f) (IsCaused command s u names now) fault c.from_residual-in_err-test_room-2.result c.from_residual-in_err-test_room-2.ensures.1
-    (room_caused command s u names now format.index_file c.entry_count-entries.result (asked g at.After-entry_count-entries) fault
+    (room_caused command s u names now format.index_file c.entry_count-entries.result (asked g at.After-entry_count-entries s.records now) fault
     (room_before s u format.index_file c.entry_count-entries.result (index_meta g at.After-listed_pairs tells) (same_shape g at.After-listed_pairs) fault c.in_err-test_room-2.ensures.full)))
 
 pub returns-in_err-test_room-2-clause-still : goal.returns-in_err-test_room-2-clause-still
@@ -250,7 +251,7 @@ returns-in_err-test_room-2-clause-still g c tells =
     let fault = c.in_err-test_room-2.field-0.0 in
     subst (λ l. IfErr c.from_residual-in_err-test_room-2.result (IsStillCaused (commands.Node c.args.label.now l) u names now)) c.as_slice-pairs.ensures
     (fault_exit (λ f. f) (IsStillCaused command u names now) fault c.from_residual-in_err-test_room-2.result c.from_residual-in_err-test_room-2.ensures.1
-    (record { caused = room_caused command u u names now format.index_file c.entry_count-entries.result (asked g at.After-entry_count-entries) fault c.in_err-test_room-2.ensures.full; damaged = room_blamed _ u format.index_file c.entry_count-entries.result fault c.in_err-test_room-2.ensures.full }))
+    (record { caused = room_caused command u u names now format.index_file c.entry_count-entries.result (asked g at.After-entry_count-entries u.records now) fault c.in_err-test_room-2.ensures.full; damaged = room_blamed _ u format.index_file c.entry_count-entries.result fault c.in_err-test_room-2.ensures.full }))
 
 pub returns-in_err-test_room-2-clause-damaged : goal.returns-in_err-test_room-2-clause-damaged
 returns-in_err-test_room-2-clause-damaged g c tells =

@@ -1,4 +1,4 @@
-use Rattle.std.proofs.Common.{inl, inr, refl, ◌≡◌, ℕ, arith, ap, sym, ◌∙◌, subst}
+use Rattle.std.proofs.Common.{inl, inr, refl, ◌≡◌, ◌+◌, ℕ, length, arith, ap, sym, ◌∙◌, subst}
 use Rattle.std.proofs.lemmas.Bool.{true≢false}
 use Rattle.std.proofs.lemmas.Result.{err_from_is_err_and}
 use Rattle.rec_bytes.specs.declared.record.Rec.{Rec}
@@ -7,7 +7,7 @@ use Rattle.rec_bytes.specs.Record.{field}
 use Rattle.store_rules.specs.Chains.{IsWalk}
 use Rattle.store_rules.specs.Indexes.{first_definition, index_rec, next_definition}
 use Rattle.store_rules.specs.Views.{Records, kind_at}
-use Rattle.prop_store.proofs.ReadCounts.{reads_one, reads_records, reads_same, reads_then}
+use Rattle.prop_store.proofs.ReadCounts.{reads_more, reads_one, reads_records, reads_same, reads_then}
 use Rattle.prop_store.specs.Fault.{BlamesBroken}
 use Rattle.prop_store.proofs.Exits.{same_has}
 use Rattle.prop_index.specs.Blaming.{IsDefinitionAt, IsOfIndexes, NamesIndexes}
@@ -19,6 +19,9 @@ use Rattle.prop_index.proofs.finding.find_definition.Goals as goal
 
 pub returns-in_err-meta-clause-at_most : goal.returns-in_err-meta-clause-at_most
 returns-in_err-meta-clause-at_most g c = reads_one 17 _ _ (omega arith) c.get.ensures.state
+
+pub returns-in_err-meta-clause-cost : goal.returns-in_err-meta-clause-cost
+returns-in_err-meta-clause-cost g c tells ds are = reads_one (1 + length ds) _ _ (omega arith) c.get.ensures.state
 
 pub loop-init : goal.loop-init
 loop-init g c =
@@ -46,6 +49,11 @@ returns-in_err-rec-clause-sound g c tells ds are room =
     let p = err_from_is_err_and c.from_residual-in_err-rec.result c.from_residual-in_err-rec.ensures.1 in
     rw (p.1, p.2) (c.in_err-rec.ensures.sound tells (room_after s now format.index_file (reads_same _ s now c.loop.invariant.reads) room)
     (ap (λ (r : Records). kind_at r format.index_file c.loop.at) (reads_records _ s now c.loop.invariant.reads) ∙ are.defined c.loop.at here.0))
+
+pub returns-in_err-rec-clause-cost : goal.returns-in_err-rec-clause-cost
+returns-in_err-rec-clause-cost g c tells ds are =
+    let few = (search_here _ _ ds c.loop.at c.loop.counter (c.loop.invariant.told tells ds are) c.if-at.false).1 in
+    reads_then _ 1 _ _ _ _ (omega (arith, few)) c.loop.invariant.reads c.in_err-rec.ensures.at_most
 
 pub returns-in_err-rec-clause-at_most : goal.returns-in_err-rec-clause-at_most
 returns-in_err-rec-clause-at_most g c = reads_then _ 1 17 _ _ _ (omega arith) c.loop.invariant.reads c.in_err-rec.ensures.at_most
@@ -105,6 +113,11 @@ returns-in_err-rec-clause-damaged g c tells =
     same_has (BlamesBroken s.records s.shape) c.from_residual-in_err-rec.result c.in_err-rec.field-0.0 c.from_residual-in_err-rec.ensures.1
     (definition_blames s c.loop.at c.loop.named (c.loop.invariant.at tells) c.if-at.false c.in_err-rec.field-0.0
     (read_fault_same s now c.loop.at format.definition c.loop.named (reads_same _ s now c.loop.invariant.reads) c.in_err-rec.field-0.0 (c.in_err-rec.ensures.damaged tells)))
+
+pub returns-then-at-2-clause-cost : goal.returns-then-at-2-clause-cost
+returns-then-at-2-clause-cost g c tells ds are =
+    let counted = (c.loop.invariant.told tells ds are).counted in
+    reads_more _ _ _ _ (omega (arith, counted)) c.loop.invariant.reads
 
 pub returns-then-at-2-clause-damaged : goal.returns-then-at-2-clause-damaged
 returns-then-at-2-clause-damaged g c tells =

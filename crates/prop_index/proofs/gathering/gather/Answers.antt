@@ -7,7 +7,7 @@ use Rattle.rec_bytes.specs.Space.{SameButReads}
 use Rattle.store_rules.specs.Indexes.{entry_hash, entry_node, index_rec}
 use Rattle.store_rules.specs.Views.{Records, high, kind_at}
 use Rattle.prop_store.specs.Reading.{ReadsAtMost}
-use Rattle.prop_store.proofs.ReadCounts.{reads_same, reads_then}
+use Rattle.prop_store.proofs.ReadCounts.{reads_more, reads_same, reads_then}
 use Rattle.prop_index.specs.Gathering.{IsEntryMet, IsListedNode, is_hashed, is_picked}
 use Rattle.rec_bytes.specs.declared.meta.Meta.{Meta}
 use Rattle.prop_store.specs.Fault.{BlamesBroken}
@@ -31,7 +31,34 @@ pub returns-then-at-clause-found : goal.returns-then-at-clause-found
 returns-then-at-clause-found g c tells xs are = gather_over _ _ _ _ _ xs _ _ _ (c.loop.invariant.told tells xs are) c.if-at.true
 
 pub returns-then-at-clause-cost : goal.returns-then-at-clause-cost
-returns-then-at-clause-cost g c tells xs are = gather_cost _ _ _ _ _ xs _ _ _ (c.loop.invariant.told tells xs are) c.if-at.true
+returns-then-at-clause-cost g c tells xs are = gather_cost _ _ _ _ _ xs _ _ _ (c.loop.invariant.told tells xs are)
+
+pub returns-then-at-2-clause-cost : goal.returns-then-at-2-clause-cost
+returns-then-at-2-clause-cost g c tells xs are = gather_cost _ _ _ _ _ xs _ _ _ (c.loop.invariant.told tells xs are)
+
+pub returns-clause-cost : goal.returns-clause-cost
+returns-clause-cost g c tells xs are = gather_cost _ _ _ _ _ xs _ _ _ (c.loop.invariant.told tells xs are)
+
+pub returns-in_err-rec-clause-cost : goal.returns-in_err-rec-clause-cost
+returns-in_err-rec-clause-cost g c tells xs are =
+    let s = g.R.Reads.state c.args.space.now in
+    let now = g.R.Reads.state c.loop.space in
+    let after = g.R.Reads.state c.record_at.new.space in
+    gather_cost _ _ _ _ _ xs _ _ _ (gather_on s now _ _ _ xs c.loop.at c.loop.counter _ (c.loop.invariant.told tells xs are) after _ _ c.if-at.false refl refl
+    (reads_more 1 _ now after (omega arith) c.in_err-rec.ensures.at_most))
+
+pub returns-in_err-add_node-clause-cost : goal.returns-in_err-add_node-clause-cost
+returns-in_err-add_node-clause-cost g c tells xs are =
+    let s = g.R.Reads.state c.args.space.now in
+    let now = g.R.Reads.state c.loop.space in
+    let then = g.R.Reads.state c.record_at.new.space in
+    let after = g.R.Reads.state c.add_node.new.space in
+    let same_now : SameButReads s then = same_then s now then c.loop.invariant.same (reads_same 1 now then c.in_ok-rec.ensures.at_most) in
+    let gone = same_records s then same_now in
+    let rec_then : c.in_ok-rec.rec ≡ index_rec then.records c.loop.at = c.in_ok-rec.ensures.got tells ∙ ap (λ (r : Records). index_rec r c.loop.at) (sym (same_records now then (reads_same 1 now then c.in_ok-rec.ensures.at_most))) in
+    gather_cost _ _ _ _ _ xs _ _ _ (gather_on s now _ _ _ xs c.loop.at c.loop.counter _ (c.loop.invariant.told tells xs are) after _ _ c.if-at.false refl refl
+    (reads_then 1 _ _ now then after (omega arith) c.in_ok-rec.ensures.at_most
+    (subst (λ (r : Records). ReadsAtMost (55 * cond (is_hashed r c.args.sought.hash c.loop.at) 1 0) then after) gone (c.in_err-add_node.ensures.cost c.loop.at rec_then))))
 
 pub returns-in_err-rec-clause-sound : goal.returns-in_err-rec-clause-sound
 returns-in_err-rec-clause-sound g c tells xs are readable =

@@ -5,7 +5,7 @@ use Rattle.rec_bytes.specs.Space.{SameButReads}
 use Rattle.store_rules.specs.Chains.{In}
 use Rattle.store_rules.specs.Indexes.{heads_of, index_rec}
 use Rattle.store_rules.specs.Views.{Records, kind_at}
-use Rattle.prop_store.proofs.ReadCounts.{reads_same, reads_then}
+use Rattle.prop_store.proofs.ReadCounts.{reads_more, reads_same, reads_then}
 use Rattle.store_rules.specs.IndexBreaking.{LeadsToDefinition}
 use Rattle.prop_store.specs.Fault.{BlamesBroken}
 use Rattle.prop_store.proofs.Exits.{same_has}
@@ -53,6 +53,43 @@ returns-in_err-bucket-clause-sound g c tells wanted ix room =
 
 pub returns-in_err-bucket-clause-at_most : goal.returns-in_err-bucket-clause-at_most
 returns-in_err-bucket-clause-at_most g c = reads_then 17 1 18 _ _ _ (omega arith) c.in_ok-definition.ensures.at_most c.in_err-bucket.ensures.at_most
+
+pub returns-in_err-definition-clause-cost : goal.returns-in_err-definition-clause-cost
+returns-in_err-definition-clause-cost g c tells wanted ix =
+    let s = g.R.Reads.state c.args.space.now in
+    reads_more (1 + length ix.definitions) (2 + length ix.definitions) _ _ (omega arith) (c.in_err-definition.ensures.cost tells ix.definitions (definitions_of s.records wanted ix))
+
+pub returns-in_default-clause-cost : goal.returns-in_default-clause-cost
+returns-in_default-clause-cost g c tells wanted ix =
+    let s = g.R.Reads.state c.args.space.now in
+    reads_more (1 + length ix.definitions) (2 + length ix.definitions) _ _ (omega arith) (c.in_ok-definition.ensures.cost tells ix.definitions (definitions_of s.records wanted ix))
+
+pub returns-in_err-bucket-clause-cost : goal.returns-in_err-bucket-clause-cost
+returns-in_err-bucket-clause-cost g c tells wanted ix =
+    let s = g.R.Reads.state c.args.space.now in
+    reads_then (1 + length ix.definitions) 1 (2 + length ix.definitions) _ _ _ (omega arith) (c.in_ok-definition.ensures.cost tells ix.definitions (definitions_of s.records wanted ix)) c.in_err-bucket.ensures.at_most
+
+pub returns-in_err-definition-clause-cost_of_none : goal.returns-in_err-definition-clause-cost_of_none
+returns-in_err-definition-clause-cost_of_none g c tells wanted ix others =
+    c.in_err-definition.ensures.cost tells ix.definitions (definitions_of (g.R.Reads.state c.args.space.now).records wanted ix)
+
+pub returns-in_default-clause-cost_of_none : goal.returns-in_default-clause-cost_of_none
+returns-in_default-clause-cost_of_none g c tells wanted ix others =
+    c.in_ok-definition.ensures.cost tells ix.definitions (definitions_of (g.R.Reads.state c.args.space.now).records wanted ix)
+
+pub returns-in_err-bucket-clause-cost_of_none : goal.returns-in_err-bucket-clause-cost_of_none
+returns-in_err-bucket-clause-cost_of_none g c tells wanted ix others =
+    let s = g.R.Reads.state c.args.space.now in
+    let pair = subst (IsDefined s.records c.args.label c.args.key) c.in-Some.is (c.in_ok-definition.ensures.defined tells) in
+    let listed = subst (IsFound s.records ix.definitions c.args.label c.args.key) c.in-Some.is (c.in_ok-definition.ensures.found tells ix.definitions (definitions_of s.records wanted ix)) in
+    absurd (others c.in-Some.definition.id listed pair.pair)
+
+pub returns-clause-cost_of_none : goal.returns-clause-cost_of_none
+returns-clause-cost_of_none g c tells wanted ix others =
+    let s = g.R.Reads.state c.args.space.now in
+    let pair = subst (IsDefined s.records c.args.label c.args.key) c.in-Some.is (c.in_ok-definition.ensures.defined tells) in
+    let listed = subst (IsFound s.records ix.definitions c.args.label c.args.key) c.in-Some.is (c.in_ok-definition.ensures.found tells ix.definitions (definitions_of s.records wanted ix)) in
+    absurd (others c.in-Some.definition.id listed pair.pair)
 
 pub returns-clause-cost : goal.returns-clause-cost
 returns-clause-cost g c tells wanted ix =

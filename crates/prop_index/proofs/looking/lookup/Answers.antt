@@ -1,4 +1,4 @@
-use Rattle.std.proofs.Common.{List, ℕ, sym, ◌∙◌, subst, refl}
+use Rattle.std.proofs.Common.{List, ℕ, sym, ◌∙◌, subst, refl, inl}
 use Rattle.std.specs.Prelude.{IfNone, Option}
 use Rattle.rec_bytes.specs.Format as format
 use Rattle.rec_bytes.specs.Space.{SameButReads}
@@ -14,7 +14,7 @@ use Rattle.prop_index.specs.Heads.{IfBucketMet, IsBucketSought}
 use Rattle.prop_index.specs.declared.heads.Bucket.{Bucket}
 use Rattle.prop_index.proofs.IndexBlames.{blames_before, entry_begins, entry_reread}
 use Rattle.prop_index.proofs.GraphFound.{graph_found}
-use Rattle.prop_index.proofs.Lookups.{are_entries, are_readable, caused_exit, definitions_are, entries, found_is, has_room, lookup_reads, read_lookup, refused_exit}
+use Rattle.prop_index.proofs.Lookups.{are_entries, are_readable, caused_exit, definitions_are, early_reads, entries, found_is, has_room, lookup_reads, read_lookup, reads_exit, refused_exit}
 use Rattle.prop_index.proofs.Reread.{same_then}
 use Rattle.prop_index.proofs.looking.lookup.Goals as goal
 
@@ -95,6 +95,53 @@ returns-clause-cost g c tells store =
     let are = are_entries s store c.args.label c.args.key c.args.value.now c.hash_of-hash.result hashed c.in-Some.bucket found now same in
     lookup_reads s store c.args.label c.args.key c.args.value.now c.hash_of-hash.result hashed c.in-Some.bucket found now same after
     (c.in_ok-bucket.ensures.cost tells (wanted_in s.records) store.indexes) (c.in_ok-nodes.ensures.cost tells xs are)
+
+pub returns-in_err-bucket-clause-cost_refused : goal.returns-in_err-bucket-clause-cost_refused
+returns-in_err-bucket-clause-cost_refused g c tells store =
+    let s = g.R.Reads.state c.args.space.now in
+    let now = g.R.Reads.state c.find_bucket.new.space in
+    reads_exit c.args.label c.args.key c.args.value.now s now c.from_residual.result c.in_err-bucket.field-0.0 c.from_residual.ensures.1
+    (early_reads s store c.args.label c.args.key c.args.value.now now (c.in_err-bucket.ensures.cost tells (wanted_in s.records) store.indexes)
+    (c.in_err-bucket.ensures.cost_of_none tells (wanted_in s.records) store.indexes))
+
+pub returns-in_default-clause-cost_refused : goal.returns-in_default-clause-cost_refused
+returns-in_default-clause-cost_refused g c tells store =
+    let s = g.R.Reads.state c.args.space.now in
+    let none = subst (IsBucketSought s.records store.indexes.definitions c.args.label c.args.key c.hash_of-hash.result) c.in_default.is (c.in_ok-bucket.ensures.found tells (wanted_in s.records) store.indexes) in
+    record {
+      definitions = store.indexes.definitions;
+      walk = store.indexes.walk;
+      none = none;
+      reads = c.in_ok-bucket.ensures.cost_of_none tells (wanted_in s.records) store.indexes none;
+    }
+
+pub returns-in_err-nodes-clause-cost_refused : goal.returns-in_err-nodes-clause-cost_refused
+returns-in_err-nodes-clause-cost_refused g c tells store =
+    let s = g.R.Reads.state c.args.space.now in
+    let now = g.R.Reads.state c.find_bucket.new.space in
+    let after = g.R.Reads.state c.gather.new.space in
+    let same : SameButReads s now = reads_same 18 s now c.in_ok-bucket.ensures.at_most in
+    let hashed = c.hash_of-hash.ensures in
+    let found = subst (IsBucketSought s.records store.indexes.definitions c.args.label c.args.key c.hash_of-hash.result) c.in-Some.is (c.in_ok-bucket.ensures.found tells (wanted_in s.records) store.indexes) in
+    let xs = entries s store c.args.label c.args.key c.args.value.now c.hash_of-hash.result hashed c.in-Some.bucket found now same in
+    let are = are_entries s store c.args.label c.args.key c.args.value.now c.hash_of-hash.result hashed c.in-Some.bucket found now same in
+    reads_exit c.args.label c.args.key c.args.value.now s after c.from_residual-in_err-nodes.result c.in_err-nodes.field-0.0 c.from_residual-in_err-nodes.ensures.1
+    (inl (lookup_reads s store c.args.label c.args.key c.args.value.now c.hash_of-hash.result hashed c.in-Some.bucket found now same after
+    (c.in_ok-bucket.ensures.cost tells (wanted_in s.records) store.indexes) (c.in_err-nodes.ensures.cost tells xs are)))
+
+pub returns-in_err-put_in_order-clause-cost_refused : goal.returns-in_err-put_in_order-clause-cost_refused
+returns-in_err-put_in_order-clause-cost_refused g c tells store =
+    let s = g.R.Reads.state c.args.space.now in
+    let now = g.R.Reads.state c.find_bucket.new.space in
+    let after = g.R.Reads.state c.gather.new.space in
+    let same : SameButReads s now = reads_same 18 s now c.in_ok-bucket.ensures.at_most in
+    let hashed = c.hash_of-hash.ensures in
+    let found = subst (IsBucketSought s.records store.indexes.definitions c.args.label c.args.key c.hash_of-hash.result) c.in-Some.is (c.in_ok-bucket.ensures.found tells (wanted_in s.records) store.indexes) in
+    let xs = entries s store c.args.label c.args.key c.args.value.now c.hash_of-hash.result hashed c.in-Some.bucket found now same in
+    let are = are_entries s store c.args.label c.args.key c.args.value.now c.hash_of-hash.result hashed c.in-Some.bucket found now same in
+    reads_exit c.args.label c.args.key c.args.value.now s after c.from_residual-in_err-put_in_order.result c.in_err-put_in_order.field-0.0 c.from_residual-in_err-put_in_order.ensures.1
+    (inl (lookup_reads s store c.args.label c.args.key c.args.value.now c.hash_of-hash.result hashed c.in-Some.bucket found now same after
+    (c.in_ok-bucket.ensures.cost tells (wanted_in s.records) store.indexes) (c.in_ok-nodes.ensures.cost tells xs are)))
 
 pub returns-in_err-bucket-clause-damaged : goal.returns-in_err-bucket-clause-damaged
 returns-in_err-bucket-clause-damaged g c tells =

@@ -1,6 +1,6 @@
-use Rattle.std.proofs.Common.{rules, IfNone, subst}
+use Rattle.std.proofs.Common.{rules, ◌∙◌, IfNone, subst}
 use Rattle.store_rules.specs.Views.{Records}
-use Rattle.store_check.specs.Holding.{AreElementsRight, AreTextsRight}
+use Rattle.store_check.specs.Holding.{AreDefinitionsRight, AreElementsRight, AreTextsRight}
 use Rattle.store_check.proofs.HoldingRule.{are_properties}
 use Rattle.store_check.proofs.properties.check_properties.Goals as goal
 
@@ -8,6 +8,8 @@ pub returns-in-None-clause-decided : goal.returns-in-None-clause-decided
 returns-in-None-clause-decided g c = λ tells.
     let s = g.R.Reads.state c.args.space.now in
     let elements : AreElementsRight s.records = search (rules, c.in_ok-damage.ensures.none tells) in
-    let none : IfNone c.in_ok-damage-2.field-0 (AreTextsRight s.records) = subst (λ (r : Records). IfNone c.in_ok-damage-2.field-0 (AreTextsRight r)) c.in_ok-damage.ensures.same (c.in_ok-damage-2.ensures.none tells) in
-    let texts : AreTextsRight s.records = search (rules, none) in
-    are_properties s.records elements texts
+    let second : IfNone c.in_ok-damage-2.field-0 (AreTextsRight s.records) = subst (λ (r : Records). IfNone c.in_ok-damage-2.field-0 (AreTextsRight r)) c.in_ok-damage.ensures.same (c.in_ok-damage-2.ensures.none tells) in
+    let texts : AreTextsRight s.records = search (rules, second) in
+    let third : IfNone c.in_ok-damage-3.field-0 (AreDefinitionsRight s.records) = subst (λ (r : Records). IfNone c.in_ok-damage-3.field-0 (AreDefinitionsRight r)) (c.in_ok-damage-2.ensures.same ∙ c.in_ok-damage.ensures.same) (c.in_ok-damage-3.ensures.none tells) in
+    let definitions : AreDefinitionsRight s.records = search (rules, third) in
+    are_properties s.records elements texts definitions

@@ -1,0 +1,16 @@
+use Rattle.std.proofs.Common.{rules, arith, ◌≡◌, ◌<◌, ap, refl}
+use Rattle.rec_bytes.specs.declared.meta.Meta.{Meta}
+use Rattle.rec_bytes.specs.Format.{index_file}
+use Rattle.store_rules.specs.Breaking.{DefinitionKeeps, damage}
+use Rattle.store_rules.specs.Breaking.Breaks.{WrongDefinition}
+use Rattle.store_rules.specs.Views.{high}
+use Rattle.record_lists.proofs.DecidingLaws.{breaks_by}
+use Rattle.store_check.proofs.definitions.check_definitions.Goals as goal
+
+pub returns-in-Some-clause-found : goal.returns-in-Some-clause-found
+returns-in-Some-clause-found g c = λ tells.
+    let s = g.R.Reads.state c.args.space.now in
+    let id = c.in-Some.id in
+    let mark : c.meta-mark.result.high ≡ high s.records index_file = ap (λ (m : Meta). m.high) c.meta-mark.ensures in
+    let bad : (id < c.meta-mark.result.high) × (¬ DefinitionKeeps s.records id) = search (rules, c.in_ok-id.ensures.found tells) in
+    breaks_by s.records s.shape 5 c.broken.result (damage 8 id 5) c.broken.ensures refl refl (WrongDefinition id (omega (arith, bad.0)) bad.1)
