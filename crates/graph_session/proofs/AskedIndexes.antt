@@ -1,12 +1,14 @@
 -- What a lookup says of the numbers of two names, of the names.
-use Rattle.std.proofs.Common.{◌≡◌, ◌<◌, ◌∙◌, ℕ, None, Some, Result, Ok, Err, IfErr, IfOk, OnOk, List, map, false, true, true≢false, sym, ap, subst}
-use borrow.Author.Tests.{eqb-true}
+use Rattle.std.proofs.Common.{◌≡◌, ◌<◌, ◌∙◌, ℕ, None, Some, Result, Ok, Err, IfErr, IfOk, OnOk, List, Vec, map, false, true, true≢false, sym, ap, subst, inl, inr}
+use Rattle.std.proofs.lemmas.Bool.{eqb-true}
 use Rattle.std.proofs.lemmas.Cmp.{nat_eq_equiv}
 use Rattle.plain_graph.specs.Indexes.{has_index, scan}
 use Rattle.plain_graph.specs.Meaning.{meaning}
 use Rattle.plain_graph.specs.Values.{is_text}
 use Rattle.plain_graph.specs.declared.item.Item.TheVariants as items
 use Rattle.plain_graph.specs.declared.value.Value.{Value}
+use Rattle.std.specs.declared.alloc.Global.{Global}
+use Rattle.rec_bytes.specs.Space.{State}
 use Rattle.rec_bytes.specs.declared.shape.Shape.{Shape}
 use Rattle.store_rules.specs.Chains.{In, IsWalk}
 use Rattle.store_rules.specs.Graph.{graph_of}
@@ -14,7 +16,7 @@ use Rattle.store_rules.specs.Indexes.{IsIndexed, first_definition, indexed_key, 
 use Rattle.store_rules.specs.Views.{Records}
 use Rattle.store_rules.proofs.PropertyWalks.{walk_is}
 use Rattle.prop_index.specs.Finding.{IsPair}
-use Rattle.prop_index.specs.Looking.{IsRefusal, IsUnlisted, nodes_having, nodes_in}
+use Rattle.prop_index.specs.Looking.{IsRefusal, IsUnlisted, ReadsForEither, ReadsForLookup, ReadsForRefusal, nodes_having, nodes_in}
 use Rattle.prop_index.specs.declared.lookup_fault.LookupFault.{LookupFault}
 use Rattle.prop_index.specs.declared.lookup_fault.LookupFault.TheVariants as faults
 use Rattle.traversal_run.specs.Naming.{FindsName, name_at, name_count}
@@ -33,10 +35,18 @@ pub err-then : {T E : Type 0} {P Q : E → Type 0} (result : Result T E) → ((f
 err-then (Ok value) more holds = tt
 err-then (Err fault) more holds = more fault holds
 
+-- whatever a lookup answers, it reads no more than one
+pub looked-reads : (l k : ℕ) (value : Value) (s t : State) (result : Result (Vec ℕ Global) LookupFault) → OnOk result (ReadsForLookup l k value s t) → IfErr result (ReadsForRefusal l k value s t) → ReadsForEither l k value s t
+looked-reads l k value s t (Ok nodes) found refused = inl found
+looked-reads l k value s t (Err faults.NoIndex) found refused = inr refused
+looked-reads l k value s t (Err faults.Memory) found refused = refused
+looked-reads l k value s t (Err faults.Disk) found refused = refused
+looked-reads l k value s t (Err (faults.Damaged damage)) found refused = refused
+
 -- ---- numbers of names
 
 -- a number that was found is that of the text
-found-text : (s : Records) (text : List ℕ) (n : ℕ) → FindsName s (Some n) text → n < name_count s → text ≡ name_at s n
+pub found-text : (s : Records) (text : List ℕ) (n : ℕ) → FindsName s (Some n) text → n < name_count s → text ≡ name_at s n
 found-text s text n finds low = is_text-same text (name_at s n) (sym (finds n low) ∙ nat_eq_equiv.refl n)
 
 -- a name with the text

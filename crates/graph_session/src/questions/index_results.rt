@@ -11,6 +11,7 @@ ghost use Rattle.graph_session.specs.Answer.{Gives};
 ghost use Rattle.graph_session.specs.IndexResults.{
   HasIndex,
   IsIndexRefusal,
+  ReadsForFind,
   answer_for,
   vertex_line,
 };
@@ -41,9 +42,12 @@ pub(crate) fn give_found<R: Reads, K: Sink>(
     mark: &[u8],
     output: &mut K,
 ) -> Turn
-    ensures { GivesReading R.Reads K.Sink names.now.names
+    ensures gives { GivesReading R.Reads K.Sink names.now.names
         (commands.Find label.now key.now value.now)
         mark.now space.old space.new output.old output.new result }
+    ensures cost { R.tells → IsIndexedStore (R.state space.old).records (R.state space.old).shape
+        names.now.names → ReadsForFind label.now key.now value.now
+        (R.state space.old) (R.state space.new) }
 {
     match found_nodes(alloc, space, names, label, key, value) {
         Ok(nodes) => give_vertices(&nodes, mark, output),
@@ -70,6 +74,9 @@ fn found_nodes<R: Reads>(
         → IsIndexedStore (R.state space.old).records (R.state space.old).shape names.now.names
         → IfErr result (IsIndexRefusal (graph_of (R.state space.old).records)
         label.now key.now) }
+    ensures cost { R.tells → IsIndexedStore (R.state space.old).records (R.state space.old).shape
+        names.now.names → ReadsForFind label.now key.now value.now
+        (R.state space.old) (R.state space.new) }
     ensures read { IsRead R.Reads space.old space.new }
     ensures cause { HasLookupCause (R.faults space.old) (R.faults space.new) result }
 {

@@ -1,11 +1,12 @@
-use Rattle.std.proofs.Common.{◌≡◌, ℕ, Vec}
+use Rattle.std.proofs.Common.{◌≡◌, ℕ, Vec, refl}
 use Rattle.std.specs.declared.alloc.Global.{Global}
 use Rattle.rec_bytes.specs.Space.{State}
 use Rattle.store_rules.specs.Indexes.{IsIndexed}
 use Rattle.prop_index.specs.Looking.{ReadsForLookup, nodes_in}
 use Rattle.prop_index.specs.declared.lookup_fault.LookupFault.{LookupFault}
 use Rattle.graph_session.specs.IndexedStores.{IsIndexedStore}
-use Rattle.graph_session.proofs.AskedIndexes.{err-then, found-index, found-meaning, no-key, no-label, ok-anyway, refused-index}
+use Rattle.graph_session.specs.IndexResults.ReadsForFind.{ByIndex, NoName}
+use Rattle.graph_session.proofs.AskedIndexes.{err-then, found-index, found-meaning, found-text, looked-reads, no-key, no-label, ok-anyway, refused-index}
 use Rattle.graph_session.proofs.Expansion.{ok-then}
 use Rattle.graph_session.proofs.Running.{is_read-none}
 use Rattle.graph_session.proofs.questions.index_results.found_nodes.Goals as goal
@@ -59,6 +60,24 @@ returns-clause-refused g c = λ tells store.
     let has = indexed s c.args.names.now.names store in
     err-then c.lookup.result
     (λ (fault : LookupFault) refused. refused-index s.records s.shape has c.args.label.now c.args.key.now l k (c.in-Some.ensures.finds store.named) (c.in-Some-name_number.ensures.finds store.named) fault refused) (c.lookup.ensures.refused tells has)
+
+pub returns-in_default-clause-cost : goal.returns-in_default-clause-cost
+returns-in_default-clause-cost g c = λ tells store. NoName refl
+
+pub returns-in_default-name_number-clause-cost : goal.returns-in_default-name_number-clause-cost
+returns-in_default-name_number-clause-cost g c = λ tells store. NoName refl
+
+pub returns-clause-cost : goal.returns-clause-cost
+returns-clause-cost g c = λ tells store.
+    let s = g.R.Reads.state c.args.space.now in
+    let t = g.R.Reads.state c.lookup.new.space in
+    let l = c.in-Some.label_number in
+    let k = c.in-Some-name_number.key_number in
+    let has = indexed s c.args.names.now.names store in
+    ByIndex l k (record { label_low = c.in-Some.ensures.below; key_low = c.in-Some-name_number.ensures.below })
+    (found-text s.records c.args.label.now l (c.in-Some.ensures.finds store.named) c.in-Some.ensures.below)
+    (found-text s.records c.args.key.now k (c.in-Some-name_number.ensures.finds store.named) c.in-Some-name_number.ensures.below)
+    (looked-reads l k c.args.value.now s t c.lookup.result (c.lookup.ensures.cost tells has) (c.lookup.ensures.cost_refused tells has))
 
 pub returns-clause-read : goal.returns-clause-read
 returns-clause-read g c = record { same = c.lookup.ensures.same; onward = c.lookup.ensures.onward; later = c.lookup.ensures.cause.later }
