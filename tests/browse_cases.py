@@ -104,6 +104,7 @@ def what_is_answered(folder):
         assert found["rows"] == [{"node": 1, "level": 0}, {"node": 2, "level": 1}], f"{found}"
         assert asks(address, "ask", line="find person name 'marko'")[1]["reply"] == "error no index"
         assert asks(address, "ask", line="path 2 0 out")[1]["reply"] == "no path"
+        assert asks(address, "ask", line="g.V().count().values('name','age')")[1]["reply"] == "error step kind 14"
         assert asks(address, "ask", line="degree 0 both")[1]["reply"] == "degree 2"
         assert asks(address, "ask", line="g.V(")[1]["place"] == 4
         assert asks(address, "ask", line="stats")[1]["reply"].startswith("nodes 3 edges 3")
@@ -125,6 +126,8 @@ def what_is_written(folder):
         assert asks(address, "ask", line="node person nick='Z'")[1]["reply"] == "node 3"
         assert asks(address, "ask", line="g.V(3).property('nick','Z')")[1]["rows"] == [{"node": 3}]
         assert "relationships" in asks(address, "ask", line="g.V().drop()")[1]["reply"]
+        # Of a line that is refused no part is carried out.
+        assert asks(address, "ask", line="g.V(3).drop().values('name','age')")[1]["reply"] == "error syntax 13"
         assert asks(address, "ask", line="g.V(3)")[1]["graph"]["nodes"][0]["properties"] == {"nick": "Z"}
         assert asks(address, "ask", line="index person nick")[1]["reply"] == "ok"
         assert asks(address, "ask", line="find person nick 'Z'")[1]["rows"] == [{"node": 3}]

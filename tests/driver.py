@@ -101,7 +101,7 @@ def tells(name, case):
         except Skipped as reason:
             print(f"skipped {name}: {reason}")
             return "skipped"
-        except (AssertionError, OSError, ValueError, IndexError, subprocess.SubprocessError) as error:
+        except Exception as error:
             print(f"FAILED {name}: {error!r}")
             return "failed"
     print(f"passed {name}")

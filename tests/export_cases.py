@@ -221,6 +221,23 @@ def again_by_graphml(folder):
     comes_again(folder, PLAIN, OWN_KEYS, ["--graphml", "g.xml"], ["--graphml", "../one/g.xml"])
 
 
+def long_elements(folder):
+    """Elements with more properties than a line has room for: lines `set` give them the rest, in one transaction."""
+    keys = [f"k{number}" for number in range(32)]
+    texts = {key: ("\u00e9'" * 340 if number % 2 else "x" * 1_024) for number, key in enumerate(keys)}
+    given = "node a\nnode a\nedge 0 t 1 k0=1\n"
+    given += "".join(f"set {of} 0 {key} {spell(text)}\n" for of in ("node", "edge") for key, text in texts.items())
+    graph(folder / "one", given)
+    words = ["--keys", ",".join(keys)]
+    exports(folder / "one", ["--lines", "l", *words])
+    lines = (folder / "one/l").read_text()
+    assert max(len(to_bytes(it)) for it in lines.splitlines()) <= MOST_LINE
+    # A transaction has both nodes with their properties, and the next one the edge.
+    assert lines.count("begin\n") == 2 and lines.count("\nset node 0 ") > 20 and lines.count("\nset edge 0 ") > 20
+    graph(folder / "two", lines)
+    assert elements(folder / "two", keys=words) == elements(folder / "one", keys=words)
+
+
 # --- parts
 
 
@@ -365,6 +382,7 @@ def wrong_words(folder):
     exports_not(folder, [], WRONG_WORDS, "nothing to write")
     exports_not(folder, ["--walk"], WRONG_WORDS, "--walk")
     exports_not(folder, ["--nodes", "x", "--edges", "./x"], WRONG_WORDS, "each form goes to a file of its own")
+    exports_not(folder, ["--nodes", "x", "--edges", "x.part"], WRONG_WORDS, "each form goes to a file of its own")
     exports_not(folder, ["--jsonl", "-", "--steps", "2"], WRONG_WORDS, "--steps and --types go with --from")
     exports_not(folder, ["--jsonl", "-", "--from", "g.V()", "--steps", "-1"], WRONG_WORDS, "--steps takes a number")
     for query in ("delete node 0", "", "g.V()\ndelete node 0", "quit", "g.addV('a')", "g.V(0).drop()"):
@@ -732,6 +750,7 @@ CASES = {
     "export: a graph without nodes": empty_graph,
     "export: the same graph again, by tables": again_by_tables,
     "export: the same graph again, by GraphML": again_by_graphml,
+    "export: elements with long texts, as lines": long_elements,
     "export: parts": parts,
     "export: parts of a graph that is drawn": drawn_parts,
     "export: questions fit in a line": questions_fit,

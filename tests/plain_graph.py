@@ -169,6 +169,10 @@ class Tokens:
             self.take(token)
         return id
 
+    def place(self):
+        """The kind and the identifier of an element."""
+        return self.take(*KINDS), int(self.take("number"))
+
     def end(self):
         if self.held:
             raise Syntax
@@ -214,24 +218,27 @@ class PlainGraph:
         self.leaving = None
 
     def line_begin(self, tokens):
-        if self.before is not None:
-            raise Refused("error transaction open")
+        self.line_checkpoint(tokens)
         self.before = self.state()
 
-    def ends_transaction(self):
+    def ends_transaction(self, tokens):
+        tokens.end()
         before, self.before = self.before, None
         if before is None:
             raise Refused("error no transaction")
         return before
 
     def line_commit(self, tokens):
-        self.ends_transaction()
+        self.ends_transaction(tokens)
 
     def line_rollback(self, tokens):
-        self.restore(self.ends_transaction())
+        self.restore(self.ends_transaction(tokens))
 
     def line_checkpoint(self, tokens):
-        """Nothing is to be done."""
+        """Nothing is to be done, if no transaction is open."""
+        tokens.end()
+        if self.before is not None:
+            raise Refused("error transaction open")
 
     line_reopen = line_checkpoint
 
@@ -240,6 +247,7 @@ class PlainGraph:
         return "sound"
 
     def line_stats(self, tokens):
+        tokens.end()
         nodes, edges = self.elements
         values = [value for kind in self.elements for it in kind.values() for value in it.properties.values()]
         return (
@@ -256,29 +264,6 @@ class PlainGraph:
         nodes = sorted(self.elements[0].values(), key=lambda it: it.id)
         there = [it for it in nodes if it.label == label and key in it.properties]
         return listed(item_text(it) for it in there if rank(it.properties[key]) == rank(value))
-
-    # --- paths
-
-    def line_path(self, tokens):
-        """The least of the shortest paths: the first node that finds another leads to it, by ascending identifiers."""
-        source, target = int(tokens.take("number")), int(tokens.take("number"))
-        word, names = tokens.take("out", "in", "both"), [tokens.take("word")] if tokens.held else []
-        tokens.end()
-        first, last = self.find("node", source), self.find("node", target)
-        hop, found, layer = self.hop(word, names), {first: None}, [first]
-        while layer and last not in found:
-            layer, before = [], layer
-            for node in before:
-                for end in sorted(hop([node]), key=lambda it: it.id):
-                    if end not in found:
-                        found[end] = node
-                        layer.append(end)
-        if last not in found:
-            return "no path"
-        path = [last]
-        while found[path[-1]]:
-            path.append(found[path[-1]])
-        return "\n".join([f"path {len(path) - 1}", *(f"==>{item_text(it)}" for it in reversed(path)), "end"])
 
     # --- changes
 
@@ -309,10 +294,6 @@ class PlainGraph:
             raise Refused(f"error no {kind} {id}")
         return self.elements[KINDS[kind]][id]
 
-    def element(self, tokens):
-        kind = tokens.take(*KINDS)
-        return kind, self.find(kind, int(tokens.take("number")))
-
     def line_index(self, tokens):
         index = tokens.take("word"), tokens.take("word")
         tokens.end()
@@ -329,17 +310,19 @@ class PlainGraph:
         return f"edge {self.make(1, label, tokens.pairs(), (source, target)).id}"
 
     def line_set(self, tokens):
-        _, it = self.element(tokens)
-        key = tokens.take("word")
-        self.set(it, {key: tokens.value()})
+        place, key, value = tokens.place(), tokens.take("word"), tokens.value()
+        tokens.end()
+        self.set(self.find(*place), {key: value})
 
     def line_unset(self, tokens):
-        _, it = self.element(tokens)
-        it.properties.pop(tokens.take("word"), None)
+        place, key = tokens.place(), tokens.take("word")
+        tokens.end()
+        self.find(*place).properties.pop(key, None)
 
     def line_delete(self, tokens):
-        _, it = self.element(tokens)
-        self.delete(it)
+        place = tokens.place()
+        tokens.end()
+        self.delete(self.find(*place))
 
     # --- edges at a node, and walks
 
@@ -430,7 +413,7 @@ class PlainGraph:
         pairs = tokens.properties()
         return lambda items: [self.make(1, label, pairs, (it.id, target)) for it in items]
 
-    def index(self):
+    def sort_edges(self):
         """The edges that leave and that enter each node, by ascending identifier."""
         if self.leaving is not None:
             return
@@ -480,7 +463,7 @@ class PlainGraph:
 
     def hop(self, word, names):
         both = word.startswith("both")
-        self.index()
+        self.sort_edges()
 
         def edges_at(item):
             """The edges at a node, and the end that is the other one."""

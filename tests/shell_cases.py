@@ -38,6 +38,8 @@ def lines_of_words(folder):
     assert says(folder, "node a", "g.V()") == "node 0\n==>v[0]\nend\n"
     assert says(folder, "node", "stats", status=REFUSED) == "error syntax 4\nnodes 1 edges 0 properties 0 blocks 0 names 1\n"
     assert says(folder, "", "node a", ".quit", "node a") == "node 1\n"
+    # A LINE of several lines has the reply of each.
+    assert says(folder, "stats\n\ndegree 9 in", ".mode lines\n.mode", status=REFUSED).endswith("\nerror no node 9\nlines\n")
     walk = "path 0\n==>v[1]\nend\n"
     assert says(folder, "path 1 1 out", "path 0 1 both", "degree 0 in", "levels 1 0 in") == walk + "no path\ndegree 0\n==>v[1] 0\nend\n"
     assert "makes a node" in says(folder, "help node") and ".dump FILE" in says(folder, ".help")
@@ -76,6 +78,7 @@ def modes(folder):
     assert says(folder, ".mode table", "g.E().limit(1)", "expand 0 out knows") == edges * 2
     found = "node\n----\n   0\n   2\n" + "node  level\n----  -----\n   0      0\n   1      1\n   2      1\n"
     assert says(folder, ".mode table", "path 0 2 out", "levels 0 2 out", "path 2 0 out") == found + "no path\n"
+    assert says(folder, ".mode table", "g.V().count().values('name','age')", status=REFUSED) == "error step kind 14\n"
     assert says(folder, ".mode table", "g.E().values('since','none')") == "since  none\n-----  ----\n 2009\n"
     assert says(folder, ".mode csv", "g.V().has('age').values('age')", "g.V(9)", "g.V().count()") == "value\n29\nvalue\n3\n"
     assert says(folder, ".mode json", "g.V(2).values()") == '{"value": true}\n{"value": "java"}\n{"value": "lop"}\n'
@@ -105,6 +108,12 @@ def names(folder):
     assert says(folder, "begin", ".names", status=REFUSED) == "ok\nerror transaction open\n"
     (folder / "new").mkdir()
     assert says(folder / "new", ".names", "node a", ".names") == "no names\nnode 0\nname  used as\n----  -------\na     label\n"
+    # A record of node 0 has the number of a name that the store lacks. The shell serves such a store, too.
+    with open(folder / "graph.1", "r+b") as file:
+        file.seek(4)
+        file.write(b"\x63")
+    said = says(folder, ".names", "stats", status=REFUSED)
+    assert said.startswith("graph.1: a record has a name that isn't there; is the store damaged?\nnodes 3 "), said
 
 
 INDEXES = """label   key
@@ -241,6 +250,9 @@ def backup(folder):
     assert ran.status == 0 and ran.err.decode() == f"two: sound, {counts}\n" and not ran.out, f"{ran}"
     wants(call(folder / "two", b"check\ng.V().count()\n"), SOUND + answer(b"3"))
     assert says(folder / "one", ".backup ../three") == f"../three: sound, {counts}\n"
+    (folder / "here").mkdir()
+    ran = call(folder / "here", words=["--folder", "../one", "."], program=BACKUP)
+    assert ran.status == 0 and ran.err.decode() == f".: sound, {counts}\n", f"{ran}"
     ran = call(folder, words=["--folder", "one", "two"], program=BACKUP)
     assert ran.status == BAD_FILES and b"two: it is there, and isn't an empty folder" in ran.err, f"{ran}"
     ran = call(folder, words=["--folder", "one", "none/copy"], program=BACKUP)

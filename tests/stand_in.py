@@ -16,7 +16,7 @@ import sys
 import time
 
 sys.dont_write_bytecode = True
-from plain_graph import PlainGraph
+from plain_graph import MUTATING, PlainGraph
 
 STORED, COUNTS = pathlib.Path("stored"), pathlib.Path("counts")
 CHANGES = ("node", "edge", "set", "unset", "delete", "index", "commit")
@@ -48,7 +48,8 @@ class StandIn:
         reply = self.graph.answer(line)
         if word == "begin":
             self.made = 0
-        if word in CHANGES and self.graph.before is None and not reply.startswith("error"):
+        changes = word in CHANGES or any(it in line for it in MUTATING)
+        if changes and self.graph.before is None and not reply.startswith("error"):
             self.store()
         return reply
 

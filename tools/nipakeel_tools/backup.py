@@ -74,6 +74,8 @@ def back_up(program: Program, folder: pathlib.Path, copy: pathlib.Path, path: st
     or not at all. It is checked by the program of this path."""
     if copy.exists() and (not copy.is_dir() or any(copy.iterdir())):
         raise Unusable(f"{copy}: it is there, and isn't an empty folder")
+    # In full, since the folder of the call has no name by itself.
+    copy = pathlib.Path(os.path.abspath(copy))
     made = copy.with_name(copy.name + ".part")
     made.mkdir()
     try:
@@ -85,7 +87,7 @@ def back_up(program: Program, folder: pathlib.Path, copy: pathlib.Path, path: st
         progress.says("checking the copy")
         check(made, path, counts)
         os.replace(made, copy)
-        sync_folder(copy.absolute().parent)
+        sync_folder(copy.parent)
         progress.says("")
     except BaseException:
         shutil.rmtree(made, ignore_errors=True)

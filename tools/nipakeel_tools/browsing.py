@@ -94,8 +94,9 @@ class Browsing:
 
     def results(self, line: str) -> Dict[str, Any]:
         columns = keyed(line)
-        if columns and len(columns[1]) > 1:
-            rows = [it for it in keyed_rows(self.asked.program, *columns) if it]
+        found = keyed_rows(self.asked.program, *columns) if columns and len(columns[1]) > 1 else None
+        if columns and found is not None:
+            rows = [it for it in found if it]
             count, keys = len(rows), columns[1]
         else:
             rows, count, keys = [], 0, []
@@ -119,9 +120,10 @@ class Browsing:
                 self.asked.knows(keys_of_store(self.asked, self.folder))
             else:
                 self.asked.leaves_out = True
-            found = [it for page in pages(ids) for it in self.asked.elements(kind, page)]
-            self.asked.leaves_out = False
-            return found
+            try:
+                return [it for page in pages(ids) for it in self.asked.elements(kind, page)]
+            finally:
+                self.asked.leaves_out = False
 
 
 def numbers(words: Any) -> List[int]:

@@ -13,7 +13,7 @@ from nipakeel_tools import limits
 from nipakeel_tools.client import Ended, NotAnswered, Program
 from nipakeel_tools.command import DiskFailed, Options
 from nipakeel_tools.journal import BadJournal, Entry, Journal, Transaction, again, packed
-from nipakeel_tools.limits import DEFAULT_THRESHOLD, MOST_INDEXED, MOST_LINE, MOST_WEIGHT
+from nipakeel_tools.limits import DEFAULT_THRESHOLD, MOST_INDEXED, MOST_INDEXES, MOST_LINE, MOST_WEIGHT
 from nipakeel_tools.names import indexes_in
 from nipakeel_tools.query import Unfit
 from nipakeel_tools.readers import Table
@@ -117,9 +117,14 @@ class Import:
                 raise BadJournal(f"{self.options.journal}: rows of {what} are in, and no such table is given")
 
     def indexes(self) -> None:
-        """Makes the indexes that are asked for, while the store has the fewest nodes. The entries of all of them weigh."""
-        for there in indexes_in(self.options.folder):
-            self.builder.knows_index(*there)
+        """Makes the indexes that are asked for, while the store has the fewest nodes. The entries of all of them weigh. None
+        is made where there would be too many, since an index stays."""
+        there = indexes_in(self.options.folder)
+        count = len({*there, *self.options.index})
+        if count > MOST_INDEXES:
+            raise Unfit(f"with these indexes the store would have {count}, and it has at most {MOST_INDEXES}; none is made")
+        for label, key in there:
+            self.builder.knows_index(label, key)
         for label, key in self.options.index:
             line = f"index {label} {key}"
             reply = self.program.ask(line.encode())
@@ -137,8 +142,10 @@ class Import:
         """Finds the nodes by which rows are merged: those that have the key and didn't come by this import."""
         came = {id for it in entries for id in it.numbers()}
         ids = list(self.program.results(to_bytes(f"g.V().has('{key}').id()")))
+        values = self.program.results(to_bytes(f"g.V().has('{key}').values('{key}')"))
         there = self.builder.there
-        for id, value in zip(ids, self.program.results(to_bytes(f"g.V().has('{key}').values('{key}')"))):
+        # The values come first, so that they are taken to their end.
+        for value, id in zip(values, ids):
             if int(id) not in came:
                 spelled = spell_value(text_of(value))[0]
                 there[spelled] = None if spelled in there else Node(int(id))

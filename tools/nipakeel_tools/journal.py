@@ -110,23 +110,28 @@ class Journal:
 
     def __init__(self, path: pathlib.Path, anew: bool = False) -> None:
         self.path = path
-        new = not path.exists()
+        self.is_new = not path.exists()
         self.file = open(path, "a+b", buffering=0)
         try:
             fcntl.flock(self.file, fcntl.LOCK_EX | fcntl.LOCK_NB)
         except BlockingIOError:
             raise BadJournal(f"{path}: another import is at work, or its program hasn't ended yet") from None
+        if not os.fstat(self.file.fileno()).st_nlink:
+            raise BadJournal(f"{path}: another import has just taken it away; call this one again")
         self.kept = fcntl.fcntl(self.file, fcntl.F_DUPFD_CLOEXEC, LEAST_KEPT)
-        if new:
+        if self.is_new:
             sync_folder(path.parent)
         self.base: Optional[Tuple[int, int]] = None
         self.entries: List[Entry] = []
         # Whether it was there, and had nothing: then it says nothing of what the store has.
-        self.is_empty = not new and not anew and not os.path.getsize(path)
+        self.is_empty = not self.is_new and not anew and not os.path.getsize(path)
         self.load(anew)
 
     def close(self) -> None:
-        """Gives the lock back, once the program has ended."""
+        """Gives the lock back, once the program has ended. A journal that this call has made, and that nothing was written
+        to, goes: the store wasn't served, and the next call is as the first."""
+        if self.is_new and not os.fstat(self.file.fileno()).st_size:
+            self.path.unlink(missing_ok=True)
         self.file.close()
         os.close(self.kept)
 

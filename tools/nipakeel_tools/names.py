@@ -14,7 +14,7 @@ from typing import Iterator, List, Set, Tuple
 
 from nipakeel_tools.client import NotAnswered, Program
 from nipakeel_tools.limits import DEFINITION, DEFINITION_KEY, DEFINITION_LABEL, DEFINITION_NEXT, FILES, INDEX_FILE, META_DEFINITION
-from nipakeel_tools.limits import NAME_LENGTH, NAME_TEXT, NAMED, NAMES_FILE, NIL, RECORD, STORE_VERSION, VERSION
+from nipakeel_tools.limits import INDEX_VERSION, NAME_LENGTH, NAME_TEXT, NAMED, NAMES_FILE, NIL, RECORD, STORE_VERSION
 from nipakeel_tools.query import Asking, Unfit
 
 META, NAMES, INDEX = 0, FILES.index(NAMES_FILE), FILES.index(INDEX_FILE)
@@ -55,8 +55,11 @@ def names_in(folder: str | os.PathLike[str]) -> Names:
     """The names of the store in this folder, at a checkpoint."""
     folder = pathlib.Path(folder)
     names = texts(folder)
-    used = ([names[it] for it in sorted(numbers(folder, file))] for file in (NODES, EDGES, PROPERTIES))
-    return Names(names, *used)
+    used = [sorted(numbers(folder, file)) for file in (NODES, EDGES, PROPERTIES)]
+    for file, found in zip((NODES, EDGES, PROPERTIES), used):
+        if found and found[-1] >= len(names):
+            raise Unfit(f"{folder / FILES[file]}: a record has a name that isn't there; is the store damaged?")
+    return Names(names, *([names[it] for it in found] for found in used))
 
 
 def texts(folder: pathlib.Path) -> List[str]:
@@ -73,7 +76,7 @@ def indexes_in(folder: str | os.PathLike[str]) -> List[Pair]:
     folder = pathlib.Path(folder)
     path = folder / FILES[META]
     meta = path.read_bytes() if path.exists() else b""
-    if int.from_bytes(meta[STORE_VERSION : STORE_VERSION + 2], "little") < VERSION:
+    if int.from_bytes(meta[STORE_VERSION : STORE_VERSION + 2], "little") < INDEX_VERSION:
         return []
     first, names = number_at(meta, INDEX * RECORD + META_DEFINITION), texts(folder)
     return sorted((names[label], names[key]) for label, key in definitions(folder / INDEX_FILE, first, len(names)))

@@ -11,7 +11,7 @@ import sys
 from typing import Any, Dict, Iterable, Iterator, List, Optional, Sequence, Tuple
 
 from nipakeel_tools.client import Program
-from nipakeel_tools.lines import columns
+from nipakeel_tools.lines import columns, mutates
 from nipakeel_tools.query import EDGE, VERTEX, Asking, pages
 from nipakeel_tools.values import Value, plain, to_bytes, value_of
 from nipakeel_tools.writers import field
@@ -84,8 +84,9 @@ def rows_of(results: Iterable[bytes]) -> Iterator[Shown]:
             yield {"value": value_of(it)}
 
 
-def keyed_rows(program: Program, elements: str, keys: Sequence[str]) -> List[Shown]:
-    """For each element that a query gives, its values of these keys, each in its column."""
+def keyed_rows(program: Program, elements: str, keys: Sequence[str]) -> Optional[List[Shown]]:
+    """For each element that a query gives, its values of these keys, each in its column. None where it gives something
+    else, which has no values: then the line is refused."""
     results = list(program.results(to_bytes(elements)))
     asked = Asking(lambda: program, keys, leaves_out=True)
     found: Dict[bytes, Shown] = {}
@@ -94,13 +95,18 @@ def keyed_rows(program: Program, elements: str, keys: Sequence[str]) -> List[Sho
         for page in pages(named):
             for it in asked.elements(kind, page):
                 found[named[it.id]] = it.properties
+    if not found.keys() >= set(results):
+        return None
     return [{key: found[it][key] for key in keys if key in found[it]} for it in results]
 
 
 def keyed(line: str) -> Optional[Tuple[str, List[str]]]:
-    """The elements and the keys of a query whose results are values of keys that it names."""
+    """The elements and the keys of a query whose results are values of keys that it names. None where a part of the line
+    would change the graph: nothing may come after such a step."""
     match = KEYED.fullmatch(line)
-    return (match["elements"], list(dict.fromkeys(re.findall(r"\w+", match["keys"])))) if match else None
+    if not match or mutates(to_bytes(line)):
+        return None
+    return match["elements"], list(dict.fromkeys(re.findall(r"\w+", match["keys"])))
 
 
 # --- forms

@@ -9,11 +9,12 @@ from typing import IO, Any, Callable, Dict, Iterable, Iterator, Sequence, Set, T
 from xml.sax.saxutils import escape, quoteattr
 
 from nipakeel_tools.journal import groups
+from nipakeel_tools.limits import ENTRY_WEIGHT, MOST_LINE, MOST_NAME, SET_WEIGHT
 from nipakeel_tools.names import Pair
 from nipakeel_tools.query import Edge, Element, Unfit
 from nipakeel_tools.readers import fields_of
-from nipakeel_tools.rows import Builder, Row
-from nipakeel_tools.values import plain, spelled
+from nipakeel_tools.rows import Builder, Fields, Row
+from nipakeel_tools.values import plain, spelled, to_bytes
 
 # How text is written: bytes that are no UTF-8 as they are, and each newline as it stands.
 WRITTEN: Dict[str, str] = {"encoding": "utf-8", "errors": "surrogateescape", "newline": ""}
@@ -24,6 +25,8 @@ NO_XML = re.compile("[^\t\n\r -\ud7ff\ue000-\ufffd\U00010000-\U0010ffff]")
 COLUMNS: Dict[str, Tuple[str, ...]] = {"nodes": ("id", "label"), "edges": ("from", "to", "type")}
 WORDS = {"nodes": ("labelV", "labels"), "edges": ("labelE", "label")}
 TYPES = {bool: "boolean", int: "long", str: "string"}
+# What a line that makes an element has besides properties: two words, two identifiers, and a label or a type.
+ROOM = 40 + MOST_NAME
 
 
 class Kept:
@@ -79,18 +82,47 @@ def write_lines(file: TextIO, nodes: Kept, edges: Kept) -> None:
     for label, key in nodes.indexes:
         file.write(f"index {label} {key}\n")
         builder.knows_index(label, key)
-    known = builder.space("")
-    node_rows = (builder.node(0, str(it["node"]), it["label"], fields_of(it["properties"]), known) for it in nodes.elements())
-    write_groups(file, numbered(filter(None, node_rows)))
-    ends = ((it, (str(it["from"]), str(it["to"]))) for it in edges.elements())
-    write_groups(file, (builder.edge(0, at, it["type"], fields_of(it["properties"]), known, known) for it, at in ends))
+    write_groups(file, (node_row(builder, id, it) for id, it in enumerate(nodes.elements())))
+    write_groups(file, (edge_row(builder, id, it) for id, it in enumerate(edges.elements())))
 
 
-def numbered(rows: Iterable[Row]) -> Iterator[Row]:
-    for identifier, row in enumerate(rows):
-        assert row.node
-        row.node.identifier = identifier
-        yield row
+def node_row(builder: Builder, id: int, it: Dict[str, Any]) -> Row:
+    """The row of a node that gets this identifier."""
+    label, (fields, rest) = it["label"], parted(fields_of(it["properties"]))
+    row = builder.node(0, str(it["node"]), label, fields, builder.space(""))
+    assert row and row.node
+    row.node.identifier = id
+    row.weight += ENTRY_WEIGHT * sum(of.key in builder.indexed.get(label, ()) for of, _ in rest)
+    return with_sets(builder, row, f"node {id}", rest)
+
+
+def edge_row(builder: Builder, id: int, it: Dict[str, Any]) -> Row:
+    """The row of an edge that gets this identifier."""
+    known, (fields, rest) = builder.space(""), parted(fields_of(it["properties"]))
+    row = builder.edge(0, (str(it["from"]), str(it["to"])), it["type"], fields, known, known)
+    return with_sets(builder, row, f"edge {id}", rest)
+
+
+def parted(fields: Fields) -> Tuple[Fields, Fields]:
+    """The properties for which the line of a new element has room, and the rest: `set` may have given it more."""
+    # A byte of a value is spelled by at most two, and a character has at most four.
+    if ROOM + sum(len(it.sign) + 2 + 4 * len(value) for it, value in fields) <= MOST_LINE:
+        return fields, []
+    size = ROOM
+    for at, (it, value) in enumerate(fields):
+        size += len(to_bytes(it.sign + it.spell(value)[0]))
+        if size > MOST_LINE:
+            return fields[:at], fields[at:]
+    return fields, []
+
+
+def with_sets(builder: Builder, row: Row, said: str, rest: Fields) -> Row:
+    """The row with a line `set` after it for each property of the rest."""
+    for it, value in rest:
+        text, blocks = it.spell(value)
+        row.text += f"\nset {said} {it.key} {text}"
+        row.weight += SET_WEIGHT + blocks + builder.name_weight(it.key, "key")
+    return row
 
 
 def write_groups(file: TextIO, rows: Iterable[Row]) -> None:
