@@ -36,32 +36,9 @@ module _ (records : Records) where
   abbrev pub prev : ℕ → ℕ
   prev g = field 4 (group_rec g) format.group_previous
 
-  -- ---- the fourth rule and its sentences
-
-  abbrev groups_of : Grouped records → (n : ℕ) → IsDense records n → (members : List ℕ) × IsGroupChain records n members
-  groups_of h n dense =
-      let e = h.each n dense in
-      (e.members, record { chain = e.chain; only = e.only; filled = λ g i. ⊎_elim (λ f. f) (λ k. elim k [ ]) (e.filled g i); once = e.once })
-
-  pub owner_keeps : Grouped records → (n : ℕ) → OwnerKeeps records n
-  owner_keeps h n = record { groups = λ dense. groups_of h n dense }
-
   -- a group in use is in the group chain of its owner
   abbrev pub HasOwner : ℕ → Type 0
   HasOwner g = (row : GroupRow) → group_at records g ≡ Some row → IsGroupOf records row.owner g
-
-  abbrev pub Exact : Type 0
-  Exact = rules.AreExact (kind_at records format.groups_file) group_rec (group_at records) (rel_at records) (high records format.relationships_file)
-
-  pub member_keeps : Grouped records → Exact → (g : ℕ) → MemberKeeps records g
-  member_keeps h exact g = record {
-    owner = λ row live.
-        let dense = h.owned g row live in
-        let k = groups_of h row.owner dense in
-        let e = h.each row.owner dense in
-        record { dense = dense; members = k.0; groups = k.1; member = e.all g row live refl };
-    counts = λ row live counted. exact g row live counted;
-  }
 
   group_chain_one : (n : ℕ) (xs ys : List ℕ) → IsGroupChain records n xs → IsGroupChain records n ys → xs ≡ ys
   group_chain_one n xs ys h k = chain_one next prev format.nil (first_link records n) xs ys h.chain k.chain

@@ -24,7 +24,7 @@ use Rattle.chain_check.specs.Counts.{AreAsLong, CountsHold, IsAsLong}
 use Rattle.record_lists.specs.Lines.{IsLineIn}
 use Rattle.chain_check.specs.NodeChains.{chain_line, side_at}
 use Rattle.chain_check.proofs.ChainLaws.{IsSideOf, chain_one, group_side, head_chain, line_of_head, stands_low}
-use Rattle.chain_check.proofs.GroupChainLaws.{Exact}
+use Rattle.store_rules.proofs.GroupOwners.{Exact}
 use Rattle.record_lists.proofs.LineLaws.{line_one}
 use Rattle.chain_check.proofs.SideLaws.{OnSide, not_eq}
 

@@ -9,7 +9,7 @@ use Rattle.rec_bytes.specs.Meta.{IsMetaInRange}
 use Rattle.rec_bytes.specs.Record.{field}
 use Rattle.rec_bytes.specs.RecordFiles.{meta_key_of}
 use Rattle.rec_bytes.specs.Space.{State}
-use Rattle.store_rules.specs.Breaking.{Breaks, IsGroupHeadOf, IsHeadChain, IsHeadOf, group_head}
+use Rattle.store_rules.specs.Breaking.{Breaks, IsChainHead, IsGroupHeadOf, IsHeadChain, IsHeadOf, group_head}
 use Rattle.store_rules.specs.Breaking.Breaks.{GroupChains, NodeChain, RecordRange, WrongMeta}
 use Rattle.store_rules.specs.Ranges.{Fits}
 use Rattle.store_rules.specs.Rules.{Head, StandsAt, first_of}
@@ -105,7 +105,7 @@ stands_low s head x at =
     kind_below (rel_mark s) r x (some_row (kind_at s.records format.relationships_file x) (rel_in r x) at.row at.live).0
 
 -- a head that has no chain
-pub no_chain : (s : State) (head : Head) (n : ℕ) → IsHeadOf s.records head n → ((members : List ℕ) → ¬ IsHeadChain s.records head n members) → Breaks s.records s.shape (chain_damage head.key)
+pub no_chain : (s : State) (head : Head) (n : ℕ) → IsChainHead s.records head n → ((members : List ℕ) → ¬ IsHeadChain s.records head n members) → Breaks s.records s.shape (chain_damage head.key)
 no_chain s head n (inl o) none = subst At (sym o.is) here none
   where
     At : Head → Type 0
@@ -115,16 +115,16 @@ no_chain s head n (inl o) none = subst At (sym o.is) here none
     here = λ none.
         let lt = kind_below (high s.records format.nodes_file) (rec_at s.records format.nodes_file n) n (λ e. absurd (let k = o.sparse in omega arith)) in
         NodeChain n lt (λ keeps. let c = keeps.chain o.sparse in none c.0 c.1)
-no_chain s head n (inr o) none = subst At (sym (group_head_is head o.row.id o.key)) here o none
+no_chain s head n (inr c) none = subst At (sym (group_head_is head c.own.row.id c.own.key)) here c.own none
   where
     At : Head → Type 0
     At h = IsGroupHeadOf s.records h n → ((members : List ℕ) → ¬ IsHeadChain s.records h n members) → Breaks s.records s.shape (chain_damage h.key)
 
-    here : At (group_head o.row.id head.field)
+    here : At (group_head c.own.row.id head.field)
     here = λ own none.
-        GroupChains o.row.id (group_live s n o.row.id head.field own).1 (λ keeps. let c = keeps.chains head.field n own in none c.0 c.1)
+        GroupChains c.own.row.id (group_live s n c.own.row.id head.field own).1 (n, c.on) (λ keeps. let k = keeps.chains head.field n own in none k.0 k.1)
 
-module _ (s : State) (owner : Key) (first n : ℕ) (head : Head) (key : head.key ≡ owner) (is : first ≡ first_of s.records head) (owns : IsHeadOf s.records head n) where
+module _ (s : State) (owner : Key) (first n : ℕ) (head : Head) (key : head.key ≡ owner) (is : first ≡ first_of s.records head) (owns : IsChainHead s.records head n) where
   -- a walk of a head's chain that fails, though it may meet each relationship
   pub walk_breaks : (budget : ℕ) (damage : Damage) → rel_mark s ≤ budget → IsWalkDamage s owner first n budget damage → Breaks s.records s.shape damage
   walk_breaks budget damage enough (HighMark above) = mark_breaks s above

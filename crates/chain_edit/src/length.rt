@@ -2,7 +2,7 @@ ghost use Rattle.std.specs.Prelude.{◌≡◌, ◌≤◌, ℕ, List, IfErr, IfOk
 ghost use Rattle.rec_bytes.specs.Space.{after_gets};
 ghost use Rattle.rel_store.specs.Loading.{rel_mark, rel_room};
 ghost use Rattle.rec_bytes.specs.Fault.{HasFaultCause, NotDamaged};
-ghost use Rattle.store_rules.specs.Breaking.{IsHeadOf};
+ghost use Rattle.store_rules.specs.Breaking.{IsChainHead};
 ghost use Rattle.store_rules.specs.Rules.{Head, StandsAt, first_of};
 ghost use Rattle.store_rules.specs.Views.{group_at, rel_at};
 ghost use Rattle.chain_edit.specs.Breaks.{IsBreakFault};
@@ -34,7 +34,7 @@ pub fn chain_length<R: Reads>(
         chain.now.owner chain.now.first chain.now.node members) }
     ensures breaks { R.tells → (head : Head) → head.key ≡ chain.now.owner
         → chain.now.first ≡ first_of (R.state space.old).records head
-        → IsHeadOf (R.state space.old).records head chain.now.node
+        → IsChainHead (R.state space.old).records head chain.now.node
         → ((x : ℕ) → StandsAt (rel_at (R.state space.old).records)
         (group_at (R.state space.old).records) head x
         → stands (R.state space.old).records chain.now.node members x ≡ true)

@@ -5,7 +5,7 @@ ghost use Rattle.rec_bytes.specs.Space.{after_get, after_gets};
 ghost use Rattle.rel_store.specs.Loading.{rel_mark, rel_room};
 ghost use Rattle.rel_store.specs.RelRecord.{rel_key};
 ghost use Rattle.rec_bytes.specs.Fault.{HasFaultCause, NotDamaged};
-ghost use Rattle.store_rules.specs.Breaking.{IsHeadOf};
+ghost use Rattle.store_rules.specs.Breaking.{IsChainHead};
 ghost use Rattle.store_rules.specs.Rules.{Head, first_of};
 ghost use Rattle.store_rules.specs.Views.{rec_at};
 ghost use Rattle.chain_edit.specs.Breaks.{IsBreakFault};
@@ -40,7 +40,7 @@ pub fn walk<R: Reads>(
         (IsWalkFault (R.state space.old) chain.now.owner chain.now.first chain.now.node budget) }
     ensures breaks { R.tells → (head : Head) → head.key ≡ chain.now.owner
         → chain.now.first ≡ first_of (R.state space.old).records head
-        → IsHeadOf (R.state space.old).records head chain.now.node
+        → IsChainHead (R.state space.old).records head chain.now.node
         → rel_mark (R.state space.old) ≤ budget
         → IfErr result (IsBreakFault (R.state space.old)) }
     ensures sound { R.tells → rel_mark (R.state space.old) ≤ rel_room (R.state space.old)

@@ -41,13 +41,13 @@ use Rattle.group_store.specs.Sides.{group_head, place_of}
 use Rattle.group_store.specs.Walking.{group_row_at}
 use Rattle.group_store.specs.GroupRecord.{group_key}
 use Rattle.group_store.proofs.GroupRecords.{group_below}
-use Rattle.group_store.proofs.GroupRules.{row_of_group}
+use Rattle.group_store.proofs.GroupRules.{list_on, row_of_group}
 use Rattle.expand.specs.declared.first_links.FirstLink.{FirstLink}
 use Rattle.expand.specs.FirstLinks.{are_twins, belongs, first_links, first_on, have_twins, is_on, link_on, links_of, sides_of}
 use Rattle.expand.specs.Matching.{is_wanted}
 use Rattle.expand.specs.ExpandFault.{of_fault}
 use Rattle.expand.specs.Expanding.{Blames}
-use Rattle.expand.specs.Walking.{AllBelong, AreOfGroups, chain_blamed, with_node}
+use Rattle.expand.specs.Walking.{AreOfGroups, chain_blamed, with_node}
 use Rattle.expand.proofs.GroupHeads.{heads_apart, heads_in, place_is}
 use Rattle.store_rules.proofs.Members.{contains_first, contains_image, contains_later, length-once_below}
 
@@ -269,7 +269,7 @@ module _ (s : State) (node : ℕ) (links : List FirstLink) (of : AreOfGroups s n
 
     -- so a group without such a chain breaks the third rule
     pub chains_break : (IsRightChain → ⊥) → Breaks s.records s.shape (breaking.damage format.groups_file link.group 3)
-    chains_break none = GroupChains link.group (group_below s.records node link.group group_is) (λ keeps. none (right_chain keeps))
+    chains_break none = GroupChains link.group (group_below s.records node link.group group_is) (node, list_on s.records node gs of.dense of.listed.list link.group (link_of link is).member) (λ keeps. none (right_chain keeps))
 
 -- ---- what was met, by the links
 
@@ -333,10 +333,6 @@ module _ (s now : State) (n node at budget : ℕ) (links : List FirstLink) (d : 
               let same = same_place (get_or links k.0 d) here node (edge_at s.records x) k.2 (belong x j) in
               apart k.0 at d k.1 low same.0 same.1);
         }
-
-    -- where all of it belongs there, nothing doesn't
-    pub none_stray : AllBelong s node links → list_all (belongs here node) chain ≡ true
-    none_stray belong = ap (list_all (belongs here node)) rows_then ∙ pass_all (belongs here node) (edge_at s.records) walked.members (λ x i. belong here (Contains-get_or links at d low) walked.members walk_then x i)
 
     -- a chain with what doesn't belong there
     pub stray_breaks : (of : AreOfGroups s node links) → list_all (belongs here node) chain ≡ false → Breaks s.records s.shape (breaking.damage format.groups_file here.group 3)

@@ -169,16 +169,3 @@ pub few_more : (s now new : State) (node most : ℕ) (firsts left : List ℕ) (r
 few_more s now new node most firsts left rows xs met rest walks reads more le then =
     let long = met_and_left s node most firsts left rows xs met rest walks in
     record { count = then.count + length rows; within = let few = then.within in omega arith; is = then.is ∙ ap (after_gets then.count) reads ∙ gets_add then.count (length rows) s }
-
--- ---- damage
-
--- a walk that calls no record damaged
-pub chain_sound : (fault : Fault) → chains.NotDamaged {T = Rows} (Err fault) → NotDamaged {T = Rows} (Err (of_fault fault))
-chain_sound chain.Memory told = tt
-chain_sound chain.Disk told = tt
-chain_sound (chain.Damaged damage) told = told
-
-pub group_sound : (node : ℕ) (twins : Bool) (fault : Fault) → chains.NotDamaged {T = Rows} (Err fault) → NotDamaged {T = Rows} (Err (of_fault (with_node node twins fault)))
-group_sound node twins chain.Memory told = tt
-group_sound node twins chain.Disk told = tt
-group_sound node twins (chain.Damaged damage) told = absurd told

@@ -23,7 +23,7 @@ use Rattle.expand.specs.Costs.{met_count, type_count}
 use Rattle.expand.specs.Expanding.{CanWalkGroups, HasDenseRows, IsStore, graph_in, name_of, rows_of}
 use Rattle.expand.specs.FirstLinks.{first_links, first_numbers}
 use Rattle.expand.specs.Matching.{IsPart, is_met}
-use Rattle.expand.specs.Walking.{AllBelong, AreOfGroups, AreWalks}
+use Rattle.expand.specs.Walking.{AreOfGroups, AreWalks}
 use Rattle.expand.proofs.BrokenChains.{link_of, owned, stands_belongs}
 use Rattle.expand.proofs.ChainRows.{length-part, rows_part}
 use Rattle.expand.proofs.ChainWalks.{walks_are}
@@ -73,14 +73,6 @@ module _ (s : State) (store : IsStore s) (row : NodeRow) (dense : kind_at s.reco
     are = refl;
   }
 
-  all_belong : AllBelong s n (first_links direction labels (map (group_row_at s.records) members))
-  all_belong link is xs walk x i =
-      let links = first_links direction labels (map (group_row_at s.records) members) in
-      let h = group_head link.group link.side in
-      let listed = store.linked.listed.each h n (inr (owned s n links of_groups link is)) in
-      let other = subst (λ f. IsWalk (next_of s.records n) f listed.members) (sym (link_of s n links of_groups link is).first) (walk_of_chain _ _ format.nil (first_of s.records h) listed.members listed.chain) in
-      stands_belongs s n links of_groups link is x (listed.only x (subst (In x) (walk_is (next_of s.records n) link.first xs listed.members walk other) i))
-
   -- the links lead through all of them
   pub can_walk : CanWalkGroups s row direction labels members chains.members
   can_walk = record {
@@ -88,13 +80,11 @@ module _ (s : State) (store : IsStore s) (row : NodeRow) (dense : kind_at s.reco
       mark = (store.ranges.metas format.groups_file refl).high;
       list = record { walk = group_walk; only = (chain s.records s.shape store n dense).only };
     };
-    mark = (store.ranges.metas format.relationships_file refl).high;
     sound = record {
       walks = walks;
       few = length-once_below chains.members (rel_mark s) chains.once low;
       low = low;
     };
-    belong = all_belong;
   }
 
   -- the rows of all that stand at their heads are a part of all rows

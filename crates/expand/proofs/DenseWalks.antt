@@ -31,7 +31,7 @@ use Rattle.rec_bytes.specs.declared.fault.Fault.TheVariants as group
 use Rattle.expand.specs.ExpandFault.{of_fault}
 use Rattle.expand.specs.Expanding.{Blames, CanWalkGroups, HasDenseRows, IsDenseRow}
 use Rattle.expand.specs.FirstLinks.{first_links, numbers_of}
-use Rattle.expand.specs.Walking.{AllBelong, AreOfGroups, AreSoundWalks, AreWalks, HaveWalked}
+use Rattle.expand.specs.Walking.{AreOfGroups, AreSoundWalks, AreWalks, HaveWalked}
 use Rattle.expand.proofs.ChainWalks.{room_then, shape-after_gets}
 
 -- what is blamed after reads breaks a rule of the space as it was
@@ -84,9 +84,6 @@ module _ (s mid : State) (n : ℕ) (reads : mid ≡ after_gets n s) where
         low = λ x i. let lt = sound.low x i in omega arith;
       }
 
-  belong_then : (node : ℕ) (links : List FirstLink) → AllBelong s node links → AllBelong mid node links
-  belong_then node links all = subst (λ (r : Records). AllBelong (record s { records = r }) node links) (sym (records_then s mid n reads)) all
-
   module _ (row : NodeRow) (direction : Direction) (labels : List ℕ) (links : List FirstLink) (rows : List GroupRow) (listed : HasGroupRows s.records row.id row.first rows) (are : links ≡ first_links direction labels rows) where
     -- the links are those of the node's groups
     pub of_groups : IsDenseRow s row → AreOfGroups mid row.id links
@@ -100,13 +97,10 @@ module _ (s mid : State) (n : ℕ) (reads : mid ≡ after_gets n s) where
     })
 
     -- chains of groups that can be walked
-    pub can_walk : (members xs : List ℕ) → CanWalkGroups s row direction labels members xs → (rel_mark mid ≤ rel_room mid) × AreSoundWalks mid row.id (numbers_of links) (rel_mark mid) xs × AllBelong mid row.id links
+    pub can_walk : (members xs : List ℕ) → CanWalkGroups s row direction labels members xs → AreSoundWalks mid row.id (numbers_of links) (rel_mark mid) xs
     can_walk members xs can =
-        let links_are = ap (first_links direction labels) (sym (rows_are s row rows members listed can.walkable)) ∙ sym are in (
-          let mark = mark_then s mid n reads in let room = room_then s mid n reads in let le = can.mark in omega arith,
-          sound_then row.id (numbers_of links) xs (subst (λ ls. AreSoundWalks s row.id (numbers_of ls) (rel_mark s) xs) links_are can.sound),
-          belong_then row.id links (subst (λ ls. AllBelong s row.id ls) links_are can.belong),
-        )
+        let links_are = ap (first_links direction labels) (sym (rows_are s row rows members listed can.walkable)) ∙ sym are in
+        sound_then row.id (numbers_of links) xs (subst (λ ls. AreSoundWalks s row.id (numbers_of ls) (rel_mark s) xs) links_are can.sound)
 
     -- the rows of both walks
     pub has_dense_rows : (new : State) (found : List EdgeRow) → n ≡ length rows → HaveWalked mid row.id (numbers_of links) found → new ≡ after_gets (length found) mid → HasDenseRows s new row direction labels found

@@ -14,3 +14,4 @@ pub mod ModelEdges
 pub mod ReadCounts
 pub mod RowCounts
 pub mod TypeCounts
+pub mod Unblamed

@@ -164,10 +164,6 @@ module _ (s : State) (n : ℕ) (row : NodeRow) (found : Some row ≡ row_at s.re
         pub sound : IsSoundWalk mid row.first n mark members
         sound = subst (λ m. IsSoundWalk mid row.first n m members) (mark_stays ∙ sym marked) (sound_below mid row.first n members chained (λ x i. let low = chain_rows.low s.records s.shape store n sparse x i in let same = mark_stays in omega arith))
 
-        -- there is room for as many as were given out
-        pub room : rel_mark mid ≤ rel_room mid
-        room = ((store_stays store).ranges.metas format.relationships_file refl).high
-
         -- each of them is at the node
         at_node : (r : EdgeRow) → Contains (map (edge_at s.records) members) r → is_at n r ≡ true
         at_node r is =
@@ -228,13 +224,6 @@ module _ (s : State) (n : ℕ) (row : NodeRow) (found : Some row ≡ row_at s.re
 
       module _ (store : IsStore s) where
         -- the walks have an end
-        pub walkable : (direction : Direction) (labels : List ℕ) → (groups : List ℕ) × (members : List ℕ) × CanWalkGroups mid row direction labels groups members
-        walkable direction labels = (
-          dense_rows.members mid (store_stays store) row mid_dense mid_first direction labels,
-          (dense_rows.chains mid (store_stays store) row mid_dense mid_first direction labels).members,
-          dense_rows.can_walk mid (store_stays store) row mid_dense mid_first direction labels,
-        )
-
         pub can_walk : (direction : Direction) (labels : List ℕ) → CanWalkGroups mid row direction labels (dense_rows.members mid (store_stays store) row mid_dense mid_first direction labels)
             (dense_rows.chains mid (store_stays store) row mid_dense mid_first direction labels).members
         can_walk direction labels = dense_rows.can_walk mid (store_stays store) row mid_dense mid_first direction labels

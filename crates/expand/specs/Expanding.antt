@@ -16,7 +16,7 @@ use Rattle.store_rules.specs.Views.{Records, first_link, high, kind_at, rec_at, 
 use Rattle.node_store.specs.declared.node_row.NodeRow.{NodeRow}
 use Rattle.node_store.specs.Loading.{row_at}
 use Rattle.rel_store.specs.declared.edge_row.EdgeRow.{EdgeRow}
-use Rattle.rel_store.specs.Loading.{rel_mark, rel_room}
+use Rattle.rel_store.specs.Loading.{rel_mark}
 use Rattle.chain_edit.specs.Walking.{edge_at}
 use Rattle.group_store.specs.declared.group_row.GroupRow.{GroupRow}
 use Rattle.group_store.specs.Walking.{HasGroupRows, IsWalkable, group_row_at}
@@ -24,7 +24,7 @@ use Rattle.expand.specs.declared.expand_fault.ExpandFault.{ExpandFault}
 use Rattle.expand.specs.declared.expand_fault.ExpandFault.TheVariants.{NoNode, Memory, Disk}
 use Rattle.expand.specs.declared.expand_fault.ExpandFault.TheVariants.{Damaged}
 use Rattle.expand.specs.FirstLinks.{first_links, first_numbers}
-use Rattle.expand.specs.Walking.{AllBelong, AreSoundWalks, HaveWalked}
+use Rattle.expand.specs.Walking.{AreSoundWalks, HaveWalked}
 
 -- the records are those of a well-formed store
 abbrev pub IsStore : State → Type 0
@@ -84,15 +84,12 @@ pub record HasDenseRows (s t : State) (row : NodeRow) (direction : Direction) (l
   pub read : t ≡ after_gets (length groups + length rows) s
 
 -- the links lead through these groups of the dense node, and in chains of them through these
--- relationships, each of which belongs there
+-- relationships
 pub record CanWalkGroups (s : State) (row : NodeRow) (direction : Direction) (labels : List ℕ)
     (groups members : List ℕ) : Type 0 where
   pub walkable : IsWalkable s row.id row.first groups
-  pub mark : rel_mark s ≤ rel_room s
   pub sound : AreSoundWalks s row.id
       (first_numbers direction labels (map (group_row_at s.records) groups)) (rel_mark s) members
-  pub belong : AllBelong s row.id
-      (first_links direction labels (map (group_row_at s.records) groups))
 
 -- the row is that of the dense node
 pub record IsDenseRow (s : State) (row : NodeRow) : Type 0 where

@@ -41,13 +41,6 @@ pub record HaveWalked (s : State) (node : ℕ) (firsts : List ℕ) (rows : List 
   pub walks : AreWalks s.records node firsts members
   pub are : rows ≡ map (edge_at s.records) members
 
--- each relationship of a chain has its type and its side of the node
-abbrev pub AllBelong : State → ℕ → List FirstLink → Type 0
-AllBelong s node links =
-    (link : FirstLink) → Contains links link
-    → (xs : List ℕ) → IsWalk (next_of s.records node) link.first xs
-    → (x : ℕ) → In x xs → belongs link node (edge_at s.records x) ≡ true
-
 -- The node is dense, and the links are those of chains of its groups.
 pub record AreOfGroups (s : State) (node : ℕ) (links : List FirstLink) : Type 0 where
   pub dense : kind_at s.records format.nodes_file node ≡ format.dense

@@ -19,7 +19,7 @@ ghost use Rattle.expand.specs.Degrees.{
   lacks_counts,
   rows_count,
 };
-ghost use Rattle.expand.specs.ExpandFault.{HasExpandCause, NotDamaged};
+ghost use Rattle.expand.specs.ExpandFault.{HasExpandCause};
 ghost use Rattle.expand.specs.Expanding.{
   AreNameNumbers,
   Blames,
@@ -69,7 +69,6 @@ pub fn degree<R: Reads>(
         (rows_of (R.state space.old).records))) }
     ensures missing { R.tells → IsStore (R.state space.old)
         → TellsNode result node (has_node (graph_in (R.state space.old)) node) }
-    ensures sound { R.tells → IsStore (R.state space.old) → NotDamaged result }
     ensures damaged { R.tells → IfErr result (IsExpandFault (R.state space.old) node) }
     ensures reads { R.tells → IsStore (R.state space.old)
         → ReadsAtMost (most_reads (R.state space.old) direction (option_list label) node)
@@ -104,7 +103,6 @@ fn degree_of<R: Reads>(
         → count ≡ rows_count direction labels.now node (rows_of (R.state space.old).records)) }
     ensures missing { R.tells → IsStore (R.state space.old)
         → TellsNode result node (has_node (graph_in (R.state space.old)) node) }
-    ensures sound { R.tells → IsStore (R.state space.old) → NotDamaged result }
     ensures damaged { R.tells → IfErr result (IsExpandFault (R.state space.old) node) }
     ensures reads { R.tells → IsStore (R.state space.old)
         → ReadsAtMost (most_reads (R.state space.old) direction labels.now node)
@@ -162,9 +160,6 @@ fn dense_degree<R: Reads>(
         → ReadsAtMost (length groups) (R.state space.old) (R.state space.new) }
     ensures damaged { R.tells → IsDenseRow (R.state space.old) row.now
         → IfErr result (Blames (R.state space.old)) }
-    ensures sound { R.tells → (groups members : List ℕ)
-        → CanWalkGroups (R.state space.old) row.now direction labels.now groups members
-        → NotDamaged result }
     ensures onward { R.onward space.old space.new }
     ensures cause { HasExpandCause (R.faults space.old) (R.faults space.new) result }
 {

@@ -5,7 +5,7 @@ ghost use Rattle.rel_store.specs.Loading.{rel_mark};
 ghost use Rattle.chain_edit.specs.Walking.{ReadsAtMost};
 ghost use Rattle.group_store.specs.Loading.{group_mark};
 ghost use Rattle.expand.specs.Costs.{dense_reads, most_reads};
-ghost use Rattle.expand.specs.ExpandFault.{HasExpandCause, NotDamaged};
+ghost use Rattle.expand.specs.ExpandFault.{HasExpandCause};
 ghost use Rattle.expand.specs.Expanding.{
   AreNameNumbers,
   AreRowsOf,
@@ -49,7 +49,6 @@ pub fn expand<R: Reads>(
         → rows.items ≡ rows_at direction labels.now node (rows_of (R.state space.old).records)) }
     ensures missing { R.tells → IsStore (R.state space.old)
         → TellsNode result node (has_node (graph_in (R.state space.old)) node) }
-    ensures sound { R.tells → IsStore (R.state space.old) → NotDamaged result }
     ensures damaged { R.tells → IfErr result (IsExpandFault (R.state space.old) node) }
     // whatever is answered
     ensures reads { R.tells → IsStore (R.state space.old)

@@ -6,7 +6,7 @@ ghost use Rattle.rel_store.specs.Loading.{rel_mark};
 ghost use Rattle.chain_edit.specs.Walking.{ReadsAtMost};
 ghost use Rattle.group_store.specs.Loading.{group_mark};
 ghost use Rattle.expand.specs.Costs.{most_reads};
-ghost use Rattle.expand.specs.ExpandFault.{HasExpandCause, NotDamaged};
+ghost use Rattle.expand.specs.ExpandFault.{HasExpandCause};
 ghost use Rattle.expand.specs.Expanding.{
   Blames,
   CanWalkGroups,
@@ -45,7 +45,6 @@ pub(crate) fn load_rows<R: Reads>(
         (rows_of (R.state space.old).records)) }
     ensures missing { R.tells → IsStore (R.state space.old)
         → TellsNode result node (has_node (graph_in (R.state space.old)) node) }
-    ensures sound { R.tells → IsStore (R.state space.old) → NotDamaged result }
     ensures damaged { R.tells → IfErr result (IsExpandFault (R.state space.old) node) }
     ensures reads { R.tells → IsStore (R.state space.old)
         → ReadsAtMost (most_reads (R.state space.old) direction labels.now node)
@@ -92,9 +91,6 @@ fn dense_rows<R: Reads>(
         → ReadsAtMost (length groups + length members) (R.state space.old) (R.state space.new) }
     ensures damaged { R.tells → IsDenseRow (R.state space.old) row.now
         → IfErr result (Blames (R.state space.old)) }
-    ensures sound { R.tells → (groups members : List ℕ)
-        → CanWalkGroups (R.state space.old) row.now direction labels.now groups members
-        → NotDamaged result }
     ensures onward { R.onward space.old space.new }
     ensures cause { HasExpandCause (R.faults space.old) (R.faults space.new) result }
 {

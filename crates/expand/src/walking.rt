@@ -1,14 +1,13 @@
 //! Walks of several chains of a dense node.
 
-ghost use Rattle.std.specs.Prelude.{◌≡◌, ◌≤◌, ℕ, List, length, IfErr, IfOk};
+ghost use Rattle.std.specs.Prelude.{◌≡◌, ℕ, List, length, IfErr, IfOk};
 ghost use Rattle.rec_bytes.specs.Space.{after_gets};
-ghost use Rattle.rel_store.specs.Loading.{rel_mark, rel_room};
+ghost use Rattle.rel_store.specs.Loading.{rel_mark};
 ghost use Rattle.chain_edit.specs.Walking.{ReadsAtMost};
-ghost use Rattle.expand.specs.ExpandFault.{HasExpandCause, NotDamaged, of_fault};
+ghost use Rattle.expand.specs.ExpandFault.{HasExpandCause, of_fault};
 ghost use Rattle.expand.specs.Expanding.{Blames};
 ghost use Rattle.expand.specs.FirstLinks.{have_twins, numbers_of};
 ghost use Rattle.expand.specs.Walking.{
-  AllBelong,
   AreOfGroups,
   AreSoundWalks,
   HaveWalked,
@@ -46,10 +45,6 @@ pub(crate) fn walk_all<R: Reads>(
         (R.state space.old) (R.state space.new) }
     ensures damaged { R.tells → AreOfGroups (R.state space.old) node links.now
         → IfErr result (Blames (R.state space.old)) }
-    ensures sound { R.tells → rel_mark (R.state space.old) ≤ rel_room (R.state space.old)
-        → (xs : List ℕ) → AreSoundWalks (R.state space.old) node (numbers_of links.now)
-        (rel_mark (R.state space.old)) xs
-        → AllBelong (R.state space.old) node links.now → NotDamaged result }
     ensures onward { R.onward space.old space.new }
     ensures cause { HasExpandCause (R.faults space.old) (R.faults space.new) result }
 {

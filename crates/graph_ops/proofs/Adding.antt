@@ -1,7 +1,7 @@
 -- What a new element leaves as it was, and which record is damaged where it is added.
 use Rattle.std.specs.Cmp.Lexicographic.{pointwise}
 use Rattle.std.specs.List.{list_any}
-use Rattle.std.proofs.Common.{◌≡◌, ◌≢◌, ◌∙◌, ℕ, ◌<◌, ◌≤◌, nat_eq, Bool, true, false, cond, List, [], ◌∷◌, ◌++◌, length, map, sym, ap, subst, ⊎_elim, arith, refl}
+use Rattle.std.proofs.Common.{◌≡◌, ◌≢◌, ◌∙◌, ℕ, ◌<◌, ◌≤◌, nat_eq, Bool, true, false, cond, List, [], ◌∷◌, ◌++◌, length, map, sym, ap, subst, ⊎_elim, arith, refl, inl}
 use Rattle.plain_graph.specs.declared.pairs.Pair.{Pair}
 use Rattle.rec_bytes.specs.declared.damage.Damage.{Damage}
 use Rattle.rec_bytes.specs.declared.key.Key.{Key}
@@ -34,7 +34,7 @@ use Rattle.prop_store.specs.Setting.{BlamesSet, BreaksMidway}
 use Rattle.prop_store.specs.Touching.{TouchesProperties, property_keys}
 use Rattle.prop_store.specs.declared.set_fault.SetFault.{SetFault}
 use Rattle.prop_store.specs.declared.set_fault.SetFault.TheVariants as sets
-use Rattle.store_rules.specs.Breaking.{Breaks}
+use Rattle.store_rules.specs.Breaking.{Breaks, BreaksAny}
 use Rattle.store_rules.specs.Properties.{property_at, property_ids}
 use Rattle.store_rules.specs.Rules.{next_free}
 use Rattle.store_rules.specs.Views.{Records, high, key_in, kind_at, kind_in, rec_at}
@@ -140,21 +140,21 @@ value_breaks tells element blocks s t does adds (sets.Full file live) told = tt
 value_breaks tells element blocks s t does adds sets.Memory told = tt
 value_breaks tells element blocks s t does adds sets.Disk told = tt
 value_breaks tells element blocks s t does adds (sets.Damaged damage) told = ⊎_elim
-    (λ (k : Breaks t.records t.shape damage). record { mid = t; adds = adds; breaks = subst (λ (h : Shape). Breaks t.records h damage) adds.shape k })
+    (λ (k : Breaks t.records t.shape damage). record { mid = t; adds = adds; breaks = inl (subst (λ (h : Shape). Breaks t.records h damage) adds.shape k) })
     (λ (k : BreaksMidway tells blocks t damage). record {
       mid = record k.mid { shape = t.shape };
       adds = record {
         shape = adds.shape;
         others = λ q beyond ne meta. midway_beyond tells blocks t k.mid does k.touched q beyond ∙ adds.others q beyond ne meta;
       };
-      breaks = subst (λ (h : Shape). Breaks k.mid.records h damage) adds.shape k.breaks;
+      breaks = inl (subst (λ (h : Shape). Breaks k.mid.records h damage) adds.shape k.breaks);
     }) told
 
 pub breaks_then : (element : Key) (s t : State) → AddsElement element s t → (damage : Damage) → BreaksAdding element t damage → BreaksAdding element s damage
 breaks_then element s t adds damage k = record {
   mid = k.mid;
   adds = adds_then element s t k.mid adds k.adds;
-  breaks = subst (λ (h : Shape). Breaks k.mid.records h damage) adds.shape k.breaks;
+  breaks = subst (λ (h : Shape). BreaksAny k.mid.records h damage) adds.shape k.breaks;
 }
 
 pub take_blamed : (s : State) (file : ℕ) (fault : TakeFault) → IsTakeFault s file fault → IfBlames (IsTakeDamage s file) (of_take fault)
@@ -226,8 +226,8 @@ node_beyond x = record {
   blocks_meta = λ e. let f : format.nodes_file ≡ format.meta_file = ap (λ (k : Key). k.file) e in omega arith;
 }
 
-pub node_damage : (s u : State) → meta_of u format.nodes_file ≡ meta_of s format.nodes_file → u.shape ≡ s.shape → KeepsBeyond s u → (d : Damage) → IsTakeDamage u format.nodes_file d → Breaks s.records s.shape d
-node_damage s u metas shape keeps d told = breaks_of s format.nodes_file refl d (damage_before s u format.nodes_file metas shape (λ x. keeps (key_in format.nodes_file x) (node_beyond x)) d told)
+pub node_damage : (s u : State) → meta_of u format.nodes_file ≡ meta_of s format.nodes_file → u.shape ≡ s.shape → KeepsBeyond s u → (d : Damage) → IsTakeDamage u format.nodes_file d → BreaksAny s.records s.shape d
+node_damage s u metas shape keeps d told = inl (breaks_of s format.nodes_file refl d (damage_before s u format.nodes_file metas shape (λ x. keeps (key_in format.nodes_file x) (node_beyond x)) d told))
 
 -- the meta record of the indexes is beyond names and properties
 pub index_beyond : (s u : State) → KeepsBeyond s u → meta_of u format.index_file ≡ meta_of s format.index_file

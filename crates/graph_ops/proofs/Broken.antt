@@ -28,6 +28,7 @@ use Rattle.name_store.specs.Interning.{interned, named}
 use Rattle.name_store.specs.declared.intern_fault.InternFault.{InternFault}
 use Rattle.name_store.specs.declared.intern_fault.InternFault.TheVariants as interns
 use Rattle.prop_store.specs.Owner.{IsInUse}
+use Rattle.prop_index.specs.Blaming as indexes
 use Rattle.graph_ops.specs.ChangeFault.{IsFailure, of_fault, of_intern, of_row, of_set}
 use Rattle.graph_ops.specs.declared.change_fault.ChangeFault.{ChangeFault}
 use Rattle.graph_ops.specs.declared.change_fault.ChangeFault.TheVariants.{NoNode, NoEdge, HasRelationships, IndexThere, TooManyIndexes, IndexTooLarge, Full, NamesFull, PropsFull, Memory, Disk, Damaged}
@@ -48,11 +49,11 @@ rel_breaks s id damage (HighMark above) = WrongMeta format.relationships_file (o
 
 pub node_broken : (s : State) (id : ℕ) (fault : RowFault) → nodes.IsNodeFault s id fault → BlamesBroken s (of_row fault)
 node_broken s id row.Disk told = tt
-node_broken s id (row.Damaged damage) told = node_breaks s id damage told
+node_broken s id (row.Damaged damage) told = inl (node_breaks s id damage told)
 
 pub rel_broken : (s : State) (id : ℕ) (fault : RowFault) → rels.IsRelFault s id fault → BlamesBroken s (of_row fault)
 rel_broken s id row.Disk told = tt
-rel_broken s id (row.Damaged damage) told = rel_breaks s id damage told
+rel_broken s id (row.Damaged damage) told = inl (rel_breaks s id damage told)
 
 pub row_misses : (fault : RowFault) → MayMiss (of_row fault)
 row_misses row.Disk = tt
@@ -71,13 +72,18 @@ rel_in_use s target id rel is found = subst (λ t. IsInUse s.records (owner_of t
 pub read_broken : (s m : State) → SameButReads s m → (fault : Fault) → props.BlamesBroken m.records m.shape fault → BlamesBroken s (of_fault fault)
 read_broken s m same faults.Memory told = tt
 read_broken s m same faults.Disk told = tt
-read_broken s m same (faults.Damaged damage) told = subst (λ (z : State). Breaks z.records z.shape damage) same told
+read_broken s m same (faults.Damaged damage) told = inl (subst (λ (z : State). Breaks z.records z.shape damage) same told)
+
+pub index_broken : (s : State) (fault : Fault) → indexes.BlamesBroken s.records s.shape fault → BlamesBroken s (of_fault fault)
+index_broken s faults.Memory told = tt
+index_broken s faults.Disk told = tt
+index_broken s (faults.Damaged damage) told = told
 
 -- ---- nodes that are deleted
 
 pub node_cause : (s t : State) (id : ℕ) (fault : RowFault) → nodes.IsNodeFault s id fault → IsDeleteCause s t id (of_row fault)
 node_cause s t id row.Disk told = tt
-node_cause s t id (row.Damaged damage) told = inl (node_breaks s id damage told)
+node_cause s t id (row.Damaged damage) told = inl (inl (node_breaks s id damage told))
 
 pub drop_cause : (s m t : State) (id : ℕ) (node : NodeRow) → SameButReads s m → Some node ≡ nodes.row_at s.records id → node.degree ≡ 0 → (fault : Fault) → props.BlamesDropped m.records m.shape fault → IsDeleteCause s t id (of_fault fault)
 drop_cause s m t id node same found lone faults.Memory told = tt
@@ -85,7 +91,7 @@ drop_cause s m t id node same found lone faults.Disk told = tt
 drop_cause s m t id node same found lone (faults.Damaged damage) told = by (subst (λ (z : State). props.BlamesDropped z.records z.shape (faults.Damaged damage)) same told)
   where
     by : Breaks s.records s.shape damage ⊎ props.SharesBlock s.records damage → IsDeleteCause s t id (of_fault (faults.Damaged damage))
-    by (inl broken) = inl broken
+    by (inl broken) = inl (inl broken)
     by (inr shares) = inr (inl (record { row = node; found = sym found; is = lone }, shares))
 
 -- the values that the node has in indexes are read before it goes
@@ -185,5 +191,5 @@ value_blamed tells blocks s named t last same (sets.Full file live) told = tt
 value_blamed tells blocks s named t last same sets.Memory told = tt
 value_blamed tells blocks s named t last same sets.Disk told = tt
 value_blamed tells blocks s named t last same (sets.Damaged damage) told = inr (⊎_elim
-    (λ (k : Breaks t.records t.shape damage). inl (subst (λ (z : State). Breaks z.records z.shape damage) same k))
+    (λ (k : Breaks t.records t.shape damage). inl (inl (subst (λ (z : State). Breaks z.records z.shape damage) same k)))
     (λ (k : BreaksMidway tells blocks t damage). inr (inl (midway_read tells blocks named t damage same k))) told)

@@ -306,13 +306,13 @@ set_blamed t (sets.PropsFull count) why = tt
 set_blamed t (sets.Full file live) why = tt
 set_blamed t sets.Memory why = tt
 set_blamed t sets.Disk why = tt
-set_blamed t (sets.Damaged damage) why = why
+set_blamed t (sets.Damaged damage) why = inl why
 
 pub take_blamed_still : (s t : State) (fault : TakeFault) → takes.BlamesBroken s.records s.shape fault → SameButReads s t → BlamesBroken t (of_take fault)
 take_blamed_still s t (take.Full file live) why same = tt
 take_blamed_still s t take.Memory why same = tt
 take_blamed_still s t take.Disk why same = tt
-take_blamed_still s t (take.Damaged damage) why same = subst (λ (z : State). IsBroken z damage) (sym same) why
+take_blamed_still s t (take.Damaged damage) why same = subst (λ (z : State). IsBroken z damage) (sym same) (inl why)
 
 -- after reads
 pub broken_left : (s t : State) → SameButReads s t → (fault : ChangeFault) → BlamesBroken s fault → BlamesBroken t fault

@@ -54,12 +54,12 @@ pub head_blamed : (s m : State) (id node label : ℕ) → SameButReads s m → (
 head_blamed s m id node label same faults.Memory told = tt
 head_blamed s m id node label same faults.Disk told = tt
 head_blamed s m id node label same (faults.Damaged damage) told =
-    ⊎_elim (λ k. inl (subst (λ (z : State). IsBroken z damage) same k.0, search_read s m node damage same k.1)) (λ k. inr (k.0, inr (subst (λ (z : State). LacksGroupOn z.records node label) same k.1))) told
+    ⊎_elim (λ k. inl (subst (λ (z : State). IsBroken z damage) same (inl k.0), search_read s m node damage same k.1)) (λ k. inr (k.0, inr (subst (λ (z : State). LacksGroupOn z.records node label) same k.1))) told
 
 -- a node that can't be read
 pub load_blamed : (s : State) (id node label : ℕ) (fault : RowFault) → nodes.IsNodeFault s node fault → BlamesEnd s id node label (of_row fault)
 load_blamed s id node label rows.Disk told = tt
-load_blamed s id node label (rows.Damaged damage) told = inl (node_breaks s node damage told, BadNode damage told)
+load_blamed s id node label (rows.Damaged damage) told = inl (inl (node_breaks s node damage told), BadNode damage told)
 
 -- what is so of a record that is blamed, for what follows from it
 pub if_blames : {T : Type 0} (r : Result T ChangeFault) (P Q : Damage → Type 0) → ((damage : Damage) → P damage → Q damage) → IfErr r (IfBlames P) → IfErr r (IfBlames Q)
@@ -78,7 +78,7 @@ pub close_blamed : (was s t : State) (id : ℕ) (rel : RelRow) (node g : ℕ) (f
     → IfBlames (IsTakenDamage was t id rel) (of_fault fault)
 close_blamed was s t id rel node g faults.Memory told breaks same = tt
 close_blamed was s t id rel node g faults.Disk told breaks same = tt
-close_blamed was s t id rel node g (faults.Damaged damage) told breaks same = Undropped damage (node, g, (drop_read s t node g damage same told, subst (λ (z : State). Breaks z.records z.shape damage) (sym same) breaks))
+close_blamed was s t id rel node g (faults.Damaged damage) told breaks same = Undropped damage (node, g, (drop_read s t node g damage same told, inl (subst (λ (z : State). Breaks z.records z.shape damage) (sym same) breaks)))
   where
     drop_read : (s t : State) (node g : ℕ) (damage : Damage) → SameButReads s t → IsDropDamage s node g damage → IsDropDamage t node g damage
     drop_read s t node g damage same told = subst (λ (z : State). IsDropDamage z node g damage) (sym same) (by damage told)
@@ -101,7 +101,8 @@ close_blamed was s t id rel node g (faults.Damaged damage) told breaks same = Un
 pub drop_blamed : (s v t : State) → SameButReads s v → (fault : Fault) → props.BlamesDropped v.records v.shape fault → BlamesDeleting s t (of_fault fault)
 drop_blamed s v t same faults.Memory told = tt
 drop_blamed s v t same faults.Disk told = tt
-drop_blamed s v t same (faults.Damaged damage) told = inl (subst (λ (z : State). props.BlamesDropped z.records z.shape (faults.Damaged damage)) same told)
+drop_blamed s v t same (faults.Damaged damage) told =
+    inl (⊎_elim (λ k. inl (inl k)) (λ k. inr k) (subst (λ (z : State). props.BlamesDropped z.records z.shape (faults.Damaged damage)) same told))
 
 -- ---- heads
 

@@ -160,8 +160,8 @@ end_link_before s t id from to damage left told = ⊎_elim (λ k. inl (edge_link
 pub end_link_breaks : (s : State) (id : ℕ) (rel : RelRow) (damage : Damage) → row_at s.records id ≡ Some rel → IsEndLink s id rel.from rel.to damage → IsBroken s damage
 end_link_breaks s id rel damage found told =
     let live = rel_rows.rel_at-Some s.records id rel found in
-    ⊎_elim (λ k. ⊎_elim (λ l. prev_breaks s id rel.from _ damage live l) (λ l. next_breaks s id rel.from _ damage live l) k)
-    (λ k. ⊎_elim (λ l. prev_breaks s id rel.to _ damage live l) (λ l. next_breaks s id rel.to _ damage live l) k) told
+    inl (⊎_elim (λ k. ⊎_elim (λ l. prev_breaks s id rel.from _ damage live l) (λ l. next_breaks s id rel.from _ damage live l) k)
+    (λ k. ⊎_elim (λ l. prev_breaks s id rel.to _ damage live l) (λ l. next_breaks s id rel.to _ damage live l) k) told)
 
 -- the record of an edge that is found says its ends
 pub ends_found : (s : State) (id : ℕ) (rel : RelRow) → row_at s.records id ≡ Some rel → HasEndsIn s.records id rel.from rel.to

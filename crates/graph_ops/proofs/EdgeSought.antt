@@ -18,8 +18,9 @@ use Rattle.prop_store.specs.Fault.{SharesBlock}
 use Rattle.rel_store.specs.Loading.{mark_damage, row_at}
 use Rattle.rel_store.specs.declared.rel_row.RelRow.{RelRow}
 use Rattle.rel_store.proofs.Rows as rel_rows
-use Rattle.store_rules.specs.Breaking.{Breaks, DegreeKeeps, GroupKeeps, IsGroupHeadOf, IsHeadChain, IsMetaKept, group_head}
-use Rattle.store_rules.specs.Breaking.Breaks.{FreeList, GroupChains, GroupOwner, NameCount, NodeChain, OffFreeList, OwnRecord, OwnerGroups, RecordRange, RelEnds, WrongBlock, WrongDefinition, WrongDegree, WrongElement, WrongHolding, WrongIndex, WrongMeta, WrongName, WrongText}
+use Rattle.store_rules.specs.Breaking.{BreaksAny, DegreeKeeps, GroupKeeps, IsGroupHeadOf, IsHeadChain, IsMetaKept, IsOnChain, IsOnOwnChain, IsOwnedBy, group_head}
+use Rattle.store_rules.specs.Breaking.IsOnChain.{First, Next}
+use Rattle.store_rules.specs.Breaking.Breaks.{FreeList, GroupChains, GroupOwner, NameCount, NodeChain, OffFreeList, OwnRecord, OwnerGroups, RecordRange, RelEnds, WrongBlock, WrongDefinition, WrongDegree, WrongElement, WrongHolding, WrongMeta, WrongName, WrongText}
 use Rattle.store_rules.specs.Chains.{IsChain, IsWalk, next_in, place_of, prev_in}
 use Rattle.store_rules.specs.PropertyChange.{Apart}
 use Rattle.store_rules.specs.Ranges.{Layout, layout_by}
@@ -29,8 +30,9 @@ use Rattle.store_rules.specs.Views.{GroupRow, Records, degree, first_link, group
 use Rattle.store_rules.proofs.ChainLaws.{chain_stays, walk_stays}
 use Rattle.store_rules.proofs.IndexBreaches.{index_rule}
 use Rattle.store_rules.proofs.NumberLaws.{eq_false, nat_cases}
+use Rattle.store_rules.proofs.PropertyOwners.{used_of_live}
 use Rattle.store_rules.proofs.TwinRows.{HaveRels, degree_alike, have_rels, stands_alike}
-use Rattle.store_rules.proofs.ViewLaws.{kind_below, kind_low, live_false, not_live, some_row}
+use Rattle.store_rules.proofs.ViewLaws.{kind_below, kind_low, live_false, live_true, not_live, some_row}
 use Rattle.group_store.specs.GroupChain.{IsDense, next_group}
 use Rattle.group_store.specs.Loading.{HasNoKind, group_mark}
 use Rattle.group_store.specs.Opening.{IsSearchDamage, LacksGroupOn}
@@ -48,70 +50,70 @@ use Rattle.graph_ops.proofs.EdgeFrames.{kind_same, meta, node_same, pair_is, pai
 -- ---- what breaks a rule of which one record is said
 
 -- the third rule of a group
-group_broken : (r : Records) (shape : Shape) (g : ℕ) (d : Damage) → d ≡ record { file = format.groups_file; id = g; rule = 3 } → Breaks r shape d → (g < high r format.groups_file) × (¬ GroupKeeps r g)
-group_broken r shape g d e (OwnRecord k) = absurd (let f = ap (λ (d : Damage). d.rule) e in omega arith)
-group_broken r shape g d e (WrongMeta id lt k) = absurd (let f = ap (λ (d : Damage). d.rule) e in omega arith)
-group_broken r shape g d e (RecordRange file x m lt k) = absurd (let f = ap (λ (d : Damage). d.rule) e in omega arith)
-group_broken r shape g d e (FreeList file m k) = absurd (let f = ap (λ (d : Damage). d.rule) e in omega arith)
-group_broken r shape g d e (OffFreeList file x m lt dead k) = absurd (let f = ap (λ (d : Damage). d.rule) e in omega arith)
-group_broken r shape g d e (NameCount k) = absurd (let f = ap (λ (d : Damage). d.rule) e in omega arith)
-group_broken r shape g d e (NodeChain n lt k) = absurd (let f = ap (λ (d : Damage). d.file) e in omega arith)
-group_broken r shape g d e (GroupChains h lt k) = subst (λ z. (z < high r format.groups_file) × (¬ GroupKeeps r z)) (ap (λ (d : Damage). d.id) e) (lt, k)
-group_broken r shape g d e (RelEnds x lt k) = absurd (let f = ap (λ (d : Damage). d.file) e in omega arith)
-group_broken r shape g d e (OwnerGroups n lt k) = absurd (let f = ap (λ (d : Damage). d.rule) e in omega arith)
-group_broken r shape g d e (GroupOwner h k) = absurd (let f = ap (λ (d : Damage). d.rule) e in omega arith)
-group_broken r shape g d e (WrongElement file x m lt k) = absurd (let f = ap (λ (d : Damage). d.rule) e in omega arith)
-group_broken r shape g d e (WrongHolding p k) = absurd (let f = ap (λ (d : Damage). d.rule) e in omega arith)
-group_broken r shape g d e (WrongText p lt k) = absurd (let f = ap (λ (d : Damage). d.rule) e in omega arith)
-group_broken r shape g d e (WrongBlock b k) = absurd (let f = ap (λ (d : Damage). d.rule) e in omega arith)
-group_broken r shape g d e (WrongDefinition x lt k) = absurd (let f = ap (λ (d : Damage). d.rule) e in omega arith)
-group_broken r shape g d e (WrongName x lt k) = absurd (let f = ap (λ (d : Damage). d.rule) e in omega arith)
-group_broken r shape g d e (WrongDegree n lt k) = absurd (let f = ap (λ (d : Damage). d.rule) e in omega arith)
-group_broken r shape g d e (WrongIndex x bad) = absurd (let f = ap (λ (d : Damage). d.rule) e in let k = index_rule r x bad in omega arith)
+group_broken : (r : Records) (shape : Shape) (g : ℕ) (d : Damage) → d ≡ record { file = format.groups_file; id = g; rule = 3 } → BreaksAny r shape d → (g < high r format.groups_file) × IsOnOwnChain r g × (¬ GroupKeeps r g)
+group_broken r shape g d e (inl (OwnRecord k)) = absurd (let f = ap (λ (d : Damage). d.rule) e in omega arith)
+group_broken r shape g d e (inl (WrongMeta id lt k)) = absurd (let f = ap (λ (d : Damage). d.rule) e in omega arith)
+group_broken r shape g d e (inl (RecordRange file x m lt k)) = absurd (let f = ap (λ (d : Damage). d.rule) e in omega arith)
+group_broken r shape g d e (inl (FreeList file m k)) = absurd (let f = ap (λ (d : Damage). d.rule) e in omega arith)
+group_broken r shape g d e (inl (OffFreeList file x m lt dead k)) = absurd (let f = ap (λ (d : Damage). d.rule) e in omega arith)
+group_broken r shape g d e (inl (NameCount k)) = absurd (let f = ap (λ (d : Damage). d.rule) e in omega arith)
+group_broken r shape g d e (inl (NodeChain n lt k)) = absurd (let f = ap (λ (d : Damage). d.file) e in omega arith)
+group_broken r shape g d e (inl (GroupChains h lt on k)) = subst (λ z. (z < high r format.groups_file) × IsOnOwnChain r z × (¬ GroupKeeps r z)) (ap (λ (d : Damage). d.id) e) (lt, on, k)
+group_broken r shape g d e (inl (RelEnds x lt k)) = absurd (let f = ap (λ (d : Damage). d.file) e in omega arith)
+group_broken r shape g d e (inl (OwnerGroups n lt k)) = absurd (let f = ap (λ (d : Damage). d.rule) e in omega arith)
+group_broken r shape g d e (inl (GroupOwner h k)) = absurd (let f = ap (λ (d : Damage). d.rule) e in omega arith)
+group_broken r shape g d e (inl (WrongElement file x m lt k)) = absurd (let f = ap (λ (d : Damage). d.rule) e in omega arith)
+group_broken r shape g d e (inl (WrongHolding p k)) = absurd (let f = ap (λ (d : Damage). d.rule) e in omega arith)
+group_broken r shape g d e (inl (WrongText p lt k)) = absurd (let f = ap (λ (d : Damage). d.rule) e in omega arith)
+group_broken r shape g d e (inl (WrongBlock b k)) = absurd (let f = ap (λ (d : Damage). d.rule) e in omega arith)
+group_broken r shape g d e (inl (WrongDefinition x lt k)) = absurd (let f = ap (λ (d : Damage). d.rule) e in omega arith)
+group_broken r shape g d e (inl (WrongName x lt k)) = absurd (let f = ap (λ (d : Damage). d.rule) e in omega arith)
+group_broken r shape g d e (inl (WrongDegree n lt k)) = absurd (let f = ap (λ (d : Damage). d.rule) e in omega arith)
+group_broken r shape g d e (inr bad) = absurd (let f = ap (λ (d : Damage). d.rule) e in let k = index_rule r d bad in omega arith)
 
 -- the seventh rule of a node
-degree_broken : (r : Records) (shape : Shape) (n : ℕ) (d : Damage) → d ≡ record { file = format.nodes_file; id = n; rule = 7 } → Breaks r shape d → (n < high r format.nodes_file) × (¬ DegreeKeeps r shape.threshold n)
-degree_broken r shape n d e (OwnRecord k) = absurd (let f = ap (λ (d : Damage). d.rule) e in omega arith)
-degree_broken r shape n d e (WrongMeta id lt k) = absurd (let f = ap (λ (d : Damage). d.rule) e in omega arith)
-degree_broken r shape n d e (RecordRange file x m lt k) = absurd (let f = ap (λ (d : Damage). d.rule) e in omega arith)
-degree_broken r shape n d e (FreeList file m k) = absurd (let f = ap (λ (d : Damage). d.rule) e in omega arith)
-degree_broken r shape n d e (OffFreeList file x m lt dead k) = absurd (let f = ap (λ (d : Damage). d.rule) e in omega arith)
-degree_broken r shape n d e (NameCount k) = absurd (let f = ap (λ (d : Damage). d.rule) e in omega arith)
-degree_broken r shape n d e (NodeChain m lt k) = absurd (let f = ap (λ (d : Damage). d.rule) e in omega arith)
-degree_broken r shape n d e (GroupChains h lt k) = absurd (let f = ap (λ (d : Damage). d.rule) e in omega arith)
-degree_broken r shape n d e (RelEnds x lt k) = absurd (let f = ap (λ (d : Damage). d.rule) e in omega arith)
-degree_broken r shape n d e (OwnerGroups m lt k) = absurd (let f = ap (λ (d : Damage). d.rule) e in omega arith)
-degree_broken r shape n d e (GroupOwner h k) = absurd (let f = ap (λ (d : Damage). d.rule) e in omega arith)
-degree_broken r shape n d e (WrongElement file x m lt k) = absurd (let f = ap (λ (d : Damage). d.rule) e in omega arith)
-degree_broken r shape n d e (WrongHolding p k) = absurd (let f = ap (λ (d : Damage). d.rule) e in omega arith)
-degree_broken r shape n d e (WrongText p lt k) = absurd (let f = ap (λ (d : Damage). d.rule) e in omega arith)
-degree_broken r shape n d e (WrongBlock b k) = absurd (let f = ap (λ (d : Damage). d.rule) e in omega arith)
-degree_broken r shape n d e (WrongDefinition x lt k) = absurd (let f = ap (λ (d : Damage). d.rule) e in omega arith)
-degree_broken r shape n d e (WrongName x lt k) = absurd (let f = ap (λ (d : Damage). d.rule) e in omega arith)
-degree_broken r shape n d e (WrongDegree m lt k) = subst (λ z. (z < high r format.nodes_file) × (¬ DegreeKeeps r shape.threshold z)) (ap (λ (d : Damage). d.id) e) (lt, k)
-degree_broken r shape n d e (WrongIndex x bad) = absurd (let f = ap (λ (d : Damage). d.rule) e in let k = index_rule r x bad in omega arith)
+degree_broken : (r : Records) (shape : Shape) (n : ℕ) (d : Damage) → d ≡ record { file = format.nodes_file; id = n; rule = 7 } → BreaksAny r shape d → (n < high r format.nodes_file) × (¬ DegreeKeeps r shape.threshold n)
+degree_broken r shape n d e (inl (OwnRecord k)) = absurd (let f = ap (λ (d : Damage). d.rule) e in omega arith)
+degree_broken r shape n d e (inl (WrongMeta id lt k)) = absurd (let f = ap (λ (d : Damage). d.rule) e in omega arith)
+degree_broken r shape n d e (inl (RecordRange file x m lt k)) = absurd (let f = ap (λ (d : Damage). d.rule) e in omega arith)
+degree_broken r shape n d e (inl (FreeList file m k)) = absurd (let f = ap (λ (d : Damage). d.rule) e in omega arith)
+degree_broken r shape n d e (inl (OffFreeList file x m lt dead k)) = absurd (let f = ap (λ (d : Damage). d.rule) e in omega arith)
+degree_broken r shape n d e (inl (NameCount k)) = absurd (let f = ap (λ (d : Damage). d.rule) e in omega arith)
+degree_broken r shape n d e (inl (NodeChain m lt k)) = absurd (let f = ap (λ (d : Damage). d.rule) e in omega arith)
+degree_broken r shape n d e (inl (GroupChains h lt on k)) = absurd (let f = ap (λ (d : Damage). d.rule) e in omega arith)
+degree_broken r shape n d e (inl (RelEnds x lt k)) = absurd (let f = ap (λ (d : Damage). d.rule) e in omega arith)
+degree_broken r shape n d e (inl (OwnerGroups m lt k)) = absurd (let f = ap (λ (d : Damage). d.rule) e in omega arith)
+degree_broken r shape n d e (inl (GroupOwner h k)) = absurd (let f = ap (λ (d : Damage). d.rule) e in omega arith)
+degree_broken r shape n d e (inl (WrongElement file x m lt k)) = absurd (let f = ap (λ (d : Damage). d.rule) e in omega arith)
+degree_broken r shape n d e (inl (WrongHolding p k)) = absurd (let f = ap (λ (d : Damage). d.rule) e in omega arith)
+degree_broken r shape n d e (inl (WrongText p lt k)) = absurd (let f = ap (λ (d : Damage). d.rule) e in omega arith)
+degree_broken r shape n d e (inl (WrongBlock b k)) = absurd (let f = ap (λ (d : Damage). d.rule) e in omega arith)
+degree_broken r shape n d e (inl (WrongDefinition x lt k)) = absurd (let f = ap (λ (d : Damage). d.rule) e in omega arith)
+degree_broken r shape n d e (inl (WrongName x lt k)) = absurd (let f = ap (λ (d : Damage). d.rule) e in omega arith)
+degree_broken r shape n d e (inl (WrongDegree m lt k)) = subst (λ z. (z < high r format.nodes_file) × (¬ DegreeKeeps r shape.threshold z)) (ap (λ (d : Damage). d.id) e) (lt, k)
+degree_broken r shape n d e (inr bad) = absurd (let f = ap (λ (d : Damage). d.rule) e in let k = index_rule r d bad in omega arith)
 
 -- the first rule of the meta record of the relationships
-meta_broken : (r : Records) (shape : Shape) (d : Damage) → d ≡ mark_damage → Breaks r shape d → ¬ IsMetaKept r shape format.relationships_file
-meta_broken r shape d e (OwnRecord k) = absurd (let f = ap (λ (d : Damage). d.id) e in omega arith)
-meta_broken r shape d e (WrongMeta id lt k) = subst (λ z. ¬ IsMetaKept r shape z) (ap (λ (d : Damage). d.id) e) k
-meta_broken r shape d e (RecordRange file x m lt k) = absurd (true≢false (sym m ∙ ap is_meta_file (ap (λ (d : Damage). d.file) e)))
-meta_broken r shape d e (FreeList file m k) = absurd (let f = ap (λ (d : Damage). d.rule) e in omega arith)
-meta_broken r shape d e (OffFreeList file x m lt dead k) = absurd (let f = ap (λ (d : Damage). d.rule) e in omega arith)
-meta_broken r shape d e (NameCount k) = absurd (let f = ap (λ (d : Damage). d.rule) e in omega arith)
-meta_broken r shape d e (NodeChain n lt k) = absurd (let f = ap (λ (d : Damage). d.rule) e in omega arith)
-meta_broken r shape d e (GroupChains h lt k) = absurd (let f = ap (λ (d : Damage). d.rule) e in omega arith)
-meta_broken r shape d e (RelEnds x lt k) = absurd (let f = ap (λ (d : Damage). d.rule) e in omega arith)
-meta_broken r shape d e (OwnerGroups n lt k) = absurd (let f = ap (λ (d : Damage). d.rule) e in omega arith)
-meta_broken r shape d e (GroupOwner h k) = absurd (let f = ap (λ (d : Damage). d.rule) e in omega arith)
-meta_broken r shape d e (WrongElement file x m lt k) = absurd (let f = ap (λ (d : Damage). d.rule) e in omega arith)
-meta_broken r shape d e (WrongHolding p k) = absurd (let f = ap (λ (d : Damage). d.rule) e in omega arith)
-meta_broken r shape d e (WrongText p lt k) = absurd (let f = ap (λ (d : Damage). d.rule) e in omega arith)
-meta_broken r shape d e (WrongBlock b k) = absurd (let f = ap (λ (d : Damage). d.rule) e in omega arith)
-meta_broken r shape d e (WrongDefinition x lt k) = absurd (let f = ap (λ (d : Damage). d.rule) e in omega arith)
-meta_broken r shape d e (WrongName x lt k) = absurd (let f = ap (λ (d : Damage). d.rule) e in omega arith)
-meta_broken r shape d e (WrongDegree n lt k) = absurd (let f = ap (λ (d : Damage). d.rule) e in omega arith)
-meta_broken r shape d e (WrongIndex x bad) = absurd (let f = ap (λ (d : Damage). d.rule) e in let k = index_rule r x bad in omega arith)
+meta_broken : (r : Records) (shape : Shape) (d : Damage) → d ≡ mark_damage → BreaksAny r shape d → ¬ IsMetaKept r shape format.relationships_file
+meta_broken r shape d e (inl (OwnRecord k)) = absurd (let f = ap (λ (d : Damage). d.id) e in omega arith)
+meta_broken r shape d e (inl (WrongMeta id lt k)) = subst (λ z. ¬ IsMetaKept r shape z) (ap (λ (d : Damage). d.id) e) k
+meta_broken r shape d e (inl (RecordRange file x m lt k)) = absurd (true≢false (sym m ∙ ap is_meta_file (ap (λ (d : Damage). d.file) e)))
+meta_broken r shape d e (inl (FreeList file m k)) = absurd (let f = ap (λ (d : Damage). d.rule) e in omega arith)
+meta_broken r shape d e (inl (OffFreeList file x m lt dead k)) = absurd (let f = ap (λ (d : Damage). d.rule) e in omega arith)
+meta_broken r shape d e (inl (NameCount k)) = absurd (let f = ap (λ (d : Damage). d.rule) e in omega arith)
+meta_broken r shape d e (inl (NodeChain n lt k)) = absurd (let f = ap (λ (d : Damage). d.rule) e in omega arith)
+meta_broken r shape d e (inl (GroupChains h lt on k)) = absurd (let f = ap (λ (d : Damage). d.rule) e in omega arith)
+meta_broken r shape d e (inl (RelEnds x lt k)) = absurd (let f = ap (λ (d : Damage). d.rule) e in omega arith)
+meta_broken r shape d e (inl (OwnerGroups n lt k)) = absurd (let f = ap (λ (d : Damage). d.rule) e in omega arith)
+meta_broken r shape d e (inl (GroupOwner h k)) = absurd (let f = ap (λ (d : Damage). d.rule) e in omega arith)
+meta_broken r shape d e (inl (WrongElement file x m lt k)) = absurd (let f = ap (λ (d : Damage). d.rule) e in omega arith)
+meta_broken r shape d e (inl (WrongHolding p k)) = absurd (let f = ap (λ (d : Damage). d.rule) e in omega arith)
+meta_broken r shape d e (inl (WrongText p lt k)) = absurd (let f = ap (λ (d : Damage). d.rule) e in omega arith)
+meta_broken r shape d e (inl (WrongBlock b k)) = absurd (let f = ap (λ (d : Damage). d.rule) e in omega arith)
+meta_broken r shape d e (inl (WrongDefinition x lt k)) = absurd (let f = ap (λ (d : Damage). d.rule) e in omega arith)
+meta_broken r shape d e (inl (WrongName x lt k)) = absurd (let f = ap (λ (d : Damage). d.rule) e in omega arith)
+meta_broken r shape d e (inl (WrongDegree n lt k)) = absurd (let f = ap (λ (d : Damage). d.rule) e in omega arith)
+meta_broken r shape d e (inr bad) = absurd (let f = ap (λ (d : Damage). d.rule) e in let k = index_rule r d bad in omega arith)
 
 -- ---- what was so before
 
@@ -297,35 +299,43 @@ module _ (s t : State) (id : ℕ) (left : LeavesEdge s t id) where
     lacks = λ g i e. lacks.lacks g i (left.groups g 4 format.group_type (omega arith) (omega arith) ∙ e);
   }
 
+  -- a group on a group chain was on it
+  owned_as : (n g : ℕ) → IsOwnedBy t.records n g → IsOwnedBy s.records n g
+  owned_as n g own = record { used = used_of_live s.records format.groups_file g (sym (left.live g) ∙ live_true (kind_at t.records format.groups_file g) own.used); owner = sym (left.groups g 4 format.group_owner (omega arith) (omega arith)) ∙ own.owner }
+
+  on_as : (n g : ℕ) → IsOnChain t.records n g → IsOnChain s.records n g
+  on_as n g (First _ dense first own) = First g (dense_as n dense) (ap (λ (r : Rec). field 4 r format.node_first_link) (sym (node_same s t id left n)) ∙ first) (owned_as n g own)
+  on_as n g (Next h _ on next own) = Next h g (on_as n h on) (sym (left.groups h 4 format.group_next (omega arith) (omega arith)) ∙ next) (owned_as n g own)
+
   -- ---- what broke the rule
 
   counted_broke : (n g : ℕ) (d : Damage) → IsCountDamage n g d → IsBroken t d → IsBroken s d
   counted_broke n g d names broken = ⊎_elim
       (λ e. let k = group_broken t.records t.shape g d e broken in
-      subst (IsBroken s) (sym e) (GroupChains g (subst (λ m. g < m) group_mark_as k.0) (λ keeps. k.1 (group_keeps g keeps))))
+      subst (IsBroken s) (sym e) (inl (GroupChains g (subst (λ m. g < m) group_mark_as k.0) (k.1.0, on_as k.1.0 g k.1.1) (λ keeps. k.2 (group_keeps g keeps)))))
       (λ j. ⊎_elim
       (λ e. let k = degree_broken t.records t.shape n d e broken in
-      subst (IsBroken s) (sym e) (WrongDegree n (subst (λ m. n < m) (marks format.nodes_file (λ e. omega arith) (λ e. omega arith)) k.0) (λ keeps. k.1 (degree_keeps n keeps))))
+      subst (IsBroken s) (sym e) (inl (WrongDegree n (subst (λ m. n < m) (marks format.nodes_file (λ e. omega arith) (λ e. omega arith)) k.0) (λ keeps. k.1 (degree_keeps n keeps)))))
       (λ e. let k = meta_broken t.records t.shape d e broken in
-      subst (IsBroken s) (sym e) (WrongMeta format.relationships_file (omega arith) (λ kept. k
+      subst (IsBroken s) (sym e) (inl (WrongMeta format.relationships_file (omega arith) (λ kept. k
       (subst (λ (h : Shape). IsMetaKept t.records h format.relationships_file) (sym left.shape)
-      (subst (λ (r : Rec). IsMetaRight format.newest_version s.shape format.relationships_file r) (sym (meta s t id left format.relationships_file (λ e. omega arith) (λ e. omega arith))) kept))))) j) names
+      (subst (λ (r : Rec). IsMetaRight format.newest_version s.shape format.relationships_file r) (sym (meta s t id left format.relationships_file (λ e. omega arith) (λ e. omega arith))) kept)))))) j) names
 
   search_broke : (n : ℕ) (d : Damage) → IsBroken t d → IsSearchDamage t n d → IsBroken s d
-  search_broke n d broken (BadNode _ bad) = node_breaks s n d (node_as n d bad)
-  search_broke n d broken (BadGroups _ dense bad) = walk_breaks s n (dense_as n dense) d (walk_as n d bad)
+  search_broke n d broken (BadNode _ bad) = inl (node_breaks s n d (node_as n d bad))
+  search_broke n d broken (BadGroups _ dense bad) = inl (walk_breaks s n (dense_as n dense) d (walk_as n d bad))
   search_broke n d broken (Uncounted _ g names) = counted_broke n g d names broken
 
   -- of an edge that was there
   pub sought_broke : (n label : ℕ) (row : views.RelRow) (d : Damage) → rel_at s.records id ≡ Some row → IsEnd n row → row.label ≡ label → IsSoughtDamage t id n label d → IsBroken s d
   sought_broke n label row d live end typed (inl told) = search_broke n d told.0 told.1
-  sought_broke n label row d live end typed (inr told) = subst (IsBroken s) (sym told.0) (⊎_elim
+  sought_broke n label row d live end typed (inr told) = subst (IsBroken s) (sym told.0) (inl (⊎_elim
       (λ (free : kind_at t.records format.nodes_file n ≡ format.free_kind).
       RelEnds id (kind_below (high s.records format.relationships_file) (rec_at s.records format.relationships_file id) id (some_row (kind_at s.records format.relationships_file id) (rel_in (rec_at s.records format.relationships_file id) id) row live).0)
       (λ keeps. ⊎_elim
       (λ (e : row.from ≡ n). (keeps.from row live).node (ap (kind_at s.records format.nodes_file) e ∙ sym (kind_same s t id left n) ∙ free))
       (λ (e : row.to ≡ n). (keeps.to row live).node (ap (kind_at s.records format.nodes_file) e ∙ sym (kind_same s t id left n) ∙ free)) end))
-      (λ (lacks : LacksGroupOn t.records n label). no_group_breaks s n id label row live end typed (lacks_as n label lacks)) told.1)
+      (λ (lacks : LacksGroupOn t.records n label). no_group_breaks s n id label row live end typed (lacks_as n label lacks)) told.1))
 
 -- a record that is blamed where an edge that was found is taken out of its chains
 pub taken_told : (s t : State) (id : ℕ) (rel : RelRow) → row_at s.records id ≡ Some rel → (damage : Damage) → IsTakenDamage s t id rel damage → (IsBroken s damage ⊎ SharesBlock s.records damage) ⊎ IsUndropped t damage

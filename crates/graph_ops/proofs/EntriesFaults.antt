@@ -5,9 +5,8 @@ use Rattle.plain_graph.specs.declared.value.Value.{Value}
 use Rattle.id_freelist.specs.TakeFault as frees
 use Rattle.id_freelist.specs.declared.take_fault.TakeFault.{TakeFault}
 use Rattle.id_freelist.specs.declared.take_fault.TakeFault.TheVariants as takes
-use Rattle.prop_index.specs.Blaming.{NamesIndexes, TakeNamesIndexes}
+use Rattle.prop_index.specs.Blaming.{BlamesBroken, NamesIndexes, TakeBlamesBroken, TakeNamesIndexes}
 use Rattle.prop_index.specs.Entering.{IsIndexFull, IsNotFull}
-use Rattle.prop_store.specs.Fault as props
 use Rattle.rec_bytes.specs.declared.fault.Fault.{Fault}
 use Rattle.rec_bytes.specs.declared.fault.Fault.TheVariants as faults
 use Rattle.rec_bytes.specs.declared.row_fault.RowFault.{RowFault}
@@ -37,13 +36,13 @@ take_outside T s takes.Disk right full room = tt
 take_outside T s (takes.Damaged damage) right full room = absurd right
 
 -- the record that is blamed is one of the indexes, and breaks the rule
-pub take_blames : (t : State) (fault : TakeFault) → frees.BlamesBroken t.records t.shape fault → TakeNamesIndexes fault → BlamesEntry t (of_take fault)
+pub take_blames : (t : State) (fault : TakeFault) → TakeBlamesBroken t.records t.shape fault → TakeNamesIndexes fault → BlamesEntry t (of_take fault)
 take_blames t (takes.Full file live) broken names = tt
 take_blames t takes.Memory broken names = tt
 take_blames t takes.Disk broken names = tt
 take_blames t (takes.Damaged damage) broken names = (names, broken)
 
-pub fault_blames : (t : State) (fault : Fault) → props.BlamesBroken t.records t.shape fault → NamesIndexes fault → BlamesEntry t (of_fault fault)
+pub fault_blames : (t : State) (fault : Fault) → BlamesBroken t.records t.shape fault → NamesIndexes fault → BlamesEntry t (of_fault fault)
 fault_blames t faults.Memory broken names = tt
 fault_blames t faults.Disk broken names = tt
 fault_blames t (faults.Damaged damage) broken names = (names, broken)

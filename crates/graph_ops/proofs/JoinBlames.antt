@@ -23,6 +23,7 @@ use Rattle.group_store.proofs.LeftBeside.{beside_kinds}
 use Rattle.graph_ops.specs.ChangeFault.{of_fault}
 use Rattle.graph_ops.specs.Damage.{BlamesBroken, IfBlames, IsBroken, KeepsBeyond}
 use Rattle.graph_ops.specs.EdgeAdding.{BlamesHead, IsLinkingDamage, IsUsedNode}
+use Rattle.graph_ops.specs.EdgeAdding.IsJoinDamage.{NotTaken}
 use Rattle.graph_ops.specs.Owners.{IsAbsent}
 use Rattle.graph_ops.specs.declared.change_fault.ChangeFault.{ChangeFault}
 use Rattle.graph_ops.specs.declared.change_fault.ChangeFault.TheVariants.{NoNode, NoEdge, HasRelationships, IndexThere, TooManyIndexes, IndexTooLarge, Full, NamesFull, PropsFull, Memory, Disk, Damaged}
@@ -106,4 +107,4 @@ push_blamed s t end (faults.Damaged damage) told same = subst (λ (z : State). I
 -- ---- a record that breaks a rule
 
 pub broken_links : (t : State) (from to : ℕ) (damage : Damage) → IsBroken t damage → IsLinkingDamage t from to damage
-broken_links t from to damage broken = inl (inl (inl broken))
+broken_links t from to damage broken = inr (NotTaken damage broken)

@@ -6,7 +6,7 @@ use Rattle.rec_bytes.specs.Format as format
 use Rattle.rec_bytes.specs.RecordFiles.{meta_key_of}
 use Rattle.rec_bytes.specs.Space.{State}
 use Rattle.rec_bytes.specs.declared.damage.Damage.{Damage}
-use Rattle.store_rules.specs.Breaking.{Breaks}
+use Rattle.store_rules.specs.Breaking.{BreaksAny}
 use Rattle.store_rules.specs.Views.{key_in}
 use Rattle.graph_ops.specs.declared.change_fault.ChangeFault.{ChangeFault}
 use Rattle.graph_ops.specs.declared.change_fault.ChangeFault.TheVariants.{NoNode, NoEdge}
@@ -32,9 +32,9 @@ IfBlames told Memory = Unit {0}
 IfBlames told Disk = Unit {0}
 IfBlames told (Damaged damage) = told damage
 
--- the record breaks the rule
+-- the record breaks the rule, one of all eight
 abbrev pub IsBroken : State → Damage → Type 0
-IsBroken s damage = Breaks s.records s.shape damage
+IsBroken s damage = BreaksAny s.records s.shape damage
 
 -- a record that is blamed breaks the rule
 abbrev pub BlamesBroken : State → ChangeFault → Type 0
@@ -89,7 +89,7 @@ pub record AddsElement (element : Key) (s t : State) : Type 0 where
 pub record BreaksAdding (element : Key) (s : State) (damage : Damage) : Type 0 where
   pub mid : State
   pub adds : AddsElement element s mid
-  pub breaks : Breaks mid.records s.shape damage
+  pub breaks : BreaksAny mid.records s.shape damage
 
 -- A record that is blamed where an element is added breaks the rule in the space as it was, or when
 -- it was found. Or an entry is changed.

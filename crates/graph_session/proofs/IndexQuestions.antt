@@ -16,11 +16,10 @@ use Rattle.rec_bytes.specs.declared.space.Reads.{Ghosts as SpaceGhosts}
 use Rattle.store_rules.specs.Graph.{graph_of}
 use Rattle.prop_index.specs.declared.lookup_fault.LookupFault.{LookupFault}
 use Rattle.prop_index.specs.declared.lookup_fault.LookupFault.TheVariants as faults
-use Rattle.traversal_run.specs.Reading.{IsRead}
+use Rattle.traversal_run.specs.Reading.{IsNamedStore, IsRead}
 use Rattle.graph_session.specs.Answer.{Gives}
 use Rattle.graph_session.specs.Answering.{reply_of}
 use Rattle.graph_session.specs.IndexResults.{HasIndex, IsIndexRefusal, answer_for, vertex_line}
-use Rattle.graph_session.specs.IndexedStores.{IsIndexedStore}
 use Rattle.graph_session.specs.MayStep.{IsRefusable}
 use Rattle.graph_session.specs.Questions.{GivesReading}
 use Rattle.graph_session.specs.State.{IsSpared}
@@ -50,8 +49,8 @@ module _ (label key : List ℕ) (value : Value) where
 
   module _ {R K : Type 0} {space : SpaceGhosts R} {sink : SinkGhosts K} {names : List (List ℕ)} {a b : R} (read : IsRead space a b) {mark : List ℕ} {before after : K} {turn : Turn} where
     -- the nodes were told
-    pub gives-found : (nodes : List ℕ) → (space.tells → IsIndexedStore (space.state a).records (space.state a).shape names → HasIndex (graph_of (space.state a).records) label key)
-        → (space.tells → IsIndexedStore (space.state a).records (space.state a).shape names → map items.Vertex nodes ≡ meaning (graph_of (space.state a).records) (scan label key value))
+    pub gives-found : (nodes : List ℕ) → (space.tells → IsNamedStore (space.state a).records (space.state a).shape names → HasIndex (graph_of (space.state a).records) label key)
+        → (space.tells → IsNamedStore (space.state a).records (space.state a).shape names → map items.Vertex nodes ≡ meaning (graph_of (space.state a).records) (scan label key value))
         → Gives sink (marked_text mark (Told (map vertex_line nodes) end_text)) before after turn → GivesReading space sink names (commands.Find label key value) mark a b before after turn
     gives-found nodes there is gives = record {
       reply = Told (map vertex_line nodes) end_text;
@@ -69,7 +68,7 @@ module _ (label key : List ℕ) (value : Value) where
 
     -- they are not known
     pub gives-unfound : (fault : LookupFault) → (fault ≡ faults.Disk → Rose (space.faults a) (space.faults b))
-        → (space.tells → IsIndexedStore (space.state a).records (space.state a).shape names → IsIndexRefusal (graph_of (space.state a).records) label key fault)
+        → (space.tells → IsNamedStore (space.state a).records (space.state a).shape names → IsIndexRefusal (graph_of (space.state a).records) label key fault)
         → Gives sink (marked_text mark (reply_of (answer_for fault))) before after turn → GivesReading space sink names (commands.Find label key value) mark a b before after turn
     gives-unfound faults.NoIndex rose refused gives = record {
       reply = Refused refusals.NoIndex;

@@ -48,7 +48,7 @@ module _ {R K : Type 0} {space : SpaceGhosts R} {sink : SinkGhosts K} (names : L
     reply = Told [] (broken_text damage.file damage.id damage.rule);
     form = (one_line (broken_text damage.file damage.id damage.rule), inr (damage.file, damage.id, damage.rule, refl), refl, refl);
     gives = gives;
-    means = λ told store. absurd (let same = breaks told (record { store = store.named.store; indexes = store.indexes }) in cc);
+    means = λ told store. absurd (let same = breaks told (record { store = store.store; indexes = store.indexes }) in cc);
     verdict = λ told is. (refl, inr (damage, refl, least told));
     told = λ blames. absurd (blames refl);
     read = read;
@@ -88,7 +88,7 @@ gives-counts names read counts are gives = record {
   reply = Told [] (counts_text counts);
   form = (one_line (counts_text counts), (counts, refl), refl, refl);
   gives = gives;
-  means = λ told store. ((λ limit. idle_reasons), (one_line (counts_text counts), ap (λ (c : Counts). one_line (counts_text c)) (are store.named.store), refl, refl, refl));
+  means = λ told store. ((λ limit. idle_reasons), (one_line (counts_text counts), ap (λ (c : Counts). one_line (counts_text c)) (are store.store), refl, refl, refl));
   verdict = λ told is. cc;
   told = λ blames. absurd (blames refl);
   read = read;

@@ -20,7 +20,7 @@ use Rattle.graph_session.specs.Console.{ConsoleView, IsAt, SessionView}
 use Rattle.graph_session.specs.DiskUse.{UsesDisk}
 use Rattle.graph_session.specs.Effects.{Stays}
 use Rattle.graph_session.specs.Exchange.{CarriesKind, CarriesOut, LeavesKind, LeavesOpen, told_fault}
-use Rattle.graph_session.specs.IndexedStores.{IsIndexedStore}
+use Rattle.traversal_run.specs.Reading.{IsNamedStore}
 use Rattle.graph_session.specs.MayStep.{IsServed, MayTell}
 use Rattle.graph_session.specs.Questions.{GivesReading, Means, ShowsAll}
 use Rattle.graph_session.specs.Refusals.{IsReached, SpellsOnly}
@@ -117,20 +117,17 @@ module _ {D : Type 0} {g : DiskGhosts D} {old new : SessionView D} {state : Stat
 
 -- the records that a live session sees are those of a store with its indexes and its names
 pub named-working : {D : Type 0} {g : DiskGhosts D} {session : SessionView D} {state : State} → IsAt g session state → session.console.health ≡ healths.Live → g.tells_reads
-    → IsIndexedStore session.console.working session.console.shape session.console.names
+    → IsNamedStore session.console.working session.console.shape session.console.names
 named-working {session = session} at live told =
     let store : IsIndexed session.console.working session.console.shape = rw (sym at.shape) (held at live told).working in
-    record {
-      named = record { store = store.store; more = []; named = names-working at live told ∙ sym (append-nil (names_of session.console.working)) };
-      indexes = store.indexes;
-    }
+    record { store = store.store; indexes = store.indexes; more = []; named = names-working at live told ∙ sym (append-nil (names_of session.console.working)) }
 
 module _ {D : Type 0} {g : DiskGhosts D} {session : SessionView D} {state : State} (at : IsAt g session state) (live : session.console.health ≡ healths.Live) (T : Type 0) (tells : g.tells_reads → T) (here : Records) (shape : Shape)
     (records : here ≡ session.console.working) (shapes : shape ≡ session.console.shape) where
   -- what is said of the graph of the records holds of the graph that the line sees
-  seen-now : (P : Graph → Type 0) → (T → IsIndexedStore here shape session.console.names → P (graph_of here)) → g.tells_reads → P (seen state)
+  seen-now : (P : Graph → Type 0) → (T → IsNamedStore here shape session.console.names → P (graph_of here)) → g.tells_reads → P (seen state)
   seen-now P says told =
-      let store : IsIndexedStore here shape session.console.names = rw (records, shapes) (named-working at live told) in
+      let store : IsNamedStore here shape session.console.names = rw (records, shapes) (named-working at live told) in
       subst P (ap graph_of records ∙ (held at live told).working_graph) (says (tells told) store)
 
 module _ {D : Type 0} {g : DiskGhosts D} {old new : SessionView D} {state : State} (at : IsAt g old state) (live : old.console.health ≡ healths.Live) {line : List ℕ} {command : Command} (only : SpellsOnly line command) (asks : IsQuestion command)

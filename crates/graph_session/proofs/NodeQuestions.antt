@@ -96,7 +96,7 @@ module _ {R K : Type 0} {space : SpaceGhosts R} {sink : SinkGhosts K} {names : L
     reply = Told reading.lines reading.last;
     form = (reading, formed, refl, refl);
     gives = gives;
-    means = λ told store. ((λ limit. unchanging-free command (asks-idle asks) limit (graph_of (space.state a).records) (has told store.named) (asks-no_index command asks.some (graph_of (space.state a).records))), (reading, shows told store.named, none, refl, refl));
+    means = λ told store. ((λ limit. unchanging-free command (asks-idle asks) limit (graph_of (space.state a).records) (has told store) (asks-no_index command asks.some (graph_of (space.state a).records))), (reading, shows told store, none, refl, refl));
     verdict = λ told is. absurd (asks-unchecked asks is);
     told = λ blames. absurd (blames refl);
     read = read;
@@ -112,7 +112,7 @@ module _ {R K : Type 0} {space : SpaceGhosts R} {sink : SinkGhosts K} {names : L
     reply = Refused (refusals.NoNode id);
     form = (asks-refusable asks, asks-lacked command asks.some id);
     gives = gives;
-    means = λ told store limit. unchanging-refused command (asks-idle asks) limit (graph_of (space.state a).records) id (missing told store.named id refl);
+    means = λ told store limit. unchanging-refused command (asks-idle asks) limit (graph_of (space.state a).records) id (missing told store id refl);
     verdict = λ told is. absurd (asks-unchecked asks is);
     told = λ blames. absurd (blames refl);
     read = read;
@@ -142,7 +142,7 @@ module _ {R K : Type 0} {space : SpaceGhosts R} {sink : SinkGhosts K} {names : L
     reply = Faulted [] (DamagedRecord damage.file damage.id);
     form = (asks-unspared asks, asks.reading, asks.formed, asks-unchecked asks, (asks.reading.lines, refl));
     gives = gives;
-    means = λ told store. sound told store.named damage refl;
+    means = λ told store. sound told store damage refl;
     verdict = λ told is. absurd (asks-unchecked asks is);
     told = λ blames. absurd (blames refl);
     read = read;

@@ -22,7 +22,7 @@ use Rattle.snap_store.proofs.LayerLaws.{sees-taken, sees-taker}
 use Rattle.snap_store.proofs.ShapeLaws.{covered-released}
 use Rattle.graph_session.specs.Effects.{Stays}
 use Rattle.graph_session.specs.Exchange.{told_fault}
-use Rattle.graph_session.specs.IndexedStores.{IsIndexedStore}
+use Rattle.traversal_run.specs.Reading.{IsNamedStore}
 use Rattle.graph_session.specs.Known.{as_known}
 use Rattle.graph_session.specs.MayStep.{MayTell}
 use Rattle.graph_session.specs.Questions.{Means}
@@ -195,7 +195,7 @@ module _ {D : Type 0} {g : Ghosts D} (known : Bool) (reader : ℕ) {line : List 
 
   -- a line that reads a snapshot, by its reply
   pub settles-asks : (reply : Reply) → MayTell command reply → (told_fault reply ≢ 0 → Rose (g.faults old.session.disk) (g.faults new.session.disk))
-      → (g.tells_reads → IsIndexedStore (sees old.held.open_ones reader old.session.console.committed) old.session.console.shape old.session.console.names
+      → (g.tells_reads → IsNamedStore (sees old.held.open_ones reader old.session.console.committed) old.session.console.shape old.session.console.names
       → Means (graph_of (sees old.held.open_ones reader old.session.console.committed)) command reply)
       → SettlesShared (ReaderStep reader) (as_known known g) (Whole line) old new state reply
   settles-asks reply form rose means = record {

@@ -16,7 +16,7 @@ use Rattle.store_rules.specs.Indexes.{IsIndexed}
 use Rattle.snap_store.specs.Layers.{is_open, sees}
 use Rattle.graph_session.specs.Console.{BeginWith}
 use Rattle.graph_session.specs.Exchange.{ConsoleStep, told_fault}
-use Rattle.graph_session.specs.IndexedStores.{IsIndexedStore}
+use Rattle.traversal_run.specs.Reading.{IsNamedStore}
 use Rattle.graph_session.specs.MayStep.{MayTell}
 use Rattle.graph_session.specs.Questions.{Means}
 use Rattle.graph_session.specs.Refusals.{IsReached, SpellsOnly}
@@ -98,15 +98,12 @@ module _ {D : Type 0} {g : Ghosts D} {view : SharedView D} {state : SharedState}
   pub own-graph : graph_of own_records ≡ own-snapshot.snapshot.graph
   own-graph = ap graph_of (sym seen-as) ∙ own-snapshot.says.0.graph
 
-  pub own-named : IsIndexedStore own_records view.session.console.shape view.session.console.names
+  pub own-named : IsNamedStore own_records view.session.console.shape view.session.console.names
   own-named =
       let had = at.writer.holds told (is_live at.writer live) in
       let begins = begin-on view.session.console.names state.writer.committed.names own-snapshot.snapshot.graph.names had.brought own-snapshot.says.1 in
       let store = subst (λ (shape : Shape). IsIndexed own_records shape) at.writer.shape (subst (λ (records : Key → Rec). IsIndexed records state.writer.shape) seen-as own-snapshot.says.0.store) in
-      record {
-        named = record { store = store.store; more = begins.0; named = begins.1 ∙ ap (λ (graph : Graph). graph.names ++ begins.0) (sym own-graph) };
-        indexes = store.indexes;
-      }
+      record { store = store.store; indexes = store.indexes; more = begins.0; named = begins.1 ∙ ap (λ (graph : Graph). graph.names ++ begins.0) (sym own-graph) }
 
   -- what a reply means in the graph of the records it means in the snapshot's
   pub means-own : (command : Command) (reply : Reply) → Means (graph_of own_records) command reply → Means own-snapshot.snapshot.graph command reply

@@ -148,7 +148,7 @@ module _ {R K : Type 0} {space : SpaceGhosts R} {sink : SinkGhosts K} {names : L
             gives = subst (λ (text : List ℕ). Gives sink text before then turn) (whole-text mark past first all)
                 (subst (λ (lines : List (List ℕ)). Gives sink (bytes_of mark lines ++ rest_of mark past first all) before then turn) (sym (map-append item_line running.found (item ∷ [])))
                 (lines-stop running.has (item_line item) new then turn adds stops (rest_of mark past first all)));
-            means = λ told store. whole-means graph query past refl first ((to_come graph later).items, sym (ap (λ (s : Stream). s.items) (found_more told store.named)));
+            means = λ told store. whole-means graph query past refl first ((to_come graph later).items, sym (ap (λ (s : Stream). s.items) (found_more told store)));
             verdict = λ told is. cc;
             told = λ blames. absurd (blames (whole-told past first all));
             read = read-on;
@@ -163,7 +163,7 @@ module _ {R K : Type 0} {space : SpaceGhosts R} {sink : SinkGhosts K} {names : L
       form = query-tell query running.found;
       gives = lines-last running.has (text_line end_text) then turn gives;
       means = λ told store.
-          let all = first-found (stream []) (at_start (λ g. to_come g run ≡ stream []) ends told store.named) told store.named in
+          let all = first-found (stream []) (at_start (λ g. to_come g run ≡ stream []) ends told store) told store in
           query-all graph query running.found (sym (ap (λ (s : Stream). s.items) all ∙ append-nil running.found)) (ap (λ (s : Stream). s.past) all);
       verdict = λ told is. cc;
       told = λ blames. absurd (blames refl);
@@ -178,7 +178,7 @@ module _ {R K : Type 0} {space : SpaceGhosts R} {sink : SinkGhosts K} {names : L
       reply = Faulted (map item_line running.found) fault;
       form = query-stop query running.found fault;
       gives = lines-last running.has (fault_line fault) then turn gives;
-      means = λ told store. means told store.named;
+      means = λ told store. means told store;
       verdict = λ told is. cc;
       told = λ blames. Rose-from (space.faults old) (space.faults now) (space.faults next) running.read.later (rose blames);
       read = read-on;

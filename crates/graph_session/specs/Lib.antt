@@ -8,7 +8,6 @@ pub mod Effects
 pub mod Exchange
 pub mod IndexResults
 pub mod Known
-pub mod IndexedStores
 pub mod LineBuffer
 pub mod MayStep
 pub mod Moments

@@ -11,10 +11,9 @@ use Rattle.plain_graph.specs.declared.command.Command.{Command}
 use Rattle.plain_graph.specs.declared.command.Command.TheVariants as commands
 use Rattle.rec_bytes.specs.declared.space.Reads.{Ghosts as SpaceGhosts}
 use Rattle.store_rules.specs.Graph.{graph_of}
-use Rattle.traversal_run.specs.Reading.{IsRead}
+use Rattle.traversal_run.specs.Reading.{IsNamedStore, IsRead}
 use Rattle.graph_session.specs.Answer.{Gives}
 use Rattle.graph_session.specs.Exchange.{ShowsPast, ShowsSome, told_fault}
-use Rattle.graph_session.specs.IndexedStores.{IsIndexedStore}
 use Rattle.graph_session.specs.MayStep.{MayTell}
 use Rattle.graph_session.specs.State.{IsSpared}
 use Rattle.graph_session.specs.Verdicts.{TellsVerdict}
@@ -56,7 +55,7 @@ pub record GivesReading {R K : Type 0} (space : SpaceGhosts R) (sink : SinkGhost
   pub form : MayTell command reply
   pub gives : Gives sink (marked_text mark reply) before after turn
   pub means : space.tells
-      → IsIndexedStore (space.state old).records (space.state old).shape names
+      → IsNamedStore (space.state old).records (space.state old).shape names
       → Means (graph_of (space.state old).records) command reply
   pub verdict : space.tells → command ≡ commands.Check
       → TellsVerdict (space.state old).records (space.state old).shape reply

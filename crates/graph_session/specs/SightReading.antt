@@ -10,7 +10,7 @@ use Rattle.store_rules.specs.Graph.{graph_of}
 use Rattle.store_rules.specs.Views.{Records}
 use Rattle.graph_session.specs.Answer.{Gives}
 use Rattle.graph_session.specs.Exchange.{told_fault}
-use Rattle.graph_session.specs.IndexedStores.{IsIndexedStore}
+use Rattle.traversal_run.specs.Reading.{IsNamedStore}
 use Rattle.graph_session.specs.MayStep.{MayTell}
 use Rattle.graph_session.specs.Questions.{Means}
 use Rattle.graph_session.specs.Verdicts.{TellsVerdict}
@@ -34,7 +34,7 @@ pub record GivesSight {K : Type 0} (tells : Type 0) (sink : SinkGhosts K) (seen 
   pub reply : Reply
   pub form : MayTell command reply
   pub gives : Gives sink (marked_text mark reply) before after turn
-  pub means : tells → IsIndexedStore seen shape names → Means (graph_of seen) command reply
+  pub means : tells → IsNamedStore seen shape names → Means (graph_of seen) command reply
   pub verdict : tells → command ≡ commands.Check → TellsVerdict seen shape reply
   pub told : told_fault reply ≢ 0 → Rose faults.was faults.now
   pub later : faults.was ≤ faults.now

@@ -1,5 +1,5 @@
 -- The head of a chain that an end of a relationship stands in, with counts where it is a group's.
-use Rattle.std.proofs.Common.{◌≡◌, ℕ, Some, List, sym, ap, ◌∙◌, subst, arith}
+use Rattle.std.proofs.Common.{◌≡◌, ℕ, Some, List, refl, sym, ap, ◌∙◌, subst, arith}
 use Rattle.std.specs.Prelude.{IfSome}
 use Rattle.rec_bytes.specs.declared.fault.Fault.{Fault}
 use Rattle.rec_bytes.specs.declared.fault.Fault.TheVariants.{Memory, Disk, Damaged}
@@ -46,7 +46,7 @@ module _ (s z y : State) (same : SameButReads s z) (then : SameButReads z y) (no
   pub found_at : IsFound z.records node label (Some group) → IsGroupAt y node group
   found_at found =
       let found_y = subst (λ (r : Records). IsFound r node label (Some group)) (sym (same_records z y then)) found in
-      record { dense = found_y.0; member = found_y.1.member; is = found_y.1.is }
+      record { dense = found_y.0; member = found_y.1.member; on = found_y.1.on refl found_y.0; is = found_y.1.is }
 
   -- it can be counted
   pub found_raise : (most : ℕ) (empty : List ℕ) → KeepsRules s.records s.shape most empty → IsFound z.records node label (Some group) → CanRaise y node group most empty

@@ -6,10 +6,12 @@ use Rattle.rec_bytes.specs.declared.shape.Shape.{Shape}
 use Rattle.rec_bytes.specs.Format as format
 use Rattle.rec_bytes.specs.RecordFiles.{room_of}
 use Rattle.rec_bytes.specs.Space.{SameButReads, State, meta_of}
+use Rattle.store_rules.specs.Breaking.{IsOnChain}
 use Rattle.store_rules.specs.Ends.{IsEndHead, Regroups}
 use Rattle.store_rules.specs.Rules.{AreExact, Head, IsOn, KeepsRules, Owns, node_head}
-use Rattle.store_rules.specs.Views.{GroupRow, Records, RelRow, group_at, group_in, high, kind_at, rec_at, rel_at}
+use Rattle.store_rules.specs.Views.{GroupRow, Records, RelRow, first_link, group_at, group_in, high, kind_at, rec_at, rel_at}
 use Rattle.store_rules.specs.Writes.{WritesBeside}
+use Rattle.store_rules.proofs.ChainLaws.{walk_of_chain}
 use Rattle.store_rules.proofs.NumberLaws.{eq_true}
 use Rattle.store_rules.proofs.ViewLaws.{some_row}
 use Rattle.store_rules.proofs.WriteLaws.{beside_more, beside_then, none_beside}
@@ -26,7 +28,7 @@ use Rattle.group_store.specs.Walking.{group_row_at}
 use Rattle.group_store.proofs.ChainHeads.{at_group, at_node, sparse_unless}
 use Rattle.group_store.proofs.CountedRels.{all_exact, exact_all}
 use Rattle.group_store.proofs.GroupCounts.{few_groups}
-use Rattle.group_store.proofs.GroupRules.{group_of_row}
+use Rattle.group_store.proofs.GroupRules.{IsGroupChain-HasGroups, group_of_row, list_on}
 use Rattle.group_store.proofs.GroupWrites.{opened_more, opened_then}
 use Rattle.group_store.proofs.Leaves.{group_kinds, leaves_both, leaves_read}
 use Rattle.group_store.proofs.Regrouping.{regroups_both, regroups_read}
@@ -97,9 +99,16 @@ module _ (s m : State) (node label : ℕ) (own : Row) (side : Side) (row : RelRo
   dense_now : kind_at m.records format.nodes_file node ≡ format.dense
   dense_now = well.grouped.owned own.id (record { id = own.id; label = label; owner = node }) opened.group
 
+  -- it is on the group chain
+  on_chain : IsOnChain m.records node own.id
+  on_chain =
+      let has = well.grouped.each node dense_now in
+      let groups = IsGroupChain-HasGroups m.records m.shape node well.ranges has in
+      list_on m.records node has.members dense_now (record { walk = walk_of_chain _ _ format.nil (first_link m.records node) has.members groups.chain; only = groups.only }) own.id (groups.all own.id member)
+
   -- so it can be counted
   pub can_raise : own ≡ group_row_at m.records own.id → CanRaise m node own s.shape.threshold (own.id ∷ empty)
-  can_raise is = record { keeps = well; group = record { dense = dense_now; member = member; is = is } }
+  can_raise is = record { keeps = well; group = record { dense = dense_now; member = member; on = on_chain; is = is } }
 
   pub opens_group : (t : State) → HasRaised m t node own.id s.shape.threshold (own.id ∷ empty) → OpensChain s t (group_head own.id side) node row empty
   opens_group t raised = record {

@@ -60,7 +60,7 @@ length_names s node g first members (Damaged damage) told = by damage told
     by damage (HighMark above) = inr (inr refl)
 
 group_reads : (s : State) (r node : ℕ) (row : GroupRow) → IsGroupAt s node row → IsGroupAt (record s { reads = r }) node row
-group_reads s r node row at = record { dense = at.dense; member = at.member; is = at.is }
+group_reads s r node row at = record { dense = at.dense; member = at.member; on = at.on; is = at.is }
 
 pub group_read : (s z : State) (node : ℕ) (row : GroupRow) → SameButReads s z → IsGroupAt s node row → IsGroupAt z node row
 group_read s z node row same at = subst (λ (q : State). IsGroupAt q node row) (sym same) (group_reads s z.reads node row at)

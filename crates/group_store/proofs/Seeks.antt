@@ -6,6 +6,7 @@ use Rattle.rec_bytes.specs.declared.record.Rec.{Rec}
 use Rattle.rec_bytes.specs.Format as format
 use Rattle.rec_bytes.specs.Record.{field}
 use Rattle.rec_bytes.specs.Space.{State}
+use Rattle.store_rules.specs.Breaking.{IsOnChain}
 use Rattle.store_rules.specs.Chains.{In, IsWalk}
 use Rattle.store_rules.specs.Views.{Records, first_link, high, rec_at}
 use Rattle.store_rules.proofs.ChainLaws.{walk_of_chain}
@@ -60,11 +61,11 @@ passed_fewer records node first at label left ms xs there met lacks list rest =
 pub type_then : (s now : State) (n at label : ℕ) (rec : Rec) (number : ℕ) → rec ≡ rec_at s.records format.groups_file at → number ≡ field 4 rec format.group_type → number ≡ type_of s.records at
 type_then s now n at label rec number got is = is ∙ ap (λ r. field 4 r format.group_type) got
 
-pub group_found : (records : Records) (node label at : ℕ) (rec : Rec) (row : GroupRow) → rec ≡ rec_at records format.groups_file at → row ≡ row_of rec at
-    → IsGroupOf records node at → type_of records at ≡ label → IsGroupFound records node label row
-group_found records node label at rec row got is member typed =
+pub group_found : (records : Records) (node first label at : ℕ) (rec : Rec) (row : GroupRow) → rec ≡ rec_at records format.groups_file at → row ≡ row_of rec at
+    → IsGroupOf records node at → type_of records at ≡ label → (first ≡ first_link records node → IsDense records node → IsOnChain records node at) → IsGroupFound records node first label row
+group_found records node first label at rec row got is member typed on =
     let whole : row ≡ row_of (rec_at records format.groups_file at) at = is ∙ ap (λ r. row_of r at) got in
-    subst (IsGroupFound records node label) (sym whole) (record { is = refl; member = member; typed = typed })
+    subst (IsGroupFound records node first label) (sym whole) (record { is = refl; member = member; typed = typed; on = on })
 
 -- ---- the node
 

@@ -9,7 +9,7 @@ use Rattle.rec_bytes.specs.Format.{most_ids, nil}
 use Rattle.rec_bytes.specs.Space.{State}
 use Rattle.store_rules.specs.Chains.{IsWalk}
 use Rattle.store_rules.specs.Rows.{ids, option_list}
-use Rattle.store_rules.specs.Rules.{IsInGroup, KeepsRules, Owns, StandsAt, count_of, degree_of, first_of, passes, stands_in}
+use Rattle.store_rules.specs.Rules.{GroupHead, IsInGroup, KeepsRules, Owns, StandsAt, count_of, degree_of, first_of, passes, stands_in}
 use Rattle.store_rules.specs.Views as views
 use Rattle.store_rules.specs.Views.{Records, RelRow, group_at, high, kind_at, rec_at, rel_at, rel_in}
 use Rattle.store_rules.proofs.ChainLaws.{walk_of_chain}
@@ -99,8 +99,11 @@ module _ (s : Records) (g label node : ℕ) (is : group_at s g ≡ Some (row_as 
       let k = to_side g label node z p.0 p.2 in
       record { row = p.0; live = p.1; on = inr (refl, record { row = row_as g label node; group = is; label = k.0; side = k.1 }) }
 
+  abbrev pub owns_group : (z : Side) → kind_at s format.nodes_file node ≡ format.dense → GroupHead (kind_at s format.nodes_file) (group_at s) (group_head g z) node
+  owns_group z dense = record { dense = dense; row = row_as g label node; group = is; owner = refl; key = refl; field = place z }
+
   pub owns : (z : Side) → kind_at s format.nodes_file node ≡ format.dense → Owns (kind_at s format.nodes_file) (group_at s) (group_head g z) node
-  owns z dense = inr (record { dense = dense; row = row_as g label node; group = is; owner = refl; key = refl; field = place z })
+  owns z dense = inr (owns_group z dense)
 
   module _ (shape : Shape) {most : ℕ} {empty : List ℕ} (well : KeepsRules s shape most empty) (dense : kind_at s format.nodes_file node ≡ format.dense) (z : Side) where
     -- the chain of a side

@@ -7,6 +7,7 @@ use Rattle.rec_bytes.specs.declared.record.Rec.{Rec}
 use Rattle.rec_bytes.specs.Format as format
 use Rattle.rec_bytes.specs.Record.{with_field}
 use Rattle.rec_bytes.specs.Space.{State, after_get, after_put}
+use Rattle.store_rules.specs.Breaking.{IsOnChain}
 use Rattle.store_rules.specs.Ends.{Regroups}
 use Rattle.store_rules.specs.Rules.{KeepsRules}
 use Rattle.store_rules.specs.Views.{group_at, kind_at}
@@ -56,10 +57,11 @@ abbrev pub raised_state : State → ℕ → Counts → State
 raised_state s g counts =
     after_put (after_get s) (group_key g) (raised (s.records (group_key g)) counts)
 
--- the row is that of a group of the dense node
+-- the row is that of a group of the dense node, on its group chain
 pub record IsGroupAt (s : State) (node : ℕ) (row : GroupRow) : Type 0 where
   pub dense : IsDense s.records node
   pub member : IsGroupOf s.records node row.id
+  pub on : IsOnChain s.records node row.id
   pub is : row ≡ group_row_at s.records row.id
 
 -- So it is in a store that keeps the rules, but that these groups may be empty.

@@ -1,13 +1,11 @@
 -- One index: what its check found makes it right, or names a record that breaks the rule.
-use Rattle.std.proofs.Common.{◌≡◌, ℕ, true, false, List, map, sym, ap, ◌∙◌, subst, Option, None, Some, refl}
+use Rattle.std.proofs.Common.{◌≡◌, ℕ, true, false, List, map, inr, sym, ap, ◌∙◌, subst, Option, None, Some, refl}
 use Rattle.std.proofs.lemmas.Bool.{true≢false}
 use Rattle.rec_bytes.specs.declared.damage.Damage.{Damage}
 use Rattle.rec_bytes.specs.declared.shape.Shape.{Shape}
 use Rattle.rec_bytes.specs.Format as format
 use Rattle.record_lists.specs.Deciding.{DecidesRule}
-use Rattle.record_lists.proofs.DecidingLaws.{breaks_by as breaks_rule}
 use Rattle.store_rules.specs.Breaking.{damage}
-use Rattle.store_rules.specs.Breaking.Breaks.{WrongIndex}
 use Rattle.store_rules.specs.Chains.{In}
 use Rattle.store_rules.specs.IndexBreaking.{IndexBreaks, IsInBucket}
 use Rattle.store_rules.specs.IndexBreaking.IndexBreaks.{WrongDefinition, WrongEntry, WrongNode}
@@ -84,7 +82,7 @@ module _ (records : Records) (d : Definition) (given : IsGiven records d) where
 -- the decision is one of a rule of the store
 pub decides : (records : Records) (shape : Shape) (found : Option Damage) → DecidesIndexRule records found → DecidesRule records shape 8 found
 decides records shape None h = h
-decides records shape (Some d) h = breaks_rule records shape 8 d d refl h.rule_is (rw h.rule_is refl) (WrongIndex d h.breaks)
+decides records shape (Some d) h = record { rule_is = h.rule_is; breaks = inr h.breaks }
 
 -- where the rule is kept, no record is named
 pub never_broken : (records : Records) (found : Option Damage) → DecidesIndexRule records found → AreIndexed records (wanted_in records) → found ≡ None

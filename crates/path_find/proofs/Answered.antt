@@ -44,11 +44,6 @@ search_tells T from to there to_there Memory both = both
 search_tells T from to there to_there Disk both = tt
 search_tells T from to there to_there (Damaged damage) both = tt
 
-pub search_sound : (T : Type 0) (fault : Fault) → IfSome (damage_of fault) (λ _. ⊥) → expand.NotDamaged {T = T} (Err (expand.of_fault fault))
-search_sound T Memory told = tt
-search_sound T Disk told = tt
-search_sound T (Damaged damage) told = told
-
 pub ends_there : (s t : State) → SameButReads s t → IsStore s → (from to : ℕ) (first second : Bool) → first ≡ has_node (graph_in s) from → first ≡ true → (IsStore t → second ≡ has_node (graph_in t) to) → second ≡ true
     → (has_node (graph_in s) from ≡ true) × (has_node (graph_in s) to ≡ true)
 ends_there s t same store from to first second is held told also = (

@@ -3,7 +3,7 @@
 ghost use Rattle.std.specs.Prelude.{◌≡◌, ◌↔◌, IfErr, IfOk, IsTrue, List, ℕ, map};
 ghost use Rattle.std.specs.Bool.{OnFalse, OnTrue};
 ghost use Rattle.plain_graph.specs.Levels.{IsCertified, IsShortestOrNone};
-ghost use Rattle.rec_bytes.specs.Fault.{HasFaultCause, NotDamaged};
+ghost use Rattle.rec_bytes.specs.Fault.{HasFaultCause};
 ghost use Rattle.rec_bytes.specs.Frame.{IsRead};
 ghost use Rattle.expand.specs.Expanding.{IsStore};
 ghost use Rattle.path_find.specs.Checking.{
@@ -53,7 +53,6 @@ pub fn check_levels<R: Reads>(
         → StandFor (R.state reads.old).records labels.now types → IfOk result (λ yes. IsTrue yes
         → IsShortestOrNone (adjacency_of (R.state reads.old) direction types) from to
         answer.now.walk) }
-    ensures sound { R.tells → IsStore (R.state reads.old) → NotDamaged result }
     ensures damaged { R.tells → IfErr result (BlamesBroken (R.state reads.old)) }
     ensures read { IsRead R.Reads reads.old reads.new }
     ensures cause { HasFaultCause (R.faults reads.old) (R.faults reads.new) result }
@@ -103,7 +102,6 @@ fn all_spread<R: Reads>(
         (AllSpread (neighbours_at (R.state reads.old) direction labels.now) levels.now edges)) }
     ensures no { R.tells → IsStore (R.state reads.old) → IfOk result (λ yes. OnFalse yes
         (¬ AllSpread (neighbours_at (R.state reads.old) direction labels.now) levels.now edges)) }
-    ensures sound { R.tells → IsStore (R.state reads.old) → NotDamaged result }
     ensures damaged { R.tells → IfErr result (BlamesBroken (R.state reads.old)) }
     ensures read { IsRead R.Reads reads.old reads.new }
     ensures cause { HasFaultCause (R.faults reads.old) (R.faults reads.new) result }
@@ -136,7 +134,6 @@ fn is_spread<R: Reads>(
     ensures no { R.tells → IsStore (R.state reads.old) → IfOk result (λ yes. OnFalse yes
         (¬ IsSpreadAt (neighbours_at (R.state reads.old) direction labels.now)
         levels.now edges row)) }
-    ensures sound { R.tells → IsStore (R.state reads.old) → NotDamaged result }
     ensures damaged { R.tells → IfErr result (BlamesBroken (R.state reads.old)) }
     ensures read { IsRead R.Reads reads.old reads.new }
     ensures cause { HasFaultCause (R.faults reads.old) (R.faults reads.new) result }

@@ -1,7 +1,7 @@
 //! The way on from a node to the one that a search went back from.
 
 ghost use Rattle.std.specs.Prelude.{◌≡◌, ◌<◌, ℕ, IfErr, IfNone, IfOk, IfSome, length};
-ghost use Rattle.rec_bytes.specs.Fault.{HasFaultCause, NotDamaged};
+ghost use Rattle.rec_bytes.specs.Fault.{HasFaultCause};
 ghost use Rattle.rec_bytes.specs.Frame.{IsRead};
 ghost use Rattle.expand.specs.Expanding.{IsStore};
 ghost use Rattle.path_find.specs.Damage.{BlamesBroken};
@@ -43,7 +43,6 @@ pub(crate) fn descend<R: Reads>(
     ensures long { R.tells → IsStore (R.state space.old)
         → CanDescend (neighbours_at (R.state space.old) direction labels.now) tree.now
         → IfOk result (λ way. length way.items ≡ level_at tree.now row) }
-    ensures sound { R.tells → IsStore (R.state space.old) → NotDamaged result }
     ensures damaged { R.tells → IfErr result (BlamesBroken (R.state space.old)) }
     ensures read { IsRead R.Reads space.old space.new }
     ensures cause { HasFaultCause (R.faults space.old) (R.faults space.new) result }
@@ -78,7 +77,6 @@ fn next_row<R: Reads>(
         HasNearer (neighbours_at (R.state space.old) direction labels.now) tree.now at level
         → IsNextRow (neighbours_at (R.state space.old) direction labels.now) tree.now at level
         row) }
-    ensures sound { R.tells → IsStore (R.state space.old) → NotDamaged result }
     ensures damaged { R.tells → IfErr result (BlamesBroken (R.state space.old)) }
     ensures read { IsRead R.Reads space.old space.new }
     ensures cause { HasFaultCause (R.faults space.old) (R.faults space.new) result }

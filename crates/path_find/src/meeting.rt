@@ -3,7 +3,7 @@
 ghost use Rattle.std.specs.Prelude.{◌≡◌, ◌<◌, ◌+◌, ℕ, IfErr, IfOk, OnOk, true};
 ghost use Rattle.std.specs.Bool.{OnFalse, OnTrue};
 ghost use Rattle.plain_graph.specs.Graph.{has_node};
-ghost use Rattle.rec_bytes.specs.Fault.{HasFaultCause, NotDamaged};
+ghost use Rattle.rec_bytes.specs.Fault.{HasFaultCause};
 ghost use Rattle.rec_bytes.specs.Frame.{IsRead};
 ghost use Rattle.expand.specs.Expanding.{IsStore, graph_in};
 ghost use Rattle.path_find.specs.Damage.{BlamesBroken};
@@ -44,7 +44,6 @@ pub(crate) fn meet<R: Reads>(
         → has_node (graph_in (R.state space.old)) from ≡ true
         → has_node (graph_in (R.state space.old)) to ≡ true → IfOk result (λ walk.
         IsLeastOrNone (neighbours_at (R.state space.old) direction labels.now) from to walk.items) }
-    ensures sound { R.tells → IsStore (R.state space.old) → NotDamaged result }
     ensures damaged { R.tells → IfErr result (BlamesBroken (R.state space.old)) }
     ensures read { IsRead R.Reads space.old space.new }
     ensures cause { HasFaultCause (R.faults space.old) (R.faults space.new) result }
@@ -106,7 +105,6 @@ fn approach<R: Reads>(
         behind.old.tree behind.old.done
         → Spans (neighbours_at (R.state space.old) (reversed direction) labels.now)
         behind.new.tree behind.new.done) }
-    ensures sound { R.tells → IsStore (R.state space.old) → NotDamaged result }
     ensures damaged { R.tells → IfErr result (BlamesBroken (R.state space.old)) }
     ensures read { IsRead R.Reads space.old space.new }
     ensures cause { HasFaultCause (R.faults space.old) (R.faults space.new) result }
@@ -147,7 +145,6 @@ fn join<R: Reads>(
         CanDescend (neighbours_at (R.state space.old) direction labels.now) behind.now
         → AreJoined (neighbours_at (R.state space.old) direction labels.now) ahead.now behind.now
         walk.items) }
-    ensures sound { R.tells → IsStore (R.state space.old) → NotDamaged result }
     ensures damaged { R.tells → IfErr result (BlamesBroken (R.state space.old)) }
     ensures read { IsRead R.Reads space.old space.new }
     ensures cause { HasFaultCause (R.faults space.old) (R.faults space.new) result }

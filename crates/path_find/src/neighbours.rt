@@ -3,7 +3,7 @@
 ghost use Rattle.std.specs.Prelude.{◌≡◌, IfErr, IfNone, IfOk, IfSome, false, true};
 ghost use Rattle.std.specs.List.Sorted.{IsNonDecreasing};
 ghost use Rattle.plain_graph.specs.Graph.{has_node};
-ghost use Rattle.rec_bytes.specs.Fault.{HasFaultCause, NotDamaged};
+ghost use Rattle.rec_bytes.specs.Fault.{HasFaultCause};
 ghost use Rattle.rec_bytes.specs.Frame.{IsRead};
 ghost use Rattle.expand.specs.Expanding.{IsStore, graph_in};
 ghost use Rattle.path_find.specs.Damage.{BlamesBroken};
@@ -33,7 +33,6 @@ pub(crate) fn neighbours<R: Reads>(
     ensures there { R.tells → IsStore (R.state space.old) → IfOk result (λ found. IfSome found
         (λ ends. has_node (graph_in (R.state space.old)) node ≡ true)) }
     ensures ascending { IfOk result (λ found. IfSome found (λ ends. IsNonDecreasing ends.items)) }
-    ensures sound { R.tells → IsStore (R.state space.old) → NotDamaged result }
     ensures damaged { R.tells → IfErr result (BlamesBroken (R.state space.old)) }
     ensures read { IsRead R.Reads space.old space.new }
     ensures cause { HasFaultCause (R.faults space.old) (R.faults space.new) result }

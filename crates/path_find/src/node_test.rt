@@ -4,7 +4,7 @@ ghost use Rattle.std.specs.Prelude.{◌≡◌, IfErr, IfOk, None};
 ghost use Rattle.std.specs.Bool.{OnFalse};
 ghost use Rattle.plain_graph.specs.Graph.{has_node};
 ghost use Rattle.rec_bytes.specs.Frame.{IsRead};
-ghost use Rattle.rec_bytes.specs.RowFault.{HasRowCause, NotDamaged};
+ghost use Rattle.rec_bytes.specs.RowFault.{HasRowCause};
 ghost use Rattle.node_store.specs.Loading.{IsNodeFault, row_at};
 ghost use Rattle.expand.specs.Expanding.{IsStore, graph_in};
 
@@ -18,7 +18,6 @@ pub(crate) fn is_node<R: Reads>(reads: &mut R, id: u32) -> Result<bool, RowFault
     // so in a store that is damaged
     ensures row { R.tells → IfOk result (λ there. OnFalse there
         (row_at (R.state reads.old).records id ≡ None)) }
-    ensures sound { R.tells → IsStore (R.state reads.old) → NotDamaged result }
     ensures damaged { R.tells → IfErr result (IsNodeFault (R.state reads.old) id) }
     ensures read { IsRead R.Reads reads.old reads.new }
     ensures cause { HasRowCause (R.faults reads.old) (R.faults reads.new) result }

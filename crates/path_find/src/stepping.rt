@@ -2,7 +2,7 @@
 
 ghost use Rattle.std.specs.Prelude.{Contains, IfErr, IfOk};
 ghost use Rattle.std.specs.Bool.{OnFalse, OnTrue};
-ghost use Rattle.rec_bytes.specs.Fault.{HasFaultCause, NotDamaged};
+ghost use Rattle.rec_bytes.specs.Fault.{HasFaultCause};
 ghost use Rattle.rec_bytes.specs.Frame.{IsRead};
 ghost use Rattle.expand.specs.Expanding.{IsStore};
 ghost use Rattle.path_find.specs.Checking.{IsStep, IsWalkOrNone};
@@ -31,7 +31,6 @@ pub(crate) fn is_walk<R: Reads>(
     ensures no { R.tells → IsStore (R.state reads.old) → IfOk result (λ yes. OnFalse yes
         (¬ IsWalkOrNone (neighbours_at (R.state reads.old) direction labels.now)
         from to walk.now)) }
-    ensures sound { R.tells → IsStore (R.state reads.old) → NotDamaged result }
     ensures damaged { R.tells → IfErr result (BlamesBroken (R.state reads.old)) }
     ensures read { IsRead R.Reads reads.old reads.new }
     ensures cause { HasFaultCause (R.faults reads.old) (R.faults reads.new) result }
@@ -69,7 +68,6 @@ fn is_step<R: Reads>(
         (IsStep (neighbours_at (R.state reads.old) direction labels.now) node next)) }
     ensures no { R.tells → IsStore (R.state reads.old) → IfOk result (λ yes. OnFalse yes
         (¬ IsStep (neighbours_at (R.state reads.old) direction labels.now) node next)) }
-    ensures sound { R.tells → IsStore (R.state reads.old) → NotDamaged result }
     ensures damaged { R.tells → IfErr result (BlamesBroken (R.state reads.old)) }
     ensures read { IsRead R.Reads reads.old reads.new }
     ensures cause { HasFaultCause (R.faults reads.old) (R.faults reads.new) result }

@@ -2,7 +2,7 @@ ghost use Rattle.std.specs.Prelude.{ℕ, List, IfErr, IfOk};
 ghost use Rattle.plain_graph.specs.Graph.{has_node};
 ghost use Rattle.plain_graph.specs.Reached.{IsLeastOrNone};
 ghost use Rattle.rec_bytes.specs.Frame.{IsRead};
-ghost use Rattle.expand.specs.ExpandFault.{HasExpandCause, NotDamaged};
+ghost use Rattle.expand.specs.ExpandFault.{HasExpandCause};
 ghost use Rattle.expand.specs.Expanding.{IsStore, graph_in};
 ghost use Rattle.path_find.specs.Finding.{IsPathFault, TellsEnds};
 ghost use Rattle.path_find.specs.Reads.{StandFor, adjacency_of};
@@ -36,7 +36,6 @@ pub fn find_walk<R: Reads>(
     ensures missing { R.tells → IsStore (R.state reads.old)
         → TellsEnds result from to (has_node (graph_in (R.state reads.old)) from)
         (has_node (graph_in (R.state reads.old)) to) }
-    ensures sound { R.tells → IsStore (R.state reads.old) → NotDamaged result }
     ensures damaged { R.tells → IfErr result (IsPathFault (R.state reads.old) from to) }
     ensures read { IsRead R.Reads reads.old reads.new }
     ensures cause { HasExpandCause (R.faults reads.old) (R.faults reads.new) result }

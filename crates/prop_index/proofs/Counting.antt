@@ -1,5 +1,5 @@
 -- Counts of the index while one is made, whatever the records are.
-use Rattle.std.proofs.Common.{◌≡◌, ◌≢◌, ℕ, ◌+◌, ◌<◌, ◌≤◌, ap, sym, ◌∙◌, subst, arith}
+use Rattle.std.proofs.Common.{◌≡◌, ◌≢◌, ℕ, ◌+◌, ◌<◌, ◌≤◌, ap, sym, ◌∙◌, subst, inl, arith}
 use Rattle.rec_bytes.specs.declared.fault.Fault.{Fault}
 use Rattle.rec_bytes.specs.declared.fault.Fault.TheVariants as faults
 use Rattle.rec_bytes.specs.declared.key.Key.{Key}
@@ -18,16 +18,17 @@ use Rattle.id_freelist.specs.TakeFault as takes
 use Rattle.id_freelist.specs.Taking.{IsTakeFault}
 use Rattle.id_freelist.specs.declared.take_fault.TakeFault.{TakeFault}
 use Rattle.id_freelist.specs.declared.take_fault.TakeFault.TheVariants as take
+use Rattle.prop_index.specs.Blaming.{TakeBlamesBroken}
 use Rattle.prop_index.specs.Defining.{CountsMore, HasLeft}
 use Rattle.prop_index.specs.Entering.{IsIndexFull, IsNotFull}
 use Rattle.prop_index.specs.Gathering.{HighNodes, IsOwnerDamage, NamesNone}
 use Rattle.prop_index.specs.MakeFault as makes
 use Rattle.prop_index.specs.MakeFault.{of_fault, of_take}
 use Rattle.prop_index.proofs.IndexBlames.{nodes_mark}
-use Rattle.prop_store.specs.Fault as props
+use Rattle.prop_index.specs.Blaming as blaming
 use Rattle.rec_bytes.specs.declared.damage.Damage.{Damage}
 use Rattle.rec_bytes.specs.declared.shape.Shape.{Shape}
-use Rattle.store_rules.specs.Breaking.{Breaks}
+use Rattle.store_rules.specs.Breaking.{BreaksAny}
 use Rattle.prop_index.specs.Making.{IsMakeCause, IsPairCause}
 use Rattle.prop_index.specs.MakeFault.{IsCollectCause}
 use Rattle.prop_index.specs.declared.make_fault.MakeFault.{MakeFault}
@@ -110,12 +111,12 @@ roomy_cause s label key (take.Damaged d) is = tt
 
 -- ---- what is blamed
 
-pub read_make : (records : Records) (shape : Shape) (f : Fault) → props.BlamesBroken records shape f → makes.BlamesBroken records shape (of_fault f)
+pub read_make : (records : Records) (shape : Shape) (f : Fault) → blaming.BlamesBroken records shape f → makes.BlamesBroken records shape (of_fault f)
 read_make records shape faults.Memory is = tt
 read_make records shape faults.Disk is = tt
 read_make records shape (faults.Damaged d) is = is
 
-pub take_make : (records : Records) (shape : Shape) (f : TakeFault) → takes.BlamesBroken records shape f → makes.BlamesBroken records shape (of_take f)
+pub take_make : (records : Records) (shape : Shape) (f : TakeFault) → TakeBlamesBroken records shape f → makes.BlamesBroken records shape (of_take f)
 take_make records shape (take.Full file live) is = tt
 take_make records shape take.Memory is = tt
 take_make records shape take.Disk is = tt
@@ -125,6 +126,6 @@ pub make_reread : (s t : State) (f : MakeFault) → SameButReads s t → makes.B
 make_reread s t f same is = subst (λ (z : State). makes.BlamesBroken z.records z.shape f) (sym same) is
 
 -- a node that was given out is not one that there can't be
-pub owner_blames : (s : State) (node : ℕ) (named bad : Damage) → node < high s.records format.nodes_file → IsOwnerDamage s node named bad → Breaks s.records s.shape bad
+pub owner_blames : (s : State) (node : ℕ) (named bad : Damage) → node < high s.records format.nodes_file → IsOwnerDamage s node named bad → BreaksAny s.records s.shape bad
 owner_blames s node named _ low (NamesNone le) = absurd (omega (arith, low, le))
-owner_blames s node named _ low (HighNodes over) = nodes_mark s over
+owner_blames s node named _ low (HighNodes over) = inl (nodes_mark s over)

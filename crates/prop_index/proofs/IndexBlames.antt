@@ -18,8 +18,8 @@ use Rattle.rec_bytes.specs.Format as format
 use Rattle.rec_bytes.specs.Record.{field}
 use Rattle.rec_bytes.specs.RecordFiles.{room_of}
 use Rattle.rec_bytes.specs.Space.{SameButReads, State}
-use Rattle.store_rules.specs.Breaking.{Breaks}
-use Rattle.store_rules.specs.Breaking.Breaks.{RecordRange, WrongIndex, WrongMeta}
+use Rattle.store_rules.specs.Breaking.{Breaks, BreaksAny}
+use Rattle.store_rules.specs.Breaking.Breaks.{RecordRange, WrongMeta}
 use Rattle.store_rules.specs.Chains.{In, IsWalk}
 use Rattle.store_rules.specs.IndexBreaking.{HasDefinitions, IndexBreaks, LeadsToDefinition, LeadsToEntry}
 use Rattle.store_rules.specs.IndexBreaking.IndexBreaks.{LateEntry, OtherDefinition, OtherEntry, OtherHead, WrongDefinitions}
@@ -31,7 +31,8 @@ use Rattle.store_rules.proofs.IndexPointers as links
 use Rattle.store_rules.proofs.LinkFits.{IsLow}
 use Rattle.store_rules.proofs.OnceLaws.{in_parts}
 use Rattle.store_rules.proofs.ViewLaws.{kind_below, kind_low}
-use Rattle.prop_store.specs.Fault.{BlamesBroken}
+use Rattle.prop_index.specs.Blaming.{BlamesBroken, TakeBlamesBroken}
+use Rattle.prop_store.specs.Fault as props
 use Rattle.prop_store.specs.GivenOut as given
 use Rattle.prop_index.specs.Blaming.{IsDefinitionAt, IsEntryAt, IsOfIndexes, NamesIndexes, TakeNamesIndexes}
 use Rattle.prop_index.specs.Entering.{of_read}
@@ -91,12 +92,12 @@ module _ (s : State) (at : ℕ) (named : Damage) (h : IsDefinitionAt s at named)
   pub definition_blames : (fault : Fault) → IsReadFault s at format.definition named fault → BlamesBroken s.records s.shape fault
   definition_blames Memory why = tt
   definition_blames Disk why = tt
-  definition_blames (Damaged d) (LeadsNowhere le) = h.past some le
-  definition_blames (Damaged d) (HighMark over) = index_mark s over
-  definition_blames (Damaged d) (OtherKind other) = WrongIndex _ (OtherDefinition at (h.leads some) other)
+  definition_blames (Damaged d) (LeadsNowhere le) = inl (h.past some le)
+  definition_blames (Damaged d) (HighMark over) = inl (index_mark s over)
+  definition_blames (Damaged d) (OtherKind low other) = inr (OtherDefinition at (h.leads some) low other)
 
-pub many_break : (s : State) → ¬ HasDefinitions s.records → Breaks s.records s.shape (damage_of format.meta_file format.index_file 8)
-many_break s bad = WrongIndex _ (WrongDefinitions bad)
+pub many_break : (s : State) → ¬ HasDefinitions s.records → BreaksAny s.records s.shape (damage_of format.meta_file format.index_file 8)
+many_break s bad = inr (WrongDefinitions bad)
 
 -- ---- records of heads
 
@@ -105,11 +106,11 @@ pub heads_blames : (s : State) (d c id : ℕ) → LeadsToDefinition s.records d 
 heads_blames s d c id leads used low is Memory why = tt
 heads_blames s d c id leads used low is Disk why = tt
 heads_blames s d c id leads used low is (Damaged _) (LeadsNowhere le) =
-    RecordRange format.index_file d refl (below s d format.definition used definition_some)
-    (λ fits. let k = links.definition_heads_low (high s.records) (index_rec s.records d) fits (byte s d format.definition used definition_some) c low in omega (arith, k, le, is))
-heads_blames s d c id leads used low is (Damaged _) (HighMark over) = index_mark s over
-heads_blames s d c id leads used low is (Damaged _) (OtherKind other) =
-    WrongIndex _ (subst (λ z. IndexBreaks s.records (damage_of format.index_file z 8)) (sym is) (OtherHead d c leads used low (λ e. other (ap (kind_at s.records format.index_file) is ∙ e))))
+    inl (RecordRange format.index_file d refl (below s d format.definition used definition_some)
+    (λ fits. let k = links.definition_heads_low (high s.records) (index_rec s.records d) fits (byte s d format.definition used definition_some) c low in omega (arith, k, le, is)))
+heads_blames s d c id leads used low is (Damaged _) (HighMark over) = inl (index_mark s over)
+heads_blames s d c id leads used low is (Damaged _) (OtherKind given other) =
+    inr (subst (λ z. IndexBreaks s.records (damage_of format.index_file z 8)) (sym is) (OtherHead d c leads used low (subst (λ z. z < high s.records format.index_file) is given) (λ e. other (ap (kind_at s.records format.index_file) is ∙ e))))
 
 -- ---- the entries of a bucket
 
@@ -137,27 +138,27 @@ module _ (s : State) (d b count at : ℕ) (named : Damage) (h : IsEntryAt s d b 
   pub entry_blames : (fault : Fault) → IsReadFault s at format.indexed named fault → BlamesBroken s.records s.shape fault
   entry_blames Memory why = tt
   entry_blames Disk why = tt
-  entry_blames (Damaged _) (LeadsNowhere le) = h.past some le
-  entry_blames (Damaged _) (HighMark over) = index_mark s over
-  entry_blames (Damaged _) (OtherKind other) = WrongIndex _ (OtherEntry d b count at (h.leads some) other)
+  entry_blames (Damaged _) (LeadsNowhere le) = inl (h.past some le)
+  entry_blames (Damaged _) (HighMark over) = inl (index_mark s over)
+  entry_blames (Damaged _) (OtherKind low other) = inr (OtherEntry d b count at (h.leads some) low other)
 
-  pub late_breaks : high s.records format.index_file ≤ count → Breaks s.records s.shape (damage_of format.index_file at 8)
-  late_breaks late = WrongIndex _ (LateEntry d b count at (h.leads some) late)
+  pub late_breaks : high s.records format.index_file ≤ count → BreaksAny s.records s.shape (damage_of format.index_file at 8)
+  late_breaks late = inr (LateEntry d b count at (h.leads some) late)
 
   -- a link to it that is followed for writing
-  pub link_blames : (holder : ℕ) → named ≡ damage_of format.index_file holder 1 → (bad : Damage) → given.IsLinkDamage s (key_in format.index_file holder) format.index_file at bad → Breaks s.records s.shape bad
-  link_blames holder is _ (given.PastMark le) = subst (Breaks s.records s.shape) is (h.past some le)
-  link_blames holder is _ (given.HighMark over) = index_mark s over
+  pub link_blames : (holder : ℕ) → named ≡ damage_of format.index_file holder 1 → (bad : Damage) → given.IsLinkDamage s (key_in format.index_file holder) format.index_file at bad → BreaksAny s.records s.shape bad
+  link_blames holder is _ (given.PastMark le) = inl (subst (Breaks s.records s.shape) is (h.past some le))
+  link_blames holder is _ (given.HighMark over) = inl (index_mark s over)
 
 -- a link of an entry that is followed for writing
 pub beside_blames : (s : State) (x link : ℕ) → kind_at s.records format.index_file x ≡ format.indexed → ((link ≡ next_entry s.records x) ⊎ (link ≡ previous_entry s.records x)) → link ≢ format.nil
-    → (bad : Damage) → given.IsLinkDamage s (key_in format.index_file x) format.index_file link bad → Breaks s.records s.shape bad
+    → (bad : Damage) → given.IsLinkDamage s (key_in format.index_file x) format.index_file link bad → BreaksAny s.records s.shape bad
 beside_blames s x link used is some _ (given.PastMark le) =
-    RecordRange format.index_file x refl (below s x format.indexed used indexed_some)
+    inl (RecordRange format.index_file x refl (below s x format.indexed used indexed_some)
     (λ fits. none_past (high s.records format.index_file) link le some
     (⊎_elim (λ (e : link ≡ next_entry s.records x). subst (IsLow (high s.records format.index_file)) (sym e) (links.entry_next_low (high s.records) (index_rec s.records x) fits (byte s x format.indexed used indexed_some)))
-    (λ (e : link ≡ previous_entry s.records x). subst (IsLow (high s.records format.index_file)) (sym e) (links.entry_previous_low (high s.records) (index_rec s.records x) fits (byte s x format.indexed used indexed_some))) is))
-beside_blames s x link used is some _ (given.HighMark over) = index_mark s over
+    (λ (e : link ≡ previous_entry s.records x). subst (IsLow (high s.records format.index_file)) (sym e) (links.entry_previous_low (high s.records) (index_rec s.records x) fits (byte s x format.indexed used indexed_some))) is)))
+beside_blames s x link used is some _ (given.HighMark over) = inl (index_mark s over)
 
 -- ---- the pairs of the definitions that were passed
 
@@ -236,13 +237,13 @@ read_fault_same s t id kind named same Memory why = tt
 read_fault_same s t id kind named same Disk why = tt
 read_fault_same s t id kind named same (Damaged _) (LeadsNowhere le) = LeadsNowhere (subst (λ (z : State). high z.records format.index_file ≤ id) same le)
 read_fault_same s t id kind named same (Damaged _) (HighMark over) = HighMark (subst (λ (z : State). room_of z.shape format.index_file < high z.records format.index_file) same over)
-read_fault_same s t id kind named same (Damaged _) (OtherKind other) = OtherKind (subst (λ (z : State). kind_at z.records format.index_file id ≢ kind) same other)
+read_fault_same s t id kind named same (Damaged _) (OtherKind low other) = OtherKind (subst (λ (z : State). id < high z.records format.index_file) same low) (subst (λ (z : State). kind_at z.records format.index_file id ≢ kind) same other)
 
-pub breaks_reread : (s t : State) (d : Damage) → SameButReads s t → Breaks s.records s.shape d → Breaks t.records t.shape d
-breaks_reread s t d same is = subst (λ (z : State). Breaks z.records z.shape d) (sym same) is
+pub breaks_reread : (s t : State) (d : Damage) → SameButReads s t → BreaksAny s.records s.shape d → BreaksAny t.records t.shape d
+breaks_reread s t d same is = subst (λ (z : State). BreaksAny z.records z.shape d) (sym same) is
 
-pub breaks_before : (s t : State) (d : Damage) → SameButReads s t → Breaks t.records t.shape d → Breaks s.records s.shape d
-breaks_before s t d same is = subst (λ (z : State). Breaks z.records z.shape d) same is
+pub breaks_before : (s t : State) (d : Damage) → SameButReads s t → BreaksAny t.records t.shape d → BreaksAny s.records s.shape d
+breaks_before s t d same is = subst (λ (z : State). BreaksAny z.records z.shape d) same is
 
 pub blames_reread : (s t : State) (fault : Fault) → SameButReads s t → BlamesBroken s.records s.shape fault → BlamesBroken t.records t.shape fault
 blames_reread s t fault same is = subst (λ (z : State). BlamesBroken z.records z.shape fault) (sym same) is
@@ -255,6 +256,18 @@ entry_reread s t d b count at named same h =
     let here : IsEntryAt (record s { reads = t.reads }) d b count at named = record { leads = h.leads; past = h.past } in
     subst (λ (z : State). IsEntryAt z d b count at named) (sym same) here
 
+-- what crates below blame breaks one of the first seven
+pub any_read : (records : Records) (shape : Shape) (fault : Fault) → props.BlamesBroken records shape fault → BlamesBroken records shape fault
+any_read records shape Memory is = tt
+any_read records shape Disk is = tt
+any_read records shape (Damaged d) is = inl is
+
+pub any_take : (records : Records) (shape : Shape) (fault : TakeFault) → takes.BlamesBroken records shape fault → TakeBlamesBroken records shape fault
+any_take records shape (take.Full file live) is = tt
+any_take records shape take.Memory is = tt
+any_take records shape take.Disk is = tt
+any_take records shape (take.Damaged d) is = inl is
+
 -- ---- results
 
 pub if_err : {T E : Type 0} {P Q : E → Type 0} (r : Result T E) → ((e : E) → P e → Q e) → IfErr r P → IfErr r Q
@@ -262,7 +275,7 @@ if_err (Ok x) f is = tt
 if_err (Err e) f is = f e is
 
 -- a fault of records that are read, as one of a change
-pub read_blames : (records : Records) (shape : Shape) (fault : Fault) → BlamesBroken records shape fault → takes.BlamesBroken records shape (of_read fault)
+pub read_blames : (records : Records) (shape : Shape) (fault : Fault) → BlamesBroken records shape fault → TakeBlamesBroken records shape (of_read fault)
 read_blames records shape Memory is = tt
 read_blames records shape Disk is = tt
 read_blames records shape (Damaged d) is = is
@@ -271,18 +284,18 @@ pub take_has : {T : Type 0} (P : TakeFault → Type 0) (r : Result T TakeFault) 
 take_has {T} P r fault h has = let p = err_from_is_err_and r h in subst (λ (z : Result T TakeFault). IfErr z P) (sym p.1) (subst P (sym p.2) has)
 
 -- a fault of the space blames no record
-pub space_take : {T : Type 0} (records : Records) (shape : Shape) (r : Result T TakeFault) (fault : SpaceFault) → IsErrAnd r (λ f. f ≡ takes.of_space fault) → IfErr r (takes.BlamesBroken records shape)
-space_take records shape r fault h = take_has (takes.BlamesBroken records shape) r (takes.of_space fault) h (by fault)
+pub space_take : {T : Type 0} (records : Records) (shape : Shape) (r : Result T TakeFault) (fault : SpaceFault) → IsErrAnd r (λ f. f ≡ takes.of_space fault) → IfErr r (TakeBlamesBroken records shape)
+space_take records shape r fault h = take_has (TakeBlamesBroken records shape) r (takes.of_space fault) h (by fault)
   where
-    by : (fault : SpaceFault) → takes.BlamesBroken records shape (takes.of_space fault)
+    by : (fault : SpaceFault) → TakeBlamesBroken records shape (takes.of_space fault)
     by spaces.Memory = tt
     by spaces.Disk = tt
 
-pub take_reread : (s t : State) (fault : TakeFault) → SameButReads s t → takes.BlamesBroken s.records s.shape fault → takes.BlamesBroken t.records t.shape fault
-take_reread s t fault same is = subst (λ (z : State). takes.BlamesBroken z.records z.shape fault) (sym same) is
+pub take_reread : (s t : State) (fault : TakeFault) → SameButReads s t → TakeBlamesBroken s.records s.shape fault → TakeBlamesBroken t.records t.shape fault
+take_reread s t fault same is = subst (λ (z : State). TakeBlamesBroken z.records z.shape fault) (sym same) is
 
-pub take_before : (s t : State) (fault : TakeFault) → SameButReads s t → takes.BlamesBroken t.records t.shape fault → takes.BlamesBroken s.records s.shape fault
-take_before s t fault same is = subst (λ (z : State). takes.BlamesBroken z.records z.shape fault) same is
+pub take_before : (s t : State) (fault : TakeFault) → SameButReads s t → TakeBlamesBroken t.records t.shape fault → TakeBlamesBroken s.records s.shape fault
+take_before s t fault same is = subst (λ (z : State). TakeBlamesBroken z.records z.shape fault) same is
 
 -- ---- which records are blamed
 
@@ -291,7 +304,7 @@ read_names s id kind named Memory is why = tt
 read_names s id kind named Disk is why = tt
 read_names s id kind named (Damaged _) is (LeadsNowhere le) = is
 read_names s id kind named (Damaged _) is (HighMark over) = inr (refl, refl)
-read_names s id kind named (Damaged _) is (OtherKind other) = inl refl
+read_names s id kind named (Damaged _) is (OtherKind low other) = inl refl
 
 pub link_names : (s : State) (x link : ℕ) (bad : Damage) → given.IsLinkDamage s (key_in format.index_file x) format.index_file link bad → IsOfIndexes bad
 link_names s x link _ (given.PastMark le) = inl refl

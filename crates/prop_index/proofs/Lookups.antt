@@ -12,7 +12,7 @@ use Rattle.rec_bytes.specs.Format as format
 use Rattle.rec_bytes.specs.RecordFiles.{is_meta_file}
 use Rattle.rec_bytes.specs.Space.{SameButReads, State}
 use Rattle.rec_bytes.specs.declared.shape.Shape.{Shape}
-use Rattle.prop_store.specs.Fault as props
+use Rattle.prop_index.specs.Blaming as blaming
 use Rattle.store_rules.specs.Chains.{In, IsWalk}
 use Rattle.store_rules.specs.Hashes.{bucket_of, hash_of}
 use Rattle.store_rules.specs.Indexes.{IsIndexed, entry_node, first_definition, indexed_key, indexed_label, next_definition, wanted_in}
@@ -187,7 +187,7 @@ reads_exit {T = T} label key value s z r f h is =
     (subst (ReadsForRefusal label key value s z) (sym p.2) (fault_reads label key value s z f is))
 
 -- what reads blame
-pub read_lookup : (records : Records) (shape : Shape) (f : Fault) → props.BlamesBroken records shape f → BlamesBroken records shape (of_fault f)
+pub read_lookup : (records : Records) (shape : Shape) (f : Fault) → blaming.BlamesBroken records shape f → BlamesBroken records shape (of_fault f)
 read_lookup records shape fault.Memory is = tt
 read_lookup records shape fault.Disk is = tt
 read_lookup records shape (fault.Damaged damage) is = is

@@ -7,9 +7,22 @@ use Rattle.rec_bytes.specs.Format as format
 use Rattle.rec_bytes.specs.Space.{State}
 use Rattle.id_freelist.specs.declared.take_fault.TakeFault.{TakeFault}
 use Rattle.id_freelist.specs.declared.take_fault.TakeFault.TheVariants as takes
-use Rattle.store_rules.specs.Breaking.{Breaks}
+use Rattle.rec_bytes.specs.declared.shape.Shape.{Shape}
+use Rattle.store_rules.specs.Breaking.{Breaks, BreaksAny}
 use Rattle.store_rules.specs.IndexBreaking.{LeadsToDefinition, LeadsToEntry}
-use Rattle.store_rules.specs.Views.{high}
+use Rattle.store_rules.specs.Views.{Records, high}
+
+-- a record that is blamed breaks one of all eight rules
+abbrev pub BlamesBroken : Records → Shape → Fault → Type 0
+BlamesBroken records shape faults.Memory = Unit {0}
+BlamesBroken records shape faults.Disk = Unit {0}
+BlamesBroken records shape (faults.Damaged damage) = BreaksAny records shape damage
+
+abbrev pub TakeBlamesBroken : Records → Shape → TakeFault → Type 0
+TakeBlamesBroken records shape (takes.Full file live) = Unit {0}
+TakeBlamesBroken records shape takes.Memory = Unit {0}
+TakeBlamesBroken records shape takes.Disk = Unit {0}
+TakeBlamesBroken records shape (takes.Damaged damage) = BreaksAny records shape damage
 
 -- The chain of the definitions leads here, unless it ends. Past the mark, the record that is named
 -- breaks the rule.

@@ -9,7 +9,7 @@ use Rattle.rec_bytes.specs.Cause.{HasDiskCause}
 use Rattle.rec_bytes.specs.Format as format
 use Rattle.rec_bytes.specs.Space.{State}
 use Rattle.rec_bytes.specs.declared.shape.Shape.{Shape}
-use Rattle.store_rules.specs.Breaking.{Breaks}
+use Rattle.store_rules.specs.Breaking.{BreaksAny}
 use Rattle.store_rules.specs.Chains.{In, IsWalk}
 use Rattle.store_rules.specs.Graph.{graph_of}
 use Rattle.store_rules.specs.Hashes.{bucket_of, hash_of}
@@ -122,4 +122,4 @@ abbrev pub BlamesBroken : Records → Shape → LookupFault → Type 0
 BlamesBroken records shape lookups.NoIndex = Unit {0}
 BlamesBroken records shape lookups.Memory = Unit {0}
 BlamesBroken records shape lookups.Disk = Unit {0}
-BlamesBroken records shape (lookups.Damaged damage) = Breaks records shape damage
+BlamesBroken records shape (lookups.Damaged damage) = BreaksAny records shape damage

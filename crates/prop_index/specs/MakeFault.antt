@@ -7,7 +7,7 @@ use Rattle.rec_bytes.specs.declared.fault.Fault.TheVariants as faults
 use Rattle.id_freelist.specs.declared.take_fault.TakeFault.{TakeFault}
 use Rattle.id_freelist.specs.declared.take_fault.TakeFault.TheVariants as takes
 use Rattle.rec_bytes.specs.declared.shape.Shape.{Shape}
-use Rattle.store_rules.specs.Breaking.{Breaks}
+use Rattle.store_rules.specs.Breaking.{BreaksAny}
 use Rattle.store_rules.specs.Views.{Records, high}
 use Rattle.prop_index.specs.Collecting.{contents_in}
 use Rattle.prop_index.specs.declared.make_fault.MakeFault.{MakeFault}
@@ -49,7 +49,7 @@ BlamesBroken records shape (makes.TooLarge count) = Unit {0}
 BlamesBroken records shape (makes.Full live) = Unit {0}
 BlamesBroken records shape makes.Memory = Unit {0}
 BlamesBroken records shape makes.Disk = Unit {0}
-BlamesBroken records shape (makes.Damaged damage) = Breaks records shape damage
+BlamesBroken records shape (makes.Damaged damage) = BreaksAny records shape damage
 
 -- It is the count that is told of nodes with the key, or not one of the reasons.
 abbrev pub IsCollectCause : Records → ℕ → ℕ → MakeFault → Type 0

@@ -27,7 +27,7 @@ pub data IsReadDamage (s : State) (id kind : ℕ) (named : Damage) : Damage → 
   LeadsNowhere : high s.records format.index_file ≤ id → IsReadDamage s id kind named named
   HighMark : room_of s.shape format.index_file < high s.records format.index_file
       → IsReadDamage s id kind named (damage_of format.meta_file format.index_file 1)
-  OtherKind : kind_at s.records format.index_file id ≢ kind
+  OtherKind : id < high s.records format.index_file → kind_at s.records format.index_file id ≢ kind
       → IsReadDamage s id kind named (damage_of format.index_file id 8)
 
 abbrev pub IsReadFault : State → ℕ → ℕ → Damage → Fault → Type 0

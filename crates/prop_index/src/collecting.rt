@@ -5,7 +5,7 @@ ghost use Rattle.std.specs.Prelude.{IfErr, IfOk, IsTrue, OnOk, length};
 ghost use Rattle.prop_index.specs.Collecting.{AreNodesReadable, contents_in, hash_at};
 ghost use Rattle.prop_index.specs.MakeFault as makes;
 ghost use Rattle.prop_index.specs.MakeFault.{HasMakeCause, IsCollectCause, IsCollectFault};
-ghost use Rattle.prop_store.specs.Fault.{BlamesBroken};
+ghost use Rattle.prop_index.specs.Blaming.{BlamesBroken};
 ghost use Rattle.prop_store.specs.Finding.{value_of};
 ghost use Rattle.prop_store.specs.Owner.{HasProperties, IsInUse, IsOwner};
 ghost use Rattle.prop_store.specs.Reading.{ReadsAtMost, properties_met};

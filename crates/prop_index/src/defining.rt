@@ -1,7 +1,8 @@
 //! A definition with empty buckets.
 
 ghost use Rattle.std.specs.Prelude.{◌≢◌, ◌<◌, ℕ, [], ◌∷◌, IfErr, IfOk, OnOk};
-ghost use Rattle.id_freelist.specs.TakeFault.{BlamesBroken, HasTakeCause};
+ghost use Rattle.id_freelist.specs.TakeFault.{HasTakeCause};
+ghost use Rattle.prop_index.specs.Blaming.{TakeBlamesBroken as BlamesBroken};
 ghost use Rattle.prop_index.specs.Defining.{
   AreHeadsAdded,
   AreNamesOf,

@@ -1,7 +1,8 @@
 //! Entries that are added.
 
 ghost use Rattle.std.specs.Prelude.{◌≡◌, ◌+◌, ◌<◌, ◌≤◌, ℕ, List, IfErr, OnOk, false};
-ghost use Rattle.id_freelist.specs.TakeFault.{BlamesBroken, HasTakeCause, NotDamaged};
+ghost use Rattle.id_freelist.specs.TakeFault.{HasTakeCause, NotDamaged};
+ghost use Rattle.prop_index.specs.Blaming.{TakeBlamesBroken as BlamesBroken};
 ghost use Rattle.id_freelist.specs.Taking.{CanTake};
 ghost use Rattle.prop_index.specs.Blaming.{IsEntryAt, TakeNamesIndexes};
 ghost use Rattle.prop_index.specs.Entering.{IsIndexFull, IsMade, IsNotFull, entry_of, of_read};

@@ -1,7 +1,8 @@
 //! The entries of an index that is made.
 
 ghost use Rattle.std.specs.Prelude.{◌<◌, ℕ, IfErr, OnOk, length};
-ghost use Rattle.id_freelist.specs.TakeFault.{BlamesBroken, HasTakeCause};
+ghost use Rattle.id_freelist.specs.TakeFault.{HasTakeCause};
+ghost use Rattle.prop_index.specs.Blaming.{TakeBlamesBroken as BlamesBroken};
 ghost use Rattle.prop_index.specs.Defining.{HasLeft};
 ghost use Rattle.prop_index.specs.DefinitionRecord.{head_ids, head_of};
 ghost use Rattle.prop_index.specs.Entering.{IsMishap, IsNotFull};

@@ -7,7 +7,7 @@ ghost use Rattle.prop_index.specs.Finding.{IsDefined, IsFound};
 ghost use Rattle.store_rules.specs.IndexBreaking.{AreDefinitions};
 ghost use Rattle.prop_index.specs.Reading.{HasRoom};
 ghost use Rattle.rec_bytes.specs.Fault.{HasFaultCause, NotDamaged};
-ghost use Rattle.prop_store.specs.Fault.{BlamesBroken};
+ghost use Rattle.prop_index.specs.Blaming.{BlamesBroken};
 ghost use Rattle.prop_store.specs.Reading.{ReadsAtMost};
 ghost use Rattle.rec_bytes.specs.Format.{index_file};
 

@@ -15,7 +15,7 @@ ghost use Rattle.prop_index.specs.Gathering.{
 };
 ghost use Rattle.rec_bytes.specs.Fault.{HasFaultCause, NotDamaged};
 ghost use Rattle.rec_bytes.specs.Space.{SameButReads};
-ghost use Rattle.prop_store.specs.Fault.{BlamesBroken};
+ghost use Rattle.prop_index.specs.Blaming.{BlamesBroken};
 ghost use Rattle.prop_store.specs.Reading.{ReadsAtMost};
 ghost use Rattle.store_rules.specs.Indexes.{entry_hash, entry_node, index_rec};
 

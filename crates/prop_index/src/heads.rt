@@ -6,7 +6,7 @@ ghost use Rattle.prop_index.specs.Blaming.{NamesIndexes};
 ghost use Rattle.prop_index.specs.Finding.{AreOfOthers, LeadsToNone};
 ghost use Rattle.prop_index.specs.Heads.{IfBucketMet, IsBucketOf, IsBucketSought, IsSlotOf};
 ghost use Rattle.prop_index.specs.Reading.{HasRoom};
-ghost use Rattle.prop_store.specs.Fault.{BlamesBroken};
+ghost use Rattle.prop_index.specs.Blaming.{BlamesBroken};
 ghost use Rattle.prop_store.specs.Reading.{ReadsAtMost};
 ghost use Rattle.rec_bytes.specs.Fault.{HasFaultCause, NotDamaged};
 ghost use Rattle.rec_bytes.specs.Format as format;

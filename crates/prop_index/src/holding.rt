@@ -5,7 +5,7 @@ ghost use Rattle.prop_index.specs.Gathering.{IsEntryMet, IsListedNode, IsOwnerDa
 ghost use Rattle.prop_index.specs.Reading.{HasRoom};
 ghost use Rattle.rec_bytes.specs.Fault.{HasFaultCause, NotDamaged};
 ghost use Rattle.rec_bytes.specs.declared.record.Rec.{Rec};
-ghost use Rattle.prop_store.specs.Fault.{BlamesBroken};
+ghost use Rattle.prop_index.specs.Blaming.{BlamesBroken};
 ghost use Rattle.prop_store.specs.Owner.{IsOwner};
 ghost use Rattle.prop_store.specs.Reading.{ReadsAtMost, properties_met};
 ghost use Rattle.plain_graph.specs.Values.{value_cmp};

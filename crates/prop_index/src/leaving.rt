@@ -12,7 +12,7 @@ ghost use Rattle.prop_index.specs.Leaving.{IsBucketChain, IsDropped, IsEntryRow,
 ghost use Rattle.prop_index.specs.Leaving.{IsNoneOf, SaysContent};
 ghost use Rattle.prop_index.specs.Reading.{HasRoom, KeepsStore, damage_of};
 ghost use Rattle.prop_index.specs.Touching.{TouchesIndex};
-ghost use Rattle.prop_store.specs.Fault.{BlamesBroken};
+ghost use Rattle.prop_index.specs.Blaming.{BlamesBroken};
 ghost use Rattle.rec_bytes.specs.Fault.{HasFaultCause, NotDamaged};
 ghost use Rattle.rec_bytes.specs.Format.{index_file};
 ghost use Rattle.rec_bytes.specs.Key.{IsKey};

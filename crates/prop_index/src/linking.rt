@@ -1,7 +1,8 @@
 //! An entry in front of a bucket.
 
 ghost use Rattle.std.specs.Prelude.{◌≡◌, ◌≢◌, ◌+◌, ◌<◌, ◌≤◌, ℕ, List, IfErr, IfOk, OnOk};
-ghost use Rattle.id_freelist.specs.TakeFault.{BlamesBroken, HasTakeCause, NotDamaged};
+ghost use Rattle.id_freelist.specs.TakeFault.{HasTakeCause, NotDamaged};
+ghost use Rattle.prop_index.specs.Blaming.{TakeBlamesBroken as BlamesBroken};
 ghost use Rattle.id_freelist.specs.Taking.{CanTake};
 ghost use Rattle.prop_index.specs.Blaming.{TakeNamesIndexes};
 ghost use Rattle.prop_index.specs.Entering.{IsIndexFull};

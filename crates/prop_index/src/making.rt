@@ -4,6 +4,7 @@ ghost use Rattle.std.specs.Prelude.{◌≡◌, ◌+◌, ◌≤◌, ◌↔◌, Co
 ghost use Rattle.std.specs.Prelude.{length};
 ghost use Rattle.id_freelist.specs.TakeFault as takes;
 ghost use Rattle.id_freelist.specs.TakeFault.{HasTakeCause};
+ghost use Rattle.prop_index.specs.Blaming.{TakeBlamesBroken};
 ghost use Rattle.prop_index.specs.Collecting.{contents_in};
 ghost use Rattle.prop_index.specs.Defining.{AreNamesOf, HasLeft};
 ghost use Rattle.prop_index.specs.Entering.{IsMishap, IsNotFull};
@@ -145,7 +146,7 @@ fn write_index<S: Space>(
     ensures roomy { S.tells → HasLeft (S.state space.old) (13 + length contents.now)
         → IfErr result IsNotFull }
     ensures still { S.tells → IfErr result
-        (takes.BlamesBroken (S.state space.new).records (S.state space.new).shape) }
+        (TakeBlamesBroken (S.state space.new).records (S.state space.new).shape) }
     ensures touches { TouchesIndex S.tells (13 + length contents.now)
         (S.state space.old) (S.state space.new) }
     ensures onward { S.onward space.old space.new }

@@ -3,22 +3,15 @@ use Rattle.std.specs.Prelude.{◌≡◌, ℕ, ◌≤◌, Option, None, Some, tru
 use Rattle.rec_bytes.specs.declared.damage.Damage.{Damage}
 use Rattle.rec_bytes.specs.declared.shape.Shape.{Shape}
 use Rattle.rec_bytes.specs.RecordFiles.{is_meta_file}
-use Rattle.rec_bytes.specs.RuleNumbers.{chain_rule}
-use Rattle.rec_bytes.specs.Format.{groups_file, most_ids}
+use Rattle.rec_bytes.specs.Format.{most_ids}
 use Rattle.store_rules.specs.Views.{Records, high}
-use Rattle.store_rules.specs.Breaking.{Breaks, IsOnOwnChain, Keeps}
+use Rattle.store_rules.specs.Breaking.{BreaksAny, Keeps}
 
--- The third rule speaks of no other groups than those on the group chains of their owners.
-abbrev pub IsSpokenOf : Records → Damage → Type 0
-IsSpokenOf records damage =
-    damage.file ≡ groups_file → damage.rule ≡ chain_rule → IsOnOwnChain records damage.id
-
--- The record breaks the rule of this number, and the rule speaks of it.
+-- The record breaks the rule of this number.
 pub record BreaksRule (records : Records) (shape : Shape) (rule : ℕ) (damage : Damage)
     : Type 0 where
   pub rule_is : damage.rule ≡ rule
-  pub breaks : Breaks records shape damage
-  pub spoken : IsSpokenOf records damage
+  pub breaks : BreaksAny records shape damage
 
 -- One rule is decided: it is kept, or a record breaks it.
 abbrev pub DecidesRule : Records → Shape → ℕ → Option Damage → Type 0

@@ -75,59 +75,11 @@ not_reused file known out = ⊎_elim (λ e. e) (λ other. absurd (true≢false (
 
 -- ---- the records of the meta file
 
--- what is true of each number below another
-all_below : (ℕ → Bool) → ℕ → Bool
-all_below test zero = true
-all_below test (suc n) = test n && all_below test n
-
-below_all : (test : ℕ → Bool) (n : ℕ) → all_below test n ≡ true → (id : ℕ) → id < n → test id ≡ true
-unfolding all_below
-below_all test zero all id lt = absurd (omega arith)
-below_all test (suc n) all id lt =
-    let parts = and_parts (test n) (all_below test n) all in
-    ⊎_elim (λ (low : id < n). below_all test n parts.1 id low) (λ (ge : n ≤ id). let same : n ≡ id = omega arith in ap test (sym same) ∙ parts.0) (cases_lt id n)
-
 abbrev counts : MetaForm → Bool
 counts Own = false
 counts Counts = true
 counts Taken = false
 counts Index = true
-
-abbrev is_taken : MetaForm → Bool
-is_taken Own = false
-is_taken Counts = false
-is_taken Taken = true
-is_taken Index = false
-
--- a record with counts is that of a file with its number, and the one other but the store's own stands at a place of its own
-abbrev stands_right : ℕ → Bool
-stands_right id = cond (counts (form_of id)) (is_meta_file id) true && cond (is_taken (form_of id)) (nat_eq id format.taken_id) true
-
-all_right : all_below stands_right format.meta_records ≡ true
-unfolding all_below
-all_right = refl
-
-file_of : (id : ℕ) → id < format.meta_records → counts (form_of id) ≡ true → is_meta_file id ≡ true
-file_of id lt c = pick (counts (form_of id)) (and_parts (cond (counts (form_of id)) (is_meta_file id) true) (cond (is_taken (form_of id)) (nat_eq id format.taken_id) true) (below_all stands_right format.meta_records all_right id lt)).0 c
-  where
-    pick : (b : Bool) → cond b (is_meta_file id) true ≡ true → b ≡ true → is_meta_file id ≡ true
-    pick true h e = h
-    pick false h e = absurd cc
-
-taken_of : (id : ℕ) → id < format.meta_records → is_taken (form_of id) ≡ true → id ≡ format.taken_id
-taken_of id lt c =
-    let same = pick (is_taken (form_of id)) (and_parts (cond (counts (form_of id)) (is_meta_file id) true) (cond (is_taken (form_of id)) (nat_eq id format.taken_id) true) (below_all stands_right format.meta_records all_right id lt)).1 c in
-    grind (arith, nat_tests)
-  where
-    pick : (b : Bool) → cond b (nat_eq id format.taken_id) true ≡ true → b ≡ true → nat_eq id format.taken_id ≡ true
-    pick true h e = h
-    pick false h e = absurd cc
-
-right_as : (form : MetaForm) (shape : Shape) (id : ℕ) (r : Rec) → (counts form ≡ true → IsMetaInRange shape id r) → (is_taken form ≡ true → zeros_from format.taken_rest r ≡ true) → IsRightAs form format.newest_version shape id r
-right_as Own shape id r counted taken = tt
-right_as Counts shape id r counted taken = counted refl
-right_as Taken shape id r counted taken = taken refl
-right_as Index shape id r counted taken = record { before = λ lt. absurd (omega (arith, lt)); since = λ _. counted refl }
 
 in_range_as : (form : MetaForm) (shape : Shape) (id : ℕ) (r : Rec) → counts form ≡ true → IsRightAs form format.newest_version shape id r → IsMetaInRange shape id r
 in_range_as Own shape id r c h = absurd cc
@@ -139,11 +91,6 @@ in_range_as Index shape id r c h = h.since (omega arith)
 pub in_range_of : (shape : Shape) (file : ℕ) (r : Rec) → is_meta_file file ≡ true → IsMetaRight format.newest_version shape file r → IsMetaInRange shape file r
 in_range_of shape file r known = in_range_as (form_of file) shape file r (passes (λ f. counts (form_of f)) meta_files file refl known)
 
--- where the store keeps the first rule each record of the meta file is right
-pub metas_right : (records : Records) (shape : Shape) → AreInRange records shape → (id : ℕ) → id < format.meta_records → IsMetaRight format.newest_version shape id (records (meta_key_of id))
-metas_right records shape h id lt = right_as (form_of id) shape id (records (meta_key_of id)) (λ c. h.metas id (file_of id lt c))
-    (λ t. subst (λ k. zeros_from format.taken_rest (records (meta_key_of k)) ≡ true) (sym (taken_of id lt t)) h.taken)
-
--- and where each of them is right it keeps what the rule says of them
+-- where the record of the last transaction that was taken over is right it says what the rule says of it
 pub taken_right : (shape : Shape) (r : Rec) → IsMetaRight format.newest_version shape format.taken_id r → zeros_from format.taken_rest r ≡ true
 taken_right shape r h = h

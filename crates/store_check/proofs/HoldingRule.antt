@@ -12,10 +12,10 @@ use Rattle.store_rules.specs.Breaking.{AreProperties, HasBlock, HasProperty, IsB
 use Rattle.store_check.specs.Holding.{AreDefinitionsRight, AreElementsRight, AreTextsRight}
 use Rattle.store_check.proofs.BlockLaws.{long_low}
 use Rattle.store_check.proofs.DefinitionLaws.{are_defined}
-use Rattle.store_check.proofs.ElementLaws.{owns_is}
+use Rattle.store_rules.proofs.ElementOwners.{owns_is}
+use Rattle.store_rules.proofs.PropertyHolds.{blocks_one, owns_text, text_of, text_owner}
 use Rattle.record_lists.proofs.LiveLaws.{live_below}
 use Rattle.store_check.proofs.PropertyLaws.{properties_one}
-use Rattle.store_check.proofs.TextLaws.{blocks_one}
 
 -- lists of owners, from what each has
 module _ (owner : ℕ → ℕ → Option ℕ) (Is : ℕ → ℕ → ℕ → List ℕ → Type 0) (keeps : (file x first : ℕ) → owner file x ≡ Some first → (xs : List ℕ) × Is file x first xs) where
@@ -91,9 +91,6 @@ module _ (records : Records) where
 
   -- ---- blocks of texts
 
-  abbrev pub text_owner : ℕ → ℕ → Option ℕ
-  text_owner = rules.block_owner (kind_at records format.properties_file) (rec_at records format.properties_file)
-
   -- a text that has its blocks
   pub record IsText (file p first : ℕ) (xs : List ℕ) : Type 0 where
     pub file_is : file ≡ format.properties_file
@@ -101,43 +98,30 @@ module _ (records : Records) where
     pub first_is : first_block records p ≡ first
     pub list : IsBlockList records p xs
 
-  owner_by : (a b : Bool) (f first : ℕ) → cond (a && b) (Some f) None ≡ Some first → (a ≡ true) × (b ≡ true) × (f ≡ first)
-  owner_by true true f first h = (refl, refl, cc)
-  owner_by true false f first h = absurd cc
-  owner_by false b f first h = absurd cc
-
-  text_of : (file p first : ℕ) → text_owner file p ≡ Some first → (file ≡ format.properties_file) × IsLong records p × (first_block records p ≡ first)
-  text_of file p first own =
-      let r = owner_by (nat_eq file format.properties_file) (nat_eq (kind_at records format.properties_file p) format.text_in_blocks) (first_block records p) first own in
-      (eqb-true file format.properties_file r.0, eqb-true (kind_at records format.properties_file p) format.text_in_blocks r.1, r.2)
-
-  pub owns_text : (p : ℕ) → IsLong records p → text_owner format.properties_file p ≡ Some (first_block records p)
-  owns_text p long = rw (eq_true (kind_at records format.properties_file p) format.text_in_blocks long) refl
-
   module _ (right : AreTextsRight records) where
-    pub its_blocks : (file p first : ℕ) → text_owner file p ≡ Some first → (xs : List ℕ) × IsText file p first xs
+    pub its_blocks : (file p first : ℕ) → text_owner records file p ≡ Some first → (xs : List ℕ) × IsText file p first xs
     its_blocks file p first own =
-        let t = text_of file p first own in
+        let t = text_of records file p first own in
         let l = (right.keeps p (long_low records p t.1)).text t.1 in
         (l.0, record { file_is = t.0; long = t.1; first_is = t.2; list = l.1 })
 
     abbrev pub texts : ℕ → ℕ → List ℕ
-    texts = lists_of text_owner IsText its_blocks
+    texts = lists_of (text_owner records) IsText its_blocks
 
-    text : (file p first : ℕ) → text_owner file p ≡ Some first → IsText file p first (texts file p)
-    text = list_is text_owner IsText its_blocks
+    text : (file p first : ℕ) → text_owner records file p ≡ Some first → IsText file p first (texts file p)
+    text = list_is (text_owner records) IsText its_blocks
 
-    has_block : (file p first b : ℕ) → text_owner file p ≡ Some first → In b (texts file p) → HasBlock records p b
+    has_block : (file p first b : ℕ) → text_owner records file p ≡ Some first → In b (texts file p) → HasBlock records p b
     has_block file p first b own i = let t = text file p first own in record { long = t.long; members = texts file p; list = t.list; member = i }
 
-    pub blocks_held : rules.AreHeld text_owner (next_block records) (is_live records format.strings_file)
+    pub blocks_held : rules.AreHeld (text_owner records) (next_block records) (is_live records format.strings_file)
     blocks_held = record {
       lists = texts;
       walk = λ file p first own. let t = text file p first own in subst (λ f. IsWalk (next_block records) f (texts file p)) t.first_is t.list.walk;
       only = λ file p first b own i. let t = text file p first own in t.list.live b i;
       held = λ b live.
           let h = (right.held b).held live in
-          let own = owns_text h.0 h.1.long in
+          let own = owns_text records h.0 h.1.long in
           let t = text format.properties_file h.0 (first_block records h.0) own in
           let one = blocks_one records h.0 h.1.members (texts format.properties_file h.0) h.1.list t.list in
           (format.properties_file, h.0, first_block records h.0, (own, subst (In b) one h.1.member));
@@ -147,7 +131,7 @@ module _ (records : Records) where
           (t.file_is ∙ sym u.file_is, (right.held b).once p q (has_block file p first b own i) (has_block other q second b own2 j));
     }
 
-    pub have_texts : rules.HaveTexts text_owner texts (rec_at records format.properties_file) (rec_at records format.strings_file)
+    pub have_texts : rules.HaveTexts (text_owner records) texts (rec_at records format.properties_file) (rec_at records format.strings_file)
     have_texts = record { pieces = λ file p first own. let t = text file p first own in t.list.pieces }
 
   -- where each record keeps it, the store does
@@ -163,55 +147,3 @@ module _ (records : Records) where
     named = are_named elements;
     defined = are_defined records definitions;
   }
-
-  -- ---- where the store keeps it, each record does
-
-  module _ (h : AreProperties records) where
-    kept_list : (file x first : ℕ) → Owns records file x first → IsPropertyList records first (h.properties.held.lists file x)
-    kept_list file x first own = record {
-      walk = h.properties.held.walk file x first own;
-      live = λ p i. h.properties.held.only file x first p own i;
-      few = h.properties.keys.few file x first own;
-      named = λ p i. h.properties.keys.named file x first p own i;
-      distinct = λ p q i j e. h.properties.keys.distinct file x first p q own i j e;
-    }
-
-    pub element_list : (file x first : ℕ) → Owns records file x first → (members : List ℕ) × IsPropertyList records first members
-    element_list file x first own = (h.properties.held.lists file x, kept_list file x first own)
-
-    kept_in : (file x p : ℕ) (k : HasProperty records file x p) → In p (h.properties.held.lists file x)
-    kept_in file x p k =
-        let a = k.among in
-        subst (In p) (walk_is (next_property records) k.first a.members (h.properties.held.lists file x) a.list.walk (h.properties.held.walk file x k.first k.owns)) a.member
-
-    pub held_kept : (p : ℕ) → IsHeldOnce records p
-    held_kept p = record {
-      held = λ live. let k = h.properties.held.held p live in (k.0, k.1, record { first = k.2; owns = k.3.0; among = record { members = h.properties.held.lists k.0 k.1; list = kept_list k.0 k.1 k.2 k.3.0; member = k.3.1 } });
-      once = λ file x other y a b. h.properties.held.once file x a.first other y b.first p a.owns b.owns (kept_in file x p a) (kept_in other y p b);
-    }
-
-    kept_text : (p : ℕ) → IsLong records p → IsBlockList records p (h.properties.blocks.lists format.properties_file p)
-    kept_text p long =
-        let own = owns_text p long in
-        record {
-          walk = h.properties.blocks.walk format.properties_file p (first_block records p) own;
-          live = λ b i. h.properties.blocks.only format.properties_file p (first_block records p) b own i;
-          pieces = h.properties.texts.pieces format.properties_file p (first_block records p) own;
-        }
-
-    pub text_kept : (p : ℕ) → TextKeeps records p
-    text_kept p = record { text = λ long. (h.properties.blocks.lists format.properties_file p, kept_text p long) }
-
-    kept_block : (p b : ℕ) → HasBlock records p b → In b (h.properties.blocks.lists format.properties_file p)
-    kept_block p b k = subst (In b) (blocks_one records p k.members (h.properties.blocks.lists format.properties_file p) k.list (kept_text p k.long)) k.member
-
-    pub block_kept : (b : ℕ) → IsBlockHeldOnce records b
-    block_kept b = record {
-      held = λ live.
-          let k = h.properties.blocks.held b live in
-          let t = text_of k.0 k.1 k.2 k.3.0 in
-          let i = subst (λ f. In b (h.properties.blocks.lists f k.1)) t.0 k.3.1 in
-          (k.1, record { long = t.1; members = h.properties.blocks.lists format.properties_file k.1; list = kept_text k.1 t.1; member = i });
-      once = λ p q a c.
-          (h.properties.blocks.once format.properties_file p (first_block records p) format.properties_file q (first_block records q) b (owns_text p a.long) (owns_text q c.long) (kept_block p b a) (kept_block q b c)).1;
-    }

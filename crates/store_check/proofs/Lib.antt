@@ -1,5 +1,5 @@
+pub mod AllRules
 pub mod BlockLaws
-pub mod BreachLaws
 pub mod DefinitionLaws
 pub mod ElementLaws
 pub mod FileLaws

@@ -11,7 +11,7 @@ use Rattle.store_check.specs.Holding.{AllListed, AreElementsRight, IsHeld}
 use Rattle.store_check.specs.Listing.{AreListed, IsHadTwice, IsOfFile, IsUnlisted}
 use Rattle.record_lists.specs.Marks.{marked}
 use Rattle.record_lists.specs.Deciding.{BreaksRule}
-use Rattle.store_check.proofs.ElementLaws.{owns_is}
+use Rattle.store_rules.proofs.ElementOwners.{owns_is}
 use Rattle.record_lists.proofs.LiveLaws.{live_below}
 use Rattle.record_lists.proofs.DecidingLaws.{breaks_by}
 
@@ -29,9 +29,9 @@ module _ (records : Records) where
       → IsUnlisted records file old d → BreaksRule records shape 5 d
   unlisted_breaks shape file old d known others u = ⊎_elim
       (λ (e : (x : ℕ) × (d ≡ damage file x 5) × (x < high records file) × (¬ ElementKeeps records file x)).
-      breaks_by records shape 5 d (damage file e.0 5) e.1 refl refl (WrongElement file e.0 known e.2 e.3))
+      breaks_by records shape 5 d (damage file e.0 5) e.1 refl (WrongElement file e.0 known e.2 e.3))
       (λ (e : (p : ℕ) × (d ≡ damage format.properties_file p 5) × IsHadTwice records file old p).
-      breaks_by records shape 5 d (damage format.properties_file e.0 5) e.1 refl refl (WrongHolding e.0 (λ k. twice e.0 e.2 k)))
+      breaks_by records shape 5 d (damage format.properties_file e.0 5) e.1 refl (WrongHolding e.0 (λ k. twice e.0 e.2 k)))
       u
     where
       twice : (p : ℕ) → IsHadTwice records file old p → IsHeldOnce records p → ⊥

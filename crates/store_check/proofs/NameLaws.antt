@@ -22,13 +22,9 @@ name_breaks records shape d keeps (WrongForm x lt bad) =
   where
     none_some : (l : ranges.Layout) → None ≡ Some l → ⊥
     none_some l e = absurd cc
-name_breaks records shape d keeps (WrongText x lt form bad) = breaks_by records shape 6 _ (damage format.names_file x 6) refl refl refl (WrongName x lt (λ (k : NameKeeps records x). bad k.form))
+name_breaks records shape d keeps (WrongText x lt form bad) = breaks_by records shape 6 _ (damage format.names_file x 6) refl refl (WrongName x lt (λ (k : NameKeeps records x). bad k.form))
 name_breaks records shape d keeps (SameText x earlier lt form below same) =
-    breaks_by records shape 6 _ (damage format.names_file x 6) refl refl refl (WrongName x lt (λ (k : NameKeeps records x). let e = k.alone earlier (omega arith) same in absurd (omega arith)))
-
--- where the store keeps the rule each name does
-pub name_keeps : (records : Records) → rules.AreNames (rec_at records format.names_file) (high records format.names_file) → (x : ℕ) → x < high records format.names_file → NameKeeps records x
-name_keeps records h x lt = record { form = h.form x lt; alone = λ y low e. h.distinct y x low lt e }
+    breaks_by records shape 6 _ (damage format.names_file x 6) refl refl (WrongName x lt (λ (k : NameKeeps records x). let e = k.alone earlier (omega arith) same in absurd (omega arith)))
 
 -- reads leave the shape and what was written
 pub shape-after_gets : (n : ℕ) (s : State) → (after_gets n s).shape ≡ s.shape

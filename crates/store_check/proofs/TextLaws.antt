@@ -53,9 +53,6 @@ module _ (records : Records) (p : ℕ) where
   pub no_blocks : ((xs : List ℕ) → ¬ IsIt xs) → (xs : List ℕ) → ¬ IsBlockList records p xs
   no_blocks none xs h = none xs (line_from records format.strings_file format.block_next (first_block records p) xs h.walk h.live)
 
-  pub blocks_one : (xs ys : List ℕ) → IsBlockList records p xs → IsBlockList records p ys → xs ≡ ys
-  blocks_one xs ys h k = walk_is (next_block records) (first_block records p) xs ys h.walk k.walk
-
   module _ (room : high records format.strings_file ≤ format.most_ids) (xs : List ℕ) (it : IsIt xs) where
     its_walk : IsWalk (next_block records) (first_block records p) xs
     its_walk = walk_from records format.strings_file format.block_next (first_block records p) room xs it

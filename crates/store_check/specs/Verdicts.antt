@@ -6,17 +6,14 @@ use Rattle.rec_bytes.specs.declared.shape.Shape.{Shape}
 use Rattle.store_rules.specs.Views.{Records}
 use Rattle.store_check.specs.declared.verdict.Verdict.{Verdict}
 use Rattle.store_check.specs.declared.verdict.Verdict.TheVariants.{Sound, Broken}
-use Rattle.store_rules.specs.Breaking.{Breaks, Keeps}
-use Rattle.record_lists.specs.Deciding.{IsSpokenOf}
+use Rattle.store_rules.specs.Breaking.{BreaksAny, Keeps}
 
--- The record breaks a rule from the first one asked for on, and the rule speaks of it. All such
--- rules below it are kept.
+-- The record breaks a rule from the first one asked for on. All such rules below it are kept.
 pub record IsLeastBroken (records : Records) (shape : Shape) (from : ℕ) (damage : Damage)
     : Type 0 where
   pub low : from ≤ damage.rule
   pub lesser : (n : ℕ) → from ≤ n → n < damage.rule → Keeps records shape n
-  pub breaks : Breaks records shape damage
-  pub spoken : IsSpokenOf records damage
+  pub breaks : BreaksAny records shape damage
 
 -- a verdict that a rule is broken names the least such rule and a record that breaks it
 abbrev pub BrokenIs : Records → Shape → Verdict → Type 0

@@ -90,9 +90,9 @@ module _ (records : Records) where
   not_indexed d (WrongEntry x bad) ix = bad ((parts_of records ix).entry x)
   not_indexed d (WrongNode n bad) ix = bad ((parts_of records ix).node n)
   not_indexed d (LeftOver x live bad) ix = bad ((parts_of records ix).held x live)
-  not_indexed d (OtherDefinition x leads other) ix = other (ix.defined x (definition_met records (wanted_in records) ix x leads))
-  not_indexed d (OtherHead x c leads defined low other) ix = other (ix.heads x c (definition_met records (wanted_in records) ix x leads) low)
-  not_indexed d (OtherEntry x b n y leads other) ix =
+  not_indexed d (OtherDefinition x leads given other) ix = other (ix.defined x (definition_met records (wanted_in records) ix x leads))
+  not_indexed d (OtherHead x c leads defined low given other) ix = other (ix.heads x c (definition_met records (wanted_in records) ix x leads) low)
+  not_indexed d (OtherEntry x b n y leads given other) ix =
       let has = has_head records (wanted_in records) ix x b n y leads in
       other ((ix.buckets x b (definition_met records (wanted_in records) ix x has.leads) has.low).kind y (entry_met records (wanted_in records) ix x b n y leads).0)
   not_indexed d (LateEntry x b n y leads late) ix = never_late records (wanted_in records) ix x b n y leads late
@@ -108,8 +108,8 @@ module _ (records : Records) where
   index_rule d (WrongEntry x bad) = refl
   index_rule d (WrongNode n bad) = refl
   index_rule d (LeftOver x live bad) = refl
-  index_rule d (OtherDefinition x leads other) = refl
-  index_rule d (OtherHead x c leads defined low other) = refl
-  index_rule d (OtherEntry x b n y leads other) = refl
+  index_rule d (OtherDefinition x leads given other) = refl
+  index_rule d (OtherHead x c leads defined low given other) = refl
+  index_rule d (OtherEntry x b n y leads given other) = refl
   index_rule d (LateEntry x b n y leads late) = refl
   index_rule d (UnwantedEntry x b n y leads used not) = refl

@@ -1,4 +1,5 @@
 pub mod BlockLists
+pub mod Breaches
 pub mod BucketChange
 pub mod ChainLaws
 pub mod ChainRules
@@ -11,6 +12,7 @@ pub mod DefinitionMade
 pub mod EdgeChange
 pub mod EdgeGone
 pub mod EdgeMade
+pub mod ElementOwners
 pub mod ElementProperties
 pub mod EntryGone
 pub mod EntryMade
@@ -19,6 +21,7 @@ pub mod Frames
 pub mod GraphIndexes
 pub mod GraphRows
 pub mod GroupLaws
+pub mod GroupOwners
 pub mod GroupPlaces
 pub mod HeldChange
 pub mod IndexBreaches
@@ -34,6 +37,7 @@ pub mod Made
 pub mod MemberLaws
 pub mod Members
 pub mod MetaLaws
+pub mod MetaRights
 pub mod NameMade
 pub mod NameRows
 pub mod NewIndexes
@@ -50,6 +54,7 @@ pub mod PropertyCounts
 pub mod PropertyFrames
 pub mod PropertyGraph
 pub mod PropertyHeld
+pub mod PropertyHolds
 pub mod PropertyLists
 pub mod PropertyMaps
 pub mod PropertyOwners

@@ -347,7 +347,7 @@ Keeps records shape (suc (suc (suc (suc (suc (suc (suc (suc (suc n))))))))) = Un
 abbrev pub damage : ℕ → ℕ → ℕ → Damage
 damage file id rule = record { file = file; id = id; rule = rule }
 
--- The record breaks the rule: what the rule says of it is false.
+-- The record breaks one of the first seven rules: what the rule says of it is false.
 pub data Breaks (records : Records) (shape : Shape) : Damage → Type 0 where
   OwnRecord : ¬ IsOwnRight records shape
       → Breaks records shape (damage format.meta_file format.own_id 1)
@@ -365,7 +365,8 @@ pub data Breaks (records : Records) (shape : Shape) : Damage → Type 0 where
       → Breaks records shape (damage format.meta_file format.names_file 2)
   NodeChain : (n : ℕ) → n < high records format.nodes_file → ¬ NodeKeeps records n
       → Breaks records shape (damage format.nodes_file n 3)
-  GroupChains : (g : ℕ) → g < high records format.groups_file → ¬ GroupKeeps records g
+  GroupChains : (g : ℕ) → g < high records format.groups_file → IsOnOwnChain records g
+      → ¬ GroupKeeps records g
       → Breaks records shape (damage format.groups_file g 3)
   RelEnds : (x : ℕ) → x < high records format.relationships_file → ¬ RelKeeps records x
       → Breaks records shape (damage format.relationships_file x 3)
@@ -388,4 +389,7 @@ pub data Breaks (records : Records) (shape : Shape) : Damage → Type 0 where
   WrongDegree : (n : ℕ) → n < high records format.nodes_file
       → ¬ DegreeKeeps records shape.threshold n
       → Breaks records shape (damage format.nodes_file n 7)
-  WrongIndex : (d : Damage) → IndexBreaks records d → Breaks records shape d
+
+-- The record breaks one of all eight.
+abbrev pub BreaksAny : Records → Shape → Damage → Type 0
+BreaksAny records shape d = Breaks records shape d ⊎ IndexBreaks records d

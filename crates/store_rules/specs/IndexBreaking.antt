@@ -136,9 +136,9 @@ pub data LeadsToEntry (records : Records) (d b : ℕ) : ℕ → ℕ → Type 0 w
 abbrev pub index_damage : ℕ → ℕ → Damage
 index_damage file id = record { file = file; id = id; rule = 8 }
 
--- The record breaks the eighth rule: what the rule says of it is false. Or a link of the indexes
--- leads to it, and it is of another kind; it stands in a bucket after as many entries as were given
--- out; or it is an entry of a bucket that isn't wanted there.
+-- The record breaks the eighth rule: what the rule says of it is false. Or it was given out, a link
+-- of the indexes leads to it, and it is of another kind; it stands in a bucket after as many entries
+-- as were given out; or it is an entry of a bucket that isn't wanted there.
 pub data IndexBreaks (records : Records) : Damage → Type 0 where
   WrongDefinitions : ¬ HasDefinitions records
       → IndexBreaks records (index_damage format.meta_file format.index_file)
@@ -152,14 +152,15 @@ pub data IndexBreaks (records : Records) : Damage → Type 0 where
       → IndexBreaks records (index_damage format.nodes_file n)
   LeftOver : (x : ℕ) → is_live records format.index_file x ≡ true → ¬ IsOfAnIndex records x
       → IndexBreaks records (index_damage format.index_file x)
-  OtherDefinition : (d : ℕ) → LeadsToDefinition records d
+  OtherDefinition : (d : ℕ) → LeadsToDefinition records d → d < high records format.index_file
       → kind_at records format.index_file d ≢ format.definition
       → IndexBreaks records (index_damage format.index_file d)
   OtherHead : (d c : ℕ) → LeadsToDefinition records d
       → kind_at records format.index_file d ≡ format.definition → c < 12
+      → heads_of records d c < high records format.index_file
       → kind_at records format.index_file (heads_of records d c) ≢ format.heads
       → IndexBreaks records (index_damage format.index_file (heads_of records d c))
-  OtherEntry : (d b n x : ℕ) → LeadsToEntry records d b n x
+  OtherEntry : (d b n x : ℕ) → LeadsToEntry records d b n x → x < high records format.index_file
       → kind_at records format.index_file x ≢ format.indexed
       → IndexBreaks records (index_damage format.index_file x)
   LateEntry : (d b n x : ℕ) → LeadsToEntry records d b n x

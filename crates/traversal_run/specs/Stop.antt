@@ -18,13 +18,12 @@ of_fault (faults.Damaged damage) = Damaged damage
 abbrev pub of_memory : Stop
 of_memory = Memory
 
--- What is known where a run stops: that all was given, or that a count passes. No record is said to
--- be damaged.
+-- What is known where a run stops: that all was given, or that a count passes.
 abbrev pub MayStop : Type 0 → Type 0 → Stop → Type 0
 MayStop ended past End = ended
 MayStop ended past Memory = Unit {0}
 MayStop ended past Disk = Unit {0}
-MayStop ended past (Damaged damage) = ⊥
+MayStop ended past (Damaged damage) = Unit {0}
 MayStop ended past PastCount = past
 
 -- the disk is blamed only where it failed

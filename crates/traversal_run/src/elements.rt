@@ -11,9 +11,9 @@ ghost use Rattle.plain_graph.specs.declared.item.Item.TheVariants as items;
 ghost use Rattle.rec_bytes.specs.Key.{IsKey};
 ghost use Rattle.node_store.specs.NodeRecord.{node_key};
 ghost use Rattle.node_store.specs.Loading.{IsNodeFault, IsReadable, row_at};
-ghost use Rattle.rec_bytes.specs.RowFault.{HasRowCause, NotDamaged as NotDamagedRow};
+ghost use Rattle.rec_bytes.specs.RowFault.{HasRowCause};
 ghost use Rattle.traversal_run.specs.Elements.{IsOwnerOf, IsRowOf};
-ghost use Rattle.rec_bytes.specs.Fault.{HasFaultCause, NotDamaged};
+ghost use Rattle.rec_bytes.specs.Fault.{HasFaultCause};
 ghost use Rattle.prop_store.specs.Fault.{BlamesBroken};
 ghost use Rattle.traversal_run.specs.Reading.{IsNamedStore, IsRead};
 
@@ -46,7 +46,6 @@ fn row_of<R: Reads>(
     requires row { IsRowOf R.tells (R.state space.old).records (items.Vertex id) row.now }
     ensures found { R.tells → IfOk result (λ row. row ≡ row_at (R.state space.old).records id) }
     ensures damaged { R.tells → IfErr result (IsNodeFault (R.state space.old) id) }
-    ensures sound { R.tells → IsReadable (R.state space.old) id → NotDamagedRow result }
     ensures key { IfOk result (λ row. IfSome row (λ _. IsKey (node_key id))) }
     ensures read { IsRead R.Reads space.old space.new }
     ensures cause { HasRowCause (R.faults space.old) (R.faults space.new) result }
@@ -68,8 +67,6 @@ pub(crate) fn owner_of<R: Reads>(
     requires row { IsRowOf R.tells (R.state space.old).records item.now row.now }
     ensures found { R.tells
         → IfOk result (λ owned. IsOwnerOf (R.state space.old) item.now owned) }
-    ensures sound { R.tells
-        → IsWellFormed (R.state space.old).records (R.state space.old).shape → NotDamaged result }
     ensures damaged { R.tells → IfErr result
         (BlamesBroken (R.state space.old).records (R.state space.old).shape) }
     ensures owner { IfOk result (λ owned. IfSome owned (λ found. IsOwner found.owner)) }
@@ -119,9 +116,6 @@ pub(crate) fn label_of<'a, R: Reads>(
         → IsNamedStore (R.state space.old).records (R.state space.old).shape names.now.names
         → IfOk result (λ label. option_map (λ (text : Bor (List ℕ)). text.now) label
         ≡ label_of (graph_of (R.state space.old).records) item.now) }
-    ensures sound { R.tells
-        → IsNamedStore (R.state space.old).records (R.state space.old).shape names.now.names
-        → NotDamaged result }
     ensures damaged { R.tells → IfErr result
         (BlamesBroken (R.state space.old).records (R.state space.old).shape) }
     ensures short { IsShown item.now
@@ -148,9 +142,6 @@ fn vertex_label<'a, R: Reads>(
         → IsNamedStore (R.state space.old).records (R.state space.old).shape names.now.names
         → IfOk result (λ label. option_map (λ (text : Bor (List ℕ)). text.now) label
         ≡ label_of (graph_of (R.state space.old).records) (items.Vertex id)) }
-    ensures sound { R.tells
-        → IsNamedStore (R.state space.old).records (R.state space.old).shape names.now.names
-        → NotDamaged result }
     ensures damaged { R.tells → IfErr result
         (BlamesBroken (R.state space.old).records (R.state space.old).shape) }
     ensures short { IfOk result (λ label. IfSome label (λ text. length text.now ≤ 48)) }
@@ -182,9 +173,6 @@ pub(crate) fn value_of<R: Reads>(
         → IsNamedStore (R.state space.old).records (R.state space.old).shape names.now.names
         → IfOk result (λ value. value
         ≡ maps.get (properties_of (graph_of (R.state space.old).records) item.now) key.now) }
-    ensures sound { R.tells
-        → IsNamedStore (R.state space.old).records (R.state space.old).shape names.now.names
-        → NotDamaged result }
     ensures damaged { R.tells → IfErr result
         (BlamesBroken (R.state space.old).records (R.state space.old).shape) }
     ensures kept { IfOk result (λ value. IfSome value IsKept) }

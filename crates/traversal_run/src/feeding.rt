@@ -3,7 +3,7 @@
 ghost use Rattle.std.specs.Prelude.{◌≡◌, ◌≤◌, ℕ, [], IfErr, IfOk, IfSome, OnOk, false};
 ghost use Rattle.std.specs.Prelude.{length, true};
 ghost use Rattle.store_rules.specs.Graph.{graph_of};
-ghost use Rattle.rec_bytes.specs.Fault.{HasFaultCause, NotDamaged};
+ghost use Rattle.rec_bytes.specs.Fault.{HasFaultCause};
 ghost use Rattle.prop_store.specs.Fault.{BlamesBroken};
 ghost use Rattle.traversal_run.specs.Feeding.{Feeds, IsCountOf, filter_stage, passing};
 ghost use Rattle.traversal_run.specs.Elements.{IsRowOf};
@@ -96,9 +96,6 @@ fn first_passing<R: Reads>(
         → IsNamedStore (R.state space.old).records (R.state space.old).shape names.now.names
         → IfOk result (λ outs. Feeds (graph_of (R.state space.old).records) source.old
         (filter_stage filter.now) outs source.new (filter_stage filter.now)) }
-    ensures sound { R.tells
-        → IsNamedStore (R.state space.old).records (R.state space.old).shape names.now.names
-        → NotDamaged result }
     ensures damaged { R.tells → IfErr result
         (BlamesBroken (R.state space.old).records (R.state space.old).shape) }
     ensures few { IfOk result (λ outs. length outs ≤ 1) }
@@ -134,9 +131,6 @@ fn feed_vertices<R: Reads>(
         → IsNamedStore (R.state space.old).records (R.state space.old).shape names.now.names
         → IfOk result (λ outs. Feeds (graph_of (R.state space.old).records)
         source.old stage.old outs source.new stage.new) }
-    ensures sound { R.tells
-        → IsNamedStore (R.state space.old).records (R.state space.old).shape names.now.names
-        → NotDamaged result }
     ensures damaged { R.tells → IfErr result
         (BlamesBroken (R.state space.old).records (R.state space.old).shape) }
     ensures limits { IfOk result (λ outs.
@@ -178,9 +172,6 @@ fn feed_edges<R: Reads>(
         → IsNamedStore (R.state space.old).records (R.state space.old).shape names.now.names
         → IfOk result (λ outs. Feeds (graph_of (R.state space.old).records)
         source.old stage.old outs source.new stage.new) }
-    ensures sound { R.tells
-        → IsNamedStore (R.state space.old).records (R.state space.old).shape names.now.names
-        → NotDamaged result }
     ensures damaged { R.tells → IfErr result
         (BlamesBroken (R.state space.old).records (R.state space.old).shape) }
     ensures limits { IfOk result (λ outs.
@@ -226,9 +217,6 @@ pub(crate) fn count_passing<R: Reads>(
         (passing (graph_of (R.state space.old).records) filter.now source.old)
         so_far.old fits so_far.new) }
     ensures over { OnOk result ((graph : Graph) → left_of graph source.new ≡ []) }
-    ensures sound { R.tells
-        → IsNamedStore (R.state space.old).records (R.state space.old).shape names.now.names
-        → NotDamaged result }
     ensures damaged { R.tells → IfErr result
         (BlamesBroken (R.state space.old).records (R.state space.old).shape) }
     ensures read { IsRead R.Reads space.old space.new }
@@ -263,9 +251,6 @@ fn passes_at<R: Reads>(
         → IsNamedStore (R.state space.old).records (R.state space.old).shape names.now.names
         → IfOk result (λ value. value
         ≡ passes (graph_of (R.state space.old).records) filter.now (items.Vertex id)) }
-    ensures sound { R.tells
-        → IsNamedStore (R.state space.old).records (R.state space.old).shape names.now.names
-        → NotDamaged result }
     ensures damaged { R.tells → IfErr result
         (BlamesBroken (R.state space.old).records (R.state space.old).shape) }
     ensures read { IsRead R.Reads space.old space.new }

@@ -5,7 +5,7 @@ ghost use Rattle.plain_graph.specs.declared.item.Item.TheVariants as items;
 ghost use Rattle.store_rules.specs.Rules.{IsWellFormed};
 ghost use Rattle.traversal_run.specs.Finding.{element_at, element_mark, vertex_if};
 ghost use Rattle.traversal_run.specs.Elements.{IsRowOf};
-ghost use Rattle.rec_bytes.specs.Fault.{HasFaultCause, NotDamaged};
+ghost use Rattle.rec_bytes.specs.Fault.{HasFaultCause};
 ghost use Rattle.prop_store.specs.Fault.{BlamesBroken};
 ghost use Rattle.traversal_run.specs.Reading.{IsNamedStore, IsRead};
 
@@ -43,9 +43,6 @@ pub(crate) fn element_at<R: Reads>(
     ensures vertex { edges ≡ false
         → IfOk result (λ item. IfSome item (λ found. found ≡ items.Vertex id)) }
     ensures reads { (R.state space.new).reads ≤ (R.state space.old).reads + 1 }
-    ensures sound { R.tells
-        → IsNamedStore (R.state space.old).records (R.state space.old).shape names.now.names
-        → NotDamaged result }
     ensures damaged { R.tells → IfErr result
         (BlamesBroken (R.state space.old).records (R.state space.old).shape) }
     ensures read { IsRead R.Reads space.old space.new }
@@ -63,8 +60,6 @@ pub(crate) fn element_at<R: Reads>(
 pub(crate) fn is_in_use<R: Reads>(space: &mut R, edges: bool, id: u32) -> Result<bool, Fault>
     ensures is { R.tells → IfOk result (λ used. used
         ≡ is_some (element_at (R.state space.old).records edges id)) }
-    ensures sound { R.tells → IsWellFormed (R.state space.old).records (R.state space.old).shape
-        → NotDamaged result }
     ensures damaged { R.tells → IfErr result
         (BlamesBroken (R.state space.old).records (R.state space.old).shape) }
     ensures read { IsRead R.Reads space.old space.new }
@@ -84,8 +79,6 @@ fn vertex_at<R: Reads>(space: &mut R, id: u32) -> Result<Option<Shown>, Fault>
         → IfOk result (λ item. item ≡ element_at (R.state space.old).records false id) }
     ensures vertex { IfOk result (λ item. IfSome item (λ found. found ≡ items.Vertex id)) }
     ensures reads { (R.state space.new).reads ≤ (R.state space.old).reads + 1 }
-    ensures sound { R.tells → IsWellFormed (R.state space.old).records (R.state space.old).shape
-        → NotDamaged result }
     ensures damaged { R.tells → IfErr result
         (BlamesBroken (R.state space.old).records (R.state space.old).shape) }
     ensures read { IsRead R.Reads space.old space.new }
@@ -105,8 +98,6 @@ pub(crate) fn vertex_row<R: Reads>(space: &mut R, id: u32) -> Result<Option<Node
     ensures row { IfOk result (λ row.
         IsRowOf R.tells (R.state space.new).records (items.Vertex id) row) }
     ensures reads { (R.state space.new).reads ≤ (R.state space.old).reads + 1 }
-    ensures sound { R.tells → IsWellFormed (R.state space.old).records (R.state space.old).shape
-        → NotDamaged result }
     ensures damaged { R.tells → IfErr result
         (BlamesBroken (R.state space.old).records (R.state space.old).shape) }
     ensures read { IsRead R.Reads space.old space.new }
@@ -126,9 +117,6 @@ pub(crate) fn edge_at<R: Reads>(
         → IsNamedStore (R.state space.old).records (R.state space.old).shape names.now.names
         → IfOk result (λ item. item ≡ element_at (R.state space.old).records true id) }
     ensures reads { (R.state space.new).reads ≤ (R.state space.old).reads + 1 }
-    ensures sound { R.tells
-        → IsNamedStore (R.state space.old).records (R.state space.old).shape names.now.names
-        → NotDamaged result }
     ensures damaged { R.tells → IfErr result
         (BlamesBroken (R.state space.old).records (R.state space.old).shape) }
     ensures read { IsRead R.Reads space.old space.new }

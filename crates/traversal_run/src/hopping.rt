@@ -3,7 +3,7 @@ ghost use Rattle.expand.specs.Expanding.{AreRowsOf};
 ghost use Rattle.plain_graph.specs.Meaning.{edges_at, incident, neighbours};
 ghost use Rattle.store_rules.specs.Graph.{graph_of};
 ghost use Rattle.store_rules.specs.Rules.{IsWellFormed};
-ghost use Rattle.rec_bytes.specs.Fault.{HasFaultCause, NotDamaged};
+ghost use Rattle.rec_bytes.specs.Fault.{HasFaultCause};
 ghost use Rattle.prop_store.specs.Fault.{BlamesBroken};
 ghost use Rattle.traversal_run.specs.EdgeItems.{AreTyped, IsTyped, row_item};
 ghost use Rattle.traversal_run.specs.Hopping.{AreTypeNumbers};
@@ -33,9 +33,6 @@ pub(crate) fn neighbours<R: Reads>(
         → IsNamedStore (R.state space.old).records (R.state space.old).shape names.now.names
         → IfOk result (λ items. items
         ≡ neighbours (graph_of (R.state space.old).records) hop.now item.now) }
-    ensures sound { R.tells
-        → IsNamedStore (R.state space.old).records (R.state space.old).shape names.now.names
-        → NotDamaged result }
     ensures damaged { R.tells → IfErr result
         (BlamesBroken (R.state space.old).records (R.state space.old).shape) }
     ensures read { IsRead R.Reads space.old space.new }
@@ -61,9 +58,6 @@ pub(crate) fn incident<R: Reads>(
         → IsNamedStore (R.state space.old).records (R.state space.old).shape names.now.names
         → IfOk result (λ value. value
         ≡ incident (graph_of (R.state space.old).records) hop.now item.now) }
-    ensures sound { R.tells
-        → IsNamedStore (R.state space.old).records (R.state space.old).shape names.now.names
-        → NotDamaged result }
     ensures damaged { R.tells → IfErr result
         (BlamesBroken (R.state space.old).records (R.state space.old).shape) }
     ensures read { IsRead R.Reads space.old space.new }
@@ -87,9 +81,6 @@ fn edge_items<R: Reads>(
         → IsNamedStore (R.state space.old).records (R.state space.old).shape names.now.names
         → AreTyped (R.state space.old).records rows.now
         → IfOk result (λ items. items ≡ map (row_item (R.state space.old).records) rows.now) }
-    ensures sound { R.tells
-        → IsNamedStore (R.state space.old).records (R.state space.old).shape names.now.names
-        → AreTyped (R.state space.old).records rows.now → NotDamaged result }
     ensures damaged { R.tells → IfErr result
         (BlamesBroken (R.state space.old).records (R.state space.old).shape) }
     ensures read { IsRead R.Reads space.old space.new }
@@ -115,9 +106,6 @@ fn push_edge<R: Reads>(
         → IsNamedStore (R.state space.old).records (R.state space.old).shape names.now.names
         → IsTyped (R.state space.old).records row.now → OnOk result
         (items.new ≡ items.old ++ row_item (R.state space.old).records row.now ∷ []) }
-    ensures sound { R.tells
-        → IsNamedStore (R.state space.old).records (R.state space.old).shape names.now.names
-        → IsTyped (R.state space.old).records row.now → NotDamaged result }
     ensures damaged { R.tells → IfErr result
         (BlamesBroken (R.state space.old).records (R.state space.old).shape) }
     ensures read { IsRead R.Reads space.old space.new }
@@ -148,9 +136,6 @@ fn rows_of<R: Reads>(
         → IsNamedStore (R.state space.old).records (R.state space.old).shape names.now.names
         → IfOk result (λ rows. AreRowsOf (R.state space.old).records rows.items
         (edges_at (graph_of (R.state space.old).records) hop.now.direction hop.now.labels id)) }
-    ensures sound { R.tells
-        → IsNamedStore (R.state space.old).records (R.state space.old).shape names.now.names
-        → NotDamaged result }
     ensures damaged { R.tells → IfErr result
         (BlamesBroken (R.state space.old).records (R.state space.old).shape) }
     ensures read { IsRead R.Reads space.old space.new }
@@ -177,9 +162,6 @@ fn rows_of_type<R: Reads>(
         → IsNamedStore (R.state space.old).records (R.state space.old).shape names.now.names
         → IfOk result (λ rows. AreRowsOf (R.state space.old).records rows.items
         (edges_at (graph_of (R.state space.old).records) hop.now.direction hop.now.labels id)) }
-    ensures sound { R.tells
-        → IsNamedStore (R.state space.old).records (R.state space.old).shape names.now.names
-        → NotDamaged result }
     ensures damaged { R.tells → IfErr result
         (BlamesBroken (R.state space.old).records (R.state space.old).shape) }
     ensures read { IsRead R.Reads space.old space.new }
@@ -205,9 +187,6 @@ fn rows_of_types<R: Reads>(
         → IsNamedStore (R.state space.old).records (R.state space.old).shape names.now.names
         → IfOk result (λ rows. AreRowsOf (R.state space.old).records rows.items
         (edges_at (graph_of (R.state space.old).records) hop.now.direction hop.now.labels id)) }
-    ensures sound { R.tells
-        → IsNamedStore (R.state space.old).records (R.state space.old).shape names.now.names
-        → NotDamaged result }
     ensures damaged { R.tells → IfErr result
         (BlamesBroken (R.state space.old).records (R.state space.old).shape) }
     ensures read { IsRead R.Reads space.old space.new }
@@ -233,8 +212,6 @@ fn rows_by<R: Reads>(
         → AreTypeNumbers (R.state space.old).records numbers.now hop.now.labels
         → IfOk result (λ rows. AreRowsOf (R.state space.old).records rows.items
         (edges_at (graph_of (R.state space.old).records) hop.now.direction hop.now.labels id)) }
-    ensures sound { R.tells → IsWellFormed (R.state space.old).records (R.state space.old).shape
-        → NotDamaged result }
     ensures damaged { R.tells → IfErr result
         (BlamesBroken (R.state space.old).records (R.state space.old).shape) }
     ensures read { IsRead R.Reads space.old space.new }

@@ -13,7 +13,7 @@ ghost use Rattle.prop_store.specs.declared.prop.Prop.{Prop as PropRow};
 ghost use Rattle.rec_bytes.specs.declared.shape.Shape.{Shape};
 ghost use Rattle.store_rules.specs.Graph.{graph_of};
 ghost use Rattle.store_rules.specs.Views.{Records};
-ghost use Rattle.rec_bytes.specs.Fault.{HasFaultCause, NotDamaged};
+ghost use Rattle.rec_bytes.specs.Fault.{HasFaultCause};
 ghost use Rattle.prop_store.specs.Fault.{BlamesBroken};
 ghost use Rattle.traversal_run.specs.Elements.{IsRowOf};
 ghost use Rattle.traversal_run.specs.KeyValues.{AreRead, entry_below, entry_of, named_entry};
@@ -53,9 +53,6 @@ pub(crate) fn all_values<R: Reads>(
         → IsNamedStore (R.state space.old).records (R.state space.old).shape names.now.names
         → IfOk result (λ values. values ≡ map items.Value
         (maps.values (properties_of (graph_of (R.state space.old).records) item.now))) }
-    ensures sound { R.tells
-        → IsNamedStore (R.state space.old).records (R.state space.old).shape names.now.names
-        → NotDamaged result }
     ensures damaged { R.tells → IfErr result
         (BlamesBroken (R.state space.old).records (R.state space.old).shape) }
     ensures read { IsRead R.Reads space.old space.new }
@@ -80,9 +77,6 @@ pub(crate) fn several_values<R: Reads>(
         → IsNamedStore (R.state space.old).records (R.state space.old).shape names.now.names
         → IfOk result (λ values. values ≡ map items.Value (filter_map
         (maps.get (properties_of (graph_of (R.state space.old).records) item.now)) keys.now)) }
-    ensures sound { R.tells
-        → IsNamedStore (R.state space.old).records (R.state space.old).shape names.now.names
-        → NotDamaged result }
     ensures damaged { R.tells → IfErr result
         (BlamesBroken (R.state space.old).records (R.state space.old).shape) }
     ensures read { IsRead R.Reads space.old space.new }
@@ -106,9 +100,6 @@ fn read_properties<R: Reads>(
         → IsNamedStore (R.state space.old).records (R.state space.old).shape names.now.names
         → IfOk result (λ props. AreRead (R.state space.old).records props.items
         (properties_of (graph_of (R.state space.old).records) item.now)) }
-    ensures sound { R.tells
-        → IsNamedStore (R.state space.old).records (R.state space.old).shape names.now.names
-        → NotDamaged result }
     ensures damaged { R.tells → IfErr result
         (BlamesBroken (R.state space.old).records (R.state space.old).shape) }
     ensures kept { IfOk result (λ props. All (λ (prop : PropRow). IsKept prop.value) props.items) }

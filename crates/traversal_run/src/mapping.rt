@@ -1,7 +1,7 @@
 ghost use Rattle.std.specs.Prelude.{◌≡◌, IfErr, IfOk};
 ghost use Rattle.plain_graph.specs.Meaning.{identifier, in_vertex, out_vertex};
 ghost use Rattle.store_rules.specs.Graph.{graph_of};
-ghost use Rattle.rec_bytes.specs.Fault.{HasFaultCause, NotDamaged};
+ghost use Rattle.rec_bytes.specs.Fault.{HasFaultCause};
 ghost use Rattle.prop_store.specs.Fault.{BlamesBroken};
 ghost use Rattle.traversal_run.specs.Elements.{IsRowOf};
 ghost use Rattle.traversal_run.specs.Mapping.{filtered, mapped};
@@ -47,9 +47,6 @@ pub(crate) fn mapped<R: Reads>(
         → IsNamedStore (R.state space.old).records (R.state space.old).shape names.now.names
         → IfOk result (λ outs. outs
         ≡ mapped (graph_of (R.state space.old).records) mapping.now item) }
-    ensures sound { R.tells
-        → IsNamedStore (R.state space.old).records (R.state space.old).shape names.now.names
-        → NotDamaged result }
     ensures damaged { R.tells → IfErr result
         (BlamesBroken (R.state space.old).records (R.state space.old).shape) }
     ensures read { IsRead R.Reads space.old space.new }
@@ -81,9 +78,6 @@ fn filtered<R: Reads>(
         → IsNamedStore (R.state space.old).records (R.state space.old).shape names.now.names
         → IfOk result (λ outs. outs
         ≡ filtered (graph_of (R.state space.old).records) filter.now item) }
-    ensures sound { R.tells
-        → IsNamedStore (R.state space.old).records (R.state space.old).shape names.now.names
-        → NotDamaged result }
     ensures damaged { R.tells → IfErr result
         (BlamesBroken (R.state space.old).records (R.state space.old).shape) }
     ensures read { IsRead R.Reads space.old space.new }

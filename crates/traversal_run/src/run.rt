@@ -519,9 +519,6 @@ impl Run {
             → IsNamedStore (R.state space.old).records (R.state space.old).shape names.now.names
             → stopped_by self.old ≡ None → result ≡ Next.PastCount
             → (to_come (graph_of (R.state space.old).records) self.old).past ≡ true }
-        ensures sound { R.tells
-            → IsNamedStore (R.state space.old).records (R.state space.old).shape names.now.names
-            → stopped_by self.old ≡ None → (damage : Damage) → result ≢ Next.Damaged damage }
         // A record that is said to be damaged breaks the rule that is named, in whatever store.
         ensures damaged { R.tells → stopped_by self.old ≡ None → IfDamaged result
             (Breaks (R.state space.old).records (R.state space.old).shape) }

@@ -3,7 +3,7 @@ ghost use Rattle.std.specs.Prelude.{false, true};
 ghost use Rattle.plain_graph.specs.Graph.{Graph};
 ghost use Rattle.plain_graph.specs.Meaning.{source_of};
 ghost use Rattle.store_rules.specs.Graph.{graph_of};
-ghost use Rattle.rec_bytes.specs.Fault.{HasFaultCause, NotDamaged};
+ghost use Rattle.rec_bytes.specs.Fault.{HasFaultCause};
 ghost use Rattle.prop_store.specs.Fault.{BlamesBroken};
 ghost use Rattle.traversal_run.specs.Reading.{IsNamedStore, IsRead};
 ghost use Rattle.traversal_run.specs.Scan.{TakesVertex, vertices_from};
@@ -111,9 +111,6 @@ impl Source {
             → IsNamedStore (R.state space.old).records (R.state space.old).shape names.now.names
             → IfOk result (λ item.
             GivesFirst (graph_of (R.state space.old).records) self.old item self.new) }
-        ensures sound { R.tells
-            → IsNamedStore (R.state space.old).records (R.state space.old).shape names.now.names
-            → NotDamaged result }
         ensures damaged { R.tells → IfErr result
             (BlamesBroken (R.state space.old).records (R.state space.old).shape) }
         // Of all vertices it costs a read for each identifier up to that of the one it gives.
@@ -144,9 +141,6 @@ impl Source {
     ) -> Result<bool, Fault>
         ensures counts { R.tells → IfOk result (λ fits. Counts
             (graph_of (R.state space.old).records) self.old so_far.old fits self.new so_far.new) }
-        ensures sound { R.tells
-            → IsWellFormed (R.state space.old).records (R.state space.old).shape
-            → NotDamaged result }
         ensures damaged { R.tells → IfErr result
             (BlamesBroken (R.state space.old).records (R.state space.old).shape) }
         ensures read { IsRead R.Reads space.old space.new }

@@ -5,7 +5,7 @@ ghost use Rattle.plain_graph.specs.Meaning.{ranked, unseen};
 ghost use Rattle.plain_graph.specs.declared.item.Item.{Item};
 ghost use Rattle.std.specs.List.{cons_option};
 ghost use Rattle.store_rules.specs.Graph.{graph_of};
-ghost use Rattle.rec_bytes.specs.Fault.{HasFaultCause, NotDamaged};
+ghost use Rattle.rec_bytes.specs.Fault.{HasFaultCause};
 ghost use Rattle.prop_store.specs.Fault.{BlamesBroken};
 ghost use Rattle.traversal_run.specs.Elements.{IsRowOf};
 ghost use Rattle.traversal_run.specs.Held.{is_hop, is_plain};
@@ -76,9 +76,6 @@ impl Stage {
             → IsNamedStore (R.state space.old).records (R.state space.old).shape names.now.names
             → IfOk result
             (λ outs. Takes (graph_of (R.state space.old).records) self.old item outs self.new) }
-        ensures sound { R.tells
-            → IsNamedStore (R.state space.old).records (R.state space.old).shape names.now.names
-            → NotDamaged result }
         ensures damaged { R.tells → IfErr result
             (BlamesBroken (R.state space.old).records (R.state space.old).shape) }
         ensures limits { IfOk result (λ outs.
@@ -151,9 +148,6 @@ fn keep<R: Reads>(
         → IsNamedStore (R.state space.old).records (R.state space.old).shape names.now.names
         → OnOk result (kept.new ≡ kept.old
         ++ cons_option (ranked (graph_of (R.state space.old).records) key.now item) []) }
-    ensures sound { R.tells
-        → IsNamedStore (R.state space.old).records (R.state space.old).shape names.now.names
-        → NotDamaged result }
     ensures damaged { R.tells → IfErr result
         (BlamesBroken (R.state space.old).records (R.state space.old).shape) }
     ensures read { IsRead R.Reads space.old space.new }

@@ -1,12 +1,12 @@
-ghost use Rattle.std.specs.Prelude.{◌≡◌, ◌≤◌, IfOk, List, ℕ, length, map};
+ghost use Rattle.std.specs.Prelude.{◌≡◌, ◌≤◌, IfErr, IfOk, List, ℕ, length, map};
 ghost use Rattle.plain_graph.specs.Graph.{has_node};
 ghost use Rattle.plain_graph.specs.Lines.{HasForm, expansion};
 ghost use Rattle.plain_graph.specs.Reply.{Told, end_text, item_line, marked_text};
 ghost use Rattle.plain_graph.specs.declared.command.Command.TheVariants as commands;
 ghost use Rattle.plain_graph.specs.declared.item.Item.TheVariants as items;
 ghost use Rattle.store_rules.specs.Graph.{graph_of};
-ghost use Rattle.expand.specs.ExpandFault.{HasExpandCause, NotDamaged};
-ghost use Rattle.expand.specs.Expanding.{TellsNode};
+ghost use Rattle.expand.specs.ExpandFault.{HasExpandCause};
+ghost use Rattle.expand.specs.Expanding.{IsExpandFault, TellsNode};
 ghost use Rattle.traversal_run.specs.Reading.{IsNamedStore, IsRead};
 ghost use Rattle.graph_session.specs.Answer.{Gives};
 ghost use Rattle.graph_session.specs.EdgeResults.{IsEdge, item_of, items_of};
@@ -65,9 +65,7 @@ fn edges_of<R: Reads>(
     ensures missing { R.tells
         → IsNamedStore (R.state space.old).records (R.state space.old).shape names.now.names
         → TellsNode result id (has_node (graph_of (R.state space.old).records) id) }
-    ensures sound { R.tells
-        → IsNamedStore (R.state space.old).records (R.state space.old).shape names.now.names
-        → NotDamaged result }
+    ensures damaged { R.tells → IfErr result (IsExpandFault (R.state space.old) id) }
     ensures read { IsRead R.Reads space.old space.new }
     ensures cause { HasExpandCause (R.faults space.old) (R.faults space.new) result }
 {

@@ -6,7 +6,7 @@ ghost use Rattle.plain_graph.specs.declared.command.Command.TheVariants as comma
 ghost use Rattle.plain_graph.specs.declared.item.Item.TheVariants as items;
 ghost use Rattle.prop_index.specs.Looking.{HasLookupCause};
 ghost use Rattle.store_rules.specs.Graph.{graph_of};
-ghost use Rattle.traversal_run.specs.Reading.{IsRead};
+ghost use Rattle.traversal_run.specs.Reading.{IsNamedStore, IsRead};
 ghost use Rattle.graph_session.specs.Answer.{Gives};
 ghost use Rattle.graph_session.specs.IndexResults.{
   HasIndex,
@@ -15,7 +15,6 @@ ghost use Rattle.graph_session.specs.IndexResults.{
   answer_for,
   vertex_line,
 };
-ghost use Rattle.graph_session.specs.IndexedStores.{IsIndexedStore};
 ghost use Rattle.graph_session.specs.Questions.{GivesReading};
 
 use crate::Turn;
@@ -45,7 +44,7 @@ pub(crate) fn give_found<R: Reads, K: Sink>(
     ensures gives { GivesReading R.Reads K.Sink names.now.names
         (commands.Find label.now key.now value.now)
         mark.now space.old space.new output.old output.new result }
-    ensures cost { R.tells → IsIndexedStore (R.state space.old).records (R.state space.old).shape
+    ensures cost { R.tells → IsNamedStore (R.state space.old).records (R.state space.old).shape
         names.now.names → ReadsForFind label.now key.now value.now
         (R.state space.old) (R.state space.new) }
 {
@@ -64,17 +63,17 @@ fn found_nodes<R: Reads>(
     key: &Text,
     value: &Value,
 ) -> Result<Vec<u32>, LookupFault>
-    ensures found { R.tells → IsIndexedStore (R.state space.old).records (R.state space.old).shape
+    ensures found { R.tells → IsNamedStore (R.state space.old).records (R.state space.old).shape
         names.now.names → IfOk result (λ nodes. map items.Vertex nodes.items
         ≡ meaning (graph_of (R.state space.old).records) (scan label.now key.now value.now)) }
-    ensures there { R.tells → IsIndexedStore (R.state space.old).records (R.state space.old).shape
+    ensures there { R.tells → IsNamedStore (R.state space.old).records (R.state space.old).shape
         names.now.names → IfOk result (λ nodes. HasIndex (graph_of (R.state space.old).records)
         label.now key.now) }
     ensures refused { R.tells
-        → IsIndexedStore (R.state space.old).records (R.state space.old).shape names.now.names
+        → IsNamedStore (R.state space.old).records (R.state space.old).shape names.now.names
         → IfErr result (IsIndexRefusal (graph_of (R.state space.old).records)
         label.now key.now) }
-    ensures cost { R.tells → IsIndexedStore (R.state space.old).records (R.state space.old).shape
+    ensures cost { R.tells → IsNamedStore (R.state space.old).records (R.state space.old).shape
         names.now.names → ReadsForFind label.now key.now value.now
         (R.state space.old) (R.state space.new) }
     ensures read { IsRead R.Reads space.old space.new }

@@ -1,4 +1,4 @@
-ghost use Rattle.std.specs.Prelude.{IfOk, map};
+ghost use Rattle.std.specs.Prelude.{IfErr, IfOk, map};
 ghost use Rattle.plain_graph.specs.Adjacency.{adjacency_in};
 ghost use Rattle.plain_graph.specs.Graph.{has_node};
 ghost use Rattle.plain_graph.specs.Lines.{IsFound, level_text, types_of, walk_reading};
@@ -6,8 +6,8 @@ ghost use Rattle.plain_graph.specs.Reached.{IsLeastOrNone};
 ghost use Rattle.plain_graph.specs.Reply.{Told, end_text, marked_text};
 ghost use Rattle.plain_graph.specs.declared.command.Command.TheVariants as commands;
 ghost use Rattle.store_rules.specs.Graph.{graph_of};
-ghost use Rattle.expand.specs.ExpandFault.{HasExpandCause, NotDamaged};
-ghost use Rattle.path_find.specs.Finding.{TellsEnds};
+ghost use Rattle.expand.specs.ExpandFault.{HasExpandCause};
+ghost use Rattle.path_find.specs.Finding.{IsPathFault, TellsEnds};
 ghost use Rattle.traversal_run.specs.Reading.{IsNamedStore, IsRead};
 ghost use Rattle.graph_session.specs.Answer.{Gives};
 ghost use Rattle.graph_session.specs.Questions.{GivesReading};
@@ -87,9 +87,7 @@ fn found_walk<R: Reads>(
         → IsNamedStore (R.state space.old).records (R.state space.old).shape names.now.names
         → TellsEnds result from to (has_node (graph_of (R.state space.old).records) from)
         (has_node (graph_of (R.state space.old).records) to) }
-    ensures sound { R.tells
-        → IsNamedStore (R.state space.old).records (R.state space.old).shape names.now.names
-        → NotDamaged result }
+    ensures damaged { R.tells → IfErr result (IsPathFault (R.state space.old) from to) }
     ensures read { IsRead R.Reads space.old space.new }
     ensures cause { HasExpandCause (R.faults space.old) (R.faults space.new) result }
 {
@@ -120,9 +118,7 @@ fn found_levels<R: Reads>(
         → IsNamedStore (R.state space.old).records (R.state space.old).shape names.now.names
         → TellsEnds result from to (has_node (graph_of (R.state space.old).records) from)
         (has_node (graph_of (R.state space.old).records) to) }
-    ensures sound { R.tells
-        → IsNamedStore (R.state space.old).records (R.state space.old).shape names.now.names
-        → NotDamaged result }
+    ensures damaged { R.tells → IfErr result (IsPathFault (R.state space.old) from to) }
     ensures read { IsRead R.Reads space.old space.new }
     ensures cause { HasExpandCause (R.faults space.old) (R.faults space.new) result }
 {

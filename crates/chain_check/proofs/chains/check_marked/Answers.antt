@@ -18,7 +18,7 @@ returns-in-Some-2-clause-decided g c = λ tells.
     let found : IfSome c.in_ok-id.field-0 (λ x. (x < high s.records relationships_file) × (¬ RelHolds s.records marks x))
     = subst (λ (r : Records). IfSome c.in_ok-id.field-0 (λ x. (x < high r relationships_file) × (¬ RelHolds r marks x))) c.in_ok-damage.ensures.same (c.in_ok-id.ensures.found tells) in
     let bad : (id < high s.records relationships_file) × (¬ RelHolds s.records marks id) = search (rules, found) in
-    breaks_by s.records s.shape 3 c.broken.result (damage 2 id 3) c.broken.ensures refl refl (RelEnds id bad.0 (λ k. bad.1 (rel_holds s.records marks met.told met.once id k)))
+    breaks_by s.records s.shape 3 c.broken.result (damage 2 id 3) c.broken.ensures refl (RelEnds id bad.0 (λ k. bad.1 (rel_holds s.records marks met.told met.once id k)))
 
 pub returns-in-None-clause-decided : goal.returns-in-None-clause-decided
 returns-in-None-clause-decided g c = λ tells.

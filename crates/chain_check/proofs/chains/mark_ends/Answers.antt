@@ -11,7 +11,7 @@ use Rattle.record_lists.specs.Marks.{marked}
 use Rattle.chain_check.specs.NodeChains.{AreGroupEnds, AreNodeEnds, IsChained, IsSparse, group_of}
 use Rattle.chain_check.proofs.EndLaws.{all_met, group_twice, head_of_keeps, heads_of_keeps, keeps_of_head, keeps_of_heads, met_once, never_twice, nodes_keep, own_chain}
 use Rattle.record_lists.proofs.HeadLaws.{told_clear}
-use Rattle.record_lists.proofs.DecidingLaws.{breaks_by, spoken_breaks}
+use Rattle.record_lists.proofs.DecidingLaws.{breaks_by}
 use Rattle.record_lists.proofs.Causes.{cause_passed}
 use Rattle.chain_check.proofs.chains.mark_ends.Goals as goal
 
@@ -21,7 +21,7 @@ returns-in-Some-Head-clause-broken g c = λ tells.
     let id = c.in-Some-Head.id in
     let mark : c.meta-nodes.result.high ≡ high s.records nodes_file = ap (λ (m : Meta). m.high) c.meta-nodes.ensures in
     let b : BrokeIs (IsSparse s.records) (AreNodeEnds s.records) c.meta-nodes.result.high c.args.marks.now (Head id) = search (rules, c.in_ok-id.ensures.broken tells) in
-    breaks_by s.records s.shape 3 c.broken.result (damage 1 id 3) (c.broken.ensures ∙ ap (λ i. damage 1 i 3) c.in-Some-Head.id-is) refl refl (NodeChain id (omega (arith, b.0)) (λ k. b.1 (head_of_keeps s.records id k)))
+    breaks_by s.records s.shape 3 c.broken.result (damage 1 id 3) (c.broken.ensures ∙ ap (λ i. damage 1 i 3) c.in-Some-Head.id-is) refl (NodeChain id (omega (arith, b.0)) (λ k. b.1 (head_of_keeps s.records id k)))
 
 pub returns-in-Some-Item-clause-broken : goal.returns-in-Some-Item-clause-broken
 returns-in-Some-Item-clause-broken g c = λ tells.
@@ -41,9 +41,8 @@ returns-in-Some-Head-2-clause-broken g c = λ tells.
     let told : IfSome c.in_ok-id-2.field-0 (BrokeIs (λ k. IsChained chained s.records (group_of k)) (AreGroupEnds s.records) groups first)
     = subst (λ (r : Records). IfSome c.in_ok-id-2.field-0 (BrokeIs (λ k. IsChained chained r (group_of k)) (AreGroupEnds r) groups first)) c.in_ok-id.ensures.same (c.in_ok-id-2.ensures.broken tells) in
     let b : BrokeIs (λ k. IsChained chained s.records (group_of k)) (AreGroupEnds s.records) groups first (Head id) = search (rules, told) in
-    spoken_breaks s.records s.shape 3 c.broken-in-Some-Head-2.result (damage 3 (id / 3) 3) c.broken-in-Some-Head-2.ensures refl
-    (GroupChains (id / 3) (omega (arith, b.0)) (λ k. b.1 (heads_of_keeps s.records chained right id k)))
-    (λ _ _. own_chain s.records chained right id b.1)
+    breaks_by s.records s.shape 3 c.broken-in-Some-Head-2.result (damage 3 (id / 3) 3) c.broken-in-Some-Head-2.ensures refl
+    (GroupChains (id / 3) (omega (arith, b.0)) (own_chain s.records chained right id b.1) (λ k. b.1 (heads_of_keeps s.records chained right id k)))
 
 pub returns-in-Some-Item-2-clause-broken : goal.returns-in-Some-Item-2-clause-broken
 returns-in-Some-Item-2-clause-broken g c = λ tells.
@@ -58,7 +57,7 @@ returns-in-Some-Item-2-clause-broken g c = λ tells.
     = subst (λ (r : Records). IfSome c.in_ok-id-2.field-0 (BrokeIs (λ k. IsChained chained r (group_of k)) (AreGroupEnds r) groups first)) c.in_ok-id.ensures.same (c.in_ok-id-2.ensures.broken tells) in
     let b : BrokeIs (λ k. IsChained chained s.records (group_of k)) (AreGroupEnds s.records) groups first (Item end) = search (rules, twice) in
     let bad = group_twice s.records chained (c.requires.chained tells) nodes groups first end (told_clear (IsSparse s.records) (AreNodeEnds s.records) nodes c.args.marks.now first c.requires.clear told) b in
-    breaks_by s.records s.shape 3 c.broken-in-Some-Item-2.result (damage 2 bad.0 3) (c.broken-in-Some-Item-2.ensures ∙ ap (λ x. damage 2 x 3) (sym bad.1)) refl refl (RelEnds bad.0 bad.2 bad.3)
+    breaks_by s.records s.shape 3 c.broken-in-Some-Item-2.result (damage 2 bad.0 3) (c.broken-in-Some-Item-2.ensures ∙ ap (λ x. damage 2 x 3) (sym bad.1)) refl (RelEnds bad.0 bad.2 bad.3)
 
 pub returns-in-None-2-clause-met : goal.returns-in-None-2-clause-met
 returns-in-None-2-clause-met g c = λ tells.

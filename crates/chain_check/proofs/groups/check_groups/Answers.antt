@@ -18,7 +18,7 @@ returns-in-Some-2-clause-decided g c = λ tells.
     = subst (λ (r : Records). IfSome c.in_ok-id.field-0 (λ k. ¬ CountsHold r k)) c.in_ok-damage.ensures.same (c.in_ok-id.ensures.found tells) in
     let grouped : Grouped s.records = search (rules, c.in_ok-damage.ensures.grouped tells) in
     let bad : ¬ CountsHold s.records id = search (rules, found) in
-    breaks_by s.records s.shape 4 c.broken.result (damage 3 id 4) c.broken.ensures refl refl (GroupOwner id (λ k. bad (counts_hold s.records (linked_of s.records grouped (c.requires.chained tells)) (c.requires.low relationships_file refl) id k)))
+    breaks_by s.records s.shape 4 c.broken.result (damage 3 id 4) c.broken.ensures refl (GroupOwner id (λ k. bad (counts_hold s.records (linked_of s.records grouped (c.requires.chained tells)) (c.requires.low relationships_file refl) id k)))
 
 pub returns-clause-decided : goal.returns-clause-decided
 returns-clause-decided g c = λ tells.

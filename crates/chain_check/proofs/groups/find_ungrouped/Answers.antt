@@ -21,7 +21,7 @@ returns-in-Some-Head-clause-broken g c = λ tells.
     let id = c.in-Some-Head.id in
     let mark : c.meta-nodes.result.high ≡ high s.records nodes_file = ap (λ (m : Meta). m.high) c.meta-nodes.ensures in
     let b : BrokeIs (IsDense s.records) (IsGroupChain s.records) c.meta-nodes.result.high c.args.marks.now (Head id) = search (rules, c.in_ok-id.ensures.broken tells) in
-    breaks_by s.records s.shape 4 c.broken.result (damage 1 id 4) c.broken.ensures refl refl (OwnerGroups id (omega (arith, b.0)) (λ k. b.1 (head_of_keeps s.records id k)))
+    breaks_by s.records s.shape 4 c.broken.result (damage 1 id 4) c.broken.ensures refl (OwnerGroups id (omega (arith, b.0)) (λ k. b.1 (head_of_keeps s.records id k)))
 
 pub returns-in-Some-Item-clause-broken : goal.returns-in-Some-Item-clause-broken
 returns-in-Some-Item-clause-broken g c = λ tells.
@@ -41,7 +41,7 @@ returns-in-Some-clause-broken g c = λ tells.
     let found : IfSome c.in_ok-id-2.field-0 (λ x. ¬ (is_live s.records groups_file x ≡ true → marked marks x ≡ true))
     = subst (λ (r : Records). IfSome c.in_ok-id-2.field-0 (λ x. ¬ (is_live r groups_file x ≡ true → marked marks x ≡ true))) c.in_ok-id.ensures.same (c.in_ok-id-2.ensures.found tells) in
     let bad : ¬ (is_live s.records groups_file id ≡ true → marked marks id ≡ true) = search (rules, found) in
-    breaks_by s.records s.shape 4 c.broken-in-Some.result (damage 3 id 4) c.broken-in-Some.ensures refl refl (GroupOwner id (λ k. bad (mark_of_member s.records marks told2 id k)))
+    breaks_by s.records s.shape 4 c.broken-in-Some.result (damage 3 id 4) c.broken-in-Some.ensures refl (GroupOwner id (λ k. bad (mark_of_member s.records marks told2 id k)))
 
 pub returns-in-None-2-clause-grouped : goal.returns-in-None-2-clause-grouped
 returns-in-None-2-clause-grouped g c = λ tells.

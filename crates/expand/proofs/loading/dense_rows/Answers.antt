@@ -31,22 +31,13 @@ returns-in_err-rows-clause-damaged g c = λ tells is.
     let p = err_from_is_err_and c.from_residual-in_err-rows.result c.from_residual-in_err-rows.ensures.1 in
     rw (p.1, p.2) (blamed_then (g.R.Reads.state c.args.space.now) (g.R.Reads.state c.groups.new.space) (length rows) c.in_ok-groups.ensures.reads c.in_err-rows.field-0.0 (c.in_err-rows.ensures.damaged tells of))
 
-pub returns-in_err-rows-clause-sound : goal.returns-in_err-rows-clause-sound
-returns-in_err-rows-clause-sound g c = λ tells members xs can.
-    let rows = c.in_ok-groups.groups.items in
-    let are = c.deref-2.ensures.value ∙ c.in_ok-links.ensures ∙ ap (first_links c.args.direction c.args.labels.now) c.deref.ensures.value in
-    let sound = can_walk (g.R.Reads.state c.args.space.now) (g.R.Reads.state c.groups.new.space) (length rows) c.in_ok-groups.ensures.reads c.args.row.now c.args.direction c.args.labels.now
-    c.deref-2.result.now rows (c.in_ok-groups.ensures.rows tells) are members xs can in
-    let p = err_from_is_err_and c.from_residual-in_err-rows.result c.from_residual-in_err-rows.ensures.1 in
-    rw (p.1, p.2) (c.in_err-rows.ensures.sound tells sound.0 xs sound.1 sound.2)
-
 pub returns-clause-few_reads : goal.returns-clause-few_reads
 returns-clause-few_reads g c = λ tells members xs can.
     let rows = c.in_ok-groups.groups.items in
     let are = c.deref-2.ensures.value ∙ c.in_ok-links.ensures ∙ ap (first_links c.args.direction c.args.labels.now) c.deref.ensures.value in
     let sound = can_walk (g.R.Reads.state c.args.space.now) (g.R.Reads.state c.groups.new.space) (length rows) c.in_ok-groups.ensures.reads c.args.row.now c.args.direction c.args.labels.now
     c.deref-2.result.now rows (c.in_ok-groups.ensures.rows tells) are members xs can in
-    reads_both (g.R.Reads.state c.args.space.now) (g.R.Reads.state c.groups.new.space) (g.R.Reads.state c.walk_all.new.space) (length members) (length xs) (c.in_ok-groups.ensures.few_reads tells members can.walkable) (c.in_ok-rows.ensures.few_reads tells xs sound.1)
+    reads_both (g.R.Reads.state c.args.space.now) (g.R.Reads.state c.groups.new.space) (g.R.Reads.state c.walk_all.new.space) (length members) (length xs) (c.in_ok-groups.ensures.few_reads tells members can.walkable) (c.in_ok-rows.ensures.few_reads tells xs sound)
 
 pub returns-in_err-rows-clause-few_reads : goal.returns-in_err-rows-clause-few_reads
 returns-in_err-rows-clause-few_reads g c = λ tells members xs can.
@@ -54,7 +45,7 @@ returns-in_err-rows-clause-few_reads g c = λ tells members xs can.
     let are = c.deref-2.ensures.value ∙ c.in_ok-links.ensures ∙ ap (first_links c.args.direction c.args.labels.now) c.deref.ensures.value in
     let sound = can_walk (g.R.Reads.state c.args.space.now) (g.R.Reads.state c.groups.new.space) (length rows) c.in_ok-groups.ensures.reads c.args.row.now c.args.direction c.args.labels.now
     c.deref-2.result.now rows (c.in_ok-groups.ensures.rows tells) are members xs can in
-    reads_both (g.R.Reads.state c.args.space.now) (g.R.Reads.state c.groups.new.space) (g.R.Reads.state c.walk_all.new.space) (length members) (length xs) (c.in_ok-groups.ensures.few_reads tells members can.walkable) (c.in_err-rows.ensures.few_reads tells xs sound.1)
+    reads_both (g.R.Reads.state c.args.space.now) (g.R.Reads.state c.groups.new.space) (g.R.Reads.state c.walk_all.new.space) (length members) (length xs) (c.in_ok-groups.ensures.few_reads tells members can.walkable) (c.in_err-rows.ensures.few_reads tells xs sound)
 
 pub returns-clause-rows : goal.returns-clause-rows
 returns-clause-rows g c = λ tells.

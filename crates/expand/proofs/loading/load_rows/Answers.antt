@@ -4,8 +4,7 @@ use Rattle.rec_bytes.specs.declared.meta.Meta.{Meta}
 use Rattle.rel_store.specs.Loading.{rel_mark}
 use Rattle.chain_edit.specs.Walking.{ReadsAtMost}
 use Rattle.group_store.specs.Loading.{group_mark}
-use Rattle.expand.proofs.ChainWalks.{chain_sound}
-use Rattle.expand.proofs.LoadedRows.{can_walk, chain_fault, chain_tells, dense_at_most, dense_fault, dense_most, load_most, mid_row, dense_parts, dense_tells, members, none_there, one_there, room, row_fault, sound, sparse_at_most, sparse_part, sparse_reads, walkable}
+use Rattle.expand.proofs.LoadedRows.{can_walk, chain_fault, chain_tells, dense_at_most, dense_fault, dense_most, load_most, mid_row, dense_parts, dense_tells, members, none_there, one_there, row_fault, sound, sparse_at_most, sparse_part, sparse_reads}
 use Rattle.expand.proofs.ReadCounts.{load_reads}
 use Rattle.expand.proofs.loading.load_rows.Goals as goal
 
@@ -45,12 +44,6 @@ returns-then-row-clause-missing g c = λ tells store.
     dense_tells (g.R.Reads.state c.args.space.now) c.args.node c.in-Some.row found (g.R.Reads.state c.load.new.space) c.in_ok-row.ensures.state c.if-row.true
     c.dense_rows.result (c.dense_rows.ensures.damaged tells (mid_row (g.R.Reads.state c.args.space.now) c.args.node c.in-Some.row found (g.R.Reads.state c.load.new.space) c.in_ok-row.ensures.state c.if-row.true))
 
-pub returns-then-row-clause-sound : goal.returns-then-row-clause-sound
-returns-then-row-clause-sound g c = λ tells store.
-    let found = sym c.in-Some.is ∙ c.in_ok-row.ensures.found tells in
-    let can = walkable (g.R.Reads.state c.args.space.now) c.args.node c.in-Some.row found (g.R.Reads.state c.load.new.space) c.in_ok-row.ensures.state c.if-row.true store c.args.direction c.args.labels.now in
-    c.dense_rows.ensures.sound tells can.0 can.1 can.2
-
 pub returns-then-row-clause-damaged : goal.returns-then-row-clause-damaged
 returns-then-row-clause-damaged g c = λ tells.
     let found = sym c.in-Some.is ∙ c.in_ok-row.ensures.found tells in
@@ -78,21 +71,6 @@ returns-in_err-rows-clause-missing g c = λ tells store.
     let there = one_there s c.args.node c.in-Some.row (sym c.in-Some.is ∙ c.in_ok-row.ensures.found tells) in
     let p = err_from_is_err_and c.from_residual-in_err-rows.result c.from_residual-in_err-rows.ensures.1 in
     rw (p.1, p.2) (chain_tells s c.args.node there c.in_err-rows.field-0.0)
-
-pub returns-in_err-rows-clause-sound : goal.returns-in_err-rows-clause-sound
-returns-in_err-rows-clause-sound g c = λ tells store.
-    let s = g.R.Reads.state c.args.space.now in
-    let mid = g.R.Reads.state c.load.new.space in
-    let row = c.in-Some.row in
-    let n = c.args.node in
-    let found = sym c.in-Some.is ∙ c.in_ok-row.ensures.found tells in
-    let loaded = c.in_ok-row.ensures.state in
-    let mark = c.meta-mark.result.high in
-    let marked = ap (λ (meta : Meta). meta.high) c.meta-mark.ensures in
-    let p = err_from_is_err_and c.from_residual-in_err-rows.result c.from_residual-in_err-rows.ensures.1 in
-    rw (p.1, p.2) (chain_sound c.in_err-rows.field-0.0
-    (c.in_err-rows.ensures.sound tells (room s n row found mid loaded mark marked c.if-row.false store)
-    (members s n row found mid loaded mark marked c.if-row.false store) (sound s n row found mid loaded mark marked c.if-row.false store)))
 
 pub returns-in_err-rows-clause-damaged : goal.returns-in_err-rows-clause-damaged
 returns-in_err-rows-clause-damaged g c = λ tells.

@@ -11,12 +11,11 @@ use Rattle.rel_store.specs.Loading.{rel_mark}
 use Rattle.chain_edit.specs.Walking.{IsSoundWalk, ReadsAtMost}
 use Rattle.chain_edit.proofs.Walks.{mark_then}
 use Rattle.expand.specs.declared.first_links.FirstLink.{FirstLink}
-use Rattle.expand.specs.ExpandFault.{NotDamaged}
 use Rattle.expand.specs.Expanding.{Blames}
 use Rattle.expand.specs.FirstLinks.{belongs, have_twins, numbers_of}
 use Rattle.expand.specs.Walking.{AreSoundWalks, AreWalks}
-use Rattle.expand.proofs.BrokenChains.{more_stood, no_link, none_stood, none_stray, stray_breaks, walk_breaks}
-use Rattle.expand.proofs.ChainWalks.{AreLeft, HaveMet, Rows, all_met, chain_left, chain_met, few_met, few_more, group_sound, mark_bounds, none_met, reads_more, rest_left, room_then}
+use Rattle.expand.proofs.BrokenChains.{more_stood, no_link, none_stood, stray_breaks, walk_breaks}
+use Rattle.expand.proofs.ChainWalks.{AreLeft, HaveMet, Rows, all_met, chain_left, chain_met, few_met, few_more, mark_bounds, none_met, reads_more, rest_left, room_then}
 use Rattle.group_store.proofs.GroupWalks.{reads_none}
 use Rattle.expand.proofs.walking.walk_all.Goals as goal
 
@@ -197,24 +196,6 @@ returns-in-Err-clause-damaged g c = λ tells of.
     subst (Blames s) (sym c.with_node.ensures)
     (walk_breaks s now (length rows) n at c.saturating_sub-budget.result links no_link c.loop-link.invariant.read low of rows budget (c.loop-link.invariant.stood tells) c.in-Err.fault (c.in-Err.ensures.damaged tells))
 
-pub returns-in-Err-clause-sound : goal.returns-in-Err-clause-sound
-returns-in-Err-clause-sound g c = λ tells mark xs sound belong.
-    let s = g.R.Reads.state c.args.space.now in
-    let now = g.R.Reads.state c.loop-link.space in
-    let new = g.R.Reads.state c.walk.new.space in
-    let n = c.args.node in
-    let links = c.args.links.now in
-    let at = c.loop-link.link-index in
-    let rows = c.loop-link.rows.items in
-    let marked = ap (λ (meta : Meta). meta.high) c.meta-mark.ensures in
-    let budget : c.saturating_sub-budget.result ≡ rel_mark s - length rows = let left = c.saturating_sub-budget.ensures in let len = c.len.ensures in omega (arith, left, len, marked) in
-    let low : at < length links = c.loop-link-test.true in
-    let link = get_or links at no_link in
-    let rest = left_at s n at (length rows) c.saturating_sub-budget.result links low budget (c.loop-link.invariant.left tells xs sound) in
-    let next = chain_left s now (length rows) n link.first c.saturating_sub-budget.result (drop (at + 1) (numbers_of links)) c.loop-link.invariant.read rest in
-    subst (λ fault. NotDamaged {T = Rows} (Err fault)) (sym c.with_node.ensures) (group_sound n (have_twins links) c.in-Err.fault
-    (c.in-Err.ensures.sound tells (let same = mark_then s now (length rows) c.loop-link.invariant.read in let room = room_then s now (length rows) c.loop-link.invariant.read in omega arith) next.members next.sound))
-
 pub returns-then-not-all_belong-clause-damaged : goal.returns-then-not-all_belong-clause-damaged
 returns-then-not-all_belong-clause-damaged g c = λ tells of.
     let s = g.R.Reads.state c.args.space.now in
@@ -227,22 +208,6 @@ returns-then-not-all_belong-clause-damaged g c = λ tells of.
     let chain = c.in-Ok.chain.items in
     let stray = all_is (get_or links at no_link) n chain c.deref.result.now c.all_belong.result false c.deref.ensures.value c.all_belong.ensures c.if-not-all_belong.true in
     subst (Breaks s.records s.shape) (sym c.chains_damage.ensures) (stray_breaks s now (length rows) n at c.saturating_sub-budget.result links no_link c.loop-link.invariant.read low chain (c.in-Ok.ensures.rows tells) of stray)
-
-pub returns-then-not-all_belong-clause-sound : goal.returns-then-not-all_belong-clause-sound
-returns-then-not-all_belong-clause-sound g c = λ tells mark xs sound belong.
-    let s = g.R.Reads.state c.args.space.now in
-    let now = g.R.Reads.state c.loop-link.space in
-    let new = g.R.Reads.state c.walk.new.space in
-    let n = c.args.node in
-    let links = c.args.links.now in
-    let at = c.loop-link.link-index in
-    let rows = c.loop-link.rows.items in
-    let marked = ap (λ (meta : Meta). meta.high) c.meta-mark.ensures in
-    let budget : c.saturating_sub-budget.result ≡ rel_mark s - length rows = let left = c.saturating_sub-budget.ensures in let len = c.len.ensures in omega (arith, left, len, marked) in
-    let low : at < length links = c.loop-link-test.true in
-    let chain = c.in-Ok.chain.items in
-    let stray = all_is (get_or links at no_link) n chain c.deref.result.now c.all_belong.result false c.deref.ensures.value c.all_belong.ensures c.if-not-all_belong.true in
-    absurd (true≢false (sym (none_stray s now (length rows) n at c.saturating_sub-budget.result links no_link c.loop-link.invariant.read low chain (c.in-Ok.ensures.rows tells) belong) ∙ stray))
 
 -- ---- the end
 

@@ -1,5 +1,5 @@
 use Rattle.std.specs.Prelude.{Err}
-use Rattle.std.proofs.Common.{◌≡◌, ◌∙◌, ℕ, refl, subst, sym}
+use Rattle.std.proofs.Common.{◌≡◌, ◌∙◌, ℕ, refl, subst, sym, inl}
 use Rattle.id_freelist.specs.declared.take_fault.TakeFault.{TakeFault}
 use Rattle.id_freelist.specs.TakeFault.{BlamesBroken, NotDamaged}
 use Rattle.rec_bytes.specs.Format as format
@@ -26,4 +26,4 @@ pub returns-in-Err-Damaged-clause-damaged : goal.returns-in-Err-Damaged-clause-d
 returns-in-Err-Damaged-clause-damaged g c tells from to =
     let s = g.S.Reads.state c.args.space.now in
     let told = subst (λ (f : TakeFault). BlamesBroken s.records s.shape f) c.in-Err-Damaged.field-0-is (c.in-Err-Damaged.ensures.damaged tells) in
-    NotTaken c.in-Err-Damaged.damage (subst (λ (z : State). Breaks z.records z.shape c.in-Err-Damaged.damage) (sym c.in-Err-Damaged.ensures.err) told)
+    NotTaken c.in-Err-Damaged.damage (inl (subst (λ (z : State). Breaks z.records z.shape c.in-Err-Damaged.damage) (sym c.in-Err-Damaged.ensures.err) told))

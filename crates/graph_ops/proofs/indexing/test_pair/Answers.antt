@@ -10,7 +10,7 @@ use Rattle.graph_ops.specs.Damage.{BlamesBroken}
 use Rattle.graph_ops.specs.Entries.{is_listed}
 use Rattle.graph_ops.specs.Indexing.{pair_reasons}
 use Rattle.graph_ops.specs.Store.{graph_in}
-use Rattle.graph_ops.proofs.Broken.{read_broken}
+use Rattle.graph_ops.proofs.Broken.{index_broken}
 use Rattle.graph_ops.proofs.Causes.{failure_caused}
 use Rattle.graph_ops.proofs.DiskCauses.{fault_cause_passed}
 use Rattle.graph_ops.proofs.Exits.{fault_exit, fault_fails, fault_outside}
@@ -44,7 +44,7 @@ returns-in_err-listed-clause-damaged g c tells =
     let s = g.R.Reads.state c.args.space.now in
     let fault = c.in_err-listed.field-0.0 in
     fault_exit of_fault (BlamesBroken s) fault c.from_residual.result c.from_residual.ensures.1
-    (read_broken s s refl fault (c.in_err-listed.ensures.damaged tells))
+    (index_broken s fault (c.in_err-listed.ensures.damaged tells))
 
 pub returns-in_err-listed-clause-same : goal.returns-in_err-listed-clause-same
 returns-in_err-listed-clause-same g c = reads_same 17 _ _ c.indexes.ensures.at_most

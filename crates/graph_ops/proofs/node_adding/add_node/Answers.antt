@@ -14,7 +14,7 @@ use Rattle.rec_bytes.specs.declared.meta.Meta.{Meta}
 use Rattle.rec_bytes.specs.declared.shape.Shape.{Shape}
 use Rattle.rec_bytes.specs.Space.{State, meta_of}
 use Rattle.rec_bytes.specs.Format as format
-use Rattle.store_rules.specs.Breaking.{Breaks}
+use Rattle.store_rules.specs.Breaking.{BreaksAny}
 use Rattle.store_rules.specs.Indexes.{AreIndexed, IsIndexed, wanted_in}
 use Rattle.store_rules.specs.Views.{high}
 use Rattle.store_rules.specs.Writes.{WritesAtMost, WritesBeside}
@@ -181,7 +181,7 @@ returns-in_err-listed-clause-damaged g c tells =
     let shape = g.met.S.Reads.onward_shape _ _ c.prepare.ensures.onward in
     let adds = adds_none key s z shape (c.in_ok-prepared.ensures.stays tells) in
     fault_exit (λ f. f) (BlamesAdding format.nodes_file s u) c.in_err-listed.field-0.0 c.from_residual-in_err-listed.result c.from_residual-in_err-listed.ensures.1
-    (blames_more _ _ (λ damage breaks. inr (inl (0, record { mid = z; adds = adds; breaks = subst (λ (h : Shape). Breaks z.records h damage) shape breaks }))) c.in_err-listed.field-0.0 (c.in_err-listed.ensures.damaged tells))
+    (blames_more _ _ (λ damage breaks. inr (inl (0, record { mid = z; adds = adds; breaks = subst (λ (h : Shape). BreaksAny z.records h damage) shape breaks }))) c.in_err-listed.field-0.0 (c.in_err-listed.ensures.damaged tells))
 
 pub returns-in_err-listed-clause-cause : goal.returns-in_err-listed-clause-cause
 returns-in_err-listed-clause-cause g c =

@@ -4,7 +4,7 @@ use Rattle.rec_bytes.specs.Space.{State}
 use Rattle.snap_store.specs.declared.view.View.{View}
 use Rattle.store_rules.specs.Graph.{graph_of}
 use Rattle.graph_session.specs.Exchange.{told_fault}
-use Rattle.graph_session.specs.IndexedStores.{IsIndexedStore}
+use Rattle.traversal_run.specs.Reading.{IsNamedStore}
 use Rattle.graph_session.specs.Questions.{Means}
 use Rattle.graph_session.specs.Verdicts.{TellsVerdict}
 use Rattle.graph_session.proofs.sight_reading.read_by.Goals as goal
@@ -24,7 +24,7 @@ returns-clause-gives g c = λ asks.
       form = given.form;
       gives = given.gives;
       means = λ tells store.
-          subst (λ (s : State). IsIndexedStore s.records s.shape names → Means (graph_of s.records) command given.reply) c.view-view.ensures.sees (given.means tells) store;
+          subst (λ (s : State). IsNamedStore s.records s.shape names → Means (graph_of s.records) command given.reply) c.view-view.ensures.sees (given.means tells) store;
       verdict = λ tells is. subst (λ (s : State). TellsVerdict s.records s.shape given.reply) c.view-view.ensures.sees (given.verdict tells is);
       told = lent (λ old new. told_fault given.reply ≢ 0 → Rose (g.R.Reads.faults old) (g.R.Reads.faults new)) _ _ _ _ c.view-view.ensures.committed (search rules) given.told;
       later = lent (λ old new. g.R.Reads.faults old ≤ g.R.Reads.faults new) _ _ _ _ c.view-view.ensures.committed (search rules) given.read.later;

@@ -200,7 +200,7 @@ returns-in-Some-clause-group g c = λ tells dense.
     let now = g.S.Reads.state c.find_group.new.space in
     let same = same_read _ s now c.find_group.ensures.at_most in
     let found = subst (λ (t : State). IsFound t.records c.args.node c.args.label (Some c.in-Some.row)) (sym same) (subst (IsFound s.records c.args.node c.args.label) c.in-Some.is (c.in_ok-row.ensures.found tells)) in
-    inr (record { dense = found.0; member = found.1.member; is = found.1.is }, same)
+    inr (record { dense = found.0; member = found.1.member; on = found.1.on refl found.0; is = found.1.is }, same)
 
 pub returns-in-None-clause-damaged : goal.returns-in-None-clause-damaged
 returns-in-None-clause-damaged g c = λ tells dense.

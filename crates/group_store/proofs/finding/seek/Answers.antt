@@ -3,7 +3,9 @@ use Rattle.std.proofs.lemmas.List.{length_push}
 use Rattle.std.proofs.lemmas.Result.{err_from_is_err_and}
 use Rattle.rec_bytes.specs.declared.meta.Meta.{Meta}
 use Rattle.rec_bytes.proofs.Spaces.{after_gets-zero}
+use Rattle.store_rules.specs.Breaking.IsOnChain.{First, Next}
 use Rattle.store_rules.specs.Chains.{In}
+use Rattle.group_store.proofs.GroupRules.{group_owned}
 use Rattle.group_store.specs.declared.group_row.GroupRow.{GroupRow}
 use Rattle.group_store.specs.Finding.{IsReached}
 use Rattle.group_store.specs.GroupChain.{up_to_type}
@@ -22,6 +24,7 @@ loop-init g c =
     record {
       met = λ tells. ([], passed_none s.records c.args.node c.args.first, lacks_none s.records c.args.label, refl);
       left = λ tells xs walk few. (xs, walk, omega arith, λ g i. i);
+      on = λ tells is dense own. First c.args.first dense (sym is) own;
       reached = λ tells groups first next. first;
       read = sym (after_gets-zero s);
       onward = g.met.R.Reads.stays_onward c.args.space.now;
@@ -49,6 +52,10 @@ loop-preserved g c =
       left = λ tells xs walk few.
           let link = link_then s now c.loop.counter c.loop.at c.number-at.result c.in_ok-rec.rec c.loop.invariant.read (c.in_ok-rec.ensures.got tells) c.number-at.ensures in
           left_more s.records (c.meta-budget.result.high - c.loop.counter) (c.meta-budget.result.high - (c.loop.counter + 1)) c.loop.at c.number-at.result xs less some link (c.loop.invariant.left tells xs walk few);
+      on = λ tells is dense own.
+          let link = link_then s now c.loop.counter c.loop.at c.number-at.result c.in_ok-rec.rec c.loop.invariant.read (c.in_ok-rec.ensures.got tells) c.number-at.ensures in
+          let member = member_then s now c.loop.counter c.args.node c.loop.at c.loop.invariant.read (c.in_ok-rec.ensures.member tells) in
+          Next c.loop.at c.number-at.result (c.loop.invariant.on tells is dense (group_owned s.records c.args.node c.loop.at member)) (sym link) own;
       reached = λ tells groups first next.
           let link = link_then s now c.loop.counter c.loop.at c.number-at.result c.in_ok-rec.rec c.loop.invariant.read (c.in_ok-rec.ensures.got tells) c.number-at.ensures in
           subst (λ z. In z groups) (sym link) (next c.loop.at (c.loop.invariant.reached tells groups first next) some);
@@ -133,7 +140,8 @@ returns-then-number-label-clause-found g c = λ tells.
     let member = member_then s now c.loop.counter c.args.node c.loop.at c.loop.invariant.read (c.in_ok-rec.ensures.member tells) in
     let got = rec_then s now c.loop.counter c.loop.at c.in_ok-rec.rec c.loop.invariant.read (c.in_ok-rec.ensures.got tells) in
     let typed = type_then s now c.loop.counter c.loop.at c.args.label c.in_ok-rec.rec c.number.result got c.number.ensures in
-    group_found s.records c.args.node c.args.label c.loop.at c.in_ok-rec.rec c.row_of.result got c.row_of.ensures member (sym typed ∙ c.if-number-label.true)
+    group_found s.records c.args.node c.args.first c.args.label c.loop.at c.in_ok-rec.rec c.row_of.result got c.row_of.ensures member (sym typed ∙ c.if-number-label.true)
+    (λ is dense. c.loop.invariant.on tells is dense (group_owned s.records c.args.node c.loop.at member))
 
 pub returns-then-number-label-clause-reached : goal.returns-then-number-label-clause-reached
 returns-then-number-label-clause-reached g c = λ tells.

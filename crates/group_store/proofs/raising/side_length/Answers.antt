@@ -1,11 +1,11 @@
-use Rattle.std.proofs.Common.{◌≡◌, true, refl, sym, ◌∙◌, subst}
+use Rattle.std.proofs.Common.{◌≡◌, true, inr, refl, sym, ◌∙◌, subst}
 use Rattle.chain_edit.specs.declared.members.Members.{Members}
 use Rattle.chain_edit.specs.Length.{stands}
 use Rattle.group_store.specs.Sides.{group_head}
 use Rattle.group_store.proofs.BrokenGroups.{if_err}
 use Rattle.group_store.proofs.ChainHeads.{only_read}
 use Rattle.group_store.proofs.Raises.{first_is, group_is, length_names}
-use Rattle.group_store.proofs.SideCounts.{owns, stands_there}
+use Rattle.group_store.proofs.SideCounts.{owns_group, stands_there}
 use Rattle.group_store.proofs.raising.side_length.Goals as goal
 
 pub returns-clause-breaks : goal.returns-clause-breaks
@@ -14,7 +14,7 @@ returns-clause-breaks g c = λ tells at.
     let node = c.args.node in
     let row = c.args.row.now in
     let is = group_is s node row at in
-    c.chain_length.ensures.breaks tells (group_head row.id c.args.side) refl (c.first_in.ensures ∙ first_is s node row at c.args.side) (owns s.records row.id row.label node is c.args.side at.dense)
+    c.chain_length.ensures.breaks tells (group_head row.id c.args.side) refl (c.first_in.ensures ∙ first_is s node row at c.args.side) (inr (record { own = owns_group s.records row.id row.label node is c.args.side at.dense; on = at.on }))
     (λ x there. subst (λ (m : Members). stands s.records node m x ≡ true) (sym c.members_of.ensures) (stands_there s.records row.id row.label node is c.args.side x there))
 
 pub returns-clause-state : goal.returns-clause-state

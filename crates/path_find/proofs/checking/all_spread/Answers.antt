@@ -10,11 +10,6 @@ use Rattle.path_find.specs.Reads.{neighbours_at}
 use Rattle.path_find.proofs.OnlyReads.{broken-read, is_read-on, same-read, store-read}
 use Rattle.path_find.proofs.checking.all_spread.Goals as goal
 
-pub returns-in_err-spreads-clause-sound : goal.returns-in_err-spreads-clause-sound
-returns-in_err-spreads-clause-sound g c = λ tells store.
-    let p = err_from_is_err_and c.from_residual.result c.from_residual.ensures.1 in
-    rw (p.1, p.2) (c.in_err-spreads.ensures.sound tells (store-read g.R.Reads g.met.R.Reads.onward_shape c.args.reads.now c.loop-row.reads c.loop-row.invariant.read store))
-
 pub returns-in_err-spreads-clause-damaged : goal.returns-in_err-spreads-clause-damaged
 returns-in_err-spreads-clause-damaged g c = λ tells.
     let p = err_from_is_err_and c.from_residual.result c.from_residual.ensures.1 in

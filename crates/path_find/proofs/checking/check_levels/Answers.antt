@@ -54,8 +54,3 @@ returns-clause-decides g c = λ tells store types stand.
 pub returns-clause-proves : goal.returns-clause-proves
 returns-clause-proves g c = λ tells store types stand.
     proves_shortest (adjacency_of (g.R.Reads.state c.args.reads.now) c.args.direction types) c.args.answer.now.levels c.args.from c.args.to c.args.answer.now.walk c.in_ok-all.all (returns-clause-decides g c tells store types stand)
-
-pub returns-in_err-all-clause-sound : goal.returns-in_err-all-clause-sound
-returns-in_err-all-clause-sound g c = λ tells store.
-    let p = err_from_is_err_and c.from_residual-in_err-all.result c.from_residual-in_err-all.ensures.1 in
-    rw (p.1, p.2) (c.in_err-all.ensures.sound tells (store-read g.R.Reads g.met.R.Reads.onward_shape c.args.reads.now c.is_walk.new.reads c.is_walk.ensures.read store))

@@ -10,20 +10,10 @@ use Rattle.path_find.proofs.Descents.{descent_on}
 use Rattle.path_find.proofs.OnlyReads.{broken-read, is_read-none, is_read-on, same-read, store-read}
 use Rattle.path_find.proofs.descending.descend.Goals as goal
 
-pub returns-in_err-next-clause-sound : goal.returns-in_err-next-clause-sound
-returns-in_err-next-clause-sound g c = λ tells store.
-    let p = err_from_is_err_and c.from_residual.result c.from_residual.ensures.1 in
-    rw (p.1, p.2) (c.in_err-next.ensures.sound tells (store-read g.R.Reads g.met.R.Reads.onward_shape c.args.space.now c.loop-level.space c.loop-level.invariant.read store))
-
 pub returns-in_err-next-clause-damaged : goal.returns-in_err-next-clause-damaged
 returns-in_err-next-clause-damaged g c = λ tells.
     let p = err_from_is_err_and c.from_residual.result c.from_residual.ensures.1 in
     rw (p.1, p.2) (broken-read g.R.Reads g.met.R.Reads.onward_shape c.args.space.now c.loop-level.space c.loop-level.invariant.read c.in_err-next.field-0.0 (c.in_err-next.ensures.damaged tells))
-
-pub returns-in_err-push-clause-sound : goal.returns-in_err-push-clause-sound
-returns-in_err-push-clause-sound g c = λ tells store.
-    let p = err_from_is_err_and c.from_residual-in_err-push.result c.from_residual-in_err-push.ensures.1 in
-    rw (p.1, p.2) tt
 
 pub loop-level-init : goal.loop-level-init
 loop-level-init g c = record {

@@ -10,7 +10,7 @@ use Rattle.path_find.specs.Reads.{adjacency_of}
 use Rattle.path_find.specs.declared.answer.Answer.{Answer}
 use Rattle.plain_graph.specs.Graph.{has_node}
 use Rattle.expand.specs.Expanding.{graph_in}
-use Rattle.path_find.proofs.Answered.{answered, closed_graph, ends_there, node_fault, search_fault, search_sound, search_tells}
+use Rattle.path_find.proofs.Answered.{answered, closed_graph, ends_there, node_fault, search_fault, search_tells}
 use Rattle.path_find.proofs.Certified.{certified_answer, shortest_or_none}
 use Rattle.path_find.proofs.OnlyReads.{is_read-on, same-read, store-read}
 use Rattle.path_find.proofs.Causes.{expand_cause_passed, expand_memory_cause, later_on, row_cause_passed}
@@ -55,13 +55,6 @@ returns-in_err-tree-clause-missing g c = λ tells store.
     let both = ends_there s (g.R.Reads.state c.is_node.new.reads) same store c.args.from c.args.to c.in_ok-from_there.from_there c.in_ok-to_there.to_there
     (c.in_ok-from_there.ensures.is tells store) c.if-not-from_there.false (c.in_ok-to_there.ensures.is tells) c.if-not-to_there.false in
     rw (p.1, p.2) (search_tells Answer c.args.from c.args.to (has_node (graph_in s) c.args.from) (has_node (graph_in s) c.args.to) c.in_err-tree.field-0.0 both)
-
-pub returns-in_err-tree-clause-sound : goal.returns-in_err-tree-clause-sound
-returns-in_err-tree-clause-sound g c = λ tells store.
-    let p = err_from_is_err_and c.from_residual-in_err-tree.result c.from_residual-in_err-tree.ensures.1 in
-    let both = is_read-on g.R.Reads g.met.R.Reads.further_onward c.args.reads.now c.is_node.new.reads c.is_node-2.new.reads c.is_node.ensures.read c.is_node-2.ensures.read in
-    let there = store-read g.R.Reads g.met.R.Reads.onward_shape c.args.reads.now c.is_node-2.new.reads both store in
-    rw (p.1, p.2) (search_sound Answer c.in_err-tree.field-0.0 (c.in_err-tree.ensures.sound tells there))
 
 pub returns-in_err-answer-clause-missing : goal.returns-in_err-answer-clause-missing
 returns-in_err-answer-clause-missing g c = λ tells store.

@@ -137,20 +137,10 @@ returns-clause-found g c = λ tells store there to_there.
     let from_first = subst (λ n. IsLeastOrNone near n (node_at behind.tree 0) walk) inv.first least in
     subst (λ n. IsLeastOrNone near c.args.from n walk) inv.last from_first
 
-pub returns-in_err-met-clause-sound : goal.returns-in_err-met-clause-sound
-returns-in_err-met-clause-sound g c = λ tells store.
-    let p = err_from_is_err_and c.from_residual-in_err-met.result c.from_residual-in_err-met.ensures.1 in
-    rw (p.1, p.2) (c.in_err-met.ensures.sound tells (store-read g.R.Reads g.met.R.Reads.onward_shape c.args.space.now c.loop-has_met.space c.loop-has_met.invariant.read store))
-
 pub returns-in_err-met-clause-damaged : goal.returns-in_err-met-clause-damaged
 returns-in_err-met-clause-damaged g c = λ tells.
     let p = err_from_is_err_and c.from_residual-in_err-met.result c.from_residual-in_err-met.ensures.1 in
     rw (p.1, p.2) (broken-read g.R.Reads g.met.R.Reads.onward_shape c.args.space.now c.loop-has_met.space c.loop-has_met.invariant.read c.in_err-met.field-0.0 (c.in_err-met.ensures.damaged tells))
-
-pub returns-in_err-walk-clause-sound : goal.returns-in_err-walk-clause-sound
-returns-in_err-walk-clause-sound g c = λ tells store.
-    let p = err_from_is_err_and c.from_residual-in_err-walk.result c.from_residual-in_err-walk.ensures.1 in
-    rw (p.1, p.2) (c.in_err-walk.ensures.sound tells (store-read g.R.Reads g.met.R.Reads.onward_shape c.args.space.now c.loop-has_met.space c.loop-has_met.invariant.read store))
 
 pub returns-in_err-walk-clause-damaged : goal.returns-in_err-walk-clause-damaged
 returns-in_err-walk-clause-damaged g c = λ tells.

@@ -44,16 +44,6 @@ returns-clause-spans g c = λ tells store there.
       spans = inv.spans tells store there;
     }
 
-pub returns-in_err-found-clause-sound : goal.returns-in_err-found-clause-sound
-returns-in_err-found-clause-sound g c = λ tells store.
-    let p = err_from_is_err_and c.from_residual-in_err-found.result c.from_residual-in_err-found.ensures.1 in
-    rw (p.1, p.2) (c.in_err-found.ensures.sound tells (store-read g.R.Reads g.met.R.Reads.onward_shape c.args.space.now c.loop-row.space c.loop-row.invariant.read store))
-
-pub returns-in_err-spread-clause-sound : goal.returns-in_err-spread-clause-sound
-returns-in_err-spread-clause-sound g c = λ tells store.
-    let p = err_from_is_err_and c.from_residual-in_err-spread.result c.from_residual-in_err-spread.ensures.1 in
-    rw (p.1, p.2) tt
-
 pub returns-in_err-found-clause-damaged : goal.returns-in_err-found-clause-damaged
 returns-in_err-found-clause-damaged g c = λ tells.
     let p = err_from_is_err_and c.from_residual-in_err-found.result c.from_residual-in_err-found.ensures.1 in

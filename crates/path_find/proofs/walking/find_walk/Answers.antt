@@ -10,7 +10,7 @@ use Rattle.plain_graph.specs.Reached.{IsLeastOrNone}
 use Rattle.path_find.specs.Reads.{adjacency_of}
 use Rattle.plain_graph.specs.Graph.{has_node}
 use Rattle.expand.specs.Expanding.{graph_in}
-use Rattle.path_find.proofs.Answered.{ends_there, node_fault, search_fault, search_sound, search_tells, walked}
+use Rattle.path_find.proofs.Answered.{ends_there, node_fault, search_fault, search_tells, walked}
 use Rattle.path_find.proofs.OnlyReads.{is_read-on, same-read, store-read}
 use Rattle.path_find.proofs.walking.find_walk.Goals as goal
 
@@ -53,13 +53,6 @@ returns-in_err-walk-clause-missing g c = λ tells store.
     let both = ends_there s (g.R.Reads.state c.is_node.new.reads) same store c.args.from c.args.to c.in_ok-from_there.from_there c.in_ok-to_there.to_there
     (c.in_ok-from_there.ensures.is tells store) c.if-not-from_there.false (c.in_ok-to_there.ensures.is tells) c.if-not-to_there.false in
     rw (p.1, p.2) (search_tells (List ℕ) c.args.from c.args.to (has_node (graph_in s) c.args.from) (has_node (graph_in s) c.args.to) c.in_err-walk.field-0.0 both)
-
-pub returns-in_err-walk-clause-sound : goal.returns-in_err-walk-clause-sound
-returns-in_err-walk-clause-sound g c = λ tells store.
-    let p = err_from_is_err_and c.from_residual-in_err-walk.result c.from_residual-in_err-walk.ensures.1 in
-    let both = is_read-on g.R.Reads g.met.R.Reads.further_onward c.args.reads.now c.is_node.new.reads c.is_node-2.new.reads c.is_node.ensures.read c.is_node-2.ensures.read in
-    let there = store-read g.R.Reads g.met.R.Reads.onward_shape c.args.reads.now c.is_node-2.new.reads both store in
-    rw (p.1, p.2) (search_sound (List ℕ) c.in_err-walk.field-0.0 (c.in_err-walk.ensures.sound tells there))
 
 pub returns-clause-missing : goal.returns-clause-missing
 returns-clause-missing g c = λ tells store.

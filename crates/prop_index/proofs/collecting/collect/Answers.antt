@@ -5,7 +5,7 @@ use Rattle.store_rules.specs.Views.{Records, high}
 use Rattle.prop_store.proofs.ReadCounts.{reads_same}
 use Rattle.prop_index.specs.Collecting.{contents_in, hash_at}
 use Rattle.std.proofs.lemmas.Result.{err_from_is_err_and}
-use Rattle.prop_store.specs.Fault.{BlamesBroken}
+use Rattle.prop_index.specs.Blaming.{BlamesBroken}
 use Rattle.prop_index.proofs.Counting.{collect_read, read_make}
 use Rattle.prop_index.proofs.IndexBlames.{blames_before}
 use Rattle.prop_index.proofs.MakeFaults.{collect_exit}

@@ -15,7 +15,7 @@ use Rattle.prop_store.specs.declared.owner.Owner.{Owner}
 use Rattle.prop_store.proofs.ReadCounts.{reads_after, reads_none, reads_one, reads_same}
 use Rattle.prop_index.specs.Gathering.{node_owner}
 use Rattle.rec_bytes.specs.declared.fault.Fault.TheVariants.{Damaged}
-use Rattle.prop_store.specs.Fault.{BlamesBroken}
+use Rattle.prop_index.specs.Blaming.{BlamesBroken}
 use Rattle.prop_store.proofs.Exits.{same_has, space_has}
 use Rattle.prop_index.proofs.Counting.{owner_blames}
 use Rattle.prop_index.proofs.IndexBlames.{blames_before, if_err}

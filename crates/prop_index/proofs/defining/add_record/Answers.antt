@@ -4,10 +4,10 @@ use Rattle.rec_bytes.specs.Format as format
 use Rattle.rec_bytes.specs.Space.{State, meta_of}
 use Rattle.store_rules.specs.Views.{key_in}
 use Rattle.prop_index.proofs.IndexTouches.{index_one_taken, meta_only, meta_then, only_one}
-use Rattle.id_freelist.specs.TakeFault.{BlamesBroken}
+use Rattle.prop_index.specs.Blaming.{TakeBlamesBroken as BlamesBroken}
 use Rattle.prop_index.specs.Entering.{IsNotFull}
 use Rattle.prop_index.proofs.Counting.{put_live, space_roomy, take_roomy}
-use Rattle.prop_index.proofs.IndexBlames.{space_take, take_has, take_reread}
+use Rattle.prop_index.proofs.IndexBlames.{any_take, space_take, take_has, take_reread}
 use Rattle.prop_index.proofs.LiveCounts.{taken_live}
 use Rattle.prop_index.proofs.LinkRules.{free_list, store_takes}
 use Rattle.prop_index.proofs.RecordsAdded.{record_added, space_mishap, take_mishap}
@@ -79,7 +79,7 @@ pub returns-in_err-id-clause-still : goal.returns-in_err-id-clause-still
 returns-in_err-id-clause-still g c tells =
     let s = g.S.Reads.state c.args.space.now in
     let now = g.S.Reads.state c.take.new.space in
-    take_has (BlamesBroken now.records now.shape) c.from_residual.result c.in_err-id.field-0.0 c.from_residual.ensures.1 (take_reread s now c.in_err-id.field-0.0 c.in_err-id.ensures.err (c.in_err-id.ensures.damaged tells))
+    take_has (BlamesBroken now.records now.shape) c.from_residual.result c.in_err-id.field-0.0 c.from_residual.ensures.1 (take_reread s now c.in_err-id.field-0.0 c.in_err-id.ensures.err (any_take s.records s.shape c.in_err-id.field-0.0 (c.in_err-id.ensures.damaged tells)))
 
 pub returns-in_err-put-clause-still : goal.returns-in_err-put-clause-still
 returns-in_err-put-clause-still g c tells =

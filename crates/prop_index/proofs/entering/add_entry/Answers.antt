@@ -3,7 +3,7 @@ use Rattle.std.proofs.Common.{◌≡◌, ◌∙◌, sym, subst, refl, arith}
 use Rattle.store_rules.specs.Views.{high, kind_at, rec_at}
 use Rattle.store_rules.proofs.ViewLaws.{kind_below}
 use Rattle.rec_bytes.specs.Format as format
-use Rattle.id_freelist.specs.TakeFault.{BlamesBroken}
+use Rattle.prop_index.specs.Blaming.{TakeBlamesBroken as BlamesBroken}
 use Rattle.prop_index.specs.Entering.{IsIndexFull}
 use Rattle.prop_index.specs.Blaming.{TakeNamesIndexes}
 use Rattle.prop_index.specs.Touching.{front_ids}

@@ -7,6 +7,7 @@ use Rattle.rec_bytes.specs.Space.{SameButReads, State, meta_of}
 use Rattle.store_rules.specs.Indexes.{AreIndexed, Entry, with_entry}
 use Rattle.store_rules.specs.Views.{Records, high}
 use Rattle.prop_store.proofs.ReadCounts.{reads_same}
+use Rattle.prop_index.specs.Blaming.{TakeBlamesBroken}
 use Rattle.prop_index.specs.Entering.{IsIndexFull, IsMade, IsNotFull, entry_of}
 use Rattle.store_rules.specs.Hashes.{bucket_of}
 use Rattle.store_rules.specs.Graph.{indexes_of}
@@ -112,13 +113,13 @@ returns-clause-full g c tells =
 pub returns-in-Err-clause-damaged : goal.returns-in-Err-clause-damaged
 returns-in-Err-clause-damaged g c tells =
     let s = g.S.Reads.state c.args.space.now in
-    subst (takes.BlamesBroken s.records s.shape) (sym c.of_read.ensures) (read_blames s.records s.shape c.in-Err.fault (c.in-Err.ensures.damaged tells))
+    subst (TakeBlamesBroken s.records s.shape) (sym c.of_read.ensures) (read_blames s.records s.shape c.in-Err.fault (c.in-Err.ensures.damaged tells))
 
 pub returns-in-Err-clause-still : goal.returns-in-Err-clause-still
 returns-in-Err-clause-still g c tells =
     let s = g.S.Reads.state c.args.space.now in
     let now = g.S.Reads.state c.find_bucket.new.space in
-    subst (takes.BlamesBroken now.records now.shape) (sym c.of_read.ensures)
+    subst (TakeBlamesBroken now.records now.shape) (sym c.of_read.ensures)
     (read_blames now.records now.shape c.in-Err.fault (blames_reread s now c.in-Err.fault (reads_same 18 s now c.find_bucket.ensures.at_most) (c.in-Err.ensures.damaged tells)))
 
 pub returns-clause-damaged : goal.returns-clause-damaged

@@ -18,7 +18,7 @@ use Rattle.prop_index.specs.Filling.{IsFilled}
 use Rattle.prop_index.specs.Touching.{front_ids}
 use Rattle.prop_index.specs.declared.entry_row.Content.{Content}
 use Rattle.prop_index.specs.declared.heads.Bucket.{Bucket}
-use Rattle.id_freelist.specs.TakeFault.{BlamesBroken}
+use Rattle.prop_index.specs.Blaming.{TakeBlamesBroken as BlamesBroken}
 use Rattle.prop_index.specs.Entering.{IsNotFull}
 use Rattle.prop_index.proofs.Counting.{counts_left, counts_then, full_roomy}
 use Rattle.prop_index.proofs.IndexBlames.{take_has}

@@ -10,7 +10,7 @@ use Rattle.prop_store.specs.Reading.{ReadsAtMost}
 use Rattle.prop_store.proofs.ReadCounts.{reads_more, reads_same, reads_then}
 use Rattle.prop_index.specs.Gathering.{IsEntryMet, IsListedNode, is_hashed, is_picked}
 use Rattle.rec_bytes.specs.declared.meta.Meta.{Meta}
-use Rattle.prop_store.specs.Fault.{BlamesBroken}
+use Rattle.prop_index.specs.Blaming.{BlamesBroken}
 use Rattle.prop_store.proofs.Exits.{same_has}
 use Rattle.prop_index.specs.Blaming.{IsEntryAt}
 use Rattle.prop_index.proofs.IndexBlames.{blames_before, entry_blames, entry_goes_on, late_breaks, read_fault_same}

@@ -7,7 +7,7 @@ use Rattle.store_rules.specs.Indexes.{heads_of, index_rec}
 use Rattle.store_rules.specs.Views.{Records, kind_at}
 use Rattle.prop_store.proofs.ReadCounts.{reads_more, reads_same, reads_then}
 use Rattle.store_rules.specs.IndexBreaking.{LeadsToDefinition}
-use Rattle.prop_store.specs.Fault.{BlamesBroken}
+use Rattle.prop_index.specs.Blaming.{BlamesBroken}
 use Rattle.prop_store.proofs.Exits.{same_has}
 use Rattle.prop_index.proofs.IndexBlames.{blames_before}
 use Rattle.prop_index.specs.Blaming.{NamesIndexes}

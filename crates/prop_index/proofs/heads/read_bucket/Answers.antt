@@ -3,7 +3,7 @@ use Rattle.rec_bytes.specs.declared.record.Rec.{Rec}
 use Rattle.rec_bytes.specs.Format as format
 use Rattle.rec_bytes.specs.Record.{field}
 use Rattle.store_rules.specs.Indexes.{heads_of}
-use Rattle.prop_store.specs.Fault.{BlamesBroken}
+use Rattle.prop_index.specs.Blaming.{BlamesBroken}
 use Rattle.prop_store.proofs.Exits.{same_has}
 use Rattle.prop_index.specs.Blaming.{IsOfIndexes, NamesIndexes}
 use Rattle.prop_index.specs.Reading.{IsReadFault}

@@ -8,7 +8,7 @@ use Rattle.rec_bytes.specs.Space.{State}
 use Rattle.store_rules.specs.Indexes.{has_value}
 use Rattle.store_rules.specs.Views.{Records, high, kind_at, rec_at}
 use Rattle.store_rules.proofs.ViewLaws.{kind_low}
-use Rattle.prop_store.specs.Fault.{BlamesBroken}
+use Rattle.prop_index.specs.Blaming.{BlamesBroken}
 use Rattle.prop_store.specs.Finding.{value_of}
 use Rattle.prop_store.specs.Owner.{HasProperties, IsInUse}
 use Rattle.prop_store.specs.Reading.{properties_met}
@@ -17,7 +17,7 @@ use Rattle.prop_store.proofs.Exits.{same_has, space_has}
 use Rattle.prop_store.proofs.ReadCounts.{reads_after, reads_none, reads_one, reads_same}
 use Rattle.prop_index.specs.Gathering.{node_owner}
 use Rattle.prop_index.proofs.EntryNodes.{entry_owner_blames, entry_unwanted, in_use}
-use Rattle.prop_index.proofs.IndexBlames.{blames_before}
+use Rattle.prop_index.proofs.IndexBlames.{any_read, blames_before}
 use Rattle.prop_index.proofs.Values.{value_in-is}
 use Rattle.prop_index.proofs.holding.holds.Goals as goal
 
@@ -85,4 +85,4 @@ returns-in_err-held-clause-damaged g c tells d b count rec met node_is =
     let used : kind_at s.records format.nodes_file c.args.node ≢ format.free_kind = λ e. c.if-byte-eq-FREE.false (c.byte.ensures ∙ ap (λ (r : Rec). field 1 r format.kind) rec_is ∙ sym (kind_low (high s.records format.nodes_file) (rec_at s.records format.nodes_file c.args.node) c.args.node low) ∙ e) in
     same_has (BlamesBroken s.records s.shape) c.from_residual-in_err-held.result c.in_err-held.field-0.0 c.from_residual-in_err-held.ensures.1
     (blames_before s now c.in_err-held.field-0.0 (reads_same 1 s now (reads_one 1 s now (omega arith) c.get.ensures.state))
-    (c.in_err-held.ensures.damaged tells (subst (λ (o : Owner). IsInUse now.records o) (sym c.in_ok-owner.ensures.is) (subst (λ (r : Records). IsInUse r (node_owner c.args.node)) (sym gone) used))))
+    (any_read now.records now.shape c.in_err-held.field-0.0 (c.in_err-held.ensures.damaged tells (subst (λ (o : Owner). IsInUse now.records o) (sym c.in_ok-owner.ensures.is) (subst (λ (r : Records). IsInUse r (node_owner c.args.node)) (sym gone) used)))))

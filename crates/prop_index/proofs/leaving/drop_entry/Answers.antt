@@ -2,8 +2,8 @@ use Rattle.std.proofs.Common.{◌≡◌, ◌≢◌, ◌⊎◌, ◌∙◌, Option
 use Rattle.rec_bytes.specs.declared.damage.Damage.{Damage}
 use Rattle.rec_bytes.specs.declared.fault.Fault.TheVariants.{Damaged}
 use Rattle.rec_bytes.specs.Space.{SameButReads, State, meta_of}
-use Rattle.store_rules.specs.Breaking.{Breaks}
-use Rattle.prop_store.specs.Fault.{BlamesBroken}
+use Rattle.store_rules.specs.Breaking.{BreaksAny}
+use Rattle.prop_index.specs.Blaming.{BlamesBroken}
 use Rattle.prop_store.specs.GivenOut.{IsLinkDamage}
 use Rattle.prop_store.proofs.Exits.{same_has, space_has}
 use Rattle.prop_index.specs.Blaming.{IsEntryAt, IsOfIndexes, NamesIndexes}
@@ -130,7 +130,7 @@ returns-in_err-row-clause-still g c tells d b h =
 
 -- what a test of the row's links blames
 row_blames : (s now : State) (o : Option EntryRow) (row : EntryRow) (link : ℕ) → SameButReads s now → o ≡ Some row → IfSome o (IsEntryRow s.records)
-    → ((link ≡ field 4 row.rec format.indexed_next) ⊎ (link ≡ field 4 row.rec format.indexed_previous)) → (bad : Damage) → (link ≢ format.nil) × IsLinkDamage now (key_in format.index_file row.id) format.index_file link bad → Breaks now.records now.shape bad
+    → ((link ≡ field 4 row.rec format.indexed_next) ⊎ (link ≡ field 4 row.rec format.indexed_previous)) → (bad : Damage) → (link ≢ format.nil) × IsLinkDamage now (key_in format.index_file row.id) format.index_file link bad → BreaksAny now.records now.shape bad
 row_blames s now o row link same is has at bad told =
     let read : IsEntryRow s.records row = subst (λ (z : Option EntryRow). IfSome z (IsEntryRow s.records)) is has in
     let records = same_records s now same in

@@ -6,7 +6,7 @@ use Rattle.rec_bytes.specs.Record.{field}
 use Rattle.rec_bytes.specs.declared.meta.Meta.{Meta}
 use Rattle.store_rules.specs.Indexes.{index_rec, next_entry}
 use Rattle.store_rules.specs.Views.{Records, high, kind_at}
-use Rattle.prop_store.specs.Fault.{BlamesBroken}
+use Rattle.prop_index.specs.Blaming.{BlamesBroken}
 use Rattle.prop_store.proofs.Exits.{same_has}
 use Rattle.prop_index.specs.Blaming.{IsEntryAt, IsOfIndexes, NamesIndexes}
 use Rattle.prop_index.proofs.IndexBlames.{entry_blames, entry_goes_on, late_breaks, read_fault_same, read_names}

@@ -7,7 +7,7 @@ use Rattle.store_rules.specs.Indexes.{AreIndexed, Entry, without_entry}
 use Rattle.store_rules.specs.Views.{Records}
 use Rattle.prop_store.proofs.ReadCounts.{reads_same}
 use Rattle.prop_index.specs.Entering.{entry_of}
-use Rattle.prop_store.specs.Fault.{BlamesBroken}
+use Rattle.prop_index.specs.Blaming.{BlamesBroken}
 use Rattle.prop_store.proofs.Exits.{same_has}
 use Rattle.prop_index.specs.Heads.{IfBucketMet, IsBucketSought}
 use Rattle.prop_index.proofs.IndexBlames.{blames_before, blames_reread, entry_begins, entry_reread, if_err}

@@ -7,8 +7,9 @@ use Rattle.rec_bytes.specs.Space.{State}
 use Rattle.store_rules.specs.IndexChange.{IsEntryMade}
 use Rattle.prop_index.proofs.LinkRules.{free_list}
 use Rattle.prop_index.proofs.MadeRules.{entry_made_kept}
-use Rattle.id_freelist.specs.TakeFault.{BlamesBroken, of_space}
-use Rattle.prop_index.proofs.IndexBlames.{space_names, space_take, take_has, take_names, take_reread}
+use Rattle.id_freelist.specs.TakeFault.{of_space}
+use Rattle.prop_index.specs.Blaming.{TakeBlamesBroken as BlamesBroken}
+use Rattle.prop_index.proofs.IndexBlames.{any_take, space_names, space_take, take_has, take_names, take_reread}
 use Rattle.prop_index.proofs.IndexFull.{full-after, take-full}
 use Rattle.prop_index.proofs.IndexTouches.{meta_only, meta_then}
 use Rattle.prop_index.proofs.LiveCounts.{taken_live}
@@ -80,13 +81,13 @@ returns-in_err-id-clause-full g c tells =
 pub returns-in_err-id-clause-damaged : goal.returns-in_err-id-clause-damaged
 returns-in_err-id-clause-damaged g c tells =
     let s = g.S.Reads.state c.args.space.now in
-    take_has (BlamesBroken s.records s.shape) c.from_residual.result c.in_err-id.field-0.0 c.from_residual.ensures.1 (c.in_err-id.ensures.damaged tells)
+    take_has (BlamesBroken s.records s.shape) c.from_residual.result c.in_err-id.field-0.0 c.from_residual.ensures.1 (any_take s.records s.shape c.in_err-id.field-0.0 (c.in_err-id.ensures.damaged tells))
 
 pub returns-in_err-id-clause-still : goal.returns-in_err-id-clause-still
 returns-in_err-id-clause-still g c tells =
     let s = g.S.Reads.state c.args.space.now in
     let now = g.S.Reads.state c.take.new.space in
-    take_has (BlamesBroken now.records now.shape) c.from_residual.result c.in_err-id.field-0.0 c.from_residual.ensures.1 (take_reread s now c.in_err-id.field-0.0 c.in_err-id.ensures.err (c.in_err-id.ensures.damaged tells))
+    take_has (BlamesBroken now.records now.shape) c.from_residual.result c.in_err-id.field-0.0 c.from_residual.ensures.1 (take_reread s now c.in_err-id.field-0.0 c.in_err-id.ensures.err (any_take s.records s.shape c.in_err-id.field-0.0 (c.in_err-id.ensures.damaged tells)))
 
 pub returns-in_err-link-clause-damaged : goal.returns-in_err-link-clause-damaged
 returns-in_err-link-clause-damaged g c tells =

@@ -8,7 +8,7 @@ use Rattle.store_rules.specs.Chains.{IsWalk}
 use Rattle.store_rules.specs.Indexes.{first_definition, index_rec, next_definition}
 use Rattle.store_rules.specs.Views.{Records, kind_at}
 use Rattle.prop_store.proofs.ReadCounts.{reads_one, reads_records, reads_same, reads_then}
-use Rattle.prop_store.specs.Fault.{BlamesBroken}
+use Rattle.prop_index.specs.Blaming.{BlamesBroken}
 use Rattle.prop_store.proofs.Exits.{same_has}
 use Rattle.prop_index.specs.Blaming.{IsDefinitionAt, IsOfIndexes, NamesIndexes}
 use Rattle.prop_index.specs.Listing.{pair_of}

@@ -7,7 +7,7 @@ use Rattle.store_rules.specs.Indexes.{wanted_in}
 use Rattle.prop_store.proofs.ReadCounts.{reads_same}
 use Rattle.std.proofs.lemmas.Result.{err_from_is_err_and}
 use Rattle.store_rules.specs.Hashes.{bucket_of}
-use Rattle.prop_store.specs.Fault as props
+use Rattle.prop_index.specs.Blaming as blaming
 use Rattle.prop_index.specs.Blaming.{IsEntryAt}
 use Rattle.prop_index.specs.Finding.{LeadsToNone}
 use Rattle.prop_index.specs.Heads.{IfBucketMet, IsBucketSought}
@@ -165,7 +165,7 @@ pub returns-in_err-put_in_order-clause-damaged : goal.returns-in_err-put_in_orde
 returns-in_err-put_in_order-clause-damaged g c tells =
     let s = g.R.Reads.state c.args.space.now in
     let p = err_from_is_err_and c.from_residual-in_err-put_in_order.result c.from_residual-in_err-put_in_order.ensures.1 in
-    rw (p.1, p.2) (read_lookup s.records s.shape c.in_err-put_in_order.field-0.0 (subst (props.BlamesBroken s.records s.shape) (sym c.in_err-put_in_order.ensures.memory) tt))
+    rw (p.1, p.2) (read_lookup s.records s.shape c.in_err-put_in_order.field-0.0 (subst (blaming.BlamesBroken s.records s.shape) (sym c.in_err-put_in_order.ensures.memory) tt))
 
 pub returns-in_err-bucket-clause-caused : goal.returns-in_err-bucket-clause-caused
 returns-in_err-bucket-clause-caused g c tells =

@@ -39,7 +39,7 @@ returns-then-byte-kind-clause-damaged g c tells =
     let got : c.in_ok-rec.rec ≡ index_rec s.records c.args.id = c.in_ok-rec.ensures.got tells in
     let other : kind_at s.records format.index_file c.args.id ≢ c.args.kind = λ e. c.if-byte-kind.true
     (c.byte.ensures ∙ ap (λ (r : Rec). field 1 r format.kind) got ∙ sym (kind_low (high s.records format.index_file) (index_rec s.records c.args.id) c.args.id low) ∙ e) in
-    subst (IsReadFault s c.args.id c.args.kind c.args.named) (sym c.damaged-then-byte-kind.ensures) (OtherKind other)
+    subst (IsReadFault s c.args.id c.args.kind c.args.named) (sym c.damaged-then-byte-kind.ensures) (OtherKind low other)
 
 pub returns-then-byte-kind-clause-at_most : goal.returns-then-byte-kind-clause-at_most
 returns-then-byte-kind-clause-at_most g c = reads_one 1 _ _ (omega arith) c.get.ensures.state

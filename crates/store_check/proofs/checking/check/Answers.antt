@@ -7,7 +7,8 @@ use Rattle.store_rules.specs.Rules.{IsWellFormed}
 use Rattle.store_rules.specs.Views.{Records}
 use Rattle.store_rules.specs.Breaking.{AreChained, Keeps}
 use Rattle.record_lists.specs.Deciding.{AreMarksLow, BreaksRule, DecidesRule}
-use Rattle.store_check.proofs.BreachLaws.{is_indexed, is_store, not_kept, rules_of}
+use Rattle.store_rules.proofs.Breaches.{none_at_all}
+use Rattle.store_check.proofs.AllRules.{is_indexed, is_store}
 use Rattle.record_lists.proofs.HeadLaws.{one_more}
 use Rattle.store_check.proofs.checking.check.Goals as goal
 
@@ -44,7 +45,7 @@ returns-in-Some-clause-only g c = λ tells store.
     = subst (λ (r : Records). DecidesRule r s.shape rule found) inv.same
     (subst (λ (h : Shape). DecidesRule (g.R.Reads.state c.loop-rule.space).records h rule found) (g.met.R.Reads.onward_shape _ _ inv.onward) (c.in_ok-damage.ensures.decided tells)) in
     let breaks : BreaksRule s.records s.shape rule c.in-Some.damage = subst (λ (o : Option Damage). DecidesRule s.records s.shape rule o) c.in-Some.is decided in
-    absurd (not_kept s.records s.shape c.in-Some.damage breaks.breaks breaks.spoken (rules_of s.records s.shape store c.in-Some.damage breaks.breaks))
+    absurd (none_at_all s.records s.shape store c.in-Some.damage breaks.breaks)
 
 pub loop-rule-preserved : goal.loop-rule-preserved
 loop-rule-preserved g c =

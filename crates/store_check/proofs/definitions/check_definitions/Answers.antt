@@ -13,4 +13,4 @@ returns-in-Some-clause-found g c = λ tells.
     let id = c.in-Some.id in
     let mark : c.meta-mark.result.high ≡ high s.records index_file = ap (λ (m : Meta). m.high) c.meta-mark.ensures in
     let bad : (id < c.meta-mark.result.high) × (¬ DefinitionKeeps s.records id) = search (rules, c.in_ok-id.ensures.found tells) in
-    breaks_by s.records s.shape 5 c.broken.result (damage 8 id 5) c.broken.ensures refl refl (WrongDefinition id (omega (arith, bad.0)) bad.1)
+    breaks_by s.records s.shape 5 c.broken.result (damage 8 id 5) c.broken.ensures refl (WrongDefinition id (omega (arith, bad.0)) bad.1)

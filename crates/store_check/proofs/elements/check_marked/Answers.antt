@@ -46,7 +46,7 @@ returns-in-Some-3-clause-found g c = λ tells.
     let found : IfSome c.in_ok-id.field-0 (λ x. ¬ (is_live s.records properties_file x ≡ true → marked n x ≡ true))
     = subst (λ (r : Records). IfSome c.in_ok-id.field-0 (λ x. ¬ (is_live r properties_file x ≡ true → marked n x ≡ true))) (c.in_ok-damage-2.ensures.same ∙ c.in_ok-damage.ensures.same) (c.in_ok-id.ensures.found tells) in
     let bad : ¬ (is_live s.records properties_file c.in-Some-3.id ≡ true → marked n c.in-Some-3.id ≡ true) = search (rules, found) in
-    breaks_by s.records s.shape 5 c.broken.result (damage 4 c.in-Some-3.id 5) c.broken.ensures refl refl (WrongHolding c.in-Some-3.id (not_held s.records n c.in-Some-3.id all bad))
+    breaks_by s.records s.shape 5 c.broken.result (damage 4 c.in-Some-3.id 5) c.broken.ensures refl (WrongHolding c.in-Some-3.id (not_held s.records n c.in-Some-3.id all bad))
 
 pub returns-in-None-clause-none : goal.returns-in-None-clause-none
 returns-in-None-clause-none g c = λ tells.

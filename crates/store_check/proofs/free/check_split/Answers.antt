@@ -23,4 +23,4 @@ pub returns-else-names-clause-decided : goal.returns-else-names-clause-decided
 returns-else-names-clause-decided g c = λ tells.
     let s = g.R.Reads.state c.args.space.now in
     let meta : c.meta-names.result ≡ meta_in s.records names_file = c.meta-names.ensures ∙ ap (λ (r : Records). meta_in r names_file) c.in_ok-damage.ensures.same in
-    breaks_by s.records s.shape 2 _ (damage 0 6 2) refl refl refl (NameCount (λ all. c.if-names.false (ap (λ (m : Meta). m.live) meta ∙ all ∙ ap (λ (m : Meta). m.high) (sym meta))))
+    breaks_by s.records s.shape 2 _ (damage 0 6 2) refl refl (NameCount (λ all. c.if-names.false (ap (λ (m : Meta). m.live) meta ∙ all ∙ ap (λ (m : Meta). m.high) (sym meta))))

@@ -17,7 +17,7 @@ pub returns-then-not-branch-clause-decided : goal.returns-then-not-branch-clause
 returns-then-not-branch-clause-decided g c = λ tells.
     let s = g.R.Reads.state c.args.space.now in
     let no : c.in_ok-is_own_right.field-0 ≡ false = search rules in
-    breaks_by s.records s.shape 1 c.broken.result (damage 0 0 1) c.broken.ensures refl refl (OwnRecord (λ h. true≢false (sym ((c.in_ok-is_own_right.ensures.right tells).1 h) ∙ no)))
+    breaks_by s.records s.shape 1 c.broken.result (damage 0 0 1) c.broken.ensures refl (OwnRecord (λ h. true≢false (sym ((c.in_ok-is_own_right.ensures.right tells).1 h) ∙ no)))
 
 pub returns-in-Some-clause-decided : goal.returns-in-Some-clause-decided
 returns-in-Some-clause-decided g c = λ tells.
@@ -28,7 +28,7 @@ returns-in-Some-clause-decided g c = λ tells.
     = subst (λ (r : Records). IfSome c.in_ok-id.field-0 (λ n. ¬ IsMetaKept r s.shape n)) c.in_ok-is_own_right.ensures.same
     (subst (λ (h : Shape). IfSome c.in_ok-id.field-0 (λ n. ¬ IsMetaKept (g.R.Reads.state c.is_own_right.new.space).records h n)) (g.met.R.Reads.onward_shape _ _ c.in_ok-is_own_right.ensures.onward) (c.in_ok-id.ensures.found tells)) in
     let bad : ¬ IsMetaKept s.records s.shape id = search (rules, found) in
-    breaks_by s.records s.shape 1 c.broken-in-Some.result (damage 0 id 1) c.broken-in-Some.ensures refl refl (WrongMeta id lt bad)
+    breaks_by s.records s.shape 1 c.broken-in-Some.result (damage 0 id 1) c.broken-in-Some.ensures refl (WrongMeta id lt bad)
 
 pub returns-in-Some-2-clause-decided : goal.returns-in-Some-2-clause-decided
 returns-in-Some-2-clause-decided g c = λ tells.
@@ -38,7 +38,7 @@ returns-in-Some-2-clause-decided g c = λ tells.
     let found : IfSome c.in_ok-key.field-0 (λ k. (k.id < high s.records k.file) × (¬ FitsAt s.records k.file k.id))
     = subst (λ (r : Records). IfSome c.in_ok-key.field-0 (λ k. (k.id < high r k.file) × (¬ FitsAt r k.file k.id))) (c.in_ok-id.ensures.same ∙ c.in_ok-is_own_right.ensures.same) (c.in_ok-key.ensures.found tells) in
     let bad : (key.id < high s.records key.file) × (¬ FitsAt s.records key.file key.id) = search (rules, found) in
-    breaks_by s.records s.shape 1 c.broken-in-Some-2.result (damage key.file key.id 1) c.broken-in-Some-2.ensures refl refl (RecordRange key.file key.id is bad.0 bad.1)
+    breaks_by s.records s.shape 1 c.broken-in-Some-2.result (damage key.file key.id 1) c.broken-in-Some-2.ensures refl (RecordRange key.file key.id is bad.0 bad.1)
 
 pub returns-in-None-clause-decided : goal.returns-in-None-clause-decided
 returns-in-None-clause-decided g c = λ tells.

@@ -37,16 +37,6 @@ read_key_from-requires-clause-first g c = λ tells.
     let z = g.R.Reads.state c.owner_of.new.space in
     first_in s z c.args.item.now c.in-Some-2.owned c.in_ok-owned.ensures.read.same (subst (IsOwnerOf s c.args.item.now) c.in-Some-2.is (c.in_ok-owned.ensures.found tells))
 
-pub returns-in_err-value-clause-sound : goal.returns-in_err-value-clause-sound
-returns-in_err-value-clause-sound g c = λ tells store.
-    let s = g.R.Reads.state c.args.space.now in
-    let z = g.R.Reads.state c.owner_of.new.space in
-    let owns = subst (IsOwnerOf s c.args.item.now) c.in-Some-2.is (c.in_ok-owned.ensures.found tells) in
-    let is = subst (λ (o : Option Owned). IfSome o (λ (found : Owned). IsOwner found.owner)) c.in-Some-2.is c.in_ok-owned.ensures.owner in
-    let listed = listed_in s z c.args.item.now c.in-Some-2.owned c.in_ok-owned.ensures.read.same store.store is owns in
-    let p = err_from_is_err_and c.from_residual-in_err-value.result c.from_residual-in_err-value.ensures.1 in
-    rw (p.1, p.2) (c.in_err-value.ensures.sound tells listed.es listed.has)
-
 pub returns-in_err-value-clause-read : goal.returns-in_err-value-clause-read
 returns-in_err-value-clause-read g c = record {
   same = then_read (g.R.Reads.state c.args.space.now) (g.R.Reads.state c.owner_of.new.space) (g.R.Reads.state c.read_key_from.new.space) 54 c.in_ok-owned.ensures.read.same c.read_key_from.ensures.at_most;

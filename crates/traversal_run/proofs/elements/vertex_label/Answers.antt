@@ -17,13 +17,6 @@ returns-in_default-clause-found g c = λ tells store.
     let s = g.R.Reads.state c.args.space.now in
     sym (no_node_label s.records c.args.id (sym c.in_default.is ∙ c.in_ok-row.ensures.found tells))
 
-pub returns-then-row-mark-clause-sound : goal.returns-then-row-mark-clause-sound
-returns-then-row-mark-clause-sound g c = λ tells store.
-    let s = g.R.Reads.state c.args.space.now in
-    let low = label_known s.records s.shape store.store c.args.id c.in-Some.row (sym c.in-Some.is ∙ c.in_ok-row.ensures.found tells) in
-    let mark = c.name_mark-mark.ensures in
-    absurd (omega (arith, c.if-row-mark.true))
-
 pub returns-then-row-mark-clause-damaged : goal.returns-then-row-mark-clause-damaged
 returns-then-row-mark-clause-damaged g c = λ tells.
     let s = g.R.Reads.state c.args.space.now in

@@ -29,14 +29,6 @@ returns-in_err-row-clause-damaged g c = λ tells.
     let p = err_from_is_err_and c.from_residual.result c.from_residual.ensures.1 in
     rw (p.1, p.2) (rel_blamed s c.args.id c.in_err-row.field-0.0 (c.in_err-row.ensures.damaged tells))
 
-pub returns-then-row-mark-clause-sound : goal.returns-then-row-mark-clause-sound
-returns-then-row-mark-clause-sound g c = λ tells store.
-    let s = g.R.Reads.state c.args.space.now in
-    let found = sym (c.in_ok-row.ensures.found tells) ∙ c.in-Some.is in
-    let low = row_typed s.records s.shape c.args.id c.in-Some.row store.store found in
-    let mark = c.name_mark-mark.ensures in
-    absurd (omega (arith, c.if-row-mark.true))
-
 pub returns-then-row-mark-clause-damaged : goal.returns-then-row-mark-clause-damaged
 returns-then-row-mark-clause-damaged g c = λ tells.
     let s = g.R.Reads.state c.args.space.now in

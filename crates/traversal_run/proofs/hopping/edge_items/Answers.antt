@@ -24,15 +24,6 @@ more_edges s m same rows at d old new lt are more =
     ∙ sym (map-append (row_item s.records) (take at rows) (get_or rows at d ∷ []))
     ∙ ap (map (row_item s.records)) (sym (take_more rows at d lt))
 
-pub returns-in_err-push_edge-clause-sound : goal.returns-in_err-push_edge-clause-sound
-returns-in_err-push_edge-clause-sound g c = λ tells store typed.
-    let space = g.R.Reads in
-    let at = c.loop-row.row-index in
-    let read = c.loop-row.invariant.read in
-    let p = err_from_is_err_and c.from_residual.result c.from_residual.ensures.1 in
-    rw (p.1, p.2) (c.in_err-push_edge.ensures.sound tells (named-read space c.args.space.now c.loop-row.space c.args.names.now.names read store)
-    (names_then (space.state c.args.space.now) (space.state c.loop-row.space) read.same _ (typed at _ (omega arith))))
-
 pub returns-in_err-push_edge-clause-damaged : goal.returns-in_err-push_edge-clause-damaged
 returns-in_err-push_edge-clause-damaged g c = λ tells.
     let space = g.R.Reads in

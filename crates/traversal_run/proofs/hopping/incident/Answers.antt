@@ -26,17 +26,6 @@ returns-clause-found g c = λ tells store.
     subst (λ (items : List Item). IfOk c.edge_items.result (λ value. value ≡ items)) same
     (subst (λ (t : State). IfOk c.edge_items.result (λ (value : List Item). value ≡ map (row_item t.records) c.deref.result.now)) read.same got)
 
-pub returns-clause-sound : goal.returns-clause-sound
-returns-clause-sound g c = λ tells store.
-    let s = g.R.Reads.state c.args.space.now in
-    let hop = c.args.hop.now in
-    let rows = c.in_ok-rows.rows.items in
-    let edges = edges_at (graph_of s.records) hop.direction hop.labels c.in-Vertex.id in
-    let read = c.in_ok-rows.ensures.read in
-    let typed = subst (AreTyped s.records) (sym c.deref.ensures.value) (rows-typed s.records rows edges (c.in_ok-rows.ensures.found tells store)) in
-    c.edge_items.ensures.sound tells (named-read g.R.Reads c.args.space.now c.rows_of.new.space c.args.names.now.names read store)
-    (subst (λ (t : State). AreTyped t.records c.deref.result.now) (sym read.same) typed)
-
 pub returns-clause-damaged : goal.returns-clause-damaged
 returns-clause-damaged g c = λ tells. subst (λ (t : State). IfErr c.edge_items.result (BlamesBroken t.records t.shape)) c.in_ok-rows.ensures.read.same (c.edge_items.ensures.damaged tells)
 

@@ -29,16 +29,6 @@ read_all_from-requires-clause-first g c = λ tells.
     let z = g.R.Reads.state c.owner_of.new.space in
     first_in s z c.args.item.now c.in-Some.owned c.in_ok-owned.ensures.read.same (subst (IsOwnerOf s c.args.item.now) c.in-Some.is (c.in_ok-owned.ensures.found tells))
 
-pub returns-in_err-props-clause-sound : goal.returns-in_err-props-clause-sound
-returns-in_err-props-clause-sound g c = λ tells store.
-    let s = g.R.Reads.state c.args.space.now in
-    let z = g.R.Reads.state c.owner_of.new.space in
-    let owns = subst (IsOwnerOf s c.args.item.now) c.in-Some.is (c.in_ok-owned.ensures.found tells) in
-    let is = subst (λ (o : Option Owned). IfSome o (λ (found : Owned). IsOwner found.owner)) c.in-Some.is c.in_ok-owned.ensures.owner in
-    let listed = listed_in s z c.args.item.now c.in-Some.owned c.in_ok-owned.ensures.read.same store.store is owns in
-    let p = err_from_is_err_and c.from_residual-in_err-props.result c.from_residual-in_err-props.ensures.1 in
-    rw (p.1, p.2) (c.in_err-props.ensures.sound tells listed.es listed.has)
-
 pub returns-in_err-props-clause-read : goal.returns-in_err-props-clause-read
 returns-in_err-props-clause-read g c = record {
   same = then_read (g.R.Reads.state c.args.space.now) (g.R.Reads.state c.owner_of.new.space) (g.R.Reads.state c.read_all_from.new.space) 736 c.in_ok-owned.ensures.read.same c.read_all_from.ensures.at_most;
@@ -76,20 +66,6 @@ returns-in_err-props-clause-damaged g c = λ tells.
 
 clash : (b : Bool) → b ≡ true → b ≡ false → ⊥
 clash b on off = cc
-
-pub returns-then-not-have_keys_below-clause-sound : goal.returns-then-not-have_keys_below-clause-sound
-returns-then-not-have_keys_below-clause-sound g c = λ tells store.
-    let s = g.R.Reads.state c.args.space.now in
-    let z = g.R.Reads.state c.owner_of.new.space in
-    let owns = subst (IsOwnerOf s c.args.item.now) c.in-Some.is (c.in_ok-owned.ensures.found tells) in
-    let is = subst (λ (o : Option Owned). IfSome o (λ (found : Owned). IsOwner found.owner)) c.in-Some.is c.in_ok-owned.ensures.owner in
-    let listed = listed_in s z c.args.item.now c.in-Some.owned c.in_ok-owned.ensures.read.same store.store is owns in
-    let read = c.deref.ensures.value ∙ c.in_ok-props.ensures.read tells listed.es listed.has.are in
-    let below = c.have_keys_below.ensures
-    ∙ ap (λ (mark : ℕ). list_all (λ (prop : Prop). nat_lt prop.key mark) c.deref.result.now) c.name_mark-mark.ensures
-    ∙ ap (λ (props : List Prop). list_all (λ (prop : Prop). nat_lt prop.key (name_count s.records)) props) read
-    ∙ keys_below (name_count s.records) listed.es listed.known in
-    absurd (clash c.have_keys_below.result below c.if-not-have_keys_below.true)
 
 pub returns-then-not-have_keys_below-clause-damaged : goal.returns-then-not-have_keys_below-clause-damaged
 returns-then-not-have_keys_below-clause-damaged g c = λ tells.

@@ -7,6 +7,7 @@ use Rattle.plain_graph.specs.declared.direction.Direction.{Direction}
 use Rattle.plain_graph.specs.declared.item.Item.{Item}
 use Rattle.rel_store.specs.declared.edge_row.EdgeRow.{EdgeRow}
 use Rattle.expand.specs.declared.expand_fault.ExpandFault.TheVariants as faults
+use Rattle.expand.proofs.Unblamed.{unblamed}
 use Rattle.store_rules.specs.Graph.{graph_of}
 use Rattle.graph_session.specs.EdgeResults.{items_of}
 use Rattle.graph_session.proofs.NodeQuestions.{AsksNodes, gives-told, gives-unknown, one-missing, undamaged}
@@ -36,5 +37,5 @@ returns-in-Err g c =
     let fault = c.in-Err.fault in
     gives-unknown (asks c.args.id c.args.direction c.args.label.now) met.read fault (λ disk. met.cause.disk (ap Err disk))
     (λ told store. one-missing (Vec EdgeRow Global) fault c.args.id (graph_of s.records) (met.missing told store))
-    (λ told store. undamaged (Vec EdgeRow Global) fault (met.sound told store))
+    (λ told store. undamaged (Vec EdgeRow Global) fault (unblamed {T = Vec EdgeRow Global} s c.args.id (Err fault) store.store (met.damaged told)))
     (rw c.answer_of.ensures at c.give_answer.ensures)

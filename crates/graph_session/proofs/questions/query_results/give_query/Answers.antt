@@ -1,5 +1,6 @@
 use Rattle.std.proofs.Common.{refl}
 use Rattle.plain_graph.specs.Reply.{DamagedRecord, DiskFailed, NoMemory, PastCount}
+use Rattle.store_rules.proofs.Breaches.{none_broken}
 use Rattle.graph_session.proofs.Running.{is_read-none, named-same, running-end, running-fault, running-first, running-none, running-on, running-stop, shows-past, shows-some}
 use Rattle.graph_session.proofs.questions.query_results.give_query.Goals as goal
 
@@ -38,7 +39,10 @@ pub returns-in-Damaged : goal.returns-in-Damaged
 returns-in-Damaged g c =
     let damage = c.in-Damaged.damage in
     running-fault g.met.R.Reads.further_onward c.loop.invariant c.next.ensures.read (DamagedRecord damage.file damage.id)
-    (λ told store. c.in-Damaged.ensures.sound told (named-same (g.R.Reads.state c.args.space.now) (g.R.Reads.state c.loop.space) c.args.names.now.names c.loop.invariant.read.same store) c.loop.invariant.goes damage refl)
+    (λ told store.
+    let s = g.R.Reads.state c.loop.space in
+    let there = named-same (g.R.Reads.state c.args.space.now) s c.args.names.now.names c.loop.invariant.read.same store in
+    absurd (none_broken s.records s.shape there.store damage (c.in-Damaged.ensures.damaged told c.loop.invariant.goes)))
     (λ blames. absurd (blames refl)) c.finish-in-Damaged.new.output c.finish-in-Damaged.result (rw (c.as_bytes.ensures, c.damaged.ensures.fault) at c.finish-in-Damaged.ensures)
 
 pub returns-in-PastCount : goal.returns-in-PastCount

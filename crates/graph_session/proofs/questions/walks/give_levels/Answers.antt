@@ -4,6 +4,7 @@ use Rattle.plain_graph.specs.declared.command.Command.TheVariants as commands
 use Rattle.plain_graph.specs.declared.direction.Direction.{Direction}
 use Rattle.store_rules.specs.Graph.{graph_of}
 use Rattle.path_find.specs.declared.answer.Answer.{Answer}
+use Rattle.path_find.proofs.Unblamed.{unblamed}
 use Rattle.graph_session.proofs.NodeQuestions.{AsksNodes, end-missing, gives-told, gives-unknown, undamaged}
 use Rattle.graph_session.proofs.questions.walks.give_levels.Goals as goal
 
@@ -26,4 +27,4 @@ returns-in-Err g c =
     let a = c.args in
     gives-unknown (asks a.from a.to a.direction a.label.now) met.read fault (λ disk. met.cause.disk (ap Err disk))
     (λ told store. end-missing Answer fault a.from a.to (graph_of (g.R.Reads.state c.args.space.now).records) (met.missing told store))
-    (λ told store. undamaged Answer fault (met.sound told store)) (rw c.answer_of.ensures at c.give_answer.ensures)
+    (λ told store. undamaged Answer fault (unblamed {T = Answer} (g.R.Reads.state c.args.space.now) c.args.from c.args.to (Err fault) store.store (met.damaged told))) (rw c.answer_of.ensures at c.give_answer.ensures)

@@ -8,7 +8,8 @@ use Rattle.record_lists.specs.Lines.{IsLineIn}
 use Rattle.store_check.specs.Pieces.{AreLengths}
 use Rattle.store_check.specs.Texts.{block_line}
 use Rattle.record_lists.proofs.RecordLaws.{kind_read}
-use Rattle.store_check.proofs.TextLaws.{IsIt, blocks_of, blocks_one, no_blocks, wrong_blocks}
+use Rattle.store_rules.proofs.PropertyHolds.{blocks_one}
+use Rattle.store_check.proofs.TextLaws.{IsIt, blocks_of, no_blocks, wrong_blocks}
 use Rattle.store_check.proofs.texts.TextHeadsHeads.list.Goals as goal
 
 pub returns-then-byte-ne-TEXT_IN_BLOCKS-clause-told : goal.returns-then-byte-ne-TEXT_IN_BLOCKS-clause-told
