@@ -2,4 +2,5 @@ pub mod Files
 pub mod MetaRecords
 pub mod Records
 pub mod Redone
+pub mod Runs
 pub mod Written

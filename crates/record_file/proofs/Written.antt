@@ -1,10 +1,9 @@
 -- What writing records one after the other does.
-use Rattle.std.proofs.Common.{◌≡◌, ◌≢◌, ◌∙◌, ap, sym, subst, ⊎_elim, ℕ, zero, suc, ◌+◌, ◌*◌, ◌≤◌, true, false, [], ◌∷◌, Option, Some, None, unwrap_or, is_some, length, drop, refl, arith}
+use Rattle.std.proofs.Common.{◌≡◌, ◌≢◌, ◌∙◌, ap, sym, subst, ⊎_elim, ℕ, zero, suc, ◌+◌, ◌≤◌, false, [], ◌∷◌, Option, Some, None, unwrap_or, is_some, length, drop, refl, arith}
 use mathlib.Core.Bool.{false≢true}
 use Rattle.std.specs.List.{AllByRecursion, slice_get}
 use Rattle.std.specs.declared.cmp.Ordering.TheVariants.{Less, Greater}
 use Rattle.disk_model.specs.Contents.{Files, Same}
-use Rattle.disk_model.specs.Disk.{TornIn}
 use Rattle.disk_model.specs.Spans.{AtEachMoment}
 use Rattle.disk_model.specs.declared.disk.Disk.{Ghosts}
 use Rattle.disk_model.proofs.Spans.{CountsNow, OnlyNow, Passes, at_each_moment_none, at_each_moment_now, at_each_moment_then}
@@ -13,13 +12,12 @@ use Rattle.rec_bytes.specs.declared.record.Rec.{Rec}
 use Rattle.rec_bytes.specs.Format.{log_file}
 use Rattle.rec_bytes.specs.Key.{IsKey, key_eq}
 use Rattle.rec_bytes.specs.Pairs.{Pairs, IsBelow, IsOrdered, find_pair}
-use Rattle.rec_bytes.specs.RecordFiles.{is_record_file}
-use Rattle.rec_bytes.specs.Space.{laid_over}
+use Rattle.rec_bytes.specs.Space.{laid_over, put}
 use Rattle.rec_bytes.proofs.KeyLaws.{key_eq-same}
 use Rattle.rec_bytes.proofs.PairLaws.{apart, reverse}
-use Rattle.rec_bytes.proofs.RecordFiles.{is_record_file-not_log}
-use Rattle.record_file.specs.Records.{IsTornInRecords, SameButRecord, SameButRecords, record_at}
-use Rattle.record_file.proofs.Records.{cases_key, record_at-kept, record_at-other}
+use Rattle.rec_bytes.proofs.Spaces.{put_same}
+use Rattle.record_file.specs.Records.{IsTornInRecords, SameButRecords}
+use Rattle.record_file.proofs.Records.{cases_key, record_at-kept}
 
 -- two changes of these records
 pub SameButRecords-then : (written : Pairs) (old middle new : Files) → SameButRecords written old middle → SameButRecords written middle new → SameButRecords written old new
@@ -35,29 +33,37 @@ SameButRecords-same written old new same = record { log = same log_file; others 
 pub SameButRecords-none : (written : Pairs) (content : Files) → SameButRecords written content content
 SameButRecords-none written content = record { log = λ place. refl; others = λ key none. refl }
 
--- a change of one of them
-pub SameButRecords-one : (written : Pairs) (key : Key) (old new : Files) → is_record_file key.file ≡ true → find_pair written key ≢ None → SameButRecord key old new → SameButRecords written old new
-SameButRecords-one written key old new file found same = record {
-  log = λ place. same log_file place (λ within. is_record_file-not_log key.file file (sym within.in_file));
-  others = λ q none. ⊎_elim
-      (λ e. absurd (found (subst (λ k. find_pair written k ≡ None) e none)))
-      (λ differ. record_at-other q key old new differ same)
-      (cases_key q key);
-}
-
 -- before the first write
 pub torn_in_records_none : {D : Type 0} (g : Ghosts D) (disk : D) (written : Pairs) → OnlyNow g → g.tells_images → AtEachMoment g disk disk (IsTornInRecords (g.may_leave disk) written)
 torn_in_records_none g disk written only told = at_each_moment_none g disk (IsTornInRecords (g.may_leave disk) written) only told (λ image left. (image, left, SameButRecords-none written image))
 
--- one write more of one of these records
-pub torn_in_records_more : {D : Type 0} (g : Ghosts D) (first old new : D) (written : Pairs) (key : Key) → CountsNow g → g.tells_images
-    → AtEachMoment g first old (IsTornInRecords (g.may_leave first) written) → Passes g old new → TornIn key.file (64 * key.id) 64 (g.may_leave old) (g.may_leave new)
-    → is_record_file key.file ≡ true → find_pair written key ≢ None → AtEachMoment g first new (IsTornInRecords (g.may_leave first) written)
-torn_in_records_more g first old new written key counts told before time torn file found =
+-- records that are all among these
+abbrev pub AreAmong : Pairs → Pairs → Type 0
+AreAmong some written = (key : Key) → find_pair written key ≡ None → find_pair some key ≡ None
+
+pub AreAmong-none : (written : Pairs) → AreAmong [] written
+AreAmong-none written key none = refl
+
+-- one more of them
+pub AreAmong-put : (old new written : Pairs) (key : Key) → AreAmong old written → find_pair written key ≢ None → ((q : Key) → find_pair old q ≡ None → key_eq q key ≡ false → find_pair new q ≡ None) → AreAmong new written
+AreAmong-put old new written key among found waits q none = ⊎_elim
+    (λ e. absurd (found (subst (λ k. find_pair written k ≡ None) e none)))
+    (λ differ. waits q (among q none) differ)
+    (cases_key q key)
+
+-- a change of some of them
+pub SameButRecords-among : (some written : Pairs) (old new : Files) → AreAmong some written → SameButRecords some old new → SameButRecords written old new
+SameButRecords-among some written old new among same = record { log = same.log; others = λ key none. same.others key (among key none) }
+
+-- one write more of some of these records
+pub torn_in_records_more : {D : Type 0} (g : Ghosts D) (first old new : D) (written some : Pairs) → CountsNow g → g.tells_images
+    → AtEachMoment g first old (IsTornInRecords (g.may_leave first) written) → Passes g old new → ((image : Files) → g.may_leave new image → IsTornInRecords (g.may_leave old) some image)
+    → AreAmong some written → AtEachMoment g first new (IsTornInRecords (g.may_leave first) written)
+torn_in_records_more g first old new written some counts told before time torn among =
     at_each_moment_then g first old new (IsTornInRecords (g.may_leave first) written) before time (λ image left.
     let was = torn image left in
     let start = at_each_moment_now g first old (IsTornInRecords (g.may_leave first) written) counts told before was.0 was.1 in
-    (start.0, start.1, SameButRecords-then written start.0 was.0 image start.2 (SameButRecords-one written key was.0 image file found was.2)))
+    (start.0, start.1, SameButRecords-then written start.0 was.0 image start.2 (SameButRecords-among some written was.0 image among was.2)))
 
 -- a pair after others has another key
 below_get : (ps : Pairs) (key : Key) (i : ℕ) (write : Key × Rec) → IsBelow key ps → slice_get ps i ≡ Some write → key_eq write.0 key ≡ false
@@ -105,23 +111,23 @@ IsKey-get (pair ∷ rest) zero write keys is =
     subst (λ (w : Key × Rec). IsKey w.0) same keys.0
 IsKey-get (pair ∷ rest) (suc i) write keys is = IsKey-get rest i write keys.1 is
 
--- At each key that is not among the rest the record is written.
-abbrev pub AreWritten : (Key → Rec) → Pairs → ℕ → Files → Type 0
-AreWritten base ps i content = (key : Key) → find_pair (drop i ps) key ≡ None → record_at content key ≡ laid_over base ps key
+-- At each key that is not among the rest the record is laid over the others.
+abbrev pub AreWritten : (Key → Rec) → Pairs → ℕ → (Key → Rec) → Type 0
+AreWritten base ps i records = (key : Key) → find_pair (drop i ps) key ≡ None → records key ≡ laid_over base ps key
 
-pub AreWritten-none : (base : Files) (ps : Pairs) → AreWritten (record_at base) ps 0 base
+pub AreWritten-none : (base : Key → Rec) (ps : Pairs) → AreWritten base ps 0 base
 AreWritten-none base ps key none = rw none refl
 
-pub AreWritten-all : (base : Key → Rec) (ps : Pairs) (i : ℕ) (content : Files) → AreWritten base ps i content → length ps ≤ i → record_at content ≡ laid_over base ps
-AreWritten-all base ps i content are end = λ j key. are key (find_pair-end ps i key end) j
+pub AreWritten-all : (base : Key → Rec) (ps : Pairs) (i : ℕ) (records : Key → Rec) → AreWritten base ps i records → length ps ≤ i → records ≡ laid_over base ps
+AreWritten-all base ps i records are end = λ j key. are key (find_pair-end ps i key end) j
 
-pub AreWritten-more : (base : Key → Rec) (ps : Pairs) (i : ℕ) (write : Key × Rec) (old new : Files) → IsOrdered ps → slice_get ps i ≡ Some write
-    → AreWritten base ps i old → record_at new write.0 ≡ write.1 → SameButRecord write.0 old new → AreWritten base ps (i + 1) new
-AreWritten-more base ps i write old new ordered is are written same key none =
+pub AreWritten-more : (base : Key → Rec) (ps : Pairs) (i : ℕ) (write : Key × Rec) (old new : Key → Rec) → IsOrdered ps → slice_get ps i ≡ Some write
+    → AreWritten base ps i old → new ≡ put old write.0 write.1 → AreWritten base ps (i + 1) new
+AreWritten-more base ps i write old new ordered is are written key none =
     let found : find_pair ps write.0 ≡ Some write.1 = find_pair-get ps i write ordered is in
     let next : i + 1 ≡ suc i = omega arith in
     ⊎_elim
-    (λ (e : key ≡ write.0). subst (λ k. record_at new k ≡ laid_over base ps k) (sym e) (written ∙ rw found refl))
-    (λ differ. record_at-other key write.0 old new differ same
-    ∙ are key (find_pair-drop ps i write key is differ ∙ ap (λ (n : ℕ). find_pair (drop n ps) key) (sym next) ∙ none))
+    (λ (e : key ≡ write.0). subst (λ k. new k ≡ laid_over base ps k) (sym e) (ap (λ (records : Key → Rec). records write.0) written ∙ put_same old write.0 write.1 ∙ rw found refl))
+    (λ differ. ap (λ (records : Key → Rec). records key) written
+    ∙ rw differ (are key (find_pair-drop ps i write key is differ ∙ ap (λ (n : ℕ). find_pair (drop n ps) key) (sym next) ∙ none)))
     (cases_key key write.0)

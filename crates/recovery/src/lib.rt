@@ -1,6 +1,6 @@
 //! Recovery: what the log says comes into the files of records, at a checkpoint and after a stop. A
-//! checkpoint costs a write for each changed record, and nine syncs; recovery reads the log twice
-//! and syncs all files twice.
+//! checkpoint costs a write for each run of at most 64 changed records that stand one behind the
+//! other in a file, and nine syncs; recovery reads the log twice and syncs all files twice.
 #![tactic(auto)]
 
 mod checkpointing;

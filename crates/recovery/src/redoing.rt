@@ -17,7 +17,7 @@ use crate::recover_fault::RecoverFault;
 use crate::syncing::sync_record_files;
 use disk_model::Disk;
 use rec_bytes::{Damage, LOG};
-use record_file::write_record;
+use record_file::Run;
 use redo_log::{EntryAnswer, LogReader, reset};
 
 /// The rule of the log: an open gate stands over an entry.
@@ -110,13 +110,15 @@ fn redo_entry<D: Disk>(
         → BlamesDisk result }
     ensures cause { HasCause (D.faults disk.old) (D.faults disk.new) result }
 {
+    let mut run = Run::new();
     for index in 0..count {
         let (key, rec) = reader.write_at(disk, place, index)?;
         if !key.is_valid() {
             return Err(damaged_entry(place));
         }
-        write_record(disk, key, rec)?;
+        run.put(disk, key, rec)?;
     }
+    run.write(disk)?;
     Ok(())
 }
 

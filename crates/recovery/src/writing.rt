@@ -6,9 +6,10 @@ ghost use Rattle.record_file.specs.Records.{IsTornInRecords, SameButRecords, rec
 
 use disk_model::Disk;
 use rec_bytes::{DiskFault, WriteSet};
-use record_file::write_record;
+use record_file::Run;
 
-/// Writes each of these records in its file.
+/// Writes each of these records in its file, those that stand one behind the other in one call of
+/// the disk.
 pub fn write_records<D: Disk>(disk: &mut D, written: &WriteSet) -> Result<(), DiskFault>
     ensures written { D.tells_reads
         → OnOk result (record_at (D.reads disk.new)
@@ -19,9 +20,10 @@ pub fn write_records<D: Disk>(disk: &mut D, written: &WriteSet) -> Result<(), Di
         (IsTornInRecords (D.may_leave disk.old) written.now.pairs) }
     ensures cause { HasCause (D.faults disk.old) (D.faults disk.new) result }
 {
+    let mut run = Run::new();
     for i in 0..written.len() {
         let (key, rec) = written.at(i);
-        write_record(disk, key, rec)?;
+        run.put(disk, key, rec)?;
     }
-    Ok(())
+    run.write(disk)
 }
