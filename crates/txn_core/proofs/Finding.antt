@@ -4,7 +4,7 @@ use mathlib.Core.Bool.{false≢true}
 use Rattle.disk_model.specs.Contents.{Files, Same}
 use Rattle.disk_model.specs.Spans.{AtEachMoment, IsAllSettled, OnlyReads}
 use Rattle.disk_model.specs.declared.disk.Disk.{Ghosts}
-use Rattle.disk_model.proofs.Spans.{at_each_moment_on, at_each_moment_weaker}
+use Rattle.disk_model.proofs.Spans.{CountsNow, at_each_moment_on, at_each_moment_read, at_each_moment_weaker}
 use Rattle.rec_bytes.specs.declared.key.Key.{Key}
 use Rattle.rec_bytes.specs.declared.record.Rec.{Rec}
 use Rattle.rec_bytes.specs.declared.shape.Shape.{Shape}
@@ -19,12 +19,13 @@ use Rattle.redo_log.specs.Redo.{redone}
 use Rattle.redo_log.proofs.Appends.{HasEntries-read}
 use Rattle.record_file.specs.Records.{IsUnmade, record_at}
 use Rattle.record_file.specs.Redone.{Redoes}
+use Rattle.record_file.proofs.Redone.{Redoes-kept}
 use Rattle.record_file.specs.Unique.{entries_unique}
 use Rattle.recovery.specs.Finding.{IsMade, IsRecoverable}
 use Rattle.txn_core.specs.Config.{Suits, shape_of}
 use Rattle.txn_core.specs.Kept.{IsKept}
 use Rattle.record_file.specs.MetaFile.{AreMetasOf}
-use Rattle.txn_core.specs.Opening.{HasOnly, HasOpeningEntry, IsOldOrNew, IsOldOrRaised, IsRefusal, IsStore, OnlyDiffers, Opens, RefusesOpening, made_over, raising_entries}
+use Rattle.txn_core.specs.Opening.{HasOnly, HasOpeningEntry, IsOldOrNew, IsOldOrRaised, IsRefusal, IsStore, OnlyDiffers, Opens, RefusesOpening, StaysAsItWas, made_over, raising_entries}
 use Rattle.txn_core.specs.declared.open_fault.OpenFault.{OpenFault}
 use Rattle.txn_core.specs.declared.open_fault.OpenFault.TheVariants.{Memory, Disk, NotAStore, Damaged, ConfigDiffers}
 use Rattle.txn_core.specs.declared.config.Config.{Config}
@@ -150,3 +151,11 @@ differs_untouched config shape Disk only is = absurd is
 differs_untouched config shape NotAStore only is = absurd only
 differs_untouched config shape (Damaged damage) only is = absurd only
 differs_untouched config shape (ConfigDiffers stored asked) only is = absurd is
+
+-- a store that is only read after the recovery stays as it was
+pub stays_read : {D : Type 0} (g : Ghosts D) (first mid now : D) (space : Key → Rec) → CountsNow g → Redoes (g.reads mid) space
+    → (g.tells_images → AtEachMoment g first mid (λ left. g.may_leave first left ⊎ Redoes left space)) → OnlyReads g mid now → StaysAsItWas g first now space
+stays_read g first mid now space counts redoes crash reads = record {
+  read = Redoes-kept space (g.reads mid) (g.reads now) redoes reads.keeps;
+  crash = λ images. at_each_moment_read g first mid now _ counts images (crash images) reads;
+}

@@ -1,5 +1,5 @@
 -- A commit after old records were kept: the store was only read until then.
-use Rattle.std.proofs.Common.{◌≡◌, ◌⊎◌, ⊎_elim, ◌∙◌, ℕ, true, Result, Ok, Err, OnOk, OnErr, ap, inl, inr, sym, subst, ◌≤◌, arith}
+use Rattle.std.proofs.Common.{◌≡◌, ◌⊎◌, ⊎_elim, ◌∙◌, ℕ, IsTrue, true, Result, Ok, Err, OnOk, OnErr, ap, inl, inr, sym, subst, ◌≤◌, arith}
 use Rattle.std.proofs.lemmas.Result.{on_err_weaker}
 use Rattle.fault_count.specs.Cause.{HasCause, Rose}
 use Rattle.disk_model.specs.Contents.{Files}
@@ -11,16 +11,17 @@ use Rattle.rec_bytes.specs.declared.record.Rec.{Rec}
 use Rattle.rec_bytes.specs.Pairs.{Pairs}
 use Rattle.rec_bytes.specs.Space.{laid_over}
 use Rattle.record_file.specs.Redone.{Redoes}
+use Rattle.redo_log.specs.Appending.{SameButEntry}
 use Rattle.record_file.specs.Unique.{Redoes-unique}
 use Rattle.snap_store.specs.Layers.{Layers, is_open, sees}
 use Rattle.snap_store.specs.Keeping.{KeepsHeld, SameReaders}
 use Rattle.snap_store.specs.Snaps.{Snapshots, with_room}
 use Rattle.snap_store.specs.Sums.{AreCovered, EndsOverfull, risen}
 use Rattle.txn_core.specs.Committed.{OnlyReadsStore}
-use Rattle.txn_core.specs.Kept.{IsOnDisk}
+use Rattle.txn_core.specs.Kept.{FitsCommit, IsOnDisk}
 use Rattle.txn_core.specs.Outcomes.{IsDropped, IsInDoubt, IsWritten}
 use Rattle.txn_core.specs.Sights.{KeepsSights}
-use Rattle.txn_core.specs.Store.{committed, working}
+use Rattle.txn_core.specs.Store.{committed, content, working}
 use Rattle.txn_core.specs.declared.store.Store.{Store}
 
 -- the records with the same transaction over them
@@ -82,11 +83,33 @@ module _ {D : Type 0} {g : Ghosts D} where
     doubt_on doubt = record { failed = doubt.failed; stored = either_on_disk t.base.disk.now (committed m) (committed s) (working m) (working s) same working_is doubt.stored }
 
     -- what was read, and then not called, is what it was
-    pub dropped_on : t.base.disk.now ≡ m.base.disk.now → IsOnDisk g t.base.disk.now (λ left. Redoes left (committed m)) → IsDropped s.base t.base
-    dropped_on is stored = record {
+    pub dropped_on : t.base.disk.now ≡ m.base.disk.now → IsOnDisk g t.base.disk.now (λ left. Redoes left (committed m)) → IsTrue t.base.live → IsDropped s.base t.base
+    dropped_on is stored live = record {
       reads = subst (λ (now : D). OnlyReads g s.base.disk.now now) (sym is) reads.base.disk;
       stored = on_disk t.base.disk.now (committed m) (committed s) same stored;
+      live = live;
     }
+
+    -- ---- what is written
+
+    fits_on : FitsCommit s.base.tail s.base.changed.pairs s.base.own.pairs → FitsCommit m.base.tail m.base.changed.pairs m.base.own.pairs
+    fits_on fits =
+        subst (λ (own : _). FitsCommit m.base.tail m.base.changed.pairs own.pairs) (sym reads.base.own)
+        (subst (λ (changed : _). FitsCommit m.base.tail changed.pairs s.base.own.pairs) (sym reads.base.changed)
+        (subst (λ (tail : ℕ). FitsCommit tail s.base.changed.pairs s.base.own.pairs) (sym reads.base.tail) fits))
+
+    -- the entry alone, where the commit wrote it alone
+    pub alone_on : (g.tells_reads → FitsCommit m.base.tail m.base.changed.pairs m.base.own.pairs → SameButEntry m.base.tail m.base.own.pairs (content m) (content t))
+        → g.tells_reads → FitsCommit s.base.tail s.base.changed.pairs s.base.own.pairs → SameButEntry s.base.tail s.base.own.pairs (content s) (content t)
+    alone_on later told fits =
+        let there : SameButEntry s.base.tail s.base.own.pairs (content m) (content t) =
+        subst (λ (own : _). SameButEntry s.base.tail own.pairs (content m) (content t)) reads.base.own
+        (subst (λ (tail : ℕ). SameButEntry tail m.base.own.pairs (content m) (content t)) reads.base.tail (later told (fits_on fits))) in
+        λ file place outside. there file place outside ∙ reads.base.disk.keeps file place
+
+    -- nothing, where the disk was not called again
+    pub alone_read : t.base.disk.now ≡ m.base.disk.now → SameButEntry s.base.tail s.base.own.pairs (content s) (content t)
+    alone_read is = λ file place outside. subst (λ (now : D). g.reads now file place ≡ content s file place) (sym is) (reads.base.disk.keeps file place)
 
     -- ---- what snapshots see
 

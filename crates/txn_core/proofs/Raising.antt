@@ -1,5 +1,5 @@
 -- A store of an older version, brought to the newest one by the first entry of the log.
-use Rattle.std.proofs.Common.{◌≡◌, ◌⊎◌, ◌∙◌, ap, sym, subst, inl, inr, ⊎_elim, ◌<◌, ◌≤◌, Bool, true, false, cond, nat_lt, List, [], ◌∷◌, Option, Some, None, refl, arith}
+use Rattle.std.proofs.Common.{◌≡◌, ◌∙◌, ap, sym, subst, inl, inr, ⊎_elim, ◌<◌, ◌≤◌, Bool, true, false, cond, nat_lt, List, [], ◌∷◌, Option, Some, None, refl, arith}
 use Rattle.std.specs.Option.{option_or}
 use Rattle.std.proofs.lemmas.Bool.Decides.{nat_tests}
 use Rattle.disk_model.specs.Contents.{Files, Same}
@@ -114,3 +114,12 @@ pub raised_crash : {D : Type 0} (g : Ghosts D) (first mid now : D) (metas : List
 raised_crash g first mid now metas shape found log settled reads images held is crash =
     at_each_moment_on g first mid now _ _ (read_crash g first mid shape log settled reads images) crash
     (λ left. IsOldOrRaised-same found shape _ (record_at (g.reads first)) left is (space_read (g.reads first) (g.reads mid) metas reads.keeps held))
+
+-- a store of the newest version is only read
+pub newest_reads : {D : Type 0} (g : Ghosts D) (first mid now : D) (metas : List Rec) → OnlyReads g first mid → AreMetasOf (record_at (g.reads first)) metas
+    → newest_version ≤ version_of (record_at (g.reads first) own_key)
+    → ((records : Key → Rec) → newest_version ≤ version_of (with_metas metas records own_key) → now ≡ mid) → OnlyReads g first now
+newest_reads g first mid now metas reads held newest stays =
+    let same = space_read (g.reads first) (g.reads mid) metas reads.keeps held in
+    subst (λ (d : _). OnlyReads g first d)
+    (sym (stays (record_at (g.reads mid)) (subst (λ (r : Key → Rec). newest_version ≤ version_of (r own_key)) (sym same) newest))) reads

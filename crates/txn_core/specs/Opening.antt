@@ -1,15 +1,17 @@
 -- What the opening of a store finds, and why one is refused.
-use Rattle.std.specs.Prelude.{◌≡◌, ◌⊎◌, ℕ, List, [], ◌∷◌, nat_lt, if◌then◌else◌}
+use Rattle.std.specs.Prelude.{◌≡◌, ◌≢◌, ◌⊎◌, ◌≤◌, ℕ, List, [], ◌∷◌, nat_lt, if◌then◌else◌}
 use Rattle.disk_model.specs.Contents.{Files}
+use Rattle.disk_model.specs.Spans.{AtEachMoment}
+use Rattle.disk_model.specs.declared.disk.Disk.{Ghosts}
 use Rattle.rec_bytes.specs.Creation.{creation_pairs, own_key, raised, raising_pairs}
-use Rattle.rec_bytes.specs.Format.{newest_version}
+use Rattle.rec_bytes.specs.Format.{log_file, newest_version}
 use Rattle.rec_bytes.specs.Pairs.{Pairs}
 use Rattle.rec_bytes.specs.Shape.{version_of}
 use Rattle.rec_bytes.specs.Space.{laid_over}
 use Rattle.rec_bytes.specs.declared.key.Key.{Key}
 use Rattle.rec_bytes.specs.declared.record.Rec.{Rec}
 use Rattle.rec_bytes.specs.declared.shape.Shape.{Shape}
-use Rattle.redo_log.specs.Entries.{HasEntries}
+use Rattle.redo_log.specs.Entries.{HasEntries, open_byte}
 use Rattle.record_file.specs.Records.{IsUnmade, record_at}
 use Rattle.record_file.specs.Redone.{Redoes}
 use Rattle.recovery.specs.Finding.{IsMade, Refuses}
@@ -96,6 +98,28 @@ IsWant Disk = Unit {0}
 IsWant NotAStore = ⊥
 IsWant (Damaged damage) = ⊥
 IsWant (ConfigDiffers stored asked) = ⊥
+
+-- another shape is asked for
+abbrev pub IsAskedOther : OpenFault → Type 0
+IsAskedOther Memory = ⊥
+IsAskedOther Disk = ⊥
+IsAskedOther NotAStore = ⊥
+IsAskedOther (Damaged damage) = ⊥
+IsAskedOther (ConfigDiffers stored asked) = Unit {0}
+
+-- The store has the records that it had, of the version that it had: what is read redoes to them,
+-- and so does each image that came later.
+pub record StaysAsItWas {D : Type 0} (g : Ghosts D) (old new : D) (space : Key → Rec) : Type 0 where
+  pub read : Redoes (g.reads new) space
+  pub crash : g.tells_images → AtEachMoment g old new
+      (λ left. g.may_leave old left ⊎ Redoes left space)
+
+-- A store of the newest version, whose log has no entry.
+pub record IsClean (content : Files) : Type 0 where
+  pub no_entry : content log_file 0 ≢ open_byte
+  pub shape : Shape
+  pub store : IsStore content shape
+  pub newest : newest_version ≤ version_of (store.space own_key)
 
 -- the files are refused for what they hold
 abbrev pub IsRefusal : OpenFault → Type 0

@@ -38,11 +38,13 @@ module _ {D : Type 0} {g : Ghosts D} where
         (λ left. Redoes left (committed old) ⊎ Redoes left (working old))
 
   -- An old record could not be read, and the transaction was dropped: the disk was only read, and
-  -- has what was committed, alone.
+  -- has what was committed, alone. The store still serves commits.
   pub record IsDropped (old new : Base D g) : Type 0 where
     pub reads : OnlyReads g old.disk.now new.disk.now
     pub stored : IsOnDisk g new.disk.now (λ left. Redoes left (committed old))
+    pub live : IsTrue new.live
 
-  -- a commit that keeps old records failed, before anything of it was written or as it was
+  -- A commit that keeps old records failed, before anything of it was written or as it was. The
+  -- health of the store tells which.
   abbrev pub HasFailedCommit : Base D g → Base D g → Type 0
   HasFailedCommit old new = IsDropped old new ⊎ IsInDoubt old new

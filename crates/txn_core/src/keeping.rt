@@ -4,7 +4,9 @@ ghost use Rattle.std.specs.Prelude.{◌≡◌, ◌≤◌, ◌⊎◌, [], IsOk, I
 ghost use Rattle.fault_count.specs.Cause.{HasCause};
 ghost use Rattle.disk_model.specs.Spans.{AtEachMoment};
 ghost use Rattle.record_file.specs.Redone.{Redoes};
-ghost use Rattle.snap_store.specs.Keeping.{KeepsHeld};
+ghost use Rattle.redo_log.specs.Appending.{SameButEntry};
+ghost use Rattle.snap_store.specs.Keeping.{KeepsHeld, SameReaders, lacked};
+ghost use Rattle.snap_store.specs.Snaps.{with_room};
 
 use crate::Store;
 use disk_model::Disk;
@@ -13,10 +15,10 @@ use snap_store::{Snaps, keep_old};
 
 impl<'d, D: Disk> Store<'d, D> {
     ghost use Rattle.txn_core.specs.Base.{SameStore};
-    ghost use Rattle.txn_core.specs.Kept.{IsOnDisk};
+    ghost use Rattle.txn_core.specs.Kept.{FitsCommit, IsOnDisk};
     ghost use Rattle.txn_core.specs.Outcomes.{HasFailedCommit, IsWritten};
     ghost use Rattle.txn_core.specs.Sights.{KeepsSights};
-    ghost use Rattle.txn_core.specs.Store.{committed, working};
+    ghost use Rattle.txn_core.specs.Store.{committed, content, working};
 
     /// Keeps for the open snapshots what the open transaction replaces, and ends it as `commit`
     /// does. Where an old record can't be read, the transaction is dropped, and the disk has what
@@ -31,6 +33,11 @@ impl<'d, D: Disk> Store<'d, D> {
         ensures held { (weight : ℕ) → length self.old.base.own.pairs ≤ weight
             → KeepsHeld weight snaps.old snaps.new }
 
+        // The oldest snapshots end exactly where the old records that the youngest lacks have no
+        // room beside those that are kept.
+        ensures ended { SameReaders (with_room (lacked self.old.base.own.pairs snaps.old.open_ones)
+            snaps.old.open_ones snaps.old.ended) snaps.new }
+
         // The rest is that of a commit.
         ensures crash { D.tells_reads → D.tells_images
             → AtEachMoment D.Disk self.old.base.disk.now self.new.base.disk.now
@@ -39,6 +46,12 @@ impl<'d, D: Disk> Store<'d, D> {
         ensures failed { OnErr result (HasFailedCommit self.old.base self.new.base) }
         ensures empty { length self.old.base.own.pairs ≡ 0
             → IsOk result × (self.new.base.disk.now ≡ self.old.base.disk.now) }
+
+        // Where it fits, its entry is all that is written.
+        ensures alone { D.tells_reads
+            → FitsCommit self.old.base.tail self.old.base.changed.pairs self.old.base.own.pairs
+            → SameButEntry self.old.base.tail self.old.base.own.pairs (content self.old)
+            (content self.new) }
         ensures closed { self.new.base.in_transaction ≡ false }
         ensures own { self.new.base.own.pairs ≡ [] }
         ensures draft { self.new.draft.pairs ≡ [] }
@@ -62,6 +75,7 @@ impl<'d, D: Disk> Store<'d, D> {
         requires in_transaction { IsTrue self.old.base.in_transaction }
         ensures stored { IsOnDisk D.Disk self.new.base.disk.now
             (λ left. Redoes left (committed self.old)) }
+        ensures live { IsTrue self.new.base.live }
         ensures same_disk { self.new.base.disk.now ≡ self.old.base.disk.now }
         ensures closed { self.new.base.in_transaction ≡ false }
         ensures own { self.new.base.own.pairs ≡ [] }

@@ -18,8 +18,9 @@ ghost use Rattle.fault_count.specs.Cause.{HasCause, Rose};
 ghost use Rattle.disk_model.specs.Contents.{Files};
 ghost use Rattle.disk_model.specs.Spans.{AtEachMoment, IsAllSettled, OnlyReads};
 ghost use Rattle.page_cache.specs.Pages.{Agrees};
-ghost use Rattle.rec_bytes.specs.Creation.{creation_pairs, raised};
-ghost use Rattle.rec_bytes.specs.Shape.{is_allowed};
+ghost use Rattle.rec_bytes.specs.Creation.{creation_pairs, own_key, raised};
+ghost use Rattle.rec_bytes.specs.Format.{newest_version};
+ghost use Rattle.rec_bytes.specs.Shape.{is_allowed, version_of};
 ghost use Rattle.rec_bytes.specs.Space.{laid_over};
 ghost use Rattle.rec_bytes.specs.declared.key.Key.{Key as AKey};
 ghost use Rattle.rec_bytes.specs.declared.record.Rec.{Rec as ARec};
@@ -35,6 +36,8 @@ ghost use Rattle.record_file.specs.MetaFile.{AreMetasOf, with_metas};
 ghost use Rattle.txn_core.specs.Opening.{
   HasOnly,
   HasOpeningEntry,
+  IsAskedOther,
+  IsClean,
   IsOldOrNew,
   IsOldOrRaised,
   IsRefusal,
@@ -42,6 +45,7 @@ ghost use Rattle.txn_core.specs.Opening.{
   OnlyDiffers,
   Opens,
   RefusesOpening,
+  StaysAsItWas,
   made_over,
   raising_entries,
 };
@@ -120,6 +124,13 @@ impl<'d, D: Disk> Base<'d, D> {
         ensures untouched { D.tells_reads
             → IfErr result (λ refusal. IsRefusal refusal.why
             → OnlyReads D.Disk disk.old refusal.disk.now) }
+        ensures differs { D.tells_reads → (space : AKey → ARec) → Redoes (D.reads disk.old) space
+            → IfErr result (λ refusal. IsAskedOther refusal.why
+            → StaysAsItWas D.Disk disk.old refusal.disk.now space) }
+        ensures clean { D.tells_reads → IsClean (D.reads disk.old)
+            → IfOk result (λ base. OnlyReads D.Disk disk.old base.disk.now) }
+        ensures clean_refused { D.tells_reads → IsClean (D.reads disk.old)
+            → IfErr result (λ refusal. OnlyReads D.Disk disk.old refusal.disk.now) }
         ensures careful { IfErr result (λ refusal. IsCareful D.Disk disk.old refusal.disk.now) }
         ensures handed_back { IfErr result
             (λ refusal. refusal.disk.ghost_name ≡ disk.entry.ghost_name) }
@@ -212,6 +223,10 @@ fn find_or_make<D: Disk>(
         (λ left. D.may_leave disk.old left ⊎ IsOldOrNew (D.reads disk.old) (shape_of config) left) }
     ensures untouched { D.tells_reads
         → IfErr result (λ fault. IsRefusal fault → OnlyReads D.Disk disk.old disk.new) }
+    ensures differs { D.tells_reads → (space : AKey → ARec) → Redoes (D.reads disk.old) space
+        → IfErr result (λ fault. IsAskedOther fault → StaysAsItWas D.Disk disk.old disk.new space) }
+    ensures clean { D.tells_reads → IsClean (D.reads disk.old)
+        → OnlyReads D.Disk disk.old disk.new }
     ensures careful { IsCareful D.Disk disk.old disk.new }
     ensures refused { D.tells_reads → IfErr result (RefusesOpening (D.reads disk.old) config) }
     ensures sound { D.tells_reads → (space : AKey → ARec) (shape : AShape)
@@ -260,6 +275,11 @@ fn open_made<D: Disk>(
     ensures settled { D.tells_reads → D.tells_images → HasEntries (D.reads disk.old) [] 0
         → IsAllSettled D.Disk disk.old → OnOk result (IsAllSettled D.Disk disk.new) }
     ensures refused { IfErr result (OnlyDiffers shape config) }
+    ensures differs { IfErr result (λ fault. IsAskedOther fault
+        → OnlyReads D.Disk disk.old disk.new) }
+    ensures newest { D.tells_reads
+        → newest_version ≤ version_of (record_at (D.reads disk.old) own_key)
+        → OnlyReads D.Disk disk.old disk.new }
     ensures no_memory { IfErr result (λ fault. ¬ (fault ≡ OpenFault.Memory)) }
     ensures room { 8192 ≤ length changed.new.pairs + changed.new.room }
     ensures few { length changed.new.pairs ≤ most_changed }
@@ -292,6 +312,8 @@ fn raise<D: Disk>(disk: &mut D, start: Start, changed: &mut WriteSet) -> Result<
         (record_at (D.reads disk.old)))) }
     ensures settled { D.tells_reads → D.tells_images → HasEntries (D.reads disk.old) [] 0
         → IsAllSettled D.Disk disk.old → OnOk result (IsAllSettled D.Disk disk.new) }
+    ensures newest { (records : AKey → ARec) → newest_version
+        ≤ version_of (with_metas start.metas.records records own_key) → disk.new ≡ disk.old }
     ensures room { 8192 ≤ length changed.new.pairs + changed.new.room }
     ensures few { length changed.new.pairs ≤ most_changed }
     ensures cause { HasCause (D.faults disk.old) (D.faults disk.new) result }

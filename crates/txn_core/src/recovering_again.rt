@@ -1,5 +1,6 @@
 ghost use Rattle.std.specs.Prelude.{
   ◌≡◌,
+  ◌≢◌,
   ◌⊎◌,
   ◌≤◌,
   [],
@@ -14,7 +15,8 @@ ghost use Rattle.fault_count.specs.Cause.{Rose};
 ghost use Rattle.disk_model.specs.Spans.{AtEachMoment, IsAllSettled, OnlyReads};
 ghost use Rattle.rec_bytes.specs.declared.key.Key.{Key as AKey};
 ghost use Rattle.rec_bytes.specs.declared.record.Rec.{Rec as ARec};
-ghost use Rattle.redo_log.specs.Entries.{HasEntries};
+ghost use Rattle.rec_bytes.specs.Format.{log_file};
+ghost use Rattle.redo_log.specs.Entries.{HasEntries, open_byte};
 ghost use Rattle.record_file.specs.Records.{record_at};
 ghost use Rattle.record_file.specs.Redone.{Redoes};
 ghost use Rattle.recovery.specs.Finding.{IsCareful, IsMade};
@@ -49,6 +51,8 @@ impl<'d, D: Disk> Base<'d, D> {
             → Redoes (content self.new) space }
         ensures failed { OnErr result (self.new.live ≡ false) }
         ensures careful { IsCareful D.Disk self.old.disk.now self.new.disk.now }
+        ensures clean { D.tells_reads → content self.old log_file 0 ≢ open_byte
+            → OnlyReads D.Disk self.old.disk.now self.new.disk.now }
         ensures refused { D.tells_reads
             → IfErr result (RefusesAgain (content self.old) self.old.shape) }
         ensures sound { D.tells_reads → (space : AKey → ARec) → Redoes (content self.old) space
@@ -88,6 +92,8 @@ fn find_again<D: Disk>(disk: &mut D, shape: Shape) -> Result<MetaFile, AgainFaul
     ensures metas { D.tells_reads
         → IfOk result (λ metas. AreMetasOf (record_at (D.reads disk.new)) metas.records) }
     ensures careful { IsCareful D.Disk disk.old disk.new }
+    ensures clean { D.tells_reads → D.reads disk.old log_file 0 ≢ open_byte
+        → OnlyReads D.Disk disk.old disk.new }
     ensures refused { D.tells_reads → IfErr result (RefusesAgain (D.reads disk.old) shape) }
     ensures sound { D.tells_reads → (space : AKey → ARec) → Redoes (D.reads disk.old) space
         → IsMade space shape → ¬ IsOld space → IfErr result (λ fault. fault ≡ AgainFault.Disk) }

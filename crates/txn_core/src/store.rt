@@ -1,5 +1,6 @@
 ghost use Rattle.std.specs.Prelude.{
   ◌≡◌,
+  ◌≢◌,
   ◌≤◌,
   ◌⊎◌,
   ◌↔◌,
@@ -17,12 +18,14 @@ ghost use Rattle.std.specs.Prelude.{
 };
 ghost use Rattle.fault_count.specs.Cause.{HasCause, Rose};
 ghost use Rattle.disk_model.specs.Spans.{AtEachMoment, IsAllSettled, OnlyReads};
+ghost use Rattle.rec_bytes.specs.Format.{log_file};
 ghost use Rattle.rec_bytes.specs.Pairs.{growth_by, merged};
 ghost use Rattle.rec_bytes.specs.Shape.{is_allowed};
 ghost use Rattle.rec_bytes.specs.declared.key.Key.{Key as AKey};
 ghost use Rattle.rec_bytes.specs.declared.record.Rec.{Rec as ARec};
 ghost use Rattle.rec_bytes.specs.declared.shape.Shape.{Shape as AShape};
 ghost use Rattle.redo_log.specs.Appending.{SameButEntry};
+ghost use Rattle.redo_log.specs.Entries.{open_byte};
 ghost use Rattle.record_file.specs.Records.{IsUnmade};
 ghost use Rattle.record_file.specs.Redone.{Redoes};
 ghost use Rattle.recovery.specs.Finding.{IsCareful, IsMade};
@@ -37,6 +40,8 @@ ghost use Rattle.txn_core.specs.Kept.{
 };
 ghost use Rattle.txn_core.specs.Opening.{
   HasOpeningEntry,
+  IsAskedOther,
+  IsClean,
   IsOldOrNew,
   IsOldOrRaised,
   IsRefusal,
@@ -44,6 +49,7 @@ ghost use Rattle.txn_core.specs.Opening.{
   OnlyDiffers,
   Opens,
   RefusesOpening,
+  StaysAsItWas,
 };
 ghost use Rattle.txn_core.specs.declared.health.Health.TheVariants as healths;
 
@@ -134,6 +140,17 @@ impl<'d, D: Disk> Store<'d, D> {
         ensures untouched { D.tells_reads
             → IfErr result (λ refusal. IsRefusal refusal.why
             → OnlyReads D.Disk disk.old refusal.disk.now) }
+
+        // Where another shape is asked for, the store isn't brought to the newest version.
+        ensures differs { D.tells_reads → (space : AKey → ARec) → Redoes (D.reads disk.old) space
+            → IfErr result (λ refusal. IsAskedOther refusal.why
+            → StaysAsItWas D.Disk disk.old refusal.disk.now space) }
+
+        // A clean store is only read.
+        ensures clean { D.tells_reads → IsClean (D.reads disk.old)
+            → IfOk result (λ store. OnlyReads D.Disk disk.old store.base.disk.now) }
+        ensures clean_refused { D.tells_reads → IsClean (D.reads disk.old)
+            → IfErr result (λ refusal. OnlyReads D.Disk disk.old refusal.disk.now) }
         ensures careful { IfErr result (λ refusal. IsCareful D.Disk disk.old refusal.disk.now) }
         ensures handed_back { IfErr result
             (λ refusal. refusal.disk.ghost_name ≡ disk.entry.ghost_name) }
@@ -297,6 +314,10 @@ impl<'d, D: Disk> Store<'d, D> {
 
         // Files that are no store, or a broken one, are left as they were.
         ensures careful { IsCareful D.Disk self.old.base.disk.now self.new.base.disk.now }
+
+        // Where the log has no entry, the disk is only read.
+        ensures clean { D.tells_reads → content self.old log_file 0 ≢ open_byte
+            → OnlyReads D.Disk self.old.base.disk.now self.new.base.disk.now }
         ensures refused { D.tells_reads
             → IfErr result (RefusesAgain (content self.old) self.old.base.shape) }
         ensures sound { D.tells_reads → (space : AKey → ARec) → Redoes (content self.old) space

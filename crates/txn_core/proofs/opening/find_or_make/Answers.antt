@@ -1,7 +1,11 @@
-use Rattle.std.proofs.Common.{◌≡◌, ◌∙◌, ⊎_elim, sym, subst, inl, inr, [], ◌∷◌}
+use Rattle.std.proofs.Common.{◌≡◌, ◌≤◌, ◌∙◌, ⊎_elim, sym, subst, inl, inr, [], ◌∷◌}
 use Rattle.std.proofs.lemmas.Result.{IfErr-weaker}
-use Rattle.disk_model.proofs.Spans.{at_each_moment_weaker}
-use Rattle.rec_bytes.specs.Creation.{creation_pairs, raised}
+use Rattle.disk_model.proofs.Spans.{at_each_moment_weaker, only_reads_on}
+use Rattle.rec_bytes.specs.Creation.{creation_pairs, own_key, raised}
+use Rattle.rec_bytes.specs.Format.{newest_version}
+use Rattle.rec_bytes.specs.Shape.{version_of}
+use Rattle.rec_bytes.specs.declared.key.Key.{Key}
+use Rattle.rec_bytes.specs.declared.record.Rec.{Rec}
 use Rattle.rec_bytes.specs.Space.{laid_over}
 use Rattle.rec_bytes.specs.declared.shape.Shape.{Shape}
 use Rattle.record_file.specs.Records.{record_at}
@@ -9,7 +13,7 @@ use Rattle.txn_core.specs.Config.{Suits}
 use Rattle.record_file.specs.MetaFile.{with_metas}
 use Rattle.txn_core.specs.Opening.{HasOnly, IsStore, OnlyDiffers, RefusesOpening, raising_entries}
 use Rattle.txn_core.specs.declared.opening.Start.{Start}
-use Rattle.txn_core.proofs.Finding.{differs_untouched, if_ok_all, if_ok_both, if_ok_on, made_crash, made_log, made_opened, none_made, one_shape, redoes_own, refuses_differs, unmade_crash, unmade_left, unmade_mid, unmade_opened}
+use Rattle.txn_core.proofs.Finding.{differs_untouched, if_ok_all, if_ok_both, if_ok_on, made_crash, made_log, made_opened, none_made, one_shape, redoes_own, refuses_differs, stays_read, unmade_crash, unmade_left, unmade_mid, unmade_opened}
 use Rattle.txn_core.proofs.opening.find_or_make.Given.{Over}
 use Rattle.txn_core.proofs.opening.find_or_make.Goals as goal
 
@@ -180,3 +184,26 @@ returns-in-Err-Disk-clause-crash g c reads images space shape redoes is =
 
 pub returns-in-Err-Disk-clause-crash_new : goal.returns-in-Err-Disk-clause-crash_new
 returns-in-Err-Disk-clause-crash_new g c reads images unmade = unmade_left g.D.Disk c.args.disk.now c.recover.new.disk c.args.config images (c.recover.ensures.closed reads unmade.log.1)
+
+pub returns-in-Ok-Made-clause-differs : goal.returns-in-Ok-Made-clause-differs
+returns-in-Ok-Made-clause-differs g c reads space redoes =
+    IfErr-weaker c.open_made.result _ _ (λ fault only asked.
+    stays_read g.D.Disk c.args.disk.now c.recover.new.disk c.open_made.new.disk space g.met.D.Disk.counts_now (c.recover.ensures.read reads space redoes) (λ images. c.recover.ensures.crash reads images space redoes) (only asked)) c.open_made.ensures.differs
+
+pub returns-in-Ok-Made-clause-clean : goal.returns-in-Ok-Made-clause-clean
+returns-in-Ok-Made-clause-clean g c reads clean =
+    let same = c.in-Ok-Made.ensures.space reads clean.store.space clean.store.redoes in
+    only_reads_on g.D.Disk c.args.disk.now c.recover.new.disk c.open_made.new.disk (c.recover.ensures.closed reads clean.no_entry)
+    (c.open_made.ensures.newest reads (subst (λ (r : Key → Rec). newest_version ≤ version_of (r own_key)) (sym same) clean.newest))
+
+pub returns-in_err-make_new-in-Ok-Unmade-clause-clean : goal.returns-in_err-make_new-in-Ok-Unmade-clause-clean
+returns-in_err-make_new-in-Ok-Unmade-clause-clean g c reads clean =
+    let intact = c.in-Ok-Unmade.ensures.intact reads in
+    let unmade = rw c.in-Ok-Unmade.field-0-is at (c.in-Ok-Unmade.ensures.found reads intact.0 intact.1) in
+    absurd (none_made (g.D.Disk.reads c.args.disk.now) clean.shape unmade clean.store)
+
+pub returns-in_ok-make_new-in-Ok-Unmade-clause-clean : goal.returns-in_ok-make_new-in-Ok-Unmade-clause-clean
+returns-in_ok-make_new-in-Ok-Unmade-clause-clean g c reads clean =
+    let intact = c.in-Ok-Unmade.ensures.intact reads in
+    let unmade = rw c.in-Ok-Unmade.field-0-is at (c.in-Ok-Unmade.ensures.found reads intact.0 intact.1) in
+    absurd (none_made (g.D.Disk.reads c.args.disk.now) clean.shape unmade clean.store)

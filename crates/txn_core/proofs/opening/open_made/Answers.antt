@@ -4,7 +4,7 @@ use Rattle.rec_bytes.specs.declared.shape.Shape.{Shape}
 use Rattle.redo_log.proofs.Appends.{HasEntries-read}
 use Rattle.record_file.specs.Records.{record_at}
 use Rattle.txn_core.proofs.Finding.{made_kept, settled_read}
-use Rattle.txn_core.proofs.Raising.{raised_crash, read_crash, space_read}
+use Rattle.txn_core.proofs.Raising.{newest_reads, raised_crash, read_crash, space_read}
 use Rattle.txn_core.proofs.opening.open_made.Goals as goal
 
 pub returns-in_err-start-clause-crash : goal.returns-in_err-start-clause-crash
@@ -39,3 +39,17 @@ returns-clause-settled g c reads images log settled =
     let first = c.args.disk.now in
     let mid = c.read_made.new.disk in
     c.in_ok-raise.ensures.settled reads images (HasEntries-read [] 0 (g.D.Disk.reads first) (g.D.Disk.reads mid) log (c.read_made.ensures.only_reads.keeps 7)) (settled_read g.D.Disk first mid c.read_made.ensures.only_reads images settled)
+
+pub returns-in_err-raise-clause-newest : goal.returns-in_err-raise-clause-newest
+returns-in_err-raise-clause-newest g c reads newest =
+    let first = c.args.disk.now in
+    let mid = c.read_made.new.disk in
+    let start = c.in_ok-start.start in
+    newest_reads g.D.Disk first mid c.raise.new.disk start.metas.records c.read_made.ensures.only_reads (c.in_ok-start.ensures.metas reads) newest c.raise.ensures.newest
+
+pub returns-clause-newest : goal.returns-clause-newest
+returns-clause-newest g c reads newest =
+    let first = c.args.disk.now in
+    let mid = c.read_made.new.disk in
+    let start = c.in_ok-start.start in
+    newest_reads g.D.Disk first mid c.raise.new.disk start.metas.records c.read_made.ensures.only_reads (c.in_ok-start.ensures.metas reads) newest c.raise.ensures.newest

@@ -1,6 +1,6 @@
 use Rattle.std.proofs.Common.{◌≡◌, ◌∙◌, ◌⊎◌, sym, subst, inl, inr, ⊎_elim, refl}
 use Rattle.std.proofs.lemmas.Result.{IfErr-weaker, on_ok_weaker}
-use Rattle.disk_model.proofs.Spans.{at_each_moment_read}
+use Rattle.disk_model.proofs.Spans.{at_each_moment_read, only_reads_on}
 use Rattle.record_file.specs.Records.{record_at}
 use Rattle.record_file.proofs.Redone.{Redoes-kept}
 use Rattle.txn_core.specs.Again.{IsOld, RefusesAgain, own_damage}
@@ -86,3 +86,6 @@ returns-in-Err-NotAStore-clause-sound g c reads space redoes is newest =
 pub returns-in-Err-Damaged-clause-sound : goal.returns-in-Err-Damaged-clause-sound
 returns-in-Err-Damaged-clause-sound g c reads space redoes is newest =
     let e = sym c.in-Err-Damaged.field-0-is ∙ c.in-Err-Damaged.ensures.sound reads space redoes (inr (c.args.shape, is)) in cc
+
+pub returns-in-Ok-Made-clause-clean : goal.returns-in-Ok-Made-clause-clean
+returns-in-Ok-Made-clause-clean g c reads clean = only_reads_on g.D.Disk c.args.disk.now c.recover.new.disk c.read_same.new.disk (c.recover.ensures.closed reads clean) c.read_same.ensures.only_reads

@@ -2,7 +2,7 @@ use Rattle.std.proofs.Common.{inl, inr}
 use Rattle.std.proofs.lemmas.Result.{on_err_weaker, on_ok_weaker}
 use Rattle.snap_store.specs.Keeping.{lacked}
 use Rattle.txn_core.specs.Store.{committed}
-use Rattle.txn_core.proofs.KeptCommits.{cause_on, crash_on, crash_read, doubt_on, dropped_on, held_by, on_disk, sights_before, sights_commit, written_on}
+use Rattle.txn_core.proofs.KeptCommits.{alone_on, alone_read, cause_on, crash_on, crash_read, doubt_on, dropped_on, held_by, on_disk, sights_before, sights_commit, written_on}
 use Rattle.txn_core.proofs.store.Store.commit_kept.Goals as goal
 
 pub returns-in-Ok-clause-sights : goal.returns-in-Ok-clause-sights
@@ -57,4 +57,14 @@ returns-in-Err-clause-crash g c =
 pub returns-in-Err-clause-failed : goal.returns-in-Err-clause-failed
 returns-in-Err-clause-failed g c =
     let kept = c.keep_old.ensures in
-    inl (dropped_on c.args.self.now c.keep_old.new.space c.drop_transaction.new.self kept.space.onward kept.space.committed c.drop_transaction.ensures.same_disk c.drop_transaction.ensures.stored)
+    inl (dropped_on c.args.self.now c.keep_old.new.space c.drop_transaction.new.self kept.space.onward kept.space.committed c.drop_transaction.ensures.same_disk c.drop_transaction.ensures.stored c.drop_transaction.ensures.live)
+
+pub returns-in-Ok-clause-alone : goal.returns-in-Ok-clause-alone
+returns-in-Ok-clause-alone g c =
+    let kept = c.keep_old.ensures in
+    alone_on c.args.self.now c.keep_old.new.space c.commit.new.self kept.space.onward kept.space.committed c.commit.ensures.alone
+
+pub returns-in-Err-clause-alone : goal.returns-in-Err-clause-alone
+returns-in-Err-clause-alone g c reads fits =
+    let kept = c.keep_old.ensures in
+    alone_read c.args.self.now c.keep_old.new.space c.drop_transaction.new.self kept.space.onward kept.space.committed c.drop_transaction.ensures.same_disk

@@ -1,5 +1,7 @@
-use Rattle.std.proofs.Common.{subst, ◌⊎◌}
-use Rattle.disk_model.specs.Spans.{AtEachMoment}
+use Rattle.std.proofs.Common.{subst, ◌⊎◌, ◌≢◌}
+use Rattle.disk_model.specs.Spans.{AtEachMoment, OnlyReads}
+use Rattle.rec_bytes.specs.Format.{log_file}
+use Rattle.redo_log.specs.Entries.{open_byte}
 use Rattle.rec_bytes.specs.declared.key.Key.{Key}
 use Rattle.rec_bytes.specs.declared.record.Rec.{Rec}
 use Rattle.record_file.specs.Redone.{Redoes}
@@ -21,3 +23,9 @@ returns-clause-careful g c =
     let disk = g.D.Disk in
     let now = c.recover_again.new.self.disk.now in
     subst (λ (b : Base g.row.D.Denot disk). IsCareful disk b.disk.now now) c.discard.ensures.base c.recover_again.ensures.careful
+
+pub returns-clause-clean : goal.returns-clause-clean
+returns-clause-clean g c reads =
+    let disk = g.D.Disk in
+    let now = c.recover_again.new.self.disk.now in
+    subst (λ (b : Base g.row.D.Denot disk). content b log_file 0 ≢ open_byte → OnlyReads disk b.disk.now now) c.discard.ensures.base (c.recover_again.ensures.clean reads)
