@@ -4,15 +4,13 @@ from __future__ import annotations
 
 import re
 import unicodedata
-from typing import List, Optional, Sequence
+from typing import List, Sequence
+
+from nipakeel.replies import CHANGES, moved, mutates, place_of
+
+__all__ = ["CHANGES", "DOTS", "HELP", "LISTS", "State", "columns", "completions", "help_lines", "moved", "mutates", "place_of", "under"]
 
 SHOWN_STATES = {"live": "", "open": " (open)", "failed": " (failed)"}
-# Faults that have a place, which is the last word of the reply.
-PLACED = re.compile(rb"error (?:syntax|name length|text length|number range|step kind|too many steps|times range) ([0-9]+)")
-CHANGES = (b"node", b"edge", b"set", b"unset", b"delete", b"index")
-# A text between quotes, and what makes a query one that changes the graph, once there are no such texts in it.
-QUOTED = re.compile(rb"""'(?:[^'\\]|\\.)*'|"(?:[^"\\]|\\.)*\"""", re.S)
-MUTATES = re.compile(rb"\.[ \t]*(?:addV|addE|property|drop)\b")
 # How a typed line begins that names its session.
 NAMED = re.compile(r"^[ \t]*@[0-7][ \t]+")
 HELP = [
@@ -112,11 +110,6 @@ class State:
             self.now = "open"
 
 
-def mutates(line: bytes) -> bool:
-    """Whether it is a query with a step that changes the graph."""
-    return line.lstrip().startswith(b"g") and bool(MUTATES.search(QUOTED.sub(b"''", line)))
-
-
 def help_lines(word: str) -> List[str]:
     """The help, its lines with the word alone where one is given."""
     found = [(line, does) for line, does in HELP + DOTS if word in line or word in does]
@@ -130,17 +123,6 @@ def help_lines(word: str) -> List[str]:
 def columns(text: str) -> int:
     """How many columns of a terminal a text takes."""
     return sum(0 if unicodedata.combining(it) else 2 if unicodedata.east_asian_width(it) in "WF" else 1 for it in text)
-
-
-def place_of(reply: bytes) -> Optional[int]:
-    found = PLACED.fullmatch(reply)
-    return int(found[1]) if found else None
-
-
-def moved(reply: bytes, by: int) -> bytes:
-    """The reply to a line before which so many bytes were put: its place is that in the line without them."""
-    place = place_of(reply)
-    return reply if place is None else b"%s %d" % (reply.rpartition(b" ")[0], place - by)
 
 
 def under(line: bytes, at: int, prompt: str, width: int) -> str:

@@ -1,26 +1,30 @@
-"""Names and values as lines and replies of the program spell them, and what is wrong with one."""
+"""Values of tables as lines of the program spell them. What a value is, and a name, the package of clients/python knows."""
 
 from __future__ import annotations
 
 import re
 from typing import Callable, Tuple, Union
 
-from nipakeel_tools.limits import BLOCK, LEAST_NUMBER, MOST_NAME, MOST_NUMBER, MOST_TEXT, SHORT_TEXT
+from nipakeel import values
+from nipakeel.limits import LEAST_NUMBER, MOST_NUMBER, MOST_TEXT
+from nipakeel.values import ESCAPES_OF_TEXT, NAME, BadValue, blocks, shown, text_of, to_bytes, unquoted
 
+__all__ = [
+    "NAME", "SPELLERS", "Bad", "Spelled", "Speller", "Value", "name", "plain", "shown", "spell_number", "spell_text",
+    "spell_truth", "spell_value", "spelled", "text_of", "to_bytes", "unquoted", "value_of",
+]
+
+# A text that is no UTF-8 has escapes here.
 Value = Union[bool, int, str]
 # A value as a line has it, and how many blocks it takes.
 Spelled = Tuple[str, int]
 Speller = Callable[[str], Spelled]
 
-NAME = re.compile(r"[A-Za-z_][A-Za-z0-9_]*")
 NUMBER = re.compile(r"[+-]?[0-9]+")
 SHORT_NUMBER = re.compile(r"-?[1-9][0-9]{0,17}|0")
 PLAIN_TEXT = re.compile(r"[^\\'\r\n\x80-\U0010ffff]{0,40}")
-ESCAPES = str.maketrans({"\\": "\\\\", "'": "\\'", "\n": "\\n", "\r": "\\r"})
 # A text between quotes, as lines and replies of the program have it.
 QUOTED = re.compile(r"""'(?:[^'\\]|\\['"\\nrt])*'|"(?:[^"\\]|\\['"\\nrt])*\"""", re.S)
-ESCAPE = re.compile(r"\\(.)", re.S)
-ESCAPED = {"n": "\n", "r": "\r", "t": "\t"}
 
 
 class Bad(Exception):
@@ -31,28 +35,12 @@ class Bad(Exception):
         super().__init__(why)
 
 
-def shown(value: str) -> str:
-    """A value for a message."""
-    return repr(value if len(value) <= 60 else value[:57] + "...")
-
-
-def to_bytes(text: str) -> bytes:
-    """The bytes of a text that was read with escapes for those that are no UTF-8."""
-    return text.encode("utf-8", "surrogateescape")
-
-
-def text_of(result: bytes) -> str:
-    """Bytes of a reply as a text, with escapes for those that are no UTF-8."""
-    return result.decode("utf-8", "surrogateescape")
-
-
 def name(word: str, what: str) -> str:
     """The word, where it may be a label, a type or a key."""
-    if not NAME.fullmatch(word):
-        raise Bad(f"{shown(word)} is no {what}: that is 1 to {MOST_NAME} letters, digits or _, the first no digit")
-    if len(word) > MOST_NAME:
-        raise Bad(f"{shown(word)} has {len(word)} bytes, and a {what} has at most {MOST_NAME}")
-    return word
+    try:
+        return values.name(word, what)
+    except BadValue as error:
+        raise Bad(str(error)) from None
 
 
 def spell_number(value: str) -> Spelled:
@@ -79,7 +67,7 @@ def spell_text(value: str) -> Spelled:
     size = len(to_bytes(value))
     if size > MOST_TEXT:
         raise Bad(f"the text has {size:,} bytes, and at most {MOST_TEXT:,} may stand")
-    return f"'{value.translate(ESCAPES)}'", 0 if size <= SHORT_TEXT else -(-size // BLOCK)
+    return f"'{value.translate(ESCAPES_OF_TEXT)}'", blocks(size)
 
 
 def spell_value(value: str) -> Spelled:
@@ -103,12 +91,6 @@ def plain(value: Value) -> str:
     if isinstance(value, bool):
         return "true" if value else "false"
     return str(value)
-
-
-def unquoted(spelled: str) -> str:
-    """The text that stands so between quotes."""
-    text = spelled[1:-1]
-    return ESCAPE.sub(lambda it: ESCAPED.get(it[1], it[1]), text) if "\\" in text else text
 
 
 def value_of(result: bytes) -> Value:

@@ -1,0 +1,1 @@
+"""A client of Nipakeel, a proved property-graph database."""
