@@ -46,15 +46,37 @@ def answered(program: Program, line: bytes, wanted: bytes) -> None:
 
 
 def copy_files(files: Sequence[pathlib.Path], folder: pathlib.Path, progress: Progress) -> None:
-    """Copies the files, and syncs them and the folder."""
     for path in files:
         with open(path, "rb") as file, open(folder / path.name, "xb") as made:
             for chunk in iter(lambda: file.read(CHUNK), b""):
                 made.write(chunk)
                 progress.has(len(chunk))
-            made.flush()
-            os.fsync(made.fileno())
+
+
+def sync_files(folder: pathlib.Path) -> None:
+    """Syncs the folder with its files."""
+    for path in folder.iterdir():
+        with open(path, "rb") as file:
+            os.fsync(file.fileno())
     sync_folder(folder)
+
+
+def place_of_copy(copy: pathlib.Path) -> pathlib.Path:
+    """Makes the folder in which a copy is made, beside its place. Raises `Unusable` where the place is taken."""
+    if copy.exists() and (not copy.is_dir() or any(copy.iterdir())):
+        raise Unusable(f"{copy}: it is there, and isn't an empty folder")
+    # In full, since the folder of the call has no name by itself.
+    copy = pathlib.Path(os.path.abspath(copy))
+    made = copy.with_name(copy.name + ".part")
+    made.mkdir()
+    return made
+
+
+def put_copy(made: pathlib.Path, copy: pathlib.Path) -> None:
+    """Gives a copy that was made beside its place this place."""
+    copy = pathlib.Path(os.path.abspath(copy))
+    os.replace(made, copy)
+    sync_folder(copy.parent)
 
 
 def check(folder: pathlib.Path, path: str, counts: bytes) -> None:
@@ -72,22 +94,17 @@ def check(folder: pathlib.Path, path: str, counts: bytes) -> None:
 def back_up(program: Program, folder: pathlib.Path, copy: pathlib.Path, path: str, quiet: bool = False) -> str:
     """Copies the store of a folder, which this run serves, and returns what `stats` says. The copy is there as a whole
     or not at all. It is checked by the program of this path."""
-    if copy.exists() and (not copy.is_dir() or any(copy.iterdir())):
-        raise Unusable(f"{copy}: it is there, and isn't an empty folder")
-    # In full, since the folder of the call has no name by itself.
-    copy = pathlib.Path(os.path.abspath(copy))
-    made = copy.with_name(copy.name + ".part")
-    made.mkdir()
+    made = place_of_copy(copy)
     try:
         answered(program, b"checkpoint", b"ok")
         counts = program.ask(b"stats")
         files = [it for it in (folder / name for name in FILES) if it.exists()]
         progress = Progress(sum(it.stat().st_size for it in files), quiet)
         copy_files(files, made, progress)
+        sync_files(made)
         progress.says("checking the copy")
         check(made, path, counts)
-        os.replace(made, copy)
-        sync_folder(copy.parent)
+        put_copy(made, copy)
         progress.says("")
     except BaseException:
         shutil.rmtree(made, ignore_errors=True)
