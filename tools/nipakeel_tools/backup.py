@@ -9,7 +9,7 @@ import sys
 import time
 from typing import Sequence
 
-from nipakeel_tools.client import NotAnswered, Program
+from nipakeel_tools.client import Connection, NotAnswered, Program
 from nipakeel_tools.command import Unusable
 from nipakeel_tools.journal import sync_folder
 from nipakeel_tools.limits import FILES
@@ -39,7 +39,7 @@ class Progress:
             print(f"\r{text}\x1b[K", end="", file=sys.stderr, flush=True)
 
 
-def answered(program: Program, line: bytes, wanted: bytes) -> None:
+def answered(program: Connection, line: bytes, wanted: bytes) -> None:
     reply = program.ask(line)
     if reply != wanted:
         raise NotAnswered(line, reply)
@@ -91,7 +91,7 @@ def check(folder: pathlib.Path, path: str, counts: bytes) -> None:
             checked.end()
 
 
-def back_up(program: Program, folder: pathlib.Path, copy: pathlib.Path, path: str, quiet: bool = False) -> str:
+def back_up(program: Connection, folder: pathlib.Path, copy: pathlib.Path, path: str, quiet: bool = False) -> str:
     """Copies the store of a folder, which this run serves, and returns what `stats` says. The copy is there as a whole
     or not at all. It is checked by the program of this path."""
     made = place_of_copy(copy)
@@ -110,3 +110,16 @@ def back_up(program: Program, folder: pathlib.Path, copy: pathlib.Path, path: st
         shutil.rmtree(made, ignore_errors=True)
         raise
     return counts.decode()
+
+
+def back_up_there(program: Connection, copy: pathlib.Path) -> str:
+    """Lets a server copy its store, and returns what `stats` says of that."""
+    path = os.fsencode(os.path.abspath(copy))
+    if b"\n" in path or path != path.strip():
+        raise Unusable(f"{copy}: a server takes no path with a newline, or with blanks at its end")
+    reply = program.ask(b"backup " + path)
+    if reply.startswith(b"error backup: "):
+        raise Unusable(os.fsdecode(reply.removeprefix(b"error backup: ")))
+    if not reply.startswith(b"copied "):
+        raise NotAnswered(b"backup", reply)
+    return reply.removeprefix(b"copied ").decode()

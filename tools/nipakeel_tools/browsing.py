@@ -46,14 +46,16 @@ class Wrong(Exception):
 class Browsing:
     """Answers what the page asks, one question at a time."""
 
-    def __init__(self, asked: Asking, folder: pathlib.Path, writes: bool) -> None:
+    def __init__(self, asked: Asking, folder: Optional[pathlib.Path], writes: bool) -> None:
+        """The files of the folder tell the keys. Where there is none, they are those that are asked for already."""
         self.asked, self.folder, self.writes = asked, folder, writes
         self.lock, self.state = threading.Lock(), State()
         # How the program ended, when it has.
         self.ended: Optional[Ended] = None
         # Keys that the store had when it was opened are in its files. Later ones need a checkpoint.
         with contextlib.suppress(OSError, Unfit):
-            asked.knows(names_in(folder).keys)
+            if folder:
+                asked.knows(names_in(folder).keys)
 
     def answer(self, what: str, words: Dict[str, Any]) -> Dict[str, Any]:
         with self.lock:
@@ -116,7 +118,7 @@ class Browsing:
         try:
             return [it for page in pages(ids) for it in self.asked.elements(kind, page)]
         except Unfit:
-            if self.state.now == "live":
+            if self.folder and self.state.now == "live":
                 self.asked.knows(keys_of_store(self.asked, self.folder))
             else:
                 self.asked.leaves_out = True

@@ -11,7 +11,7 @@ import sys
 from typing import Any, Callable, Iterable, Iterator, List, Optional, Sequence, Tuple
 
 from nipakeel_tools import INTERRUPTED
-from nipakeel_tools.client import NIPAKEEL, Ended, NotAnswered, Program
+from nipakeel_tools.client import NIPAKEEL, SERVER_FAILURES, Connection, Ended, NotAnswered, Program, Talk
 from nipakeel_tools.journal import BadJournal
 from nipakeel_tools.lines import mutates
 from nipakeel_tools.query import DIRECTIONS, Asking, Element, Unfit
@@ -21,7 +21,7 @@ from nipakeel_tools.values import Bad, name, to_bytes
 
 DONE, REFUSED, WRONG_WORDS, BAD_FILES, PROGRAM_FAILED = range(5)
 # Replies to a query that blame the program's disk or memory, and no line of the user.
-FAILURES = (b"fault disk", b"error memory", b"error failed", b"damaged")
+FAILURES = (b"fault disk", b"error memory", b"error failed", b"damaged", *SERVER_FAILURES)
 Options = argparse.Namespace
 Pages = Iterator[List[Element]]
 
@@ -54,6 +54,12 @@ def reader_of(tool: str, text: str) -> argparse.ArgumentParser:
     return reader
 
 
+def takes_socket(reader: argparse.ArgumentParser) -> None:
+    """Adds the word for a store that tools/serve has open."""
+    says = "the socket of tools/serve: ask this server, and begin no program"
+    reader.add_argument("--socket", metavar="PATH", dest="server", type=pathlib.Path, help=says)
+
+
 def takes_part(reader: argparse.ArgumentParser) -> None:
     """Adds the words that name a part of the graph."""
     add = reader.add_argument
@@ -72,6 +78,8 @@ def read_options(reader: argparse.ArgumentParser, words: Sequence[str]) -> Optio
     options.program = os.path.abspath(options.program)
     if "query" in options:
         fits_part(reader, options)
+    if getattr(options, "server", None) and options.words:
+        reader.error("options of the program go to tools/serve, and not with --socket")
     return options
 
 
@@ -131,14 +139,33 @@ def keys_in(path: str) -> List[str]:
 
 
 @contextlib.contextmanager
-def asking(options: Options, keys: Iterable[str] = (), leaves_out: bool = False) -> Iterator[Asking]:
-    """Questions to the program, which ends after them."""
-    asked = Asking(lambda: Program(options.folder, options.words, options.program), keys, leaves_out)
+def asking(
+    options: Options, keys: Iterable[str] = (), leaves_out: bool = False, is_still: bool = False
+) -> Iterator[Asking]:
+    """Questions to the program, which ends after them. Where others may change the store meanwhile, all answers are of one
+    moment if that is asked for."""
+    asked = Asking(lambda: connection_of(options), keys, leaves_out)
     try:
+        if is_still and options.server:
+            stand_still(asked.program)
         asked.begin()
         yield asked
     finally:
         asked.end()
+
+
+def connection_of(options: Options, keep: Sequence[int] = ()) -> Connection:
+    """A run of the program, in which the descriptors of `keep` stay open, or a talk with the server that is named."""
+    if options.server is None:
+        return Program(options.folder, options.words, options.program, keep)
+    return Talk(options.server)
+
+
+def stand_still(program: Connection) -> None:
+    """From now on this client of a server reads what is stored now."""
+    reply = program.ask(b"snapshot")
+    if reply != b"ok":
+        raise NotAnswered(b"snapshot", reply)
 
 
 def part_of(asked: Asking, options: Options) -> Tuple[Pages, Pages, Tuple[int, int]]:

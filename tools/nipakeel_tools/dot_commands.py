@@ -8,8 +8,8 @@ import shlex
 import tempfile
 from typing import Any, Callable, Dict, List
 
-from nipakeel_tools.backup import back_up
-from nipakeel_tools.client import NotAnswered
+from nipakeel_tools.backup import back_up, back_up_there
+from nipakeel_tools.client import NotAnswered, Program
 from nipakeel_tools.limits import SESSIONS
 from nipakeel_tools.lines import help_lines
 from nipakeel_tools.names import has_index, indexes_in, indexes_of_store, names_of_store
@@ -68,6 +68,8 @@ def mode(shell: Any, *words: str) -> None:
 
 def session(shell: Any, *number: str) -> None:
     """From now on lines are of this session. Without a number it is told."""
+    if not isinstance(shell.program, Program):
+        raise Wrong("over a socket lines name no session; after the line snapshot they read, up to release")
     if not number:
         does = "reads" if shell.program.session else "writes"
         shell.shows_lines([f"session {shell.program.session}, which {does}"])
@@ -120,7 +122,10 @@ def dump(shell: Any, *path: str) -> None:
 
 def backup(shell: Any, folder: str) -> None:
     with shell.program.as_session(0):
-        counts = back_up(shell.program, shell.folder, pathlib.Path(folder), shell.path, quiet=True)
+        if isinstance(shell.program, Program):
+            counts = back_up(shell.program, shell.folder, pathlib.Path(folder), shell.path, quiet=True)
+        else:
+            counts = back_up_there(shell.program, pathlib.Path(folder))
     shell.shows_lines([f"{folder}: sound, {counts}"])
 
 
@@ -136,7 +141,7 @@ def drop(shell: Any, identifier: str) -> None:
         reply = shell.program.ask(line.encode())
         if reply not in (b"ok", b"end"):
             undone = "nothing is changed"
-            if own and at:
+            if own:
                 shell.program.ask(b"rollback")
             elif at:
                 undone = "the open transaction has its edges deleted; rollback drops that"

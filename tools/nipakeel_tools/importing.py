@@ -10,8 +10,8 @@ import time
 from typing import Deque, Iterator, List, Optional, Sequence
 
 from nipakeel_tools import limits
-from nipakeel_tools.client import Ended, NotAnswered, Program
-from nipakeel_tools.command import DiskFailed, Options
+from nipakeel_tools.client import SERVER_FAILURES, Connection, Ended, NotAnswered, Program, leave
+from nipakeel_tools.command import DiskFailed, Options, connection_of
 from nipakeel_tools.journal import BadJournal, Entry, Journal, Transaction, again, packed
 from nipakeel_tools.limits import DEFAULT_THRESHOLD, MOST_INDEXED, MOST_INDEXES, MOST_LINE, MOST_WEIGHT
 from nipakeel_tools.names import indexes_in
@@ -105,7 +105,8 @@ class Import:
             for kind in ("nodes", "edges"):
                 for number, table in enumerate(it for it in self.tables if it.kind == kind):
                     self.bring(table, number, [it for it in entries if (it.kind, it.table) == (kind, number)])
-            if self.journal.stored(self.program.counts()) != len(self.journal.entries):
+            # The clients of a server may have changed the store since.
+            if not self.options.server and self.journal.stored(self.program.counts()) != len(self.journal.entries):
                 raise BadJournal(f"{self.options.journal}: it has transactions that the store hasn't")
         self.progress.ends(self.builder.merged)
 
@@ -119,7 +120,7 @@ class Import:
     def indexes(self) -> None:
         """Makes the indexes that are asked for, while the store has the fewest nodes. The entries of all of them weigh. None
         is made where there would be too many, since an index stays."""
-        there = indexes_in(self.options.folder)
+        there = [] if self.options.server else indexes_in(self.options.folder)
         count = len({*there, *self.options.index})
         if count > MOST_INDEXES:
             raise Unfit(f"with these indexes the store would have {count}, and it has at most {MOST_INDEXES}; none is made")
@@ -151,11 +152,19 @@ class Import:
                 there[spelled] = None if spelled in there else Node(int(id))
 
     def start(self) -> None:
-        self.program = Program(self.options.folder, self.options.words, self.options.program, [self.journal.kept])
+        self.program: Connection = connection_of(self.options, [self.journal.kept])
+        if self.options.server:
+            self.wait_for_turn()
+
+    def wait_for_turn(self) -> None:
+        """Waits until nobody else has a transaction, so also until that of an import is over which was killed."""
+        for line in (b"begin", b"rollback"):
+            reply = self.program.ask(line)
+            if reply != b"ok":
+                raise NotAnswered(line, reply)
 
     def stop(self) -> None:
-        if self.program.started.poll() is None:
-            self.program.end()
+        leave(self.program)
 
     def bring(self, table: Table, number: int, entries: Sequence[Entry]) -> None:
         """Brings in the rows of a table that aren't in. While the program works on a transaction, the next is made."""
@@ -169,7 +178,8 @@ class Import:
             ahead.make()
             self.settle(unsettled)
             unsettled = self.change(it, number)
-            if self.program.sent > MOST_INPUT:
+            # A server begins runs itself.
+            if self.program.sent > MOST_INPUT and isinstance(self.program, Program):
                 self.settle(unsettled)
                 unsettled = None
                 self.renew()
@@ -214,9 +224,10 @@ class Import:
             self.journal.keep(it.entry)
             for later in self.ahead.made:
                 later.entry = None
-        if reply == b"fault disk":
+        if reply == b"fault disk" or reply.startswith(SERVER_FAILURES):
             place = f"{it.table.path}:{it.rows[wrong].at}"
-            raise DiskFailed(f"{place}: the disk failed, and nothing of this transaction is stored")
+            why = "the disk failed" if reply == b"fault disk" else f"the server says: {reply.decode(errors='replace')}"
+            raise DiskFailed(f"{place}: {why}, and nothing of this transaction is stored")
         if reply != b"error transaction full" or not wrong:
             raise it.table.refused(it.rows[wrong].at, Bad(f"the program says: {reply.decode(errors='replace')}"))
         first, second = it.part(0, wrong), it.part(wrong)

@@ -104,6 +104,8 @@ class State:
             changes = word in CHANGES or mutates(line)
             if word in (b"commit", b"checkpoint") or changes and self.now == "live":
                 self.now = "failed"
+        elif word == b"commit" and reply.startswith((b"error transaction lost", b"error line timeout", b"error answer lost")):
+            self.now = "live"
         elif reply == b"ok" and word in (b"begin", b"commit", b"rollback"):
             self.now = "open" if word == b"begin" else "live"
         elif reply == b"error transaction open":

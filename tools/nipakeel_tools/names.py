@@ -12,7 +12,7 @@ import os
 import pathlib
 from typing import Iterator, List, Set, Tuple
 
-from nipakeel_tools.client import NotAnswered, Program
+from nipakeel_tools.client import Connection, NotAnswered, Program
 from nipakeel_tools.limits import DEFINITION, DEFINITION_KEY, DEFINITION_LABEL, DEFINITION_NEXT, FILES, INDEX_FILE, META_DEFINITION
 from nipakeel_tools.limits import INDEX_VERSION, NAME_LENGTH, NAME_TEXT, NAMED, NAMES_FILE, NIL, RECORD, STORE_VERSION
 from nipakeel_tools.query import Asking, Unfit
@@ -23,6 +23,8 @@ NODES, EDGES, PROPERTIES = 1, 2, 4
 NUMBER = 4
 # How many records are read at once.
 MANY = 16_384
+# Why there are none over a socket.
+NOT_LISTED = "no line lists the names and the indexes of a store, and over a socket its files aren't read"
 # An index, by its label and its key.
 Pair = Tuple[str, str]
 
@@ -109,27 +111,29 @@ def numbers(folder: pathlib.Path, file: int) -> Set[int]:
     return found
 
 
-def names_of_store(program: Program, folder: str | os.PathLike[str]) -> Names:
+def names_of_store(program: Connection, folder: str | os.PathLike[str]) -> Names:
     """The names of the store that a run serves, whichever session its lines are of."""
     fills_files(program)
     return names_in(folder)
 
 
-def indexes_of_store(program: Program, folder: str | os.PathLike[str]) -> List[Pair]:
+def indexes_of_store(program: Connection, folder: str | os.PathLike[str]) -> List[Pair]:
     """The indexes of the store that a run serves, whichever session its lines are of."""
     fills_files(program)
     return indexes_in(folder)
 
 
-def fills_files(program: Program) -> None:
+def fills_files(program: Connection) -> None:
     """Makes a checkpoint. It is refused while a transaction is open."""
+    if not isinstance(program, Program):
+        raise Unfit(NOT_LISTED)
     with program.as_session(0):
         reply = program.ask(b"checkpoint")
     if reply != b"ok":
         raise NotAnswered(b"checkpoint", reply)
 
 
-def has_index(program: Program, index: Pair) -> bool:
+def has_index(program: Connection, index: Pair) -> bool:
     """Whether the graph that the session sees has this index."""
     try:
         for _ in program.results(f"find {' '.join(index)} ''".encode()):

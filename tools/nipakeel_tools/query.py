@@ -13,7 +13,7 @@ import re
 from typing import Callable, Dict, Iterable, Iterator, List, Sequence, Tuple, TypeVar, Union
 
 from nipakeel_tools import limits
-from nipakeel_tools.client import Ended, Program
+from nipakeel_tools.client import Connection, Ended, Program, leave
 from nipakeel_tools.limits import MOST_ELEMENTS, MOST_LINE, MOST_NAME
 from nipakeel_tools.values import Value, text_of, to_bytes, value_of
 
@@ -95,7 +95,7 @@ def number_of(form: re.Pattern[bytes], result: bytes) -> int:
 class Asking:
     """Questions to runs of the program. Where it leaves out, it asks for no value of a key that isn't given."""
 
-    def __init__(self, start: Callable[[], Program], keys: Iterable[str] = (), leaves_out: bool = False) -> None:
+    def __init__(self, start: Callable[[], Connection], keys: Iterable[str] = (), leaves_out: bool = False) -> None:
         """`start` begins a run."""
         self.start, self.leaves_out = start, leaves_out
         self.program = start()
@@ -108,8 +108,7 @@ class Asking:
         self.counts = self.program.counts()
 
     def end(self) -> None:
-        if self.program.started.poll() is None:
-            self.program.end()
+        leave(self.program)
 
     def knows(self, keys: Iterable[str]) -> None:
         """From now on these are the keys that elements may have."""
@@ -117,7 +116,8 @@ class Asking:
 
     def ask(self, query: str) -> Iterator[bytes]:
         """The results of a query, which are to be taken to the end before the next one is asked."""
-        if self.program.sent > MOST_INPUT:
+        # A server begins runs itself.
+        if self.program.sent > MOST_INPUT and isinstance(self.program, Program):
             status = self.program.end()
             if status:
                 raise Ended(status)

@@ -10,7 +10,7 @@ import subprocess
 import sys
 from typing import Any, Dict, Iterable, Iterator, List, Optional, Sequence, Tuple
 
-from nipakeel_tools.client import Program
+from nipakeel_tools.client import Connection
 from nipakeel_tools.lines import columns, mutates
 from nipakeel_tools.query import EDGE, VERTEX, Asking, pages
 from nipakeel_tools.values import Value, plain, to_bytes, value_of
@@ -84,7 +84,7 @@ def rows_of(results: Iterable[bytes]) -> Iterator[Shown]:
             yield {"value": value_of(it)}
 
 
-def keyed_rows(program: Program, elements: str, keys: Sequence[str]) -> Optional[List[Shown]]:
+def keyed_rows(program: Connection, elements: str, keys: Sequence[str]) -> Optional[List[Shown]]:
     """For each element that a query gives, its values of these keys, each in its column. None where it gives something
     else, which has no values: then the line is refused."""
     results = list(program.results(to_bytes(elements)))
