@@ -31,10 +31,11 @@ MOST_INPUT, LAST_INPUT = limits.MOST_INPUT - 2**26, limits.MOST_INPUT - 2**24
 MOST_CLIENTS = 500
 # From so many bytes on that a client hasn't read it is tested how many there are for all clients.
 MANY_UNREAD = 2**20
-# A program that ends by itself is begun again at once, and then the later, the more often it did so in a minute.
-PAUSE, LONGEST_PAUSE, MINUTE = 0.01, 2.0, 60.0
-# How long the server waits at its end for replies that are due.
-GRACE = 5.0
+# A program that ends by itself is begun again at once, and then the later, the more often it did so in a minute. One that
+# can't even open the store before it ends is given up after so many times.
+PAUSE, LONGEST_PAUSE, MINUTE, MOST_DEATHS = 0.01, 2.0, 60.0, 30
+# How long the server waits at its end for replies that are due, and for clients to read them, and how often it looks.
+GRACE, SHORTLY = 5.0, 0.02
 
 
 def status_after(error: Ended) -> int:
@@ -114,15 +115,21 @@ class Server:
             self.loop.create_task(self.starts_again())
 
     async def starts_again(self) -> None:
-        try:
+        while not self.up.is_set() and not self.end.done():
             while self.deaths and self.deaths[0] < time.monotonic() - MINUTE:
                 self.deaths.popleft()
             await asyncio.sleep(min(PAUSE * 2 ** len(self.deaths), LONGEST_PAUSE) if len(self.deaths) > 1 else 0)
-            await self.start()
-        except Ended as error:
-            self.stops(status_after(error), error)
-        except OSError as error:
-            self.stops(BAD_FILES, error)
+            try:
+                await self.start()
+            except Ended as error:
+                # A program that was killed doesn't say that there is no store to serve.
+                if error.status >= 0 or len(self.deaths) >= MOST_DEATHS:
+                    self.stops(status_after(error), error)
+                else:
+                    self.deaths.append(time.monotonic())
+                    self.status.fault(str(error))
+            except OSError as error:
+                self.stops(BAD_FILES, error)
 
     def stops(self, status: int, error: object = "") -> None:
         if not self.end.done():
@@ -257,8 +264,16 @@ class Server:
             # It takes too long, or it isn't there yet.
             run.kill()
             await run.over
-        tasks = [it.task for it in self.clients if it.task]
-        for it in tasks:
-            it.cancel()
+        clients = [*self.clients]
+        # What was answered last is in the hands of their tasks.
+        await asyncio.sleep(0)
+        tasks = [it.task for it in clients if it.task]
+        for task in tasks:
+            task.cancel()
         if tasks:
             await asyncio.wait(tasks, timeout=GRACE)
+        last = self.loop.time() + GRACE
+        while any(it.unread() for it in clients) and self.loop.time() < last:
+            await asyncio.sleep(SHORTLY)
+        for it in clients:
+            it.writer.transport.abort()

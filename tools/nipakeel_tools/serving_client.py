@@ -231,6 +231,13 @@ class Client:
 
     # --- transactions
 
+    async def take_turn(self, word: bytes) -> bool:
+        """Waits for the turn, after the changes that came before."""
+        if self.server.turn.holder is not None:
+            # It goes the way of other lines first, where it is refused. So none of those that came before comes after it.
+            await self.server.run.give(word, self.server.common)
+        return await self.server.turn.take(self)
+
     async def begin(self) -> bytes:
         """Opens a transaction, when the turn comes."""
         server = self.server
@@ -238,7 +245,7 @@ class Client:
             return await self.ask(b"begin")
         while True:
             self.barred = b""
-            if not await server.turn.take(self):
+            if not await self.take_turn(b"begin"):
                 self.barred = BUSY
                 return BUSY
             await server.ready()
@@ -279,7 +286,7 @@ class Client:
         server = self.server
         if self.barred or server.owner is self:
             return await self.ask(word)
-        if not await server.turn.take(self):
+        if not await self.take_turn(word):
             return BUSY
         try:
             reply = await self.ask(word)
