@@ -72,7 +72,7 @@ def place_of_copy(copy: pathlib.Path) -> pathlib.Path:
     return made
 
 
-def put_copy(made: pathlib.Path, copy: pathlib.Path) -> None:
+def puts_copy(made: pathlib.Path, copy: pathlib.Path) -> None:
     """Gives a copy that was made beside its place this place."""
     copy = pathlib.Path(os.path.abspath(copy))
     os.replace(made, copy)
@@ -104,7 +104,7 @@ def back_up(program: Connection, folder: pathlib.Path, copy: pathlib.Path, path:
         sync_files(made)
         progress.says("checking the copy")
         check(made, path, counts)
-        put_copy(made, copy)
+        puts_copy(made, copy)
         progress.says("")
     except BaseException:
         shutil.rmtree(made, ignore_errors=True)

@@ -73,7 +73,6 @@ class Server:
             run.close()
             raise Ended(await run.over, reply)
         run.ends, run.limit = self.has_ended, self.options.line_timeout
-        self.status.counts["runs"] += 1
         self.up.set()
 
     async def ready(self) -> None:
@@ -121,6 +120,7 @@ class Server:
             await asyncio.sleep(min(PAUSE * 2 ** len(self.deaths), LONGEST_PAUSE) if len(self.deaths) > 1 else 0)
             try:
                 await self.start()
+                self.status.counts["restarts"] += 1
             except Ended as error:
                 # A program that was killed doesn't say that there is no store to serve.
                 if error.status >= 0 or len(self.deaths) >= MOST_DEATHS:

@@ -10,7 +10,7 @@ from typing import TYPE_CHECKING
 
 from nipakeel.connection import Ended, NotAnswered
 
-from nipakeel_tools.backup import Progress, check, copy_files, place_of_copy, put_copy, sync_files
+from nipakeel_tools.backup import Progress, check, copy_files, place_of_copy, puts_copy, sync_files
 from nipakeel_tools.command import Unusable
 from nipakeel_tools.limits import FILES
 from nipakeel_tools.query import Unfit
@@ -78,7 +78,7 @@ async def copied(server: Server, client: Client, made: pathlib.Path) -> bytes:
 def finishes(made: pathlib.Path, copy: pathlib.Path, program: str, counts: bytes) -> None:
     sync_files(made)
     check(made, program, counts)
-    put_copy(made, copy)
+    puts_copy(made, copy)
 
 
 def refusal(error: Exception) -> bytes:

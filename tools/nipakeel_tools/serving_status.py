@@ -20,7 +20,7 @@ WORDS = frozenset(
 )
 # How replies begin that are faults of the store, and no refusals of a line.
 FAULTS = (b"fault disk", b"damaged ", b"broken ")
-COUNTED = ("waits", "busy", "lost", "timeouts", "cut_off", "backups", "runs")
+COUNTED = ("waits", "busy", "lost", "timeouts", "cut_off", "backups", "restarts")
 
 
 class Status:
