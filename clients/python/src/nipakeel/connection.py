@@ -9,15 +9,13 @@ import select
 import shutil
 import socket
 import subprocess
-import time
 from typing import IO, Iterator, List, Optional, Sequence, Tuple, Union
 
-from nipakeel.replies import ARROW, FAULTS, GOES_ON, NAMED, ending, is_last, mark_of
+from nipakeel.errors import Ended
+from nipakeel.replies import ARROW, FAULTS, GOES_ON, NAMED, NO_STATUS, is_last, mark_of
 
 Path = Union[str, "os.PathLike[str]"]
 CHUNK = 65_536
-# What stands for the status of a run that another process has begun.
-NO_STATUS = 0
 
 
 def launcher() -> str:
@@ -31,14 +29,6 @@ def launcher() -> str:
 NIPAKEEL = launcher()
 
 
-class Ended(Exception):
-    """The program ended before it had answered, with this status, and said this last."""
-
-    def __init__(self, status: int, said: bytes = b"") -> None:
-        self.status, self.said = status, said
-        super().__init__(ending(status, said))
-
-
 class NotAnswered(Exception):
     """A line whose reply ends in this one, and not as it does where the line is carried out."""
 
@@ -49,7 +39,7 @@ class NotAnswered(Exception):
 
 
 class Late(Exception):
-    """The reply wasn't there in time."""
+    """For too long there was no output."""
 
 
 class Connection:
@@ -63,8 +53,8 @@ class Connection:
         self.sent = 0
         # The session of lines that name none.
         self.session = 0
-        # When replies have to be there, by the clock that only rises. Past it `Late` is raised.
-        self.deadline: Optional[float] = None
+        # For how many seconds output is waited for. Then `Late` is raised.
+        self.patience: Optional[float] = None
 
     @contextlib.contextmanager
     def as_session(self, number: int) -> Iterator[None]:
@@ -94,9 +84,12 @@ class Connection:
         self.write()
 
     def write(self) -> None:
+        """Writes whole lines, as many as a pipe takes at once or not at all. The program carries out what stands before the end of
+        its input, so a client that is killed must not leave the first part of a line there."""
         try:
             while self.to_write:
-                self.to_write = self.to_write[os.write(self.input, self.to_write) :]
+                piece = self.to_write[: self.to_write.rfind(b"\n", 0, select.PIPE_BUF) + 1] or self.to_write
+                self.to_write = self.to_write[os.write(self.input, piece) :]
         except BlockingIOError:
             pass
         except (BrokenPipeError, ConnectionResetError):
@@ -104,8 +97,8 @@ class Connection:
             self.to_write = b""
 
     def read(self) -> None:
-        """Waits for output and takes it. Raises `Ended` where there is no more, and `Late` past the deadline."""
-        while self.to_write or self.deadline is not None:
+        """Waits for output and takes it. Raises `Ended` where there is no more, and `Late` where none comes in time."""
+        while self.to_write or self.patience is not None:
             if self.waits():
                 break
         try:
@@ -123,8 +116,7 @@ class Connection:
         poll.register(self.output, select.POLLIN)
         if self.to_write:
             poll.register(self.input, select.POLLOUT | (select.POLLIN if self.input == self.output else 0))
-        left = None if self.deadline is None else max(self.deadline - time.monotonic(), 0) * 1000
-        ready = dict(poll.poll(left))
+        ready = dict(poll.poll(None if self.patience is None else self.patience * 1000))
         if not ready:
             raise Late
         if self.to_write and ready.get(self.input, 0) & ~select.POLLIN:
@@ -137,6 +129,10 @@ class Connection:
 
     def end(self) -> int:
         """Ends the talk, and returns the program's status. An open transaction is dropped."""
+        raise NotImplementedError
+
+    def kill(self) -> int:
+        """Ends it at once, whatever is under way."""
         raise NotImplementedError
 
     # --- replies
@@ -280,7 +276,7 @@ class Served(Connection):
     def end(self) -> int:
         self.to_write = b""
         self.socket.close()
-        return NO_STATUS
+        return 0
 
     def kill(self) -> int:
         return self.end()

@@ -23,6 +23,8 @@ LISTS = (b"expand", b"path", b"levels", b"find")
 # A text between quotes, and what makes a query one that changes the graph, once there are no such texts in it.
 QUOTED = re.compile(rb"""'(?:[^'\\]|\\.)*'|"(?:[^"\\]|\\.)*\"""", re.S)
 MUTATES = re.compile(rb"\.[ \t]*(?:addV|addE|property|drop)\b")
+# What stands for the status of a program that a server runs, which tells none.
+NO_STATUS = 256
 # How each status of the program reads to a person. Negative ones are signals.
 STATUSES = {
     0: "it read its input to the end",
@@ -105,6 +107,8 @@ def ending(status: int, said: bytes = b"") -> str:
     lines = said.decode(errors="replace").split("\n")
     told = next((it for it in reversed(lines) if it), "")
     last = f", and said: {told[:200]}" if told else ""
+    if status == NO_STATUS:
+        return f"the server has ended the connection, or the program{last}"
     if status < 0:
         return f"the program was stopped by signal {-status}{last}"
     return f"the program ended with status {status} ({STATUSES.get(status, 'none of its own')}){last}"
