@@ -577,6 +577,98 @@ def new_runs(folder):
     sound(folder)
 
 
+def left_open(folder):
+    """A transaction or a snapshot that is left with results unread ends as it should."""
+    with nipakeel.open(folder) as db:
+        with db.bulk() as bulk:
+            bulk.nodes("n", ({} for _ in range(3_000)))
+        with db.transaction():
+            db.node("kept")
+            results = db.query("g.V()")
+            next(results)
+        assert db.stats().nodes == 3_001 and list(results) == []
+        with raises(ZeroDivisionError):
+            with db.transaction():
+                db.node("dropped")
+                results = db.query("g.V()")
+                next(results)
+                raise ZeroDivisionError
+        assert db.stats().nodes == 3_001
+        with raises(ZeroDivisionError):
+            with db.snapshot() as snapshot:
+                results = snapshot.query("g.V()")
+                next(results)
+                raise ZeroDivisionError
+        with db.snapshot() as snapshot:
+            results = snapshot.query("g.V()")
+            next(results)
+        assert db.stats().nodes == 3_001 and not db._wire.sessions
+        # An exception that keeps the results alive.
+        try:
+            results = db.query("g.V()")
+            for _ in results:
+                raise ZeroDivisionError
+        except ZeroDivisionError:
+            with raises(nipakeel.Misuse):
+                db.stats()
+            results.close()
+        assert db.stats().nodes == 3_001
+        results = db.query("g.V()")
+        next(results)
+    # A thread whose turn to commit doesn't come in time: nothing of its transaction is stored.
+    with nipakeel.open(folder, timeout=0.3) as db:
+        with db.snapshot() as snapshot:
+            taken, leave = threading.Event(), threading.Event()
+
+            def holds():
+                results = snapshot.query("g.V()")
+                next(results)
+                taken.set()
+                leave.wait()
+                results.close()
+
+            thread = threading.Thread(target=holds)
+            with raises(nipakeel.TimedOut):
+                with db.transaction():
+                    db.node("dropped")
+                    thread.start()
+                    taken.wait()
+            leave.set()
+            thread.join()
+        assert db.stats().nodes == 3_001
+        db.node("n")
+        assert db.stats().nodes == 3_002
+    sound(folder)
+
+
+def interrupted(folder):
+    """Ctrl-C while a reply is waited for: the program is begun again, and no reply is out of step."""
+
+    def interrupts(*_):
+        raise KeyboardInterrupt
+
+    before = signal.signal(signal.SIGALRM, interrupts)
+    try:
+        with nipakeel.open(folder) as db:
+            with db.bulk() as bulk:
+                ids = bulk.nodes("n", ({} for _ in range(30)))
+                bulk.edges("e", ((a, b) for a in ids for b in ids))
+            long = db.g.V().repeat(__.out()).times(16).count()
+            for wait in (lambda: long.next(), lambda: db.query(repr(long)), lambda: in_transaction(db, long)):
+                signal.setitimer(signal.ITIMER_REAL, 0.2)
+                with raises(KeyboardInterrupt):
+                    wait()
+                assert db.stats().nodes == 30 and db.g.V(3).id().next() == 3
+    finally:
+        signal.signal(signal.SIGALRM, before)
+
+
+def in_transaction(db, long):
+    with db.transaction():
+        db.node("dropped")
+        long.next()
+
+
 def mistakes(folder):
     with nipakeel.open(folder) as db:
         transaction = db.transaction()
@@ -710,6 +802,8 @@ CASES = {
     "client: killed while it works": killed_while_it_works,
     "client: time limits": in_time,
     "client: a new run before the input's limit": new_runs,
+    "client: results left open": left_open,
+    "client: interrupted": interrupted,
     "client: mistakes in use": mistakes,
     "client: many changes": bulks,
     "client: lines with and without a reply": framing,

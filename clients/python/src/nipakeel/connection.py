@@ -20,9 +20,9 @@ CHUNK = 65_536
 
 def launcher() -> str:
     """The program where none is named: that of this repository, and else the installed one."""
-    here = pathlib.Path(__file__).resolve()
-    own = here.parents[4] / "nipakeel" if len(here.parents) > 4 else here
-    return str(own) if own.is_file() else shutil.which("nipakeel") or "nipakeel"
+    sources = pathlib.Path(__file__).resolve().parents[1]
+    own = sources.parents[2] / "nipakeel" if sources.parts[-3:] == ("clients", "python", "src") else None
+    return str(own) if own and own.is_file() else shutil.which("nipakeel") or "nipakeel"
 
 
 # It keeps two programs in one folder apart.

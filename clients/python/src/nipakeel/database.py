@@ -304,13 +304,16 @@ class Transaction(Writer, Holder):
 
     def __exit__(self, kind: Optional[Type[BaseException]], error: Optional[BaseException], _: Any) -> None:
         try:
+            self._wire.leaves_results()
             if kind is None:
                 self._end(b"commit", None)
-            elif self.is_open:
-                # The caller gets to see what came first.
+        finally:
+            if self.is_open:
+                # Whatever comes of it, the caller gets to see what came first.
                 with contextlib.suppress(Error):
                     self._end(b"rollback", False)
-        finally:
+            if self.is_open:
+                self._wire.drops_transaction()
             self.is_over = True
 
     def _begin(self) -> None:
@@ -319,10 +322,14 @@ class Transaction(Writer, Holder):
         try:
             try:
                 wire.asked(b"begin")
+                self.run, self.is_open, wire.transaction = wire.run, True, self
             except Refused:
                 self._forget()
                 raise
-            self.run, self.is_open, wire.transaction = wire.run, True, self
+            except BaseException as error:
+                if not isinstance(error, Error):
+                    wire.abandon()
+                raise
         finally:
             wire.give()
 
@@ -471,12 +478,17 @@ class Snapshot(Reader, Holder):
             wire.asked(self._mark + b"snapshot")
             wire.sessions.add(self.session)
             self.run = wire.run
+        except BaseException:
+            if self.owns:
+                wire.abandon()
+            raise
         finally:
             wire.give()
         return self
 
     def __exit__(self, *_: Any) -> None:
         wire = self._wire
+        wire.leaves_results()
         if self.owns:
             wire.close()
         elif not wire.is_closed:

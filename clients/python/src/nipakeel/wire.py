@@ -6,6 +6,7 @@ import collections
 import math
 import os
 import threading
+import weakref
 from typing import Any, Callable, Deque, Generic, Iterator, List, NamedTuple, NoReturn, Optional, Sequence, Set, Type, TypeVar
 
 from nipakeel.connection import Connection, Late, NotAnswered, Program
@@ -56,12 +57,15 @@ class Wire:
         self.start, self.timeout, self.last_words = start, timeout, last_words
         self.free = threading.Condition(threading.Lock())
         self.waiting: Deque[object] = collections.deque()
-        # The thread that has the connection, and what it reads.
+        # The thread that has the connection, and the results that it reads by it.
         self.owner: Optional[int] = None
+        self.reading: Optional[weakref.ref[Results[Any]]] = None
         self.process = os.getpid()
         self.connection: Optional[Connection] = None
         self.run = 0
+        # The transaction that is open, and whether the program still has one that nobody can end by a line.
         self.transaction: Optional[Holder] = None
+        self.has_stray = False
         self.sessions: Set[int] = set()
         self.is_closed = False
         self.enough_input, self.all_input = ENOUGH_INPUT, ALL_INPUT
@@ -104,9 +108,15 @@ class Wire:
             self.waiting.remove(ticket)
             self.free.notify_all()
 
+    def leaves_results(self) -> None:
+        """Closes results that this thread hasn't read to their end."""
+        results = self.reading and self.owner == threading.get_ident() and self.reading()
+        if results:
+            results.close()
+
     def give(self) -> None:
         """Lets other threads have the connection."""
-        self.owner = None
+        self.owner = self.reading = None
         if self.waiting:
             self.free.notify_all()
         self.free.release()
@@ -117,6 +127,9 @@ class Wire:
         """The connection, begun where there is none. What is of an earlier run is told that it is lost."""
         if self.is_closed:
             raise Misuse("it is closed")
+        if self.has_stray:
+            self.has_stray = False
+            self.abandon()
         connection = self.connection
         if connection is not None and isinstance(connection, Program) and self.is_full(connection.sent):
             self.drop()
@@ -156,14 +169,23 @@ class Wire:
         self.connection = connection
         return connection
 
+    def drops_transaction(self) -> None:
+        """Gives up a transaction whose thread could not have the connection in time. The next line ends the program first."""
+        self.has_stray, self.transaction = True, None
+
+    def abandon(self) -> None:
+        """Ends the connection at once, since nobody knows what was read of it. What was open in it is lost."""
+        connection, self.connection = self.connection, None
+        if connection is not None:
+            connection.kill()
+
     def failed(self, error: BaseException, line: bytes, stored: Optional[bool]) -> NoReturn:
         """Raises what an exception amounts to that came while a line was under way. Its reply isn't read, so the
         connection is of no use any more."""
-        connection, self.connection = self.connection, None
         if isinstance(error, Ended):
+            self.connection = None
             raise end(error.status, error.said or self.last_words(), line, stored) from None
-        if connection is not None:
-            connection.kill()
+        self.abandon()
         if isinstance(error, Late):
             what = "what it changes is stored as a whole or not at all" if stored is None else "it has changed nothing"
             raise TimedOut(f"no reply came in time, and the program was ended; {what}", "", told(line), None, stored) from None
@@ -225,9 +247,7 @@ class Wire:
         if self.owner == threading.get_ident():
             # Results that aren't read are of no use any more.
             self.is_closed = True
-            connection, self.connection = self.connection, None
-            if connection is not None:
-                connection.kill()
+            self.abandon()
             return
         with self.free:
             self.is_closed = True
@@ -246,7 +266,7 @@ class Results(Generic[T]):
         self.has_wire = False
         self.held: Iterator[bytes] = iter(())
         self.holder = wire.take(holder, is_apart)
-        self.has_wire = True
+        self.has_wire, wire.reading = True, weakref.ref(self)
         try:
             connection = wire.ready(self.holder, timeout)
         except BaseException:
