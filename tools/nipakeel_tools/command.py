@@ -51,6 +51,7 @@ def reader_of(tool: str, text: str) -> argparse.ArgumentParser:
     add, here = reader.add_argument, pathlib.Path()
     add("--folder", metavar="DIR", type=pathlib.Path, default=here, help="the store's folder; this one where left out")
     add("--program", metavar="PATH", default=NIPAKEEL, help="the program; nipakeel beside tools/ where left out")
+    add("--version", action=TellVersion)
     return reader
 
 
@@ -58,6 +59,16 @@ def takes_socket(reader: argparse.ArgumentParser) -> None:
     """Adds the word for a store that tools/serve has open."""
     says = "the socket of tools/serve: ask this server, and begin no program"
     reader.add_argument("--socket", metavar="PATH", dest="server", type=pathlib.Path, help=says)
+
+
+class TellVersion(argparse.Action):
+    """The launcher tells the version, for all tools alike."""
+
+    def __init__(self, option_strings: Sequence[str], dest: str) -> None:
+        super().__init__(option_strings, dest, nargs=0, help="tell the version, and end")
+
+    def __call__(self, *_: Any) -> None:
+        os.execv(NIPAKEEL, [str(NIPAKEEL), "--version"])
 
 
 def takes_part(reader: argparse.ArgumentParser) -> None:
