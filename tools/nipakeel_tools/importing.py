@@ -12,7 +12,7 @@ from typing import Deque, Iterator, List, Optional, Sequence
 from nipakeel_tools import limits
 from nipakeel_tools.client import SERVER_FAILURES, Connection, Ended, NotAnswered, Program, leave
 from nipakeel_tools.command import DiskFailed, Options, connection_of
-from nipakeel_tools.journal import BadJournal, Entry, Journal, Transaction, again, packed
+from nipakeel_tools.journal import Again, BadJournal, Entry, Journal, Transaction, packed
 from nipakeel_tools.limits import DEFAULT_THRESHOLD, MOST_INDEXED, MOST_INDEXES, MOST_LINE, MOST_WEIGHT
 from nipakeel_tools.names import indexes_in
 from nipakeel_tools.query import Unfit
@@ -168,10 +168,10 @@ class Import:
 
     def bring(self, table: Table, number: int, entries: Sequence[Entry]) -> None:
         """Brings in the rows of a table that aren't in. While the program works on a transaction, the next is made."""
-        rows = table.rows(self.builder)
-        for entry in again(table, rows, entries):
+        again = Again(table, table.rows(self.builder), entries)
+        for entry in again.stored():
             self.progress.skips(entry.rows)
-        self.ahead = ahead = Ahead(packed(table, rows))
+        self.ahead = ahead = Ahead(packed(table, again.rest()))
         unsettled = None
         while it := ahead.take():
             self.begin(it, number)
@@ -276,7 +276,7 @@ class Ahead:
 
 
 def entry_of(it: Transaction, number: int) -> Entry:
-    return Entry(it.table.kind, number, len(it.rows), it.digest(), it.identifiers)
+    return Entry(it.table.kind, number, len(it.rows), it.digest(), it.identifiers, it.places)
 
 
 def threshold_of(words: Sequence[str]) -> int:

@@ -2,10 +2,12 @@
 
 from __future__ import annotations
 
+import array
 import dataclasses
 import fcntl
 import functools
 import hashlib
+import itertools
 import json
 import os
 import pathlib
@@ -17,7 +19,7 @@ from nipakeel_tools.readers import Table
 from nipakeel_tools.rows import Row
 from nipakeel_tools.values import to_bytes
 
-FORM = 1
+FORM = 2
 # The program gets the journal as a descriptor from here on, above those that the launcher takes for its locks.
 LEAST_KEPT = 20
 # How a journal begins.
@@ -50,15 +52,13 @@ class Transaction:
     @property
     def identifiers(self) -> List[List[int]]:
         """The identifiers of nodes, as pairs of the first and the last of runs."""
-        runs: List[List[int]] = []
-        for row in self.rows if self.is_nodes else []:
-            assert row.node and row.node.identifier is not None
-            it = row.node.identifier
-            if runs and runs[-1][1] == it - 1:
-                runs[-1][1] = it
-            else:
-                runs.append([it, it])
-        return runs
+        nodes = [row.node for row in self.rows if row.node]
+        return runs_of(it.identifier for it in nodes if it.identifier is not None)
+
+    @property
+    def places(self) -> List[List[int]]:
+        """Which rows of the table they are, as pairs of the first and the last of runs."""
+        return runs_of(row.number for row in self.rows)
 
     def digest(self) -> str:
         """A sum over the lines, and over the outer ids of nodes."""
@@ -66,6 +66,21 @@ class Transaction:
         for row in self.rows if self.is_nodes else []:
             made.update(to_bytes(row.outer) + b"\n")
         return made.hexdigest()
+
+
+def runs_of(numbers: Iterable[int]) -> List[List[int]]:
+    """Numbers in their order, as pairs of the first and the last of runs in which each is one more."""
+    runs: List[List[int]] = []
+    for it in numbers:
+        if runs and runs[-1][1] == it - 1:
+            runs[-1][1] = it
+        else:
+            runs.append([it, it])
+    return runs
+
+
+def numbers_in(runs: Sequence[Sequence[int]]) -> Iterator[int]:
+    return (it for first, last in runs for it in range(first, last + 1))
 
 
 def packed(table: Table, rows: Iterable[Row]) -> Iterator[Transaction]:
@@ -89,16 +104,17 @@ def groups(rows: Iterable[Row], most: int = MOST_WEIGHT) -> Iterator[List[Row]]:
 
 @dataclasses.dataclass
 class Entry:
-    """What the journal says of a transaction: the table, how many rows, their sum, and the identifiers of its nodes."""
+    """What the journal says of a transaction: the table, how many rows and which, their sum, and the identifiers of its nodes."""
 
     kind: str
     table: int
     rows: int
     digest: str
     identifiers: List[List[int]]
+    places: List[List[int]]
 
     def numbers(self) -> List[int]:
-        return [it for first, last in self.identifiers for it in range(first, last + 1)]
+        return list(numbers_in(self.identifiers))
 
 
 class Journal:
@@ -160,7 +176,7 @@ class Journal:
     def take(self, it: Any) -> None:
         if "form" in it:
             if it["form"] != FORM:
-                raise BadJournal(f"{self.path}: of another version of this tool")
+                raise BadJournal(f"{self.path}: of another version of this tool; --anew forgets it, and brings in all rows besides")
             nodes, edges = it["base"]
             self.base = nodes, edges
         elif "keep" in it:
@@ -226,23 +242,52 @@ def sync_folder(path: pathlib.Path) -> None:
         os.close(folder)
 
 
-def again(table: Table, rows: Iterator[Row], entries: Sequence[Entry]) -> Iterator[Entry]:
-    """Takes the rows that these entries of the table have, gives nodes the identifiers that they got, and then gives
-    each entry."""
-    for entry in entries:
-        got = Transaction(table, [])
-        for _ in range(entry.rows):
-            row = next(rows, None)
+class Again:
+    """The rows of a table that entries of the journal have, among all of its rows. Those that the store hasn't come after them:
+    rows that were wrong when the others came in, and all after the last of these."""
+
+    def __init__(self, table: Table, rows: Iterator[Row], entries: Sequence[Entry]) -> None:
+        self.table, self.rows, self.entries = table, rows, entries
+        # By the place of a row the number of its entry, from 1 on.
+        self.places = array.array("I")
+        for number, entry in enumerate(entries, 1):
+            for it in numbers_in(entry.places):
+                if it >= len(self.places):
+                    self.places.extend(bytes(max(it + 1 - len(self.places), len(self.places))))
+                self.places[it] = number
+        self.held: List[List[Row]] = [[] for _ in entries]
+        self.new: List[Row] = []
+
+    def stored(self) -> Iterator[Entry]:
+        """Takes the rows of the entries, gives nodes the identifiers that they got, and then gives each entry."""
+        left = sum(it.rows for it in self.entries)
+        while left:
+            row = next(self.rows, None)
             if row is None:
-                raise BadJournal(f"{table.path}: it has fewer rows than are in; --anew forgets the journal")
-            got.rows.append(row)
-        for row, it in zip(got.rows, entry.numbers()):
+                raise BadJournal(f"{self.table.path}: it has fewer rows than are in; --anew forgets the journal")
+            number = self.places[row.number] if row.number < len(self.places) else 0
+            if not number:
+                self.new.append(row)
+                continue
+            left -= 1
+            held, entry = self.held[number - 1], self.entries[number - 1]
+            held.append(row)
+            if len(held) == entry.rows:
+                self.settles(entry, held)
+                self.held[number - 1] = []
+                yield entry
+
+    def settles(self, entry: Entry, rows: List[Row]) -> None:
+        for row, it in zip(rows, entry.numbers()):
             assert row.node
             row.node.identifier = it
-        if got.digest() != entry.digest:
-            first, last = got.rows[0].at, got.rows[-1].at
+        if Transaction(self.table, rows).digest() != entry.digest:
+            first, last = rows[0].at, rows[-1].at
             raise BadJournal(
-                f"{table.path}:{first} to {last}: these rows were brought in with other contents; --anew forgets the"
+                f"{self.table.path}:{first} to {last}: these rows were brought in with other contents; --anew forgets the"
                 " journal, and brings in all rows besides"
             )
-        yield entry
+
+    def rest(self) -> Iterator[Row]:
+        """The rows that the store hasn't."""
+        return itertools.chain(self.new, self.rows)

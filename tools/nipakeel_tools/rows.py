@@ -2,17 +2,21 @@
 
 from __future__ import annotations
 
+import array
 import dataclasses
-from typing import Dict, List, Optional, Tuple
+from typing import Callable, Dict, List, Optional, Tuple
 
+from nipakeel_tools.kinds import speller_of
 from nipakeel_tools.limits import DEFAULT_THRESHOLD, EDGE_WEIGHT, ENTRY_WEIGHT, MOST_LINE, MOST_PROPERTIES, NODE_WEIGHT
-from nipakeel_tools.values import SPELLERS, Bad, Speller, name, shown, to_bytes
+from nipakeel_tools.values import Bad, Speller, name, shown, to_bytes
 
 
 class Refused(Exception):
-    """A row that isn't imported, with its file, line and column."""
+    """A row that isn't imported, with its file, line and column. Faults in a column of the same name are of one kind."""
 
-    def __init__(self, path: object, line: int, bad: Bad) -> None:
+    def __init__(self, path: object, line: int, bad: Bad, named: Optional[str] = None) -> None:
+        self.path, self.line, self.bad = path, line, bad
+        self.named = bad.column if named is None else named
         super().__init__(": ".join(it for it in (f"{path}:{line}", bad.column, bad.why) if it))
 
 
@@ -32,20 +36,18 @@ def column(key: str, kind: str, said: str) -> Column:
     """A column of this type's name."""
     try:
         name(key, "key")
-        if kind not in SPELLERS:
-            raise Bad(f"a store has no type {shown(kind)}: it has int, bool and text, and value for any of them")
+        return Column(key, speller_of(kind), said)
     except Bad as bad:
         raise Bad(bad.why, said) from None
-    return Column(key, SPELLERS[kind], said)
 
 
 class Node:
-    """A node of the import: its identifier once the program has told it, and how many edges the import gave it."""
+    """A node of the import, and its identifier once the program has told it."""
 
-    __slots__ = "identifier", "degree"
+    __slots__ = ("identifier",)
 
     def __init__(self, identifier: Optional[int] = None) -> None:
-        self.identifier, self.degree = identifier, 0
+        self.identifier = identifier
 
 
 Space = Dict[str, Node]
@@ -53,12 +55,33 @@ Fields = List[Tuple[Column, str]]
 
 
 class Row:
-    """An element: where its row is, its line, what it weighs, and of a node the outer id and what it is known as."""
+    """An element: where its row is and which it is from 0 on, its line, what it weighs, of a node the outer id and what it is
+    known as, and of an edge its ends."""
 
-    __slots__ = "at", "text", "weight", "outer", "node"
+    __slots__ = "at", "number", "text", "weight", "outer", "node", "ends"
 
     def __init__(self, at: int, text: str, weight: int, outer: str = "", node: Optional[Node] = None) -> None:
         self.at, self.text, self.weight, self.outer, self.node = at, text, weight, outer, node
+        self.number, self.ends = 0, (0, 0)
+
+
+class Degrees:
+    """How many edges the import has given to each node, and what an edge weighs besides that takes one past the threshold."""
+
+    def __init__(self, threshold: int) -> None:
+        self.past, self.weight = threshold + 1, 2 * (threshold + 1)
+        self.counts = array.array("I")
+
+    def weighs(self, ends: Tuple[int, int]) -> int:
+        """Takes note of an edge between these identifiers. A loop counts once."""
+        weight, counts = 0, self.counts
+        for id in ends if ends[0] != ends[1] else ends[:1]:
+            if id >= len(counts):
+                counts.extend(bytes(1) * max(id + 1 - len(counts), len(counts)))
+            counts[id] += 1
+            if counts[id] == self.past:
+                weight += self.weight
+        return weight
 
 
 class Builder:
@@ -70,9 +93,13 @@ class Builder:
     def __init__(self, threshold: int = DEFAULT_THRESHOLD, merge: Optional[str] = None) -> None:
         self.spaces: Dict[str, Space] = {}
         self.names: set[str] = set()
+        # Those that the row under way has brought, which it takes away again when it is refused.
+        self.fresh: List[str] = []
+        # What stands for the names of the files, where that isn't the name itself.
+        self.named: Callable[[str, str], str] = lambda word, what: word
         # The keys that the store has an index of, by label: each entry weighs.
         self.indexed: Dict[str, set[str]] = {}
-        self.past_threshold, self.at_threshold = threshold + 1, 2 * (threshold + 1)
+        self.degrees = Degrees(threshold)
         self.merge, self.merged = merge, 0
         # The nodes by their value of the key, as a line spells it. None where several of the store have it.
         self.there: Dict[str, Optional[Node]] = {}
@@ -93,7 +120,13 @@ class Builder:
             self.names.add(name(word, what))
         except Bad as bad:
             raise Bad(bad.why, what) from None
+        self.fresh.append(word)
         return 1
+
+    def forgets_names(self) -> None:
+        """The row under way is refused, so its names are as new as before."""
+        self.names.difference_update(self.fresh)
+        self.fresh.clear()
 
     def pairs(self, fields: Fields) -> tuple[str, int]:
         """The pairs of a line for columns and values, and what they weigh. An empty value is no property."""
@@ -115,26 +148,28 @@ class Builder:
 
     def node(self, at: int, outer: str, label: str, fields: Fields, known: Space) -> Optional[Row]:
         """The row of a node, which is known from now on. None where the store has it already."""
+        self.fresh.clear()
         if not outer:
             raise Bad("the id is empty", "id")
         if outer in known:
             raise Bad(f"the id {shown(outer)} came before", "id")
-        node = Node()
-        if self.merge is not None:
-            value = self.merged_by(fields)
-            there = self.there.setdefault(value, node)
+        value = None if self.merge is None else self.merged_by(fields)
+        if value is not None and value in self.there:
+            there = self.there[value]
             if there is None:
                 raise Bad(f"several nodes of the store have {self.merge}={value}")
-            if there is not node:
-                known[outer] = there
-                self.merged += 1
-                return None
+            known[outer] = there
+            self.merged += 1
+            return None
+        label = self.named(label, "label")
         new = self.name_weight(label, "label")
         pairs, weight = self.pairs(fields)
         text = fitting(f"node {label}{pairs}")
         if label in self.indexed:
             weight += ENTRY_WEIGHT * sum(bool(value) and it.key in self.indexed[label] for it, value in fields)
-        known[outer] = node
+        node = known[outer] = Node()
+        if value is not None:
+            self.there[value] = node
         return Row(at, text, NODE_WEIGHT + new + weight, outer, node)
 
     def merged_by(self, fields: Fields) -> str:
@@ -145,22 +180,20 @@ class Builder:
         raise Bad(f"the row has no {self.merge}, by which nodes are merged")
 
     def edge(self, at: int, ends: tuple[str, str], kind: str, fields: Fields, sources: Space, targets: Space) -> Row:
-        """The row of an edge between two outer ids, which are sought among these nodes."""
+        """The row of an edge between two outer ids, which are sought among these nodes. What it weighs more for the edges that
+        its ends have already is added when its place among them is known."""
+        self.fresh.clear()
         source, target = sources.get(ends[0]), targets.get(ends[1])
         if source is None or target is None:
             which = source is not None
             raise Bad(f"no node has the id {shown(ends[which])}", "to" if which else "from")
+        kind = self.named(kind, "type")
         weight = EDGE_WEIGHT + self.name_weight(kind, "type")
         pairs, more = self.pairs(fields) if fields else ("", 0)
-        text = fitting(f"edge {source.identifier} {kind} {target.identifier}{pairs}")
-        source.degree += 1
-        if source.degree == self.past_threshold:
-            weight += self.at_threshold
-        if target is not source:
-            target.degree += 1
-            if target.degree == self.past_threshold:
-                weight += self.at_threshold
-        return Row(at, text, weight + more)
+        row = Row(at, fitting(f"edge {source.identifier} {kind} {target.identifier}{pairs}"), weight + more)
+        # Where rows are only read, no node has an identifier.
+        row.ends = source.identifier or 0, target.identifier or 0
+        return row
 
 
 def fitting(text: str) -> str:

@@ -12,7 +12,7 @@ from nipakeel_tools.journal import groups
 from nipakeel_tools.limits import ENTRY_WEIGHT, MOST_LINE, MOST_NAME, SET_WEIGHT
 from nipakeel_tools.names import Pair
 from nipakeel_tools.query import Edge, Element, Unfit
-from nipakeel_tools.readers import fields_of
+from nipakeel_tools.properties import fields_of
 from nipakeel_tools.rows import Builder, Fields, Row
 from nipakeel_tools.values import plain, spelled, to_bytes
 
@@ -100,6 +100,7 @@ def edge_row(builder: Builder, id: int, it: Dict[str, Any]) -> Row:
     """The row of an edge that gets this identifier."""
     known, (fields, rest) = builder.space(""), parted(fields_of(it["properties"]))
     row = builder.edge(0, (str(it["from"]), str(it["to"])), it["type"], fields, known, known)
+    row.weight += builder.degrees.weighs(row.ends)
     return with_sets(builder, row, f"edge {id}", rest)
 
 
