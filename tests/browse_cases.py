@@ -5,6 +5,8 @@ import http.client
 import json
 import pathlib
 import signal
+import socket
+import struct
 import subprocess
 import sys
 import urllib.parse
@@ -30,8 +32,8 @@ edge 1 created 2
 
 
 @contextlib.contextmanager
-def served(folder, *words, status=INTERRUPTED):
-    """The address of a page on the store of the folder."""
+def served(folder, *words, status=INTERRUPTED, says=b""):
+    """The address of a page on the store of the folder. At its end it says this and no more, where it is given."""
     if not D3.exists():
         raise Skipped("there is no libjs-d3")
     assert call(folder, MODERN.encode()).status == 0
@@ -44,7 +46,7 @@ def served(folder, *words, status=INTERRUPTED):
         if status == INTERRUPTED:
             started.send_signal(signal.SIGTERM)
         out, said = started.communicate(timeout=SECONDS)
-    assert started.returncode == status, f"{started.returncode}: {said}"
+    assert started.returncode == status and says in ("", b"", *said.split(b"tools/browse: stopped\n")), f"{started.returncode}: {said}"
 
 
 def gets(address, path="", method="GET", body=None, **headers):
@@ -84,6 +86,31 @@ def who_is_served(folder):
         assert listening(urllib.parse.urlsplit(address).port) == ["0100007F"], "the loopback address alone"
 
 
+def who_leaves(folder):
+    """Nobody who asks makes the server write a traceback, and none of many at once is turned away."""
+    with served(folder, says=b"Ctrl-C ends it\n") as address:
+        parts = urllib.parse.urlsplit(address)
+        where = parts.hostname, parts.port
+        body = json.dumps({"line": "g.V().both().both()"}).encode()
+        head = f"POST {parts.path}ask HTTP/1.1\r\nHost: {parts.netloc}\r\nContent-Type: application/json\r\n"
+        for size in ("9" * 5_000, "-1", "1e3", "\u0663", ""):
+            with socket.create_connection(where, SECONDS) as it:
+                it.sendall(f"{head}Content-Length: {size}\r\n\r\n".encode() + body)
+                assert b" 400 " in it.makefile("rb").readline(), size
+        for _ in range(20):
+            with socket.create_connection(where, SECONDS) as it:
+                it.setsockopt(socket.SOL_SOCKET, socket.SO_LINGER, struct.pack("ii", 1, 0))
+                it.sendall(f"{head}Content-Length: {len(body)}\r\n\r\n".encode() + body)
+        with socket.create_connection(where, SECONDS) as it:
+            it.sendall(f"{head}Content-Length: 90\r\n\r\n".encode() + body)
+        many = [socket.create_connection(where, SECONDS) for _ in range(60)]
+        for it in many:
+            it.sendall(f"{head}Content-Length: {len(body)}\r\n\r\n".encode() + body)
+        for it in many:
+            assert b" 200 " in it.makefile("rb").readline()
+            it.close()
+
+
 def listening(port):
     """The addresses at which something listens on a port, as the system writes them."""
     lines = [it.split() for it in pathlib.Path("/proc/net/tcp").read_text().splitlines()[1:]]
@@ -98,6 +125,8 @@ def what_is_answered(folder):
         assert found["graph"]["nodes"][0] == {"node": 0, "label": "person", "properties": {"age": 29, "name": "marko"}}
         found = asks(address, "ask", line="g.V().values('name','age')")[1]
         assert found["columns"] == ["name", "age"] and found["rows"][2] == {"name": MARKUP}, f"{found}"
+        for line in ('g.V().values("name","age")', "g.V() . values( 'name' ,\"age\" )"):
+            assert {**asks(address, "ask", line=line)[1], "seconds": 0} == {**found, "seconds": 0}, line
         found = asks(address, "ask", line="path 0 2 out")[1]
         assert found["rows"] == [{"node": 0}, {"node": 2}] and len(found["graph"]["nodes"]) == 2, f"{found}"
         found = asks(address, "ask", line="levels 1 2 out")[1]
@@ -196,6 +225,7 @@ def zooms_and_drags(it):
 
 CASES = {
     "browse: who is served": who_is_served,
+    "browse: who leaves, and many at once": who_leaves,
     "browse: what is answered": what_is_answered,
     "browse: lines that change something": what_is_written,
     "browse: endings": endings,

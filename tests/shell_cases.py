@@ -71,6 +71,7 @@ def modes(folder):
     graph(folder)
     asked = "g.V().values('name','age','lang')"
     assert says(folder, ".mode table", asked) == TABLE
+    assert says(folder, ".mode table", asked.replace("'", '"')) == TABLE
     assert says(folder, asked, words=["--mode", "csv"]) == "name,age,lang\nmarko,29,\nvadas,,\nlop,,java\n"
     found = [json.loads(it) for it in says(folder, asked, words=["--mode", "json"]).splitlines()]
     assert found == [{"name": "marko", "age": 29}, {"name": "vadas"}, {"name": "lop", "lang": "java"}], f"{found}"

@@ -8,20 +8,23 @@ from __future__ import annotations
 
 import contextlib
 import http.server
+import itertools
 import json
 import pathlib
+import re
 import secrets
+import socket
 import sys
 import threading
 import time
-from typing import Any, Dict, List, Optional, Sequence
+from typing import Any, Dict, List, Optional, Sequence, Tuple
 
 from nipakeel_tools.client import Ended, NotAnswered
 from nipakeel_tools.limits import MOST_LINE
 from nipakeel_tools.lines import LISTS, State, mutates, place_of
 from nipakeel_tools.names import keys_of_store, names_in
 from nipakeel_tools.query import Asking, Element, Unfit, pages
-from nipakeel_tools.showing import header_of, keyed, keyed_rows, rows_of
+from nipakeel_tools.showing import Shown, header_of, keyed, keyed_rows, rows_of
 from nipakeel_tools.values import to_bytes
 
 HOST, D3 = "127.0.0.1", pathlib.Path("/usr/share/javascript/d3/d3.min.js")
@@ -29,6 +32,9 @@ PAGE = pathlib.Path(__file__).parent / "page"
 # Results in a table, and nodes in a picture, that are sent at once. The rest is counted.
 MOST_ROWS, MOST_NODES = 1_000, 300
 MOST_ASKED = 65_536
+# How long one who asks may take to say it, in seconds, and how many may wait until they are heard.
+MOST_SECONDS, MOST_WAITING = 30, 128
+LENGTH = re.compile("[0-9]{1,6}")
 QUESTIONS = ("g", *LISTS, "degree", "stats", "check")
 HEADERS = {
     "Content-Security-Policy": "default-src 'none'; script-src 'self'; style-src 'self'; connect-src 'self'",
@@ -67,8 +73,8 @@ class Browsing:
                 return {"edges": [shown(it) for it in self.elements("E", numbers([words.get("id")]))]}
             if what == "around":
                 (id,) = numbers([words.get("id")])
-                edges = list(rows_of(self.asked.ask(f"g.V({id}).bothE().dedup()")))
-                return {"edges": edges[:MOST_ROWS], "count": len(edges)}
+                edges, count = self.first_rows(f"g.V({id}).bothE().dedup()")
+                return {"edges": edges, "count": count}
         raise Wrong("there is no such question")
 
     def line(self, line: str) -> Dict[str, Any]:
@@ -96,19 +102,19 @@ class Browsing:
 
     def results(self, line: str) -> Dict[str, Any]:
         columns = keyed(line)
-        found = keyed_rows(self.asked.program, *columns) if columns and len(columns[1]) > 1 else None
+        found = keyed_rows(self.asked.program, *columns, MOST_ROWS) if columns and len(columns[1]) > 1 else None
         if columns and found is not None:
-            rows = [it for it in found if it]
-            count, keys = len(rows), columns[1]
+            (rows, count), keys = found, columns[1]
         else:
-            rows, count, keys = [], 0, []
-            for it in rows_of(self.asked.ask(line)):
-                count += 1
-                if len(rows) < MOST_ROWS:
-                    rows.append(it)
-        rows = rows[:MOST_ROWS]
+            (rows, count), keys = self.first_rows(line), []
         graph = {"nodes": self.nodes(ends_of(rows)[:MOST_NODES]), "edges": [it for it in rows if "edge" in it]}
         return {"columns": header_of(rows, keys), "rows": rows, "count": count, "graph": graph, "reply": "end"}
+
+    def first_rows(self, line: str) -> Tuple[List[Shown], int]:
+        """The first results of a line, and how many there are in all."""
+        results = rows_of(self.asked.ask(line))
+        rows = list(itertools.islice(results, MOST_ROWS))
+        return rows, len(rows) + sum(1 for _ in results)
 
     def nodes(self, ids: Sequence[int]) -> List[Dict[str, Any]]:
         return [shown(it) for it in self.elements("V", ids)]
@@ -151,6 +157,7 @@ class Handler(http.server.BaseHTTPRequestHandler):
     secret: str
     files: Dict[str, pathlib.Path]
     server: http.server.ThreadingHTTPServer
+    timeout = MOST_SECONDS
 
     def do_GET(self) -> None:
         name = self.asked_for()
@@ -167,8 +174,9 @@ class Handler(http.server.BaseHTTPRequestHandler):
         if name is None:
             return
         size = self.headers.get("Content-Length", "")
-        if self.headers.get("Content-Type") != "application/json" or not size.isdecimal() or int(size) > MOST_ASKED:
-            self.gives(400, "text/plain", b"a question is JSON\n")
+        if self.headers.get("Content-Type") != "application/json" or not LENGTH.fullmatch(size) or int(size) > MOST_ASKED:
+            self.close_connection = True
+            self.gives(400, "text/plain", b"a question is JSON of a length that is told\n")
             return
         status, answer = self.answered(name, self.rfile.read(int(size)))
         self.gives(status, "application/json", json.dumps(answer).encode())
@@ -211,13 +219,24 @@ class Handler(http.server.BaseHTTPRequestHandler):
         """Nothing is logged, since the address is secret."""
 
 
+class Server(http.server.ThreadingHTTPServer):
+    """Serves each who asks in a thread. One who leaves before the answer is there is no fault."""
+
+    daemon_threads = True
+    request_queue_size = MOST_WAITING
+
+    def handle_error(self, *_: Any) -> None:
+        error = sys.exc_info()[1]
+        if not isinstance(error, (ConnectionError, TimeoutError, socket.timeout)):
+            print(f"tools/browse: a question wasn't answered: {error!r}", file=sys.stderr)
+
+
 def serve(browsing: Browsing, port: int, d3: pathlib.Path) -> None:
     """Serves until the program ends, or a signal comes."""
     files = {**{it.name: it for it in PAGE.iterdir()}, "d3.js": d3}
     members = {"browsing": browsing, "secret": secrets.token_urlsafe(16), "files": files}
     handler = type("PageHandler", (Handler,), members)
-    with http.server.ThreadingHTTPServer((HOST, port), handler) as server:
-        server.daemon_threads = True
+    with Server((HOST, port), handler) as server:
         print(f"http://{HOST}:{server.server_port}/{members['secret']}/", flush=True)
         print("Ctrl-C ends it", file=sys.stderr)
         server.serve_forever()

@@ -17,6 +17,7 @@ from nipakeel_tools.lines import mutates
 from nipakeel_tools.query import DIRECTIONS, Asking, Element, Unfit
 from nipakeel_tools.readers import Choices, CsvTable, Source
 from nipakeel_tools.rows import Refused
+from nipakeel_tools.terminal import shown_at
 from nipakeel_tools.values import Bad, name, to_bytes
 
 DONE, REFUSED, WRONG_WORDS, BAD_FILES, PROGRAM_FAILED = range(5)
@@ -200,7 +201,7 @@ def around(asked: Asking, options: Options, first: Iterable[int]) -> Tuple[Pages
 
 def complain(tool: str, error: object) -> None:
     said = f"{error.filename}: {error.strerror}" if isinstance(error, OSError) and error.filename else error
-    print(f"{tool}: {said}", file=sys.stderr)
+    print(shown_at(sys.stderr, f"{tool}: {said}"), file=sys.stderr)
 
 
 def interrupt(*_: Any) -> None:

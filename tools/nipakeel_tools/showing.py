@@ -2,6 +2,7 @@
 
 from __future__ import annotations
 
+import itertools
 import json
 import os
 import re
@@ -13,6 +14,7 @@ from typing import Any, Dict, Iterable, Iterator, List, Optional, Sequence, Tupl
 from nipakeel_tools.client import Connection
 from nipakeel_tools.lines import columns, mutates
 from nipakeel_tools.query import EDGE, VERTEX, Asking, pages
+from nipakeel_tools.terminal import REPLACED, printable
 from nipakeel_tools.values import Value, plain, to_bytes, value_of
 from nipakeel_tools.writers import field
 
@@ -20,7 +22,10 @@ MODES = ("lines", "table", "csv", "json")
 # A value in a table has at most so many columns.
 WIDEST = 60
 # How a query ends whose results are values of keys that it names.
-KEYED = re.compile(r"(?P<elements>[ \t]*g.*?)\.[ \t]*values[ \t]*\([ \t]*(?P<keys>'\w+'(?:[ \t]*,[ \t]*'\w+')*)[ \t]*\)[ \t]*", re.S)
+NAMED = r"""(?:'\w+'|"\w+")"""
+KEYED = re.compile(
+    rf"(?P<elements>[ \t]*g.*?)\.[ \t]*values[ \t]*\([ \t]*(?P<keys>{NAMED}(?:[ \t]*,[ \t]*{NAMED})*)[ \t]*\)[ \t]*", re.S | re.A
+)
 # A result of `levels`.
 LEVEL = re.compile(rb"v\[([0-9]+)\] ([0-9]+)")
 # A row of a table: values by the names of their columns.
@@ -32,12 +37,14 @@ class Output:
 
     def __init__(self) -> None:
         self.words = os.environ.get("PAGER") or (shutil.which("less") and "less -S") or ""
-        self.pages = bool(self.words) and sys.stdout.isatty() and os.environ.get("TERM", "dumb") != "dumb"
+        self.is_terminal = sys.stdout.isatty()
+        self.pages = bool(self.words) and self.is_terminal and os.environ.get("TERM", "dumb") != "dumb"
         self.pager: Optional[subprocess.Popen[bytes]] = None
         self.held: List[str] = []
 
     def writes(self, lines: Sequence[str]) -> None:
         """Shows lines. Raises `BrokenPipeError` where the pager was left."""
+        lines = [printable(it) for it in lines] if self.is_terminal else lines
         if self.pager is None:
             print("\n".join(lines), flush=True)
             self.held += lines if self.pages else []
@@ -84,10 +91,15 @@ def rows_of(results: Iterable[bytes]) -> Iterator[Shown]:
             yield {"value": value_of(it)}
 
 
-def keyed_rows(program: Connection, elements: str, keys: Sequence[str]) -> Optional[List[Shown]]:
-    """For each element that a query gives, its values of these keys, each in its column. None where it gives something
-    else, which has no values: then the line is refused."""
-    results = list(program.results(to_bytes(elements)))
+def keyed_rows(
+    program: Connection, elements: str, keys: Sequence[str], most: Optional[int] = None
+) -> Optional[Tuple[List[Shown], int]]:
+    """For each element that a query gives, its values of these keys, each in its column, and how many there are: those that
+    have one of the keys. With `most` it is of so many elements, and the count is that of all. None where the query gives
+    something else, which has no values: then the line is refused."""
+    answer = program.results(to_bytes(elements))
+    results = list(itertools.islice(answer, most))
+    left = sum(1 for _ in answer)
     asked = Asking(lambda: program, keys, leaves_out=True)
     found: Dict[bytes, Shown] = {}
     for kind, form in (("V", VERTEX), ("E", EDGE)):
@@ -97,7 +109,9 @@ def keyed_rows(program: Connection, elements: str, keys: Sequence[str]) -> Optio
                 found[named[it.id]] = it.properties
     if not found.keys() >= set(results):
         return None
-    return [{key: found[it][key] for key in keys if key in found[it]} for it in results]
+    rows = [{key: found[it][key] for key in keys if key in found[it]} for it in results]
+    rows = [it for it in rows if it]
+    return rows, len(rows) + left
 
 
 def keyed(line: str) -> Optional[Tuple[str, List[str]]]:
@@ -131,7 +145,7 @@ def is_number(value: Value) -> bool:
 
 
 def cell(value: Value) -> str:
-    said = "".join(it if it.isprintable() else "\N{REPLACEMENT CHARACTER}" for it in plain(value))
+    said = "".join(it if it.isprintable() else REPLACED for it in plain(value))
     return said if len(said) <= WIDEST else said[: WIDEST - 2] + ".."
 
 

@@ -74,7 +74,7 @@ function row(tag, cells) {
 }
 
 function showTable(columns, rows) {
-    const lines = rows.map((it) => row("td", columns.map((key) => key in it ? String(it[key]) : "")));
+    const lines = rows.map((it) => row("td", columns.map((key) => Object.hasOwn(it, key) ? String(it[key]) : "")));
     find("#results table").replaceChildren(...(columns.length ? [row("th", columns)] : []), ...lines);
 }
 
