@@ -10,6 +10,7 @@ from typing import Any, Callable, Dict, List
 
 from nipakeel_tools.backup import back_up, back_up_there
 from nipakeel_tools.client import NotAnswered, Program
+from nipakeel_tools.describing import schema_lines
 from nipakeel_tools.limits import SESSIONS
 from nipakeel_tools.lines import help_lines
 from nipakeel_tools.names import has_index, indexes_in, indexes_of_store, names_of_store
@@ -56,6 +57,14 @@ def indexes(shell: Any) -> None:
     found = indexes_of_store(shell.program, shell.folder)
     rows: List[Dict[str, Any]] = [{"label": label, "key": key} for label, key in found]
     shell.shows_lines(as_table(rows, []) if rows else ["no indexes"])
+
+
+def schema(shell: Any) -> None:
+    """What the graph that the session sees has. The keys need a checkpoint, as no line lists them."""
+    asked = Asking(lambda: shell.program, names_of_store(shell.program, shell.folder).all)
+    asked.begin()
+    indexes = [it for it in indexes_in(shell.folder) if has_index(shell.program, it)]
+    shell.shows_lines(schema_lines(asked, indexes))
 
 
 def mode(shell: Any, *words: str) -> None:
@@ -163,6 +172,7 @@ DOT_COMMANDS: Dict[str, Any] = {
     ".help": (tell_help, 0, 9, ".help WORD"),
     ".names": (names, 0, 0, ".names"),
     ".indexes": (indexes, 0, 0, ".indexes"),
+    ".schema": (schema, 0, 0, ".schema"),
     ".mode": (mode, 0, 1, f".mode {'|'.join(MODES)}"),
     ".session": (session, 0, 1, ".session K"),
     ".timer": (switch("timer"), 1, 1, ".timer on|off"),

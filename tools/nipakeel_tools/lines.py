@@ -62,6 +62,7 @@ DOTS = [
     (".help WORD", "this list, or its lines with the word"),
     (".names", "the labels, types and keys of the store"),
     (".indexes", "the label and the key of each index; it makes a checkpoint, so no transaction may be open"),
+    (".schema", "the labels, types and keys with their counts, indexes, and the nodes with most edges"),
     (".mode table", "how results are shown: table, csv, json, or lines as the program has them"),
     (".session 1", "later lines are of session 1; .session 0 writes again; .session tells it"),
     (".timer on", "tells after each line how long it took; off"),
