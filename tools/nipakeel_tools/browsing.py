@@ -26,6 +26,7 @@ from nipakeel_tools.names import keys_of_store, names_in
 from nipakeel_tools.query import Asking, Element, Unfit, pages
 from nipakeel_tools.showing import Shown, header_of, keyed, keyed_rows, rows_of
 from nipakeel_tools.values import to_bytes
+from nipakeel.hints import hints
 
 HOST, D3 = "127.0.0.1", pathlib.Path("/usr/share/javascript/d3/d3.min.js")
 PAGE = pathlib.Path(__file__).parent / "page"
@@ -92,13 +93,13 @@ class Browsing:
             found = self.results(line) if word.startswith("g") or word in LISTS else self.reply(given)
         except NotAnswered as error:
             self.state.follows(given, error.reply)
-            found = {"reply": error.reply.decode(errors="replace"), "place": place_of(error.reply)}
+            found = told(given, error.reply)
         return {**found, "seconds": time.monotonic() - begun}
 
     def reply(self, given: bytes) -> Dict[str, Any]:
         reply = self.asked.program.ask(given)
         self.state.follows(given, reply)
-        return {"reply": reply.decode(errors="replace"), "place": place_of(reply)}
+        return told(given, reply)
 
     def results(self, line: str) -> Dict[str, Any]:
         columns = keyed(line)
@@ -132,6 +133,11 @@ class Browsing:
                 return [it for page in pages(ids) for it in self.asked.elements(kind, page)]
             finally:
                 self.asked.leaves_out = False
+
+
+def told(line: bytes, reply: bytes) -> Dict[str, Any]:
+    """A reply without results, with what helps where it is a fault."""
+    return {"reply": reply.decode(errors="replace"), "place": place_of(reply), "hints": hints(line, reply)}
 
 
 def numbers(words: Any) -> List[int]:

@@ -7,11 +7,11 @@ import os
 import socket
 import threading
 
-from nipakeel.connection import CHUNK, NIPAKEEL, Connection, Ended, NotAnswered, Program, Served
+from nipakeel.connection import CHUNK, NIPAKEEL, Connection, Ended, Late, NotAnswered, Program, Served
 from nipakeel.replies import ARROW, FAULTS, GOES_ON, NAMED, STATUSES, after_mark, ending, mark_of
 
 __all__ = [
-    "ARROW", "CHUNK", "FAULTS", "GOES_ON", "NAMED", "NIPAKEEL", "STATUSES", "Connection", "Ended", "NotAnswered", "Program",
+    "ARROW", "CHUNK", "FAULTS", "GOES_ON", "NAMED", "NIPAKEEL", "STATUSES", "Connection", "Ended", "Late", "NotAnswered", "Program",
     "Served", "SERVER_FAILURES", "Talk", "after_mark", "ending", "leave", "mark_of", "relay",
 ]
 # How replies of tools/serve begin that blame no line of the user. The last one is that of a commit that may be stored.
