@@ -221,6 +221,135 @@ def again_by_graphml(folder):
     comes_again(folder, PLAIN, OWN_KEYS, ["--graphml", "g.xml"], ["--graphml", "../one/g.xml"])
 
 
+def is_same(folder, keys):
+    """Fails unless the graph of the folder two is that of one, where the import says which nodes stand for which."""
+    (nodes, edges), (new_nodes, new_edges) = (elements(folder / it, keys=keys) for it in ("one", "two"))
+    rows = [it.split(",") for it in (folder / "two/map.csv").read_text().splitlines()[1:]]
+    places = {int(outer): int(identifier) for _, outer, identifier in rows}
+    by_id = sorted((it | {"node": places[it["node"]]} for it in nodes), key=lambda it: it["node"])
+    assert by_id == new_nodes, "the nodes differ"
+    said = lambda it: json.dumps([it["type"], it["properties"]], sort_keys=True)
+    wanted = sorted((places[it["from"]], places[it["to"]], said(it)) for it in edges)
+    found = sorted((it["from"], it["to"], said(it)) for it in new_edges)
+    assert wanted == found, "the edges differ"
+    return len(nodes), len(edges)
+
+
+def again_by_graphson(folder):
+    graph(folder / "one", drawn(1, PLAIN + ODD, [*OWN_KEYS, "label"]))
+    exports(folder / "one", ["--graphson", "g.json", *ALL_KEYS])
+    imports(folder / "two", ["--graphson", "../one/g.json", "--map", "map.csv"])
+    assert is_same(folder, ALL_KEYS)[1] >= 870
+    # Each edge stands at both ends, since TinkerPop takes edges from where they enter.
+    lines = [json.loads(it) for it in (folder / "one/g.json").read_text().splitlines()]
+    found = [collections.Counter(edge["id"]["@value"] for it in lines for them in it.get(way, {}).values() for edge in them) for way in ("outE", "inE")]
+    assert found[0] == found[1] and set(found[0].values()) == {1}, "an edge isn't at both ends"
+    for it in lines:
+        for them in it.get("inE", {}).values():
+            assert all(set(edge) <= {"id", "outV", "properties"} for edge in them)
+
+
+SMALL_GRAPHSON = """{"id":{"@type":"g:Int64","@value":0},"label":"person","outE":{"knows":[{"id":{"@type":"g:Int64","@value":0},"inV":{"@type":"g:Int64","@value":1},"properties":{"since":{"@type":"g:Int64","@value":2009}}}]},"properties":{"active":[{"id":{"@type":"g:Int64","@value":0},"value":true}],"born":[{"id":{"@type":"g:Int64","@value":1},"value":{"@type":"gx:LocalDate","@value":"1990-02-03"}}],"name":[{"id":{"@type":"g:Int64","@value":2},"value":"Ada"}],"price":[{"id":{"@type":"g:Int64","@value":3},"value":{"@type":"g:Double","@value":19.90}}]}}
+{"id":{"@type":"g:Int64","@value":1},"label":"person","outE":{"is":[{"id":{"@type":"g:Int64","@value":1},"inV":{"@type":"g:Int64","@value":1}}]},"inE":{"knows":[{"id":{"@type":"g:Int64","@value":0},"outV":{"@type":"g:Int64","@value":0},"properties":{"since":{"@type":"g:Int64","@value":2009}}}],"is":[{"id":{"@type":"g:Int64","@value":1},"outV":{"@type":"g:Int64","@value":1}}]}}
+"""
+SMALL = """node person name='Ada' active=true price=1990 born='1990-02-03'
+node person
+edge 0 knows 1 since=2009
+edge 1 is 1
+"""
+SMALL_KEYS = ["--keys", "name,active,price,born,since"]
+KINDS = ["--as", "price:decimal(2),born:date"]
+
+
+def exactly(folder):
+    """The bytes of the forms for larger engines, and what is told to call there."""
+    graph(folder, SMALL)
+    exports(folder, ["--graphson", "g.json", "--neo4j", "neo", "--graphframes", "spark", *KINDS, *SMALL_KEYS])
+    assert (folder / "g.json").read_text() == SMALL_GRAPHSON
+    assert (folder / "neo/nodes.csv").read_text() == ":ID,:LABEL,active:boolean,born:date,name:string,price:double\n0,person,true,1990-02-03,Ada,19.90\n1,person,,,,\n"
+    assert (folder / "neo/relationships.csv").read_text() == ":START_ID,:END_ID,:TYPE,since:long\n0,1,knows,2009\n1,1,is,\n"
+    rows = '{"id":0,"label":"person","active":true,"born":"1990-02-03","name":"Ada","price":19.90}\n{"id":1,"label":"person"}\n'
+    assert (folder / "spark/vertices.json").read_text() == rows
+    assert (folder / "spark/edges.json").read_text() == '{"src":0,"dst":1,"type":"knows","since":2009}\n{"src":1,"dst":1,"type":"is"}\n'
+    ran = call(folder, words=["--program", PROGRAM, "--neo4j", "neo2", "--graphframes", "spark2", *SMALL_KEYS], program=EXPORT)
+    command = "neo4j-admin database import full neo4j --id-type=integer --multiline-fields=true --nodes=nodes.csv --relationships=relationships.csv"
+    assert ran.err.decode().splitlines()[1:] == [f"in neo2: {command}", 'in spark2: GraphFrame(spark.read.json("vertices.json"), spark.read.json("edges.json"))'], f"{ran}"
+    exports(folder, ["--neo4j", "neo", *SMALL_KEYS], BAD_FILES, "neo: it is there, and isn't an empty folder")
+    graph(folder / "keys", "node a src=1\nnode a id=1\n")
+    exports(folder / "keys", ["--graphframes", "spark", "--keys", "src,id"], REFUSED, "the key id of nodes is a column that GraphFrames asks for")
+    assert not list((folder / "keys").glob("spark*"))
+
+
+def again_with_kinds(folder):
+    """Decimals and dates go out as they came, and come in again."""
+    graph(folder / "one", SMALL + "node person price=-5 born='2026-11-30'\nset edge 0 price 100\n")
+    files = ["--nodes", "n.csv", "--edges", "e.csv", "--graphml", "g.xml", "--jsonl", "j", "--graphson", "g.json", "--neo4j", "neo", "--graphframes", "spark"]
+    exports(folder / "one", [*files, *KINDS, *SMALL_KEYS])
+    assert (folder / "one/n.csv").read_text().startswith("id,label,active:bool,born:date,name,price:decimal(2)\n0,person,true,1990-02-03,Ada,19.90\n")
+    assert '"price":-0.05' in (folder / "one/j").read_text()
+    forms = (
+        (["--nodes", "n.csv", "--edges", "e.csv"], []), (["--graphml", "g.xml"], KINDS), (["--jsonl", "j"], KINDS), (["--graphson", "g.json"], KINDS),
+        (["--nodes", "neo/nodes.csv", "--edges", "neo/relationships.csv"], KINDS),
+        (["--form", "graphframes", "--nodes", "spark/vertices.json", "--edges", "spark/edges.json"], KINDS),
+    )
+    for words, kinds in forms:
+        shutil.rmtree(folder / "two", ignore_errors=True)
+        paths = [it if it.startswith("--") or it == "graphframes" else f"../one/{it}" for it in words]
+        imports(folder / "two", [*paths, *kinds])
+        assert elements(folder / "two", keys=SMALL_KEYS) == elements(folder / "one", keys=SMALL_KEYS), f"{words}"
+    graph(folder / "other", "node a price='x'\nnode a born=1\n")
+    for key, says in (("price:decimal(2)", "node 0: price: 'x' is no whole number"), ("born:date", "node 1: born: '1' is no date")):
+        exports(folder / "other", ["--jsonl", "j", "--as", key, "--keys", "price,born"], REFUSED, says)
+    exports_not(folder / "other", ["--jsonl", "j", "--as", "price:int"], WRONG_WORDS, "'price:int' is neither KEY:decimal(N) nor KEY:date")
+
+
+TYPED_KEYS = ["--keys", "t1,t2,n1,b1,m1,m2"]
+
+
+def typed(seed, texts, nodes=600, edges=500):
+    """The lines of a graph whose keys have values of one type each, but for two keys."""
+    draw = random.Random(seed)
+    values = {
+        "t1": [*map(spell, texts)], "t2": [*map(spell, texts)], "n1": ["0", str(-(2**63)), str(2**63 - 1)], "b1": ["true", "false"],
+        "m1": ["7", "'7'", "''", "true"], "m2": ["'x'", "1"],
+    }
+
+    def pairs():
+        return "".join(f" {key}={draw.choice(values[key])}" for key in draw.sample(sorted(values), draw.randrange(len(values) + 1)))
+
+    lines = [f"node l{draw.randrange(3)}{pairs()}" for _ in range(nodes)]
+    lines += [f"edge {draw.randrange(nodes)} t{draw.randrange(3)} {draw.randrange(nodes)}{pairs()}" for _ in range(edges)]
+    lines += ["edge 0 t 0", "edge 0 t 0"]
+    return "".join("\n".join(["begin", *lines[at : at + 60], "commit", ""]) for at in range(0, len(lines), 60))
+
+
+def again_by_neo4j(folder):
+    """A key with values of several types has a column in several tables. A text without characters is two quotes."""
+    graph(folder / "one", typed(4, PLAIN + ODD))
+    exports(folder / "one", ["--neo4j", "neo", *TYPED_KEYS])
+    names = sorted(it.name for it in (folder / "one/neo").iterdir())
+    assert 4 < len(names) < 16 and {"nodes.csv", "nodes-2.csv", "relationships.csv"} < set(names), f"{names}"
+    for name in names:
+        header = (folder / "one/neo" / name).read_bytes().split(b"\n")[0].decode()
+        keys = [it.split(":")[0] for it in header.split(",") if not it.startswith(":")]
+        assert len(set(keys)) == len(keys) and all(it.split(":")[1] in ("string", "long", "boolean") for it in header.split(",") if it[0] != ":"), header
+    words = [it for name in names for it in ("--nodes" if name.startswith("nodes") else "--edges", f"../one/neo/{name}")]
+    imports(folder / "two", [*words, "--map", "map.csv"])
+    assert is_same(folder, TYPED_KEYS) == (600, 502)
+    graph(folder / "three", drawn(1, ["x"], OWN_KEYS))
+    exports(folder / "three", ["--neo4j", "neo", *ALL_KEYS], REFUSED, "values of so many kinds that more than 100 tables would be made")
+
+
+def again_by_frames(folder):
+    keys = ["a", "b", "c", "d", "name", "From", "n_1", "to_"]
+    named = ["--keys", ",".join([*keys, "only", "whole", "truth"])]
+    graph(folder / "one", drawn(5, PLAIN + ODD, keys, 500, 500))
+    exports(folder / "one", ["--graphframes", "spark", *named])
+    words = ["--form", "graphframes", "--nodes", "../one/spark/vertices.json", "--edges", "../one/spark/edges.json"]
+    imports(folder / "two", [*words, "--map", "map.csv"])
+    assert is_same(folder, named)[0] == 460
+
+
 def long_elements(folder):
     """Elements with more properties than a line has room for: lines `set` give them the rest, in one transaction."""
     keys = [f"k{number}" for number in range(32)]
@@ -750,6 +879,11 @@ CASES = {
     "export: a graph without nodes": empty_graph,
     "export: the same graph again, by tables": again_by_tables,
     "export: the same graph again, by GraphML": again_by_graphml,
+    "export: the same graph again, by GraphSON": again_by_graphson,
+    "export: the same graph again, by tables for Neo4j": again_by_neo4j,
+    "export: the same graph again, by tables for GraphFrames": again_by_frames,
+    "export: the same graph again, with decimals and dates": again_with_kinds,
+    "export: forms for larger engines": exactly,
     "export: elements with long texts, as lines": long_elements,
     "export: parts": parts,
     "export: parts of a graph that is drawn": drawn_parts,

@@ -5,16 +5,17 @@ from __future__ import annotations
 
 import json
 import re
-from typing import IO, Any, Callable, Dict, Iterable, Iterator, Sequence, Set, TextIO, Tuple
+from typing import IO, Any, Dict, Iterable, Iterator, Sequence, Set, TextIO, Tuple
 from xml.sax.saxutils import escape, quoteattr
 
 from nipakeel_tools.journal import groups
+from nipakeel_tools.kinds import DATE, DECIMAL, Unlike, writer_of
 from nipakeel_tools.limits import ENTRY_WEIGHT, MOST_LINE, MOST_NAME, SET_WEIGHT
 from nipakeel_tools.names import Pair
 from nipakeel_tools.query import Edge, Element, Unfit
 from nipakeel_tools.properties import fields_of
 from nipakeel_tools.rows import Builder, Fields, Row
-from nipakeel_tools.values import plain, spelled, to_bytes
+from nipakeel_tools.values import Value, plain, spelled, to_bytes
 
 # How text is written: bytes that are no UTF-8 as they are, and each newline as it stands.
 WRITTEN: Dict[str, str] = {"encoding": "utf-8", "errors": "surrogateescape", "newline": ""}
@@ -40,6 +41,8 @@ class Kept:
         self.empty: Set[str] = set()
         # Of nodes, the indexes that the graph has.
         self.indexes: Sequence[Pair] = ()
+        # The types as which keys are written that a store has no type for.
+        self.kinds: Dict[str, str] = {}
 
     def add(self, elements: Sequence[Element]) -> None:
         for it in elements:
@@ -49,6 +52,17 @@ class Kept:
                     self.empty.add(key)
             self.file.write(json_line(it).encode())
         self.count += len(elements)
+
+    def text_of(self, it: Dict[str, Any], key: str) -> str:
+        """A value of an element as a text, in the type of its key where that has one."""
+        value: Value = it["properties"][key]
+        if key not in self.kinds:
+            return plain(value)
+        try:
+            return writer_of(self.kinds[key])(value)
+        except Unlike as unlike:
+            said = self.kind[:-1]
+            raise Unfit(f"{said} {it[said]}: {key}: {unlike}") from None
 
     def lines(self) -> Iterable[bytes]:
         self.file.seek(0)
@@ -69,7 +83,28 @@ def json_line(it: Element) -> str:
 def write_json_lines(file: TextIO, nodes: Kept, edges: Kept) -> None:
     for kept in (nodes, edges):
         for line in kept.lines():
+            if kept.kinds:
+                it = json.loads(line)
+                words = {key: json.dumps(value) for key, value in it.items() if key != "properties"}
+                line = (json_object({**words, "properties": json_properties(kept, it)}) + "\n").encode()
             file.write(line.decode())
+
+
+def json_object(members: Dict[str, str]) -> str:
+    """An object whose values are JSON already."""
+    return "{" + ",".join(f"{json.dumps(key)}:{value}" for key, value in members.items()) + "}"
+
+
+def json_properties(kept: Kept, it: Dict[str, Any]) -> str:
+    return json_object({key: json_value(kept, it, key) for key in it["properties"]})
+
+
+def json_value(kept: Kept, it: Dict[str, Any], key: str) -> str:
+    """A value as JSON, in the type of its key: a decimal is a number with a point."""
+    if key not in kept.kinds:
+        return json.dumps(it["properties"][key])
+    text = kept.text_of(it, key)
+    return json.dumps(text) if kept.kinds[key] == DATE else text
 
 
 # --- lines of the program
@@ -138,17 +173,19 @@ def field(text: str) -> str:
     return '"' + text.replace('"', '""') + '"' if QUOTED_FIELD.search(text) else text
 
 
-def columns(kept: Kept) -> Iterator[Tuple[str, str, Callable[[Any], str]]]:
-    """The columns of properties, as key, header and how a value is put. A field without characters is no property, so
-    an empty text needs a column of all types."""
+def columns(kept: Kept) -> Iterator[Tuple[str, str, bool]]:
+    """The columns of properties, as key, header and whether values are spelled. A field without characters is no property,
+    so an empty text needs a column of all types."""
     for key in sorted(kept.types):
         types = kept.types[key]
-        if len(types) > 1 or key in kept.empty:
-            yield key, f"{key}:value", spelled
+        if key in kept.kinds:
+            yield key, f"{key}:{kept.kinds[key]}", False
+        elif len(types) > 1 or key in kept.empty:
+            yield key, f"{key}:value", True
         elif types == {str}:
-            yield key, f"{key}:text" if key in COLUMNS[kept.kind] else key, plain
+            yield key, f"{key}:text" if key in COLUMNS[kept.kind] else key, False
         else:
-            yield key, f"{key}:{'bool' if types == {bool} else 'int'}", plain
+            yield key, f"{key}:{'bool' if types == {bool} else 'int'}", False
 
 
 def write_table(file: TextIO, kept: Kept) -> None:
@@ -158,7 +195,7 @@ def write_table(file: TextIO, kept: Kept) -> None:
     for it in kept.elements():
         has = it["properties"]
         row = [str(it[word]) for word in words]
-        row += [field(put(has[key])) if key in has else "" for key, _, put in made]
+        row += [field(spelled(has[key]) if spells else kept.text_of(it, key)) if key in has else "" for key, _, spells in made]
         file.write(",".join(row) + "\n")
 
 
@@ -171,16 +208,17 @@ def write_graphml(file: TextIO, nodes: Kept, edges: Kept) -> None:
     for kind, word in (("nodes", "labelV"), ("edges", "labelE")):
         write_key(file, word, kind, word, "string")
         for (key, of), id in keys[kind].items():
-            write_key(file, id, kind, key, TYPES[of])
+            decimal = DECIMAL.fullmatch((nodes if kind == "nodes" else edges).kinds.get(key, ""))
+            write_key(file, id, kind, key, "double" if decimal else TYPES[of])
     file.write('<graph id="G" edgedefault="directed">\n')
     for it in nodes.elements():
         file.write(f'<node id="n{it["node"]}"><data key="labelV">{it["label"]}</data>')
-        write_data(file, it, f"node {it['node']}", keys["nodes"])
+        write_data(file, nodes, it, f"node {it['node']}", keys["nodes"])
         file.write("</node>\n")
     for it in edges.elements():
         ends = f'source="n{it["from"]}" target="n{it["to"]}"'
         file.write(f'<edge id="e{it["edge"]}" {ends}><data key="labelE">{it["type"]}</data>')
-        write_data(file, it, f"edge {it['edge']}", keys["edges"])
+        write_data(file, edges, it, f"edge {it['edge']}", keys["edges"])
         file.write("</edge>\n")
     file.write("</graph>\n</graphml>\n")
 
@@ -198,9 +236,9 @@ def write_key(file: TextIO, id: str, kind: str, title: str, of: str) -> None:
     file.write(f'<key id="{id}" for="{kind[:-1]}" attr.name={quoteattr(title)} attr.type="{of}"/>\n')
 
 
-def write_data(file: TextIO, it: Dict[str, Any], said: str, ids: Dict[Tuple[str, type], str]) -> None:
+def write_data(file: TextIO, kept: Kept, it: Dict[str, Any], said: str, ids: Dict[Tuple[str, type], str]) -> None:
     for key, value in it["properties"].items():
-        text = plain(value)
+        text = kept.text_of(it, key)
         found = NO_XML.search(text)
         if found:
             raise Unfit(f"{said}: the text of {key} has {found[0]!a}, which no XML has; CSV and JSON lines can have it")
