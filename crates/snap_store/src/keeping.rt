@@ -7,9 +7,8 @@ ghost use Rattle.rec_bytes.specs.declared.key.Key.{Key as AKey};
 ghost use Rattle.rec_bytes.specs.Key.{IsKey};
 ghost use Rattle.rec_bytes.specs.Pairs.{find_pair, growth};
 ghost use Rattle.rec_bytes.specs.Space.{laid_over};
-ghost use Rattle.snap_store.specs.Keeping.{OnlyOlds, SameReaders, lacked};
+ghost use Rattle.snap_store.specs.Keeping.{EndsFor, OnlyOlds, SameReaders, lacked};
 ghost use Rattle.snap_store.specs.Layers.{any_open, is_open, most_kept, sees, total, youngest};
-ghost use Rattle.snap_store.specs.Snaps.{with_room};
 ghost use Rattle.snap_store.specs.Sums.{AreCovered, EndsOverfull, risen};
 
 use crate::pending::Pending;
@@ -106,8 +105,7 @@ pub fn keep_old<P: Pending>(snaps: &mut Snaps, space: &mut P) -> Result<(), Disk
         ≡ sees snaps.old.open_ones reader (P.committed space.old)) }
 
     // Which have ended, and that each of them had a sum of weights that passes the bound.
-    ensures ended { SameReaders (with_room (lacked (P.pending space.old) snaps.old.open_ones)
-        snaps.old.open_ones snaps.old.ended) snaps.new }
+    ensures ended { EndsFor (P.pending space.old) snaps.old snaps.new }
     ensures overfull { (sums : ℕ → ℕ) (weight : ℕ) → length (P.pending space.old) ≤ weight
         → AreCovered sums snaps.old.open_ones
         → EndsOverfull weight sums snaps.old.open_ones snaps.new.open_ones }
