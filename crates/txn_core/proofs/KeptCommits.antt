@@ -14,8 +14,8 @@ use Rattle.record_file.specs.Redone.{Redoes}
 use Rattle.redo_log.specs.Appending.{SameButEntry}
 use Rattle.record_file.specs.Unique.{Redoes-unique}
 use Rattle.snap_store.specs.Layers.{Layers, is_open, sees}
-use Rattle.snap_store.specs.Keeping.{KeepsHeld, SameReaders}
-use Rattle.snap_store.specs.Snaps.{Snapshots, with_room}
+use Rattle.snap_store.specs.Keeping.{KeepsHeld}
+use Rattle.snap_store.specs.Snaps.{Snapshots}
 use Rattle.snap_store.specs.Sums.{AreCovered, EndsOverfull, risen}
 use Rattle.txn_core.specs.Committed.{OnlyReadsStore}
 use Rattle.txn_core.specs.Kept.{FitsCommit, IsOnDisk}
@@ -83,9 +83,10 @@ module _ {D : Type 0} {g : Ghosts D} where
     doubt_on doubt = record { failed = doubt.failed; stored = either_on_disk t.base.disk.now (committed m) (committed s) (working m) (working s) same working_is doubt.stored }
 
     -- what was read, and then not called, is what it was
-    pub dropped_on : t.base.disk.now ≡ m.base.disk.now → IsOnDisk g t.base.disk.now (λ left. Redoes left (committed m)) → IsTrue t.base.live → IsDropped s.base t.base
-    dropped_on is stored live = record {
+    pub dropped_on : t.base.disk.now ≡ m.base.disk.now → IsOnDisk g t.base.disk.now (λ left. Redoes left (committed m)) → IsTrue t.base.live → committed t ≡ committed m → IsDropped s.base t.base
+    dropped_on is stored live space = record {
       reads = subst (λ (now : D). OnlyReads g s.base.disk.now now) (sym is) reads.base.disk;
+      space = space ∙ same;
       stored = on_disk t.base.disk.now (committed m) (committed s) same stored;
       live = live;
     }
@@ -142,10 +143,9 @@ module _ {D : Type 0} {g : Ghosts D} where
         sights_commit (Err e) done failed = sights_in_doubt (doubt_on failed).stored
 
 -- what keeping old records leaves of the snapshots
-pub held_by : (weight count : ℕ) (old new : Snapshots) → SameReaders (with_room count old.open_ones old.ended) new
-    → ((sums : ℕ → ℕ) → AreCovered sums old.open_ones → EndsOverfull weight sums old.open_ones new.open_ones)
+pub held_by : (weight : ℕ) (old new : Snapshots) → ((sums : ℕ → ℕ) → AreCovered sums old.open_ones → EndsOverfull weight sums old.open_ones new.open_ones)
     → ((sums : ℕ → ℕ) → AreCovered sums old.open_ones → AreCovered (risen weight sums) new.open_ones) → KeepsHeld weight old new
-held_by weight count old new ended overfull covered = record { count = count; ended = ended; overfull = overfull; covered = covered }
+held_by weight old new overfull covered = record { overfull = overfull; covered = covered }
 
 rose_on : (before mid now : ℕ) → before ≤ mid → Rose mid now → Rose before now
 rose_on before mid now early rose = omega (arith, early, rose)

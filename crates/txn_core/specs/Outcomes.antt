@@ -41,6 +41,7 @@ module _ {D : Type 0} {g : Ghosts D} where
   -- has what was committed, alone. The store still serves commits.
   pub record IsDropped (old new : Base D g) : Type 0 where
     pub reads : OnlyReads g old.disk.now new.disk.now
+    pub space : committed new ≡ committed old
     pub stored : IsOnDisk g new.disk.now (λ left. Redoes left (committed old))
     pub live : IsTrue new.live
 

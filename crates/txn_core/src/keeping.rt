@@ -5,8 +5,7 @@ ghost use Rattle.fault_count.specs.Cause.{HasCause};
 ghost use Rattle.disk_model.specs.Spans.{AtEachMoment};
 ghost use Rattle.record_file.specs.Redone.{Redoes};
 ghost use Rattle.redo_log.specs.Appending.{SameButEntry};
-ghost use Rattle.snap_store.specs.Keeping.{KeepsHeld, SameReaders, lacked};
-ghost use Rattle.snap_store.specs.Snaps.{with_room};
+ghost use Rattle.snap_store.specs.Keeping.{EndsFor, KeepsHeld};
 
 use crate::Store;
 use disk_model::Disk;
@@ -35,8 +34,7 @@ impl<'d, D: Disk> Store<'d, D> {
 
         // The oldest snapshots end exactly where the old records that the youngest lacks have no
         // room beside those that are kept.
-        ensures ended { SameReaders (with_room (lacked self.old.base.own.pairs snaps.old.open_ones)
-            snaps.old.open_ones snaps.old.ended) snaps.new }
+        ensures ended { EndsFor self.old.base.own.pairs snaps.old snaps.new }
 
         // The rest is that of a commit.
         ensures crash { D.tells_reads → D.tells_images
@@ -76,6 +74,7 @@ impl<'d, D: Disk> Store<'d, D> {
         ensures stored { IsOnDisk D.Disk self.new.base.disk.now
             (λ left. Redoes left (committed self.old)) }
         ensures live { IsTrue self.new.base.live }
+        ensures committed { committed self.new ≡ committed self.old }
         ensures same_disk { self.new.base.disk.now ≡ self.old.base.disk.now }
         ensures closed { self.new.base.in_transaction ≡ false }
         ensures own { self.new.base.own.pairs ≡ [] }

@@ -1,6 +1,5 @@
 use Rattle.std.proofs.Common.{inl, inr}
 use Rattle.std.proofs.lemmas.Result.{on_err_weaker, on_ok_weaker}
-use Rattle.snap_store.specs.Keeping.{lacked}
 use Rattle.txn_core.specs.Store.{committed}
 use Rattle.txn_core.proofs.KeptCommits.{alone_on, alone_read, cause_on, crash_on, crash_read, doubt_on, dropped_on, held_by, on_disk, sights_before, sights_commit, written_on}
 use Rattle.txn_core.proofs.store.Store.commit_kept.Goals as goal
@@ -13,16 +12,12 @@ returns-in-Ok-clause-sights g c =
 pub returns-in-Ok-clause-held : goal.returns-in-Ok-clause-held
 returns-in-Ok-clause-held g c = λ weight le.
     let kept = c.keep_old.ensures in
-    let s = c.args.self.now in
-    let old = c.args.snaps.now in
-    held_by weight (lacked s.base.own.pairs old.open_ones) old c.keep_old.new.snaps kept.ended (λ sums covered. kept.overfull sums weight le covered) (λ sums covered. kept.covered sums weight le covered)
+    held_by weight c.args.snaps.now c.keep_old.new.snaps (λ sums covered. kept.overfull sums weight le covered) (λ sums covered. kept.covered sums weight le covered)
 
 pub returns-in-Err-clause-held : goal.returns-in-Err-clause-held
 returns-in-Err-clause-held g c = λ weight le.
     let kept = c.keep_old.ensures in
-    let s = c.args.self.now in
-    let old = c.args.snaps.now in
-    held_by weight (lacked s.base.own.pairs old.open_ones) old c.keep_old.new.snaps kept.ended (λ sums covered. kept.overfull sums weight le covered) (λ sums covered. kept.covered sums weight le covered)
+    held_by weight c.args.snaps.now c.keep_old.new.snaps (λ sums covered. kept.overfull sums weight le covered) (λ sums covered. kept.covered sums weight le covered)
 
 pub returns-in-Ok-clause-crash : goal.returns-in-Ok-clause-crash
 returns-in-Ok-clause-crash g c =
@@ -57,7 +52,7 @@ returns-in-Err-clause-crash g c =
 pub returns-in-Err-clause-failed : goal.returns-in-Err-clause-failed
 returns-in-Err-clause-failed g c =
     let kept = c.keep_old.ensures in
-    inl (dropped_on c.args.self.now c.keep_old.new.space c.drop_transaction.new.self kept.space.onward kept.space.committed c.drop_transaction.ensures.same_disk c.drop_transaction.ensures.stored c.drop_transaction.ensures.live)
+    inl (dropped_on c.args.self.now c.keep_old.new.space c.drop_transaction.new.self kept.space.onward kept.space.committed c.drop_transaction.ensures.same_disk c.drop_transaction.ensures.stored c.drop_transaction.ensures.live c.drop_transaction.ensures.committed)
 
 pub returns-in-Ok-clause-alone : goal.returns-in-Ok-clause-alone
 returns-in-Ok-clause-alone g c =
