@@ -1,5 +1,5 @@
 -- A follower's records are a store with the sender's graph, as the sender's are.
-use Rattle.std.proofs.Common.{◌≡◌, ◌≢◌, ◌∙◌, ap, sym, subst, inl, inr, ℕ, zero, suc, ◌+◌, ◌<◌, ◌≤◌, Bool, true, false, cond, List, [], ◌∷◌, Option, None, Some, length, refl, arith}
+use Rattle.std.proofs.Common.{◌≡◌, ◌≢◌, ◌∙◌, ap, sym, subst, inl, inr, ℕ, zero, suc, ◌+◌, ◌<◌, ◌≤◌, Bool, true, cond, List, [], ◌∷◌, Option, None, Some, length, refl, arith}
 use mathlib.Core.Bool.{false≢true}
 use Rattle.std.specs.List.{slice_get}
 use Rattle.rec_bytes.specs.declared.key.Key.{Key}

@@ -1,9 +1,9 @@
 -- A follower that is opened over a store.
 use Rattle.std.proofs.Common.{◌≡◌, ◌∙◌, inr, ℕ, ◌≤◌, true, [], refl, sym, ap, subst, arith}
 use Rattle.fault_count.specs.Cause.{Rose}
-use Rattle.disk_model.specs.Spans.{OnlyReads}
+use Rattle.disk_model.specs.Spans.{IsAllSettled, OnlyReads}
 use Rattle.disk_model.specs.declared.disk.Disk.{Ghosts}
-use Rattle.disk_model.proofs.Spans.{CountsNow, at_each_moment_read}
+use Rattle.disk_model.proofs.Spans.{CountsNow, at_each_moment_read, only_reads_on}
 use Rattle.rec_bytes.specs.Record.{field}
 use Rattle.rec_bytes.specs.declared.key.Key.{Key}
 use Rattle.rec_bytes.specs.declared.record.Rec.{Rec}
@@ -12,7 +12,7 @@ use Rattle.record_file.specs.Redone.{Redoes}
 use Rattle.txn_core.specs.Base.{OnlyReadsBase}
 use Rattle.txn_core.specs.Config.{Suits}
 use Rattle.txn_core.specs.Kept.{IsOnDisk}
-use Rattle.txn_core.specs.Opening.{Opens}
+use Rattle.txn_core.specs.Opening.{HasOpeningEntry, Opens}
 use Rattle.txn_core.specs.Store.{committed, drafted}
 use Rattle.txn_core.specs.declared.config.Config.{Config}
 use Rattle.txn_core.specs.declared.store.Store.{Store}
@@ -20,7 +20,7 @@ use Rattle.txn_core.specs.declared.open_fault.OpenFault.TheVariants as opening
 use Rattle.txn_core.specs.Shipped.{taken_key}
 use Rattle.follower.specs.Follower.{IsOpened, IsUnopened, LeavesByOpening}
 use Rattle.follower.specs.Taken.{number_in}
-use Rattle.txn_core.proofs.Finding.{opens-recoverable}
+use Rattle.txn_core.proofs.Finding.{opens-recoverable, settled_read}
 use Rattle.txn_core.proofs.StoreRecords.{committed-read, drafted-committed}
 use Rattle.follower.proofs.StoreRecords.{stored-read}
 
@@ -31,6 +31,7 @@ leaves-read g config old mid new counts leaves reads more =
     record {
       made = λ told images space shape redoes is. at_each_moment_read g old mid new _ counts images (leaves.made told images space shape redoes is) reads;
       unmade = λ told images unmade. at_each_moment_read g old mid new _ counts images (leaves.unmade told images unmade) reads;
+      clean = λ told clean. only_reads_on g old mid new (leaves.clean told clean) reads;
       later = omega arith;
     }
 
@@ -40,9 +41,10 @@ number-read s t rec have reads own draft got is =
     is ∙ ap (λ (r : Rec). field 8 r 0) (got ∙ ap (λ (records : Key → Rec). records taken_key) (drafted-committed s own draft ∙ sym (committed-read s.base t.base reads)))
 
 pub opened_is : {D : Type 0} (g : Ghosts D) (config : Config) (old : D) (s t : Store D g) (have : ℕ) → CountsNow g → LeavesByOpening g config old s.base.disk.now → (g.tells_reads → Opens (g.reads old) config s.base.shape (committed s))
-    → Suits config s.base.shape → IsOnDisk g s.base.disk.now (λ left. Redoes left (committed s)) → OnlyReadsBase s.base t.base → g.faults s.base.disk.now ≤ g.faults t.base.disk.now → (g.tells_reads → have ≡ number_in (committed t))
+    → Suits config s.base.shape → IsOnDisk g s.base.disk.now (λ left. Redoes left (committed s)) → (g.tells_reads → g.tells_images → IsAllSettled g s.base.disk.now)
+    → (g.tells_reads → HasOpeningEntry (g.reads old) s.base.shape (g.reads s.base.disk.now)) → OnlyReadsBase s.base t.base → g.faults s.base.disk.now ≤ g.faults t.base.disk.now → (g.tells_reads → have ≡ number_in (committed t))
     → IsOpened g config old (record { disk = t.base.disk.now; shape = t.base.shape; records = committed t; have = have; live = true })
-opened_is g config old s t have counts leaves opens suits stored reads more number =
+opened_is g config old s t have counts leaves opens suits stored settled log reads more number =
     let same = committed-read s.base t.base reads in
     record {
       leaves = leaves-read g config old s.base.disk.now t.base.disk.now counts leaves reads.disk more;
@@ -50,6 +52,10 @@ opened_is g config old s t have counts leaves opens suits stored reads more numb
       suits = subst (Suits config) (sym reads.shape) suits;
       have = number;
       stored = stored-read g s.base.disk.now t.base.disk.now (λ left. Redoes left (committed t)) reads.disk (subst (λ (records : Key → Rec). IsOnDisk g s.base.disk.now (λ left. Redoes left records)) (sym same) stored);
+      settled = λ told images. settled_read g s.base.disk.now t.base.disk.now reads.disk images (settled told images);
+      log = λ told.
+          subst (λ (shape : Shape). HasOpeningEntry (g.reads old) shape (g.reads t.base.disk.now)) (sym reads.shape)
+          (subst (HasOpeningEntry (g.reads old) s.base.shape) (λ i file place. sym (reads.disk.keeps file place) i) (log told));
       live = refl;
     }
 
@@ -62,6 +68,7 @@ unopened_is g config old mid new counts leaves reads more rose shape space opens
   unmade = λ told unmade. tt;
   no_memory = λ memory. absurd cc;
   untouched = λ told refusal. absurd refusal;
+  differs = λ told space redoes other. absurd other;
   careful = λ told. inr (opens-recoverable (g.reads old) config shape space (opens told));
   cause = λ e. let before = leaves.later in omega (arith, before, rose);
 }

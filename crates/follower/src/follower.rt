@@ -1,6 +1,7 @@
 ghost use Rattle.std.specs.Prelude.{◌≡◌, ◌↔◌, IfErr, IfOk, IsTrue, false, true};
 ghost use Rattle.rec_bytes.specs.Shape.{is_allowed};
 ghost use Rattle.txn_core.specs.Config.{shape_of};
+ghost use Rattle.txn_core.specs.Kept.{kept_pages};
 ghost use Rattle.txn_core.specs.Store.{committed};
 ghost use Rattle.txn_core.specs.declared.health.Health.TheVariants as healths;
 ghost use Rattle.follower.specs.Follower.{Accepts, IsNextFor, IsOpened, IsUnopened, Reopens};
@@ -46,6 +47,9 @@ impl<'d, D: Disk> Follower<'d, D> {
             (λ refusal. IsUnopened D.Disk config disk.old refusal.disk.now refusal.why) }
         ensures same_disk { IfOk result
             (λ follower. follower.store.base.disk.ghost_name ≡ disk.entry.ghost_name) }
+
+        // There is room for so many pages of records, as in a store.
+        ensures pages { IfOk result (λ follower. follower.store.base.cache.cap ≡ kept_pages) }
         ensures handed_back { IfErr result
             (λ refusal. refusal.disk.ghost_name ≡ disk.entry.ghost_name) }
     {

@@ -12,9 +12,10 @@ returns-in-Ok-get-clause-opened g c =
     let leaves : LeavesByOpening g.D.Disk c.args.config c.args.disk.now c.in-Ok.store.base.disk.now = record {
       made = λ reads images space shape redoes is. c.in-Ok.ensures.crash reads images space shape redoes is;
       unmade = λ reads images unmade. c.in-Ok.ensures.crash_new reads images unmade;
+      clean = λ reads clean. c.in-Ok.ensures.clean reads clean;
       later = c.in-Ok.ensures.later;
     } in
-    opened_is g.D.Disk c.args.config c.args.disk.now store now c.wide.result g.met.D.Disk.counts_now leaves c.in-Ok.ensures.opened c.in-Ok.ensures.suits c.in-Ok.ensures.stored c.get.ensures.onward c.get.ensures.cause.later
+    opened_is g.D.Disk c.args.config c.args.disk.now store now c.wide.result g.met.D.Disk.counts_now leaves c.in-Ok.ensures.opened c.in-Ok.ensures.suits c.in-Ok.ensures.stored c.in-Ok.ensures.settled c.in-Ok.ensures.log c.get.ensures.onward c.get.ensures.cause.later
     (λ reads. number-read store now c.in-Ok-get.rec c.wide.result c.get.ensures.onward c.in-Ok.ensures.own c.in-Ok.ensures.draft (c.in-Ok-get.ensures.got reads) c.wide.ensures)
 
 pub returns-in-Err-get-clause-unopened : goal.returns-in-Err-get-clause-unopened
@@ -24,6 +25,7 @@ returns-in-Err-get-clause-unopened g c =
     let leaves : LeavesByOpening g.D.Disk c.args.config c.args.disk.now c.in-Ok.store.base.disk.now = record {
       made = λ reads images space shape redoes is. c.in-Ok.ensures.crash reads images space shape redoes is;
       unmade = λ reads images unmade. c.in-Ok.ensures.crash_new reads images unmade;
+      clean = λ reads clean. c.in-Ok.ensures.clean reads clean;
       later = c.in-Ok.ensures.later;
     } in
     subst (λ (d : _). IsUnopened disk c.args.config c.args.disk.now d opening.Disk) (sym c.close.ensures.disk)
