@@ -9,7 +9,7 @@ use rec_bytes::{INDEX, LOG, META, NAMES, NODES, RELATIONSHIPS};
 use std::alloc::{AllocError, Global};
 use std::process::Abort;
 use std::test::Fail;
-use txn_core::{Config, Health, OpenFault};
+use txn_core::{AgainFault, Config, Health, OpenFault};
 
 const CONFIG: Config = Config {
     threshold: None,
@@ -82,6 +82,76 @@ fn a_follower_takes_shipments_in_order(rt: HostRuntime) -> Result<(), Fail> {
     let mut left = left_of(rt.alloc(), &disk, Crash::Old, None)?;
     let again = open(rt.alloc(), &mut left)?;
     assert!(rt; again.have() == 2);
+    Ok(())
+}
+
+/// Stops a follower in each call of the disk that its first shipment makes, and in none, and opens
+/// what this loss of power leaves. It has the shipment where the stop came in the call `first` or
+/// later.
+fn check_stops(rt: &impl Abort, alloc: Global, choice: Crash, first: u64) -> Result<(), Fail> {
+    let bytes = shipment(alloc, 1, &[(NODES, 0), (NAMES, 1)])?;
+    for stop in 27..32 {
+        let mut disk = new_disk(alloc, &[], Some(stop))?;
+        let mut follower = open(alloc, &mut disk)?;
+        let answer = deliver(rt, &mut follower, &bytes);
+        let _ = Box::into_inner(follower).close();
+        let wanted = if stop == 31 {
+            Accept::Applied { number: 1 }
+        } else {
+            Accept::Disk
+        };
+        assert!(rt; answer == wanted, "{choice:?} at call {stop}");
+        let mut left = left_of(alloc, &disk, choice, None)?;
+        let again = open(alloc, &mut left)?;
+        let have = if stop < first { 0 } else { 1 };
+        assert!(rt; again.have() == have, "{choice:?} at call {stop}");
+        let _ = Box::into_inner(again).close();
+    }
+    Ok(())
+}
+
+#[test]
+fn a_stopped_shipment_is_whole_or_nothing(rt: HostRuntime) -> Result<(), Fail> {
+    // The crash, and the first call whose stop leaves the shipment, as for a commit.
+    for (choice, first) in [(Crash::Old, 31), (Crash::New, 30), (Crash::Fill(1), 29)] {
+        check_stops(&rt, rt.alloc(), choice, first)?;
+    }
+    Ok(())
+}
+
+#[test]
+fn a_failed_shipment_is_found_again(rt: HostRuntime) -> Result<(), Fail> {
+    // The call of the shipment that fails, whether the first call after it fails too, and the number
+    // that the follower then has.
+    let table = [(27, false, 0), (28, true, 0), (29, false, 0), (30, true, 1)];
+    let bytes = shipment(rt.alloc(), 1, &[(NODES, 0), (NAMES, 1)])?;
+    for (call, twice, have) in table {
+        let next = if twice { call + 1 } else { call };
+        let mut disk = new_disk(rt.alloc(), &[call, next], None)?;
+        let mut follower = open(rt.alloc(), &mut disk)?;
+        assert!(rt;
+            deliver(&rt, &mut follower, &bytes) == Accept::Disk,
+            "call {call}"
+        );
+        assert!(rt; follower.health() == Health::Failed, "call {call}");
+        if twice {
+            assert!(rt; follower.reopen() == Err(AgainFault::Disk), "call {call}");
+        }
+        assert!(rt;
+            follower.reopen() == Ok(()) && follower.have() == have,
+            "call {call}"
+        );
+        let wanted = if have == 0 {
+            Accept::Applied { number: 1 }
+        } else {
+            Accept::Old { have }
+        };
+        assert!(rt;
+            deliver(&rt, &mut follower, &bytes) == wanted,
+            "call {call}"
+        );
+        let _ = Box::into_inner(follower).close();
+    }
     Ok(())
 }
 

@@ -1,9 +1,9 @@
 //! Stores of older versions, which an opening brings to the newest one.
 use crate::quiet_disk::QuietDisk;
-use crate::stores::{OLDER, byte_at, checkpoint, close, left_of, new_disk, open};
+use crate::stores::{byte_at, checkpoint, close, left_of, new_disk, older, open};
 use disk_model::{Crash, Disk};
 use rec_bytes::{
-    INDEX, Key, LOG, META, Meta, NAMES, NODES, OWN_KEY, RELATIONSHIPS, Reads, Rec, meta_key,
+    INDEX, Key, LOG, Meta, NAMES, NODES, OWN_KEY, RELATIONSHIPS, Reads, Rec, meta_key,
 };
 use std::alloc::Global;
 use std::process::Abort;
@@ -21,8 +21,7 @@ fn older_disk(
     let mut store = open(alloc, &mut disk)?;
     assert!(rt; checkpoint(rt, &mut store) == Ok(()));
     let _ = close(store);
-    disk.poke_all(OLDER);
-    disk.poke_all(&[(META, 4, version)]);
+    disk.poke_all(&older(version));
     Ok(left_of(alloc, &disk, Crash::New, stop)?)
 }
 

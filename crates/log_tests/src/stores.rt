@@ -8,6 +8,7 @@ use rec_bytes::{
     Damage, DiskFault, GROUPS, INDEX, Key, LOG, META, Meta, NAMES, NIL, NODES, RELATIONSHIPS,
     Reads, Rec, STRINGS, Space, meta_key,
 };
+use snap_store::Snaps;
 use std::alloc::{AllocError, Global};
 use std::process::Abort;
 use std::test::Fail;
@@ -374,13 +375,60 @@ fn each_call_of_the_disk_may_fail(rt: HostRuntime) -> Result<(), Fail> {
     let table = [
         (27, 29, [true, false, false], 0),
         (30, 30, [true, false, false], 1),
-        (31, 52, [false, true, false], 1),
-        (53, 75, [false, false, true], 1),
+        (31, 46, [false, true, false], 1),
+        (47, 69, [false, false, true], 1),
     ];
     for (first, last, step, count) in table {
         for call in first..=last {
             let found = try_failing(&rt, rt.alloc(), call)?;
             assert!(rt; found == (step, Some(count)), "call {call}");
+        }
+    }
+    Ok(())
+}
+
+/// Commits four records of a new store for which a snapshot is open, while this call of the disk
+/// fails. Says what the store is then, and of which transaction it has the records once it serves
+/// commits. The snapshot sees none of them.
+fn try_keeping(rt: &impl Abort, alloc: Global, call: u64) -> Result<(Health, Option<u8>), Fail> {
+    let mut disk = new_disk(alloc, &[call], None)?;
+    let mut store = open(alloc, &mut disk)?;
+    let mut snaps = Snaps::new(alloc);
+    assert!(rt; !snaps.is_open(1));
+    snaps.take(1)?;
+    assert!(rt; store.health() == Health::Live && !store.in_transaction());
+    store.begin();
+    put_all(rt, &mut store, 1, FOUR);
+    assert!(rt; store.in_transaction());
+    assert!(rt; store.keep() == Ok(()));
+    assert!(rt; store.health() == Health::Live && store.in_transaction());
+    assert!(rt; store.commit_kept(&mut snaps).is_err(), "call {call}");
+    let health = store.health();
+    if health == Health::Failed {
+        assert!(rt; recover_again(rt, &mut store) == Ok(()), "call {call}");
+    }
+    let count = shown(rt, &mut store, FOUR);
+    assert!(rt; snaps.is_open(1), "call {call}");
+    let mut committed = Committed { store: &mut store };
+    let mut view = snaps.view(1, &mut committed);
+    assert!(rt; view.meta(NODES) == Meta::EMPTY, "call {call}");
+    let _ = close(store);
+    Ok((health, count))
+}
+
+#[test]
+fn a_commit_that_keeps_fails_as_it_reads_or_writes(rt: HostRuntime) -> Result<(), Fail> {
+    // The calls that fail, and the health of the store. Two pages are read, and then an entry is
+    // appended in four calls.
+    let table = [
+        (27, 28, Health::Live, 0),
+        (29, 31, Health::Failed, 0),
+        (32, 32, Health::Failed, 1),
+    ];
+    for (first, last, health, count) in table {
+        for call in first..=last {
+            let found = try_keeping(&rt, rt.alloc(), call)?;
+            assert!(rt; found == (health, Some(count)), "call {call}");
         }
     }
     Ok(())
@@ -481,18 +529,20 @@ fn a_full_log_is_emptied_by_a_commit(rt: HostRuntime) -> Result<(), Fail> {
     Ok(())
 }
 
-/// The version 1 where a store has the newest, and no meta record of the index.
-pub(crate) const OLDER: &[(u8, u64, u8)] = &[
-    (META, 4, 1),
-    (META, 516, 0),
-    (META, 517, 0),
-    (META, 518, 0),
-    (META, 519, 0),
-    (META, 524, 0),
-    (META, 525, 0),
-    (META, 526, 0),
-    (META, 527, 0),
-];
+/// This version where a store has the newest, and no meta record of the index.
+pub(crate) fn older(version: u8) -> [(u8, u64, u8); 9] {
+    [
+        (META, 4, version),
+        (META, 516, 0),
+        (META, 517, 0),
+        (META, 518, 0),
+        (META, 519, 0),
+        (META, 524, 0),
+        (META, 525, 0),
+        (META, 526, 0),
+        (META, 527, 0),
+    ]
+}
 
 /// A failed store whose disk then is given these bytes is recovered.
 fn recover_poked(
@@ -500,9 +550,9 @@ fn recover_poked(
     alloc: Global,
     pokes: &[(u8, u64, u8)],
 ) -> Result<Result<(), AgainFault>, Fail> {
-    // The calls of the opening and of a checkpoint of eight records. The next one fails.
+    // The calls of the opening, and of a checkpoint of eight records in two runs. The next one fails.
     let mut disk = TurnedDisk::new(
-        new_disk(alloc, &[46], None)?,
+        new_disk(alloc, &[40], None)?,
         Vec::from_slice(alloc, pokes)?,
     );
     let mut store = open(alloc, &mut disk)?;
@@ -516,11 +566,13 @@ fn recover_poked(
 #[test]
 fn another_content_is_not_recovered(rt: HostRuntime) -> Result<(), Fail> {
     let damaged = |file, id, rule| Err(AgainFault::Damaged(Damage { file, id, rule }));
-    let cases: [(&str, &[(u8, u64, u8)], Result<(), AgainFault>); 7] = [
+    let (first, second) = (older(1), older(2));
+    let cases: [(&str, &[(u8, u64, u8)], Result<(), AgainFault>); 8] = [
         ("as it was", &[], Ok(())),
         ("no mark", &[(META, 0, 0)], damaged(META, 0, 1)),
         ("another threshold", &[(META, 6, 51)], damaged(META, 0, 1)),
-        ("an older version", OLDER, damaged(META, 0, 1)),
+        ("version 1", &first, damaged(META, 0, 1)),
+        ("version 2", &second, damaged(META, 0, 1)),
         (
             "a byte after the first definition",
             &[(META, 528, 1)],
