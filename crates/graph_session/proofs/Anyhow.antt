@@ -9,13 +9,15 @@ use Rattle.plain_graph.specs.Lines.{IsQuestion, kind_of}
 use Rattle.plain_graph.specs.Reply.{Reply}
 use Rattle.plain_graph.specs.declared.command.Command.{Command}
 use Rattle.plain_graph.specs.declared.command.Command.TheVariants as commands
+use Rattle.rec_bytes.specs.Pairs.{Pairs}
 use Rattle.graph_session.specs.Answering.{reply_of}
 use Rattle.graph_session.specs.Console.{HasNoDraft, SessionView}
 use Rattle.graph_session.specs.Drafting.{IsStopped}
 use Rattle.graph_session.specs.Effects.{Stays}
 use Rattle.graph_session.specs.MayStep.{HasFailedChange, IsServed, MayAnswer, MayAnswerKind, MayBound, MayChange, MayKeep, MayRead, MayStep, TellsMade}
-use Rattle.graph_session.specs.ReaderAnswers.{AsksQuestion, MayEnd, MayServeReader, MayStepAs}
+use Rattle.graph_session.specs.ReaderAnswers.{AsksQuestion, IsWrittenBy, MayEnd, MayServeReader, MayStepAs}
 use Rattle.graph_session.specs.Refusals.{SpellsOnly}
+use Rattle.graph_session.specs.State.{SpellsLine}
 use Rattle.graph_session.specs.SharedExchange.{AsksForSnapshot}
 use Rattle.graph_session.specs.SnapshotEffects.{KeepsBound, KeepsFor, KeepsKind, KeepsOlds, SharedView}
 use Rattle.graph_session.specs.declared.answer.Answer.{Answer}
@@ -141,22 +143,28 @@ module _ {D : Type 0} {g : Ghosts D} {reply : Reply} (old new : SharedView D) wh
       unasked : ¬ IsQuestion command → ¬ AsksQuestion (Whole line)
       unasked none (c, spelled, asks) = none (subst IsQuestion (only.only c spelled) asks)
 
-      kept : ¬ IsQuestion command → (weight : ℕ) → KeepsFor g old reply new weight → MayEnd g old reply new (Whole line)
-      kept none weight done = inr (done.ends, unasked none, weight, done.held)
+      kept : ¬ IsQuestion command → (written : Pairs) → IsWrittenBy g old reply new (Whole line) written → KeepsFor g old reply new written → MayEnd g old reply new (Whole line)
+      kept none written by done = inr (done.ends, unasked none, written, by, done.ended, done.held (length written) (omega arith))
 
-      bound : (c : Command) → ¬ IsQuestion command → KeepsBound g old reply new c → MayEnd g old reply new (Whole line)
-      bound commands.Commit none (inl (same, closed)) = inl same
-      bound commands.Commit none (inr (opened, done)) = kept none (length old.session.console.written) (done (length old.session.console.written) (omega arith))
-      bound c none same = inl same
+      bound : (c : Command) → command ≡ c → ¬ IsQuestion command → KeepsBound g old reply new c → MayEnd g old reply new (Whole line)
+      bound commands.Commit is none (inl (same, closed)) = inl same
+      bound commands.Commit is none (inr (opened, done)) =
+          kept none old.session.console.written (inl (subst (λ (c : Command). SpellsLine (Whole line) c) is only.spelled, opened, refl)) done
+      bound c is none same = inl same
+
+      -- a change is no commit
+      uncommitted : kind_of command ≡ Change → ¬ SpellsLine (Whole line) commands.Commit
+      uncommitted change spelled = let clash : Bound ≡ Change = ap kind_of (only.only commands.Commit spelled) ∙ change in cc
 
       by : (kind : Kind) → kind_of command ≡ kind → KeepsKind g old reply new kind command → MayEnd g old reply new (Whole line)
       by Blanks is same = inl same
       by Ending is same = inl same
-      by Bound is done = bound command (λ asks. subst AreQuestions is asks) done
+      by Bound is done = bound command refl (λ asks. subst AreQuestions is asks) done
       by Upkeep is same = inl same
       by Sight is same = inl same
       by Change is (inl (same, none)) = inl same
-      by Change is (inr (closed, more, done, weighs)) = kept (λ asks. subst AreQuestions is asks) (start_weight + more) done
+      by Change is (inr (closed, written, more, weighed, light, committed, done, weighs)) =
+          kept (λ asks. subst AreQuestions is asks) written (inr (uncommitted is, closed, start_weight + more, weighed, light, committed)) done
       by Question is same = inl same
 
   -- a line of the session that writes, which asks for no snapshot

@@ -5,7 +5,7 @@ use Rattle.fault_count.specs.Cause.{Rose}
 use Rattle.disk_model.specs.Contents.{Files}
 use Rattle.disk_model.specs.Spans.{AtEachMoment, OnlyReads}
 use Rattle.disk_model.specs.declared.disk.Disk.{Ghosts}
-use Rattle.disk_model.proofs.Spans.{CountsNow, at_each_moment_read, at_each_moment_weaker}
+use Rattle.disk_model.proofs.Spans.{CountsNow, at_each_moment_read, at_each_moment_weaker, only_reads_on}
 use Rattle.plain_graph.specs.Graph.{Graph}
 use Rattle.rec_bytes.specs.Creation.{own_key, raised, raising_pairs}
 use Rattle.rec_bytes.specs.Format.{newest_version, taken_id, taken_rest}
@@ -26,7 +26,7 @@ use Rattle.txn_core.specs.Base.{OnlyReadsBase}
 use Rattle.txn_core.specs.Config.{Suits, shape_of}
 use Rattle.txn_core.specs.Kept.{IsOnDisk}
 use Rattle.txn_core.specs.Opening as opening
-use Rattle.txn_core.specs.Opening.{IsOldOrNew, IsOldOrRaised, IsRefusal, IsStore, IsWant, OnlyDiffers, made_over}
+use Rattle.txn_core.specs.Opening.{IsAskedOther, IsClean, IsOldOrNew, IsOldOrRaised, IsRefusal, IsStore, IsWant, OnlyDiffers, made_over}
 use Rattle.txn_core.specs.Store.{committed, content, drafted, state_of, working}
 use Rattle.txn_core.specs.declared.config.Config.{Config}
 use Rattle.txn_core.specs.declared.open_fault.OpenFault.{OpenFault}
@@ -189,6 +189,11 @@ unloaded-disk Memory e = cc
 unloaded-disk Disk e = refl
 unloaded-disk (Damaged damage) e = cc
 
+unloaded-asked : (fault : Fault) → ¬ IsAskedOther (unloaded fault)
+unloaded-asked Memory other = other
+unloaded-asked Disk other = other
+unloaded-asked (Damaged damage) other = other
+
 -- ---- a store whose names were loaded
 
 module _ {D : Type 0} {g : Ghosts D} (opened loaded : Store D g) (reads : OnlyReadsBase opened.base loaded.base) where
@@ -260,12 +265,16 @@ pub record OpensStore {D : Type 0} (g : Ghosts D) (config : Config) (old : D) (s
   pub draft : store.draft.pairs ≡ []
   pub stored : IsOnDisk g store.base.disk.now (λ left. Redoes left (committed store))
   pub leaves : LeavesStore g config old store.base.disk.now
+  pub clean : g.tells_reads → IsClean (g.reads old) → OnlyReads g old store.base.disk.now
   pub later : g.faults old ≤ g.faults store.base.disk.now
 
 module _ {D : Type 0} {g : Ghosts D} (counts : CountsNow g) (config : Config) (old : D) (opened loaded : Store D g) (opens : OpensStore g config old opened) (reads : OnlyReadsBase opened.base loaded.base)
     (later : g.faults opened.base.disk.now ≤ g.faults loaded.base.disk.now) where
   loaded-leaves : LeavesByOpening g config old loaded.base.disk.now
   loaded-leaves = loading-leaves g config old opened.base.disk.now loaded.base.disk.now counts (opening-leaves g config old opened.base.disk.now opens.allowed opens.leaves) reads.disk
+
+  loaded-clean : g.tells_reads → IsClean (g.reads old) → OnlyReads g old loaded.base.disk.now
+  loaded-clean told clean = only_reads_on g old opened.base.disk.now loaded.base.disk.now (opens.clean told clean) reads.disk
 
   store-of : (known : Bool) → ((as_known known g).tells_reads → StandsForOne (as_known known g) old) → (as_known known g).tells_reads → IsIndexed (committed opened) opened.base.shape
   store-of known stands told = let one = stands told in opened-store (g.reads old) config opened.base.shape (committed opened) opens.allowed (opens.opened (told_of known g told)) one.shape one.graph one.stands
@@ -314,6 +323,7 @@ module _ {D : Type 0} {g : Ghosts D} (counts : CountsNow g) (config : Config) (o
     recoverable = λ told. opens-recoverable (g.reads old) config opened.base.shape (committed opened) (opens.opened told);
     no_draft = draft ∙ draft-read opened loaded (name_mark (state_of opened).records) state opens.draft;
     crash = subst (λ (d : D). LeavesByOpening g config old d) (sym disk) loaded-leaves;
+    clean = λ told clean. subst (λ (d : D). OnlyReads g old d) (sym disk) (loaded-clean told clean);
     later = omega (arith, opens.later, later, ap g.faults disk);
   }
 
@@ -329,6 +339,8 @@ module _ {D : Type 0} {g : Ghosts D} (counts : CountsNow g) (config : Config) (o
             load-sound T shape config fault (right told (loadable (committed opened) opened.base.shape (opened-store (g.reads old) config opened.base.shape (committed opened) opens.allowed (opens.opened told) shape graph stands)));
         crash = loaded-leaves;
         careful = λ told. inr (opens-recoverable (g.reads old) config opened.base.shape (committed opened) (opens.opened told));
+        differs = λ told space redoes other. absurd (unloaded-asked fault other);
+        clean = loaded-clean;
         untouched = λ told refusal. names-refused T fault refusal (right told) told (opens.opened told);
         later = omega (arith, opens.later, later);
         cause = λ e. Rose-from (g.faults old) (g.faults opened.base.disk.now) (g.faults loaded.base.disk.now) opens.later (cause (unloaded-disk fault e));

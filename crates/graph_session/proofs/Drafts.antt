@@ -8,7 +8,7 @@ use Rattle.rec_bytes.specs.declared.key.Key.{Key}
 use Rattle.rec_bytes.specs.declared.record.Rec.{Rec}
 use Rattle.rec_bytes.specs.declared.shape.Shape.{Shape}
 use Rattle.rec_bytes.specs.Pairs.{Pairs, merged}
-use Rattle.rec_bytes.specs.Space.{State as Space}
+use Rattle.rec_bytes.specs.Space.{State as Space, laid_over}
 use Rattle.record_file.specs.Redone.{Redoes}
 use Rattle.txn_core.specs.Base.{SameBeneath}
 use Rattle.txn_core.specs.Kept.{IsOnDisk}
@@ -16,7 +16,7 @@ use Rattle.txn_core.specs.Outcomes.{HasFailedCommit}
 use Rattle.txn_core.specs.Sights.{KeepsSights}
 use Rattle.txn_core.specs.Store as store
 use Rattle.txn_core.proofs.StoreRecords.{committed-beneath}
-use Rattle.snap_store.specs.Keeping.{KeepsHeld}
+use Rattle.snap_store.specs.Keeping.{EndsFor, KeepsHeld}
 use Rattle.snap_store.specs.Snaps.{Snapshots}
 use Rattle.graph_ops.specs.Store.{graph_in}
 use Rattle.graph_session.specs.Drafting.{Closes, CommitsRecords, DoubtsRecords, DropsRecords, EndsCommit, TriesCommit}
@@ -72,6 +72,7 @@ module _ {D : Type 0} {g : Ghosts D} where
     doubts-kept names doubts = record {
       closes = closes-kept doubts.closes;
       health = doubts.health;
+      failed = doubts.failed;
       names = doubts.names ∙ names;
       stored =
           stored-either new.store.base.disk.now (store.committed mid.store) (store.working mid.store) (store.committed old.store) (store.drafted old.store) (committed-beneath old.store.base mid.store.base same) kept
@@ -83,6 +84,7 @@ module _ {D : Type 0} {g : Ghosts D} where
     drops-kept names drops = record {
       closes = closes-kept drops.closes;
       health = drops.health;
+      live = drops.live;
       names = drops.names ∙ names;
       disk = subst (λ (disk : D). OnlyReads g disk new.store.base.disk.now) same.disk drops.disk;
       rose = subst (λ (disk : D). Rose (g.faults disk) (g.faults new.store.base.disk.now)) same.disk drops.rose;
@@ -97,6 +99,11 @@ module _ {D : Type 0} {g : Ghosts D} where
           (committed-beneath old.store.base mid.store.base same) kept (tries.crash told images);
       later = subst (λ (disk : D). g.faults disk ≤ g.faults new.store.base.disk.now) same.disk tries.later;
       sights = sights-as g new.store.base.disk.now (store.committed mid.store) (store.committed old.store) mid.snaps old.snaps new.snaps (committed-beneath old.store.base mid.store.base same) snaps tries.sights;
+      writes =
+          sym kept
+          ∙ (λ i. laid_over (committed-beneath old.store.base mid.store.base same i) (own i));
+      ended = subst (λ (held : Snapshots). EndsFor (merged old.store.base.own.pairs old.store.draft.pairs) held new.snaps) snaps
+          (subst (λ (written : Pairs). EndsFor written mid.snaps new.snaps) own tries.ended);
       held = λ weight few.
           subst (λ (held : Snapshots). KeepsHeld weight held new.snaps) snaps (tries.held weight (subst (λ (written : Pairs). length written ≤ weight) (sym own) few));
       ends = ends tries.ends;
@@ -110,5 +117,5 @@ module _ {D : Type 0} {g : Ghosts D} where
   -- the disk failed in a commit
   pub records-failed : (old new : Session D g) → Closes old new → new.health ≡ healths.Failed → new.names.names ≡ old.names.names → Rose (g.faults old.store.base.disk.now) (g.faults new.store.base.disk.now)
       → HasFailedCommit old.store.base new.store.base → DropsRecords old new ⊎ DoubtsRecords (store.working old.store) old new
-  records-failed old new closes health names rose (inl dropped) = inl (record { closes = closes; health = health; names = names; disk = dropped.reads; rose = rose })
-  records-failed old new closes health names rose (inr doubt) = inr (record { closes = closes; health = health; names = names; stored = doubt.stored; rose = rose })
+  records-failed old new closes health names rose (inl dropped) = inl (record { closes = closes; health = health; names = names; live = dropped.live; disk = dropped.reads; rose = rose })
+  records-failed old new closes health names rose (inr doubt) = inr (record { closes = closes; health = health; names = names; failed = doubt.failed; stored = doubt.stored; rose = rose })

@@ -17,7 +17,7 @@ use Rattle.graph_session.proofs.Storage.{stopped}
 
 -- one that brought no names
 pub fails-drafted : {D : Type 0} {g : Ghosts D} {old new : SessionView D} → FailsRead g old new → FailsDrafted g old new
-fails-drafted {old = old} {new = new} fails = record { ends = fails.ends; health = fails.health; brought = begin-all new.console.names old.console.names fails.names; disk = fails.disk }
+fails-drafted {old = old} {new = new} fails = record { ends = fails.ends; health = fails.health; live = fails.live; brought = begin-all new.console.names old.console.names fails.names; disk = fails.disk }
 
 module _ {D : Type 0} {g : Ghosts D} {old : SessionView D} {state : State} (at : IsAt g old state) (live : old.console.health ≡ healths.Live) where
   -- what is admitted is the committed graph, which stays open

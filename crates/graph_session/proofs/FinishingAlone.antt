@@ -1,5 +1,5 @@
 -- A change that is a transaction by itself, from its draft to its reply.
-use Rattle.std.proofs.Common.{◌≡◌, ◌⊎◌, ◌∙◌, ◌+◌, ◌<◌, ◌≤◌, ℕ, Bool, false, Ok, Err, Result, List, [], ◌++◌, length, take, inl, inr, true≢false, refl, sym, ap, subst, arith}
+use Rattle.std.proofs.Common.{◌≡◌, ◌⊎◌, ◌∙◌, ◌+◌, ◌<◌, ◌≤◌, ℕ, IsTrue, Bool, false, Ok, Err, Result, List, [], ◌++◌, length, take, inl, inr, true≢false, refl, sym, ap, subst, arith}
 use Rattle.std.proofs.lemmas.List.{nil_from_length}
 use Rattle.fault_count.specs.Cause.{Rose}
 use Rattle.disk_model.specs.Spans.{AtEachMoment, OnlyReads}
@@ -118,6 +118,7 @@ module _ {D : Type 0} {g : Ghosts D} {begun mid : Session D g} (old new : Sessio
     fails-dropped is = record {
       ends = record { shape = drops.beneath.shape ∙ shape-mid; is_open = drops.closes.in_transaction; no_draft = drops.closes.draft };
       health = drops.failed is;
+      live = subst IsTrue (sym (drops.beneath.live ∙ only.base.live ∙ same.live)) (old.standing live);
       names = names-dropped;
       disk = disk-dropped;
     }
@@ -209,6 +210,7 @@ module _ {D : Type 0} {g : Ghosts D} {begun mid : Session D g} (old new : Sessio
         record {
           ends = ends-mid doubts.closes;
           health = doubts.health;
+          failed = doubts.failed;
           brought = (only.brought.0, doubts.names ∙ names-mid);
           stored = record { read = stored.read; images = λ told. stored.images told.0 told.1 };
         }
@@ -217,6 +219,7 @@ module _ {D : Type 0} {g : Ghosts D} {begun mid : Session D g} (old new : Sessio
     drops-mid drops = record {
       ends = ends-mid drops.closes;
       health = drops.health;
+      live = drops.live;
       brought = (only.brought.0, drops.names ∙ names-mid);
       disk = only_reads_on g old.store.base.disk.now mid.store.base.disk.now new.store.base.disk.now reads-mid drops.disk;
     }

@@ -9,12 +9,13 @@ use Rattle.plain_graph.specs.Reply.{DiskFailed, Faulted, Reply}
 use Rattle.plain_graph.specs.declared.command.Command.{Command}
 use Rattle.plain_graph.specs.declared.command.Command.TheVariants as commands
 use Rattle.rec_bytes.specs.Pairs.{Held, Pairs, find_pair, merged}
+use Rattle.rec_bytes.specs.Space.{laid_over}
 use Rattle.rec_bytes.specs.declared.key.Key.{Key}
 use Rattle.rec_bytes.specs.declared.record.Rec.{Rec}
 use Rattle.rec_bytes.specs.declared.shape.Shape.{Shape}
 use Rattle.store_rules.specs.Graph.{graph_of, names_of}
 use Rattle.store_rules.specs.Indexes.{IsIndexed}
-use Rattle.snap_store.specs.Keeping.{KeepsHeld}
+use Rattle.snap_store.specs.Keeping.{EndsFor, KeepsHeld}
 use Rattle.snap_store.specs.Snaps.{Snapshots}
 use Rattle.txn_core.specs.Base.{SameBeneath}
 use Rattle.txn_core.specs.Store.{committed, drafted, state_of}
@@ -31,7 +32,7 @@ use Rattle.graph_session.specs.declared.health.Health.TheVariants as healths
 use Rattle.graph_session.specs.declared.session.Session.{Session}
 use Rattle.graph_session.proofs.Drafts.{sights-as}
 use Rattle.graph_session.proofs.FinishingAlone.{committed-mid, disk-dropped, drafted-begun}
-use Rattle.graph_session.proofs.Weighing.{length-weighed, weighed-kept, weighed-start}
+use Rattle.graph_session.proofs.Weighing.{weighed-kept, weighed-start}
 use Rattle.graph_session.proofs.Weights.{told-whole}
 
 -- what is said of a change by its kind
@@ -137,24 +138,28 @@ module _ {D : Type 0} {g : Ghosts D} {command : Command} (change : IsChange comm
         subst (λ (shape : Shape). LineWeighs shape.limit shape.threshold (graph_of (committed old.store)) command made.weight) same.shape
         (subst (λ (records : Key → Rec). LineWeighs begun.store.base.shape.limit begun.store.base.shape.threshold (graph_of records) command made.weight) is weighs)
 
-    few-alone : (made : Drafted) → start_weight + made.weight ≤ most_weight → Drafts command begun mid (Ok made) → length (merged mid.store.base.own.pairs mid.store.draft.pairs) ≤ start_weight + made.weight
-    few-alone made light drafts =
-        length-weighed (merged mid.store.base.own.pairs mid.store.draft.pairs) (start_weight + made.weight)
-        (subst (λ (written : Pairs). AreWeighed (merged written mid.store.draft.pairs) (start_weight + made.weight)) (sym (own-mid only ∙ own))
+    weighed-alone : (made : Drafted) → start_weight + made.weight ≤ most_weight → Drafts command begun mid (Ok made) → AreWeighed (merged mid.store.base.own.pairs mid.store.draft.pairs) (start_weight + made.weight)
+    weighed-alone made light drafts =
+        subst (λ (written : Pairs). AreWeighed (merged written mid.store.draft.pairs) (start_weight + made.weight)) (sym (own-mid only ∙ own))
         (weighed-kept [] mid.store.draft.pairs start_weight made.weight (state_of begun.store) (state_of mid.store) weighed-start (λ key. ap (λ (pairs : Pairs). is_some (find_pair pairs key)) draft) (λ key. refl)
-        (drafts.2 (omega (arith, light)))))
+        (drafts.2 (omega (arith, light))))
 
     keeps-tried : (made : Drafted) (answer : Answer) → start_weight + made.weight ≤ most_weight → Drafts command begun mid (Ok made) → TriesCommit (drafted mid.store) (merged mid.store.base.own.pairs mid.store.draft.pairs) mid new made.answer answer
         → KeepsOlds g command (shared_view old) (reply_of answer) (shared_view new)
     keeps-tried made answer light drafts tries = record {
       held = keeps-kind g (shared_view old) (reply_of answer) (shared_view new) command change (inr (
         closed,
+        merged mid.store.base.own.pairs mid.store.draft.pairs,
         made.weight,
+        weighed-alone made light drafts,
+        light,
+        λ told confirms. is_committed told tries.ends confirms,
         record {
           ends = ends tries.ends;
           sights = sights-as g new.store.base.disk.now (committed mid.store) (committed old.store) mid.snaps old.snaps new.snaps
               (committed-mid old new live closed idle same own draft names health only) (only.snaps ∙ snaps) tries.sights;
-          held = subst (λ (held : Snapshots). KeepsHeld (start_weight + made.weight) held new.snaps) (only.snaps ∙ snaps) (tries.held (start_weight + made.weight) (few-alone made light drafts));
+          ended = subst (λ (held : Snapshots). EndsFor (merged mid.store.base.own.pairs mid.store.draft.pairs) held new.snaps) (only.snaps ∙ snaps) tries.ended;
+          held = λ weight few. subst (λ (held : Snapshots). KeepsHeld weight held new.snaps) (only.snaps ∙ snaps) (tries.held weight few);
         },
         λ told store named. weighs-alone made light drafts told store named,
       ));
@@ -164,6 +169,14 @@ module _ {D : Type 0} {g : Ghosts D} {command : Command} (change : IsChange comm
         ends : EndsCommit (drafted mid.store) mid new made.answer answer → Confirms (reply_of answer) ⊎ (reply_of answer ≡ Faulted [] DiskFailed)
         ends (inl (is, commits)) = inl (subst (λ (a : Answer). Confirms (reply_of a)) (sym is) (made-confirmed command (reply_of made.answer) drafts.0))
         ends (inr (is, failed)) = inr (ap reply_of is)
+
+        is_committed : g.tells_reads → EndsCommit (drafted mid.store) mid new made.answer answer → Confirms (reply_of answer)
+            → committed new.store ≡ laid_over (committed old.store) (merged mid.store.base.own.pairs mid.store.draft.pairs)
+        is_committed told (inl (is, commits)) confirms =
+            commits.committed told
+            ∙ tries.writes
+            ∙ ap (λ (records : Key → Rec). laid_over records (merged mid.store.base.own.pairs mid.store.draft.pairs)) (committed-mid old new live closed idle same own draft names health only)
+        is_committed told (inr (is, failed)) confirms = absurd (subst (λ (a : Answer). Confirms (reply_of a)) is confirms)
 
         closes : EndsCommit (drafted mid.store) mid new made.answer answer → new.store.base.in_transaction ≡ false
         closes (inl (is, commits)) = commits.closes.in_transaction

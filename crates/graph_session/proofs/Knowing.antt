@@ -7,6 +7,7 @@ use Rattle.rec_bytes.specs.declared.key.Key.{Key}
 use Rattle.rec_bytes.specs.declared.record.Rec.{Rec}
 use Rattle.recovery.specs.Finding.{IsCareful}
 use Rattle.txn_core.specs.Kept.{IsOnDisk}
+use Rattle.txn_core.specs.Opening.{StaysAsItWas}
 use Rattle.graph_session.specs.Console.{SessionView, TellsAll}
 use Rattle.graph_session.specs.Effects.{IsStored, Begins, Commits, CommitsAlone, CommitsFrom, Drops, FailsDrafted, FailsRead, IsAloneInDoubt, IsBrought, IsFound, IsLeftOpen, IsLost, IsStopped, Keeps, KeepsBeneath, Stays}
 use Rattle.graph_session.specs.Known.{TellsIf, as_known}
@@ -54,7 +55,7 @@ module _ (known : Bool) {D : Type 0} {g : Ghosts D} where
   commits-known x = record { ends = x.ends; health = x.health; live = x.live; names = x.names; committed = λ t. x.committed (told_of known g t); working = λ t. x.working (told_of known g t); stored = stored-known x.stored }
 
   pub left_open-known : {old new : SessionView D} → IsLeftOpen g old new → IsLeftOpen (as_known known g) old new
-  left_open-known x = record { ends = x.ends; health = x.health; names = x.names; stored = stored-known x.stored }
+  left_open-known x = record { ends = x.ends; health = x.health; failed = x.failed; names = x.names; stored = stored-known x.stored }
 
   pub brought-known : {old new : SessionView D} → IsBrought g old new → IsBrought (as_known known g) old new
   brought-known x = record { ends = x.ends; health = x.health; live = x.live; names = x.names; committed = λ t. x.committed (told_of known g t); working = λ t. x.working (told_of known g t); stored = stored-known x.stored }
@@ -63,10 +64,10 @@ module _ (known : Bool) {D : Type 0} {g : Ghosts D} where
   stopped-known x = record { ends = x.ends; health = x.health; names = x.names; stored = stored-known x.stored }
 
   pub found-known : {old new : SessionView D} → IsFound g old new → IsFound (as_known known g) old new
-  found-known x = record { ends = x.ends; health = x.health; live = x.live; names = λ t. x.names (told_of known g t); committed = λ t. x.committed (told_of known g t); working = λ t. x.working (told_of known g t); read = λ t. x.read (told_of known g t); images = λ t. x.images (told_all known g t) }
+  found-known x = record { clean = λ t. λ closed. reads-known (x.clean (told_of known g t) closed); ends = x.ends; health = x.health; live = x.live; names = λ t. x.names (told_of known g t); committed = λ t. x.committed (told_of known g t); working = λ t. x.working (told_of known g t); read = λ t. x.read (told_of known g t); images = λ t. x.images (told_all known g t) }
 
   pub lost-known : {old new : SessionView D} → IsLost g old new → IsLost (as_known known g) old new
-  lost-known x = record { ends = x.ends; health = x.health; names = x.names; read = λ t. x.read (told_of known g t) }
+  lost-known x = record { clean = λ t. λ closed. reads-known (x.clean (told_of known g t) closed); ends = x.ends; health = x.health; names = x.names; read = λ t. x.read (told_of known g t) }
 
   pub keeps-known : {old new : SessionView D} {weight : ℕ} → Keeps g old new weight → Keeps (as_known known g) old new weight
   keeps-known x = record { beneath = beneath-known x.beneath; health = x.health; is_open = x.is_open; weighs = x.weighs; brought = x.brought }
@@ -75,16 +76,16 @@ module _ (known : Bool) {D : Type 0} {g : Ghosts D} where
   commits_alone-known x = record { ends = x.ends; health = x.health; live = x.live; committed = λ t. x.committed (told_of known g t); working = λ t. x.working (told_of known g t); stored = stored-known x.stored }
 
   pub alone_in_doubt-known : {old new : SessionView D} {now : Key → Rec} → IsAloneInDoubt g old new now → IsAloneInDoubt (as_known known g) old new now
-  alone_in_doubt-known x = record { ends = x.ends; health = x.health; brought = x.brought; stored = stored-known x.stored }
+  alone_in_doubt-known x = record { ends = x.ends; health = x.health; failed = x.failed; brought = x.brought; stored = stored-known x.stored }
 
   pub from-known : {old new : SessionView D} {now : Key → Rec} → CommitsFrom g old new now → CommitsFrom (as_known known g) old new now
   from-known x = record { mid = x.mid; reads = reads-known x.reads; crash = λ t. x.crash (told_all known g t) }
 
   pub fails_read-known : {old new : SessionView D} → FailsRead g old new → FailsRead (as_known known g) old new
-  fails_read-known x = record { ends = x.ends; health = x.health; names = x.names; disk = reads-known x.disk }
+  fails_read-known x = record { ends = x.ends; health = x.health; live = x.live; names = x.names; disk = reads-known x.disk }
 
   pub fails_drafted-known : {old new : SessionView D} → FailsDrafted g old new → FailsDrafted (as_known known g) old new
-  fails_drafted-known x = record { ends = x.ends; health = x.health; brought = x.brought; disk = reads-known x.disk }
+  fails_drafted-known x = record { ends = x.ends; health = x.health; live = x.live; brought = x.brought; disk = reads-known x.disk }
 
   pub careful-known : {old new : D} → IsCareful g old new → IsCareful (as_known known g) old new
   careful-known {old = old} {new = new} x told = ⊎_elim (λ (reads : OnlyReads g old new). inl (reads-known reads)) (λ store. inr store) (x (told_of known g told))
@@ -93,6 +94,9 @@ module _ (known : Bool) {D : Type 0} {g : Ghosts D} where
   refused-known old new (inl reads) = inl (reads-known reads)
   refused-known old new (inr same) = inr same
 
+  stays_as-known : {old new : D} {space : Key → Rec} → StaysAsItWas g old new space → StaysAsItWas (as_known known g) old new space
+  stays_as-known x = record { read = x.read; crash = x.crash }
+
   pub unopened-known : {config : Config} {old new : D} {why : OpenFault} → IsUnopened g config old new why → IsUnopened (as_known known g) config old new why
   unopened-known {config = config} {old = old} {new = new} x = record {
     refused = λ t. x.refused (told_of known g t);
@@ -100,6 +104,8 @@ module _ (known : Bool) {D : Type 0} {g : Ghosts D} where
     crash = leaves-known known g config old new x.crash;
     careful = careful-known x.careful;
     untouched = λ t is. refused-known old new (x.untouched (told_of known g t) is);
+    differs = λ t space redoes other. stays_as-known (x.differs (told_of known g t) space redoes other);
+    clean = λ t clean. reads-known (x.clean (told_of known g t) clean);
     later = x.later;
     cause = x.cause;
   }

@@ -19,7 +19,7 @@ use Rattle.record_file.specs.Redone.{Redoes}
 use Rattle.store_rules.specs.Views.{high}
 use Rattle.txn_core.specs.Base.{SameBeneath, SameStore}
 use Rattle.txn_core.specs.Kept.{IsOnDisk}
-use Rattle.txn_core.specs.Outcomes.{HasFailed, HasFailedCommit, IsCheckpointed, IsDropped, IsWritten}
+use Rattle.txn_core.specs.Outcomes.{HasFailed, HasFailedCommit, IsCheckpointed, IsDropped, IsInDoubt, IsWritten}
 use Rattle.txn_core.specs.Store.{committed, state_of, working}
 use Rattle.txn_core.specs.declared.store.Store.{Store}
 use Rattle.txn_core.proofs.StoreRecords.{committed-beneath, drafted-none, working-none}
@@ -177,16 +177,17 @@ module _ {D : Type 0} {g : Ghosts D} where
         onward = record { disk_later = later_on };
       }
 
-      is_left_open : IsOnDisk g t.base.disk.now (λ left. Redoes left (committed s) ⊎ Redoes left (working s)) → IsLeftOpen g (seen_as s health weight names) (seen_as t healths.Failed weight names)
-      is_left_open stored = record {
+      is_left_open : IsInDoubt s.base t.base → IsLeftOpen g (seen_as s health weight names) (seen_as t healths.Failed weight names)
+      is_left_open doubt = record {
         ends = ends health healths.Failed weight names;
         health = refl;
+        failed = doubt.failed;
         names = refl;
-        stored = stored-either t.base.disk.now (committed s) (working s) stored;
+        stored = stored-either t.base.disk.now (committed s) (working s) doubt.stored;
       }
 
       is_read : IsDropped s.base t.base → FailsRead g (seen_as s health weight names) (seen_as t healths.Failed weight names)
-      is_read dropped = record { ends = ends health healths.Failed weight names; health = refl; names = refl; disk = dropped.reads }
+      is_read dropped = record { ends = ends health healths.Failed weight names; health = refl; live = dropped.live; names = refl; disk = dropped.reads }
 
       -- the disk failed in the commit: it was only read, or it is left open whether what the transaction had is committed
       pub commit_failed : HasFailedCommit s.base t.base → Rose (g.faults s.base.disk.now) (g.faults t.base.disk.now) → ¬ (s.base.own.pairs ≡ [])
@@ -201,8 +202,8 @@ module _ {D : Type 0} {g : Ghosts D} where
       commit_failed (inr doubt) rose busy = record {
         settles = λ known line state only served at.
             let open_one = is_open at opened in
-            settles-commit_fault at live open_one.0 open_one.1 only opened (λ told. let all = told_all known g told in crash all.0 all.1) (left_open-known known (is_left_open doubt.stored)) rose;
-        may = λ none. inr (opened, (λ told. crash told.0 told.1), (λ nothing. absurd (busy nothing)), inr ((refl, rose), inr (is_left_open doubt.stored)));
+            settles-commit_fault at live open_one.0 open_one.1 only opened (λ told. let all = told_all known g told in crash all.0 all.1) (left_open-known known (is_left_open doubt)) rose;
+        may = λ none. inr (opened, (λ told. crash told.0 told.1), (λ nothing. absurd (busy nothing)), inr ((refl, rose), inr (is_left_open doubt)));
         onward = record { disk_later = later_on };
       }
 

@@ -24,7 +24,7 @@ use Rattle.txn_core.specs.declared.store.Store.{Store}
 use Rattle.txn_core.proofs.StoreRecords.{committed-read, drafted-none, working-none}
 use Rattle.graph_session.specs.Answering.{reply_of}
 use Rattle.graph_session.specs.Console.{BeginWith, IsAt}
-use Rattle.graph_session.specs.Effects.{Ends, IsFound, IsLost, LeavesSame}
+use Rattle.graph_session.specs.Effects.{Ends, IsFound, IsLost, LeavesSame, ReadsClean}
 use Rattle.graph_session.specs.Known.{as_known}
 use Rattle.graph_session.specs.Naming.{IsNamed, IsUnnamed, TakesNames}
 use Rattle.graph_session.specs.Settling.{SettlesCommand}
@@ -48,7 +48,7 @@ module _ {D : Type 0} {g : Ghosts D} where
   module _ (counts : CountsNow g) (s t : Store D g) (same : SameStore s.base t.base) (was_closed : s.base.in_transaction ≡ false) (closed : t.base.in_transaction ≡ false) (draft : t.draft.pairs ≡ [])
       (later_on : g.faults s.base.disk.now ≤ g.faults t.base.disk.now)
       (crash : g.tells_reads → g.tells_images → (space : Key → Rec) → Redoes (content s) space → AtEachMoment g s.base.disk.now t.base.disk.now (λ left. g.may_leave s.base.disk.now left ⊎ Redoes left space))
-      (read : g.tells_reads → (space : Key → Rec) → Redoes (content s) space → Redoes (content t) space) (health : Health) (weight : ℕ) (names : List (List ℕ)) where
+      (read : g.tells_reads → (space : Key → Rec) → Redoes (content s) space → Redoes (content t) space) (clean : ReadsClean g s.base.disk.now t.base.disk.now) (health : Health) (weight : ℕ) (names : List (List ℕ)) where
     leaves : LeavesSame g s.base.disk.now t.base.disk.now
     leaves told space redoes = crash told.0 told.1 space redoes
 
@@ -56,7 +56,7 @@ module _ {D : Type 0} {g : Ghosts D} where
     leaves_known known told = leaves (told_all known g told)
 
     lost-at_once : IsLost g (seen_as s health weight names) (seen_as t healths.Failed weight names)
-    lost-at_once = record { ends = record { shape = same.shape; is_open = closed; no_draft = draft }; health = refl; names = refl; read = read }
+    lost-at_once = record { ends = record { shape = same.shape; is_open = closed; no_draft = draft }; health = refl; names = refl; read = read; clean = clean }
 
     -- the disk failed in the recovery
     pub lost_disk : Rose (g.faults s.base.disk.now) (g.faults t.base.disk.now) → SettlesCommand g commands.Reopen (seen_as s health weight names) (seen_as t healths.Failed weight names) (Faulted [] DiskFailed)
@@ -90,6 +90,9 @@ module _ {D : Type 0} {g : Ghosts D} where
       read_on : g.tells_reads → (space : Key → Rec) → Redoes (content s) space → Redoes (content u) space
       read_on told space redoes = Redoes-kept space (content t) (content u) (read told space redoes) reads.disk.keeps
 
+      clean_on : ReadsClean g s.base.disk.now u.base.disk.now
+      clean_on told closed = only_reads_on g s.base.disk.now t.base.disk.now u.base.disk.now (clean told closed) reads.disk
+
       no_own-now : t.base.own.pairs ≡ []
       no_own-now = ap (λ (held : Held). held.pairs) own ∙ nil_from_length s.base.own.pairs no_own
 
@@ -109,11 +112,12 @@ module _ {D : Type 0} {g : Ghosts D} where
         committed = λ told space redoes. committed-read t.base u.base reads ∙ recovered.space told space redoes;
         working = λ told. working-none u.base (ap (λ (held : Held). held.pairs) reads.own ∙ no_own-now);
         read = read_on;
+        clean = clean_on;
         images = λ told image left. subst (λ (space : Key → Rec). Redoes image space) (sym (committed-read t.base u.base reads)) (recovered.stored.images told.0 told.1 image (reads.disk.crash told.1 image left));
       }
 
       lost : (healthier : Health) (weigher : ℕ) (named : List (List ℕ)) → IsUnnamed names named healthier → IsLost g (seen_as s health weight names) (seen_as u healthier weigher named)
-      lost healthier weigher named is = record { ends = ends healthier weigher named; health = is.failed; names = is.same; read = read_on }
+      lost healthier weigher named is = record { ends = ends healthier weigher named; health = is.failed; names = is.same; read = read_on; clean = clean_on }
 
       -- the names in memory begin with those of the graph that the disk has
       names-begin : (known : Bool) {state : State} → IsAt (as_known known g) (seen_as s health weight names) state → (as_known known g).tells_reads → BeginWith names (names_of (drafted t))

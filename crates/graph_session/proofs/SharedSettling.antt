@@ -1,5 +1,5 @@
 -- How a command of the session that writes settles a line with the snapshots of all sessions.
-use Rattle.std.proofs.Common.{◌≡◌, ◌⊎◌, ◌∙◌, ℕ, ◌+◌, Bool, true, false, Some, None, is_some, List, inl, inr, refl, sym, ap, subst}
+use Rattle.std.proofs.Common.{◌≡◌, ◌⊎◌, ◌∙◌, ℕ, ◌+◌, ◌≤◌, Bool, true, false, Some, None, is_some, List, length, inl, inr, refl, sym, ap, subst}
 use Rattle.disk_model.specs.declared.disk.Disk.{Ghosts}
 use Rattle.stream_io.specs.Lines.{Whole}
 use Rattle.plain_graph.specs.Changes.{start_weight}
@@ -10,6 +10,7 @@ use Rattle.plain_graph.specs.Lines.{kind_of}
 use Rattle.plain_graph.specs.Reply.{Reply}
 use Rattle.plain_graph.specs.declared.command.Command.{Command}
 use Rattle.plain_graph.specs.declared.command.Command.TheVariants as commands
+use Rattle.rec_bytes.specs.Pairs.{Pairs}
 use Rattle.rec_bytes.specs.declared.key.Key.{Key}
 use Rattle.rec_bytes.specs.declared.record.Rec.{Rec}
 use Rattle.record_file.specs.Redone.{Redoes}
@@ -108,10 +109,10 @@ module _ {D : Type 0} {g : Ghosts D} (known : Bool) {line : List ℕ} {command :
     }
 
   -- old records were kept for a transaction of this weight
-  module _ (live : old.session.console.health ≡ healths.Live) (weight : ℕ) (kept : KeepsFor g old reply new weight) (ends : (as_known known g).tells_reads → EndsOfWeight state.writer (Whole line) weight) where
+  module _ (live : old.session.console.health ≡ healths.Live) (written : Pairs) (kept : KeepsFor g old reply new written) (weight : ℕ) (few : length written ≤ weight) (ends : (as_known known g).tells_reads → EndsOfWeight state.writer (Whole line) weight) where
     after : HoldsAfter (as_known known g) old.held old.session.disk state at.snapshots new.session.disk settles.after (λ told. (goes told).shape) (λ told. (goes told).names) weight new.held
     after = holds-kept (as_known known g) old.held old.session.disk state at.snapshots new.session.disk settles.after (λ told. (goes told).shape) (λ told. (goes told).names)
-        old.session.console.committed (λ told. at.stored told live) new.held (λ told. kept.sights (told_of known g told)) weight kept.held
+        old.session.console.committed (λ told. at.stored told live) new.held (λ told. kept.sights (told_of known g told)) written kept.ended weight (kept.held weight few)
 
     settled-kept : SettlesShared SharedConsoleStep (as_known known g) (Whole line) old new state reply
     settled-kept = record {
@@ -156,8 +157,8 @@ module _ {D : Type 0} {g : Ghosts D} (known : Bool) {line : List ℕ} {command :
       settled-same same (λ told. same-commit g old.session reply new.session (told_of known g told) (at.stored told) (was told) closed answer) (ends-closed closed (sym is))
   of-bound commands.Commit is kind (inr (opened, kept)) answer =
       let one = is_open at.writer opened in
-      settled-kept (served-live (λ e. let clash : commands.Commit ≡ commands.Reopen = is ∙ e in cc)) old.session.console.weight
-      (kept old.session.console.weight (length-weighed old.session.console.written old.session.console.weight (at.weighed opened)))
+      settled-kept (served-live (λ e. let clash : commands.Commit ≡ commands.Reopen = is ∙ e in cc)) old.session.console.written kept old.session.console.weight
+      (length-weighed old.session.console.written old.session.console.weight (at.weighed opened))
       (λ told. inl (one.0, one.1, subst (λ (c : Command). SpellsLine (Whole line) c) (sym is) only.spelled, at.writer.weight one.0 one.1))
   of-bound commands.Begin is kind same answer =
       settled-same same (λ told. same-bound g old.session reply new.session (told_of known g told) (at.stored told) (was told) commands.Begin (λ e. cc) answer)
@@ -173,9 +174,9 @@ module _ {D : Type 0} {g : Ghosts D} (known : Bool) {line : List ℕ} {command :
       settled-same same (λ told. same-change g old.session reply new.session (told_of known g told) (at.stored told) (was told) command (inl opened) answer) (ends-open opened kind)
   of-change kind (inl (same, inr (unconfirmed, reads))) answer =
       settled-same same (λ told. same-change g old.session reply new.session (told_of known g told) (at.stored told) (was told) command (inr reads) answer) (λ weight ends. unconfirmed)
-  of-change kind (inr (closed, more, kept, weighs)) answer =
+  of-change kind (inr (closed, written, more, weighed, light, committed, kept, weighs)) answer =
       let live = served-live (λ e. let clash : Change ≡ Upkeep = sym kind ∙ ap kind_of e in cc) in
-      settled-kept live (start_weight + more) kept (λ told. inr (is_closed at.writer closed, command, only.spelled, more, weighed-so told live closed more (weighs (told_of known g told)), refl))
+      settled-kept live written kept (start_weight + more) (length-weighed written (start_weight + more) weighed) (λ told. inr (is_closed at.writer closed, command, only.spelled, more, weighed-so told live closed more (weighs (told_of known g told)), refl))
     where
       weighed-so : (told : (as_known known g).tells_reads) → old.session.console.health ≡ healths.Live → old.session.console.is_open ≡ false → (more : ℕ)
           → (IsIndexed old.session.console.committed old.session.console.shape → old.session.console.names ≡ names_of old.session.console.committed

@@ -4,13 +4,14 @@ use Rattle.std.proofs.lemmas.List.{append_assoc}
 use Rattle.std.specs.List.{AllByRecursion}
 use Rattle.disk_model.specs.declared.disk.Disk.{Ghosts}
 use Rattle.plain_graph.specs.Graph.{Graph}
+use Rattle.rec_bytes.specs.Pairs.{Pairs}
 use Rattle.rec_bytes.specs.declared.key.Key.{Key}
 use Rattle.rec_bytes.specs.declared.record.Rec.{Rec}
 use Rattle.rec_bytes.specs.declared.shape.Shape.{Shape}
 use Rattle.record_file.specs.Redone.{Redoes}
 use Rattle.store_rules.specs.Graph.{graph_of}
 use Rattle.store_rules.specs.Indexes.{IsIndexed}
-use Rattle.snap_store.specs.Keeping.{KeepsHeld}
+use Rattle.snap_store.specs.Keeping.{EndsFor, KeepsHeld, lacked}
 use Rattle.snap_store.specs.Layers.{Layers, is_open, readers_of, sees}
 use Rattle.snap_store.specs.Snaps.{Snapshots, with_room}
 use Rattle.snap_store.specs.Sums.{risen}
@@ -65,25 +66,26 @@ module _ {D : Type 0} (g : Ghosts D) (held : Snapshots) (old : D) (state : Share
     pub outlives : Outlives weight state.readers readers
     pub are_held : HoldsSnapshots g kept new (record { writer = writer; readers = readers })
 
-  module _ (committed : Key → Rec) (stored : g.tells_reads → Redoes (g.reads old) committed) (kept : Snapshots) (sights : KeepsSights g committed new held kept) (weight : ℕ) (keeps : KeepsHeld weight held kept) where
-    left : IsLeft weight state.readers.open_ones state.readers.ended (with_room keeps.count held.open_ones held.ended)
-    left = outlives-with_room weight keeps.count held.open_ones state.readers.open_ones held.ended state.readers.ended holds.within.sums
+  module _ (committed : Key → Rec) (stored : g.tells_reads → Redoes (g.reads old) committed) (kept : Snapshots) (sights : KeepsSights g committed new held kept)
+      (written : Pairs) (ends : EndsFor written held kept) (weight : ℕ) (keeps : KeepsHeld weight held kept) where
+    left : IsLeft weight state.readers.open_ones state.readers.ended (with_room (lacked written held.open_ones) held.open_ones held.ended)
+    left = outlives-with_room weight (lacked written held.open_ones) held.open_ones state.readers.open_ones held.ended state.readers.ended holds.within.sums
         holds.readers holds.within.each (apart-of held.open_ones holds.form.distinct)
         (subst (λ n. AllByRecursion (λ reader. reader < n) (readers_of held.open_ones)) (sym holds.form.width) (all-readers (λ reader. reader < 8) held.open_ones holds.form.few)) holds.ended
-        (λ reader was gone. keeps.overfull holds.within.sums holds.within.covered reader was (keeps.ended.open_ones reader ∙ gone))
+        (λ reader was gone. keeps.overfull holds.within.sums holds.within.covered reader was (ends.open_ones reader ∙ gone))
 
     order : readers_of kept.open_ones ≡ snapshot_readers left.readers.open_ones
-    order = keeps.ended.order ∙ left.same
+    order = ends.order ∙ left.same
 
     width : length kept.ended ≡ 8
-    width = ap (λ (flags : List Bool). length flags) keeps.ended.ended ∙ width-with_room keeps.count held.open_ones held.ended ∙ holds.form.width
+    width = ap (λ (flags : List Bool). length flags) ends.ended ∙ width-with_room (lacked written held.open_ones) held.open_ones held.ended ∙ holds.form.width
 
     form : AreOfSessions kept
     form = record {
-      distinct = distinct-of kept.open_ones (subst AreApart (sym keeps.ended.order) left.apart);
+      distinct = distinct-of kept.open_ones (subst AreApart (sym ends.order) left.apart);
       few = all-layers (λ reader. reader < 8) kept.open_ones
-          (subst (λ (xs : List ℕ). AllByRecursion (λ reader. reader < 8) xs) (sym keeps.ended.order)
-          (subst (λ n. AllByRecursion (λ reader. reader < n) (readers_of (with_room keeps.count held.open_ones held.ended).open_ones)) (width-with_room keeps.count held.open_ones held.ended ∙ holds.form.width) left.few));
+          (subst (λ (xs : List ℕ). AllByRecursion (λ reader. reader < 8) xs) (sym ends.order)
+          (subst (λ n. AllByRecursion (λ reader. reader < n) (readers_of (with_room (lacked written held.open_ones) held.open_ones held.ended).open_ones)) (width-with_room (lacked written held.open_ones) held.open_ones held.ended ∙ holds.form.width) left.few));
       width = width;
     }
 
@@ -95,7 +97,7 @@ module _ {D : Type 0} (g : Ghosts D) (held : Snapshots) (old : D) (state : Share
       are_held = record {
         form = form;
         readers = order;
-        ended = λ reader. ap (λ (flags : List Bool). slice_index_or flags reader false) keeps.ended.ended ∙ left.flags reader;
+        ended = λ reader. ap (λ (flags : List Bool). slice_index_or flags reader false) ends.ended ∙ left.flags reader;
         within = record {
           sums = risen weight holds.within.sums;
           each = all-left (λ (snapshot : Snapshot). holds.within.sums snapshot.reader ≡ snapshot.sum) (λ (snapshot : Snapshot). risen weight holds.within.sums snapshot.reader ≡ snapshot.sum)

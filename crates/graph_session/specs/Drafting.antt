@@ -14,12 +14,12 @@ use Rattle.plain_graph.specs.declared.refusal.Refusal.TheVariants as refusals
 use Rattle.rec_bytes.specs.declared.key.Key.{Key}
 use Rattle.rec_bytes.specs.declared.record.Rec.{Rec}
 use Rattle.rec_bytes.specs.Pairs.{Pairs, merged}
-use Rattle.rec_bytes.specs.Space.{State as Space}
+use Rattle.rec_bytes.specs.Space.{State as Space, laid_over}
 use Rattle.rec_bytes.specs.declared.fault.Fault.{Fault}
 use Rattle.rec_bytes.specs.declared.fault.Fault.TheVariants as read_faults
 use Rattle.record_file.specs.Redone.{Redoes}
 use Rattle.store_rules.specs.Writes.{WritesAtMost}
-use Rattle.snap_store.specs.Keeping.{KeepsHeld}
+use Rattle.snap_store.specs.Keeping.{EndsFor, KeepsHeld}
 use Rattle.txn_core.specs.Base.{OnlyReadsBase, SameBeneath, SameStore}
 use Rattle.txn_core.specs.Kept.{IsOnDisk}
 use Rattle.txn_core.specs.Sights.{KeepsSights}
@@ -186,15 +186,18 @@ module _ {D : Type 0} {g : Ghosts D} where
   pub record DoubtsRecords (now : Key → Rec) (old new : Session D g) : Type 0 where
     pub closes : Closes old new
     pub health : new.health ≡ healths.Failed
+    pub failed : new.store.base.live ≡ false
     pub names : new.names.names ≡ old.names.names
     pub stored : IsOnDisk g new.store.base.disk.now
         (λ left. Redoes left (committed old.store) ⊎ Redoes left now)
     pub rose : Rose (g.faults old.store.base.disk.now) (g.faults new.store.base.disk.now)
 
-  -- An old record could not be read: nothing was written, and what was committed is so alone.
+  -- An old record could not be read: nothing was written, and what was committed is so alone. The
+  -- store still serves commits.
   pub record DropsRecords (old new : Session D g) : Type 0 where
     pub closes : Closes old new
     pub health : new.health ≡ healths.Failed
+    pub live : IsTrue new.store.base.live
     pub names : new.names.names ≡ old.names.names
     pub disk : OnlyReads g old.store.base.disk.now new.store.base.disk.now
     pub rose : Rose (g.faults old.store.base.disk.now) (g.faults new.store.base.disk.now)
@@ -207,14 +210,16 @@ module _ {D : Type 0} {g : Ghosts D} where
 
   -- A commit was tried, of a transaction that has written these records. At each moment of it a
   -- crash leaves what was committed, or the records as they are now. Each snapshot that is still
-  -- open sees what it saw.
+  -- open sees what it saw, and just so many have ended that its old records have room.
   pub record TriesCommit (now : Key → Rec) (written : Pairs) (old new : Session D g)
       (made answer : Answer) : Type 0 where
     pub crash : g.tells_reads → g.tells_images
         → AtEachMoment g old.store.base.disk.now new.store.base.disk.now
         (λ left. Redoes left (committed old.store) ⊎ Redoes left now)
     pub later : g.faults old.store.base.disk.now ≤ g.faults new.store.base.disk.now
+    pub writes : now ≡ laid_over (committed old.store) written
     pub sights : KeepsSights g (committed old.store) new.store.base.disk.now old.snaps new.snaps
+    pub ended : EndsFor written old.snaps new.snaps
     pub held : (weight : ℕ) → length written ≤ weight → KeepsHeld weight old.snaps new.snaps
     pub ends : EndsCommit now old new made answer
 

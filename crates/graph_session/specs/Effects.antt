@@ -1,13 +1,14 @@
 -- What calls of the store leave of a session, over any disk, whatever is in it. What is read, and
 -- which contents a crash may leave, is said where the disk tells it.
-use Rattle.std.specs.Prelude.{◌≡◌, ◌⊎◌, ◌+◌, ℕ, IsTrue, true, false, List, [], ◌++◌, take}
+use Rattle.std.specs.Prelude.{◌≡◌, ◌≢◌, ◌⊎◌, ◌+◌, ℕ, IsTrue, true, false, List, [], ◌++◌, take}
 use Rattle.disk_model.specs.Contents.{Files}
 use Rattle.disk_model.specs.Spans.{AtEachMoment, OnlyReads}
 use Rattle.disk_model.specs.declared.disk.Disk.{Ghosts}
 use Rattle.plain_graph.specs.Changes.{start_weight}
-use Rattle.rec_bytes.specs.Format.{names_file}
+use Rattle.rec_bytes.specs.Format.{log_file, names_file}
 use Rattle.rec_bytes.specs.declared.key.Key.{Key}
 use Rattle.rec_bytes.specs.declared.record.Rec.{Rec}
+use Rattle.redo_log.specs.Entries.{open_byte}
 use Rattle.record_file.specs.Redone.{Redoes}
 use Rattle.store_rules.specs.Graph.{names_of}
 use Rattle.store_rules.specs.Views.{high}
@@ -78,6 +79,7 @@ pub record Commits {D : Type 0} (g : Ghosts D) (old new : SessionView D) : Type 
 pub record IsLeftOpen {D : Type 0} (g : Ghosts D) (old new : SessionView D) : Type 0 where
   pub ends : Ends old new
   pub health : new.console.health ≡ healths.Failed
+  pub failed : new.console.is_live ≡ false
   pub names : new.console.names ≡ old.console.names
   pub stored :
       IsStored g new.disk (λ left. Redoes left old.console.committed
@@ -111,6 +113,11 @@ abbrev pub LeavesCommitted : {D : Type 0} → Ghosts D → SessionView D → D �
 LeavesCommitted g old new =
     TellsAll g → AtEachMoment g old.disk new (λ left. Redoes left old.console.committed)
 
+-- where the log has no entry, the disk is only read
+abbrev pub ReadsClean : {D : Type 0} → Ghosts D → D → D → Type 0
+ReadsClean g old new =
+    g.tells_reads → g.reads old log_file 0 ≢ open_byte → OnlyReads g old new
+
 -- The store that the disk has is served again, with the names of its graph.
 pub record IsFound {D : Type 0} (g : Ghosts D) (old new : SessionView D) : Type 0 where
   pub ends : Ends old new
@@ -129,6 +136,7 @@ pub record IsFound {D : Type 0} (g : Ghosts D) (old new : SessionView D) : Type 
   pub images :
       TellsAll g → (image : Files) → g.may_leave new.disk image
       → Redoes image new.console.committed
+  pub clean : ReadsClean g old.disk new.disk
 
 -- It is not served again. What is read redoes to the same.
 pub record IsLost {D : Type 0} (g : Ghosts D) (old new : SessionView D) : Type 0 where
@@ -138,6 +146,7 @@ pub record IsLost {D : Type 0} (g : Ghosts D) (old new : SessionView D) : Type 0
   pub read :
       g.tells_reads → (space : Key → Rec) → Redoes (g.reads old.disk) space
       → Redoes (g.reads new.disk) space
+  pub clean : ReadsClean g old.disk new.disk
 
 -- at each moment of the recovery a crash leaves a content from before, or one that redoes to
 -- what was read
@@ -169,6 +178,7 @@ pub record IsAloneInDoubt {D : Type 0} (g : Ghosts D) (old new : SessionView D) 
     : Type 0 where
   pub ends : Ends old new
   pub health : new.console.health ≡ healths.Failed
+  pub failed : new.console.is_live ≡ false
   pub brought : BeginWith new.console.names old.console.names
   pub stored : IsStored g new.disk (λ left. Redoes left old.console.committed ⊎ Redoes left now)
 
@@ -182,17 +192,19 @@ pub record CommitsFrom {D : Type 0} (g : Ghosts D) (old new : SessionView D) (no
       ⊎ Redoes left now)
 
 -- The disk failed as a change alone was drafted, or before anything of a transaction was written,
--- and was only read.
+-- and was only read. The store still serves commits.
 pub record FailsRead {D : Type 0} (g : Ghosts D) (old new : SessionView D) : Type 0 where
   pub ends : Ends old new
   pub health : new.console.health ≡ healths.Failed
+  pub live : IsTrue new.console.is_live
   pub names : new.console.names ≡ old.console.names
   pub disk : OnlyReads g old.disk new.disk
 
 -- The disk failed before anything of a change alone was written, and was only read. The names that
--- the change brought are in memory still.
+-- the change brought are in memory still. The store still serves commits.
 pub record FailsDrafted {D : Type 0} (g : Ghosts D) (old new : SessionView D) : Type 0 where
   pub ends : Ends old new
   pub health : new.console.health ≡ healths.Failed
+  pub live : IsTrue new.console.is_live
   pub brought : BeginWith new.console.names old.console.names
   pub disk : OnlyReads g old.disk new.disk

@@ -18,7 +18,8 @@ use Rattle.txn_core.specs.Config.{Suits, shape_of}
 use Rattle.txn_core.specs.declared.config.Config.{Config}
 use Rattle.txn_core.specs.declared.open_fault.OpenFault.{OpenFault}
 use Rattle.txn_core.specs.declared.open_fault.OpenFault.TheVariants as faults
-use Rattle.txn_core.specs.Opening.{IsOldOrRaised, IsRefusal, IsStore, OnlyDiffers, RefusesOpening}
+use Rattle.txn_core.specs.Opening.{IsAskedOther, IsClean, IsOldOrRaised, IsRefusal, IsStore}
+use Rattle.txn_core.specs.Opening.{OnlyDiffers, RefusesOpening, StaysAsItWas}
 use Rattle.name_store.specs.Loading.{IsNameDamage}
 use Rattle.graph_session.specs.Console.{HasNoDraft, IsAt, SessionView, TellsAll}
 use Rattle.graph_session.specs.Known.{as_known}
@@ -66,7 +67,7 @@ LeavesByOpening g config old new =
     → AtEachMoment g old new (LeavesOldOrSame (g.reads old) (g.may_leave old) config)
 
 -- A session was opened. Where what the disk reads stands for a graph, or isn't known, it is at a
--- state that it begins with.
+-- state that it begins with. A clean store was only read.
 pub record Opens {D : Type 0} (g : Ghosts D) (config : Config) (old : D) (new : SessionView D)
     : Type 0 where
   pub begins : (known : Bool)
@@ -76,6 +77,7 @@ pub record Opens {D : Type 0} (g : Ghosts D) (config : Config) (old : D) (new : 
   pub recoverable : g.tells_reads → IsRecoverable (g.reads old)
   pub no_draft : HasNoDraft new
   pub crash : LeavesByOpening g config old new.disk
+  pub clean : g.tells_reads → IsClean (g.reads old) → OnlyReads g old new.disk
   pub later : g.faults old ≤ g.faults new.disk
 
 -- Why what the disk reads is not served: the store's log, its own record or its meta records, or
@@ -99,7 +101,8 @@ LeavesRefused g old new =
     g.may_leave old left ⊎ IsOldOrRaised shape store.space left)))
 
 -- No session was opened, for a reason that holds of what the disk reads. Files that are no store,
--- or a broken one, are left as they were, whatever the reason is.
+-- or a broken one, are left as they were, whatever the reason is, and a clean store is only read.
+-- Where another shape is asked for, a store isn't brought to the newest version.
 pub record IsUnopened {D : Type 0} (g : Ghosts D) (config : Config) (old new : D) (why : OpenFault)
     : Type 0 where
   pub refused : g.tells_reads → RefusesContent (g.reads old) config why
@@ -108,6 +111,9 @@ pub record IsUnopened {D : Type 0} (g : Ghosts D) (config : Config) (old new : D
   pub crash : LeavesByOpening g config old new
   pub careful : IsCareful g old new
   pub untouched : g.tells_reads → IsRefusal why → LeavesRefused g old new
+  pub differs : g.tells_reads → (space : Key → Rec) → Redoes (g.reads old) space
+      → IsAskedOther why → StaysAsItWas g old new space
+  pub clean : g.tells_reads → IsClean (g.reads old) → OnlyReads g old new
   pub later : g.faults old ≤ g.faults new
   pub cause : why ≡ faults.Disk → Rose (g.faults old) (g.faults new)
 

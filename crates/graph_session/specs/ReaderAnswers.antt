@@ -1,9 +1,10 @@
 -- What a line of a session that reads may do over any disk, whatever is in it.
-use Rattle.std.specs.Prelude.{◌≡◌, ◌≢◌, ◌⊎◌, ℕ, zero, suc, false, []}
+use Rattle.std.specs.Prelude.{◌≡◌, ◌≢◌, ◌≤◌, ◌⊎◌, ℕ, zero, suc, false, true, [], length}
 use Rattle.std.specs.Prelude.{slice_set}
 use Rattle.fault_count.specs.Cause.{Rose}
 use Rattle.disk_model.specs.declared.disk.Disk.{Ghosts}
 use Rattle.stream_io.specs.Lines.{InputLine}
+use Rattle.plain_graph.specs.Changes.{most_weight}
 use Rattle.plain_graph.specs.Kinds.{AreOfReaders}
 use Rattle.plain_graph.specs.Lines.{IsQuestion, kind_of}
 use Rattle.plain_graph.specs.Reply.{DiskFailed, Done, Faulted, NoMemory, Refused, Reply, Silent}
@@ -11,7 +12,8 @@ use Rattle.plain_graph.specs.declared.command.Command.{Command}
 use Rattle.plain_graph.specs.declared.command.Command.TheVariants as commands
 use Rattle.plain_graph.specs.declared.refusal.Refusal.{Refusal}
 use Rattle.plain_graph.specs.declared.refusal.Refusal.TheVariants as refusals
-use Rattle.snap_store.specs.Keeping.{KeepsHeld}
+use Rattle.rec_bytes.specs.Pairs.{Pairs}
+use Rattle.snap_store.specs.Keeping.{EndsFor, KeepsHeld}
 use Rattle.snap_store.specs.Layers.{released}
 use Rattle.snap_store.specs.Snaps.{state_of, taken}
 use Rattle.snap_store.specs.declared.snap_state.SnapState.{SnapState}
@@ -20,7 +22,7 @@ use Rattle.graph_session.specs.Effects.{Stays}
 use Rattle.graph_session.specs.Exchange.{told_fault}
 use Rattle.graph_session.specs.MayStep.{IsUnread, MayStep, MayTell}
 use Rattle.graph_session.specs.SharedExchange.{AsksForSnapshot}
-use Rattle.graph_session.specs.SnapshotEffects.{Confirms, SharedView}
+use Rattle.graph_session.specs.SnapshotEffects.{AreWeighed, Confirms, IsCommittedBy, SharedView}
 use Rattle.graph_session.specs.State.{IsSilent, IsSpared, NeverLacksMemory, SpellsLine}
 use Rattle.graph_session.specs.declared.health.Health.TheVariants as healths
 
@@ -109,12 +111,24 @@ abbrev pub AsksQuestion : InputLine → Type 0
 AsksQuestion line = (command : Command) × SpellsLine line command × IsQuestion command
 
 module _ {D : Type 0} (g : Ghosts D) (old : SharedView D) (reply : Reply) (new : SharedView D) where
-  -- Snapshots end only by a line that ends a transaction, for old records that it keeps.
+  -- The records that the line commits: those of the open transaction; of a change by itself those
+  -- that it writes, no more than a transaction may weigh.
+  abbrev pub IsWrittenBy : InputLine → Pairs → Type 0
+  IsWrittenBy line written =
+      (SpellsLine line commands.Commit × (old.session.console.is_open ≡ true)
+      × (written ≡ old.session.console.written))
+      ⊎ ((¬ SpellsLine line commands.Commit) × (old.session.console.is_open ≡ false)
+      × (weight : ℕ) × AreWeighed written weight × (weight ≤ most_weight)
+      × IsCommittedBy g old reply new written)
+
+  -- Snapshots end only by a line that ends a transaction, just so many that the old records that it
+  -- keeps have room.
   abbrev pub MayEnd : InputLine → Type 0
   MayEnd line =
       (new.held ≡ old.held)
       ⊎ ((Confirms reply ⊎ (reply ≡ Faulted [] DiskFailed)) × (¬ AsksQuestion line)
-      × (weight : ℕ) × KeepsHeld weight old.held new.held)
+      × (written : Pairs) × IsWrittenBy line written × EndsFor written old.held new.held
+      × KeepsHeld (length written) old.held new.held)
 
   -- A line of the session that writes.
   abbrev pub MayStepWriter : InputLine → Type 0

@@ -3,7 +3,7 @@ use Rattle.std.specs.Prelude.{◌≡◌, ◌⊎◌, ◌+◌, ◌≤◌, ℕ, tru
 use Rattle.std.specs.Prelude.{is_some}
 use Rattle.disk_model.specs.Spans.{OnlyReads}
 use Rattle.disk_model.specs.declared.disk.Disk.{Ghosts}
-use Rattle.plain_graph.specs.Changes.{start_weight}
+use Rattle.plain_graph.specs.Changes.{most_weight, start_weight}
 use Rattle.plain_graph.specs.Kinds.{Bound, Change, Kind}
 use Rattle.plain_graph.specs.LineChanges.{LineWeighs}
 use Rattle.plain_graph.specs.Lines.{kind_of}
@@ -11,12 +11,12 @@ use Rattle.plain_graph.specs.Reply.{DiskFailed, Done, EdgeMade, Faulted, NodeMad
 use Rattle.plain_graph.specs.declared.command.Command.{Command}
 use Rattle.plain_graph.specs.declared.command.Command.TheVariants as commands
 use Rattle.rec_bytes.specs.Pairs.{IsOrdered, Pairs, find_pair}
-use Rattle.rec_bytes.specs.Space.{IsAmong}
+use Rattle.rec_bytes.specs.Space.{IsAmong, laid_over}
 use Rattle.rec_bytes.specs.declared.key.Key.{Key}
 use Rattle.store_rules.specs.Graph.{graph_of, names_of}
 use Rattle.store_rules.specs.Indexes.{IsIndexed}
 use Rattle.store_rules.specs.Writes.{meta_keys}
-use Rattle.snap_store.specs.Keeping.{KeepsHeld}
+use Rattle.snap_store.specs.Keeping.{EndsFor, KeepsHeld}
 use Rattle.snap_store.specs.Snaps.{Snapshots}
 use Rattle.txn_core.specs.Sights.{KeepsSights}
 use Rattle.graph_session.specs.Console.{ConsoleView, HasNoDraft, SessionView}
@@ -47,19 +47,27 @@ Confirms (Told lines last) = Unit {0}
 Confirms _ = ⊥
 
 module _ {D : Type 0} (g : Ghosts D) (old : SharedView D) (reply : Reply) (new : SharedView D) where
-  -- A transaction of this weight was ended, or left open by the disk. Each snapshot that is still
-  -- open sees what it saw, and the sums of weights bound what is kept.
-  pub record KeepsFor (weight : ℕ) : Type 0 where
+  -- A transaction that has written these records was ended, or left open by the disk. Each snapshot
+  -- that is still open sees what it saw. Just so many have ended that there is room for the old
+  -- records that were kept, and the sums of weights bound these.
+  pub record KeepsFor (written : Pairs) : Type 0 where
     pub ends : Confirms reply ⊎ (reply ≡ Faulted [] DiskFailed)
     pub sights : KeepsSights g old.session.console.committed new.session.disk old.held new.held
-    pub held : KeepsHeld weight old.held new.held
+    pub ended : EndsFor written old.held new.held
+    pub held : (weight : ℕ) → length written ≤ weight → KeepsHeld weight old.held new.held
 
   -- `commit` ends the open transaction; where none is open nothing is kept.
   abbrev pub KeepsCommit : Type 0
   KeepsCommit =
       ((new.held ≡ old.held) × (old.session.console.is_open ≡ false))
-      ⊎ ((old.session.console.is_open ≡ true)
-      × ((weight : ℕ) → length old.session.console.written ≤ weight → KeepsFor weight))
+      ⊎ ((old.session.console.is_open ≡ true) × KeepsFor old.session.console.written)
+
+  -- The records are what a change by itself has written: where it is made they are what was
+  -- committed with it.
+  abbrev pub IsCommittedBy : Pairs → Type 0
+  IsCommittedBy written =
+      g.tells_reads → Confirms reply
+      → new.session.console.committed ≡ laid_over old.session.console.committed written
 
   -- A change outside a transaction is one by itself, whose weight is that of the line where the
   -- store has a graph. One that is not made, or in a transaction, keeps nothing.
@@ -68,7 +76,9 @@ module _ {D : Type 0} (g : Ghosts D) (old : SharedView D) (reply : Reply) (new :
       ((new.held ≡ old.held)
       × ((old.session.console.is_open ≡ true)
       ⊎ ((¬ Confirms reply) × OnlyReads g old.session.disk new.session.disk)))
-      ⊎ ((old.session.console.is_open ≡ false) × (more : ℕ) × KeepsFor (start_weight + more)
+      ⊎ ((old.session.console.is_open ≡ false) × (written : Pairs) × (more : ℕ)
+      × AreWeighed written (start_weight + more) × (start_weight + more ≤ most_weight)
+      × IsCommittedBy written × KeepsFor written
       × (g.tells_reads → IsIndexed old.session.console.committed old.session.console.shape
       → old.session.console.names ≡ names_of old.session.console.committed
       → LineWeighs old.session.console.shape.limit old.session.console.shape.threshold

@@ -29,7 +29,7 @@ pub returns-in-Ok-clause-keeps : goal.returns-in-Ok-clause-keeps
 returns-in-Ok-clause-keeps g c =
     let done = c.in-Ok.ensures in
     record {
-      held = inr (sym c.if-not-in_transaction.ensures.is, λ weight few. record { ends = inl tt; sights = done.sights; held = done.held weight few });
+      held = inr (sym c.if-not-in_transaction.ensures.is, record { ends = inl tt; sights = done.sights; ended = done.ended; held = done.held });
       weighed = λ none weighed opened. absurd (true≢false (sym opened ∙ done.closed));
     }
 
@@ -37,7 +37,7 @@ pub returns-in-Err-clause-keeps : goal.returns-in-Err-clause-keeps
 returns-in-Err-clause-keeps g c =
     let done = c.in-Err.ensures in
     record {
-      held = inr (sym c.if-not-in_transaction.ensures.is, λ weight few. record { ends = inr refl; sights = done.sights; held = done.held weight few });
+      held = inr (sym c.if-not-in_transaction.ensures.is, record { ends = inr refl; sights = done.sights; ended = done.ended; held = done.held });
       weighed = λ none weighed opened. absurd (true≢false (sym opened ∙ done.closed));
     }
 

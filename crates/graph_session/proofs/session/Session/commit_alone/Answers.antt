@@ -12,6 +12,8 @@ returns-in-Ok-clause-tries g c =
       crash = done.crash;
       later = done.cause.later;
       sights = done.sights;
+      writes = refl;
+      ended = done.ended;
       held = done.held;
       ends = inl (
         refl,
@@ -33,6 +35,8 @@ returns-in-Err-clause-tries g c =
       crash = done.crash;
       later = done.cause.later;
       sights = done.sights;
+      writes = refl;
+      ended = done.ended;
       held = done.held;
       ends = inr (refl, records-failed c.args.self.now _ (record { same = done.same; in_transaction = done.closed; own = done.own; draft = done.draft }) refl refl done.cause.failed done.failed);
     }

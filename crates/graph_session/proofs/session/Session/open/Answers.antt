@@ -26,6 +26,8 @@ returns-in-Err-clause-unopened g c =
       });
       careful = c.in-Err.ensures.careful;
       untouched = λ told refused. inl (c.in-Err.ensures.untouched told refused);
+      differs = λ told space redoes other. c.in-Err.ensures.differs told space redoes other;
+      clean = λ told clean. c.in-Err.ensures.clean_refused told clean;
       later = c.in-Err.ensures.later_refused;
       cause = c.in-Err.ensures.cause;
     }
@@ -47,6 +49,7 @@ returns-in-Ok-load-clause-opened g c =
         made = λ told images space shape redoes made. c.in-Ok.ensures.crash told images space shape redoes made;
         blank = λ told images unmade. c.in-Ok.ensures.crash_new told images unmade;
       };
+      clean = λ told clean. c.in-Ok.ensures.clean told clean;
       later = c.in-Ok.ensures.later;
     })
     c.load.ensures.onward c.load.ensures.cause.later _ refl refl refl refl refl refl refl c.in-Ok-load.ensures.loaded refl c.in-Ok-load.ensures.reads
@@ -68,6 +71,7 @@ returns-in-Err-load-clause-unopened g c =
         made = λ told images space shape redoes made. c.in-Ok.ensures.crash told images space shape redoes made;
         blank = λ told images unmade. c.in-Ok.ensures.crash_new told images unmade;
       };
+      clean = λ told clean. c.in-Ok.ensures.clean told clean;
       later = c.in-Ok.ensures.later;
     })
     c.load.ensures.onward c.load.ensures.cause.later Names c.close.result.now c.why_of.result c.in-Err-load.fault c.close.ensures.disk c.why_of.ensures c.in-Err-load.ensures.damaged c.in-Err-load.ensures.sound
