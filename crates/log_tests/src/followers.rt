@@ -121,8 +121,8 @@ fn a_stopped_shipment_is_whole_or_nothing(rt: HostRuntime) -> Result<(), Fail> {
 
 #[test]
 fn a_failed_shipment_is_found_again(rt: HostRuntime) -> Result<(), Fail> {
-    // The call of the shipment that fails, whether the first call after it fails too, and the number
-    // that the follower then has.
+    // The call of the shipment that fails, whether the first call after it fails too, and the
+    // number that the follower then has.
     let table = [(27, false, 0), (28, true, 0), (29, false, 0), (30, true, 1)];
     let bytes = shipment(rt.alloc(), 1, &[(NODES, 0), (NAMES, 1)])?;
     for (call, twice, have) in table {

@@ -24,18 +24,18 @@ fn a_written_record_is_read_back_and_no_other_changes(rt: HostRuntime) -> Result
     Ok(())
 }
 
-// Which of these node records are got, one after another, through so many pages from a disk whose
-// fourth call fails.
-fn got(alloc: Global, pages: usize, ids: &[u32]) -> Result<Vec<bool>, AllocError> {
+// Which of these node records are got, one after another, through so many pages from a disk that
+// stops at this call.
+fn got(alloc: Global, pages: usize, stop: u64, ids: &[u32]) -> Result<Vec<bool>, AllocError> {
     let room = Room {
         calls: 8,
         bytes: 64,
     };
     let plan = FaultPlan {
         fails: Calls::new(Vec::new(alloc)),
-        stop: Some(4),
+        stop: Some(stop),
     };
-    let mut disk = MemoryDisk::new(alloc, 256, room, plan)?;
+    let mut disk = MemoryDisk::new(alloc, 512, room, plan)?;
     let mut cache = PageCache::new(alloc, pages)?;
     let mut got = Vec::new(alloc);
     for id in ids {
@@ -50,12 +50,19 @@ fn got(alloc: Global, pages: usize, ids: &[u32]) -> Result<Vec<bool>, AllocError
 
 #[test]
 fn the_page_that_was_used_last_stays(rt: HostRuntime) -> Result<(), Fail> {
-    let got_all = got(rt.alloc(), 2, &[0, 64, 0, 128, 0])?;
+    let got_all = got(rt.alloc(), 2, 4, &[0, 64, 0, 128, 0])?;
     assert!(rt; got_all.as_slice() == [true, true, true, true, true].as_slice());
-    let one_gone = got(rt.alloc(), 2, &[0, 64, 128, 0])?;
+    let one_gone = got(rt.alloc(), 2, 4, &[0, 64, 128, 0])?;
     assert!(rt; one_gone.as_slice() == [true, true, true, false].as_slice());
-    let one_kept = got(rt.alloc(), 0, &[0, 1, 64, 0, 64])?;
+    let one_kept = got(rt.alloc(), 0, 4, &[0, 1, 64, 0, 64])?;
     assert!(rt; one_kept.as_slice() == [true, true, true, true, false].as_slice());
+    let five_kept = got(
+        rt.alloc(),
+        5,
+        6,
+        &[0, 64, 128, 192, 256, 256, 192, 128, 64, 0],
+    )?;
+    assert!(rt; five_kept.as_slice() == [true; 10].as_slice());
     Ok(())
 }
 

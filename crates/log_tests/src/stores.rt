@@ -550,7 +550,8 @@ fn recover_poked(
     alloc: Global,
     pokes: &[(u8, u64, u8)],
 ) -> Result<Result<(), AgainFault>, Fail> {
-    // The calls of the opening, and of a checkpoint of eight records in two runs. The next one fails.
+    // The calls of the opening, and of a checkpoint of eight records in two runs. The next one
+    // fails.
     let mut disk = TurnedDisk::new(
         new_disk(alloc, &[40], None)?,
         Vec::from_slice(alloc, pokes)?,
