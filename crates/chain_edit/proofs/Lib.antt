@@ -1,5 +1,6 @@
 pub mod AllPushed
 pub mod AllUnlinked
+pub mod Beside
 pub mod Broken
 pub mod Causes
 pub mod Damages
@@ -10,4 +11,5 @@ pub mod LinkLaws
 pub mod OwnedHeads
 pub mod Pushes
 pub mod Removals
+pub mod Unhidden
 pub mod Walks

@@ -184,6 +184,31 @@ module _ (s : State) (head : Head) (node rel : ℕ) (place : IsPlace head) where
   first_stays some = rw new_is (on_led back head place.elsewhere node before after (λ t. first_of t.records head ≡ first) (λ none. absurd (some none))
       (λ _. ap (λ r. field 4 r head.field) (elsewhere-set_next back.records node before after head.key place.elsewhere ∙ back_stays head.key place.elsewhere)))
 
+  -- ---- the same, of the space as it is left
+  pub unlinked_next : prev_of s.records node rel ≢ nil → next_of (unlinked s head node rel).records node (prev_of s.records node rel) ≡ next_of s.records node rel
+  unfolding new before after
+  unlinked_next some = next_same some
+
+  pub unlinked_next_other : (x : ℕ) → x ≢ rel → x ≢ prev_of s.records node rel → next_of (unlinked s head node rel).records node x ≡ next_of s.records node x
+  unfolding new before
+  unlinked_next_other x nr nb = next_other node x (λ e. absurd (nb e)) (λ e. absurd (nr e))
+
+  pub unlinked_prev : next_of s.records node rel ≢ nil → prev_of (unlinked s head node rel).records node (next_of s.records node rel) ≡ prev_of s.records node rel
+  unfolding new before after
+  unlinked_prev some = prev_same some
+
+  pub unlinked_prev_other : (x : ℕ) → x ≢ rel → x ≢ next_of s.records node rel → prev_of (unlinked s head node rel).records node x ≡ prev_of s.records node x
+  unfolding new after
+  unlinked_prev_other x nr na = prev_other node x (λ e. absurd (na e)) (λ e. absurd (nr e))
+
+  pub unlinked_first : prev_of s.records node rel ≡ nil → first_of (unlinked s head node rel).records head ≡ next_of s.records node rel
+  unfolding new before after
+  unlinked_first none = first_led none
+
+  pub unlinked_first_stays : prev_of s.records node rel ≢ nil → first_of (unlinked s head node rel).records head ≡ first_of s.records head
+  unfolding new before first
+  unlinked_first_stays some = first_stays some
+
   -- ---- numbers
   led_none : before ≡ nil → lead_place s.records head node rel ≡ head
   unfolding before

@@ -26,7 +26,7 @@ use Rattle.chain_edit.specs.Unlinking.{IsUnlinkFault, unlinked}
 use Rattle.chain_edit.proofs.LinkLaws.{field-set_other}
 use Rattle.group_store.specs.Counting.{one_less, tallied}
 use Rattle.group_store.specs.Dropping.{IsDropDamage, IsDropFault}
-use Rattle.group_store.specs.Dropping.IsDropDamage.{BadMember, BadNext, BadPrevious}
+use Rattle.group_store.specs.Dropping.IsDropDamage.{Astray, BadMember, BadNext, BadPrevious}
 use Rattle.group_store.specs.GroupChain.{next_group, previous_group}
 use Rattle.group_store.specs.GroupRecord.{range_damage}
 use Rattle.group_store.specs.Leaving.{KeepsHeads}
@@ -96,6 +96,7 @@ close_blamed was s t id rel node g (faults.Damaged damage) told breaks same = Un
         by d (BadMember _ bad) = BadMember d (member d bad)
         by d (BadPrevious _ bad) = BadPrevious d (link (previous_group s.records g) d bad)
         by d (BadNext _ bad) = BadNext d (link (next_group s.records g) d bad)
+        by d (Astray out) = Astray out
 
 -- properties that aren't taken away
 pub drop_blamed : (s v t : State) → SameButReads s v → (fault : Fault) → props.BlamesDropped v.records v.shape fault → BlamesDeleting s t (of_fault fault)

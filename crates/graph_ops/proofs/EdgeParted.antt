@@ -31,7 +31,7 @@ use Rattle.rec_bytes.specs.declared.record.Rec.{Rec}
 use Rattle.rec_bytes.proofs.Spaces.{put_other}
 use Rattle.store_rules.proofs.CountLaws.{HasOneMore, counts_away}
 use Rattle.store_rules.proofs.GroupLaws.{same_group}
-use Rattle.chain_edit.specs.Unlinking.{unlinked}
+use Rattle.chain_edit.specs.Unlinking.{CanUnlink, unlinked}
 use Rattle.group_store.specs.Counting.{one_less, tallied}
 use Rattle.group_store.proofs.HeadCounts.{less_here}
 use Rattle.chain_edit.specs.Listed.{AreHeads, without_one}
@@ -351,6 +351,13 @@ module _ (s : State) (shape : Shape) (id : ℕ) (row : RelRow) (h k : Head) (edg
 
   pub from_next : s.shape ≡ shape → IsRightLink s (next_of s.records row.from id)
   from_next same = right_next s (subst (AreInRange s.records) (sym same) store.ranges) id row.from row_is.0
+
+  pub from_chain : (xs : List ℕ) × CanUnlink s.records h row.from id xs
+  from_chain = let l = store.linked.listed.each h row.from edge.source.owns in (l.members, record { chain = l.chain; member = l.all id at_source })
+
+  pub to_chain : row.from ≢ row.to → (xs : List ℕ) × CanUnlink (parted s h row.from id d).records k row.to id xs
+  unfolding one
+  to_chain differ = let l = one_listed.each k row.to edge.target.owns in (l.members, record { chain = l.chain; member = l.all id (still differ) })
 
   one_ranges : s.shape ≡ shape → AreInRange one.records one.shape
   unfolding one

@@ -28,7 +28,7 @@ use Rattle.graph_ops.specs.Store.{IsMidway}
 use Rattle.graph_ops.specs.declared.edge_end.EdgeEnd.{EdgeEnd}
 use Rattle.graph_ops.specs.declared.edge_end.Ends.{Ends}
 use Rattle.graph_ops.specs.declared.edge_end.Ends.TheVariants.{Loop, Two}
-use Rattle.graph_ops.proofs.EdgeParted.{HasParted, IsLiveEdge, both_groups, both_parted, edge_left, edge_parted, from_next, from_prev, to_next, to_prev}
+use Rattle.graph_ops.proofs.EdgeParted.{HasParted, IsLiveEdge, both_groups, both_parted, edge_left, edge_parted, from_chain, from_next, from_prev, to_chain, to_next, to_prev}
 use Rattle.graph_ops.proofs.Elements.{found_degree}
 use Rattle.graph_ops.proofs.EndLaws.{at_source, at_target}
 use Rattle.graph_ops.proofs.KeptIndexes.{edge_graph_indexes}
@@ -106,14 +106,20 @@ module _ (s : State) (names : List (List ℕ)) (id : ℕ) (ends : Ends EdgeEnd) 
   right_to_next : IsRightLink (parted s h source.node id d) (next_of (parted s h source.node id d).records target.node id)
   right_to_next = to_next s s.shape id row h k edge store.store d e d_now e_now refl
 
-  pub links_right : HaveRightLinks s ends id
-  links_right = by ends refl
+  right_from : HasRightLinks s source id
+  right_from = let c = from_chain s s.shape id row h k edge store.store d e d_now e_now in (right_from_prev, right_from_next, c.0, c.1)
+
+  right_to : source.node ≢ target.node → HasRightLinks (end_parted s source id) target id
+  right_to differ = let c = to_chain s s.shape id row h k edge store.store d e d_now e_now differ in (right_to_prev, right_to_next, c.0, c.1)
+
+  pub links_right : AreApart (λ (end : EdgeEnd). end.node) ends → HaveRightLinks s ends id
+  links_right apart = by ends refl apart
     where
-      by : (e : Ends EdgeEnd) → e ≡ ends → HaveRightLinks s e id
-      by (Loop end) is = subst (λ (e : Ends EdgeEnd). HasRightLinks s (source_of e) id) (sym is) (right_from_prev, right_from_next)
-      by (Two a b) is = (
-        subst (λ (e : Ends EdgeEnd). HasRightLinks s (source_of e) id) (sym is) (right_from_prev, right_from_next),
-        subst (λ (e : Ends EdgeEnd). HasRightLinks (end_parted s (source_of e) id) (target_of e) id) (sym is) (right_to_prev, right_to_next),
+      by : (e : Ends EdgeEnd) → e ≡ ends → AreApart (λ (end : EdgeEnd). end.node) ends → HaveRightLinks s e id
+      by (Loop end) is differ = subst (λ (e : Ends EdgeEnd). HasRightLinks s (source_of e) id) (sym is) right_from
+      by (Two a b) is differ = (
+        subst (λ (e : Ends EdgeEnd). HasRightLinks s (source_of e) id) (sym is) right_from,
+        subst (λ (e : Ends EdgeEnd). HasRightLinks (end_parted s (source_of e) id) (target_of e) id) (sym is) (right_to (subst (λ (e : Ends EdgeEnd). (source_of e).node ≢ (target_of e).node) is (subst (AreApart (λ (end : EdgeEnd). end.node)) (sym is) differ))),
       )
 
   module _ (u t : State) (apart : AreApart (λ (end : EdgeEnd). end.node) ends) (parts_are : u ≡ ends_parted s ends id) (shape : t.shape ≡ s.shape)

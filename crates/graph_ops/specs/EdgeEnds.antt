@@ -13,7 +13,7 @@ use Rattle.chain_edit.specs.Chains.{next_of, prev_of}
 use Rattle.chain_edit.specs.Heads.{IsHead, head_of}
 use Rattle.chain_edit.specs.Links.{IsRightLink}
 use Rattle.chain_edit.specs.Pushing.{pushed}
-use Rattle.chain_edit.specs.Unlinking.{unlinked}
+use Rattle.chain_edit.specs.Unlinking.{CanUnlink, unlinked}
 use Rattle.group_store.specs.Counting.{one_less, one_more, tallied}
 use Rattle.graph_ops.specs.declared.edge_end.EdgeEnd.{EdgeEnd}
 use Rattle.graph_ops.specs.declared.edge_end.Ends.{Ends}
@@ -78,10 +78,12 @@ end_groups (Loop end) = group_of_head (head_of end.head) ++ []
 end_groups (Two source target) =
     group_of_head (head_of source.head) ++ (group_of_head (head_of target.head) ++ [])
 
--- the relationship's neighbours in an end's chain are relationships that there can be
+-- The relationship is in the end's chain, and its neighbours there are relationships that there can
+-- be.
 abbrev pub HasRightLinks : State → EdgeEnd → ℕ → Type 0
 HasRightLinks s end rel = IsRightLink s (prev_of s.records end.node rel)
     × IsRightLink s (next_of s.records end.node rel)
+    × (xs : List ℕ) × CanUnlink s.records (head_of end.head) end.node rel xs
 
 -- so it is at each end when the relationship is taken out there
 abbrev pub HaveRightLinks : State → Ends EdgeEnd → ℕ → Type 0

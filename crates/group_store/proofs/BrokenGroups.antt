@@ -13,7 +13,7 @@ use Rattle.rec_bytes.specs.Space.{SameButReads, State}
 use Rattle.id_freelist.proofs.TakeBreaches.{breaks_of}
 use Rattle.store_rules.specs.Breaking as breaking
 use Rattle.store_rules.specs.Breaking.{Breaks, IsHeadOf, IsOwnedBy}
-use Rattle.store_rules.specs.Breaking.Breaks.{OwnerGroups, RecordRange, RelEnds, WrongMeta}
+use Rattle.store_rules.specs.Breaking.Breaks.{GroupOwner, OwnerGroups, RecordRange, RelEnds, WrongMeta}
 use Rattle.store_rules.specs.Ranges.{Fits, Layout, Pointer, all_point, free_layout, group_layout, layout_by, may, must, node_layout, points}
 use Rattle.store_rules.specs.Rules.{Head, IsEnd, StandsAt}
 use Rattle.store_rules.specs.Views as views
@@ -28,8 +28,8 @@ use Rattle.chain_edit.specs.Breaks.{IsBreakFault}
 use Rattle.chain_edit.proofs.InRange.{low_points}
 use Rattle.node_store.specs.Loading.{IsNodeDamage}
 use Rattle.row_store.specs.Loading.IsRowDamage.{HighMark as HighNodes, UnknownKind}
-use Rattle.group_store.specs.Dropping.{IsDropDamage, IsDropFault}
-use Rattle.group_store.specs.Dropping.IsDropDamage.{BadMember, BadNext, BadPrevious}
+use Rattle.group_store.specs.Dropping.{IsDropDamage, IsDropFault, IsLinkChain}
+use Rattle.group_store.specs.Dropping.IsDropDamage.{Astray, BadMember, BadNext, BadPrevious}
 use Rattle.group_store.specs.Finding.{IsFindFault}
 use Rattle.group_store.specs.FirstGroup.{IsNodeFault}
 use Rattle.group_store.specs.GroupChain.{IsDense, IsOwnedList, next_group, previous_group}
@@ -188,6 +188,8 @@ module _ (s : State) (n g : ℕ) (row : views.GroupRow) (is : group_at s.records
   drop_by damage (BadMember d bad) = member_breaks d bad
   drop_by damage (BadPrevious d bad) = link_breaks (previous_group s.records g) d (λ fits. (neighbours_low (high s.records) (rec_at s.records format.groups_file g) used fits).0) bad
   drop_by damage (BadNext d bad) = link_breaks (next_group s.records g) d (λ fits. (neighbours_low (high s.records) (rec_at s.records format.groups_file g) used fits).1) bad
+  drop_by damage (Astray out) = GroupOwner g (λ keeps. let o = keeps.owner row is in
+      out o.members (subst (λ m. IsLinkChain s.records m o.members) owner o.groups.chain) o.member)
 
   pub drop_breaks : (fault : Fault) → IsDropFault s n g fault → IsBreakFault s fault
   drop_breaks Memory told = tt

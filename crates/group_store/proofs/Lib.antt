@@ -10,6 +10,7 @@ pub mod CountedRels
 pub mod DenseFaults
 pub mod DenseStays
 pub mod DropSteps
+pub mod DropTests
 pub mod DroppedRules
 pub mod Drops
 pub mod ExactGroups

@@ -1,7 +1,7 @@
 //! Relationships that come into a chain or leave it, with the number of them that a counted group
 //! has.
 
-ghost use Rattle.std.specs.Prelude.{◌≡◌, ◌≤◌, ◌∷◌, [], ℕ, Some, IfErr, IfOk, OnOk};
+ghost use Rattle.std.specs.Prelude.{◌≡◌, ◌≤◌, ◌∷◌, [], ℕ, List, Some, IfErr, IfOk, OnOk};
 ghost use Rattle.rec_bytes.specs.Key.{IsKey};
 ghost use Rattle.rec_bytes.specs.Space.{HasCause, WritesOnly, after_get};
 ghost use Rattle.rel_store.specs.RelRecord.{rel_key};
@@ -13,7 +13,14 @@ ghost use Rattle.chain_edit.specs.Chains.{next_of, prev_of};
 ghost use Rattle.chain_edit.specs.Heads.{head_of, IsHead};
 ghost use Rattle.chain_edit.specs.Links.{IsRightLink};
 ghost use Rattle.chain_edit.specs.Pushing.{IsPushFault, pushed};
-ghost use Rattle.chain_edit.specs.Unlinking.{IsUnlinkFault, unlinked};
+ghost use Rattle.chain_edit.specs.Unlinking.{
+  CanUnlink,
+  IsLinkedIn,
+  IsLoneHead,
+  IsUnlinkFault,
+  unlinked,
+};
+ghost use Rattle.chain_edit.specs.Walking.{ReadsAtMost};
 ghost use Rattle.group_store.specs.Counting.{
   count_place,
   one_less,
@@ -66,13 +73,18 @@ pub fn unlink_counted<S: Space>(space: &mut S, head: Head, node: u32, rel: u32) 
     requires rel { IsKey (rel_key rel) }
     ensures ok { S.tells → OnOk result (S.state space.new
         ≡ tallied one_less (unlinked (S.state space.old) (head_of head) node rel) (head_of head)) }
-    ensures damaged { S.tells → IfErr result (IsUnlinkFault (S.state space.old) node rel) }
-    ensures unwritten { OnDamage result (S.state space.new ≡ after_get (S.state space.old)) }
+    ensures linked { S.tells
+        → OnOk result (IsLinkedIn (S.state space.old).records (head_of head) node rel) }
+    ensures damaged { S.tells
+        → IfErr result (IsUnlinkFault (S.state space.old) (head_of head) node rel) }
+    ensures unwritten { OnDamage result (ReadsAtMost 3 (S.state space.old) (S.state space.new)) }
     ensures breaks { S.tells → (row : RelRow) → rel_at (S.state space.old).records rel ≡ Some row
+        → IsLoneHead (S.state space.old).records (head_of head) node rel row
         → IfErr result (IsBreakFault (S.state space.old)) }
     ensures sound { S.tells
         → IsRightLink (S.state space.old) (prev_of (S.state space.old).records node rel)
         → IsRightLink (S.state space.old) (next_of (S.state space.old).records node rel)
+        → (xs : List ℕ) → CanUnlink (S.state space.old).records (head_of head) node rel xs
         → NotDamaged result }
     ensures writes { (before after : ℕ) × WritesOnly (S.state space.old) (S.state space.new)
         (rel_key before ∷ rel_key rel ∷ rel_key after ∷ head.key ∷ []) }

@@ -16,7 +16,7 @@ pub returns-in_err-part_ends-clause-sound : goal.returns-in_err-part_ends-clause
 returns-in_err-part_ends-clause-sound g c tells names store bare =
     let s = g.S.Reads.state c.args.space.now in
     fault_exit (λ f. f) IsOutside c.in_err-part_ends.field-0.0 c.from_residual.result c.from_residual.ensures.1
-    (c.in_err-part_ends.ensures.sound tells (links_right s names c.args.id c.args.ends store bare))
+    (c.in_err-part_ends.ensures.sound tells (links_right s names c.args.id c.args.ends store bare c.requires.ends.apart))
 
 pub returns-in_err-give-clause-sound : goal.returns-in_err-give-clause-sound
 returns-in_err-give-clause-sound g c tells names store bare =

@@ -1,11 +1,11 @@
 use Rattle.graph_ops.proofs.EndWrites.{end_parted}
 use Rattle.graph_ops.proofs.DiskCauses.{space_cause_passed}
 use Rattle.chain_edit.specs.Heads.{head_of}
-use Rattle.graph_ops.specs.ChangeFault.{of_fault, of_space}
+use Rattle.graph_ops.specs.ChangeFault.{IsOutside, of_fault, of_space}
 use Rattle.graph_ops.specs.Damage.{IfBlames}
 use Rattle.graph_ops.proofs.Adding.{space_blamed}
 use Rattle.graph_ops.proofs.EdgeBlames.{heads_parted_by, unlink_blamed}
-use Rattle.graph_ops.proofs.Exits.{fault_exit}
+use Rattle.graph_ops.proofs.Exits.{fault_exit, fault_outside}
 use Rattle.graph_ops.specs.EdgeDeleting.{IsEdgeLink}
 use Rattle.graph_ops.proofs.edge_parting.part_end.Goals as goal
 
@@ -18,6 +18,11 @@ returns-clause-writes g c = end_parted _ _ _ c.args.rel c.args.end c.unlink_coun
 pub returns-in_err-set_number-clause-cause : goal.returns-in_err-set_number-clause-cause
 returns-in_err-set_number-clause-cause g c =
     space_cause_passed _ _ _ c.from_residual-in_err-set_number.result c.in_err-set_number.field-0.0 c.in_ok-unlink_counted.ensures.cause.later c.in_err-set_number.ensures.cause c.from_residual-in_err-set_number.ensures.1
+
+pub returns-in_err-unlink_counted-clause-sound : goal.returns-in_err-unlink_counted-clause-sound
+returns-in_err-unlink_counted-clause-sound g c tells links =
+    fault_exit of_fault IsOutside c.in_err-unlink_counted.field-0.0 c.from_residual.result c.from_residual.ensures.1
+    (fault_outside (Unit {0}) c.in_err-unlink_counted.field-0.0 (c.in_err-unlink_counted.ensures.sound tells links.0 links.1 links.2 links.3))
 
 -- ---- which record is blamed, and heads that stay
 pub returns-in_err-unlink_counted-clause-damaged : goal.returns-in_err-unlink_counted-clause-damaged
