@@ -1,5 +1,5 @@
 -- What a removal leaves of each chain.
-use Rattle.std.proofs.Common.{◌≡◌, ◌≢◌, ◌⊎◌, ◌+◌, ◌≤◌, ℕ, ◌<◌, ◌^◌, nat_eq, cond, List, [], ◌∷◌, sym, ap, ◌∙◌, subst, ⊎_elim, arith, refl}
+use Rattle.std.proofs.Common.{◌≡◌, ◌≢◌, ◌⊎◌, ◌+◌, ◌≤◌, ℕ, ◌<◌, ◌^◌, nat_eq, cond, List, [], ◌∷◌, sym, ap, ◌∙◌, subst, inl, inr, ⊎_elim, arith, refl}
 use Rattle.rec_bytes.specs.declared.key.Key.{Key}
 use Rattle.rec_bytes.specs.declared.record.Rec.{Rec}
 use Rattle.rec_bytes.specs.Format.{nil}
@@ -208,6 +208,17 @@ module _ (s : State) (head : Head) (node rel : ℕ) (place : IsPlace head) where
   pub unlinked_first_stays : prev_of s.records node rel ≢ nil → first_of (unlinked s head node rel).records head ≡ first_of s.records head
   unfolding new before first
   unlinked_first_stays some = first_stays some
+
+  -- a chain of another node stays, unless it uses a link of the relationship or of what it says is beside it
+  pub unlinked_others : (m from : ℕ) (ys : List ℕ) → IsChainFrom s.records m from ys
+      → ((x : ℕ) → In x ys → (x ≡ rel) ⊎ ((x ≡ prev_of s.records node rel) ⊎ (x ≡ next_of s.records node rel)) → Differ s.records node m x)
+      → IsChainFrom (unlinked s head node rel).records m from ys
+  unfolding new before after
+  unlinked_others m from ys chain apart =
+      let at_rel : (x : ℕ) → In x ys → x ≡ rel → Differ s.records node m rel = λ x i e. subst (Differ s.records node m) e (apart x i (inl e)) in
+      chain_stays (next_of s.records m) (prev_of s.records m) (next_of new.records m) (prev_of new.records m) nil from ys
+      (λ x i. next_other m x (λ e. subst (Differ s.records node m) e (apart x i (inr (inl e)))) (at_rel x i))
+      (λ x i. prev_other m x (λ e. subst (Differ s.records node m) e (apart x i (inr (inr e)))) (at_rel x i)) chain
 
   -- ---- numbers
   led_none : before ≡ nil → lead_place s.records head node rel ≡ head

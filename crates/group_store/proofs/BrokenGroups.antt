@@ -102,7 +102,7 @@ dense_low marks r kind fits =
     = subst (λ (l : Layout). all_point marks r l.pointers ≡ true) (sym (used_is _ fits.layout is)) fits.point in
     low_points marks r format.node_first_link format.groups_file (and_parts (points marks r (may format.node_first_link format.groups_file)) _ point).0
 
-dense_below : (s : State) (n : ℕ) → IsDense s.records n → n < high s.records format.nodes_file
+pub dense_below : (s : State) (n : ℕ) → IsDense s.records n → n < high s.records format.nodes_file
 dense_below s n dense = kind_below (high s.records format.nodes_file) (rec_at s.records format.nodes_file n) n (λ e. absurd (let d = dense in omega arith))
 
 -- ---- the groups of a dense node

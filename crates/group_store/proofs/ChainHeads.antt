@@ -68,70 +68,73 @@ end_used s shape well n x row live end =
     let ends = well.linked.ends x row live in
     ⊎_elim (λ (e : row.from ≡ n). subst (λ m. kind_at s format.nodes_file m ≢ 0) e ends.from) (λ (e : row.to ≡ n). subst (λ m. kind_at s format.nodes_file m ≢ 0) e ends.to) end
 
+-- in a group of a dense node, whatever the other records are
+module _ (s : Records) (n g label : ℕ) (side : Side) (row : RelRow) (member : IsGroupOf s n g) (typed : field 4 (rec_at s format.groups_file g) format.group_type ≡ label) (at : IsAt n label side row) (dense : IsDense s n) where
+  there : group_at s g ≡ Some (group_in (rec_at s format.groups_file g) g)
+  there = row_some (kind_at s format.groups_file g) (group_in (rec_at s format.groups_file g) g) (group_used (kind_at s format.groups_file g) member.kind)
+
+  place : (z : Side) → (place_of z ≡ format.group_first_out) ⊎ ((place_of z ≡ format.group_first_in) ⊎ (place_of z ≡ format.group_first_loop))
+  place Out = inl refl
+  place Into = inr (inl refl)
+  place Loop = inr (inr refl)
+
+  owner : ℕ
+  owner = field 4 (rec_at s format.groups_file g) format.group_owner
+
+  is_eq : (a b : ℕ) → nat_eq a b ≡ true → a ≡ b
+  is_eq a b e = ⊎_elim (λ k. k) (λ ne. absurd (clash (sym e ∙ eq_false a b ne))) (nat_cases a b)
+    where
+      clash : true ≡ false → ⊥
+      clash q = cc
+
+  differ : (a b : ℕ) → nat_eq a b ≡ false → a ≢ b
+  differ a b e k = clash (sym (eq_true a b k) ∙ e)
+    where
+      clash : true ≡ false → ⊥
+      clash q = cc
+
+  -- which of the three it is
+  aside : (loop out : Bool) → nat_eq row.from row.to ≡ loop → nat_eq row.from n ≡ out
+      → ((place_of (cond loop Loop (cond out Out Into)) ≡ format.group_first_out) × (row.from ≡ owner) × (row.to ≢ owner))
+      ⊎ (((place_of (cond loop Loop (cond out Out Into)) ≡ format.group_first_in) × (row.from ≢ owner) × (row.to ≡ owner))
+      ⊎ ((place_of (cond loop Loop (cond out Out Into)) ≡ format.group_first_loop) × (row.from ≡ owner) × (row.to ≡ owner)))
+  unfolding owner
+  aside true out same leaves =
+      let e = is_eq row.from row.to same in
+      inr (inr (refl, ⊎_elim (λ f. f) (λ t. e ∙ t) at.end ∙ sym member.owner, ⊎_elim (λ f. sym e ∙ f) (λ t. t) at.end ∙ sym member.owner))
+  aside false true same leaves =
+      let f = is_eq row.from n leaves in
+      inl (refl, f ∙ sym member.owner, λ t. differ row.from row.to same (f ∙ sym member.owner ∙ sym t))
+  aside false false same leaves = inr (inl (refl, (λ f. differ row.from n leaves (f ∙ member.owner)), ⊎_elim (λ f. absurd (differ row.from n leaves f)) (λ t. t) at.end ∙ sym member.owner))
+
+  pub group_end : IsEndHead s (group_head g side) n row
+  unfolding owner
+  group_end = record {
+    owns = inr (record { dense = dense; row = group_in (rec_at s format.groups_file g) g; group = there; owner = member.owner; key = refl; field = place side });
+    on = inr (
+      refl,
+      record {
+        row = group_in (rec_at s format.groups_file g) g;
+        group = there;
+        label = at.typed ∙ sym typed;
+        side = subst (λ z. ((place_of z ≡ format.group_first_out) × (row.from ≡ field 4 (rec_at s format.groups_file g) format.group_owner) × (row.to ≢ field 4 (rec_at s format.groups_file g) format.group_owner))
+            ⊎ (((place_of z ≡ format.group_first_in) × (row.from ≢ field 4 (rec_at s format.groups_file g) format.group_owner) × (row.to ≡ field 4 (rec_at s format.groups_file g) format.group_owner))
+            ⊎ ((place_of z ≡ format.group_first_loop) × (row.from ≡ field 4 (rec_at s format.groups_file g) format.group_owner) × (row.to ≡ field 4 (rec_at s format.groups_file g) format.group_owner)))) (sym at.aside)
+            (aside (nat_eq row.from row.to) (nat_eq row.from n) refl refl);
+      },
+    );
+  }
+
 module _ (s : Records) (shape : Shape) {most : ℕ} {empty : List ℕ} (well : KeepsRules s shape most empty) (n : ℕ) where
   -- at a sparse node
   pub at_node : kind_at s format.nodes_file n ≢ 0 → (¬ IsDense s n) → (row : RelRow) → IsEnd n row → IsEndHead s (node_head n) n row
   at_node used thin row end = record { owns = inl (record { sparse = sparse_unless s shape n well.ranges used thin; is = refl }); on = inl (refl, end) }
 
   -- in a group of a dense one
-  module _ (g label : ℕ) (side : Side) (row : RelRow) (member : IsGroupOf s n g) (typed : field 4 (rec_at s format.groups_file g) format.group_type ≡ label) (at : IsAt n label side row) where
-    there : group_at s g ≡ Some (group_in (rec_at s format.groups_file g) g)
-    there = row_some (kind_at s format.groups_file g) (group_in (rec_at s format.groups_file g) g) (group_used (kind_at s format.groups_file g) member.kind)
-
-    is_dense : kind_at s format.nodes_file n ≡ format.dense
-    is_dense = subst (λ m. kind_at s format.nodes_file m ≡ format.dense) member.owner (well.grouped.owned g (group_in (rec_at s format.groups_file g) g) there)
-
-    place : (z : Side) → (place_of z ≡ format.group_first_out) ⊎ ((place_of z ≡ format.group_first_in) ⊎ (place_of z ≡ format.group_first_loop))
-    place Out = inl refl
-    place Into = inr (inl refl)
-    place Loop = inr (inr refl)
-
-    owner : ℕ
-    owner = field 4 (rec_at s format.groups_file g) format.group_owner
-
-    is_eq : (a b : ℕ) → nat_eq a b ≡ true → a ≡ b
-    is_eq a b e = ⊎_elim (λ k. k) (λ ne. absurd (clash (sym e ∙ eq_false a b ne))) (nat_cases a b)
-      where
-        clash : true ≡ false → ⊥
-        clash q = cc
-
-    differ : (a b : ℕ) → nat_eq a b ≡ false → a ≢ b
-    differ a b e k = clash (sym (eq_true a b k) ∙ e)
-      where
-        clash : true ≡ false → ⊥
-        clash q = cc
-
-    -- which of the three it is
-    aside : (loop out : Bool) → nat_eq row.from row.to ≡ loop → nat_eq row.from n ≡ out
-        → ((place_of (cond loop Loop (cond out Out Into)) ≡ format.group_first_out) × (row.from ≡ owner) × (row.to ≢ owner))
-        ⊎ (((place_of (cond loop Loop (cond out Out Into)) ≡ format.group_first_in) × (row.from ≢ owner) × (row.to ≡ owner))
-        ⊎ ((place_of (cond loop Loop (cond out Out Into)) ≡ format.group_first_loop) × (row.from ≡ owner) × (row.to ≡ owner)))
-    unfolding owner
-    aside true out same leaves =
-        let e = is_eq row.from row.to same in
-        inr (inr (refl, ⊎_elim (λ f. f) (λ t. e ∙ t) at.end ∙ sym member.owner, ⊎_elim (λ f. sym e ∙ f) (λ t. t) at.end ∙ sym member.owner))
-    aside false true same leaves =
-        let f = is_eq row.from n leaves in
-        inl (refl, f ∙ sym member.owner, λ t. differ row.from row.to same (f ∙ sym member.owner ∙ sym t))
-    aside false false same leaves = inr (inl (refl, (λ f. differ row.from n leaves (f ∙ member.owner)), ⊎_elim (λ f. absurd (differ row.from n leaves f)) (λ t. t) at.end ∙ sym member.owner))
-
-    pub at_group : IsEndHead s (group_head g side) n row
-    unfolding owner
-    at_group = record {
-      owns = inr (record { dense = is_dense; row = group_in (rec_at s format.groups_file g) g; group = there; owner = member.owner; key = refl; field = place side });
-      on = inr (
-        refl,
-        record {
-          row = group_in (rec_at s format.groups_file g) g;
-          group = there;
-          label = at.typed ∙ sym typed;
-          side = subst (λ z. ((place_of z ≡ format.group_first_out) × (row.from ≡ field 4 (rec_at s format.groups_file g) format.group_owner) × (row.to ≢ field 4 (rec_at s format.groups_file g) format.group_owner))
-              ⊎ (((place_of z ≡ format.group_first_in) × (row.from ≢ field 4 (rec_at s format.groups_file g) format.group_owner) × (row.to ≡ field 4 (rec_at s format.groups_file g) format.group_owner))
-              ⊎ ((place_of z ≡ format.group_first_loop) × (row.from ≡ field 4 (rec_at s format.groups_file g) format.group_owner) × (row.to ≡ field 4 (rec_at s format.groups_file g) format.group_owner)))) (sym at.aside)
-              (aside (nat_eq row.from row.to) (nat_eq row.from n) refl refl);
-        },
-      );
-    }
+  pub at_group : (g label : ℕ) (side : Side) (row : RelRow) → IsGroupOf s n g → field 4 (rec_at s format.groups_file g) format.group_type ≡ label → IsAt n label side row → IsEndHead s (group_head g side) n row
+  at_group g label side row member typed at = group_end s n g label side row member typed at
+      (subst (λ m. kind_at s format.nodes_file m ≡ format.dense) member.owner
+      (well.grouped.owned g (group_in (rec_at s format.groups_file g) g) (row_some (kind_at s format.groups_file g) (group_in (rec_at s format.groups_file g) g) (group_used (kind_at s format.groups_file g) member.kind))))
 
   -- the chain of a dense node's groups
   pub chain_of : IsDense s n → List ℕ

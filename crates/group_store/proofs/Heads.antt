@@ -1,5 +1,5 @@
 -- The head of a chain that an end of a relationship stands in, with counts where it is a group's.
-use Rattle.std.proofs.Common.{◌≡◌, ℕ, Some, List, refl, sym, ap, ◌∙◌, subst, arith}
+use Rattle.std.proofs.Common.{◌≡◌, ℕ, Some, List, refl, sym, ap, ◌∙◌, subst, inl, inr, arith}
 use Rattle.std.specs.Prelude.{IfSome}
 use Rattle.rec_bytes.specs.declared.fault.Fault.{Fault}
 use Rattle.rec_bytes.specs.declared.fault.Fault.TheVariants.{Memory, Disk, Damaged}
@@ -7,6 +7,7 @@ use Rattle.rec_bytes.specs.Fault.{damage_of}
 use Rattle.rec_bytes.specs.Format as format
 use Rattle.rec_bytes.specs.Record.{field}
 use Rattle.rec_bytes.specs.Space.{SameButReads, State}
+use Rattle.store_rules.specs.Breaking.{IsChainHead}
 use Rattle.store_rules.specs.Ends.{IsEndHead}
 use Rattle.store_rules.specs.Rules.{KeepsRules, node_head}
 use Rattle.store_rules.specs.Views as views
@@ -15,11 +16,13 @@ use Rattle.store_rules.proofs.GroupLaws.{same_group}
 use Rattle.group_store.specs.declared.group_row.GroupRow.{GroupRow}
 use Rattle.group_store.specs.declared.side.Side.{Side}
 use Rattle.group_store.specs.Finding.{IsFound}
+use Rattle.group_store.specs.Densing.{IsSparse}
 use Rattle.group_store.specs.GroupChain.{IsDense}
-use Rattle.group_store.specs.Opening.{FindsChain, IsEndOf}
+use Rattle.group_store.specs.Opening.{FindsChain, IsAt, IsEndOf, IsPlaced}
 use Rattle.group_store.specs.Raising.{CanRaise, HasRaised, IsGroupAt}
 use Rattle.group_store.specs.Sides.{group_head}
-use Rattle.group_store.proofs.ChainHeads.{at_group, at_node, end_used, same_records, same_twice}
+use Rattle.group_store.proofs.ChainHeads.{at_group, at_node, end_used, group_end, same_records, same_twice}
+use Rattle.group_store.proofs.KeptHeads.{place_first}
 use Rattle.group_store.proofs.Openings.{keeps_read, regroups_read}
 use Rattle.group_store.proofs.Opens.{head_after}
 use Rattle.group_store.proofs.Raises.{group_is, raises_after}
@@ -73,3 +76,19 @@ pub then_unwritten : (s y t : State) → SameButReads s y → (fault : Fault) �
 then_unwritten s y t same Memory told = tt
 then_unwritten s y t same Disk told = tt
 then_unwritten s y t same (Damaged damage) told = same_twice s y t same told
+
+-- ---- where a relationship stands, whatever the other records are
+
+-- at a sparse node's own head
+pub placed_node : (s : Records) (node label : ℕ) (side : Side) (row : RelRow) → IsSparse s node → IsAt node label side row → IsPlaced s (node_head node) node row
+placed_node s node label side row sparse at = record { owns = inl (record { sparse = sparse; is = refl }); on = inl (refl, at.end) }
+
+-- at the head of a group on the chain of a dense one
+pub placed_group : (s : State) (node label : ℕ) (group : GroupRow) (side : Side) (row : RelRow) → IsGroupAt s node group → group.label ≡ label → IsAt node label side row → IsPlaced s.records (group_head group.id side) node row
+placed_group s node label group side row here typed at = record {
+  owns = inr (record {
+    own = record { dense = here.dense; row = row_as group.id group.label node; group = group_is s node group here; owner = refl; key = refl; field = place_first side };
+    on = here.on;
+  });
+  on = (group_end s.records node group.id label side row here.member (sym (ap (λ (q : GroupRow). q.label) here.is) ∙ typed) at here.dense).on;
+}

@@ -238,7 +238,7 @@ heads_then s t u a b h n o = b h n (a h n o)
 
 -- ---- heads that are found
 
-place_first : (side : Side) → IsFirstPlace (place_of side)
+pub place_first : (side : Side) → IsFirstPlace (place_of side)
 place_first Out = inl refl
 place_first Into = inr (inl refl)
 place_first Loop = inr (inr refl)

@@ -1,4 +1,5 @@
 pub mod Additions
+pub mod AlikeGroups
 pub mod Arrivals
 pub mod BrokenGroups
 pub mod Causes
@@ -47,4 +48,5 @@ pub mod Spreads
 pub mod Tallies
 pub mod Touches
 pub mod Turns
+pub mod TwinLaws
 pub mod UnknownKinds

@@ -18,4 +18,5 @@ pub mod Sides
 pub mod SparseChain
 pub mod Spreading
 pub mod Touching
+pub mod Twins
 pub mod Walking

@@ -11,9 +11,9 @@ use Rattle.rec_bytes.specs.Format as format
 use Rattle.rec_bytes.specs.RecordFiles.{room_of}
 use Rattle.rec_bytes.specs.Space.{State, WritesOnly, meta_of}
 use Rattle.id_freelist.specs.Taking as taking
-use Rattle.store_rules.specs.Breaking.{Breaks}
+use Rattle.store_rules.specs.Breaking.{Breaks, IsChainHead}
 use Rattle.store_rules.specs.Ends.{IsEndHead, Regroups, group_of_head}
-use Rattle.store_rules.specs.Rules.{Head, IsEnd, KeepsRules}
+use Rattle.store_rules.specs.Rules.{Head, IsEnd, IsOn, KeepsRules}
 use Rattle.store_rules.specs.Views.{GroupRow, Records, RelRow, degree, first_link, group_at}
 use Rattle.store_rules.specs.Views.{high, kind_at, rel_at}
 use Rattle.store_rules.specs.Writes.{AreOwn, meta_keys}
@@ -30,6 +30,11 @@ pub record IsAt (node label : ℕ) (side : Side) (row : RelRow) : Type 0 where
   pub end : IsEnd node row
   pub typed : row.label ≡ label
   pub aside : side ≡ side_at node row.from row.to
+
+-- The relationship stands at the head, where a chain of the node begins.
+pub record IsPlaced (records : Records) (head : Head) (node : ℕ) (row : RelRow) : Type 0 where
+  pub owns : IsChainHead records head node
+  pub on : IsOn (group_at records) head row
 
 -- So it is of a relationship in use, in a store that keeps the rules.
 pub record IsEndOf (s : State) (node label : ℕ) (side : Side) (most : ℕ) (empty : List ℕ) (x : ℕ)

@@ -1,7 +1,7 @@
 //! Relationships that come into a chain or leave it, with the number of them that a counted group
 //! has.
 
-ghost use Rattle.std.specs.Prelude.{◌≡◌, ◌≤◌, ◌∷◌, [], ℕ, List, Some, IfErr, IfOk, OnOk};
+ghost use Rattle.std.specs.Prelude.{◌≡◌, ◌≤◌, ◌+◌, ◌∷◌, [], ℕ, List, Some, IfErr, IfOk, OnOk};
 ghost use Rattle.rec_bytes.specs.Key.{IsKey};
 ghost use Rattle.rec_bytes.specs.Space.{HasCause, WritesOnly, after_get};
 ghost use Rattle.rel_store.specs.RelRecord.{rel_key};
@@ -13,13 +13,7 @@ ghost use Rattle.chain_edit.specs.Chains.{next_of, prev_of};
 ghost use Rattle.chain_edit.specs.Heads.{head_of, IsHead};
 ghost use Rattle.chain_edit.specs.Links.{IsRightLink};
 ghost use Rattle.chain_edit.specs.Pushing.{IsPushFault, pushed};
-ghost use Rattle.chain_edit.specs.Unlinking.{
-  CanUnlink,
-  IsLinkedIn,
-  IsLoneHead,
-  IsUnlinkFault,
-  unlinked,
-};
+ghost use Rattle.chain_edit.specs.Unlinking.{CanUnlink, IsLinkedIn, unlinked};
 ghost use Rattle.chain_edit.specs.Walking.{ReadsAtMost};
 ghost use Rattle.group_store.specs.Counting.{
   count_place,
@@ -28,8 +22,12 @@ ghost use Rattle.group_store.specs.Counting.{
   recounted,
   tallied,
 };
+ghost use Rattle.group_store.specs.Loading.{group_mark};
+ghost use Rattle.group_store.specs.Opening.{IsPlaced};
+ghost use Rattle.group_store.specs.Twins.{IsPartFault};
 ghost use Rattle.rec_bytes.specs.Fault.{HasFaultCause, NotDamaged, OnDamage};
 
+use crate::twins::name_damage;
 use chain_edit::{Head, push_front, unlink};
 use rec_bytes::{
     COUNTED, Fault, GROUP_FIRST_IN, GROUP_FIRST_OUT, GROUP_IN_COUNT, GROUP_LOOP_COUNT,
@@ -67,7 +65,8 @@ pub fn push_counted<S: Space>(space: &mut S, head: Head, node: u32, rel: u32) ->
 }
 
 /// Takes a relationship out of a chain of the node, as `unlink` does, and makes the number of the
-/// chain's relationships one less where the head is a counted group's.
+/// chain's relationships one less where the head is a counted group's. Where the relationship isn't
+/// in the chain of a group, and the node has another group of its type, the node is damaged.
 pub fn unlink_counted<S: Space>(space: &mut S, head: Head, node: u32, rel: u32) -> Result<(), Fault>
     requires head { IsHead (head_of head) }
     requires rel { IsKey (rel_key rel) }
@@ -76,10 +75,11 @@ pub fn unlink_counted<S: Space>(space: &mut S, head: Head, node: u32, rel: u32) 
     ensures linked { S.tells
         → OnOk result (IsLinkedIn (S.state space.old).records (head_of head) node rel) }
     ensures damaged { S.tells
-        → IfErr result (IsUnlinkFault (S.state space.old) (head_of head) node rel) }
-    ensures unwritten { OnDamage result (ReadsAtMost 3 (S.state space.old) (S.state space.new)) }
+        → IfErr result (IsPartFault (S.state space.old) (head_of head) node rel) }
+    ensures unwritten { OnDamage result (ReadsAtMost (5 + group_mark (S.state space.old))
+        (S.state space.old) (S.state space.new)) }
     ensures breaks { S.tells → (row : RelRow) → rel_at (S.state space.old).records rel ≡ Some row
-        → IsLoneHead (S.state space.old).records (head_of head) node rel row
+        → IsPlaced (S.state space.old).records (head_of head) node row
         → IfErr result (IsBreakFault (S.state space.old)) }
     ensures sound { S.tells
         → IsRightLink (S.state space.old) (prev_of (S.state space.old).records node rel)
@@ -92,9 +92,45 @@ pub fn unlink_counted<S: Space>(space: &mut S, head: Head, node: u32, rel: u32) 
     ensures onward { S.onward space.old space.new }
     ensures cause { HasFaultCause (S.faults space.old) (S.faults space.new) result }
 {
-    unlink(space, head, node, rel)?;
+    unlink_named(space, head, node, rel)?;
     count_less(space, head)?;
     Ok(())
+}
+
+/// Takes a relationship out of a chain of the node, as `unlink` does. Where it can't be, the record
+/// that is damaged is named.
+fn unlink_named<S: Space>(space: &mut S, head: Head, node: u32, rel: u32) -> Result<(), Fault>
+    requires head { IsHead (head_of head) }
+    requires rel { IsKey (rel_key rel) }
+    ensures ok { S.tells
+        → OnOk result (S.state space.new ≡ unlinked (S.state space.old) (head_of head) node rel) }
+    ensures linked { S.tells
+        → OnOk result (IsLinkedIn (S.state space.old).records (head_of head) node rel) }
+    ensures damaged { S.tells
+        → IfErr result (IsPartFault (S.state space.old) (head_of head) node rel) }
+    ensures unwritten { OnDamage result (ReadsAtMost (5 + group_mark (S.state space.old))
+        (S.state space.old) (S.state space.new)) }
+    ensures breaks { S.tells → (row : RelRow) → rel_at (S.state space.old).records rel ≡ Some row
+        → IsPlaced (S.state space.old).records (head_of head) node row
+        → IfErr result (IsBreakFault (S.state space.old)) }
+    ensures sound { S.tells
+        → IsRightLink (S.state space.old) (prev_of (S.state space.old).records node rel)
+        → IsRightLink (S.state space.old) (next_of (S.state space.old).records node rel)
+        → (xs : List ℕ) → CanUnlink (S.state space.old).records (head_of head) node rel xs
+        → NotDamaged result }
+    ensures writes { (before after : ℕ) × WritesOnly (S.state space.old) (S.state space.new)
+        (rel_key before ∷ rel_key rel ∷ rel_key after ∷ head.key ∷ []) }
+    ensures onward { S.onward space.old space.new }
+    ensures cause { HasFaultCause (S.faults space.old) (S.faults space.new) result }
+{
+    match unlink(space, head, node, rel) {
+        Ok(()) => Ok(()),
+        Err(Fault::Damaged(damage)) => {
+            let named = name_damage(space, head, node, damage)?;
+            Err(Fault::Damaged(named))
+        }
+        Err(fault) => Err(fault),
+    }
 }
 
 /// Makes the number of a head's relationships one more, where the head is a counted group's.

@@ -21,6 +21,7 @@ mod opening;
 mod raising;
 mod side;
 mod sparse_chain;
+mod twins;
 mod walking;
 
 pub use closing::close_chain;

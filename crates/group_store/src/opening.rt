@@ -29,6 +29,7 @@ ghost use Rattle.group_store.specs.Opening.{
   IsEndOf,
   IsHeadFault,
   IsOpenFault,
+  IsPlaced,
   OpensChain,
   WritesOpened,
   end_damage,
@@ -82,6 +83,10 @@ pub fn open_head<S: Space>(
     ensures owns { S.tells → IsDense (S.state space.old).records node
         ⊎ IsSparse (S.state space.old).records node
         → IfOk result (λ head. IsHeadOf (S.state space.new).records (head_of head) node) }
+    ensures placed { S.tells → IsDense (S.state space.old).records node
+        ⊎ IsSparse (S.state space.old).records node → (row : RelRow) → IsAt node label side row
+        → IfOk result
+        (λ head. IsPlaced (S.state space.new).records (head_of head) node row) }
     ensures heads { S.tells
         → OnOk result (KeepsHeads (S.state space.old) (S.state space.new)) }
     ensures counts { S.tells → OnOk result

@@ -1,11 +1,17 @@
 use Rattle.std.proofs.Common.{arith}
+use Rattle.std.proofs.lemmas.Result.{err_from_is_err_and}
 use Rattle.group_store.proofs.Causes.{cause_passed, space_cause_passed}
 use Rattle.group_store.proofs.counting.unlink_counted.Goals as goal
 
-pub returns-in_err-unlink-clause-cause : goal.returns-in_err-unlink-clause-cause
-returns-in_err-unlink-clause-cause g c =
-    cause_passed _ _ _ c.from_residual.result c.in_err-unlink.field-0.0 (omega arith) c.in_err-unlink.ensures.cause c.from_residual.ensures.1
+pub returns-in_err-unlink_named-clause-cause : goal.returns-in_err-unlink_named-clause-cause
+returns-in_err-unlink_named-clause-cause g c =
+    cause_passed _ _ _ c.from_residual.result c.in_err-unlink_named.field-0.0 (omega arith) c.in_err-unlink_named.ensures.cause c.from_residual.ensures.1
 
 pub returns-in_err-count_less-clause-cause : goal.returns-in_err-count_less-clause-cause
 returns-in_err-count_less-clause-cause g c =
-    space_cause_passed _ _ _ c.from_residual-in_err-count_less.result c.in_err-count_less.field-0.0 c.in_ok-unlink.ensures.cause.later c.in_err-count_less.ensures.cause c.from_residual-in_err-count_less.ensures.1
+    space_cause_passed _ _ _ c.from_residual-in_err-count_less.result c.in_err-count_less.field-0.0 c.in_ok-unlink_named.ensures.cause.later c.in_err-count_less.ensures.cause c.from_residual-in_err-count_less.ensures.1
+
+pub returns-in_err-unlink_named-clause-breaks : goal.returns-in_err-unlink_named-clause-breaks
+returns-in_err-unlink_named-clause-breaks g c = λ tells row live placed.
+    let p = err_from_is_err_and c.from_residual.result c.from_residual.ensures.1 in
+    rw (p.1, p.2) (c.in_err-unlink_named.ensures.breaks tells row live placed)

@@ -14,11 +14,12 @@ use Rattle.group_store.specs.Finding.{IsFound}
 use Rattle.group_store.specs.GroupChain.{IsDense}
 use Rattle.group_store.specs.GroupRecord.{group_key}
 use Rattle.group_store.specs.Loading.{group_mark}
-use Rattle.group_store.specs.Opening.{FindsChain, LacksGroupOn}
+use Rattle.group_store.specs.Opening.{FindsChain, IsPlaced, LacksGroupOn}
 use Rattle.group_store.proofs.BrokenGroups.{count_only, find_breaks, find_only, no_group_breaks, node_fault_breaks, node_only}
 use Rattle.group_store.proofs.Raises.{breaks_read}
 use Rattle.group_store.proofs.ChainHeads.{chain_of, has_group, is_chain, node_readable, only_read, same_records, same_twice, walkable}
-use Rattle.group_store.proofs.Heads.{finds_group, finds_node, found_at, found_raise, then_unwritten}
+use Rattle.group_store.proofs.AlikeGroups.{alike_back, alike_counted, placed_as}
+use Rattle.group_store.proofs.Heads.{finds_group, finds_node, found_at, found_raise, placed_group, placed_node, then_unwritten}
 use Rattle.group_store.proofs.KeptHeads.{heads_same, heads_then, own_head}
 use Rattle.group_store.proofs.MakeSteps.{on_damage, same_writes}
 use Rattle.group_store.proofs.Openings.{handed, keeps_read}
@@ -271,3 +272,27 @@ returns-clause-counts g c = λ tells.
     let same = only_read z y (1 + group_mark z) c.in_ok-group.ensures.at_most in
     let at = found_at s z y c.in_ok-is_dense.ensures.state same c.args.node c.args.label c.in-Some.group found in
     counted_then s.records y.records t.records (counted_read s y (same_twice s z y c.in_ok-is_dense.ensures.state same)) (c.in_ok-count_group.ensures.counts tells at)
+
+-- ---- where the relationship stands
+
+pub returns-then-not-branch-clause-placed : goal.returns-then-not-branch-clause-placed
+returns-then-not-branch-clause-placed g c = λ tells which row at.
+    let s = g.S.Reads.state c.args.space.now in
+    let z = g.S.Reads.state c.is_dense.new.space in
+    let thin : ¬ IsDense s.records c.args.node = λ d. false≢true (sym c.if-not-branch.true ∙ (c.in_ok-is_dense.ensures.is tells).1 d) in
+    let sparse : IsSparse s.records c.args.node = ⊎_elim (λ d. absurd (thin d)) (λ k. k) which in
+    subst (λ (h : Head). IsPlaced z.records h c.args.node row) (sym c.node_head.ensures.is)
+    (placed_node z.records c.args.node c.args.label c.args.side row (subst (λ (r : Records). IsSparse r c.args.node) (sym (same_records s z c.in_ok-is_dense.ensures.state)) sparse) at)
+
+pub returns-clause-placed : goal.returns-clause-placed
+returns-clause-placed g c = λ tells which row rel_at_node.
+    let s = g.S.Reads.state c.args.space.now in
+    let z = g.S.Reads.state c.is_dense.new.space in
+    let y = g.S.Reads.state c.find_group.new.space in
+    let t = g.S.Reads.state c.count_group.new.space in
+    let found = subst (IsFound z.records c.args.node c.args.label) c.in-Some.is (c.in_ok-group.ensures.found tells) in
+    let same = only_read z y (1 + group_mark z) c.in_ok-group.ensures.at_most in
+    let at = found_at s z y c.in_ok-is_dense.ensures.state same c.args.node c.args.label c.in-Some.group found in
+    subst (λ (h : Head). IsPlaced t.records h c.args.node row) (sym c.group_head.ensures.is)
+    (placed_as t y c.args.node (alike_back y t c.args.node (alike_counted y t c.args.node (g.met.S.Reads.onward_shape _ _ c.count_group.ensures.onward) (c.in_ok-count_group.ensures.counts tells at))) _ row
+    (placed_group y c.args.node c.args.label c.in-Some.group c.args.side row at found.1.typed rel_at_node))
