@@ -1,5 +1,5 @@
 -- Which record is blamed where an edge is taken out of its chains, and heads that stay.
-use Rattle.std.specs.Prelude.{IfErr, IfSome}
+use Rattle.std.specs.Prelude.{IfErr, IfSome, nat_eq, not}
 use Rattle.std.proofs.Common.{◌≡◌, ◌≢◌, ℕ, ◌+◌, ◌≤◌, Result, Ok, Err, [], ◌∷◌, sym, ap, ◌∙◌, subst, inl, inr, ⊎_elim, arith}
 use Rattle.rec_bytes.specs.declared.damage.Damage.{Damage}
 use Rattle.rec_bytes.specs.declared.fault.Fault.{Fault}
@@ -16,13 +16,15 @@ use Rattle.rec_bytes.specs.RecordFiles.{meta_key_of}
 use Rattle.rec_bytes.specs.Space.{IsAmong, SameButReads, State, after_set}
 use Rattle.store_rules.specs.Breaking.{Breaks, IsHeadOf}
 use Rattle.store_rules.specs.Rules.{Head}
-use Rattle.store_rules.specs.Views.{high, key_in}
+use Rattle.store_rules.specs.Views.{group_at, high, is_group_kind, key_in, kind_at, kind_in, rec_at}
+use Rattle.store_rules.proofs.ViewLaws.{kind_by}
+use Rattle.chain_edit.proofs.OwnedHeads.{other_record}
+use Rattle.group_store.proofs.AlikeGroups.{AreAlike}
 use Rattle.store_rules.specs.Writes.{ChangesOnly}
 use Rattle.node_store.specs.Loading as nodes
-use Rattle.rel_store.specs.declared.rel_row.RelRow.{RelRow}
 use Rattle.prop_store.specs.Fault as props
 use Rattle.chain_edit.specs.Breaks.{IsBreakFault}
-use Rattle.chain_edit.specs.Unlinking.{IsUnlinkFault, unlinked}
+use Rattle.chain_edit.specs.Unlinking.{unlinked}
 use Rattle.chain_edit.proofs.LinkLaws.{field-set_other}
 use Rattle.group_store.specs.Counting.{one_less, tallied}
 use Rattle.group_store.specs.Dropping.{IsDropDamage, IsDropFault}
@@ -41,12 +43,11 @@ use Rattle.group_store.proofs.KeptHeads.{alike_by, heads_alike}
 use Rattle.group_store.proofs.Tallies.{field-tallied}
 use Rattle.graph_ops.specs.ChangeFault.{of_fault, of_row}
 use Rattle.graph_ops.specs.Damage.{IfBlames, IsBroken}
-use Rattle.graph_ops.specs.EdgeDeleting.{BlamesDeleting, BlamesEnd, IsEdgeLink, IsTakenDamage}
-use Rattle.graph_ops.specs.EdgeDeleting.IsTakenDamage.{Undropped}
+use Rattle.graph_ops.specs.EdgeDeleting.{BlamesDeleting, BlamesEnd, IsUndropped}
 use Rattle.graph_ops.specs.EdgeEnds.{parted}
 use Rattle.graph_ops.specs.declared.change_fault.ChangeFault.{ChangeFault}
 use Rattle.graph_ops.proofs.Broken.{blames_more}
-use Rattle.graph_ops.proofs.EdgeSteps.{number_unlinked, record_parted}
+use Rattle.graph_ops.proofs.EdgeSteps.{number_unlinked, record_parted, shape_parted}
 
 -- ---- an end that is looked for
 
@@ -66,19 +67,12 @@ pub if_blames : {T : Type 0} (r : Result T ChangeFault) (P Q : Damage → Type 0
 if_blames (Ok x) P Q then h = tt
 if_blames (Err fault) P Q then h = blames_more P Q then fault h
 
--- ---- a relationship that is taken out of a chain
-
-pub unlink_blamed : (s : State) (node id : ℕ) (fault : Fault) → IsUnlinkFault s node id fault → IfBlames (IsEdgeLink s id node) (of_fault fault)
-unlink_blamed s node id faults.Memory told = tt
-unlink_blamed s node id faults.Disk told = tt
-unlink_blamed s node id (faults.Damaged damage) told = told
-
 -- a group that isn't dropped
-pub close_blamed : (was s t : State) (id : ℕ) (rel : RelRow) (node g : ℕ) (fault : Fault) → IsDropFault s node g fault → IsBreakFault s fault → IfSome (damage_of fault) (λ _. SameButReads s t)
-    → IfBlames (IsTakenDamage was t id rel) (of_fault fault)
-close_blamed was s t id rel node g faults.Memory told breaks same = tt
-close_blamed was s t id rel node g faults.Disk told breaks same = tt
-close_blamed was s t id rel node g (faults.Damaged damage) told breaks same = Undropped damage (node, g, (drop_read s t node g damage same told, inl (subst (λ (z : State). Breaks z.records z.shape damage) (sym same) breaks)))
+pub close_blamed : (s t : State) (node g : ℕ) (fault : Fault) → IsDropFault s node g fault → IsBreakFault s fault → IfSome (damage_of fault) (λ _. SameButReads s t)
+    → IfBlames (IsUndropped t) (of_fault fault)
+close_blamed s t node g faults.Memory told breaks same = tt
+close_blamed s t node g faults.Disk told breaks same = tt
+close_blamed s t node g (faults.Damaged damage) told breaks same = (node, g, (drop_read s t node g damage same told, inl (subst (λ (z : State). Breaks z.records z.shape damage) (sym same) breaks)))
   where
     drop_read : (s t : State) (node g : ℕ) (damage : Damage) → SameButReads s t → IsDropDamage s node g damage → IsDropDamage t node g damage
     drop_read s t node g damage same told = subst (λ (z : State). IsDropDamage z node g damage) (sym same) (by damage told)
@@ -123,19 +117,20 @@ module _ (s : State) (head : Head) (n : ℕ) (owns : IsHeadOf s.records head n) 
       by (inl o) = let a = ap (λ (h : Head). h.field) o.is in omega arith
       by (inr o) = ⊎_elim (λ (e : head.field ≡ format.group_first_out). omega arith) (λ k. ⊎_elim (λ (e : head.field ≡ format.group_first_in). omega arith) (λ (e : head.field ≡ format.group_first_loop). omega arith) k) o.field
 
-  behind_owner : head.key.file ≡ format.groups_file → 12 ≤ head.field
-  behind_owner group = by owns
+  behind_chain : head.key.file ≡ format.groups_file → format.group_first_out ≤ head.field
+  behind_chain group = by owns
     where
-      by : IsHeadOf s.records head n → 12 ≤ head.field
+      by : IsHeadOf s.records head n → format.group_first_out ≤ head.field
       by (inl o) = absurd (let f = ap (λ (h : Head). h.key.file) o.is in omega arith)
       by (inr o) = ⊎_elim (λ (e : head.field ≡ format.group_first_out). omega arith) (λ k. ⊎_elim (λ (e : head.field ≡ format.group_first_in). omega arith) (λ (e : head.field ≡ format.group_first_loop). omega arith) k) o.field
 
   module _ (rel d : ℕ) where
-    number_parted : (key : Key) (m at : ℕ) → key.file ≢ format.relationships_file → at + m ≤ 12 → (key ≡ head.key → at + m ≤ head.field)
+    number_parted : (key : Key) (m at : ℕ) → key.file ≢ format.relationships_file → at + m ≤ 32 → (key.file ≡ format.nodes_file → at + m ≤ 12) → (key ≡ head.key → at + m ≤ head.field)
         → field m ((parted s head n rel d).records key) at ≡ field m (s.records key) at
     unfolding parted
-    number_parted key m at no_link within aside =
-        field-set_other (tallied one_less (unlinked s head n rel) head).records (record { key = key_in format.nodes_file n; field = format.node_degree }) d key m at (omega arith) (λ _. inl (omega arith))
+    number_parted key m at no_link within below aside =
+        field-set_other (tallied one_less (unlinked s head n rel) head).records (record { key = key_in format.nodes_file n; field = format.node_degree }) d key m at (omega arith)
+        (λ e. inl (let b = below (ap (λ (k : Key). k.file) e) in omega arith))
         ∙ field-tallied one_less (unlinked s head n rel) head key m at (omega arith)
         ∙ number_unlinked s head n rel key m at no_link (omega arith) (λ e. inl (aside e))
 
@@ -145,13 +140,34 @@ module _ (s : State) (head : Head) (n : ℕ) (owns : IsHeadOf s.records head n) 
     heads_parted : KeepsHeads s (parted s head n rel d)
     heads_parted = heads_alike s.records (parted s head n rel d).records (alike_by s.records (parted s head n rel d).records
         (mark format.nodes_file) (mark format.groups_file)
-        (λ x. number_parted (key_in format.nodes_file x) 1 format.kind (λ e. omega arith) (omega arith) (λ e. let b = behind_kind in omega arith))
-        (λ g m at within. number_parted (key_in format.groups_file g) m at (λ e. omega arith) within (λ e. let b = behind_owner (sym (ap (λ (k : Key). k.file) e)) in omega arith)))
+        (λ x. number_parted (key_in format.nodes_file x) 1 format.kind (λ e. omega arith) (omega arith) (λ e. omega arith) (λ e. let b = behind_kind in omega arith))
+        (λ g m at within. number_parted (key_in format.groups_file g) m at (λ e. omega arith) (omega arith) (λ e. omega arith) (λ e. let b = behind_chain (sym (ap (λ (k : Key). k.file) e)) in omega arith)))
 
     -- in two steps
     pub heads_parted_by : (u t : State) → u ≡ tallied one_less (unlinked s head n rel) head → t ≡ after_set u (key_in format.nodes_file n) 4 format.node_degree d → KeepsHeads s t
     unfolding parted
     heads_parted_by u t out set = subst (KeepsHeads s) (sym (set ∙ ap (λ (z : State). after_set z (key_in format.nodes_file n) 4 format.node_degree d) out)) heads_parted
+
+    -- what another node's groups tell
+    pub alike_parted : (b : ℕ) → n ≢ b → AreAlike s (parted s head n rel d) b
+    alike_parted b ne = record {
+      shape = shape_parted s head n rel d;
+      node = record_parted s head n rel d (key_in format.nodes_file b) (λ e. let z : 1 ≡ 2 = e in omega arith)
+          (other_record (kind_at s.records format.nodes_file) (group_at s.records) head n b owns (λ e. ne (sym e))) (λ e. ne (sym (ap (λ (k : Key). k.id) e)));
+      node_mark = mark format.nodes_file;
+      group_mark = mark format.groups_file;
+      numbers = λ g m at one inside. number g m at inside;
+      used = λ g. ap is_group_kind (kind g);
+      live = λ g. ap (λ k. not (nat_eq k 0)) (kind g);
+    }
+      where
+        number : (g m at : ℕ) → at + m ≤ format.group_first_out → field m (rec_at (parted s head n rel d).records format.groups_file g) at ≡ field m (rec_at s.records format.groups_file g) at
+        number g m at inside = number_parted (key_in format.groups_file g) m at (λ e. let z : 3 ≡ 2 = e in omega arith) (omega arith) (λ e. absurd (let z : 3 ≡ 1 = e in omega arith))
+            (λ e. let b = behind_chain (sym (ap (λ (k : Key). k.file) e)) in omega arith)
+
+        kind : (g : ℕ) → kind_at (parted s head n rel d).records format.groups_file g ≡ kind_at s.records format.groups_file g
+        kind g = ap (λ m. kind_in m (rec_at (parted s head n rel d).records format.groups_file g) g) (mark format.groups_file)
+            ∙ kind_by (high s.records format.groups_file) (rec_at (parted s head n rel d).records format.groups_file g) (rec_at s.records format.groups_file g) g (number g 1 format.kind (omega arith))
 
 -- an identifier of a relationship is given back
 pub heads_given : (s t : State) (id : ℕ) → ChangesOnly s t (key_in format.relationships_file id ∷ meta_key_of format.relationships_file ∷ []) → KeepsHeads s t

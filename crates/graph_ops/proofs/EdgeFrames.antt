@@ -34,8 +34,9 @@ use Rattle.group_store.specs.Counting.{one_less, tallied}
 use Rattle.group_store.specs.Leaving.{LeavesCounted}
 use Rattle.group_store.proofs.Tallies.{file-tallied}
 use Rattle.graph_ops.specs.Damage.{IsBroken}
-use Rattle.graph_ops.specs.EdgeDeleting.{HasEndsIn, IsEdgeLink, IsEndLink, IsSoughtDamage, IsTakenDamage, LeavesEdge}
-use Rattle.graph_ops.specs.EdgeDeleting.IsTakenDamage.{Sought, Undropped}
+use Rattle.graph_ops.specs.EdgeDeleting.{IsEdgeLink, IsEndLink, IsSoughtDamage, IsTakenDamage, LeavesEdge}
+use Rattle.graph_ops.specs.EdgeDeleting.IsTakenDamage.{Parted, Sought, Undropped}
+use Rattle.group_store.proofs.AlikeGroups.{AreAlike}
 use Rattle.graph_ops.specs.EdgeEnds.{parted}
 use Rattle.graph_ops.specs.Owners.{owner_of}
 use Rattle.graph_ops.proofs.EdgeSteps.{record_parted, shape_parted}
@@ -102,10 +103,15 @@ module _ (s t : State) (id : ℕ) (left : LeavesEdge s t id) where
   kind_same n = ap (λ m. kind_in m (rec_at t.records format.nodes_file n) n) (ap (λ r. (metas.meta_of r).high) (meta format.nodes_file (λ e. omega arith) (λ e. omega arith)))
       ∙ ap (λ r. kind_in (high s.records format.nodes_file) r n) (node_same n)
 
-  pub ends_later : (from to : ℕ) → HasEndsIn s.records id from to → HasEndsIn t.records id from to
-  ends_later from to ends = record {
-    source = left.own 4 format.relationship_source (omega arith) (inl (omega arith)) ∙ ends.source;
-    target = left.own 4 format.relationship_target (omega arith) (inl (omega arith)) ∙ ends.target;
+  pub alike_edge : (n : ℕ) → AreAlike s t n
+  alike_edge n = record {
+    shape = left.shape;
+    node = node_same n;
+    node_mark = ap (λ r. (metas.meta_of r).high) (meta format.nodes_file (λ e. omega arith) (λ e. omega arith));
+    group_mark = ap (λ r. (metas.meta_of r).high) (meta format.groups_file (λ e. omega arith) (λ e. omega arith));
+    numbers = λ g m at one inside. left.groups g m at one (omega arith);
+    used = left.used;
+    live = left.live;
   }
 
 -- ---- links of the edge
@@ -163,11 +169,10 @@ end_link_breaks s id rel damage found told =
     inl (⊎_elim (λ k. ⊎_elim (λ l. prev_breaks s id rel.from _ damage live l) (λ l. next_breaks s id rel.from _ damage live l) k)
     (λ k. ⊎_elim (λ l. prev_breaks s id rel.to _ damage live l) (λ l. next_breaks s id rel.to _ damage live l) k) told)
 
--- the record of an edge that is found says its ends
-pub ends_found : (s : State) (id : ℕ) (rel : RelRow) → row_at s.records id ≡ Some rel → HasEndsIn s.records id rel.from rel.to
-ends_found s id rel found =
-    let is = (rel_rows.kind-row_at-Some s.records id rel found).1 in
-    record { source = ap (λ (q : RelRow). q.from) is; target = ap (λ (q : RelRow). q.to) is }
+-- the edge's record says these ends
+pub record HasEndsIn (records : Records) (id from to : ℕ) : Type 0 where
+  pub source : field 4 (records (rel_key id)) format.relationship_source ≡ from
+  pub target : field 4 (records (rel_key id)) format.relationship_target ≡ to
 
 -- ---- a pair of links that isn't the chain's from which the edge is taken
 
@@ -300,4 +305,5 @@ end_taken s m t id rel node which left damage told = Sought damage node m which 
 -- seen from before
 pub taken_before : (s m t : State) (id : ℕ) (rel : RelRow) → LeavesEdge s m id → (damage : Damage) → IsTakenDamage m t id rel damage → IsTakenDamage s t id rel damage
 taken_before s m t id rel left damage (Sought _ node mid which later told) = Sought damage node mid which (edge_then s m mid id left later) told
+taken_before s m t id rel left damage (Parted _ mid later told) = Parted damage mid (edge_then s m mid id left later) told
 taken_before s m t id rel left damage (Undropped _ undropped) = Undropped damage undropped

@@ -1,6 +1,5 @@
 -- A record that is blamed where an end of an edge is looked for broke the rule before.
-use Rattle.std.specs.Prelude.{not}
-use Rattle.std.proofs.Common.{◌≡◌, ◌≢◌, ◌⊎◌, ℕ, ◌+◌, ◌<◌, ◌≤◌, nat_eq, nat_lt, Bool, true, false, cond, Option, None, Some, List, sym, ap, ◌∙◌, subst, inl, inr, ⊎_elim, arith, refl}
+use Rattle.std.proofs.Common.{◌≡◌, ◌≢◌, ◌⊎◌, ℕ, ◌+◌, ◌<◌, ◌≤◌, nat_eq, nat_lt, cond, Option, Some, List, sym, ap, ◌∙◌, subst, inl, inr, ⊎_elim, arith, refl}
 use Rattle.std.proofs.lemmas.Bool.{true≢false}
 use Rattle.rec_bytes.specs.declared.damage.Damage.{Damage}
 use Rattle.rec_bytes.specs.declared.key.Key.{Key}
@@ -12,40 +11,34 @@ use Rattle.rec_bytes.specs.MetaForm.{IsMetaRight}
 use Rattle.rec_bytes.specs.Record.{field}
 use Rattle.rec_bytes.specs.RecordFiles.{is_meta_file, room_of}
 use Rattle.rec_bytes.specs.Space.{State}
-use Rattle.row_store.specs.Loading.IsRowDamage.{HighMark as HighRows, UnknownKind}
-use Rattle.node_store.specs.Loading.{IsNodeDamage}
 use Rattle.prop_store.specs.Fault.{SharesBlock}
 use Rattle.rel_store.specs.Loading.{mark_damage, row_at}
 use Rattle.rel_store.specs.declared.rel_row.RelRow.{RelRow}
 use Rattle.rel_store.proofs.Rows as rel_rows
-use Rattle.store_rules.specs.Breaking.{BreaksAny, DegreeKeeps, GroupKeeps, IsGroupHeadOf, IsHeadChain, IsMetaKept, IsOnChain, IsOnOwnChain, IsOwnedBy, group_head}
-use Rattle.store_rules.specs.Breaking.IsOnChain.{First, Next}
+use Rattle.store_rules.specs.Breaking.{Breaks, BreaksAny, DegreeKeeps, GroupKeeps, IsGroupHeadOf, IsHeadChain, IsHeadOf, IsInChain, IsMetaKept, IsOnOwnChain, group_head}
 use Rattle.store_rules.specs.Breaking.Breaks.{FreeList, GroupChains, GroupOwner, NameCount, NodeChain, OffFreeList, OwnRecord, OwnerGroups, RecordRange, RelEnds, WrongBlock, WrongDefinition, WrongDegree, WrongElement, WrongHolding, WrongMeta, WrongName, WrongText}
-use Rattle.store_rules.specs.Chains.{IsChain, IsWalk, next_in, place_of, prev_in}
+use Rattle.store_rules.specs.Chains.{IsChain, next_in, place_of, prev_in}
 use Rattle.store_rules.specs.PropertyChange.{Apart}
-use Rattle.store_rules.specs.Ranges.{Layout, layout_by}
-use Rattle.store_rules.specs.Rules.{IsEnd, StandsAt, degree_of, first_of}
+use Rattle.store_rules.specs.Rules.{Head, IsEnd, StandsAt, degree_of, first_of}
 use Rattle.store_rules.specs.Views as views
 use Rattle.store_rules.specs.Views.{GroupRow, Records, degree, first_link, group_at, high, is_group_kind, key_in, kind_at, kind_in, rec_at, rel_at, rel_in}
-use Rattle.store_rules.proofs.ChainLaws.{chain_stays, walk_stays}
+use Rattle.store_rules.proofs.ChainLaws.{chain_stays}
+use Rattle.store_rules.proofs.ChainRules.{chain_head}
 use Rattle.store_rules.proofs.IndexBreaches.{index_rule}
-use Rattle.store_rules.proofs.NumberLaws.{eq_false, nat_cases}
-use Rattle.store_rules.proofs.PropertyOwners.{used_of_live}
+use Rattle.store_rules.proofs.NumberLaws.{nat_cases}
 use Rattle.store_rules.proofs.TwinRows.{HaveRels, degree_alike, have_rels, stands_alike}
-use Rattle.store_rules.proofs.ViewLaws.{kind_below, kind_low, live_false, live_true, not_live, some_row}
-use Rattle.group_store.specs.GroupChain.{IsDense, next_group}
-use Rattle.group_store.specs.Loading.{HasNoKind, group_mark}
-use Rattle.group_store.specs.Opening.{IsSearchDamage, LacksGroupOn}
+use Rattle.store_rules.proofs.ViewLaws.{kind_below, some_row}
+use Rattle.group_store.specs.Loading.{group_mark}
+use Rattle.group_store.specs.Opening.{IsSearchDamage, LacksGroupOn, end_damage}
 use Rattle.group_store.specs.Opening.IsSearchDamage.{BadGroups, BadNode, Uncounted}
 use Rattle.group_store.specs.Raising.{IsCountDamage}
-use Rattle.group_store.specs.Walking.{IsWalkDamage}
-use Rattle.group_store.specs.Walking.IsWalkDamage.{HighMark, NoList, UnknownGroup}
 use Rattle.group_store.proofs.BrokenGroups.{no_group_breaks, node_breaks, walk_breaks}
-use Rattle.group_store.proofs.UnknownKinds.{layout-known, layout-other}
+use Rattle.group_store.proofs.AlikeGroups.{AreAlike, alike_back, chain_head_as, chains_as, dense_as, group_row, groups_as, groups_damage_as, lacks_as, node_as, on_as, twin_as, walk_as}
+use Rattle.group_store.proofs.TwinLaws.{groups_break, twins_break}
 use Rattle.graph_ops.specs.Damage.{IsBroken}
-use Rattle.graph_ops.specs.EdgeDeleting.{IsSoughtDamage, IsTakenDamage, IsUndropped, LeavesEdge}
-use Rattle.graph_ops.specs.EdgeDeleting.IsTakenDamage.{Sought, Undropped}
-use Rattle.graph_ops.proofs.EdgeFrames.{kind_same, meta, node_same, pair_is, pair_low}
+use Rattle.graph_ops.specs.EdgeDeleting.{HasRow, IsGroupedDamage, IsSoughtDamage, IsStray, IsTakenDamage, IsUndropped, LeavesEdge, with_property}
+use Rattle.graph_ops.specs.EdgeDeleting.IsTakenDamage.{Parted, Sought, Undropped}
+use Rattle.graph_ops.proofs.EdgeFrames.{alike_edge, end_link_before, end_link_breaks, kind_same, meta, node_same, pair_is, pair_low}
 
 -- ---- what breaks a rule of which one record is said
 
@@ -117,12 +110,6 @@ meta_broken r shape d e (inr bad) = absurd (let f = ap (λ (d : Damage). d.rule)
 
 -- ---- what was so before
 
-not_same : (a b : Bool) → not a ≡ not b → a ≡ b
-not_same true true e = refl
-not_same true false e = absurd (true≢false (sym e))
-not_same false true e = absurd (true≢false e)
-not_same false false e = refl
-
 module _ (s t : State) (id : ℕ) (left : LeavesEdge s t id) where
   marks : (file : ℕ) → file ≢ format.properties_file → file ≢ format.strings_file → high t.records file ≡ high s.records file
   marks file a b = ap (λ (r : Rec). (metas.meta_of r).high) (meta s t id left file a b)
@@ -185,42 +172,49 @@ module _ (s t : State) (id : ℕ) (left : LeavesEdge s t id) where
 
   -- ---- groups
 
-  group_row : (g : ℕ) → group_at t.records g ≡ group_at s.records g
-  group_row g =
-      let free = not_same (nat_eq (kind_at t.records format.groups_file g) 0) (nat_eq (kind_at s.records format.groups_file g) 0) (left.live g) in
-      let label = left.groups g 4 format.group_type (omega arith) (omega arith) in
-      let owner = left.groups g 4 format.group_owner (omega arith) (omega arith) in
-      λ i. cond (free i) None (Some (record { id = g; label = label i; owner = owner i }))
+  alike : (n : ℕ) → AreAlike s t n
+  alike n = alike_edge s t id left n
 
-  groups_as : group_at s.records ≡ group_at t.records
-  groups_as = λ i g. sym (group_row g) i
+  -- the chain at a head of a node is there still
+  first_as : (head : Head) (n : ℕ) → IsHeadOf s.records head n → first_of t.records head ≡ first_of s.records head
+  first_as head n (inl o) = ap (first_of t.records) o.is ∙ ap (λ (r : Rec). field 4 r format.node_first_link) (node_same s t id left n) ∙ sym (ap (first_of s.records) o.is)
+  first_as head n (inr o) = ap (λ (k : Key). field 4 (t.records k) head.field) o.key ∙ number ∙ sym (ap (λ (k : Key). field 4 (s.records k) head.field) o.key)
+    where
+      number : field 4 (rec_at t.records format.groups_file o.row.id) head.field ≡ field 4 (rec_at s.records format.groups_file o.row.id) head.field
+      number = ⊎_elim
+          (λ (e : head.field ≡ format.group_first_out). left.groups o.row.id 4 head.field (omega (arith, e)) (omega (arith, e)))
+          (λ k. ⊎_elim (λ (e : head.field ≡ format.group_first_in). left.groups o.row.id 4 head.field (omega (arith, e)) (omega (arith, e)))
+          (λ (e : head.field ≡ format.group_first_loop). left.groups o.row.id 4 head.field (omega (arith, e)) (omega (arith, e))) k) o.field
 
-  -- a group that is free was so
-  free_as : (g : ℕ) → kind_at t.records format.groups_file g ≡ 0 → kind_at s.records format.groups_file g ≡ 0
-  free_as g free = not_live (kind_at s.records format.groups_file g) (sym (left.live g) ∙ live_false (kind_at t.records format.groups_file g) free)
+  head_chain : (head : Head) (n : ℕ) (members : List ℕ) → IsHeadOf s.records head n → IsHeadChain s.records head n members → IsHeadChain t.records head n members
+  head_chain head n members owns was = record {
+    chain = subst (λ f. IsChain (λ y. next_in (rec_at t.records format.relationships_file y) n) (λ y. prev_in (rec_at t.records format.relationships_file y) n) format.nil f members) (sym (first_as head n owns))
+        (chain_stays (λ y. next_in (rec_at s.records format.relationships_file y) n) (λ y. prev_in (rec_at s.records format.relationships_file y) n) (λ y. next_in (rec_at t.records format.relationships_file y) n) (λ y. prev_in (rec_at t.records format.relationships_file y) n)
+        format.nil (first_of s.records head) members (λ y i. next_as y n) (λ y i. prev_as y n) was.chain);
+    only = λ x i. subst (λ (f : ℕ → Option GroupRow). StandsAt (rel_at t.records) f head x) (sym (groups_as s t n (alike n)))
+        (stands_alike (rel_at s.records) (rel_at t.records) there back (group_at s.records) head x (was.only x i));
+  }
 
   -- a group with its chains has them still
   group_keeps : (g : ℕ) → GroupKeeps s.records g → GroupKeeps t.records g
   group_keeps g keeps = record { chains = chains }
     where
-      first : (place n : ℕ) → IsGroupHeadOf t.records (group_head g place) n → first_of t.records (group_head g place) ≡ first_of s.records (group_head g place)
-      first place n own = ⊎_elim
-          (λ (e : place ≡ format.group_first_out). left.groups g 4 place (omega (arith, e)) (omega (arith, e)))
-          (λ k. ⊎_elim (λ (e : place ≡ format.group_first_in). left.groups g 4 place (omega (arith, e)) (omega (arith, e)))
-          (λ (e : place ≡ format.group_first_loop). left.groups g 4 place (omega (arith, e)) (omega (arith, e))) k) own.field
-
       chains : (place n : ℕ) → IsGroupHeadOf t.records (group_head g place) n → (members : List ℕ) × IsHeadChain t.records (group_head g place) n members
       chains place n own =
-          let was = keeps.chains place n (record { dense = sym (kind_same s t id left n) ∙ own.dense; row = own.row; group = sym (group_row own.row.id) ∙ own.group; owner = own.owner; key = own.key; field = own.field }) in (
-            was.0,
-            record {
-              chain = subst (λ f. IsChain (λ y. next_in (rec_at t.records format.relationships_file y) n) (λ y. prev_in (rec_at t.records format.relationships_file y) n) format.nil f was.0) (sym (first place n own))
-                  (chain_stays (λ y. next_in (rec_at s.records format.relationships_file y) n) (λ y. prev_in (rec_at s.records format.relationships_file y) n) (λ y. next_in (rec_at t.records format.relationships_file y) n) (λ y. prev_in (rec_at t.records format.relationships_file y) n)
-                  format.nil (first_of s.records (group_head g place)) was.0 (λ y i. next_as y n) (λ y i. prev_as y n) was.1.chain);
-              only = λ x i. subst (λ (f : ℕ → Option GroupRow). StandsAt (rel_at t.records) f (group_head g place) x) groups_as
-                  (stands_alike (rel_at s.records) (rel_at t.records) there back (group_at s.records) (group_head g place) x (was.1.only x i));
-            },
-          )
+          let now : IsGroupHeadOf s.records (group_head g place) n
+          = record { dense = dense_as s t n (alike n) own.dense; row = own.row; group = sym (group_row s t n (alike n) own.row.id) ∙ own.group; owner = own.owner; key = own.key; field = own.field } in
+          let was = keeps.chains place n now in
+          (was.0, head_chain (group_head g place) n was.0 (inr now) was.1)
+
+  -- a relationship in a chain of a node is in it still
+  in_chain : (n x : ℕ) → IsInChain s.records n x → IsInChain t.records n x
+  in_chain n x here = record {
+    head = here.head;
+    owns = chain_head_as t s n (alike_back s t n (alike n)) here.head here.owns;
+    members = here.members;
+    chain = head_chain here.head n here.members (chain_head s.records here.head n here.owns) here.chain;
+    member = here.member;
+  }
 
   -- so is a node with its degree
   degree_keeps : (n : ℕ) → DegreeKeeps s.records s.shape.threshold n → DegreeKeeps t.records t.shape.threshold n
@@ -235,84 +229,15 @@ module _ (s t : State) (id : ℕ) (left : LeavesEdge s t id) where
       same : degree t.records n ≡ degree s.records n
       same = ap (λ (r : Rec). field 4 r format.node_degree) (node_same s t id left n)
 
-  -- ---- a node that can't be read, and groups that aren't found
-
-  node_as : (n : ℕ) (d : Damage) → IsNodeDamage t n d → IsNodeDamage s n d
-  node_as n d (HighRows above) = HighRows (let m = marks format.nodes_file (λ e. omega arith) (λ e. omega arith) in let r = room format.nodes_file in omega (arith, above, m, r))
-  node_as n d (UnknownKind low none) = UnknownKind (subst (λ m. n < m) (marks format.nodes_file (λ e. omega arith) (λ e. omega arith)) low)
-      (ap (λ (r : Rec). layout_by format.nodes_file r (field 1 r format.kind)) (sym (node_same s t id left n)) ∙ none)
-
-  dense_as : (n : ℕ) → IsDense t.records n → IsDense s.records n
-  dense_as n dense = sym (kind_same s t id left n) ∙ dense
-
-  links_as : (n : ℕ) (xs : List ℕ) → IsWalk (next_group s.records) (first_link s.records n) xs → IsWalk (next_group t.records) (first_link t.records n) xs
-  links_as n xs walk = subst (λ f. IsWalk (next_group t.records) f xs) (sym (ap (λ (r : Rec). field 4 r format.node_first_link) (node_same s t id left n)))
-      (walk_stays (next_group s.records) (next_group t.records) (first_link s.records n) xs (λ x i. left.groups x 4 format.group_next (omega arith) (omega arith)) walk)
-
   group_mark_as : group_mark t ≡ group_mark s
   group_mark_as = marks format.groups_file (λ e. omega arith) (λ e. omega arith)
-
-  -- a record of no kind was so
-  kind_as : (g : ℕ) → g < group_mark t → HasNoKind t.records g → HasNoKind s.records g
-  kind_as g low none =
-      let r = rec_at t.records format.groups_file g in
-      let q = rec_at s.records format.groups_file g in
-      let k = field 1 r format.kind in
-      let at : kind_at t.records format.groups_file g ≡ k = kind_low (group_mark t) r g low in
-      let was : kind_at s.records format.groups_file g ≡ field 1 q format.kind = kind_low (group_mark s) q g (subst (λ m. g < m) group_mark_as low) in
-      layout-other q (field 1 q format.kind)
-      (eq_false (field 1 q format.kind) format.free_kind (λ e. free r k none (sym at ∙ not_live (kind_at t.records format.groups_file g) (left.live g ∙ live_false (kind_at s.records format.groups_file g) (was ∙ e)))))
-      (ap is_group_kind (sym was) ∙ sym (left.used g) ∙ ap is_group_kind at ∙ known r k none (is_group_kind k) refl)
-    where
-      free_known : (r : Rec) → (layout : Layout) × (layout_by format.groups_file r 0 ≡ Some layout)
-      free_known r = (_, refl)
-
-      free : (r : Rec) (k : ℕ) → layout_by format.groups_file r k ≡ None → k ≡ 0 → ⊥
-      free r k none e = let both = sym (ap (layout_by format.groups_file r) (sym e) ∙ none) ∙ (free_known r).1 in cc
-
-      known : (r : Rec) (k : ℕ) → layout_by format.groups_file r k ≡ None → (b : Bool) → is_group_kind k ≡ b → is_group_kind k ≡ false
-      known r k none true e = absurd (let both = sym none ∙ (layout-known r k e).1 in cc)
-      known r k none false e = e
-
-  walk_as : (n : ℕ) (d : Damage) → IsWalkDamage t n (first_link t.records n) d → IsWalkDamage s n (first_link s.records n) d
-  walk_as n d (NoList none) = NoList (λ xs list. none xs (record {
-    walk = links_as n xs list.walk;
-    only = λ g i. record { used = λ e. (list.only g i).used (free_as g e); owner = left.groups g 4 format.group_owner (omega arith) (omega arith) ∙ (list.only g i).owner };
-  }))
-  walk_as n d (UnknownGroup g none low unknown) = UnknownGroup g
-      (λ xs list. none xs (record {
-        walk = links_as n xs list.walk;
-        only = λ k i. record { kind = left.used k ∙ (list.only k i).kind; owner = left.groups k 4 format.group_owner (omega arith) (omega arith) ∙ (list.only k i).owner };
-      }))
-      (subst (λ m. g < m) group_mark_as low) (kind_as g low unknown)
-  walk_as n d (HighMark above) = HighMark (let m = group_mark_as in let r = room format.groups_file in omega (arith, above, m, r))
-
-  lacks_as : (n label : ℕ) → LacksGroupOn t.records n label → LacksGroupOn s.records n label
-  lacks_as n label lacks = record {
-    dense = dense_as n lacks.dense;
-    members = lacks.members;
-    list = record {
-      walk = subst (λ f. IsWalk (next_group s.records) f lacks.members) (ap (λ (r : Rec). field 4 r format.node_first_link) (node_same s t id left n))
-          (walk_stays (next_group t.records) (next_group s.records) (first_link t.records n) lacks.members (λ x i. sym (left.groups x 4 format.group_next (omega arith) (omega arith))) lacks.list.walk);
-      only = λ g i. record { kind = sym (left.used g) ∙ (lacks.list.only g i).kind; owner = sym (left.groups g 4 format.group_owner (omega arith) (omega arith)) ∙ (lacks.list.only g i).owner };
-    };
-    lacks = λ g i e. lacks.lacks g i (left.groups g 4 format.group_type (omega arith) (omega arith) ∙ e);
-  }
-
-  -- a group on a group chain was on it
-  owned_as : (n g : ℕ) → IsOwnedBy t.records n g → IsOwnedBy s.records n g
-  owned_as n g own = record { used = used_of_live s.records format.groups_file g (sym (left.live g) ∙ live_true (kind_at t.records format.groups_file g) own.used); owner = sym (left.groups g 4 format.group_owner (omega arith) (omega arith)) ∙ own.owner }
-
-  on_as : (n g : ℕ) → IsOnChain t.records n g → IsOnChain s.records n g
-  on_as n g (First _ dense first own) = First g (dense_as n dense) (ap (λ (r : Rec). field 4 r format.node_first_link) (sym (node_same s t id left n)) ∙ first) (owned_as n g own)
-  on_as n g (Next h _ on next own) = Next h g (on_as n h on) (sym (left.groups h 4 format.group_next (omega arith) (omega arith)) ∙ next) (owned_as n g own)
 
   -- ---- what broke the rule
 
   counted_broke : (n g : ℕ) (d : Damage) → IsCountDamage n g d → IsBroken t d → IsBroken s d
   counted_broke n g d names broken = ⊎_elim
       (λ e. let k = group_broken t.records t.shape g d e broken in
-      subst (IsBroken s) (sym e) (inl (GroupChains g (subst (λ m. g < m) group_mark_as k.0) (k.1.0, on_as k.1.0 g k.1.1) (λ keeps. k.2 (group_keeps g keeps)))))
+      subst (IsBroken s) (sym e) (inl (GroupChains g (subst (λ m. g < m) group_mark_as k.0) (k.1.0, on_as s t k.1.0 (alike k.1.0) g k.1.1) (λ keeps. k.2 (group_keeps g keeps)))))
       (λ j. ⊎_elim
       (λ e. let k = degree_broken t.records t.shape n d e broken in
       subst (IsBroken s) (sym e) (inl (WrongDegree n (subst (λ m. n < m) (marks format.nodes_file (λ e. omega arith) (λ e. omega arith)) k.0) (λ keeps. k.1 (degree_keeps n keeps)))))
@@ -322,8 +247,8 @@ module _ (s t : State) (id : ℕ) (left : LeavesEdge s t id) where
       (subst (λ (r : Rec). IsMetaRight format.newest_version s.shape format.relationships_file r) (sym (meta s t id left format.relationships_file (λ e. omega arith) (λ e. omega arith))) kept)))))) j) names
 
   search_broke : (n : ℕ) (d : Damage) → IsBroken t d → IsSearchDamage t n d → IsBroken s d
-  search_broke n d broken (BadNode _ bad) = inl (node_breaks s n d (node_as n d bad))
-  search_broke n d broken (BadGroups _ dense bad) = inl (walk_breaks s n (dense_as n dense) d (walk_as n d bad))
+  search_broke n d broken (BadNode _ bad) = inl (node_breaks s n d (node_as s t n (alike n) d bad))
+  search_broke n d broken (BadGroups _ dense bad) = inl (walk_breaks s n (dense_as s t n (alike n) dense) d (walk_as s t n (alike n) d bad))
   search_broke n d broken (Uncounted _ g names) = counted_broke n g d names broken
 
   -- of an edge that was there
@@ -335,10 +260,40 @@ module _ (s t : State) (id : ℕ) (left : LeavesEdge s t id) where
       (λ keeps. ⊎_elim
       (λ (e : row.from ≡ n). (keeps.from row live).node (ap (kind_at s.records format.nodes_file) e ∙ sym (kind_same s t id left n) ∙ free))
       (λ (e : row.to ≡ n). (keeps.to row live).node (ap (kind_at s.records format.nodes_file) e ∙ sym (kind_same s t id left n) ∙ free)) end))
-      (λ (lacks : LacksGroupOn t.records n label). no_group_breaks s n id label row live end typed (lacks_as n label lacks)) told.1))
+      (λ (lacks : LacksGroupOn t.records n label). no_group_breaks s n id label row live end typed (lacks_as s t n (alike n) label lacks)) told.1))
+
+  -- ---- an edge that isn't taken out of its chains
+
+  grouped_broke : (n : ℕ) (d : Damage) → IsGroupedDamage t n d → IsBroken s d
+  grouped_broke n d told = inl (⊎_elim
+      (λ k. groups_break s n d (groups_damage_as s t n (alike n) d k))
+      (λ k. subst (Breaks s.records s.shape) (sym k.0) (twins_break s n k.1 (on_as s t n (alike n) k.1 k.2) (twin_as s t n (alike n) k.1 k.3))) told)
+
+  stray_broke : (row : views.RelRow) → rel_at s.records id ≡ Some row → IsStray t.records id row.from row.to → IsBroken s (end_damage id)
+  stray_broke row live stray = inl (RelEnds id
+      (kind_below (high s.records format.relationships_file) (rec_at s.records format.relationships_file id) id (some_row (kind_at s.records format.relationships_file id) (rel_in (rec_at s.records format.relationships_file id) id) row live).0)
+      (λ keeps. stray.out (in_chain row.from id ((keeps.from row live).chain (chains_as s t row.from (alike row.from) stray.source)))
+      (in_chain row.to id ((keeps.to row live).chain (chains_as s t row.to (alike row.to) stray.target)))))
+
+  -- the row of the edge is the same, but for its properties
+  pub row_later : (rel : RelRow) → HasRow s.records id rel → HasRow t.records id rel
+  row_later rel has = there id (with_property id rel has.0) has.1
 
 -- a record that is blamed where an edge that was found is taken out of its chains
 pub taken_told : (s t : State) (id : ℕ) (rel : RelRow) → row_at s.records id ≡ Some rel → (damage : Damage) → IsTakenDamage s t id rel damage → (IsBroken s damage ⊎ SharesBlock s.records damage) ⊎ IsUndropped t damage
 taken_told s t id rel found damage (Sought _ node mid which left told) =
     inl (inl (sought_broke s mid id left node rel.label _ damage (rel_rows.rel_at-Some s.records id rel found) (⊎_elim (λ e. inl (sym e)) (λ e. inr (sym e)) which) refl told))
+taken_told s t id rel found damage (Parted _ mid left told) =
+    let live = rel_rows.rel_at-Some s.records id rel found in
+    inl (inl (⊎_elim
+    (λ k. end_link_breaks s id rel damage found (end_link_before s mid id rel.from rel.to damage left k))
+    (λ k. ⊎_elim (λ e. subst (IsBroken s) (sym e.0) (stray_broke s mid id left _ live e.1))
+    (λ n. ⊎_elim (λ g. grouped_broke s mid id left rel.from damage g) (λ g. grouped_broke s mid id left rel.to damage g) n) k) told))
 taken_told s t id rel found damage (Undropped _ undropped) = inr undropped
+
+-- an edge that is found has the row
+pub row_found : (s : State) (id : ℕ) (rel : RelRow) → row_at s.records id ≡ Some rel → HasRow s.records id rel
+row_found s id rel found = (
+  rel.property,
+  rel_rows.rel_at-Some s.records id rel found ∙ ap (λ i. Some (with_property i rel rel.property)) (sym (ap (λ (r : RelRow). r.id) (rel_rows.kind-row_at-Some s.records id rel found).1)),
+)

@@ -8,6 +8,7 @@ pub mod DiskCauses
 pub mod EdgeAdded
 pub mod EdgeBlames
 pub mod EdgeClosed
+pub mod EdgeCuts
 pub mod EdgeFrames
 pub mod EdgeJoined
 pub mod EdgeLists

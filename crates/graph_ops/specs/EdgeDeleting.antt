@@ -4,17 +4,19 @@ use Rattle.plain_graph.specs.Graph.{RemovesEdge}
 use Rattle.prop_store.specs.Fault.{SharesBlock}
 use Rattle.rec_bytes.specs.declared.damage.Damage.{Damage}
 use Rattle.rec_bytes.specs.declared.key.Key.{Key}
+use Rattle.rec_bytes.specs.declared.fault.Fault.TheVariants as faults
 use Rattle.rec_bytes.specs.Format as format
 use Rattle.rec_bytes.specs.Record.{field}
 use Rattle.rec_bytes.specs.RecordFiles.{meta_key_of}
 use Rattle.rec_bytes.specs.Space.{State, WritesOnly, meta_of}
 use Rattle.rel_store.specs.RelRecord.{range_damage, rel_key}
 use Rattle.rel_store.specs.declared.rel_row.RelRow.{RelRow}
-use Rattle.store_rules.specs.Breaking.{IsHeadOf}
+use Rattle.store_rules.specs.Breaking.{HasChains, IsHeadOf, IsInChain, IsOnChain}
 use Rattle.store_rules.specs.Ends.{Regroups}
 use Rattle.store_rules.specs.Graph.{names_of}
 use Rattle.store_rules.specs.PropertyChange.{Apart}
-use Rattle.store_rules.specs.Rules.{KeepsRules, Owns, StandsAt}
+use Rattle.store_rules.specs.Rules.{Head, KeepsRules, Owns, StandsAt}
+use Rattle.store_rules.specs.Views as views
 use Rattle.store_rules.specs.Views.{Records, degree, group_at, is_group_kind, is_live, kind_at}
 use Rattle.store_rules.specs.Views.{node_at, rec_at, rel_at}
 use Rattle.store_rules.specs.Writes.{AreOwn, meta_keys}
@@ -22,7 +24,9 @@ use Rattle.chain_edit.specs.Chains.{next_of, prev_of}
 use Rattle.chain_edit.specs.Heads.{head_of}
 use Rattle.chain_edit.specs.Links.{IsLinkDamage}
 use Rattle.group_store.specs.Dropping.{IsDropDamage}
-use Rattle.group_store.specs.Opening.{IsSearchDamage, LacksGroupOn, end_damage}
+use Rattle.group_store.specs.Opening.{IsPlaced, IsSearchDamage, LacksGroupOn, end_damage}
+use Rattle.group_store.specs.Twins.{HasTwin, IsGroupsDamage, IsPartFault}
+use Rattle.group_store.specs.Walking.{chain_damage}
 use Rattle.graph_ops.specs.Damage.{IfBlames, IsBroken}
 use Rattle.graph_ops.specs.EdgeEnds.{AtEach, end_groups, end_keys, source_of, target_of}
 use Rattle.graph_ops.specs.NodeDeleting.{HasDegree}
@@ -149,6 +153,10 @@ IsSoughtDamage s id node label damage =
 abbrev pub BlamesEnd : State → ℕ → ℕ → ℕ → ChangeFault → Type 0
 BlamesEnd s id node label fault = IfBlames (IsSoughtDamage s id node label) fault
 
+-- which record is blamed where the edge is taken out of the chain at a head of the node
+abbrev pub IsCutDamage : State → Head → ℕ → ℕ → Damage → Type 0
+IsCutDamage s head node id damage = IsPartFault s head node id (faults.Damaged damage)
+
 -- a link of the edge in a chain of the node leads nowhere
 abbrev pub IsEdgeLink : State → ℕ → ℕ → Damage → Type 0
 IsEdgeLink s id node damage =
@@ -159,10 +167,51 @@ IsEdgeLink s id node damage =
 abbrev pub IsEndLink : State → ℕ → ℕ → ℕ → Damage → Type 0
 IsEndLink s id from to damage = IsEdgeLink s id from damage ⊎ IsEdgeLink s id to damage
 
--- the edge's record says these ends
-pub record HasEndsIn (records : Records) (id from to : ℕ) : Type 0 where
-  pub source : field 4 (records (rel_key id)) format.relationship_source ≡ from
-  pub target : field 4 (records (rel_key id)) format.relationship_target ≡ to
+-- Both ends have chains, and the relationship isn't in a right one of each.
+pub record IsStray (records : Records) (id from to : ℕ) : Type 0 where
+  pub source : HasChains records from
+  pub target : HasChains records to
+  pub out : IsInChain records from id → ¬ IsInChain records to id
+
+-- The node's links don't lead through its groups, or two of these have one type.
+abbrev pub IsGroupedDamage : State → ℕ → Damage → Type 0
+IsGroupedDamage s node damage = IsGroupsDamage s node damage
+    ⊎ ((damage ≡ chain_damage node) × (g : ℕ) × IsOnChain s.records node g
+    × HasTwin s.records node g)
+
+-- Which record is blamed where an edge is taken out of the chains of its ends: the edge, of which a
+-- link leads nowhere, or which isn't in them; or an end, whose groups break their rule.
+abbrev pub IsPartedDamage : State → ℕ → ℕ → ℕ → Damage → Type 0
+IsPartedDamage s id from to damage = IsEndLink s id from to damage
+    ⊎ (((damage ≡ end_damage id) × IsStray s.records id from to)
+    ⊎ (IsGroupedDamage s from damage ⊎ IsGroupedDamage s to damage))
+
+-- the row of the edge, with this first property
+abbrev pub with_property : ℕ → RelRow → ℕ → views.RelRow
+with_property id rel property = record {
+  id = id;
+  label = rel.label;
+  from = rel.from;
+  to = rel.to;
+  property = property;
+}
+
+-- the edge's record is this one, whatever its properties are
+abbrev pub HasRow : Records → ℕ → RelRow → Type 0
+HasRow records id rel =
+    (property : ℕ) × (rel_at records id ≡ Some (with_property id rel property))
+
+-- an edge of this row stands at the end's head, where a chain of its node begins
+abbrev pub HasPlace : Records → views.RelRow → EdgeEnd → Type 0
+HasPlace records row end = IsPlaced records (head_of end.head) end.node row
+
+-- The edge has this row and these ends.
+pub record IsPlacedEdge (records : Records) (id : ℕ) (row : views.RelRow) (ends : Ends EdgeEnd)
+    : Type 0 where
+  pub live : rel_at records id ≡ Some row
+  pub source : (source_of ends).node ≡ row.from
+  pub target : (target_of ends).node ≡ row.to
+  pub places : AtEach (HasPlace records row) ends
 
 -- No record is other but those of properties and blocks, and the meta records of their files. Of
 -- the edge's own the place of its first property is, and of groups the kind and the numbers. Each
@@ -188,12 +237,14 @@ abbrev pub IsUndropped : State → Damage → Type 0
 IsUndropped t damage = (node : ℕ) × (g : ℕ) × (IsDropDamage t node g damage × IsBroken t damage)
 
 -- A record that is blamed where an edge that had this row is taken out of its chains. It is found
--- where its ends are looked for, in a space that differs from what it was in no more than
--- properties, blocks and numbers of groups. Or a group of an end isn't dropped.
+-- where its ends are looked for, or where it is taken out, in a space that differs from what it was
+-- in no more than properties, blocks and numbers of groups. Or a group of an end isn't dropped.
 pub data IsTakenDamage (s t : State) (id : ℕ) (rel : RelRow) : Damage → Type 0 where
   Sought : (damage : Damage) (node : ℕ) (mid : State) → (node ≡ rel.from) ⊎ (node ≡ rel.to)
       → LeavesEdge s mid id → IsSoughtDamage mid id node rel.label damage
       → IsTakenDamage s t id rel damage
+  Parted : (damage : Damage) (mid : State) → LeavesEdge s mid id
+      → IsPartedDamage mid id rel.from rel.to damage → IsTakenDamage s t id rel damage
   Undropped : (damage : Damage) → IsUndropped t damage → IsTakenDamage s t id rel damage
 
 -- A record that is blamed where an edge is deleted breaks the rule in the space as it was, or it is

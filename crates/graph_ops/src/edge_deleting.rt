@@ -6,8 +6,9 @@ ghost use Rattle.plain_graph.specs.declared.command.Command.TheVariants as comma
 ghost use Rattle.plain_graph.specs.declared.command.Target.TheVariants as targets;
 ghost use Rattle.rec_bytes.specs.Format.{nodes_file, relationships_file};
 ghost use Rattle.rec_bytes.specs.Key.{IsKey};
+ghost use Rattle.store_rules.specs.Views as views;
 ghost use Rattle.store_rules.specs.Views.{key_in};
-ghost use Rattle.rec_bytes.specs.Space.{SameButReads, State, WritesOnly};
+ghost use Rattle.rec_bytes.specs.Space.{SameButReads, WritesOnly};
 ghost use Rattle.node_store.specs.Loading.{IsReadable, row_at};
 ghost use Rattle.rel_store.specs.RelRecord.{rel_key};
 ghost use Rattle.rel_store.specs.declared.rel_row.RelRow.{RelRow};
@@ -21,9 +22,10 @@ ghost use Rattle.graph_ops.specs.Change.{IsRefusal, MakesChange};
 ghost use Rattle.graph_ops.specs.ChangeFault.{HasChangeCause, IsFailure, IsOutside, LeavesSpace};
 ghost use Rattle.graph_ops.specs.Damage.{IfBlames};
 ghost use Rattle.graph_ops.specs.EdgeDeleting.{BlamesDeleting, BlamesEnd, FindsEnd, FindsEnds};
-ghost use Rattle.graph_ops.specs.EdgeDeleting.{HasBareRow, HasEndsIn, HasHead, IsBareEdge};
-ghost use Rattle.graph_ops.specs.EdgeDeleting.{IsEndLink, IsTakenDamage, KeepsKinds, LeavesEdge};
-ghost use Rattle.graph_ops.specs.EdgeDeleting.{TakesEdge, WritesTaken};
+ghost use Rattle.graph_ops.specs.EdgeDeleting.{HasBareRow, HasHead, HasPlace, HasRow, IsBareEdge};
+ghost use Rattle.graph_ops.specs.EdgeDeleting.{IsPartedDamage, IsPlacedEdge, IsTakenDamage};
+ghost use Rattle.graph_ops.specs.EdgeDeleting.{IsUndropped, KeepsKinds, LeavesEdge, TakesEdge};
+ghost use Rattle.graph_ops.specs.EdgeDeleting.{WritesTaken, with_property};
 ghost use Rattle.graph_ops.specs.EdgeEnds.{AreEdgeEnds, AtEach, IsEdgeEnd, source_of, target_of};
 ghost use Rattle.graph_ops.specs.NodeDeleting.{HasDegree};
 ghost use Rattle.graph_ops.specs.Store.{IsMidway, IsStore, graph_in};
@@ -83,9 +85,8 @@ fn take_edge<S: Space>(space: &mut S, id: u32, rel: RelRow) -> Result<(), Change
         → TakesEdge (S.state space.old) (S.state space.new) names id) }
     ensures sound { S.tells → (names : List (List ℕ)) → IsMidway (S.state space.old) names
         → HasBareRow (S.state space.old).records id rel → IfErr result IsOutside }
-    ensures damaged { S.tells → HasEndsIn (S.state space.old).records id rel.from rel.to
-        → IfErr result (IfBlames (λ damage. IsEndLink (S.state space.old) id rel.from rel.to damage
-        ⊎ IsTakenDamage (S.state space.old) (S.state space.new) id rel damage)) }
+    ensures damaged { S.tells → HasRow (S.state space.old).records id rel → IfErr result
+        (IfBlames (IsTakenDamage (S.state space.old) (S.state space.new) id rel)) }
     ensures writes { WritesBeside (rel_key id) 12 (S.state space.old) (S.state space.new) }
     ensures failure { IfErr result IsFailure }
     ensures onward { S.onward space.old space.new }
@@ -110,6 +111,8 @@ fn edge_ends<S: Space>(space: &mut S, id: u32, rel: RelRow) -> Result<Ends<EdgeE
     ensures nodes { IfOk result (λ ends. ((source_of ends).node ≡ rel.from)
         × ((target_of ends).node ≡ rel.to)) }
     ensures heads { S.tells → IfOk result (AtEach (HasHead (S.state space.new).records)) }
+    ensures placed { S.tells → (property : ℕ) → IfOk result (AtEach
+        (HasPlace (S.state space.new).records (with_property id rel property))) }
     ensures ends { IfOk result AreEdgeEnds }
     ensures wrote { IfOk result (λ ends. WritesOnly (S.state space.old) (S.state space.new)
         ((source_of ends).head.key ∷ (target_of ends).head.key ∷ [])) }
@@ -146,6 +149,8 @@ fn edge_end<S: Space>(
     ensures counts { S.tells → OnOk result
         (LeavesCounted (S.state space.old).records (S.state space.new).records) }
     ensures has { S.tells → IfOk result (HasHead (S.state space.new).records) }
+    ensures placed { S.tells → (node ≡ rel.from) ⊎ (node ≡ rel.to) → (property : ℕ) → IfOk result
+        (HasPlace (S.state space.new).records (with_property id rel property)) }
     ensures heads { S.tells → OnOk result (KeepsHeads (S.state space.old) (S.state space.new)) }
     ensures node { IfOk result (λ end. end.node ≡ node) }
     ensures end { IfOk result IsEdgeEnd }
@@ -200,11 +205,10 @@ fn unlink_edge<S: Space>(space: &mut S, id: u32, ends: Ends<EdgeEnd>) -> Result<
         → TakesEdge (S.state space.old) (S.state space.new) names id) }
     ensures sound { S.tells → (names : List (List ℕ)) → IsMidway (S.state space.old) names
         → IsBareEdge (S.state space.old) id ends → IfErr result IsOutside }
-    ensures damaged { S.tells → AtEach (HasHead (S.state space.old).records) ends
-        → HasEndsIn (S.state space.old).records id (source_of ends).node (target_of ends).node
-        → (was : State) (rel : RelRow)
-        → IfErr result (IfBlames (λ damage. IsEndLink (S.state space.old) id (source_of ends).node
-        (target_of ends).node damage ⊎ IsTakenDamage was (S.state space.new) id rel damage)) }
+    ensures damaged { S.tells → (row : views.RelRow)
+        → IsPlacedEdge (S.state space.old).records id row ends → IfErr result
+        (IfBlames (λ damage. IsPartedDamage (S.state space.old) id row.from row.to damage
+        ⊎ IsUndropped (S.state space.new) damage)) }
     ensures writes { WritesTaken (S.state space.old) (S.state space.new) id ends }
     ensures failure { IfErr result IsFailure }
     ensures onward { S.onward space.old space.new }

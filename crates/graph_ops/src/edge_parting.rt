@@ -5,15 +5,15 @@ ghost use Rattle.rec_bytes.specs.Format.{relationships_file};
 ghost use Rattle.rec_bytes.specs.Key.{IsKey};
 ghost use Rattle.rec_bytes.specs.Space.{WritesOnly};
 ghost use Rattle.rel_store.specs.RelRecord.{rel_key};
-ghost use Rattle.store_rules.specs.Views.{key_in};
+ghost use Rattle.store_rules.specs.Views.{RelRow, key_in};
+ghost use Rattle.chain_edit.specs.Heads.{head_of};
 ghost use Rattle.group_store.specs.Leaving.{KeepsHeads};
 ghost use Rattle.graph_ops.specs.ChangeFault.{HasChangeCause, IsFailure, IsOutside};
 ghost use Rattle.graph_ops.specs.Damage.{IfBlames};
-ghost use Rattle.graph_ops.specs.EdgeDeleting.{HasEndsIn, HasHead, IsBareEdge, IsEdgeLink};
-ghost use Rattle.graph_ops.specs.EdgeDeleting.{IsEndLink, PartsEdge, WritesEnds};
+ghost use Rattle.graph_ops.specs.EdgeDeleting.{HasHead, IsBareEdge, IsCutDamage, IsPartedDamage};
+ghost use Rattle.graph_ops.specs.EdgeDeleting.{IsPlacedEdge, PartsEdge, WritesEnds};
 ghost use Rattle.graph_ops.specs.EdgeEnds.{AreEdgeEnds, AtEach, HasRightLinks, HaveRightLinks};
 ghost use Rattle.graph_ops.specs.EdgeEnds.{IsEdgeEnd, end_keys, end_parted, ends_parted};
-ghost use Rattle.graph_ops.specs.EdgeEnds.{source_of, target_of};
 ghost use Rattle.graph_ops.specs.Store.{IsMidway};
 
 use crate::ChangeFault;
@@ -37,11 +37,9 @@ pub(crate) fn part_edge<S: Space>(
         → PartsEdge (S.state space.old) (S.state space.new) names id ends) }
     ensures sound { S.tells → (names : List (List ℕ)) → IsMidway (S.state space.old) names
         → IsBareEdge (S.state space.old) id ends → IfErr result IsOutside }
-    ensures damaged { S.tells
-        → HasEndsIn (S.state space.old).records id (source_of ends).node (target_of ends).node
-        → HasHead (S.state space.old).records (source_of ends)
-        → IfErr result (IfBlames (IsEndLink (S.state space.old) id (source_of ends).node
-        (target_of ends).node)) }
+    ensures damaged { S.tells → (row : RelRow)
+        → IsPlacedEdge (S.state space.old).records id row ends
+        → IfErr result (IfBlames (IsPartedDamage (S.state space.old) id row.from row.to)) }
     ensures heads { S.tells → AtEach (HasHead (S.state space.old).records) ends
         → OnOk result (KeepsHeads (S.state space.old) (S.state space.new)) }
     ensures writes { WritesEnds (S.state space.old) (S.state space.new) id ends }
@@ -63,11 +61,9 @@ fn part_ends<S: Space>(space: &mut S, rel: u32, ends: Ends<EdgeEnd>) -> Result<(
         → OnOk result (S.state space.new ≡ ends_parted (S.state space.old) ends rel) }
     ensures sound { S.tells
         → HaveRightLinks (S.state space.old) ends rel → IfErr result IsOutside }
-    ensures damaged { S.tells
-        → HasEndsIn (S.state space.old).records rel (source_of ends).node (target_of ends).node
-        → HasHead (S.state space.old).records (source_of ends)
-        → IfErr result (IfBlames (IsEndLink (S.state space.old) rel (source_of ends).node
-        (target_of ends).node)) }
+    ensures damaged { S.tells → (row : RelRow)
+        → IsPlacedEdge (S.state space.old).records rel row ends
+        → IfErr result (IfBlames (IsPartedDamage (S.state space.old) rel row.from row.to)) }
     ensures heads { S.tells → AtEach (HasHead (S.state space.old).records) ends
         → OnOk result (KeepsHeads (S.state space.old) (S.state space.new)) }
     ensures writes { WritesEnds (S.state space.old) (S.state space.new) rel ends }
@@ -93,8 +89,8 @@ fn part_end<S: Space>(space: &mut S, rel: u32, end: EdgeEnd) -> Result<(), Chang
         → OnOk result (S.state space.new ≡ end_parted (S.state space.old) end rel) }
     ensures sound { S.tells
         → HasRightLinks (S.state space.old) end rel → IfErr result IsOutside }
-    ensures damaged { S.tells
-        → IfErr result (IfBlames (IsEdgeLink (S.state space.old) rel end.node)) }
+    ensures damaged { S.tells → IfErr result (IfBlames (IsCutDamage (S.state space.old)
+        (head_of end.head) end.node rel)) }
     ensures heads { S.tells → HasHead (S.state space.old).records end
         → OnOk result (KeepsHeads (S.state space.old) (S.state space.new)) }
     ensures writes { (before after : ℕ) × WritesOnly (S.state space.old) (S.state space.new)

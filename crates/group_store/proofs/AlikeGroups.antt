@@ -1,16 +1,14 @@
 -- What the groups of a node tell in two spaces that say the same of its group chain.
 use Rattle.std.specs.Prelude.{not}
-use Rattle.std.proofs.Common.{◌≡◌, ◌≢◌, ◌⊎◌, ℕ, ◌+◌, ◌<◌, ◌≤◌, nat_eq, Bool, true, false, cond, Option, None, Some, List, sym, ap, ◌∙◌, subst, inl, inr, ⊎_elim, arith, refl}
+use Rattle.std.proofs.Common.{◌≡◌, ℕ, ◌+◌, ◌<◌, ◌≤◌, nat_eq, Bool, true, false, cond, Option, None, Some, List, sym, ap, ◌∙◌, subst, inl, inr, ⊎_elim, arith, refl}
 use Rattle.rec_bytes.specs.declared.damage.Damage.{Damage}
-use Rattle.rec_bytes.specs.declared.key.Key.{Key}
-use Rattle.rec_bytes.specs.declared.meta.Meta.{Meta}
 use Rattle.rec_bytes.specs.declared.record.Rec.{Rec}
 use Rattle.rec_bytes.specs.declared.shape.Shape.{Shape}
 use Rattle.rec_bytes.specs.Format as format
 use Rattle.rec_bytes.specs.Meta as metas
 use Rattle.rec_bytes.specs.Record.{field}
 use Rattle.rec_bytes.specs.RecordFiles.{meta_key_of, room_of}
-use Rattle.rec_bytes.specs.Space.{SameButReads, State}
+use Rattle.rec_bytes.specs.Space.{State}
 use Rattle.row_store.specs.Loading.IsRowDamage.{HighMark as HighRows, UnknownKind}
 use Rattle.node_store.specs.Loading.{IsNodeDamage}
 use Rattle.store_rules.specs.Breaking.{HasChains, IsChainHead, IsOnChain, IsOwnedBy}
@@ -18,8 +16,7 @@ use Rattle.store_rules.specs.Breaking.IsOnChain.{First, Next}
 use Rattle.store_rules.specs.Chains.{IsWalk}
 use Rattle.store_rules.specs.Ranges.{Layout, layout_by}
 use Rattle.store_rules.specs.Rules.{Head, IsOn}
-use Rattle.store_rules.specs.Views as views
-use Rattle.store_rules.specs.Views.{GroupRow, Records, RelRow, first_link, group_at, high, is_group_kind, is_live, key_in, kind_at, kind_in, rec_at}
+use Rattle.store_rules.specs.Views.{GroupRow, RelRow, first_link, group_at, high, is_group_kind, is_live, key_in, kind_at, kind_in, rec_at}
 use Rattle.store_rules.proofs.ChainLaws.{walk_stays}
 use Rattle.store_rules.proofs.NumberLaws.{eq_false}
 use Rattle.store_rules.proofs.PropertyOwners.{used_of_live}

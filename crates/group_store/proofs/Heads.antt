@@ -7,7 +7,6 @@ use Rattle.rec_bytes.specs.Fault.{damage_of}
 use Rattle.rec_bytes.specs.Format as format
 use Rattle.rec_bytes.specs.Record.{field}
 use Rattle.rec_bytes.specs.Space.{SameButReads, State}
-use Rattle.store_rules.specs.Breaking.{IsChainHead}
 use Rattle.store_rules.specs.Ends.{IsEndHead}
 use Rattle.store_rules.specs.Rules.{KeepsRules, node_head}
 use Rattle.store_rules.specs.Views as views

@@ -1,5 +1,5 @@
 -- Groups of one type on the chain of a node.
-use Rattle.std.proofs.Common.{◌≡◌, ◌≢◌, ℕ, ◌+◌, ◌≤◌, nat_eq, Bool, true, false, ◌&&◌, not, Some, Result, Ok, Err, IfErr, IfOk, List, [], ◌∷◌, ◌++◌, sym, ap, ◌∙◌, subst, inl, inr, ⊎_elim, arith, refl}
+use Rattle.std.proofs.Common.{◌≡◌, ◌≢◌, ℕ, ◌+◌, ◌≤◌, Bool, true, false, Some, Result, Ok, Err, IfErr, IfOk, List, [], ◌∷◌, ◌++◌, sym, ap, ◌∙◌, subst, inl, inr, ⊎_elim, arith, refl}
 use Rattle.std.proofs.lemmas.Bool.Decides.{nat_tests}
 use Rattle.rec_bytes.specs.declared.damage.Damage.{Damage}
 use Rattle.rec_bytes.specs.declared.fault.Fault.{Fault}
@@ -12,7 +12,7 @@ use Rattle.rec_bytes.specs.Space.{SameButReads, State}
 use Rattle.store_rules.specs.Breaking.{Breaks, HasChains, IsChainHead, IsOnChain}
 use Rattle.store_rules.specs.Breaking.Breaks.{OwnerGroups}
 use Rattle.store_rules.specs.Chains.{In}
-use Rattle.store_rules.specs.Rules.{Head, IsOn, StandsAt}
+use Rattle.store_rules.specs.Rules.{Head, IsOn}
 use Rattle.store_rules.specs.Views as views
 use Rattle.store_rules.specs.Views.{Records, RelRow, first_link, group_at, group_in, high, key_in, kind_at, rec_at, rel_at}
 use Rattle.store_rules.proofs.ChainLaws.{walk_of_chain}
@@ -166,8 +166,10 @@ twin_read s z head node damage same told = record {
   group = told.group;
   broken = ⊎_elim
       (λ k. inl (⊎_elim (λ b. inl (node_read s z node damage same b))
-      (λ b. inr (subst (λ (r : Records). IsDense r node) (same_records s z same) b.0,
-      subst (λ (r : Records). IsWalkDamage s node (first_link r node) damage) (same_records s z same) (walk_read s z node (first_link z.records node) damage same b.1))) k))
+      (λ b. inr (
+        subst (λ (r : Records). IsDense r node) (same_records s z same) b.0,
+        subst (λ (r : Records). IsWalkDamage s node (first_link r node) damage) (same_records s z same) (walk_read s z node (first_link z.records node) damage same b.1),
+      )) k))
       (λ k. inr (k.0, subst (λ (r : Records). HasTwin r node head.key.id) (same_records s z same) k.1)) told.broken;
 }
 

@@ -1,4 +1,4 @@
-use Rattle.std.proofs.Common.{◌≡◌, ◌∙◌, ◌+◌, ℕ, Some, List, [], ◌∷◌, sym, ap, subst, inl, ⊎_elim, arith, refl}
+use Rattle.std.proofs.Common.{◌≡◌, ◌∙◌, ◌+◌, ℕ, Some, List, [], ◌∷◌, sym, ap, subst, inl, arith, refl}
 use Rattle.plain_graph.specs.Refusals.{change_reasons}
 use Rattle.plain_graph.specs.declared.command.Command.TheVariants as commands
 use Rattle.plain_graph.specs.declared.command.Target.TheVariants as targets
@@ -32,8 +32,8 @@ use Rattle.prop_store.specs.Owner.{IsInUse}
 use Rattle.graph_ops.specs.Owners.{owner_of}
 use Rattle.graph_ops.proofs.Broken.{blames_more, rel_broken, rel_in_use}
 use Rattle.graph_ops.proofs.EdgeBlames.{drop_blamed}
-use Rattle.graph_ops.proofs.EdgeSought.{taken_told}
-use Rattle.graph_ops.proofs.EdgeFrames.{edge_left, edge_read, edge_then, end_link_before, end_link_breaks, ends_found, ends_later, taken_before}
+use Rattle.graph_ops.proofs.EdgeSought.{row_found, row_later, taken_told}
+use Rattle.graph_ops.proofs.EdgeFrames.{edge_left, edge_read, edge_then, taken_before}
 use Rattle.graph_ops.proofs.edge_deleting.delete_edge.Goals as goal
 use Rattle.graph_ops.proofs.edge_deleting.delete_edge.Goals.{After-drop_all, After-load, After-take_edge}
 use Rattle.graph_ops.proofs.edge_deleting.delete_edge.Given.{Over}
@@ -240,8 +240,8 @@ returns-in_err-take_edge-clause-damaged g c tells =
     let left = edge_then s v w id (edge_read s v id (was_read g at)) (edge_left v w id (g.met.S.Reads.onward_shape _ _ c.drop_all.ensures.onward)
     (subst (LeavesElement v w) c.edge_owner.ensures (c.drop_all.ensures.leaves tells))) in
     fault_exit (λ f. f) (BlamesDeleting s t) c.in_err-take_edge.field-0.0 c.from_residual-in_err-take_edge.result c.from_residual-in_err-take_edge.ensures.1
-    (blames_more _ _ (λ damage told. ⊎_elim (λ k. inl (inl (end_link_breaks s id rel damage row (end_link_before s w id rel.from rel.to damage left k)))) (λ k. taken_told s t id rel row damage (taken_before s w t id rel left damage k)) told)
-    c.in_err-take_edge.field-0.0 (c.in_err-take_edge.ensures.damaged tells (ends_later s w id left rel.from rel.to (ends_found s id rel row))))
+    (blames_more _ _ (λ damage told. taken_told s t id rel row damage (taken_before s w t id rel left damage told))
+    c.in_err-take_edge.field-0.0 (c.in_err-take_edge.ensures.damaged tells (row_later s w id left rel (row_found s id rel row))))
 
 -- ---- and by the space as it is left alone
 

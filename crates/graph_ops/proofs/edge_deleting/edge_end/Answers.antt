@@ -1,4 +1,4 @@
-use Rattle.std.proofs.Common.{◌⊎◌, [], ap, subst, sym}
+use Rattle.std.proofs.Common.{◌⊎◌, [], ap, inl, inr, ⊎_elim, refl, subst, sym}
 use Rattle.rec_bytes.specs.Space.{State}
 use Rattle.rec_bytes.proofs.Spaces.{writes_none}
 use Rattle.chain_edit.specs.declared.head.Head.{Head}
@@ -10,7 +10,7 @@ use Rattle.graph_ops.proofs.DiskCauses.{fault_cause_passed}
 use Rattle.group_store.specs.Densing.{IsSparse}
 use Rattle.group_store.specs.GroupChain.{IsDense}
 use Rattle.group_store.proofs.KeptHeads.{heads_same, heads_then}
-use Rattle.graph_ops.specs.EdgeDeleting.{BlamesEnd}
+use Rattle.graph_ops.specs.EdgeDeleting.{BlamesEnd, with_property}
 use Rattle.group_store.proofs.LeftBeside.{counted_read, counted_then}
 use Rattle.graph_ops.proofs.EdgeBlames.{head_blamed}
 use Rattle.graph_ops.proofs.edge_deleting.edge_end.Goals as goal
@@ -75,6 +75,11 @@ returns-in_err-head-clause-damaged g c tells =
 pub returns-clause-has : goal.returns-clause-has
 returns-clause-has g c tells =
     c.in_ok-head.ensures.owns tells (subst (λ (z : State). IsDense z.records c.args.node ⊎ IsSparse z.records c.args.node) (sym c.end_degree.ensures.state) (c.in_ok-degree.ensures.kind tells))
+
+pub returns-clause-placed : goal.returns-clause-placed
+returns-clause-placed g c tells which property =
+    c.in_ok-head.ensures.placed tells (subst (λ (z : State). IsDense z.records c.args.node ⊎ IsSparse z.records c.args.node) (sym c.end_degree.ensures.state) (c.in_ok-degree.ensures.kind tells))
+    (with_property c.args.id c.args.rel property) (record { end = ⊎_elim (λ e. inl (sym e)) (λ e. inr (sym e)) which; typed = refl; aside = c.at-side.ensures })
 
 pub returns-clause-heads : goal.returns-clause-heads
 returns-clause-heads g c tells =

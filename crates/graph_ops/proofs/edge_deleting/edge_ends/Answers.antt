@@ -7,7 +7,8 @@ use Rattle.graph_ops.proofs.Exits.{fault_exit}
 use Rattle.graph_ops.proofs.DiskCauses.{change_cause_passed}
 use Rattle.chain_edit.specs.Heads.{head_of}
 use Rattle.graph_ops.specs.Damage.{IfBlames}
-use Rattle.graph_ops.specs.EdgeDeleting.{IsTakenDamage}
+use Rattle.graph_ops.specs.EdgeDeleting.{IsTakenDamage, with_property}
+use Rattle.group_store.proofs.AlikeGroups.{alike_back, alike_counted, placed_as}
 use Rattle.graph_ops.proofs.Broken.{blames_more}
 use Rattle.graph_ops.proofs.EdgeFrames.{edge_counted, edge_none, edge_then, end_taken}
 use Rattle.graph_ops.proofs.edge_deleting.edge_ends.Goals as goal
@@ -106,3 +107,16 @@ returns-clause-counts g c tells =
     let t = g.S.Reads.state c.edge_end-2.new.space in
     edge_then s m t c.args.id (edge_counted s m c.args.id (g.met.S.Reads.onward_shape _ _ c.edge_end.ensures.onward) (c.in_ok-source.ensures.counts tells))
     (edge_counted m t c.args.id (g.met.S.Reads.onward_shape _ _ c.edge_end-2.ensures.onward) (c.in_ok-target.ensures.counts tells))
+
+pub returns-then-rel-clause-placed : goal.returns-then-rel-clause-placed
+returns-then-rel-clause-placed g c tells property = c.in_ok-source.ensures.placed tells (inl refl) property
+
+pub returns-clause-placed : goal.returns-clause-placed
+returns-clause-placed g c tells property =
+    let m = g.S.Reads.state c.edge_end.new.space in
+    let t = g.S.Reads.state c.edge_end-2.new.space in
+    let end = c.in_ok-source.source in (
+      placed_as t m end.node (alike_back m t end.node (alike_counted m t end.node (g.met.S.Reads.onward_shape _ _ c.edge_end-2.ensures.onward) (c.in_ok-target.ensures.counts tells)))
+          (head_of end.head) (with_property c.args.id c.args.rel property) (c.in_ok-source.ensures.placed tells (inl refl) property),
+      c.in_ok-target.ensures.placed tells (inr refl) property,
+    )

@@ -3,12 +3,11 @@ use Rattle.graph_ops.proofs.EndsFound.{taken_then}
 use Rattle.graph_ops.proofs.EndWrites.{groups_beside, taken_after, taken_beside}
 use Rattle.graph_ops.proofs.Exits.{fault_exit, on_ok}
 use Rattle.graph_ops.specs.Damage.{IfBlames}
-use Rattle.graph_ops.specs.EdgeEnds.{source_of, target_of}
-use Rattle.graph_ops.specs.EdgeDeleting.{HasEndsIn, IsEndLink, IsTakenDamage}
-use Rattle.std.proofs.Common.{◌⊎◌, inl, inr, ⊎_elim, subst, sym}
-use Rattle.graph_ops.proofs.Broken.{blames_more}
+use Rattle.graph_ops.specs.EdgeDeleting.{IsTakenDamage, with_property}
+use Rattle.graph_ops.specs.EdgeDeleting.IsTakenDamage.{Parted, Undropped}
+use Rattle.std.proofs.Common.{⊎_elim}
 use Rattle.graph_ops.proofs.EdgeBlames.{if_blames}
-use Rattle.graph_ops.proofs.EdgeFrames.{end_link_before, ends_later}
+use Rattle.graph_ops.proofs.EdgeSought.{row_later}
 use Rattle.graph_ops.proofs.edge_deleting.take_edge.Goals as goal
 
 -- ---- why it fails
@@ -41,24 +40,19 @@ returns-clause-writes g c =
 
 -- ---- which record is blamed
 pub returns-in_err-ends-clause-damaged : goal.returns-in_err-ends-clause-damaged
-returns-in_err-ends-clause-damaged g c tells ends =
+returns-in_err-ends-clause-damaged g c tells has =
     let s = g.S.Reads.state c.args.space.now in
     let t = g.S.Reads.state c.edge_ends.new.space in
-    fault_exit (λ f. f) (IfBlames (λ damage. IsEndLink s c.args.id c.args.rel.from c.args.rel.to damage ⊎ IsTakenDamage s t c.args.id c.args.rel damage)) c.in_err-ends.field-0.0 c.from_residual.result c.from_residual.ensures.1
-    (blames_more _ _ (λ damage told. inr told) c.in_err-ends.field-0.0 (c.in_err-ends.ensures.damaged tells))
+    fault_exit (λ f. f) (IfBlames (IsTakenDamage s t c.args.id c.args.rel)) c.in_err-ends.field-0.0 c.from_residual.result c.from_residual.ensures.1 (c.in_err-ends.ensures.damaged tells)
 
 pub returns-clause-damaged : goal.returns-clause-damaged
-returns-clause-damaged g c tells ends =
+returns-clause-damaged g c tells has =
     let s = g.S.Reads.state c.args.space.now in
-    let t = g.S.Reads.state c.edge_ends.new.space in
-    let has = c.in_ok-ends.ensures.heads tells in
+    let m = g.S.Reads.state c.edge_ends.new.space in
+    let t = g.S.Reads.state c.unlink_edge.new.space in
     let left = c.in_ok-ends.ensures.counts tells in
-    let from = c.in_ok-ends.ensures.nodes.0 in
-    let to = c.in_ok-ends.ensures.nodes.1 in
-    let n = (source_of c.in_ok-ends.ends).node in
-    let m = (target_of c.in_ok-ends.ends).node in
-    let now = subst (λ a. HasEndsIn t.records c.args.id a m) (sym from) (subst (λ b. HasEndsIn t.records c.args.id c.args.rel.from b) (sym to) (ends_later s t c.args.id left c.args.rel.from c.args.rel.to ends)) in
-    if_blames c.unlink_edge.result _ _
-    (λ damage told. ⊎_elim
-    (λ k. inl (subst (λ a. IsEndLink s c.args.id a c.args.rel.to damage) from (subst (λ b. IsEndLink s c.args.id n b damage) to (end_link_before s t c.args.id n m damage left k)))) (λ k. inr k) told)
-    (c.unlink_edge.ensures.damaged tells has now s c.args.rel)
+    let now = row_later s m c.args.id left c.args.rel has in
+    let row = with_property c.args.id c.args.rel now.0 in
+    if_blames c.unlink_edge.result _ (IsTakenDamage s t c.args.id c.args.rel)
+    (λ damage told. ⊎_elim (λ k. Parted damage m left k) (λ k. Undropped damage k) told)
+    (c.unlink_edge.ensures.damaged tells row (record { live = now.1; source = c.in_ok-ends.ensures.nodes.0; target = c.in_ok-ends.ensures.nodes.1; places = c.in_ok-ends.ensures.placed tells now.0 }))

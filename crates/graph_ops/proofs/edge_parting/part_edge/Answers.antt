@@ -5,8 +5,7 @@ use Rattle.graph_ops.proofs.EndWrites.{ends_given}
 use Rattle.graph_ops.proofs.Exits.{fault_exit, space_outside}
 use Rattle.graph_ops.proofs.DiskCauses.{space_cause_passed}
 use Rattle.graph_ops.specs.Damage.{IfBlames}
-use Rattle.graph_ops.specs.EdgeDeleting.{IsEndLink}
-use Rattle.graph_ops.specs.EdgeEnds.{source_of, target_of}
+use Rattle.graph_ops.specs.EdgeDeleting.{IsPartedDamage}
 use Rattle.group_store.proofs.KeptHeads.{heads_then}
 use Rattle.graph_ops.proofs.Adding.{space_blamed}
 use Rattle.graph_ops.proofs.EdgeBlames.{heads_given}
@@ -39,12 +38,12 @@ returns-in_err-give-clause-cause g c =
 
 -- ---- which record is blamed, and heads that stay
 pub returns-in_err-part_ends-clause-damaged : goal.returns-in_err-part_ends-clause-damaged
-returns-in_err-part_ends-clause-damaged g c tells ends source =
-    fault_exit (λ f. f) (IfBlames (IsEndLink (g.S.Reads.state c.args.space.now) c.args.id (source_of c.args.ends).node (target_of c.args.ends).node)) c.in_err-part_ends.field-0.0 c.from_residual.result c.from_residual.ensures.1 (c.in_err-part_ends.ensures.damaged tells ends source)
+returns-in_err-part_ends-clause-damaged g c tells row edge =
+    fault_exit (λ f. f) (IfBlames (IsPartedDamage (g.S.Reads.state c.args.space.now) c.args.id row.from row.to)) c.in_err-part_ends.field-0.0 c.from_residual.result c.from_residual.ensures.1 (c.in_err-part_ends.ensures.damaged tells row edge)
 
 pub returns-in_err-give-clause-damaged : goal.returns-in_err-give-clause-damaged
-returns-in_err-give-clause-damaged g c tells ends source =
-    fault_exit of_space (IfBlames (IsEndLink (g.S.Reads.state c.args.space.now) c.args.id (source_of c.args.ends).node (target_of c.args.ends).node)) c.in_err-give.field-0.0 c.from_residual-in_err-give.result c.from_residual-in_err-give.ensures.1 (space_blamed _ c.in_err-give.field-0.0)
+returns-in_err-give-clause-damaged g c tells row edge =
+    fault_exit of_space (IfBlames (IsPartedDamage (g.S.Reads.state c.args.space.now) c.args.id row.from row.to)) c.in_err-give.field-0.0 c.from_residual-in_err-give.result c.from_residual-in_err-give.ensures.1 (space_blamed _ c.in_err-give.field-0.0)
 
 pub returns-clause-heads : goal.returns-clause-heads
 returns-clause-heads g c tells heads =

@@ -4,9 +4,10 @@ use Rattle.chain_edit.specs.Heads.{head_of}
 use Rattle.graph_ops.specs.ChangeFault.{IsOutside, of_fault, of_space}
 use Rattle.graph_ops.specs.Damage.{IfBlames}
 use Rattle.graph_ops.proofs.Adding.{space_blamed}
-use Rattle.graph_ops.proofs.EdgeBlames.{heads_parted_by, unlink_blamed}
+use Rattle.graph_ops.proofs.EdgeBlames.{heads_parted_by}
+use Rattle.graph_ops.proofs.EdgeCuts.{cut_blamed}
 use Rattle.graph_ops.proofs.Exits.{fault_exit, fault_outside}
-use Rattle.graph_ops.specs.EdgeDeleting.{IsEdgeLink}
+use Rattle.graph_ops.specs.EdgeDeleting.{IsCutDamage}
 use Rattle.graph_ops.proofs.edge_parting.part_end.Goals as goal
 
 pub returns-in_err-set_number-clause-writes : goal.returns-in_err-set_number-clause-writes
@@ -28,12 +29,12 @@ returns-in_err-unlink_counted-clause-sound g c tells links =
 pub returns-in_err-unlink_counted-clause-damaged : goal.returns-in_err-unlink_counted-clause-damaged
 returns-in_err-unlink_counted-clause-damaged g c tells =
     let s = g.S.Reads.state c.args.space.now in
-    fault_exit of_fault (IfBlames (IsEdgeLink s c.args.rel c.args.end.node)) c.in_err-unlink_counted.field-0.0 c.from_residual.result c.from_residual.ensures.1
-    (unlink_blamed s c.args.end.node c.args.rel c.in_err-unlink_counted.field-0.0 (c.in_err-unlink_counted.ensures.damaged tells))
+    fault_exit of_fault (IfBlames (IsCutDamage s (head_of c.args.end.head) c.args.end.node c.args.rel)) c.in_err-unlink_counted.field-0.0 c.from_residual.result c.from_residual.ensures.1
+    (cut_blamed s (head_of c.args.end.head) c.args.end.node c.args.rel c.in_err-unlink_counted.field-0.0 (c.in_err-unlink_counted.ensures.damaged tells))
 
 pub returns-in_err-set_number-clause-damaged : goal.returns-in_err-set_number-clause-damaged
 returns-in_err-set_number-clause-damaged g c tells =
-    fault_exit of_space (IfBlames (IsEdgeLink (g.S.Reads.state c.args.space.now) c.args.rel c.args.end.node)) c.in_err-set_number.field-0.0 c.from_residual-in_err-set_number.result c.from_residual-in_err-set_number.ensures.1 (space_blamed _ c.in_err-set_number.field-0.0)
+    fault_exit of_space (IfBlames (IsCutDamage (g.S.Reads.state c.args.space.now) (head_of c.args.end.head) c.args.end.node c.args.rel)) c.in_err-set_number.field-0.0 c.from_residual-in_err-set_number.result c.from_residual-in_err-set_number.ensures.1 (space_blamed _ c.in_err-set_number.field-0.0)
 
 pub returns-clause-heads : goal.returns-clause-heads
 returns-clause-heads g c tells owns =

@@ -1,17 +1,18 @@
-use Rattle.std.proofs.Common.{◌≢◌, inr, subst, sym}
+use Rattle.std.proofs.Common.{◌≢◌, subst, sym}
 use Rattle.chain_edit.specs.Heads.{head_of}
 use Rattle.group_store.proofs.KeptHeads.{heads_then}
 use Rattle.graph_ops.specs.Damage.{IfBlames}
-use Rattle.graph_ops.specs.EdgeDeleting.{HasEndsIn, HasHead, IsEdgeLink, IsEndLink, WritesEnds}
-use Rattle.graph_ops.specs.EdgeEnds.{AreApart, AtEach, source_of, target_of}
+use Rattle.graph_ops.specs.EdgeDeleting.{HasHead, IsPartedDamage, IsPlacedEdge, WritesEnds}
+use Rattle.graph_ops.specs.EdgeEnds.{AreApart, AtEach}
 use Rattle.graph_ops.specs.declared.edge_end.EdgeEnd.{EdgeEnd}
 use Rattle.graph_ops.specs.declared.edge_end.Ends.{Ends}
-use Rattle.graph_ops.specs.declared.edge_end.Ends.TheVariants.{Two}
+use Rattle.graph_ops.specs.declared.edge_end.Ends.TheVariants.{Loop, Two}
 use Rattle.std.specs.Prelude.{IfErr}
 use Rattle.graph_ops.proofs.EdgeBlames.{if_blames}
-use Rattle.graph_ops.proofs.EdgeFrames.{link_before}
+use Rattle.graph_ops.proofs.Broken.{blames_more}
+use Rattle.graph_ops.proofs.EdgeCuts.{source_cut, target_cut}
 use Rattle.graph_ops.proofs.EndWrites.{ends_written}
-use Rattle.graph_ops.proofs.Exits.{on_ok}
+use Rattle.graph_ops.proofs.Exits.{fault_exit, on_ok}
 use Rattle.graph_ops.proofs.edge_parting.part_ends.Goals as goal
 
 pub returns-in_ok-part_end-in-Two-clause-writes : goal.returns-in_ok-part_end-in-Two-clause-writes
@@ -22,17 +23,30 @@ returns-in_ok-part_end-in-Two-clause-writes g c =
     subst (WritesEnds s t c.args.rel) (sym c.in-Two.is) (ends_written s u c.args.rel (Two c.in-Two.source c.in-Two.target) t c.part_end-in-Two.ensures.writes c.part_end-in-Two-2.ensures.writes)
 
 -- ---- which record is blamed, and heads that stay
+pub returns-in-Loop-clause-damaged : goal.returns-in-Loop-clause-damaged
+returns-in-Loop-clause-damaged g c tells row =
+    let s = g.S.Reads.state c.args.space.now in
+    let out = c.part_end.result in
+    subst (λ (e : Ends EdgeEnd). IsPlacedEdge s.records c.args.rel row e → IfErr out (IfBlames (IsPartedDamage s c.args.rel row.from row.to))) (sym c.in-Loop.is)
+    (λ edge. if_blames out _ (IsPartedDamage s c.args.rel row.from row.to) (source_cut s c.args.rel row (Loop c.in-Loop.end) edge) (c.part_end.ensures.damaged tells))
+
+pub returns-in_err-part_end-in-Two-clause-damaged : goal.returns-in_err-part_end-in-Two-clause-damaged
+returns-in_err-part_end-in-Two-clause-damaged g c tells row edge =
+    let s = g.S.Reads.state c.args.space.now in
+    let fault = c.in_err-part_end-in-Two.field-0.0 in
+    fault_exit (λ f. f) (IfBlames (IsPartedDamage s c.args.rel row.from row.to)) fault c.from_residual.result c.from_residual.ensures.1
+    (blames_more _ (IsPartedDamage s c.args.rel row.from row.to)
+    (source_cut s c.args.rel row (Two c.in-Two.source c.in-Two.target) (subst (IsPlacedEdge s.records c.args.rel row) c.in-Two.is edge)) fault (c.in_err-part_end-in-Two.ensures.damaged tells))
+
 pub returns-in_ok-part_end-in-Two-clause-damaged : goal.returns-in_ok-part_end-in-Two-clause-damaged
-returns-in_ok-part_end-in-Two-clause-damaged g c tells =
+returns-in_ok-part_end-in-Two-clause-damaged g c tells row edge =
     let s = g.S.Reads.state c.args.space.now in
     let u = g.S.Reads.state c.part_end-in-Two.new.space in
     let a = c.in-Two.source in
     let b = c.in-Two.target in
-    let out = c.part_end-in-Two-2.result in
     let differ : a.node ≢ b.node = subst (AreApart (λ (end : EdgeEnd). end.node)) c.in-Two.is c.requires.ends.apart in
-    subst (λ (e : Ends EdgeEnd). HasEndsIn s.records c.args.rel (source_of e).node (target_of e).node → HasHead s.records (source_of e) → IfErr out (IfBlames (IsEndLink s c.args.rel (source_of e).node (target_of e).node))) (sym c.in-Two.is)
-    (λ ends source. if_blames out (IsEdgeLink u c.args.rel b.node) (IsEndLink s c.args.rel a.node b.node)
-    (λ damage told. inr (link_before s u (head_of a.head) a.node c.args.rel _ b.node differ ends source (c.in_ok-part_end-in-Two.ensures.ok tells) damage told)) (c.part_end-in-Two-2.ensures.damaged tells))
+    if_blames c.part_end-in-Two-2.result _ (IsPartedDamage s c.args.rel row.from row.to)
+    (target_cut s u c.args.rel row a b (subst (IsPlacedEdge s.records c.args.rel row) c.in-Two.is edge) differ (c.in_ok-part_end-in-Two.ensures.ok tells)) (c.part_end-in-Two-2.ensures.damaged tells)
 
 pub returns-in_ok-part_end-in-Two-clause-heads : goal.returns-in_ok-part_end-in-Two-clause-heads
 returns-in_ok-part_end-in-Two-clause-heads g c tells heads =

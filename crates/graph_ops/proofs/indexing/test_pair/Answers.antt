@@ -1,4 +1,4 @@
-use Rattle.std.proofs.Common.{◌≡◌, length, ap, sym, ◌∙◌, arith, refl}
+use Rattle.std.proofs.Common.{◌≡◌, length, ap, sym, ◌∙◌, arith}
 use Rattle.plain_graph.specs.declared.command.Command.TheVariants as commands
 use Rattle.store_rules.specs.Indexes.{wanted_in}
 use Rattle.prop_index.proofs.LinkRules.{store_room}

@@ -1,4 +1,4 @@
-use Rattle.std.proofs.Common.{◌≡◌, ◌-◌, ◌+◌, suc, length, [], ◌++◌, ◌∷◌, refl, ap, ◌∙◌, sym, subst, arith}
+use Rattle.std.proofs.Common.{◌≡◌, ◌-◌, ◌+◌, suc, [], ◌++◌, ◌∷◌, refl, ap, ◌∙◌, sym, subst, arith}
 use Rattle.std.proofs.lemmas.Result.{err_from_is_err_and}
 use Rattle.rec_bytes.specs.declared.meta.Meta.{Meta}
 use Rattle.rec_bytes.specs.declared.record.Rec.{Rec}
@@ -8,12 +8,10 @@ use Rattle.rec_bytes.proofs.Spaces.{after_gets-zero}
 use Rattle.store_rules.specs.Breaking.IsOnChain.{First, Next}
 use Rattle.group_store.proofs.GroupRules.{group_owned}
 use Rattle.group_store.specs.Loading.{group_mark}
-use Rattle.group_store.specs.Twins.{IsMet, is_twin}
 use Rattle.group_store.specs.Walking.{IsWalkDamage}
 use Rattle.group_store.specs.Walking.IsWalkDamage.{NoList}
 use Rattle.group_store.proofs.GroupWalks.{few_owned, left_more, left_none, link_then, member_then, passed_all, passed_more, passed_none, read_next, reads_more, rec_then, walk_fault}
 use Rattle.group_store.proofs.TwinLaws.{lone_more, lone_none, no_twin, twin_is}
-use Rattle.group_store.proofs.Causes.{cause_passed}
 use Rattle.group_store.proofs.twins.seek_twin.Goals as goal
 
 pub loop-init : goal.loop-init
