@@ -4,4 +4,5 @@ pub mod LineLaws
 pub mod Making
 pub mod MutationRows
 pub mod PropertyLaws
+pub mod RefusalWords
 pub mod Unmarked

@@ -13,6 +13,7 @@ pub mod Mutations
 pub mod Names
 pub mod Properties
 pub mod Reached
+pub mod RefusalWords
 pub mod Refusals
 pub mod Reply
 pub mod Sorting

@@ -1,5 +1,5 @@
 /// Why a line is refused. It then changes nothing.
-#[derive(Clone, Copy, Debug, PartialEq, Eq)]
+#[derive(Clone, Copy)]
 pub enum Refusal {
     /// It has more than 8,192 bytes.
     LongLine,

@@ -9,6 +9,7 @@ ghost use Rattle.plain_graph.specs.Reply.{edge_text, end_text, escaped, fault_li
 ghost use Rattle.plain_graph.specs.Reply.{file_name, mark_text};
 ghost use Rattle.plain_graph.specs.Reply.{reply_text, result_text, text_line};
 ghost use Rattle.plain_graph.specs.Reply.{value_text};
+ghost use Rattle.plain_graph.specs.RefusalWords.{refusal_number, refusal_rest, refusal_words};
 
 use crate::{ByteBuffer, Counts, Item, NodeLevel, Refusal, Text, Value};
 use itoa::Buffer;
@@ -161,79 +162,87 @@ fn push_count(text: &mut ShortText, word: &[u8], count: u32)
     text.push(digits.format(count).as_bytes());
 }
 
+/// What the line of a refusal begins with.
+fn refusal_words(why: Refusal) -> &'static [u8]
+    ensures { result.now ≡ refusal_words why }
+{
+    match why {
+        Refusal::LongLine => b"error line",
+        Refusal::ReadOnly => b"error read only",
+        Refusal::Writer => b"error writer",
+        Refusal::Failed => b"error failed",
+        Refusal::SnapshotOpen => b"error snapshot open",
+        Refusal::NoSnapshot => b"error no snapshot",
+        Refusal::SnapshotEnded => b"error snapshot ended",
+        Refusal::FullNodes => b"error full nodes",
+        Refusal::FullEdges => b"error full edges",
+        Refusal::FullNames => b"error names full",
+        Refusal::TooManyProperties => b"error properties full",
+        Refusal::FullProperties => b"error full properties",
+        Refusal::FullStrings => b"error full strings",
+        Refusal::TransactionOpen => b"error transaction open",
+        Refusal::NoTransaction => b"error no transaction",
+        Refusal::TransactionFull => b"error transaction full",
+        Refusal::IndexThere => b"error index there",
+        Refusal::TooManyIndexes => b"error indexes full",
+        Refusal::FullIndex => b"error full index",
+        Refusal::NoIndex => b"error no index",
+        Refusal::IndexTooLarge { .. } => b"error index too large ",
+        Refusal::NoNode { .. } => b"error no node ",
+        Refusal::NoEdge { .. } => b"error no edge ",
+        Refusal::HasRelationships { .. } => b"error node ",
+        Refusal::NumberRange { .. } => b"error number range ",
+        Refusal::Syntax { .. } => b"error syntax ",
+        Refusal::NameLength { .. } => b"error name length ",
+        Refusal::TimesRange { .. } => b"error times range ",
+        Refusal::StepKind { .. } => b"error step kind ",
+        Refusal::TooManySteps { .. } => b"error too many steps ",
+        Refusal::TextLength { .. } => b"error text length ",
+    }
+}
+
+/// The number that it goes on with, if it has one.
+fn refusal_number(why: Refusal) -> Option<usize>
+    ensures { result ≡ refusal_number why }
+{
+    match why {
+        Refusal::NumberRange { at }
+        | Refusal::Syntax { at }
+        | Refusal::NameLength { at }
+        | Refusal::TimesRange { at }
+        | Refusal::StepKind { at }
+        | Refusal::TooManySteps { at }
+        | Refusal::TextLength { at } => Some(at),
+        Refusal::IndexTooLarge { count: id }
+        | Refusal::NoNode { id }
+        | Refusal::NoEdge { id }
+        | Refusal::HasRelationships { id } => Some(id as usize),
+        _ => None,
+    }
+}
+
+/// What it ends with.
+fn refusal_rest(why: Refusal) -> &'static [u8]
+    ensures { result.now ≡ refusal_rest why }
+{
+    match why {
+        Refusal::HasRelationships { .. } => b" has relationships",
+        _ => b"",
+    }
+}
+
 /// The reply to a line that is refused: `error ..`.
+#[tactic(auto, using(crate::proofs::RefusalWords::refusal_laws))]
 pub fn refused(why: Refusal) -> ShortText
     ensures { result ≡ reply_text (Refused why) }
 {
     let mut text = ShortText::new();
-    let mut digits = Buffer::new();
-    match why {
-        Refusal::LongLine => text.push(b"error line"),
-        Refusal::ReadOnly => text.push(b"error read only"),
-        Refusal::Writer => text.push(b"error writer"),
-        Refusal::Failed => text.push(b"error failed"),
-        Refusal::SnapshotOpen => text.push(b"error snapshot open"),
-        Refusal::NoSnapshot => text.push(b"error no snapshot"),
-        Refusal::SnapshotEnded => text.push(b"error snapshot ended"),
-        Refusal::FullNodes => text.push(b"error full nodes"),
-        Refusal::FullEdges => text.push(b"error full edges"),
-        Refusal::FullNames => text.push(b"error names full"),
-        Refusal::TooManyProperties => text.push(b"error properties full"),
-        Refusal::FullProperties => text.push(b"error full properties"),
-        Refusal::FullStrings => text.push(b"error full strings"),
-        Refusal::TransactionOpen => text.push(b"error transaction open"),
-        Refusal::NoTransaction => text.push(b"error no transaction"),
-        Refusal::TransactionFull => text.push(b"error transaction full"),
-        Refusal::IndexThere => text.push(b"error index there"),
-        Refusal::TooManyIndexes => text.push(b"error indexes full"),
-        Refusal::FullIndex => text.push(b"error full index"),
-        Refusal::NoIndex => text.push(b"error no index"),
-        Refusal::IndexTooLarge { count } => {
-            text.push(b"error index too large ");
-            text.push(digits.format(count).as_bytes());
-        }
-        Refusal::NoNode { id } => {
-            text.push(b"error no node ");
-            text.push(digits.format(id).as_bytes());
-        }
-        Refusal::NoEdge { id } => {
-            text.push(b"error no edge ");
-            text.push(digits.format(id).as_bytes());
-        }
-        Refusal::HasRelationships { id } => {
-            text.push(b"error node ");
-            text.push(digits.format(id).as_bytes());
-            text.push(b" has relationships");
-        }
-        Refusal::NumberRange { at } => {
-            text.push(b"error number range ");
-            text.push(digits.format(at).as_bytes());
-        }
-        Refusal::Syntax { at } => {
-            text.push(b"error syntax ");
-            text.push(digits.format(at).as_bytes());
-        }
-        Refusal::NameLength { at } => {
-            text.push(b"error name length ");
-            text.push(digits.format(at).as_bytes());
-        }
-        Refusal::TimesRange { at } => {
-            text.push(b"error times range ");
-            text.push(digits.format(at).as_bytes());
-        }
-        Refusal::StepKind { at } => {
-            text.push(b"error step kind ");
-            text.push(digits.format(at).as_bytes());
-        }
-        Refusal::TooManySteps { at } => {
-            text.push(b"error too many steps ");
-            text.push(digits.format(at).as_bytes());
-        }
-        Refusal::TextLength { at } => {
-            text.push(b"error text length ");
-            text.push(digits.format(at).as_bytes());
-        }
+    text.push(refusal_words(why));
+    if let Some(number) = refusal_number(why) {
+        let mut digits = Buffer::new();
+        text.push(digits.format(number).as_bytes());
     }
+    text.push(refusal_rest(why));
     text.push(b"\n");
     text
 }
