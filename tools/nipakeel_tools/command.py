@@ -6,6 +6,7 @@ import argparse
 import contextlib
 import os
 import pathlib
+import re
 import signal
 import sys
 from typing import Any, Callable, Iterable, Iterator, List, Optional, Sequence, Tuple
@@ -23,6 +24,8 @@ from nipakeel_tools.values import Bad, name, to_bytes
 DONE, REFUSED, WRONG_WORDS, BAD_FILES, PROGRAM_FAILED = range(5)
 # Replies to a query that blame the program's disk or memory, and no line of the user.
 FAILURES = (b"fault disk", b"error memory", b"error failed", b"damaged", *SERVER_FAILURES)
+# Where tools/ is in a package and not in a repository.
+IS_PACKAGE = (pathlib.Path(__file__).resolve().parents[2] / "PROVED").exists()
 Options = argparse.Namespace
 Pages = Iterator[List[Element]]
 
@@ -38,11 +41,11 @@ class DiskFailed(Exception):
 # --- words
 
 
-def reader_of(tool: str, text: str) -> argparse.ArgumentParser:
+def reader_of(tool: str, text: str, takes_folder: bool = True) -> argparse.ArgumentParser:
     """The reader of a tool's words, whose help is the text that stands at its head."""
-    lines = text.split("\n\n")
+    lines = called(text).split("\n\n")
     reader = argparse.ArgumentParser(
-        prog=tool,
+        prog=called(tool),
         usage=lines[1].removeprefix("usage: "),
         description=lines[0],
         epilog="\n\n".join(lines[2:]),
@@ -50,16 +53,16 @@ def reader_of(tool: str, text: str) -> argparse.ArgumentParser:
         allow_abbrev=False,
     )
     add, here = reader.add_argument, pathlib.Path()
-    add("--folder", metavar="DIR", type=pathlib.Path, default=here, help="the store's folder; this one where left out")
+    if takes_folder:
+        add("--folder", metavar="DIR", type=pathlib.Path, default=here, help="the store's folder; this one where left out")
     add("--program", metavar="PATH", default=NIPAKEEL, help="the program; nipakeel beside tools/ where left out")
     add("--version", action=TellVersion)
     return reader
 
 
-def takes_socket(reader: argparse.ArgumentParser) -> None:
-    """Adds the word for a store that tools/serve has open."""
-    says = "the socket of tools/serve: ask this server, and begin no program"
-    reader.add_argument("--socket", metavar="PATH", dest="server", type=pathlib.Path, help=says)
+def called(text: str) -> str:
+    """A text with the names of tools as they are called here: by the launcher where they come from a package."""
+    return re.sub(r"\btools/(?=[a-z]+\b)", "nipakeel ", text) if IS_PACKAGE else text
 
 
 class TellVersion(argparse.Action):
@@ -70,6 +73,12 @@ class TellVersion(argparse.Action):
 
     def __call__(self, *_: Any) -> None:
         os.execv(NIPAKEEL, [str(NIPAKEEL), "--version"])
+
+
+def takes_socket(reader: argparse.ArgumentParser) -> None:
+    """Adds the word for a store that tools/serve has open."""
+    says = "the socket of tools/serve: ask this server, and begin no program"
+    reader.add_argument("--socket", metavar="PATH", dest="server", type=pathlib.Path, help=says)
 
 
 def takes_part(reader: argparse.ArgumentParser) -> None:
@@ -201,7 +210,7 @@ def around(asked: Asking, options: Options, first: Iterable[int]) -> Tuple[Pages
 
 def complain(tool: str, error: object) -> None:
     said = f"{error.filename}: {error.strerror}" if isinstance(error, OSError) and error.filename else error
-    print(shown_at(sys.stderr, f"{tool}: {said}"), file=sys.stderr)
+    print(shown_at(sys.stderr, f"{called(tool)}: {said}"), file=sys.stderr)
 
 
 def interrupt(*_: Any) -> None:

@@ -5,14 +5,12 @@ from __future__ import annotations
 import asyncio
 import os
 import pathlib
-import shutil
-from typing import TYPE_CHECKING
+from typing import TYPE_CHECKING, Tuple
 
 from nipakeel.connection import Ended, NotAnswered
 
-from nipakeel_tools.backup import Progress, check, copy_files, place_of_copy, puts_copy, sync_files
+from nipakeel_tools.backup import Progress, Sums, check, copy_files, files_in, in_progress, place_of_copy, puts_copy, sync_files
 from nipakeel_tools.command import Unusable
-from nipakeel_tools.limits import FILES
 from nipakeel_tools.query import Unfit
 
 if TYPE_CHECKING:
@@ -20,6 +18,14 @@ if TYPE_CHECKING:
     from nipakeel_tools.serving_client import Client
 
 BUSY, TRANSACTION_OPEN, OK = b"error busy", b"error transaction open", b"ok"
+
+
+class NotCopied(Exception):
+    """There is no copy, and the client is answered this."""
+
+    def __init__(self, reply: bytes) -> None:
+        self.reply = reply
+        super().__init__(reply)
 
 
 def copy_of(server: Server, path: bytes) -> pathlib.Path:
@@ -39,44 +45,42 @@ async def backs_up(server: Server, client: Client, path: bytes) -> bytes:
     """Copies the store to this path, and returns what the client is answered."""
     if client.barred or server.owner is client:
         return client.barred or TRANSACTION_OPEN
+    loop = asyncio.get_running_loop()
     try:
         copy = copy_of(server, path)
-        made = place_of_copy(copy)
-    except (OSError, ValueError, Unusable) as error:
+        with in_progress(place_of_copy(copy)) as made:
+            counts, sums = await copied(server, client, made)
+            await loop.run_in_executor(None, finish, made, copy, sums, server.options.program, counts)
+    except NotCopied as refused:
+        return refused.reply
+    except (OSError, ValueError, Ended, NotAnswered, Unfit, Unusable) as error:
         return refusal(error)
-    try:
-        counts = await copied(server, client, made)
-        if counts.startswith(b"nodes "):
-            loop = asyncio.get_running_loop()
-            await loop.run_in_executor(None, finishes, made, copy, server.options.program, counts)
-            server.status.counts["backups"] += 1
-            return b"copied " + counts
-        return counts
-    except (OSError, Ended, NotAnswered, Unfit) as error:
-        return refusal(error)
-    finally:
-        shutil.rmtree(made, ignore_errors=True)
+    server.status.counts["backups"] += 1
+    return b"copied " + counts
 
 
-async def copied(server: Server, client: Client, made: pathlib.Path) -> bytes:
-    """Copies the files while nobody else changes the store, and returns what `stats` says, or why it wasn't possible."""
+async def copied(server: Server, client: Client, made: pathlib.Path) -> Tuple[bytes, Sums]:
+    """Copies the files while nobody else changes the store, and returns what `stats` says and their sums."""
     if not await server.turn.take(client):
-        return BUSY
+        raise NotCopied(BUSY)
     try:
         reply = await server.ask(b"checkpoint")
         if reply != OK:
-            return reply
+            raise NotCopied(reply)
         counts, run = await server.ask(b"stats"), server.run
-        files = [it for it in (pathlib.Path(server.options.folder) / name for name in FILES) if it.exists()]
-        await asyncio.get_running_loop().run_in_executor(None, copy_files, files, made, Progress(0, quiet=True))
-        # An opening may write to the files.
-        return counts if server.run is run and not run.over.done() else b"error backup: the program has ended meanwhile"
+        files = files_in(pathlib.Path(server.options.folder))
+        loop = asyncio.get_running_loop()
+        sums = await loop.run_in_executor(None, copy_files, files, made, Progress(0, quiet=True))
+        if server.run is not run or run.over.done():
+            # An opening may write to the files.
+            raise NotCopied(b"error backup: the program has ended meanwhile")
+        return counts, sums
     finally:
         server.passes_turn()
 
 
-def finishes(made: pathlib.Path, copy: pathlib.Path, program: str, counts: bytes) -> None:
-    sync_files(made)
+def finish(made: pathlib.Path, copy: pathlib.Path, sums: Sums, program: str, counts: bytes) -> None:
+    sync_files(made, sums)
     check(made, program, counts)
     puts_copy(made, copy)
 
