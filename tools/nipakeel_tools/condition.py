@@ -3,6 +3,7 @@ it from being written. The places of numbers are those of docs/FORMAT.md."""
 
 from __future__ import annotations
 
+import contextlib
 import dataclasses
 import errno
 import os
@@ -11,7 +12,7 @@ import pwd
 import re
 import resource
 import stat
-from typing import Iterator, List, Optional, Tuple
+from typing import Iterable, Iterator, List, Optional, Tuple
 
 from nipakeel_tools.limits import FILES, RECORD
 
@@ -119,31 +120,46 @@ def has_no_store(folder: pathlib.Path) -> bool:
 # --- who holds it
 
 
+@dataclasses.dataclass(frozen=True)
+class Place:
+    """A file, as the list of locks names it. Some file systems have no device, and tell another one of two there."""
+
+    major: int
+    minor: int
+    inode: int
+
+    def is_of(self, others: Iterable[Place]) -> bool:
+        at = (self.major, self.major and self.minor, self.inode)
+        return any(at == (it.major, it.major and it.minor, it.inode) for it in others)
+
+
+def place(path: pathlib.Path) -> Place:
+    found = os.stat(path)
+    return Place(os.major(found.st_dev), os.minor(found.st_dev), found.st_ino)
+
+
+def locked_in(text: str) -> List[Place]:
+    """The files that lines of /proc tell to be locked as the launcher locks them."""
+    found = re.findall(r" FLOCK .* ([0-9a-f]+):([0-9a-f]+):(\d+) 0 EOF", text)
+    return [Place(int(major, 16), int(minor, 16), int(inode)) for major, minor, inode in found]
+
+
 def holder(folder: pathlib.Path) -> Optional[str]:
     """The process that has locked the store of this folder, or None. A lock is only looked up, and never tried: a run that
     began at this moment would be refused."""
-    inodes = {os.stat(it).st_ino for it in (folder, folder / META) if it.exists()}
+    proc = pathlib.Path("/proc")
+    ours = [place(it) for it in (folder, folder / META) if it.exists()]
     try:
-        locked = {int(it) for it in re.findall(r" FLOCK .*:(\d+) 0 EOF", pathlib.Path("/proc/locks").read_text())}
+        if not any(it.is_of(ours) for it in locked_in((proc / "locks").read_text())):
+            return None
     except OSError:
         return "nobody can tell: there is no /proc/locks"
-    if not inodes & locked:
-        return None
-    for process in sorted(int(it.name) for it in pathlib.Path("/proc").iterdir() if it.name.isdigit()):
-        if inodes & locked_by(process):
-            return f"process {process} ({(pathlib.Path('/proc') / str(process) / 'comm').read_text().strip()})"
+    for process in sorted(int(it.name) for it in proc.iterdir() if it.name.isdigit()):
+        # One that has ended, or of another user, tells nothing.
+        with contextlib.suppress(OSError):
+            if any(its.is_of(ours) for it in (proc / f"{process}/fdinfo").iterdir() for its in locked_in(it.read_text())):
+                return f"process {process} ({(proc / f'{process}/comm').read_text().strip()})"
     return "a process of another user"
-
-
-def locked_by(process: int) -> set[int]:
-    """The inodes of the files that a process has locked, as far as this user may see them."""
-    found = set()
-    try:
-        for path in pathlib.Path(f"/proc/{process}/fdinfo").iterdir():
-            found |= {int(it) for it in re.findall(r"FLOCK .*:(\d+) 0 EOF", path.read_text())}
-    except OSError:
-        pass
-    return found
 
 
 # --- what keeps it from being written
