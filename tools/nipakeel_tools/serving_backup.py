@@ -61,7 +61,7 @@ async def backs_up(server: Server, client: Client, path: bytes) -> bytes:
 
 async def copied(server: Server, client: Client, made: pathlib.Path) -> Tuple[bytes, Sums]:
     """Copies the files while nobody else changes the store, and returns what `stats` says and their sums."""
-    if not await server.turn.take(client):
+    if not await client.take_turn(b"checkpoint"):
         raise NotCopied(BUSY)
     try:
         reply = await server.ask(b"checkpoint")
