@@ -8,7 +8,7 @@ import threading
 import time
 
 import nipakeel
-from driver import NIPAKEEL, ROOT, call, sound
+from driver import ROOT, SECONDS, call, sound
 from model_cases import raises
 from nipakeel import Edge, P, Vertex, __, asc, desc, gt, lte, neq
 from nipakeel.binding import bound
@@ -618,27 +618,42 @@ def left_open(folder):
     # A thread whose turn to commit doesn't come in time: nothing of its transaction is stored.
     with nipakeel.open(folder, timeout=0.3) as db:
         with db.snapshot() as snapshot:
-            taken, leave = threading.Event(), threading.Event()
-
-            def holds():
-                results = snapshot.query("g.V()")
-                next(results)
-                taken.set()
-                leave.wait()
-                results.close()
-
-            thread = threading.Thread(target=holds)
             with raises(nipakeel.TimedOut):
                 with db.transaction():
                     db.node("dropped")
-                    thread.start()
-                    taken.wait()
-            leave.set()
-            thread.join()
+                    leave = holds(snapshot)
+            leave()
+        # A snapshot that can't be given up at its end is so later.
+        with db.snapshot() as snapshot:
+            for _ in range(10):
+                with db.snapshot():
+                    leave = holds(snapshot)
+                leave()
         assert db.stats().nodes == 3_001
         db.node("n")
         assert db.stats().nodes == 3_002
     sound(folder)
+
+
+def holds(snapshot):
+    """Has a thread read results of a snapshot, and returns what ends that."""
+    taken, leave = threading.Event(), threading.Event()
+
+    def reads():
+        results = snapshot.query("g.V()")
+        next(results)
+        taken.set()
+        assert leave.wait(SECONDS)
+        results.close()
+
+    def ends():
+        leave.set()
+        thread.join()
+
+    thread = threading.Thread(target=reads)
+    thread.start()
+    assert taken.wait(SECONDS)
+    return ends
 
 
 def interrupted(folder):
@@ -693,23 +708,34 @@ def mistakes(folder):
         with snapshots[7] as snapshot:
             assert snapshot.stats().nodes == 0
             assert not hasattr(snapshot, "node")
-        if hasattr(os, "fork"):
-            child = os.fork()
-            if not child:
+        with db.bulk() as bulk:
+            ids = bulk.nodes("n", ({} for _ in range(20_000)))
+        results = db.query("g.V()")
+        taken = [next(results) for _ in range(10)]
+        child = os.fork()
+        if not child:
+            # What the parent is answered stays its own, though the child has the pipe, too, and lets go of the results.
+            status = 0
+            for wrong in (db.stats, lambda: next(results)):
                 try:
-                    db.stats()
+                    wrong()
                 except nipakeel.Misuse:
-                    os._exit(7)
-                os._exit(8)
-            assert os.waitstatus_to_exitcode(os.waitpid(child, 0)[1]) == 7
+                    status += 1
+            results.close()
+            db.close()
+            os._exit(status)
+        assert os.waitstatus_to_exitcode(os.waitpid(child, 0)[1]) == 2
+        assert [*taken, *results] == [Vertex(it) for it in ids]
+        while nodes := db.g.V().limit(2_000).to_list():
+            db.g.V(*nodes[:1_000]).drop().iterate()
         assert db.stats().nodes == 0
         with raises(TypeError):
             db.set(0)
         with raises(nipakeel.Error):
-            db.node("a", known=1)
-            db.query("g.V(0).property('unknown',1)")
-            db.view(0)
-        assert db.view(0, ["unknown"]).properties == {"known": 1, "unknown": 1}
+            id = db.node("a", known=1)
+            db.query("g.V(?).property('unknown',1)", id)
+            db.view(id)
+        assert db.view(id, ["unknown"]).properties == {"known": 1, "unknown": 1}
         db.index("a", "k")
         db.index("a", "k", exist_ok=True)
         with raises(nipakeel.Refused):

@@ -137,6 +137,11 @@ class Connection:
 
     # --- replies
 
+    def lines(self) -> Iterator[bytes]:
+        """The lines of output, one by one. All that have come are taken at once, so as many are to be read as are due."""
+        while True:
+            yield from self.replies(max(self.held_lines, 1))
+
     def replies(self, count: int) -> List[bytes]:
         """The next so many lines of output, without their newlines."""
         while self.held_lines < count:

@@ -13,7 +13,7 @@ from typing import Any, Callable, Dict, Iterable, List, Mapping, NoReturn, Optio
 from nipakeel.binding import Bound, bound
 from nipakeel.connection import NIPAKEEL, Connection, Path, Program, Served
 from nipakeel.elements import Edge, Element, Link, Node, Result, Stats, edge_id, edge_of, level_of, node_id, result_of
-from nipakeel.errors import Busy, Error, Misuse, Refused, SnapshotEnded, TransactionFull, refusal
+from nipakeel.errors import Busy, Error, Misuse, Refused, SnapshotEnded, TimedOut, TransactionFull, refusal
 from nipakeel.limits import BLOCK, EDGE_WEIGHT, LEAST_WEIGHT, MOST_WEIGHT, NODE_WEIGHT, SESSIONS
 from nipakeel.replies import mutates
 from nipakeel.traversal import Source
@@ -492,14 +492,18 @@ class Snapshot(Reader, Holder):
         if self.owns:
             wire.close()
         elif not wire.is_closed:
-            wire.take(is_apart=True)
             try:
-                if wire.connection is not None and wire.run == self.run:
-                    wire.sessions.discard(self.session)
-                    with contextlib.suppress(Error):
-                        wire.asked(self._mark + b"release")
-            finally:
-                wire.give()
+                wire.take(is_apart=True)
+            except TimedOut:
+                # Who has the connection next gives it up.
+                wire.to_release += [self.session] * (wire.run == self.run)
+            else:
+                try:
+                    if wire.connection is not None and wire.run == self.run:
+                        with contextlib.suppress(Error):
+                            wire.releases(wire.connection, self.session)
+                finally:
+                    wire.give()
         self.is_over = True
 
 

@@ -15,8 +15,9 @@ from nipakeel.limits import MOST_INPUT, MOST_LINE
 from nipakeel.replies import ARROW, is_last, mark_of
 
 T = TypeVar("T")
-# A run that has taken so many bytes is followed by a new one, where nothing is open in it; with a snapshot somewhat later.
-ENOUGH_INPUT, ALL_INPUT = MOST_INPUT - 2**26, MOST_INPUT - 2 * MOST_LINE
+# A run that has taken so many bytes is followed by a new one, where nothing is open in it, and one that has taken so many in any
+# case. It has room for all lines that are sent at once.
+ENOUGH_INPUT, ALL_INPUT = MOST_INPUT - 2**26, MOST_INPUT - 1_000 * MOST_LINE
 # How the reply begins to a line that isn't carried out.
 REFUSES = (b"error ", b"fault disk", b"damaged ", b"broken ")
 
@@ -54,7 +55,8 @@ class Wire:
 
     def __init__(self, start: Callable[[], Connection], timeout: Optional[float], last_words: Callable[[], bytes]) -> None:
         """`start` begins a connection, and `last_words` are those of a program that has ended."""
-        self.start, self.timeout, self.last_words = start, timeout, last_words
+        self.start, self.last_words = start, last_words
+        self.timeout = None if timeout == math.inf else timeout
         self.free = threading.Condition(threading.Lock())
         self.waiting: Deque[object] = collections.deque()
         # The thread that has the connection, and the results that it reads by it.
@@ -66,7 +68,9 @@ class Wire:
         # The transaction that is open, and whether the program still has one that nobody can end by a line.
         self.transaction: Optional[Holder] = None
         self.has_stray = False
+        # The sessions that have a snapshot, and those of them that nobody needs any more.
         self.sessions: Set[int] = set()
+        self.to_release: List[int] = []
         self.is_closed = False
         self.enough_input, self.all_input = ENOUGH_INPUT, ALL_INPUT
 
@@ -89,10 +93,13 @@ class Wire:
         return holder or (None if is_apart else self.transaction)
 
     def check(self, me: int) -> None:
-        if self.process != os.getpid():
-            raise Misuse("it was opened by another process; after a fork, open it in each process")
+        self.is_own()
         if self.owner == me:
             raise Misuse("the results of an earlier query are not all read: take them with list(..), or close() them")
+
+    def is_own(self) -> None:
+        if self.process != os.getpid():
+            raise Misuse("it was opened by another process; after a fork, open it in each process")
 
     def may_go(self, holder: Optional[Holder], me: int) -> bool:
         now = self.transaction
@@ -140,7 +147,18 @@ class Wire:
             connection = self.begin()
         patience = self.timeout if timeout is None else timeout
         connection.patience = None if patience == math.inf else patience
+        while self.to_release:
+            self.releases(connection, self.to_release.pop())
         return connection
+
+    def releases(self, connection: Connection, session: int) -> None:
+        """Gives up the snapshot of a session, unless that isn't possible. Then the run has ended, or its disk has failed."""
+        line = b"@%d release" % session
+        try:
+            connection.ask(line)
+        except BaseException as error:
+            self.failed(error, line, False)
+        self.sessions.discard(session)
 
     def is_full(self, sent: int) -> bool:
         """Whether a run that has taken so many bytes makes place for another."""
@@ -156,15 +174,16 @@ class Wire:
     def begin(self) -> Connection:
         self.run += 1
         self.sessions.clear()
+        self.to_release.clear()
         connection = self.start()
         if isinstance(connection, Program):
             # The reply to the first line tells whether a store is served, however long its opening takes.
             try:
                 connection.counts()
-            except Ended as error:
-                raise end(error.status, error.said or self.last_words()) from None
-            except BaseException:
+            except BaseException as error:
                 connection.kill()
+                if isinstance(error, Ended):
+                    raise end(error.status, error.said or self.last_words()) from None
                 raise
         self.connection = connection
         return connection
@@ -182,13 +201,12 @@ class Wire:
     def failed(self, error: BaseException, line: bytes, stored: Optional[bool]) -> NoReturn:
         """Raises what an exception amounts to that came while a line was under way. Its reply isn't read, so the
         connection is of no use any more."""
-        if isinstance(error, Ended):
-            self.connection = None
-            raise end(error.status, error.said or self.last_words(), line, stored) from None
         self.abandon()
+        if isinstance(error, Ended):
+            raise end(error.status, error.said or self.last_words(), line, stored) from None
         if isinstance(error, Late):
             what = "what it changes is stored as a whole or not at all" if stored is None else "it has changed nothing"
-            raise TimedOut(f"no reply came in time, and the program was ended; {what}", "", told(line), None, stored) from None
+            raise TimedOut(f"no reply came in time, and the program was ended; {what}", "", text_of(line), None, stored) from None
         raise error
 
     # --- lines
@@ -227,7 +245,8 @@ class Wire:
             connection = self.ready(holder, timeout)
             try:
                 connection.send(b"".join(b"%s\n" % it for it in lines))
-                return [whole(connection, mark_of(it)) for it in lines]
+                told = connection.lines()
+                return [whole(told, mark_of(it)) for it in lines]
             except BaseException as error:
                 self.failed(error, lines[0], stored)
         finally:
@@ -289,6 +308,7 @@ class Results(Generic[T]):
             return self.make(piece)
         if not self.has_wire:
             raise StopIteration
+        self.wire.is_own()
         try:
             return self.make(next(self.pieces))
         except StopIteration:
@@ -314,7 +334,8 @@ class Results(Generic[T]):
     def close(self) -> None:
         """Takes the rest, and leaves it. The program can't abandon a line, so this takes as long as the rest takes."""
         self.held = iter(())
-        if self.has_wire and not self.wire.is_closed:
+        # After a fork what comes is for the process that asked.
+        if self.has_wire and not self.wire.is_closed and self.wire.process == os.getpid():
             try:
                 collections.deque(self.pieces, 0)
             except NotAnswered:
@@ -357,13 +378,13 @@ class Results(Generic[T]):
                 pass
 
 
-def whole(connection: Connection, mark: bytes) -> Reply:
+def whole(lines: Iterator[bytes], mark: bytes) -> Reply:
     """The next reply, whose lines begin with this mark."""
     results: List[bytes] = []
-    while not is_last(line := connection.replies(1)[0].removeprefix(mark)):
+    while not is_last(line := next(lines).removeprefix(mark)):
         results.append(line.removeprefix(ARROW))
     return Reply(results, line)
 
 
-def told(line: bytes) -> str:
+def text_of(line: bytes) -> str:
     return line.decode(errors="backslashreplace")
