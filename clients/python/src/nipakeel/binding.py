@@ -2,14 +2,16 @@
 
 from __future__ import annotations
 
+import functools
 import re
 from typing import Iterator, List, Sequence, Tuple, Union
 
 from nipakeel.elements import Edge, Vertex, identifier
 from nipakeel.values import BadValue, Value, name, spell
 
-# What may stand for a `?`.
+# What may stand for a `?`, and where one is: the step, and how many arguments come before.
 Bound = Union[Value, Vertex, Edge]
+Place = Tuple[str, int]
 # The tokens of a query. What is none of the others passes as it is, since the program says what is wrong with it.
 TOKEN = re.compile(
     r"""(?P<text>'(?:[^'\\]|\\.)*'|"(?:[^"\\]|\\.)*")|(?P<word>[A-Za-z_][A-Za-z0-9_]*)|(?P<place>\?)
@@ -27,14 +29,26 @@ MOST_LIMIT = 2**32 - 1
 
 def bound(text: str, values: Sequence[Bound]) -> bytes:
     """The text with these values in the places of its question marks, in order. Those between quotes are no places."""
-    left = list(reversed(values))
-    pieces = [spell_at(left, *at) if isinstance(at, tuple) else at.encode() for at in places(text)]
-    if left:
-        raise BadValue(f"{len(values)} values are given, and the query has {len(values) - len(left)} places for them")
-    return b"".join(pieces)
+    pieces, wanted = pieces_of(text)
+    if len(values) != wanted:
+        raise BadValue(f"the query has {wanted} places for values, and {len(values)} are given")
+    left = iter(values)
+    return b"".join(it if isinstance(it, bytes) else spelled(next(left), *it) for it in pieces)
 
 
-def places(text: str) -> Iterator[Union[str, Tuple[str, int]]]:
+@functools.lru_cache(maxsize=256)
+def pieces_of(text: str) -> Tuple[Tuple[Union[bytes, Place], ...], int]:
+    """The pieces of a query, and how many of them are places. Programs ask the same queries with other values."""
+    pieces: List[Union[bytes, Place]] = []
+    for it in places(text):
+        if isinstance(it, str) and pieces and isinstance(pieces[-1], bytes):
+            pieces[-1] += it.encode()
+        else:
+            pieces.append(it.encode() if isinstance(it, str) else it)
+    return tuple(pieces), sum(isinstance(it, tuple) for it in pieces)
+
+
+def places(text: str) -> Iterator[Union[str, Place]]:
     """The pieces of a query: its text as it stands, and for each place the step and how many arguments come before."""
     calls: List[Tuple[str, int]] = []
     word = ""
@@ -59,11 +73,8 @@ def places(text: str) -> Iterator[Union[str, Tuple[str, int]]]:
         yield token[0]
 
 
-def spell_at(left: List[Bound], step: str, before: int) -> bytes:
-    """The next value, spelled for this place."""
-    if not left:
-        raise BadValue("the query has more places than values are given")
-    value = left.pop()
+def spelled(value: Bound, step: str, before: int) -> bytes:
+    """A value, spelled for this place."""
     if step in NAMES or step in PAIRS and not before:
         return b"'%s'" % name_of(value)
     if step in IDENTIFIERS:

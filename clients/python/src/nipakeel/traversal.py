@@ -326,7 +326,7 @@ class Source:
         self.send = send
 
     def V(self, *nodes: Node) -> Vertices:
-        """These nodes, or all."""
+        """These nodes, or all where none is named. So a list that may be empty is to be looked at before."""
         return Vertices(b"g.V(%s)" % b",".join(b"%d" % node_id(it) for it in nodes), self.send)
 
     def E(self, *edges: Link) -> Edges:
