@@ -14,5 +14,4 @@ pub fn blames_nobody()
         → (d : Damage) → ¬ Breaks records shape d }
     ensures eight { (records : Records) (shape : Shape) → IsIndexed records shape
         → (d : Damage) → ¬ BreaksAny records shape d }
-{
-}
+{}
