@@ -6,6 +6,7 @@ use Rattle.rec_bytes.specs.declared.damage.Damage.{Damage}
 use Rattle.rec_bytes.specs.declared.fault.Fault.{Fault}
 use Rattle.rec_bytes.specs.declared.fault.Fault.TheVariants as faults
 use Rattle.rec_bytes.specs.declared.key.Key.{Key}
+use Rattle.rec_bytes.specs.declared.record.Rec.{Rec}
 use Rattle.rec_bytes.specs.Fault.{damage_of}
 use Rattle.rec_bytes.specs.Format as format
 use Rattle.rec_bytes.specs.Meta as metas
@@ -25,6 +26,8 @@ use Rattle.graph_ops.specs.Damage.{BlamesBroken, IfBlames, IsBroken, KeepsBeyond
 use Rattle.graph_ops.specs.EdgeAdding.{BlamesHead, IsLinkingDamage, IsUsedNode}
 use Rattle.graph_ops.specs.EdgeAdding.IsJoinDamage.{NotTaken}
 use Rattle.graph_ops.specs.Owners.{IsAbsent}
+use Rattle.graph_ops.specs.Rooms.{HasRoom}
+use Rattle.graph_ops.proofs.ElementRooms.{room_still}
 use Rattle.graph_ops.specs.declared.change_fault.ChangeFault.{ChangeFault}
 use Rattle.graph_ops.specs.declared.change_fault.ChangeFault.TheVariants.{NoNode, NoEdge, HasRelationships, IndexThere, TooManyIndexes, IndexTooLarge, Full, NamesFull, PropsFull, Memory, Disk, Damaged}
 use Rattle.graph_ops.specs.declared.edge_end.EdgeEnd.{EdgeEnd}
@@ -91,6 +94,24 @@ module _ (s t : State) (keeps : KeepsBeyond s t) (node : ℕ) where
 
   pub used_beyond : IsUsedNode s node → IsUsedNode t node
   used_beyond used = ⊎_elim (λ d. inl (kind_beyond ∙ d)) (λ d. inr (kind_beyond ∙ d)) used
+
+-- the file of relationships has the room that it had
+pub room_beyond : (s t : State) → KeepsBeyond s t → t.shape ≡ s.shape → HasRoom s format.relationships_file 1 → HasRoom t format.relationships_file 1
+room_beyond s t keeps shape room =
+    let meta = keeps (meta_key_of format.relationships_file) (record {
+      names = λ e. omega arith;
+      properties = λ e. omega arith;
+      blocks = λ e. omega arith;
+      names_meta = λ e. let f = ap (λ (k : Key). k.id) e in omega arith;
+      properties_meta = λ e. let f = ap (λ (k : Key). k.id) e in omega arith;
+      blocks_meta = λ e. let f = ap (λ (k : Key). k.id) e in omega arith;
+    }) in
+    room_still s t format.relationships_file 1 (ap (λ (r : Rec). (metas.meta_of r).live) meta) shape room
+
+-- the meta record of the relationships stays where a head was found or made
+pub meta_beside : (s t : State) (node : ℕ) → LeavesBeside s.records t.records node → t.records (meta_key_of format.relationships_file) ≡ s.records (meta_key_of format.relationships_file)
+meta_beside s t node beside = beside.others (meta_key_of format.relationships_file) (λ e. omega arith) (λ e. omega arith)
+    (λ e. let f = ap (λ (k : Key). k.id) e in omega arith) (λ e. let f = ap (λ (k : Key). k.file) e in omega arith)
 
 -- ---- a new edge in its chains
 

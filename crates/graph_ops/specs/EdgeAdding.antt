@@ -4,8 +4,7 @@ use Rattle.rec_bytes.specs.declared.damage.Damage.{Damage}
 use Rattle.rec_bytes.specs.declared.fault.Fault.TheVariants as faults
 use Rattle.rec_bytes.specs.Format as format
 use Rattle.rec_bytes.specs.Key.{IsKey}
-use Rattle.rec_bytes.specs.Space.{State, meta_of}
-use Rattle.id_freelist.specs.Taking.{room}
+use Rattle.rec_bytes.specs.Space.{State}
 use Rattle.store_rules.specs.Views.{Records, key_in}
 use Rattle.chain_edit.specs.Heads.{head_of}
 use Rattle.chain_edit.specs.Pushing.{IsPushFault}
@@ -51,10 +50,6 @@ pub record LeadFrom (ends : Ends EndDegree) (from to : ℕ) : Type 0 where
 
 -- ---- which record is blamed
 
--- the meta record of the relationships, where none is free though there was room for one
-abbrev pub full_edges : Damage
-full_edges = record { file = format.meta_file; id = format.relationships_file; rule = 2 }
-
 -- the head is in the node's record or in a group's
 abbrev pub IsHeadAt : EdgeEnd → Type 0
 IsHeadAt end =
@@ -73,14 +68,12 @@ abbrev pub IsUsedEnd : State → EndDegree → Type 0
 IsUsedEnd s end = IsUsedNode s end.node
 
 -- A record that is blamed where an edge joins the chains of two nodes has the head of an end, which
--- leads nowhere. Or the file of relationships is damaged or full.
+-- leads nowhere. Or no identifier of a relationship can be taken, since a record breaks its rule.
 pub data IsJoinDamage (s : State) (from to : ℕ) : Damage → Type 0 where
   BadHead : (damage : Damage) (end : EdgeEnd) → (end.node ≡ from) ⊎ (end.node ≡ to)
       → IsHeadAt end → IsPushFault s (head_of end.head) (faults.Damaged damage)
       → IsJoinDamage s from to damage
   NotTaken : (damage : Damage) → IsBroken s damage → IsJoinDamage s from to damage
-  FullFile : (meta_of s format.relationships_file).live ≡ room s format.relationships_file
-      → IsJoinDamage s from to full_edges
 
 -- A record that is blamed where an edge is added: no head of an end is found or made, or the edge
 -- doesn't join the chains. It is so in the space as it is left.

@@ -47,7 +47,8 @@ pub(crate) fn join_edge<S: Space>(
     ensures sound { S.tells → (names : List (List ℕ)) (text : List ℕ)
         → CanJoin (S.state space.old) names label ends → slice_get names label ≡ Some text
         → HasRoom (S.state space.old) relationships_file 1 → IfErr result IsOutside }
-    ensures damaged { S.tells → AtEach IsHeadAt ends → IfErr result (IfBlames
+    ensures damaged { S.tells → AtEach IsHeadAt ends
+        → HasRoom (S.state space.old) relationships_file 1 → IfErr result (IfBlames
         (IsJoinDamage (S.state space.new) (source_of ends).node (target_of ends).node)) }
     ensures key { IfOk result (λ id. IsKey (key_in relationships_file id)) }
     ensures writes { IfOk result (λ id.
@@ -71,7 +72,7 @@ fn place<S: Space>(space: &mut S, label: u32, from: u32, to: u32) -> Result<u32,
     ensures sound { S.tells → (most : ℕ) (empty : List ℕ)
         → KeepsRules (S.state space.old).records (S.state space.old).shape most empty
         → HasRoom (S.state space.old) relationships_file 1 → IfErr result IsOutside }
-    ensures damaged { S.tells
+    ensures damaged { S.tells → HasRoom (S.state space.old) relationships_file 1
         → IfErr result (IfBlames (IsJoinDamage (S.state space.new) from to)) }
     ensures key { IfOk result (λ id. IsKey (key_in relationships_file id)) }
     ensures writes { IfOk result (λ id.
@@ -88,7 +89,7 @@ fn place<S: Space>(space: &mut S, label: u32, from: u32, to: u32) -> Result<u32,
 }
 
 /// Takes an identifier of a relationship. There was room for one before the first record was
-/// written, so a file that is full now is damaged.
+/// written, and the space that tells its records has it still. So the file is never full.
 fn take_id<S: Space>(space: &mut S) -> Result<u32, ChangeFault>
     ensures taken { S.tells → IfOk result (λ id. (free : List ℕ)
         → IsFreeList (S.state space.old).records relationships_file free
@@ -97,7 +98,7 @@ fn take_id<S: Space>(space: &mut S) -> Result<u32, ChangeFault>
     ensures sound { S.tells → (most : ℕ) (empty : List ℕ)
         → KeepsRules (S.state space.old).records (S.state space.old).shape most empty
         → HasRoom (S.state space.old) relationships_file 1 → IfErr result IsOutside }
-    ensures damaged { S.tells → (from to : ℕ)
+    ensures damaged { S.tells → HasRoom (S.state space.old) relationships_file 1 → (from to : ℕ)
         → IfErr result (IfBlames (IsJoinDamage (S.state space.new) from to)) }
     ensures ok { S.tells
         → OnOk result (S.state space.new ≡ taken (S.state space.old) relationships_file) }

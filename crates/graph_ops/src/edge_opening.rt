@@ -14,6 +14,7 @@ ghost use Rattle.graph_ops.specs.EdgeOpening.{CanLink, IsJoint, OpensEnds, Write
 ghost use Rattle.graph_ops.specs.EdgeOpening.{ends_moved, from_of, to_of};
 ghost use Rattle.graph_ops.specs.Rooms.{HasRoom};
 ghost use Rattle.rec_bytes.specs.Format.{nodes_file, relationships_file};
+ghost use Rattle.rec_bytes.specs.RecordFiles.{meta_key_of};
 ghost use Rattle.store_rules.specs.Views.{RelRow, key_in};
 ghost use Rattle.store_rules.specs.Writes.{WritesAtMost, WritesBeside};
 
@@ -35,6 +36,10 @@ pub(crate) fn open_ends<S: Space>(space: &mut S, joint: Joint) -> Result<Ends<Ed
     ensures damaged { S.tells → AtEach (IsUsedEnd (S.state space.old)) joint.ends
         → joint.threshold ≡ (S.state space.old).shape.threshold
         → IfErr result (IfBlames (IsLateDamage (S.state space.new))) }
+    // the meta record of the relationships stays
+    ensures beside { S.tells
+        → OnOk result ((S.state space.new).records (meta_key_of relationships_file)
+        ≡ (S.state space.old).records (meta_key_of relationships_file)) }
     ensures at { IfOk result (AtEach IsHeadAt) }
     ensures nodes { IfOk result (λ ends. ((source_of ends).node ≡ from_of joint)
         × ((target_of ends).node ≡ to_of joint)) }

@@ -63,6 +63,7 @@ pub(crate) fn put_edge<S: Space>(space: &mut S, joint: Joint) -> Result<u32, Cha
         → HasRoom (S.state space.old) relationships_file 1 → IfErr result IsOutside }
     ensures damaged { S.tells → AtEach (IsUsedEnd (S.state space.old)) joint.ends
         → joint.threshold ≡ (S.state space.old).shape.threshold
+        → HasRoom (S.state space.old) relationships_file 1
         → IfErr result (IfBlames (IsLinkingDamage (S.state space.new) (from_of joint)
         (to_of joint))) }
     ensures key { IfOk result (λ id. IsKey (key_in relationships_file id)) }

@@ -39,7 +39,7 @@ use Rattle.graph_ops.proofs.DiskCauses.{change_cause_passed, later_on, room_refu
 use Rattle.graph_ops.specs.Damage.{IsBroken}
 use Rattle.graph_ops.proofs.Adding.{line_blamed, room_blamed}
 use Rattle.graph_ops.proofs.Broken.{blames_more}
-use Rattle.graph_ops.proofs.JoinBlames.{absent_blamed, broken_links, used_beyond, used_read}
+use Rattle.graph_ops.proofs.JoinBlames.{absent_blamed, broken_links, room_beyond, used_beyond, used_read}
 use Rattle.graph_ops.proofs.edge_adding.add_edge.Goals as goal
 use Rattle.graph_ops.proofs.edge_adding.add_edge.Goals.{After-put_properties, In_err-ends, In_err-id, In_err-put_properties, In_ok-ends, In_ok-id, In_ok-prepared, In_ok-put_properties, In_ok-test_room}
 use Rattle.graph_ops.proofs.edge_adding.add_edge.Given.{Over}
@@ -457,7 +457,8 @@ put_blamed g c tells =
     let keeps = c.in_ok-prepared.ensures.stays tells in
     let used = at_more (IsUsedEnd s) (IsUsedEnd u) ends (λ end is. used_beyond n u keeps end.node (used_read s n end.node c.end_degrees.ensures.state is)) (c.in_ok-ends.ensures.used tells) in
     let limit = ap (λ (h : Shape). h.threshold) (c.shape-threshold.ensures.is ∙ sym (g.met.S.Reads.onward_shape _ _ c.prepare.ensures.onward)) in
-    at_nodes (λ from to. BlamesLinking v from to c.in_err-id.field-0.0) ends c.args.from c.args.to c.in_ok-ends.ensures.ends (c.in_err-id.ensures.damaged tells used limit)
+    at_nodes (λ from to. BlamesLinking v from to c.in_err-id.field-0.0) ends c.args.from c.args.to c.in_ok-ends.ensures.ends (c.in_err-id.ensures.damaged tells used limit
+    (room_beyond n u keeps (g.met.S.Reads.onward_shape _ _ c.prepare.ensures.onward) c.in_ok-test_room.ensures.room))
 
 pub returns-in_err-id-clause-damaged : goal.returns-in_err-id-clause-damaged
 returns-in_err-id-clause-damaged g c tells =

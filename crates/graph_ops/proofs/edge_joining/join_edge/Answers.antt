@@ -52,11 +52,11 @@ returns-in_err-join_ends-clause-cause g c =
 
 -- ---- which record is blamed
 pub returns-in_err-id-clause-damaged : goal.returns-in_err-id-clause-damaged
-returns-in_err-id-clause-damaged g c tells at =
+returns-in_err-id-clause-damaged g c tells at has =
     fault_exit (λ f. f) (IfBlames (IsJoinDamage (g.S.Reads.state c.place.new.space) (source_of c.args.ends).node (target_of c.args.ends).node)) c.in_err-id.field-0.0 c.from_residual.result c.from_residual.ensures.1
-    (subst (λ (p : ℕ × ℕ). IfBlames (IsJoinDamage (g.S.Reads.state c.place.new.space) p.0 p.1) c.in_err-id.field-0.0) c.nodes-from.ensures (c.in_err-id.ensures.damaged tells))
+    (subst (λ (p : ℕ × ℕ). IfBlames (IsJoinDamage (g.S.Reads.state c.place.new.space) p.0 p.1) c.in_err-id.field-0.0) c.nodes-from.ensures (c.in_err-id.ensures.damaged tells has))
 
 pub returns-in_err-join_ends-clause-damaged : goal.returns-in_err-join_ends-clause-damaged
-returns-in_err-join_ends-clause-damaged g c tells at =
+returns-in_err-join_ends-clause-damaged g c tells at has =
     fault_exit (λ f. f) (IfBlames (IsJoinDamage (g.S.Reads.state c.join_ends.new.space) (source_of c.args.ends).node (target_of c.args.ends).node)) c.in_err-join_ends.field-0.0 c.from_residual-in_err-join_ends.result c.from_residual-in_err-join_ends.ensures.1
     (c.in_err-join_ends.ensures.damaged tells at)

@@ -69,9 +69,9 @@ returns-in_err-save-clause-cause g c =
 
 -- ---- which record is blamed
 pub returns-in_err-id-clause-damaged : goal.returns-in_err-id-clause-damaged
-returns-in_err-id-clause-damaged g c tells =
-    fault_exit (λ f. f) (IfBlames (IsJoinDamage (g.S.Reads.state c.take_id.new.space) c.args.from c.args.to)) c.in_err-id.field-0.0 c.from_residual.result c.from_residual.ensures.1 (c.in_err-id.ensures.damaged tells c.args.from c.args.to)
+returns-in_err-id-clause-damaged g c tells has =
+    fault_exit (λ f. f) (IfBlames (IsJoinDamage (g.S.Reads.state c.take_id.new.space) c.args.from c.args.to)) c.in_err-id.field-0.0 c.from_residual.result c.from_residual.ensures.1 (c.in_err-id.ensures.damaged tells has c.args.from c.args.to)
 
 pub returns-in_err-save-clause-damaged : goal.returns-in_err-save-clause-damaged
-returns-in_err-save-clause-damaged g c tells =
+returns-in_err-save-clause-damaged g c tells has =
     fault_exit of_space (IfBlames (IsJoinDamage (g.S.Reads.state c.save.new.space) c.args.from c.args.to)) c.in_err-save.field-0.0 c.from_residual-in_err-save.result c.from_residual-in_err-save.ensures.1 (space_blamed _ c.in_err-save.field-0.0)

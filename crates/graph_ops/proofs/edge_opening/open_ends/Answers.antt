@@ -1,4 +1,4 @@
-use Rattle.std.proofs.Common.{◌≡◌, ◌≢◌, ◌+◌, ◌≤◌, ℕ, List, [], ap, sym, subst, arith, refl}
+use Rattle.std.proofs.Common.{◌≡◌, ◌≢◌, ◌+◌, ◌≤◌, ℕ, List, [], ap, sym, ◌∙◌, subst, arith, refl}
 use Rattle.rec_bytes.specs.declared.shape.Shape.{Shape}
 use Rattle.chain_edit.specs.Heads.{head_of}
 use Rattle.group_store.specs.Densing.{IsLateDamage}
@@ -17,7 +17,7 @@ use Rattle.store_rules.proofs.WriteLaws.{beside_written, more_written, then_writ
 use Rattle.graph_ops.proofs.DiskCauses.{change_cause_passed}
 use Rattle.graph_ops.proofs.EdgeOpening.{both_opened, can_link, end_of, in_side, joint_of, loop_opened, loop_side, out_side, source_can, source_room, target_can, target_room}
 use Rattle.graph_ops.proofs.Exits.{fault_exit}
-use Rattle.graph_ops.proofs.JoinBlames.{used_beside}
+use Rattle.graph_ops.proofs.JoinBlames.{meta_beside, used_beside}
 use Rattle.graph_ops.proofs.OpenWrites.{both_wrote}
 use Rattle.graph_ops.proofs.edge_opening.open_ends.Goals as goal
 use Rattle.graph_ops.proofs.edge_opening.open_ends.Goals.{In_ok-first-in-Two}
@@ -56,6 +56,16 @@ pub returns-in_err-only-in-Loop-clause-damaged : goal.returns-in_err-only-in-Loo
 returns-in_err-only-in-Loop-clause-damaged g c tells used limit =
     fault_exit (λ f. f) (IfBlames (IsLateDamage (g.S.Reads.state c.open_end.new.space))) c.in_err-only-in-Loop.field-0.0 c.from_residual.result c.from_residual.ensures.1
     (c.in_err-only-in-Loop.ensures.damaged tells (subst (AtEach (IsUsedEnd (g.S.Reads.state c.args.space.now))) c.in-Loop.is used) (omega (arith, limit)))
+
+pub returns-in_ok-only-in-Loop-clause-beside : goal.returns-in_ok-only-in-Loop-clause-beside
+returns-in_ok-only-in-Loop-clause-beside g c tells = meta_beside (g.S.Reads.state c.args.space.now) (g.S.Reads.state c.open_end.new.space) c.in-Loop.end.node (c.in_ok-only-in-Loop.ensures.beside tells)
+
+pub returns-in_ok-last-in-Two-clause-beside : goal.returns-in_ok-last-in-Two-clause-beside
+returns-in_ok-last-in-Two-clause-beside g c tells =
+    let s = g.S.Reads.state c.args.space.now in
+    let t = g.S.Reads.state c.open_end-in-Two.new.space in
+    let u = g.S.Reads.state c.open_end-in-Two-2.new.space in
+    meta_beside t u c.in-Two.target.node (c.in_ok-last-in-Two.ensures.beside tells) ∙ meta_beside s t c.in-Two.source.node (c.in_ok-first-in-Two.ensures.beside tells)
 
 -- ---- two nodes
 pub returns-in_err-first-in-Two-clause-sound : goal.returns-in_err-first-in-Two-clause-sound

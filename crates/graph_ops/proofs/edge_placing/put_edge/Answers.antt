@@ -1,7 +1,9 @@
 use Rattle.std.specs.Prelude.{IfErr, slice_get}
 use Rattle.std.proofs.Common.{◌≡◌, ◌+◌, ℕ, List, Some, ap, subst, inl, inr, arith}
 use Rattle.rec_bytes.specs.declared.meta.Meta.{Meta}
+use Rattle.rec_bytes.specs.declared.record.Rec.{Rec}
 use Rattle.rec_bytes.specs.Format as format
+use Rattle.rec_bytes.specs.Meta as metas
 use Rattle.rel_store.specs.RelRecord.{rel_key}
 use Rattle.store_rules.specs.Writes.{WritesBeside}
 use Rattle.group_store.proofs.OwnGroups.{if_ok}
@@ -76,15 +78,18 @@ returns-clause-err_writes g c =
 
 -- ---- which record is blamed
 pub returns-in_err-ends-clause-damaged : goal.returns-in_err-ends-clause-damaged
-returns-in_err-ends-clause-damaged g c tells used limit =
+returns-in_err-ends-clause-damaged g c tells used limit has =
     fault_exit (λ f. f) (IfBlames (IsLinkingDamage (g.S.Reads.state c.open_ends.new.space) (from_of c.args.joint) (to_of c.args.joint))) c.in_err-ends.field-0.0 c.from_residual.result c.from_residual.ensures.1
     (blames_more _ _ (λ damage told. inl told) c.in_err-ends.field-0.0 (c.in_err-ends.ensures.damaged tells used limit))
 
 pub returns-clause-damaged : goal.returns-clause-damaged
-returns-clause-damaged g c tells used limit =
+returns-clause-damaged g c tells used limit has =
+    let s = g.S.Reads.state c.args.space.now in
+    let t = g.S.Reads.state c.open_ends.new.space in
     let u = g.S.Reads.state c.join_edge.new.space in
     let nodes = c.in_ok-ends.ensures.nodes in
     let at = c.in_ok-ends.ensures.at in
+    let room = room_still s t format.relationships_file 1 (ap (λ (r : Rec). (metas.meta_of r).live) (c.in_ok-ends.ensures.beside tells)) (g.met.S.Reads.onward_shape _ _ c.open_ends.ensures.onward) has in
     if_blames c.join_edge.result (IsJoinDamage u (from_of c.args.joint) (to_of c.args.joint)) (IsLinkingDamage u (from_of c.args.joint) (to_of c.args.joint)) (λ damage told. inr told)
     (subst (λ n. IfErr c.join_edge.result (IfBlames (IsJoinDamage u n (to_of c.args.joint)))) nodes.0
-    (subst (λ n. IfErr c.join_edge.result (IfBlames (IsJoinDamage u (source_of c.in_ok-ends.ends).node n))) nodes.1 (c.join_edge.ensures.damaged tells at)))
+    (subst (λ n. IfErr c.join_edge.result (IfBlames (IsJoinDamage u (source_of c.in_ok-ends.ends).node n))) nodes.1 (c.join_edge.ensures.damaged tells at room)))
