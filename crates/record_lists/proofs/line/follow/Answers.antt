@@ -71,10 +71,25 @@ returns-in_err-rec-clause-cause g c =
     cause_passed _ _ _ c.from_residual.result c.in_err-rec.field-0.0 c.loop.invariant.faults c.in_err-rec.ensures.cause c.from_residual.ensures.1
 
 pub returns-in_err-rec-clause-onward : goal.returns-in_err-rec-clause-onward
-returns-in_err-rec-clause-onward g c = g.met.R.Reads.further_onward c.args.space.now c.loop.space c.get.new.self c.loop.invariant.onward c.in_err-rec.ensures.onward
+returns-in_err-rec-clause-onward g c =
+    g.met.R.Reads.further_onward c.args.space.now c.loop.space c.get.new.self c.loop.invariant.onward c.in_err-rec.ensures.onward
 
 pub returns-in_err-rec-clause-same : goal.returns-in_err-rec-clause-same
 returns-in_err-rec-clause-same g c = ap (λ s. s.records) c.in_err-rec.ensures.state ∙ c.loop.invariant.same
 
 pub returns-in_err-rec-clause-written : goal.returns-in_err-rec-clause-written
 returns-in_err-rec-clause-written g c = ap (λ s. s.written) c.in_err-rec.ensures.state ∙ c.loop.invariant.written
+
+pub returns-in_default-clause-onward : goal.returns-in_default-clause-onward
+returns-in_default-clause-onward g c =
+    g.met.R.Reads.further_onward _ _ _ c.loop.invariant.onward c.in_ok-rec.ensures.onward
+
+pub returns-then-not-fits-clause-onward : goal.returns-then-not-fits-clause-onward
+returns-then-not-fits-clause-onward g c =
+    g.met.R.Reads.further_onward _ _ _ c.loop.invariant.onward c.in_ok-rec.ensures.onward
+
+pub returns-in_default-clause-cause : goal.returns-in_default-clause-cause
+returns-in_default-clause-cause g c = record {
+  later = let later = c.in_ok-rec.ensures.cause.later in omega (arith, c.loop.invariant.faults, later);
+  disk = λ blamed. absurd cc;
+}
