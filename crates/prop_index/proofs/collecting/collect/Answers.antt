@@ -123,3 +123,11 @@ returns-in_err-push-clause-damaged g c tells =
     let s = g.R.Reads.state c.args.space.now in
     let p = err_from_is_err_and c.from_residual-in_err-push.result c.from_residual-in_err-push.ensures.1 in
     rw (p.1, p.2) (read_make s.records s.shape c.in_err-push.field-0.0 (subst (BlamesBroken s.records s.shape) (sym c.in_err-push.ensures.memory) tt))
+
+pub returns-in_err-hash-clause-onward : goal.returns-in_err-hash-clause-onward
+returns-in_err-hash-clause-onward g c =
+    g.met.R.Reads.further_onward _ _ _ c.loop-node.invariant.onward c.in_err-hash.ensures.onward
+
+pub returns-in_err-push-clause-onward : goal.returns-in_err-push-clause-onward
+returns-in_err-push-clause-onward g c =
+    g.met.R.Reads.further_onward _ _ _ c.loop-node.invariant.onward c.in_ok-hash.ensures.onward

@@ -64,3 +64,7 @@ returns-in_err-id-clause-roomy g c tells left =
     let test = c.loop-number-test.true in
     take_has IsNotFull c.from_residual.result c.in_err-id.field-0.0 c.from_residual.ensures.1
     (c.in_err-id.ensures.roomy tells (counts_left s m c.loop-number.number 1 12 (c.loop-number.invariant.counted tells) (omega (arith, test)) left))
+
+pub returns-in_err-id-clause-onward : goal.returns-in_err-id-clause-onward
+returns-in_err-id-clause-onward g c =
+    g.met.S.Reads.further_onward _ _ _ c.loop-number.invariant.onward c.in_err-id.ensures.onward

@@ -150,3 +150,19 @@ pub returns-in_err-set_number-clause-roomy : goal.returns-in_err-set_number-clau
 returns-in_err-set_number-clause-roomy g c tells left =
     let p = err_from_is_err_and c.from_residual-in_err-set_number.result c.from_residual-in_err-set_number.ensures.1 in
     rw (p.1, p.2) (space_roomy c.in_err-set_number.field-0.0)
+
+pub returns-in_err-rec-clause-onward : goal.returns-in_err-rec-clause-onward
+returns-in_err-rec-clause-onward g c =
+    g.met.S.Reads.further_onward _ _ _ c.in_ok-meta.ensures.onward c.in_err-rec.ensures.onward
+
+pub returns-in_err-id-clause-onward : goal.returns-in_err-id-clause-onward
+returns-in_err-id-clause-onward g c =
+    g.met.S.Reads.further_onward _ _ _
+    (g.met.S.Reads.further_onward _ _ _ c.in_ok-meta.ensures.onward c.in_ok-rec.ensures.onward)
+    c.in_err-id.ensures.onward
+
+pub returns-in_err-set_number-clause-onward : goal.returns-in_err-set_number-clause-onward
+returns-in_err-set_number-clause-onward g c =
+    g.met.S.Reads.further_onward _ _ _
+    (g.met.S.Reads.further_onward _ _ _ (g.met.S.Reads.further_onward _ _ _ c.in_ok-meta.ensures.onward c.in_ok-rec.ensures.onward) c.in_ok-id.ensures.onward)
+    c.in_err-set_number.ensures.onward

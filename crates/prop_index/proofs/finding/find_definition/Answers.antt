@@ -15,6 +15,7 @@ use Rattle.prop_index.specs.Finding.{IsPair}
 use Rattle.prop_index.proofs.IndexBlames.{definition_begins, definition_blames, definition_goes_on, many_break, others_begin, others_end, others_go_on, read_fault_same, read_names}
 use Rattle.prop_index.proofs.Reread.{room_after}
 use Rattle.prop_index.proofs.Searches.{search_begins, search_here, search_on, search_over}
+use Rattle.prop_store.proofs.Causes.{cause_passed}
 use Rattle.prop_index.proofs.finding.find_definition.Goals as goal
 
 pub returns-in_err-meta-clause-at_most : goal.returns-in_err-meta-clause-at_most
@@ -140,3 +141,17 @@ returns-then-at-clause-defined g c tells = others_end (g.R.Reads.state c.args.sp
 
 pub returns-clause-defined : goal.returns-clause-defined
 returns-clause-defined g c tells = others_end (g.R.Reads.state c.args.space.now).records c.args.label c.args.key c.loop.at (c.loop.invariant.others tells) c.if-at-2.false
+
+pub returns-in_err-rec-clause-onward : goal.returns-in_err-rec-clause-onward
+returns-in_err-rec-clause-onward g c =
+    g.met.R.Reads.further_onward _ _ _ c.loop.invariant.onward c.in_err-rec.ensures.onward
+
+pub returns-then-is_of_pair-clause-onward : goal.returns-then-is_of_pair-clause-onward
+returns-then-is_of_pair-clause-onward g c =
+    g.met.R.Reads.further_onward _ _ _ c.loop.invariant.onward c.in_ok-rec.ensures.onward
+
+pub returns-in_err-rec-clause-cause : goal.returns-in_err-rec-clause-cause
+returns-in_err-rec-clause-cause g c =
+    cause_passed _ _ _ c.from_residual-in_err-rec.result c.in_err-rec.field-0.0
+    c.loop.invariant.later c.in_err-rec.ensures.cause
+    c.from_residual-in_err-rec.ensures.1

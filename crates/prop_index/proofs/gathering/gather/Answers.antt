@@ -16,6 +16,7 @@ use Rattle.prop_index.specs.Blaming.{IsEntryAt}
 use Rattle.prop_index.proofs.IndexBlames.{blames_before, entry_blames, entry_goes_on, late_breaks, read_fault_same}
 use Rattle.prop_index.proofs.Gathers.{gather_begins, gather_cost, gather_here, gather_on, gather_over}
 use Rattle.prop_index.proofs.Reread.{node_after, room_after, same_records, same_then}
+use Rattle.prop_store.proofs.Causes.{cause_passed, later_on}
 use Rattle.prop_index.proofs.gathering.gather.Goals as goal
 
 pub loop-init : goal.loop-init
@@ -161,3 +162,23 @@ returns-then-at-2-clause-damaged g c tells d b h =
     let s = g.R.Reads.state c.args.space.now in
     let late : high s.records format.index_file ≤ c.loop.counter = subst (λ (m : Meta). m.high ≤ c.loop.counter) c.meta-end.ensures (omega arith) in
     subst (BlamesBroken s.records s.shape) (sym c.damaged.ensures) (late_breaks s d b c.loop.counter c.loop.at c.loop.named (c.loop.invariant.at tells d b h) c.if-at-2.true late)
+
+pub returns-in_err-rec-clause-onward : goal.returns-in_err-rec-clause-onward
+returns-in_err-rec-clause-onward g c =
+    g.met.R.Reads.further_onward _ _ _ c.loop.invariant.onward c.in_err-rec.ensures.onward
+
+pub returns-in_err-add_node-clause-onward : goal.returns-in_err-add_node-clause-onward
+returns-in_err-add_node-clause-onward g c =
+    g.met.R.Reads.further_onward _ _ _
+    (g.met.R.Reads.further_onward _ _ _ c.loop.invariant.onward c.in_ok-rec.ensures.onward)
+    c.in_err-add_node.ensures.onward
+
+pub returns-in_err-rec-clause-cause : goal.returns-in_err-rec-clause-cause
+returns-in_err-rec-clause-cause g c =
+    cause_passed _ _ _ c.from_residual.result c.in_err-rec.field-0.0 c.loop.invariant.later c.in_err-rec.ensures.cause c.from_residual.ensures.1
+
+pub returns-in_err-add_node-clause-cause : goal.returns-in_err-add_node-clause-cause
+returns-in_err-add_node-clause-cause g c =
+    cause_passed _ _ _ c.from_residual-in_err-add_node.result c.in_err-add_node.field-0.0
+    (later_on c.loop.invariant.later c.in_ok-rec.ensures.cause.later) c.in_err-add_node.ensures.cause
+    c.from_residual-in_err-add_node.ensures.1

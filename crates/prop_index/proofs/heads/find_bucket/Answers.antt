@@ -14,6 +14,7 @@ use Rattle.prop_index.specs.Blaming.{NamesIndexes}
 use Rattle.prop_index.specs.Finding.{IsDefined, IsFound}
 use Rattle.prop_index.specs.Heads.{IsBucketOf}
 use Rattle.prop_index.proofs.Reread.{definitions_of, room_after, same_records}
+use Rattle.prop_store.proofs.Causes.{cause_passed}
 use Rattle.prop_index.proofs.heads.find_bucket.Goals as goal
 
 pub returns-in_default-clause-found : goal.returns-in_default-clause-found
@@ -149,3 +150,17 @@ returns-in_err-bucket-clause-names g c tells = same_has NamesIndexes c.from_resi
 pub returns-in_default-clause-lacks : goal.returns-in_default-clause-lacks
 returns-in_default-clause-lacks g c tells =
     subst (IsDefined (g.R.Reads.state c.args.space.now).records c.args.label c.args.key) c.in_default.is (c.in_ok-definition.ensures.defined tells)
+
+pub returns-in_err-bucket-clause-onward : goal.returns-in_err-bucket-clause-onward
+returns-in_err-bucket-clause-onward g c =
+    g.met.R.Reads.further_onward _ _ _ c.in_ok-definition.ensures.onward c.in_err-bucket.ensures.onward
+
+pub returns-clause-onward : goal.returns-clause-onward
+returns-clause-onward g c =
+    g.met.R.Reads.further_onward _ _ _ c.in_ok-definition.ensures.onward c.in_ok-bucket.ensures.onward
+
+pub returns-in_err-bucket-clause-cause : goal.returns-in_err-bucket-clause-cause
+returns-in_err-bucket-clause-cause g c =
+    cause_passed _ _ _ c.from_residual-in_err-bucket.result c.in_err-bucket.field-0.0
+    c.in_ok-definition.ensures.cause.later c.in_err-bucket.ensures.cause
+    c.from_residual-in_err-bucket.ensures.1

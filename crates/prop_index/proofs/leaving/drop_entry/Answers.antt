@@ -33,6 +33,7 @@ use Rattle.prop_index.proofs.LiveCounts.{unlinked_live}
 use Rattle.prop_index.proofs.Unlinked.{entry_unlinked}
 use Rattle.std.proofs.lemmas.Bool.{true≢false}
 use Rattle.std.proofs.lemmas.Result.{err_from_is_err_and}
+use Rattle.prop_store.proofs.Causes.{space_cause_passed}
 use Rattle.prop_index.proofs.leaving.drop_entry.Goals as goal
 
 pub returns-in_default-clause-dropped : goal.returns-in_default-clause-dropped
@@ -274,3 +275,16 @@ returns-clause-absent g c tells xs chain none =
     let s = g.S.Reads.state c.args.space.now in
     let row = subst (IsEntrySought s.records xs c.args.content) c.in-Some.is (c.in_ok-row.ensures.found tells xs (chain-entries s c.args.bucket.first xs chain)) in
     absurd (none c.in-Some.row.id row.member row.says)
+
+pub returns-in_err-unlink-clause-onward : goal.returns-in_err-unlink-clause-onward
+returns-in_err-unlink-clause-onward g c =
+    g.met.S.Reads.further_onward _ _ _ c.in_ok-row.ensures.onward c.in_err-unlink.ensures.onward
+
+pub returns-clause-onward : goal.returns-clause-onward
+returns-clause-onward g c = g.met.S.Reads.further_onward _ _ _ c.in_ok-row.ensures.onward c.in_ok-unlink.ensures.onward
+
+pub returns-in_err-unlink-clause-cause : goal.returns-in_err-unlink-clause-cause
+returns-in_err-unlink-clause-cause g c =
+    space_cause_passed _ _ _ c.from_residual-in_err-unlink.result c.in_err-unlink.field-0.0
+    c.in_ok-row.ensures.cause.later c.in_err-unlink.ensures.cause
+    c.from_residual-in_err-unlink.ensures.1

@@ -15,6 +15,7 @@ use Rattle.prop_index.specs.Listing.{pair_of}
 use Rattle.prop_index.proofs.IndexBlames.{definition_begins, definition_blames, definition_goes_on, many_break, pairs_begin, pairs_end, pairs_go_on, read_fault_same, read_names}
 use Rattle.prop_index.proofs.Reread.{definitions_of, room_after}
 use Rattle.prop_index.proofs.Walks.{walk_begins, walk_here, walk_on, walk_over}
+use Rattle.prop_store.proofs.Causes.{cause_passed, later_on, memory_cause}
 use Rattle.prop_index.proofs.listing.indexes.Goals as goal
 
 pub returns-in_err-meta-clause-at_most : goal.returns-in_err-meta-clause-at_most
@@ -132,3 +133,22 @@ returns-in_err-rec-clause-names g c tells =
 
 pub returns-then-at-2-clause-names : goal.returns-then-at-2-clause-names
 returns-then-at-2-clause-names g c tells = subst NamesIndexes (sym c.damaged.ensures) (inr (refl, refl))
+
+pub returns-in_err-rec-clause-onward : goal.returns-in_err-rec-clause-onward
+returns-in_err-rec-clause-onward g c =
+    g.met.R.Reads.further_onward _ _ _ c.loop.invariant.onward c.in_err-rec.ensures.onward
+
+pub returns-in_err-push-clause-onward : goal.returns-in_err-push-clause-onward
+returns-in_err-push-clause-onward g c =
+    g.met.R.Reads.further_onward _ _ _ c.loop.invariant.onward c.in_ok-rec.ensures.onward
+
+pub returns-in_err-rec-clause-cause : goal.returns-in_err-rec-clause-cause
+returns-in_err-rec-clause-cause g c =
+    cause_passed _ _ _ c.from_residual-in_err-rec.result c.in_err-rec.field-0.0
+    c.loop.invariant.later c.in_err-rec.ensures.cause
+    c.from_residual-in_err-rec.ensures.1
+
+pub returns-in_err-push-clause-cause : goal.returns-in_err-push-clause-cause
+returns-in_err-push-clause-cause g c =
+    memory_cause _ _ c.from_residual-in_err-push.result (later_on c.loop.invariant.later c.in_ok-rec.ensures.cause.later)
+    c.from_residual-in_err-push.ensures.1

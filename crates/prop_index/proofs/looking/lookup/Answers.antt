@@ -182,3 +182,15 @@ returns-in_err-nodes-clause-caused g c tells =
 pub returns-in_err-put_in_order-clause-caused : goal.returns-in_err-put_in_order-clause-caused
 returns-in_err-put_in_order-clause-caused g c tells =
     caused_exit (g.R.Reads.state c.args.space.now).records c.args.label c.args.key c.from_residual-in_err-put_in_order.result c.in_err-put_in_order.field-0.0 c.from_residual-in_err-put_in_order.ensures.1
+
+pub returns-in_err-nodes-clause-onward : goal.returns-in_err-nodes-clause-onward
+returns-in_err-nodes-clause-onward g c =
+    g.met.R.Reads.further_onward _ _ _ c.in_ok-bucket.ensures.onward c.in_err-nodes.ensures.onward
+
+pub returns-in_err-put_in_order-clause-onward : goal.returns-in_err-put_in_order-clause-onward
+returns-in_err-put_in_order-clause-onward g c =
+    g.met.R.Reads.further_onward _ _ _ c.in_ok-bucket.ensures.onward c.in_ok-nodes.ensures.onward
+
+pub returns-clause-onward : goal.returns-clause-onward
+returns-clause-onward g c =
+    g.met.R.Reads.further_onward _ _ _ c.in_ok-bucket.ensures.onward c.in_ok-nodes.ensures.onward
