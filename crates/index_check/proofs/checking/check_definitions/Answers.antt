@@ -10,6 +10,7 @@ use Rattle.index_check.specs.declared.definitions.Definition.{Definition}
 use Rattle.index_check.proofs.DefinitionLaws.{all_given, all_low, twin_breaks, twin_none}
 use Rattle.index_check.proofs.IndexLaws.{breaks_by}
 use Rattle.index_check.proofs.ListedLaws.{each_keeps}
+use Rattle.prop_store.proofs.Causes.{cause_passed}
 use Rattle.index_check.proofs.checking.check_definitions.Goals as goal
 
 pub returns-in-Some-clause-decided : goal.returns-in-Some-clause-decided
@@ -46,3 +47,21 @@ returns-in-None-clause-decided g c = λ tells.
     = subst (λ (r : Records). IfNone c.in_ok-damage-2.field-0 ((d : ℕ) → In d (map (λ (a : Definition). a.id) c.args.definitions.now) → IsRight r d)) c.in_ok-damage.ensures.same (c.in_ok-damage-2.ensures.right tells) in
     let right : (d : ℕ) → In d (map (λ (a : Definition). a.id) c.args.definitions.now) → IsRight records d = search (rules, rights) in
     indexed_of records (each_keeps records ids listed (λ d e i j l k. twin_none records ids ids none d e i j l k) all (λ d i. right d (subst (In d) (sym c.requires.named) i)))
+
+pub returns-in_err-damage-2-clause-onward : goal.returns-in_err-damage-2-clause-onward
+returns-in_err-damage-2-clause-onward g c =
+    g.met.R.Reads.further_onward _ _ _ c.in_ok-damage.ensures.onward c.in_err-damage-2.ensures.onward
+
+pub returns-in-Some-3-clause-onward : goal.returns-in-Some-3-clause-onward
+returns-in-Some-3-clause-onward g c =
+    g.met.R.Reads.further_onward _ _ _ c.in_ok-damage.ensures.onward c.in_ok-damage-2.ensures.onward
+
+pub returns-in-None-clause-onward : goal.returns-in-None-clause-onward
+returns-in-None-clause-onward g c =
+    g.met.R.Reads.further_onward _ _ _ c.in_ok-damage.ensures.onward c.in_ok-damage-2.ensures.onward
+
+pub returns-in_err-damage-2-clause-cause : goal.returns-in_err-damage-2-clause-cause
+returns-in_err-damage-2-clause-cause g c =
+    cause_passed _ _ _ c.from_residual-in_err-damage-2.result c.in_err-damage-2.field-0.0
+    c.in_ok-damage.ensures.cause.later c.in_err-damage-2.ensures.cause
+    c.from_residual-in_err-damage-2.ensures.1

@@ -3,6 +3,7 @@ use Rattle.rec_bytes.specs.Format as format
 use Rattle.store_rules.specs.IndexBreaking.{AreDefinitions}
 use Rattle.store_rules.specs.IndexBreaking.IndexBreaks.{WrongDefinitions}
 use Rattle.index_check.proofs.IndexLaws.{breaks_by}
+use Rattle.prop_store.proofs.Causes.{space_cause_passed}
 use Rattle.index_check.proofs.checking.decide.Goals as goal
 
 pub returns-in_default-clause-decided : goal.returns-in_default-clause-decided
@@ -10,3 +11,19 @@ returns-in_default-clause-decided g c = λ tells.
     let records = (g.R.Reads.state c.args.space.now).records in
     let none : (xs : List ℕ) → ¬ AreDefinitions records xs = search (rules, c.in_ok-ids.ensures.none tells) in
     breaks_by records c.broken.result format.meta_file format.index_file c.broken.ensures (WrongDefinitions (λ h. none h.members h.list))
+
+pub returns-in_err-definitions-clause-onward : goal.returns-in_err-definitions-clause-onward
+returns-in_err-definitions-clause-onward g c =
+    g.met.R.Reads.further_onward _ _ _ c.in_ok-ids.ensures.onward c.in_err-definitions.ensures.onward
+
+pub returns-clause-onward : goal.returns-clause-onward
+returns-clause-onward g c =
+    g.met.R.Reads.further_onward _ _ _
+    (g.met.R.Reads.further_onward _ _ _ c.in_ok-ids.ensures.onward c.in_ok-definitions.ensures.onward)
+    c.check_definitions.ensures.onward
+
+pub returns-in_err-definitions-clause-cause : goal.returns-in_err-definitions-clause-cause
+returns-in_err-definitions-clause-cause g c =
+    space_cause_passed _ _ _ c.from_residual-in_err-definitions.result c.in_err-definitions.field-0.0
+    c.in_ok-ids.ensures.cause.later c.in_err-definitions.ensures.cause
+    c.from_residual-in_err-definitions.ensures.1

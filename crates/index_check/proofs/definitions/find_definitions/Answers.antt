@@ -41,3 +41,18 @@ returns-clause-found g c = λ tells.
     let few : length ids ≤ 16 = omega (arith, c.if-len-gt-MOST_DEFINITIONS.false) in
     let room : high records format.index_file ≤ format.most_ids = omega (arith, c.requires.records, c.requires.low) in
     definitions_of records room ids (subst (λ (l : List ℕ → Type 0). l ids) (same_line records _ _ _ read c.requires.records first) found) few
+
+pub returns-in_err-ids-clause-onward : goal.returns-in_err-ids-clause-onward
+returns-in_err-ids-clause-onward g c =
+    g.met.R.Reads.further_onward _ _ _ c.in_ok-meta.ensures.onward c.in_err-ids.ensures.onward
+
+pub returns-in_default-clause-onward : goal.returns-in_default-clause-onward
+returns-in_default-clause-onward g c =
+    g.met.R.Reads.further_onward _ _ _ c.in_ok-meta.ensures.onward c.in_ok-ids.ensures.onward
+
+pub returns-then-len-gt-MOST_DEFINITIONS-clause-onward : goal.returns-then-len-gt-MOST_DEFINITIONS-clause-onward
+returns-then-len-gt-MOST_DEFINITIONS-clause-onward g c =
+    g.met.R.Reads.further_onward _ _ _ c.in_ok-meta.ensures.onward c.in_ok-ids.ensures.onward
+
+pub returns-clause-onward : goal.returns-clause-onward
+returns-clause-onward g c = g.met.R.Reads.further_onward _ _ _ c.in_ok-meta.ensures.onward c.in_ok-ids.ensures.onward

@@ -1,5 +1,5 @@
-use Rattle.std.proofs.Common.{rules, arith, ◌∙◌, ◌++◌, ◌∷◌, [], map, take, get_or, ap, sym, refl}
-use Rattle.std.proofs.lemmas.List.{map-append, map_more, take_more}
+use Rattle.std.proofs.Common.{[], ap, arith, get_or, map, refl, rules, sym, take, ◌++◌, ◌∙◌, ◌∷◌, ◌≡◌}
+use Rattle.std.proofs.lemmas.List.{map-append, map_more, take_all, take_more}
 use Rattle.store_rules.specs.Views.{Records}
 use Rattle.record_lists.proofs.Causes.{cause_passed}
 use Rattle.index_check.specs.Definitions.{definition_at}
@@ -48,8 +48,29 @@ pub returns-in_err-definition-clause-written : goal.returns-in_err-definition-cl
 returns-in_err-definition-clause-written g c = c.in_err-definition.ensures.written ∙ c.loop-id.invariant.written
 
 pub returns-in_err-definition-clause-onward : goal.returns-in_err-definition-clause-onward
-returns-in_err-definition-clause-onward g c = g.met.R.Reads.further_onward c.args.space.now c.loop-id.space c.read_definition.new.space c.loop-id.invariant.onward c.in_err-definition.ensures.onward
+returns-in_err-definition-clause-onward g c =
+    g.met.R.Reads.further_onward c.args.space.now c.loop-id.space c.read_definition.new.space
+    c.loop-id.invariant.onward c.in_err-definition.ensures.onward
 
 pub returns-in_err-definition-clause-cause : goal.returns-in_err-definition-clause-cause
 returns-in_err-definition-clause-cause g c =
     cause_passed _ _ _ c.from_residual.result c.in_err-definition.field-0.0 c.loop-id.invariant.faults c.in_err-definition.ensures.cause c.from_residual.ensures.1
+
+pub returns-in_default-clause-onward : goal.returns-in_default-clause-onward
+returns-in_default-clause-onward g c =
+    g.met.R.Reads.further_onward _ _ _ c.loop-id.invariant.onward c.in_ok-definition.ensures.onward
+
+pub returns-clause-are : goal.returns-clause-are
+returns-clause-are g c = λ tells.
+    let ids = c.args.ids.now in
+    let all : take c.loop-id.id-index ids ≡ ids = take_all c.loop-id.id-index ids (omega arith) in
+    c.loop-id.invariant.are tells ∙ ap (map (definition_at (g.R.Reads.state c.args.space.now).records)) all
+
+pub returns-clause-ids : goal.returns-clause-ids
+returns-clause-ids g c = c.loop-id.invariant.ids ∙ take_all c.loop-id.id-index c.args.ids.now (omega arith)
+
+pub returns-in_default-clause-cause : goal.returns-in_default-clause-cause
+returns-in_default-clause-cause g c = record {
+  later = let later = c.in_ok-definition.ensures.cause.later in omega (arith, c.loop-id.invariant.faults, later);
+  disk = λ blamed. absurd cc;
+}

@@ -1,4 +1,4 @@
-use Rattle.std.proofs.Common.{rules, arith, ◌≡◌, ◌∙◌, ◌++◌, ◌<◌, ◌+◌, length, ap, sym, subst, refl}
+use Rattle.std.proofs.Common.{ap, arith, length, refl, rules, subst, sym, ◌++◌, ◌+◌, ◌<◌, ◌∙◌, ◌≡◌}
 use Rattle.std.specs.List.{All}
 use Rattle.rec_bytes.specs.Format as format
 use Rattle.rec_bytes.specs.declared.meta.Meta.{Meta}
@@ -47,7 +47,9 @@ returns-in_err-ids-clause-cause g c =
     cause_passed _ _ _ c.from_residual.result c.in_err-ids.field-0.0 c.loop-number.invariant.faults c.in_err-ids.ensures.cause c.from_residual.ensures.1
 
 pub returns-in_err-ids-clause-onward : goal.returns-in_err-ids-clause-onward
-returns-in_err-ids-clause-onward g c = g.met.R.Reads.further_onward c.args.space.now c.loop-number.space c.bucket_at.new.space c.loop-number.invariant.onward c.in_err-ids.ensures.onward
+returns-in_err-ids-clause-onward g c =
+    g.met.R.Reads.further_onward c.args.space.now c.loop-number.space c.bucket_at.new.space
+    c.loop-number.invariant.onward c.in_err-ids.ensures.onward
 
 pub returns-in_err-ids-clause-same : goal.returns-in_err-ids-clause-same
 returns-in_err-ids-clause-same g c = c.in_err-ids.ensures.same ∙ c.loop-number.invariant.same
@@ -60,3 +62,17 @@ returns-clause-found g c = λ tells.
     let records = (g.R.Reads.state c.args.space.now).records in
     let all : c.loop-number.number ≡ 180 = omega arith in
     subst (λ n. AreEntriesTo records c.args.definition n c.loop-number.entries.items) all (c.loop-number.invariant.are tells)
+
+pub returns-in_default-clause-onward : goal.returns-in_default-clause-onward
+returns-in_default-clause-onward g c =
+    g.met.R.Reads.further_onward _ _ _ c.loop-number.invariant.onward c.in_ok-ids.ensures.onward
+
+pub returns-in_default-extend_from_slice-clause-onward : goal.returns-in_default-extend_from_slice-clause-onward
+returns-in_default-extend_from_slice-clause-onward g c =
+    g.met.R.Reads.further_onward _ _ _ c.loop-number.invariant.onward c.in_ok-ids.ensures.onward
+
+pub returns-in_default-extend_from_slice-clause-cause : goal.returns-in_default-extend_from_slice-clause-cause
+returns-in_default-extend_from_slice-clause-cause g c = record {
+  later = let later = c.in_ok-ids.ensures.cause.later in omega (arith, c.loop-number.invariant.faults, later);
+  disk = λ blamed. absurd cc;
+}

@@ -39,3 +39,14 @@ returns-clause-found g c = λ tells.
       kind = ap (kind_at records format.index_file) (sym id) ∙ kind ∙ sym c.byte.ensures ∙ two;
       rec_is = got ∙ ap (index_rec records) id;
     }
+
+pub returns-in_err-rec-2-clause-onward : goal.returns-in_err-rec-2-clause-onward
+returns-in_err-rec-2-clause-onward g c =
+    g.met.R.Reads.further_onward _ _ _ c.in_ok-rec.ensures.onward c.in_err-rec-2.ensures.onward
+
+pub returns-then-byte-ne-HEADS-clause-onward : goal.returns-then-byte-ne-HEADS-clause-onward
+returns-then-byte-ne-HEADS-clause-onward g c =
+    g.met.R.Reads.further_onward _ _ _ c.in_ok-rec.ensures.onward c.in_ok-rec-2.ensures.onward
+
+pub returns-clause-onward : goal.returns-clause-onward
+returns-clause-onward g c = g.met.R.Reads.further_onward _ _ _ c.in_ok-rec.ensures.onward c.in_ok-rec-2.ensures.onward

@@ -7,6 +7,7 @@ use Rattle.index_check.specs.declared.definitions.Definition.{Definition}
 use Rattle.index_check.specs.declared.nodes.Entered.{Entered}
 use Rattle.index_check.specs.declared.nodes.Entered.TheVariants.{Nodes, Unwanted}
 use Rattle.index_check.proofs.IndexLaws.{breaks_by, lacks_breaks, right_of, unwanted_breaks, wrong_breaks}
+use Rattle.prop_store.proofs.Causes.{cause_passed, later_on}
 use Rattle.index_check.proofs.index.check_index.Goals as goal
 
 pub returns-in_default-clause-broken : goal.returns-in_default-clause-broken
@@ -60,3 +61,41 @@ returns-clause-right g c = λ tells.
     let right : AreNodesRight records d nodes
     = subst (λ ns. AreNodesRight records d ns) c.deref-in-Nodes.ensures.value (subst (λ (r : Records). AreNodesRight r d c.deref-in-Nodes.result.now) (c.in_ok-id.ensures.same ∙ c.in_ok-entries.ensures.same) found) in
     right_of records d given entries are nodes told.0 told.1 right
+
+pub returns-in_err-id-clause-onward : goal.returns-in_err-id-clause-onward
+returns-in_err-id-clause-onward g c =
+    g.met.R.Reads.further_onward _ _ _ c.in_ok-entries.ensures.onward c.in_err-id.ensures.onward
+
+pub returns-in-Unwanted-clause-onward : goal.returns-in-Unwanted-clause-onward
+returns-in-Unwanted-clause-onward g c =
+    g.met.R.Reads.further_onward _ _ _ c.in_ok-entries.ensures.onward c.in_ok-id.ensures.onward
+
+pub returns-in_err-node-in-Nodes-clause-onward : goal.returns-in_err-node-in-Nodes-clause-onward
+returns-in_err-node-in-Nodes-clause-onward g c =
+    g.met.R.Reads.further_onward _ _ _
+    (g.met.R.Reads.further_onward _ _ _ c.in_ok-entries.ensures.onward c.in_ok-id.ensures.onward)
+    c.in_err-node-in-Nodes.ensures.onward
+
+pub returns-in-Some-2-clause-onward : goal.returns-in-Some-2-clause-onward
+returns-in-Some-2-clause-onward g c =
+    g.met.R.Reads.further_onward _ _ _
+    (g.met.R.Reads.further_onward _ _ _ c.in_ok-entries.ensures.onward c.in_ok-id.ensures.onward)
+    c.in_ok-node-in-Nodes.ensures.onward
+
+pub returns-clause-onward : goal.returns-clause-onward
+returns-clause-onward g c =
+    g.met.R.Reads.further_onward _ _ _
+    (g.met.R.Reads.further_onward _ _ _ c.in_ok-entries.ensures.onward c.in_ok-id.ensures.onward)
+    c.in_ok-node-in-Nodes.ensures.onward
+
+pub returns-in_err-id-clause-cause : goal.returns-in_err-id-clause-cause
+returns-in_err-id-clause-cause g c =
+    cause_passed _ _ _ c.from_residual-in_err-id.result c.in_err-id.field-0.0
+    c.in_ok-entries.ensures.cause.later c.in_err-id.ensures.cause
+    c.from_residual-in_err-id.ensures.1
+
+pub returns-in_err-node-in-Nodes-clause-cause : goal.returns-in_err-node-in-Nodes-clause-cause
+returns-in_err-node-in-Nodes-clause-cause g c =
+    cause_passed _ _ _ c.from_residual-in_err-node-in-Nodes.result c.in_err-node-in-Nodes.field-0.0
+    (later_on c.in_ok-entries.ensures.cause.later c.in_ok-id.ensures.cause.later) c.in_err-node-in-Nodes.ensures.cause
+    c.from_residual-in_err-node-in-Nodes.ensures.1

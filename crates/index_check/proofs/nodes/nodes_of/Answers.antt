@@ -3,7 +3,7 @@ use Rattle.std.specs.List.{All}
 use Rattle.std.proofs.lemmas.List.{map_more, take_all, take_more}
 use Rattle.std.proofs.lemmas.List.Elements.{All-append}
 use Rattle.rec_bytes.specs.Format as format
-use Rattle.prop_store.proofs.Causes.{cause_passed}
+use Rattle.prop_store.proofs.Causes.{cause_passed, later_on, memory_cause}
 use Rattle.store_rules.specs.Chains.{In}
 use Rattle.store_rules.specs.Indexes.{entry_node, wanted_in}
 use Rattle.store_rules.specs.Views.{Records, high}
@@ -89,7 +89,9 @@ pub returns-in_err-node-clause-written : goal.returns-in_err-node-clause-written
 returns-in_err-node-clause-written g c = c.in_err-node.ensures.written ∙ c.loop-id.invariant.written
 
 pub returns-in_err-node-clause-onward : goal.returns-in_err-node-clause-onward
-returns-in_err-node-clause-onward g c = g.met.R.Reads.further_onward c.args.space.now c.loop-id.space c.node_of.new.space c.loop-id.invariant.onward c.in_err-node.ensures.onward
+returns-in_err-node-clause-onward g c =
+    g.met.R.Reads.further_onward c.args.space.now c.loop-id.space c.node_of.new.space
+    c.loop-id.invariant.onward c.in_err-node.ensures.onward
 
 pub returns-in_err-node-clause-cause : goal.returns-in_err-node-clause-cause
 returns-in_err-node-clause-cause g c =
@@ -98,3 +100,16 @@ returns-in_err-node-clause-cause g c =
 pub returns-in_err-node-clause-sound : goal.returns-in_err-node-clause-sound
 returns-in_err-node-clause-sound g c = λ tells readable.
     sound_exit c.from_residual.result c.in_err-node.field-0.0 c.from_residual.ensures.1 (c.in_err-node.ensures.sound tells (subst AreReadable (sym c.loop-id.invariant.same) readable))
+
+pub returns-in_err-push-in-Some-clause-onward : goal.returns-in_err-push-in-Some-clause-onward
+returns-in_err-push-in-Some-clause-onward g c =
+    g.met.R.Reads.further_onward c.args.space.now c.loop-id.space c.node_of.new.space c.loop-id.invariant.onward c.in_ok-node.ensures.onward
+
+pub returns-in_err-push-in-Some-clause-cause : goal.returns-in_err-push-in-Some-clause-cause
+returns-in_err-push-in-Some-clause-cause g c =
+    memory_cause _ _ c.from_residual-in_err-push-in-Some.result (later_on c.loop-id.invariant.faults c.in_ok-node.ensures.cause.later)
+    c.from_residual-in_err-push-in-Some.ensures.1
+
+pub returns-in-None-clause-onward : goal.returns-in-None-clause-onward
+returns-in-None-clause-onward g c =
+    g.met.R.Reads.further_onward c.args.space.now c.loop-id.space c.node_of.new.space c.loop-id.invariant.onward c.in_ok-node.ensures.onward

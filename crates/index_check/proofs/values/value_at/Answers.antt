@@ -83,3 +83,10 @@ returns-in_err-value-clause-cause g c =
 pub returns-in_err-rec-clause-cause : goal.returns-in_err-rec-clause-cause
 returns-in_err-rec-clause-cause g c =
     space_cause_passed _ _ _ c.from_residual.result c.in_err-rec.field-0.0 (omega arith) c.in_err-rec.ensures.cause c.from_residual.ensures.1
+
+pub returns-in_err-value-clause-onward : goal.returns-in_err-value-clause-onward
+returns-in_err-value-clause-onward g c =
+    g.met.R.Reads.further_onward _ _ _ c.in_ok-rec.ensures.onward c.in_err-value.ensures.onward
+
+pub returns-clause-onward : goal.returns-clause-onward
+returns-clause-onward g c = g.met.R.Reads.further_onward _ _ _ c.in_ok-rec.ensures.onward c.in_ok-value.ensures.onward
