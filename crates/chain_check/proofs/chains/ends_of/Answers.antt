@@ -1,5 +1,8 @@
-use Rattle.std.proofs.Common.{rules, arith, ◌∙◌, get_or, ap, refl}
+use Rattle.std.proofs.Common.{ap, arith, get_or, map, refl, rules, take, ◌∙◌, ◌≡◌}
 use Rattle.std.proofs.lemmas.Grind.{common_steps}
+use Rattle.std.proofs.lemmas.List.{take_all}
+use Rattle.chain_check.specs.NodeChains.{end_of}
+use Rattle.record_lists.proofs.Causes.{cause_passed}
 use Rattle.chain_check.proofs.chains.ends_of.Goals as goal
 
 pub loop-id-init : goal.loop-id-init
@@ -28,3 +31,27 @@ loop-id-preserved g c =
       onward = g.met.R.Reads.further_onward c.args.space.now c.loop-id.space c.get.new.self inv.onward c.in_ok-rec.ensures.onward;
       faults = let cause = c.in_ok-rec.ensures.cause in omega (arith, inv.faults, cause.later);
     }
+
+pub returns-in_err-rec-clause-onward : goal.returns-in_err-rec-clause-onward
+returns-in_err-rec-clause-onward g c =
+    g.met.R.Reads.further_onward _ _ _ c.loop-id.invariant.onward c.in_err-rec.ensures.onward
+
+pub returns-in_default-clause-onward : goal.returns-in_default-clause-onward
+returns-in_default-clause-onward g c =
+    g.met.R.Reads.further_onward _ _ _ c.loop-id.invariant.onward c.in_ok-rec.ensures.onward
+
+pub returns-clause-ends : goal.returns-clause-ends
+returns-clause-ends g c = λ tells.
+    let ids = c.args.ids.now in
+    let all : take c.loop-id.id-index ids ≡ ids = take_all c.loop-id.id-index ids (omega arith) in
+    c.loop-id.invariant.ends tells ∙ ap (map (end_of (g.R.Reads.state c.args.space.now).records c.args.node)) all
+
+pub returns-in_err-rec-clause-cause : goal.returns-in_err-rec-clause-cause
+returns-in_err-rec-clause-cause g c =
+    cause_passed _ _ _ c.from_residual.result c.in_err-rec.field-0.0 c.loop-id.invariant.faults c.in_err-rec.ensures.cause c.from_residual.ensures.1
+
+pub returns-in_default-clause-cause : goal.returns-in_default-clause-cause
+returns-in_default-clause-cause g c = record {
+  later = let later = c.in_ok-rec.ensures.cause.later in omega (arith, c.loop-id.invariant.faults, later);
+  disk = λ blamed. absurd cc;
+}

@@ -18,3 +18,25 @@ returns-in_err-loops-clause-cause g c =
 
 pub returns-then-into-clause-told : goal.returns-then-into-clause-told
 returns-then-into-clause-told g c = search rules
+
+pub returns-in_err-into-clause-onward : goal.returns-in_err-into-clause-onward
+returns-in_err-into-clause-onward g c =
+    g.met.R.Reads.further_onward _ _ _ c.in_ok-out.ensures.onward c.in_err-into.ensures.onward
+
+pub returns-in_err-loops-clause-onward : goal.returns-in_err-loops-clause-onward
+returns-in_err-loops-clause-onward g c =
+    g.met.R.Reads.further_onward _ _ _
+    (g.met.R.Reads.further_onward _ _ _ c.in_ok-out.ensures.onward c.in_ok-into.ensures.onward)
+    c.in_err-loops.ensures.onward
+
+pub returns-then-into-clause-onward : goal.returns-then-into-clause-onward
+returns-then-into-clause-onward g c =
+    g.met.R.Reads.further_onward _ _ _
+    (g.met.R.Reads.further_onward _ _ _ c.in_ok-out.ensures.onward c.in_ok-into.ensures.onward)
+    c.in_ok-loops.ensures.onward
+
+pub returns-else-into-clause-onward : goal.returns-else-into-clause-onward
+returns-else-into-clause-onward g c =
+    g.met.R.Reads.further_onward _ _ _
+    (g.met.R.Reads.further_onward _ _ _ c.in_ok-out.ensures.onward c.in_ok-into.ensures.onward)
+    c.in_ok-loops.ensures.onward

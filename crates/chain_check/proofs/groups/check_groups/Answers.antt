@@ -36,3 +36,14 @@ returns-in_err-damage-clause-cause g c =
 pub returns-in_err-id-clause-cause : goal.returns-in_err-id-clause-cause
 returns-in_err-id-clause-cause g c =
     cause_passed _ _ _ c.from_residual-in_err-id.result c.in_err-id.field-0.0 c.in_ok-damage.ensures.cause.later c.in_err-id.ensures.cause c.from_residual-in_err-id.ensures.1
+
+pub returns-in_err-id-clause-onward : goal.returns-in_err-id-clause-onward
+returns-in_err-id-clause-onward g c =
+    g.met.R.Reads.further_onward _ _ _ c.in_ok-damage.ensures.onward c.in_err-id.ensures.onward
+
+pub returns-in-Some-2-clause-onward : goal.returns-in-Some-2-clause-onward
+returns-in-Some-2-clause-onward g c =
+    g.met.R.Reads.further_onward _ _ _ c.in_ok-damage.ensures.onward c.in_ok-id.ensures.onward
+
+pub returns-clause-onward : goal.returns-clause-onward
+returns-clause-onward g c = g.met.R.Reads.further_onward _ _ _ c.in_ok-damage.ensures.onward c.in_ok-id.ensures.onward

@@ -54,3 +54,25 @@ returns-in_err-enters-clause-cause g c =
     let later = c.in_ok-rec.ensures.cause.later in
     let later1 = c.in_ok-leaves.ensures.cause.later in
     cause_passed _ _ _ c.from_residual-in_err-enters.result c.in_err-enters.field-0.0 (omega (arith, later, later1)) c.in_err-enters.ensures.cause c.from_residual-in_err-enters.ensures.1
+
+pub returns-in_err-leaves-clause-onward : goal.returns-in_err-leaves-clause-onward
+returns-in_err-leaves-clause-onward g c =
+    g.met.R.Reads.further_onward _ _ _ c.in_ok-rec.ensures.onward c.in_err-leaves.ensures.onward
+
+pub returns-in_err-enters-clause-onward : goal.returns-in_err-enters-clause-onward
+returns-in_err-enters-clause-onward g c =
+    g.met.R.Reads.further_onward _ _ _
+    (g.met.R.Reads.further_onward _ _ _ c.in_ok-rec.ensures.onward c.in_ok-leaves.ensures.onward)
+    c.in_err-enters.ensures.onward
+
+pub returns-then-leaves-clause-onward : goal.returns-then-leaves-clause-onward
+returns-then-leaves-clause-onward g c =
+    g.met.R.Reads.further_onward _ _ _
+    (g.met.R.Reads.further_onward _ _ _ c.in_ok-rec.ensures.onward c.in_ok-leaves.ensures.onward)
+    c.in_ok-enters.ensures.onward
+
+pub returns-else-leaves-clause-onward : goal.returns-else-leaves-clause-onward
+returns-else-leaves-clause-onward g c =
+    g.met.R.Reads.further_onward _ _ _
+    (g.met.R.Reads.further_onward _ _ _ c.in_ok-rec.ensures.onward c.in_ok-leaves.ensures.onward)
+    c.in_ok-enters.ensures.onward
