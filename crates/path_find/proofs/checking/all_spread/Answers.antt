@@ -8,6 +8,7 @@ use Rattle.rec_bytes.specs.Space.{State}
 use Rattle.path_find.specs.Checking.{IsSpreadAt}
 use Rattle.path_find.specs.Reads.{neighbours_at}
 use Rattle.path_find.proofs.OnlyReads.{broken-read, is_read-on, same-read, store-read}
+use Rattle.path_find.proofs.Causes.{cause_passed}
 use Rattle.path_find.proofs.checking.all_spread.Goals as goal
 
 pub returns-in_err-spreads-clause-damaged : goal.returns-in_err-spreads-clause-damaged
@@ -55,3 +56,16 @@ returns-clause-yes g c = λ tells store row has.
     let test = c.loop-row-test.false in
     let low = at.1 in
     subst (IsSpreadAt (neighbours_at old c.args.direction c.args.labels.now) levels c.args.edges) (at.2 row) (c.loop-row.invariant.spread tells store at.0 row (omega (arith, test, low)))
+
+pub returns-in_err-spreads-clause-read : goal.returns-in_err-spreads-clause-read
+returns-in_err-spreads-clause-read g c =
+    is_read-on g.R.Reads g.met.R.Reads.further_onward _ _ _ c.loop-row.invariant.read c.is_spread.ensures.read
+
+pub returns-in_err-spreads-clause-cause : goal.returns-in_err-spreads-clause-cause
+returns-in_err-spreads-clause-cause g c =
+    cause_passed _ _ _ c.from_residual.result c.in_err-spreads.field-0.0 c.loop-row.invariant.read.later
+    c.in_err-spreads.ensures.cause c.from_residual.ensures.1
+
+pub returns-then-not-spreads-clause-read : goal.returns-then-not-spreads-clause-read
+returns-then-not-spreads-clause-read g c =
+    is_read-on g.R.Reads g.met.R.Reads.further_onward _ _ _ c.loop-row.invariant.read c.is_spread.ensures.read

@@ -1,4 +1,4 @@
-use Rattle.std.proofs.Common.{ℕ, Option, List, false, sym, ap, subst, ◌∙◌}
+use Rattle.std.proofs.Common.{List, Option, ap, false, rules, subst, sym, ℕ, ◌∙◌}
 use Rattle.std.specs.Bool.{IsTrue, OnFalse, OnTrue}
 use Rattle.std.specs.Prelude.{◌↔◌}
 use Rattle.std.proofs.lemmas.Bool.{OnFalse_at, OnTrue_at}
@@ -11,7 +11,8 @@ use Rattle.path_find.specs.Checking.{AllSpread, AreDistinct, HaveEnds, IsWalkOrN
 use Rattle.path_find.specs.Reads.{adjacency_of, neighbours_at}
 use Rattle.path_find.proofs.CheckLaws.{is_certified, not_certified, proves_shortest}
 use Rattle.path_find.proofs.NeighbourLaws.{neighbours_are}
-use Rattle.path_find.proofs.OnlyReads.{same-read, store-read}
+use Rattle.path_find.proofs.OnlyReads.{broken-read, is_read-on, same-read, store-read}
+use Rattle.path_find.proofs.Causes.{cause_passed}
 use Rattle.path_find.proofs.checking.check_levels.Goals as goal
 
 pub returns-then-not-leads-clause-decides : goal.returns-then-not-leads-clause-decides
@@ -54,3 +55,61 @@ returns-clause-decides g c = λ tells store types stand.
 pub returns-clause-proves : goal.returns-clause-proves
 returns-clause-proves g c = λ tells store types stand.
     proves_shortest (adjacency_of (g.R.Reads.state c.args.reads.now) c.args.direction types) c.args.answer.now.levels c.args.from c.args.to c.args.answer.now.walk c.in_ok-all.all (returns-clause-decides g c tells store types stand)
+
+pub returns-in_err-all-clause-damaged : goal.returns-in_err-all-clause-damaged
+returns-in_err-all-clause-damaged g c = λ tells.
+    let p = err_from_is_err_and c.from_residual-in_err-all.result c.from_residual-in_err-all.ensures.1 in
+    rw (p.1, p.2)
+    (broken-read g.R.Reads g.met.R.Reads.onward_shape c.args.reads.now c.is_walk.new.reads c.is_walk.ensures.read c.in_err-all.field-0.0
+    (c.in_err-all.ensures.damaged tells))
+
+pub returns-in_err-all-clause-read : goal.returns-in_err-all-clause-read
+returns-in_err-all-clause-read g c =
+    is_read-on g.R.Reads g.met.R.Reads.further_onward _ _ _ c.is_walk.ensures.read c.all_spread.ensures.read
+
+pub returns-in_err-all-clause-cause : goal.returns-in_err-all-clause-cause
+returns-in_err-all-clause-cause g c =
+    cause_passed _ _ _ c.from_residual-in_err-all.result c.in_err-all.field-0.0 c.in_ok-leads.ensures.cause.later c.in_err-all.ensures.cause
+    c.from_residual-in_err-all.ensures.1
+
+pub returns-clause-read : goal.returns-clause-read
+returns-clause-read g c =
+    is_read-on g.R.Reads g.met.R.Reads.further_onward _ _ _ c.is_walk.ensures.read c.all_spread.ensures.read
+
+pub returns-in_default-clause-decides : goal.returns-in_default-clause-decides
+returns-in_default-clause-decides g c = λ tells store types stand.
+    let near = adjacency_of (g.R.Reads.state c.args.reads.now) c.args.direction types in
+    let W = c.args.answer.now.walk in
+    let L = c.args.answer.now.levels in
+    let gone : ¬ AreDistinct c.as_slice-levels.result.now = search (rules, c.in_ok-found.ensures.none) in
+    not_certified near L c.args.from c.args.to W (λ is. gone (subst AreDistinct (sym c.as_slice-levels.ensures) is.distinct))
+
+pub returns-in_default-clause-proves : goal.returns-in_default-clause-proves
+returns-in_default-clause-proves g c = λ tells store types stand.
+    let near = adjacency_of (g.R.Reads.state c.args.reads.now) c.args.direction types in
+    proves_shortest near c.args.answer.now.levels c.args.from c.args.to c.args.answer.now.walk false
+    (returns-in_default-clause-decides g c tells store types stand)
+
+pub returns-then-not-have_ends-clause-decides : goal.returns-then-not-have_ends-clause-decides
+returns-then-not-have_ends-clause-decides g c = λ tells store types stand.
+    let near = adjacency_of (g.R.Reads.state c.args.reads.now) c.args.direction types in
+    let W = c.args.answer.now.walk in
+    let L = c.args.answer.now.levels in
+    let edges = c.edges_of-edges.ensures ∙ ap edges_of c.as_slice-walk.ensures in
+    let off : ¬ HaveEnds c.as_slice-levels.result.now c.args.from c.args.to c.edges_of-edges.result
+    = OnFalse_at c.if-not-have_ends.true c.have_ends.ensures.no in
+    not_certified near L c.args.from c.args.to W (λ is. off
+    (subst (λ (e : Option ℕ). HaveEnds c.as_slice-levels.result.now c.args.from c.args.to e) (sym edges)
+    (subst (λ (l : List NodeLevel). HaveEnds l c.args.from c.args.to (edges_of W)) (sym c.as_slice-levels.ensures) is.ends)))
+
+pub returns-then-not-have_ends-clause-proves : goal.returns-then-not-have_ends-clause-proves
+returns-then-not-have_ends-clause-proves g c = λ tells store types stand.
+    let near = adjacency_of (g.R.Reads.state c.args.reads.now) c.args.direction types in
+    proves_shortest near c.args.answer.now.levels c.args.from c.args.to c.args.answer.now.walk false
+    (returns-then-not-have_ends-clause-decides g c tells store types stand)
+
+pub returns-then-not-leads-clause-proves : goal.returns-then-not-leads-clause-proves
+returns-then-not-leads-clause-proves g c = λ tells store types stand.
+    let near = adjacency_of (g.R.Reads.state c.args.reads.now) c.args.direction types in
+    proves_shortest near c.args.answer.now.levels c.args.from c.args.to c.args.answer.now.walk false
+    (returns-then-not-leads-clause-decides g c tells store types stand)

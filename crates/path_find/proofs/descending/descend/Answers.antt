@@ -8,6 +8,7 @@ use Rattle.path_find.specs.Reads.{neighbours_at}
 use Rattle.path_find.specs.Tree.{node_at}
 use Rattle.path_find.proofs.Descents.{descent_on}
 use Rattle.path_find.proofs.OnlyReads.{broken-read, is_read-none, is_read-on, same-read, store-read}
+use Rattle.path_find.proofs.Causes.{cause_passed, later_on, memory_cause}
 use Rattle.path_find.proofs.descending.descend.Goals as goal
 
 pub returns-in_err-next-clause-damaged : goal.returns-in_err-next-clause-damaged
@@ -65,3 +66,20 @@ returns-clause-long g c = λ tells store can.
     let test = c.loop-level-test.false in
     let long = c.loop-level.invariant.long in
     omega (arith, test, long)
+
+pub returns-in_err-next-clause-read : goal.returns-in_err-next-clause-read
+returns-in_err-next-clause-read g c =
+    is_read-on g.R.Reads g.met.R.Reads.further_onward _ _ _ c.loop-level.invariant.read c.next_row.ensures.read
+
+pub returns-in_err-next-clause-cause : goal.returns-in_err-next-clause-cause
+returns-in_err-next-clause-cause g c =
+    cause_passed _ _ _ c.from_residual.result c.in_err-next.field-0.0 c.loop-level.invariant.read.later c.in_err-next.ensures.cause c.from_residual.ensures.1
+
+pub returns-in_err-push-clause-read : goal.returns-in_err-push-clause-read
+returns-in_err-push-clause-read g c =
+    is_read-on g.R.Reads g.met.R.Reads.further_onward _ _ _ c.loop-level.invariant.read c.next_row.ensures.read
+
+pub returns-in_err-push-clause-cause : goal.returns-in_err-push-clause-cause
+returns-in_err-push-clause-cause g c =
+    memory_cause _ _ c.from_residual-in_err-push.result (later_on c.loop-level.invariant.read.later c.in_ok-next.ensures.cause.later)
+    c.from_residual-in_err-push.ensures.1

@@ -10,6 +10,7 @@ use Rattle.path_find.proofs.Layers.{grows-none, grows-on}
 use Rattle.path_find.proofs.OnlyReads.{broken-read, is_read-none, is_read-on, same-read, store-read}
 use Rattle.path_find.proofs.SearchSteps.{tree_past}
 use Rattle.path_find.specs.declared.reach.Reach.{Reach}
+use Rattle.path_find.proofs.Causes.{cause_passed, later_on, memory_cause}
 use Rattle.path_find.proofs.reach.grow.Goals as goal
 use Rattle.path_find.proofs.reach.grow.Goals.{in-Some+in_ok-spread, in_default}
 
@@ -88,3 +89,20 @@ loop-row-preserved g c =
       read = is_read-on g.R.Reads g.met.R.Reads.further_onward c.args.space.now c.loop-row.space c.neighbours.new.space inv.read c.neighbours.ensures.read;
       spans = next.3;
     }
+
+pub returns-in_err-found-clause-read : goal.returns-in_err-found-clause-read
+returns-in_err-found-clause-read g c =
+    is_read-on g.R.Reads g.met.R.Reads.further_onward _ _ _ c.loop-row.invariant.read c.neighbours.ensures.read
+
+pub returns-in_err-found-clause-cause : goal.returns-in_err-found-clause-cause
+returns-in_err-found-clause-cause g c =
+    cause_passed _ _ _ c.from_residual.result c.in_err-found.field-0.0 c.loop-row.invariant.read.later c.in_err-found.ensures.cause c.from_residual.ensures.1
+
+pub returns-in_err-spread-clause-read : goal.returns-in_err-spread-clause-read
+returns-in_err-spread-clause-read g c =
+    is_read-on g.R.Reads g.met.R.Reads.further_onward _ _ _ c.loop-row.invariant.read c.neighbours.ensures.read
+
+pub returns-in_err-spread-clause-cause : goal.returns-in_err-spread-clause-cause
+returns-in_err-spread-clause-cause g c =
+    memory_cause _ _ c.from_residual-in_err-spread.result (later_on c.loop-row.invariant.read.later c.in_ok-found.ensures.cause.later)
+    c.from_residual-in_err-spread.ensures.1

@@ -110,3 +110,11 @@ returns-in_err-found-clause-cause g c =
 pub returns-in_err-spread-clause-cause : goal.returns-in_err-spread-clause-cause
 returns-in_err-spread-clause-cause g c =
     memory_cause _ _ c.from_residual-in_err-spread.result (later_on c.loop-row.invariant.read.later c.in_ok-found.ensures.cause.later) c.from_residual-in_err-spread.ensures.1
+
+pub returns-in_err-found-clause-read : goal.returns-in_err-found-clause-read
+returns-in_err-found-clause-read g c =
+    is_read-on g.R.Reads g.met.R.Reads.further_onward _ _ _ c.loop-row.invariant.read c.neighbours.ensures.read
+
+pub returns-in_err-spread-clause-read : goal.returns-in_err-spread-clause-read
+returns-in_err-spread-clause-read g c =
+    is_read-on g.R.Reads g.met.R.Reads.further_onward _ _ _ c.loop-row.invariant.read c.neighbours.ensures.read

@@ -1,4 +1,4 @@
-use Rattle.std.proofs.Common.{◌≡◌, ◌<◌, ◌+◌, ℕ, Bool, true, false, nat_eq, get_or, length, sym, subst, ◌∙◌, arith, inl, inr}
+use Rattle.std.proofs.Common.{Bool, arith, false, get_or, inl, inr, length, nat_eq, subst, sym, true, ℕ, ◌+◌, ◌<◌, ◌∙◌, ◌≡◌}
 use Rattle.std.proofs.lemmas.Bool.{OnFalse_at, OnFalse_from, OnTrue_at, OnTrue_from, cases_lt, eqb-false, false≢true}
 use Rattle.std.proofs.lemmas.Result.{err_from_is_err_and}
 use Rattle.plain_graph.specs.Graph.{has_node}
@@ -9,7 +9,8 @@ use Rattle.path_find.specs.Checking.{IsStep, IsWalkOrNone}
 use Rattle.path_find.specs.Reads.{neighbours_at}
 use Rattle.path_find.proofs.Answered.{load_fault}
 use Rattle.path_find.proofs.CheckLaws.{last-from_walk, step-from_walk, walk-from_steps}
-use Rattle.path_find.proofs.OnlyReads.{broken-read, is_read-on, same-read, store-read}
+use Rattle.path_find.proofs.OnlyReads.{broken-read, is_read-none, is_read-on, same-read, store-read}
+use Rattle.path_find.proofs.Causes.{cause_passed}
 use Rattle.path_find.proofs.stepping.is_walk.Goals as goal
 
 -- a list that isn't empty
@@ -89,3 +90,35 @@ returns-clause-no g c = λ tells store.
     let last = last-from_walk near c.args.from c.args.to c.args.walk.now (some_in (length c.args.walk.now) c.is_empty.result c.is_empty.ensures c.if-is_empty.false) is in
     let there : has_node (graph_in (g.R.Reads.state c.loop-row.reads)) c.args.to ≡ true = subst (λ (t : State). has_node (graph_in t) c.args.to ≡ true) (sym same) last.1 in
     false≢true (sym e ∙ c.in_ok-there.ensures.is tells mid ∙ there))
+
+pub loop-row-init : goal.loop-row-init
+loop-row-init g c = record {
+  read = is_read-none g.R.Reads g.met.R.Reads.stays_onward c.args.reads.now;
+  steps = λ tells store k lt. absurd (omega arith);
+}
+
+pub returns-in_err-steps-clause-damaged : goal.returns-in_err-steps-clause-damaged
+returns-in_err-steps-clause-damaged g c = λ tells.
+    let p = err_from_is_err_and c.from_residual.result c.from_residual.ensures.1 in
+    rw (p.1, p.2) (broken-read g.R.Reads g.met.R.Reads.onward_shape c.args.reads.now c.loop-row.reads c.loop-row.invariant.read
+    c.in_err-steps.field-0.0 (c.in_err-steps.ensures.damaged tells))
+
+pub returns-in_err-steps-clause-read : goal.returns-in_err-steps-clause-read
+returns-in_err-steps-clause-read g c =
+    is_read-on g.R.Reads g.met.R.Reads.further_onward _ _ _ c.loop-row.invariant.read c.is_step.ensures.read
+
+pub returns-in_err-steps-clause-cause : goal.returns-in_err-steps-clause-cause
+returns-in_err-steps-clause-cause g c =
+    cause_passed _ _ _ c.from_residual.result c.in_err-steps.field-0.0 c.loop-row.invariant.read.later c.in_err-steps.ensures.cause c.from_residual.ensures.1
+
+pub returns-then-not-steps-clause-read : goal.returns-then-not-steps-clause-read
+returns-then-not-steps-clause-read g c =
+    is_read-on g.R.Reads g.met.R.Reads.further_onward _ _ _ c.loop-row.invariant.read c.is_step.ensures.read
+
+pub returns-in_err-there-clause-read : goal.returns-in_err-there-clause-read
+returns-in_err-there-clause-read g c =
+    is_read-on g.R.Reads g.met.R.Reads.further_onward _ _ _ c.loop-row.invariant.read c.is_node.ensures.read
+
+pub returns-clause-read : goal.returns-clause-read
+returns-clause-read g c =
+    is_read-on g.R.Reads g.met.R.Reads.further_onward _ _ _ c.loop-row.invariant.read c.is_node.ensures.read
