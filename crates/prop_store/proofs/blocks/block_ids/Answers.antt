@@ -90,3 +90,7 @@ returns-then-at-clause-damaged g c tells text =
 pub returns-in_err-rec-clause-cause : goal.returns-in_err-rec-clause-cause
 returns-in_err-rec-clause-cause g c =
     cause_passed _ _ _ c.from_residual.result c.in_err-rec.field-0.0 c.loop-left.invariant.later c.in_err-rec.ensures.cause c.from_residual.ensures.1
+
+pub returns-in_err-rec-clause-onward : goal.returns-in_err-rec-clause-onward
+returns-in_err-rec-clause-onward g c =
+    g.met.R.Reads.further_onward _ _ _ c.loop-left.invariant.onward c.in_err-rec.ensures.onward

@@ -157,3 +157,23 @@ returns-in_ok-set_number-clause-leaves g c tells = left_then _ _ _ c.args.owner 
 
 pub returns-else-first-clause-leaves : goal.returns-else-first-clause-leaves
 returns-else-first-clause-leaves g c tells = left_after g.S.Reads.tells 32 704 _ _ _ c.args.owner c.requires.owner tells (reads_same 1 _ _ (reads_one 1 _ _ (omega arith) c.first.ensures.state)) c.drop_chain.ensures.at_most
+
+pub returns-in_err-dropped-clause-onward : goal.returns-in_err-dropped-clause-onward
+returns-in_err-dropped-clause-onward g c =
+    g.met.S.Reads.further_onward _ _ _ c.in_ok-first.ensures.onward c.in_err-dropped.ensures.onward
+
+pub returns-in_err-set_number-clause-onward : goal.returns-in_err-set_number-clause-onward
+returns-in_err-set_number-clause-onward g c =
+    g.met.S.Reads.further_onward _ _ _
+    (g.met.S.Reads.further_onward _ _ _ c.in_ok-first.ensures.onward c.in_ok-dropped.ensures.onward)
+    c.in_err-set_number.ensures.onward
+
+pub returns-in_ok-set_number-clause-onward : goal.returns-in_ok-set_number-clause-onward
+returns-in_ok-set_number-clause-onward g c =
+    g.met.S.Reads.further_onward _ _ _
+    (g.met.S.Reads.further_onward _ _ _ c.in_ok-first.ensures.onward c.in_ok-dropped.ensures.onward)
+    c.in_ok-set_number.ensures.onward
+
+pub returns-else-first-clause-onward : goal.returns-else-first-clause-onward
+returns-else-first-clause-onward g c =
+    g.met.S.Reads.further_onward _ _ _ c.in_ok-first.ensures.onward c.in_ok-dropped.ensures.onward

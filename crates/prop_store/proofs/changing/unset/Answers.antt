@@ -199,3 +199,19 @@ returns-in_err-set_number-in-Found-clause-cause g c =
     let later0 = c.in_ok-find.ensures.cause.later in
     let later1 = c.in_ok-released-in-Found.ensures.cause.later in
     space_cause_passed _ _ _ c.from_residual-in_err-set_number-in-Found.result c.in_err-set_number-in-Found.field-0.0 (omega (arith, later0, later1)) c.in_err-set_number-in-Found.ensures.cause c.from_residual-in_err-set_number-in-Found.ensures.1
+
+pub returns-in_err-released-in-Found-clause-onward : goal.returns-in_err-released-in-Found-clause-onward
+returns-in_err-released-in-Found-clause-onward g c =
+    g.met.S.Reads.further_onward _ _ _ c.in_ok-find.ensures.onward c.in_err-released-in-Found.ensures.onward
+
+pub returns-in_err-set_number-in-Found-clause-onward : goal.returns-in_err-set_number-in-Found-clause-onward
+returns-in_err-set_number-in-Found-clause-onward g c =
+    g.met.S.Reads.further_onward _ _ _
+    (g.met.S.Reads.further_onward _ _ _ c.in_ok-find.ensures.onward c.in_ok-released-in-Found.ensures.onward)
+    c.in_err-set_number-in-Found.ensures.onward
+
+pub returns-in_ok-set_number-in-Found-clause-onward : goal.returns-in_ok-set_number-in-Found-clause-onward
+returns-in_ok-set_number-in-Found-clause-onward g c =
+    g.met.S.Reads.further_onward _ _ _
+    (g.met.S.Reads.further_onward _ _ _ c.in_ok-find.ensures.onward c.in_ok-released-in-Found.ensures.onward)
+    c.in_ok-set_number-in-Found.ensures.onward

@@ -150,3 +150,7 @@ returns-then-at-2-clause-damaged g c tells used =
 pub returns-in_err-property_at-clause-cause : goal.returns-in_err-property_at-clause-cause
 returns-in_err-property_at-clause-cause g c =
     cause_passed _ _ _ c.from_residual.result c.in_err-property_at.field-0.0 c.loop-count.invariant.later c.in_err-property_at.ensures.cause c.from_residual.ensures.1
+
+pub returns-in_err-property_at-clause-onward : goal.returns-in_err-property_at-clause-onward
+returns-in_err-property_at-clause-onward g c =
+    g.met.R.Reads.further_onward _ _ _ c.loop-count.invariant.onward c.in_err-property_at.ensures.onward

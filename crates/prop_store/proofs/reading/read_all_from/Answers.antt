@@ -168,3 +168,19 @@ returns-in_err-push-clause-cause g c =
     let later1 = c.in_ok-property_at.ensures.cause.later in
     let later2 = c.in_ok-value.ensures.cause.later in
     memory_cause _ _ c.from_residual-in_err-push.result (omega (arith, later0, later1, later2)) c.from_residual-in_err-push.ensures.1
+
+pub returns-in_err-property_at-clause-onward : goal.returns-in_err-property_at-clause-onward
+returns-in_err-property_at-clause-onward g c =
+    g.met.R.Reads.further_onward _ _ _ c.loop.invariant.onward c.in_err-property_at.ensures.onward
+
+pub returns-in_err-value-clause-onward : goal.returns-in_err-value-clause-onward
+returns-in_err-value-clause-onward g c =
+    g.met.R.Reads.further_onward _ _ _
+    (g.met.R.Reads.further_onward _ _ _ c.loop.invariant.onward c.in_ok-property_at.ensures.onward)
+    c.in_err-value.ensures.onward
+
+pub returns-in_err-push-clause-onward : goal.returns-in_err-push-clause-onward
+returns-in_err-push-clause-onward g c =
+    g.met.R.Reads.further_onward _ _ _
+    (g.met.R.Reads.further_onward _ _ _ c.loop.invariant.onward c.in_ok-property_at.ensures.onward)
+    c.in_ok-value.ensures.onward

@@ -71,3 +71,11 @@ returns-in_err-value-in-Found-clause-damaged g c tells used =
 pub returns-in_err-value-in-Found-clause-cause : goal.returns-in_err-value-in-Found-clause-cause
 returns-in_err-value-in-Found-clause-cause g c =
     cause_passed _ _ _ c.from_residual-in_err-value-in-Found.result c.in_err-value-in-Found.field-0.0 c.in_ok-find_from.ensures.cause.later c.in_err-value-in-Found.ensures.cause c.from_residual-in_err-value-in-Found.ensures.1
+
+pub returns-in_err-value-in-Found-clause-onward : goal.returns-in_err-value-in-Found-clause-onward
+returns-in_err-value-in-Found-clause-onward g c =
+    g.met.R.Reads.further_onward _ _ _ c.in_ok-find_from.ensures.onward c.in_err-value-in-Found.ensures.onward
+
+pub returns-in_ok-value-in-Found-clause-onward : goal.returns-in_ok-value-in-Found-clause-onward
+returns-in_ok-value-in-Found-clause-onward g c =
+    g.met.R.Reads.further_onward _ _ _ c.in_ok-find_from.ensures.onward c.in_ok-value-in-Found.ensures.onward

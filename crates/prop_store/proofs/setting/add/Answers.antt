@@ -189,3 +189,19 @@ returns-in_err-id-clause-cause g c =
 pub returns-in_err-set_number-clause-cause : goal.returns-in_err-set_number-clause-cause
 returns-in_err-set_number-clause-cause g c =
     space_set_cause _ _ _ c.from_residual-in_err-set_number.result c.in_err-set_number.field-0.0 (later_on c.in_ok-next.ensures.cause.later c.in_ok-id.ensures.cause.later) c.in_err-set_number.ensures.cause c.from_residual-in_err-set_number.ensures.1
+
+pub returns-in_err-id-clause-onward : goal.returns-in_err-id-clause-onward
+returns-in_err-id-clause-onward g c =
+    g.met.S.Reads.further_onward _ _ _ c.in_ok-next.ensures.onward c.in_err-id.ensures.onward
+
+pub returns-in_err-set_number-clause-onward : goal.returns-in_err-set_number-clause-onward
+returns-in_err-set_number-clause-onward g c =
+    g.met.S.Reads.further_onward _ _ _
+    (g.met.S.Reads.further_onward _ _ _ c.in_ok-next.ensures.onward c.in_ok-id.ensures.onward)
+    c.in_err-set_number.ensures.onward
+
+pub returns-clause-onward : goal.returns-clause-onward
+returns-clause-onward g c =
+    g.met.S.Reads.further_onward _ _ _
+    (g.met.S.Reads.further_onward _ _ _ c.in_ok-next.ensures.onward c.in_ok-id.ensures.onward)
+    c.in_ok-set_number.ensures.onward

@@ -301,3 +301,11 @@ returns-in-Found-clause-still g c tells used =
 pub returns-in_err-add-in-Absent-clause-cause : goal.returns-in_err-add-in-Absent-clause-cause
 returns-in_err-add-in-Absent-clause-cause g c =
     set_cause_passed _ _ _ c.from_residual-in_err-add-in-Absent.result c.in_err-add-in-Absent.field-0.0 c.in_ok-count.ensures.cause.later c.in_err-add-in-Absent.ensures.cause c.from_residual-in_err-add-in-Absent.ensures.1
+
+pub returns-in_err-add-in-Absent-clause-onward : goal.returns-in_err-add-in-Absent-clause-onward
+returns-in_err-add-in-Absent-clause-onward g c =
+    g.met.S.Reads.further_onward _ _ _ c.in_ok-count.ensures.onward c.in_err-add-in-Absent.ensures.onward
+
+pub returns-in_ok-add-in-Absent-clause-onward : goal.returns-in_ok-add-in-Absent-clause-onward
+returns-in_ok-add-in-Absent-clause-onward g c =
+    g.met.S.Reads.further_onward _ _ _ c.in_ok-count.ensures.onward c.in_ok-add-in-Absent.ensures.onward
