@@ -52,3 +52,15 @@ returns-in_err-id-clause-cause g c =
 pub returns-in_err-id-2-clause-cause : goal.returns-in_err-id-2-clause-cause
 returns-in_err-id-2-clause-cause g c =
     cause_passed _ _ _ c.from_residual-in_err-id-2.result c.in_err-id-2.field-0.0 c.in_ok-id.ensures.cause.later c.in_err-id-2.ensures.cause c.from_residual-in_err-id-2.ensures.1
+
+pub returns-in_err-id-2-clause-onward : goal.returns-in_err-id-2-clause-onward
+returns-in_err-id-2-clause-onward g c =
+    g.met.R.Reads.further_onward _ _ _ c.in_ok-id.ensures.onward c.in_err-id-2.ensures.onward
+
+pub returns-in-Some-clause-onward : goal.returns-in-Some-clause-onward
+returns-in-Some-clause-onward g c =
+    g.met.R.Reads.further_onward _ _ _ c.in_ok-id.ensures.onward c.in_ok-id-2.ensures.onward
+
+pub returns-in-None-2-clause-onward : goal.returns-in-None-2-clause-onward
+returns-in-None-2-clause-onward g c =
+    g.met.R.Reads.further_onward _ _ _ c.in_ok-id.ensures.onward c.in_ok-id-2.ensures.onward

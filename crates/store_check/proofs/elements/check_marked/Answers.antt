@@ -9,6 +9,7 @@ use Rattle.store_check.specs.Listing.{AreListed, IsUnlisted}
 use Rattle.record_lists.specs.Marks.{marked}
 use Rattle.store_check.proofs.ListingLaws.{all_listed, elements_right, first_marks, not_held, unlisted_breaks}
 use Rattle.record_lists.proofs.DecidingLaws.{breaks_by}
+use Rattle.record_lists.proofs.Causes.{cause_passed}
 use Rattle.store_check.proofs.elements.check_marked.Goals as goal
 
 differ : (file : ℕ) → file ≡ 1 → file ≡ 2 → ⊥
@@ -63,3 +64,35 @@ returns-in-None-clause-none g c = λ tells.
     = subst (λ (r : Records). IfNone c.in_ok-id.field-0 ((x : ℕ) → x < high r properties_file → is_live r properties_file x ≡ true → marked n x ≡ true)) (c.in_ok-damage-2.ensures.same ∙ c.in_ok-damage.ensures.same) (c.in_ok-id.ensures.none tells) in
     let each : (x : ℕ) → x < high s.records properties_file → is_live s.records properties_file x ≡ true → marked n x ≡ true = search (rules, none) in
     elements_right s.records n all each
+
+pub returns-in_err-damage-2-clause-onward : goal.returns-in_err-damage-2-clause-onward
+returns-in_err-damage-2-clause-onward g c =
+    g.met.R.Reads.further_onward _ _ _ c.in_ok-damage.ensures.onward c.in_err-damage-2.ensures.onward
+
+pub returns-in-Some-2-clause-onward : goal.returns-in-Some-2-clause-onward
+returns-in-Some-2-clause-onward g c =
+    g.met.R.Reads.further_onward _ _ _ c.in_ok-damage.ensures.onward c.in_ok-damage-2.ensures.onward
+
+pub returns-in_err-id-clause-onward : goal.returns-in_err-id-clause-onward
+returns-in_err-id-clause-onward g c =
+    g.met.R.Reads.further_onward _ _ _
+    (g.met.R.Reads.further_onward _ _ _ c.in_ok-damage.ensures.onward c.in_ok-damage-2.ensures.onward)
+    c.in_err-id.ensures.onward
+
+pub returns-in-Some-3-clause-onward : goal.returns-in-Some-3-clause-onward
+returns-in-Some-3-clause-onward g c =
+    g.met.R.Reads.further_onward _ _ _
+    (g.met.R.Reads.further_onward _ _ _ c.in_ok-damage.ensures.onward c.in_ok-damage-2.ensures.onward)
+    c.in_ok-id.ensures.onward
+
+pub returns-in-None-clause-onward : goal.returns-in-None-clause-onward
+returns-in-None-clause-onward g c =
+    g.met.R.Reads.further_onward _ _ _
+    (g.met.R.Reads.further_onward _ _ _ c.in_ok-damage.ensures.onward c.in_ok-damage-2.ensures.onward)
+    c.in_ok-id.ensures.onward
+
+pub returns-in_err-damage-2-clause-cause : goal.returns-in_err-damage-2-clause-cause
+returns-in_err-damage-2-clause-cause g c =
+    cause_passed _ _ _ c.from_residual-in_err-damage-2.result c.in_err-damage-2.field-0.0
+    c.in_ok-damage.ensures.cause.later c.in_err-damage-2.ensures.cause
+    c.from_residual-in_err-damage-2.ensures.1

@@ -64,3 +64,15 @@ returns-in_err-ids-clause-cause g c =
 pub returns-in_err-keys-clause-cause : goal.returns-in_err-keys-clause-cause
 returns-in_err-keys-clause-cause g c =
     cause_passed _ _ _ c.from_residual-in_err-keys.result c.in_err-keys.field-0.0 c.in_ok-ids.ensures.cause.later c.in_err-keys.ensures.cause c.from_residual-in_err-keys.ensures.1
+
+pub returns-in_err-keys-clause-onward : goal.returns-in_err-keys-clause-onward
+returns-in_err-keys-clause-onward g c =
+    g.met.R.Reads.further_onward _ _ _ c.in_ok-ids.ensures.onward c.in_err-keys.ensures.onward
+
+pub returns-then-not-are_keys-clause-onward : goal.returns-then-not-are_keys-clause-onward
+returns-then-not-are_keys-clause-onward g c =
+    g.met.R.Reads.further_onward _ _ _ c.in_ok-ids.ensures.onward c.in_ok-keys.ensures.onward
+
+pub returns-clause-onward : goal.returns-clause-onward
+returns-clause-onward g c =
+    g.met.R.Reads.further_onward _ _ _ c.in_ok-ids.ensures.onward c.in_ok-keys.ensures.onward

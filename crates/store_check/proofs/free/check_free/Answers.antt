@@ -58,3 +58,15 @@ returns-in_err-ids-clause-cause g c =
 pub returns-in_err-live-clause-cause : goal.returns-in_err-live-clause-cause
 returns-in_err-live-clause-cause g c =
     cause_passed _ _ _ c.from_residual-in_err-live.result c.in_err-live.field-0.0 c.in_ok-ids.ensures.cause.later c.in_err-live.ensures.cause c.from_residual-in_err-live.ensures.1
+
+pub returns-in_err-live-clause-onward : goal.returns-in_err-live-clause-onward
+returns-in_err-live-clause-onward g c =
+    g.met.R.Reads.further_onward _ _ _ c.in_ok-ids.ensures.onward c.in_err-live.ensures.onward
+
+pub returns-in-Live-clause-onward : goal.returns-in-Live-clause-onward
+returns-in-Live-clause-onward g c =
+    g.met.R.Reads.further_onward _ _ _ c.in_ok-ids.ensures.onward c.in_ok-live.ensures.onward
+
+pub returns-in-Live-2-clause-onward : goal.returns-in-Live-2-clause-onward
+returns-in-Live-2-clause-onward g c =
+    g.met.R.Reads.further_onward _ _ _ c.in_ok-ids.ensures.onward c.in_ok-live.ensures.onward

@@ -6,6 +6,7 @@ use Rattle.store_rules.specs.Rules.{IsSplit}
 use Rattle.store_rules.specs.Views.{Records, high, is_live}
 use Rattle.store_rules.proofs.MetaLaws.{meta_of_reused}
 use Rattle.store_check.proofs.FileLaws.{entry_is, holds_all, holds_none, reused-not_names, reused-of}
+use Rattle.record_lists.proofs.Causes.{cause_passed}
 use Rattle.store_check.proofs.free.check_reused.Goals as goal
 
 pub loop-entry-init : goal.loop-entry-init
@@ -31,3 +32,15 @@ check_free-requires-clause-mark g c =
     let other : RecordFile = record { file = 0; room = Fixed 0 } in
     let file = (slice_index_or c.all_but_meta-entry-items.result.now c.loop-entry.entry-index other).file in
     subst (λ (r : Records). high r file ≤ most_ids) (sym c.loop-entry.invariant.same) (c.requires file (meta_of_reused file (check_free-requires-clause-file g c)))
+
+pub returns-in_err-damage-clause-onward : goal.returns-in_err-damage-clause-onward
+returns-in_err-damage-clause-onward g c =
+    g.met.R.Reads.further_onward _ _ _ c.loop-entry.invariant.onward c.in_err-damage.ensures.onward
+
+pub returns-in-Some-clause-onward : goal.returns-in-Some-clause-onward
+returns-in-Some-clause-onward g c =
+    g.met.R.Reads.further_onward _ _ _ c.loop-entry.invariant.onward c.in_ok-damage.ensures.onward
+
+pub returns-in_err-damage-clause-cause : goal.returns-in_err-damage-clause-cause
+returns-in_err-damage-clause-cause g c =
+    cause_passed _ _ _ c.from_residual.result c.in_err-damage.field-0.0 c.loop-entry.invariant.faults c.in_err-damage.ensures.cause c.from_residual.ensures.1

@@ -2,6 +2,7 @@ use Rattle.std.proofs.Common.{rules, ◌∙◌, IfNone, subst}
 use Rattle.store_rules.specs.Views.{Records}
 use Rattle.store_check.specs.Holding.{AreDefinitionsRight, AreElementsRight, AreTextsRight}
 use Rattle.store_check.proofs.HoldingRule.{are_properties}
+use Rattle.record_lists.proofs.Causes.{cause_passed}
 use Rattle.store_check.proofs.properties.check_properties.Goals as goal
 
 pub returns-in-None-clause-decided : goal.returns-in-None-clause-decided
@@ -13,3 +14,35 @@ returns-in-None-clause-decided g c = λ tells.
     let third : IfNone c.in_ok-damage-3.field-0 (AreDefinitionsRight s.records) = subst (λ (r : Records). IfNone c.in_ok-damage-3.field-0 (AreDefinitionsRight r)) (c.in_ok-damage-2.ensures.same ∙ c.in_ok-damage.ensures.same) (c.in_ok-damage-3.ensures.none tells) in
     let definitions : AreDefinitionsRight s.records = search (rules, third) in
     are_properties s.records elements texts definitions
+
+pub returns-in_err-damage-2-clause-onward : goal.returns-in_err-damage-2-clause-onward
+returns-in_err-damage-2-clause-onward g c =
+    g.met.R.Reads.further_onward _ _ _ c.in_ok-damage.ensures.onward c.in_err-damage-2.ensures.onward
+
+pub returns-in-Some-2-clause-onward : goal.returns-in-Some-2-clause-onward
+returns-in-Some-2-clause-onward g c =
+    g.met.R.Reads.further_onward _ _ _ c.in_ok-damage.ensures.onward c.in_ok-damage-2.ensures.onward
+
+pub returns-in_err-damage-3-clause-onward : goal.returns-in_err-damage-3-clause-onward
+returns-in_err-damage-3-clause-onward g c =
+    g.met.R.Reads.further_onward _ _ _
+    (g.met.R.Reads.further_onward _ _ _ c.in_ok-damage.ensures.onward c.in_ok-damage-2.ensures.onward)
+    c.in_err-damage-3.ensures.onward
+
+pub returns-in-Some-3-clause-onward : goal.returns-in-Some-3-clause-onward
+returns-in-Some-3-clause-onward g c =
+    g.met.R.Reads.further_onward _ _ _
+    (g.met.R.Reads.further_onward _ _ _ c.in_ok-damage.ensures.onward c.in_ok-damage-2.ensures.onward)
+    c.in_ok-damage-3.ensures.onward
+
+pub returns-in-None-clause-onward : goal.returns-in-None-clause-onward
+returns-in-None-clause-onward g c =
+    g.met.R.Reads.further_onward _ _ _
+    (g.met.R.Reads.further_onward _ _ _ c.in_ok-damage.ensures.onward c.in_ok-damage-2.ensures.onward)
+    c.in_ok-damage-3.ensures.onward
+
+pub returns-in_err-damage-2-clause-cause : goal.returns-in_err-damage-2-clause-cause
+returns-in_err-damage-2-clause-cause g c =
+    cause_passed _ _ _ c.from_residual-in_err-damage-2.result c.in_err-damage-2.field-0.0
+    c.in_ok-damage.ensures.cause.later c.in_err-damage-2.ensures.cause
+    c.from_residual-in_err-damage-2.ensures.1

@@ -73,3 +73,29 @@ returns-in_err-key-clause-cause g c =
     let later = c.in_ok-is_own_right.ensures.cause.later in
     let later1 = c.in_ok-id.ensures.cause.later in
     cause_passed _ _ _ c.from_residual-in_err-key.result c.in_err-key.field-0.0 (omega (arith, later, later1)) c.in_err-key.ensures.cause c.from_residual-in_err-key.ensures.1
+
+pub returns-in_err-id-clause-onward : goal.returns-in_err-id-clause-onward
+returns-in_err-id-clause-onward g c =
+    g.met.R.Reads.further_onward _ _ _ c.in_ok-is_own_right.ensures.onward c.in_err-id.ensures.onward
+
+pub returns-in-Some-clause-onward : goal.returns-in-Some-clause-onward
+returns-in-Some-clause-onward g c =
+    g.met.R.Reads.further_onward _ _ _ c.in_ok-is_own_right.ensures.onward c.in_ok-id.ensures.onward
+
+pub returns-in_err-key-clause-onward : goal.returns-in_err-key-clause-onward
+returns-in_err-key-clause-onward g c =
+    g.met.R.Reads.further_onward _ _ _
+    (g.met.R.Reads.further_onward _ _ _ c.in_ok-is_own_right.ensures.onward c.in_ok-id.ensures.onward)
+    c.in_err-key.ensures.onward
+
+pub returns-in-Some-2-clause-onward : goal.returns-in-Some-2-clause-onward
+returns-in-Some-2-clause-onward g c =
+    g.met.R.Reads.further_onward _ _ _
+    (g.met.R.Reads.further_onward _ _ _ c.in_ok-is_own_right.ensures.onward c.in_ok-id.ensures.onward)
+    c.in_ok-key.ensures.onward
+
+pub returns-in-None-clause-onward : goal.returns-in-None-clause-onward
+returns-in-None-clause-onward g c =
+    g.met.R.Reads.further_onward _ _ _
+    (g.met.R.Reads.further_onward _ _ _ c.in_ok-is_own_right.ensures.onward c.in_ok-id.ensures.onward)
+    c.in_ok-key.ensures.onward

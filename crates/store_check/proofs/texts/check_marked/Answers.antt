@@ -11,6 +11,7 @@ use Rattle.store_check.specs.Holding.{AllTexts}
 use Rattle.record_lists.specs.Marks.{marked}
 use Rattle.store_check.proofs.BlockLaws.{all_texts, not_held, text_head, texts_right, twice_breaks}
 use Rattle.record_lists.proofs.DecidingLaws.{breaks_by}
+use Rattle.record_lists.proofs.Causes.{cause_passed}
 use Rattle.store_check.proofs.texts.check_marked.Goals as goal
 
 pub returns-in-Some-Head-clause-found : goal.returns-in-Some-Head-clause-found
@@ -57,3 +58,21 @@ returns-in-None-2-clause-none g c = λ tells.
     = subst (λ (r : Records). IfNone c.in_ok-id-2.field-0 ((x : ℕ) → x < high r strings_file → is_live r strings_file x ≡ true → marked now x ≡ true)) c.in_ok-id.ensures.same (c.in_ok-id-2.ensures.none tells) in
     let each : (x : ℕ) → x < high s.records strings_file → is_live s.records strings_file x ≡ true → marked now x ≡ true = search (rules, none) in
     texts_right s.records now all each
+
+pub returns-in_err-id-2-clause-onward : goal.returns-in_err-id-2-clause-onward
+returns-in_err-id-2-clause-onward g c =
+    g.met.R.Reads.further_onward _ _ _ c.in_ok-id.ensures.onward c.in_err-id-2.ensures.onward
+
+pub returns-in-Some-clause-onward : goal.returns-in-Some-clause-onward
+returns-in-Some-clause-onward g c =
+    g.met.R.Reads.further_onward _ _ _ c.in_ok-id.ensures.onward c.in_ok-id-2.ensures.onward
+
+pub returns-in-None-2-clause-onward : goal.returns-in-None-2-clause-onward
+returns-in-None-2-clause-onward g c =
+    g.met.R.Reads.further_onward _ _ _ c.in_ok-id.ensures.onward c.in_ok-id-2.ensures.onward
+
+pub returns-in_err-id-2-clause-cause : goal.returns-in_err-id-2-clause-cause
+returns-in_err-id-2-clause-cause g c =
+    cause_passed _ _ _ c.from_residual-in_err-id-2.result c.in_err-id-2.field-0.0
+    c.in_ok-id.ensures.cause.later c.in_err-id-2.ensures.cause
+    c.from_residual-in_err-id-2.ensures.1

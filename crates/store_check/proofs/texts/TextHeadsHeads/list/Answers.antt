@@ -10,6 +10,7 @@ use Rattle.store_check.specs.Texts.{block_line}
 use Rattle.record_lists.proofs.RecordLaws.{kind_read}
 use Rattle.store_rules.proofs.PropertyHolds.{blocks_one}
 use Rattle.store_check.proofs.TextLaws.{IsIt, blocks_of, no_blocks, wrong_blocks}
+use Rattle.record_lists.proofs.Causes.{cause_passed}
 use Rattle.store_check.proofs.texts.TextHeadsHeads.list.Goals as goal
 
 pub returns-then-byte-ne-TEXT_IN_BLOCKS-clause-told : goal.returns-then-byte-ne-TEXT_IN_BLOCKS-clause-told
@@ -71,3 +72,35 @@ returns-clause-told g c = λ tells.
     let yes : c.are_pieces.result ≡ true = search rules in
     let list = blocks_of records c.args.id c.requires.suits.few_blocks ids it (subst (AreLengths (text_size records c.args.id)) lengths (subst (λ t. AreLengths t c.deref-2.result.now) text (c.are_pieces.ensures.0 yes))) in
     (long, list, (λ xs h. blocks_one records c.args.id xs ids h list))
+
+pub returns-in_err-ids-clause-onward : goal.returns-in_err-ids-clause-onward
+returns-in_err-ids-clause-onward g c =
+    g.met.R.Reads.further_onward _ _ _ c.in_ok-rec.ensures.onward c.in_err-ids.ensures.onward
+
+pub returns-in_default-clause-onward : goal.returns-in_default-clause-onward
+returns-in_default-clause-onward g c =
+    g.met.R.Reads.further_onward _ _ _ c.in_ok-rec.ensures.onward c.in_ok-ids.ensures.onward
+
+pub returns-in_err-lengths-clause-onward : goal.returns-in_err-lengths-clause-onward
+returns-in_err-lengths-clause-onward g c =
+    g.met.R.Reads.further_onward _ _ _
+    (g.met.R.Reads.further_onward _ _ _ c.in_ok-rec.ensures.onward c.in_ok-ids.ensures.onward)
+    c.in_err-lengths.ensures.onward
+
+pub returns-then-not-are_pieces-clause-onward : goal.returns-then-not-are_pieces-clause-onward
+returns-then-not-are_pieces-clause-onward g c =
+    g.met.R.Reads.further_onward _ _ _
+    (g.met.R.Reads.further_onward _ _ _ c.in_ok-rec.ensures.onward c.in_ok-ids.ensures.onward)
+    c.in_ok-lengths.ensures.onward
+
+pub returns-clause-onward : goal.returns-clause-onward
+returns-clause-onward g c =
+    g.met.R.Reads.further_onward _ _ _
+    (g.met.R.Reads.further_onward _ _ _ c.in_ok-rec.ensures.onward c.in_ok-ids.ensures.onward)
+    c.in_ok-lengths.ensures.onward
+
+pub returns-in_err-ids-clause-cause : goal.returns-in_err-ids-clause-cause
+returns-in_err-ids-clause-cause g c =
+    cause_passed _ _ _ c.from_residual-in_err-ids.result c.in_err-ids.field-0.0
+    c.in_ok-rec.ensures.cause.later c.in_err-ids.ensures.cause
+    c.from_residual-in_err-ids.ensures.1
