@@ -1,4 +1,4 @@
-use Rattle.std.proofs.Common.{false, refl, sym, ap, subst, ◌∙◌}
+use Rattle.std.proofs.Common.{ap, false, refl, subst, sym, ◌∙◌}
 use Rattle.plain_graph.specs.Meaning.{passes}
 use Rattle.plain_graph.specs.declared.item.Item.TheVariants as items
 use Rattle.rec_bytes.specs.Space.{State}
@@ -9,6 +9,9 @@ use Rattle.traversal_run.specs.declared.source.Source.{Source}
 use Rattle.traversal_run.proofs.Fed.{ended, gives_none, gives_vertex, passing_end, passing_on, passing_passes, passing_past}
 use Rattle.traversal_run.proofs.LeftRows.{left-none}
 use Rattle.traversal_run.proofs.OnlyReads.{is_read-on, named-read}
+use Rattle.traversal_run.proofs.Causes.{cause_passed, later_on}
+use Rattle.std.proofs.lemmas.Result.{err_from_is_err_and}
+use Rattle.prop_store.specs.Fault.{BlamesBroken}
 use Rattle.traversal_run.proofs.feeding.count_passing.Goals as goal
 
 pub returns-then-not-add-clause-counts : goal.returns-then-not-add-clause-counts
@@ -81,3 +84,43 @@ returns-clause-over g c = λ graph. ended graph c.loop-id.source c.end-2.new.sel
 
 pub returns-then-not-add-clause-over : goal.returns-then-not-add-clause-over
 returns-then-not-add-clause-over g c = λ graph. ended graph c.loop-id.source c.end.new.self c.end.ensures
+
+pub returns-in_err-row-clause-read : goal.returns-in_err-row-clause-read
+returns-in_err-row-clause-read g c =
+    is_read-on g.R.Reads g.met.R.Reads.further_onward _ _ _ c.loop-id.invariant.read c.in_err-row.ensures.read
+
+pub returns-in_err-row-clause-cause : goal.returns-in_err-row-clause-cause
+returns-in_err-row-clause-cause g c =
+    cause_passed _ _ _ c.from_residual.result c.in_err-row.field-0.0
+    c.loop-id.invariant.read.later c.in_err-row.ensures.cause c.from_residual.ensures.1
+
+pub returns-in_err-row-clause-damaged : goal.returns-in_err-row-clause-damaged
+returns-in_err-row-clause-damaged g c = λ tells.
+    let p = err_from_is_err_and c.from_residual.result c.from_residual.ensures.1 in
+    rw (p.1, p.2)
+    (subst (λ (t : State). BlamesBroken t.records t.shape c.in_err-row.field-0.0) c.loop-id.invariant.read.same (c.in_err-row.ensures.damaged tells))
+
+pub returns-in_err-passed-clause-read : goal.returns-in_err-passed-clause-read
+returns-in_err-passed-clause-read g c =
+    is_read-on g.R.Reads g.met.R.Reads.further_onward _ _ _
+    (is_read-on g.R.Reads g.met.R.Reads.further_onward _ _ _ c.loop-id.invariant.read c.in_ok-row.ensures.read)
+    c.in_err-passed.ensures.read
+
+pub returns-in_err-passed-clause-cause : goal.returns-in_err-passed-clause-cause
+returns-in_err-passed-clause-cause g c =
+    cause_passed _ _ _ c.from_residual-in_err-passed.result c.in_err-passed.field-0.0
+    (later_on c.loop-id.invariant.read.later c.in_ok-row.ensures.cause.later) c.in_err-passed.ensures.cause c.from_residual-in_err-passed.ensures.1
+
+pub returns-in_err-passed-clause-damaged : goal.returns-in_err-passed-clause-damaged
+returns-in_err-passed-clause-damaged g c = λ tells.
+    let p = err_from_is_err_and c.from_residual-in_err-passed.result c.from_residual-in_err-passed.ensures.1 in
+    let read = is_read-on g.R.Reads g.met.R.Reads.further_onward c.args.space.now c.loop-id.space c.vertex_row.new.space
+    c.loop-id.invariant.read c.in_ok-row.ensures.read in
+    rw (p.1, p.2)
+    (subst (λ (t : State). BlamesBroken t.records t.shape c.in_err-passed.field-0.0) read.same (c.in_err-passed.ensures.damaged tells))
+
+pub returns-then-not-add-clause-read : goal.returns-then-not-add-clause-read
+returns-then-not-add-clause-read g c =
+    is_read-on g.R.Reads g.met.R.Reads.further_onward _ _ _
+    (is_read-on g.R.Reads g.met.R.Reads.further_onward _ _ _ c.loop-id.invariant.read c.in_ok-row.ensures.read)
+    c.in_ok-passed.ensures.read

@@ -1,4 +1,4 @@
-use Rattle.std.proofs.Common.{◌≡◌, ◌∷◌, Option, sym, ap, subst, ◌∙◌}
+use Rattle.std.proofs.Common.{Option, ap, subst, sym, ◌∙◌, ◌∷◌, ◌≡◌}
 use Rattle.plain_graph.specs.declared.item.Item.{Item}
 use Rattle.rec_bytes.specs.Space.{State}
 use Rattle.store_rules.specs.Graph.{graph_of}
@@ -9,6 +9,9 @@ use Rattle.traversal_run.specs.Stage.{Takes}
 use Rattle.traversal_run.proofs.Fed.{feeds_end, feeds_more, feeds_on, limit_stays, none_left}
 use Rattle.traversal_run.proofs.HeldSteps.{few_at, takes_batch}
 use Rattle.traversal_run.proofs.OnlyReads.{is_read-on, named-read}
+use Rattle.traversal_run.proofs.Causes.{cause_passed, later_on}
+use Rattle.std.proofs.lemmas.Result.{err_from_is_err_and}
+use Rattle.prop_store.specs.Fault.{BlamesBroken}
 use Rattle.traversal_run.proofs.feeding.feed_edges.Goals as goal
 
 pub next-requires : goal.next-requires
@@ -75,3 +78,47 @@ returns-then-not-is_empty-clause-few g c = λ tells store d degrees plain.
     (c.in_ok-outs.ensures.takes tells (named-read space c.args.space.now c.next.new.space c.args.names.now.names read store)) in
     subst (λ b. IsBatch d b c.in_ok-outs.outs) inv.hops
     (takes_batch (graph_of s.records) d (few_at s.records s.shape store.store d degrees) c.loop.stage c.take.new.self c.in-Some.item c.in_ok-outs.outs (inv.plain ∙ plain) c.take.ensures.plain takes)
+
+pub returns-in_err-item-clause-read : goal.returns-in_err-item-clause-read
+returns-in_err-item-clause-read g c =
+    is_read-on g.R.Reads g.met.R.Reads.further_onward _ _ _ c.loop.invariant.read c.in_err-item.ensures.read
+
+pub returns-in_err-item-clause-cause : goal.returns-in_err-item-clause-cause
+returns-in_err-item-clause-cause g c =
+    cause_passed _ _ _ c.from_residual.result c.in_err-item.field-0.0
+    c.loop.invariant.read.later c.in_err-item.ensures.cause c.from_residual.ensures.1
+
+pub returns-in_err-item-clause-damaged : goal.returns-in_err-item-clause-damaged
+returns-in_err-item-clause-damaged g c = λ tells.
+    let p = err_from_is_err_and c.from_residual.result c.from_residual.ensures.1 in
+    rw (p.1, p.2)
+    (subst (λ (t : State). BlamesBroken t.records t.shape c.in_err-item.field-0.0) c.loop.invariant.read.same (c.in_err-item.ensures.damaged tells))
+
+pub returns-in_err-outs-clause-read : goal.returns-in_err-outs-clause-read
+returns-in_err-outs-clause-read g c =
+    is_read-on g.R.Reads g.met.R.Reads.further_onward _ _ _
+    (is_read-on g.R.Reads g.met.R.Reads.further_onward _ _ _ c.loop.invariant.read c.in_ok-item.ensures.read)
+    c.in_err-outs.ensures.read
+
+pub returns-in_err-outs-clause-cause : goal.returns-in_err-outs-clause-cause
+returns-in_err-outs-clause-cause g c =
+    cause_passed _ _ _ c.from_residual-in_err-outs.result c.in_err-outs.field-0.0
+    (later_on c.loop.invariant.read.later c.in_ok-item.ensures.cause.later) c.in_err-outs.ensures.cause c.from_residual-in_err-outs.ensures.1
+
+pub returns-in_err-outs-clause-damaged : goal.returns-in_err-outs-clause-damaged
+returns-in_err-outs-clause-damaged g c = λ tells.
+    let p = err_from_is_err_and c.from_residual-in_err-outs.result c.from_residual-in_err-outs.ensures.1 in
+    let read = is_read-on g.R.Reads g.met.R.Reads.further_onward c.args.space.now c.loop.space c.next.new.space
+    c.loop.invariant.read c.in_ok-item.ensures.read in
+    rw (p.1, p.2)
+    (subst (λ (t : State). BlamesBroken t.records t.shape c.in_err-outs.field-0.0) read.same (c.in_err-outs.ensures.damaged tells))
+
+pub returns-then-not-is_empty-clause-read : goal.returns-then-not-is_empty-clause-read
+returns-then-not-is_empty-clause-read g c =
+    is_read-on g.R.Reads g.met.R.Reads.further_onward _ _ _
+    (is_read-on g.R.Reads g.met.R.Reads.further_onward _ _ _ c.loop.invariant.read c.in_ok-item.ensures.read)
+    c.in_ok-outs.ensures.read
+
+pub returns-in_default-clause-read : goal.returns-in_default-clause-read
+returns-in_default-clause-read g c =
+    is_read-on g.R.Reads g.met.R.Reads.further_onward _ _ _ c.loop.invariant.read c.in_ok-item.ensures.read

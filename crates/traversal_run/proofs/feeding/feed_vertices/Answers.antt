@@ -1,4 +1,4 @@
-use Rattle.std.proofs.Common.{◌∷◌, false, sym, ap, subst, ◌∙◌}
+use Rattle.std.proofs.Common.{ap, false, subst, sym, ◌∙◌, ◌∷◌}
 use Rattle.plain_graph.specs.declared.item.Item.{Item}
 use Rattle.rec_bytes.specs.Space.{State}
 use Rattle.store_rules.specs.Graph.{graph_of}
@@ -11,6 +11,9 @@ use Rattle.traversal_run.proofs.Fed.{ended, feeds_end, feeds_more, feeds_on, fee
 use Rattle.traversal_run.proofs.HeldSteps.{few_at, takes_batch}
 use Rattle.traversal_run.proofs.LeftRows.{left-none}
 use Rattle.traversal_run.proofs.OnlyReads.{is_read-on, named-read}
+use Rattle.traversal_run.proofs.Causes.{cause_passed, later_on}
+use Rattle.std.proofs.lemmas.Result.{err_from_is_err_and}
+use Rattle.prop_store.specs.Fault.{BlamesBroken}
 use Rattle.traversal_run.proofs.feeding.feed_vertices.Goals as goal
 
 pub returns-then-not-is_empty-clause-feeds : goal.returns-then-not-is_empty-clause-feeds
@@ -97,3 +100,43 @@ returns-clause-feeds g c = λ tells store.
     let mark = inv.mark ∙ ap (element_mark s.records) (sym inv.edges) in
     let none = left-none s.records now.edges now.left (subst (λ n. HasNoneBelow n now.left) mark c.in_default.ensures.none.0) in
     feeds_end graph c.args.source.now now c.end.new.self c.args.stage.now c.loop-id.stage c.new.result c.new.ensures (inv.feeds tells store) none (ended graph now c.end.new.self c.end.ensures)
+
+pub returns-in_err-row-clause-read : goal.returns-in_err-row-clause-read
+returns-in_err-row-clause-read g c =
+    is_read-on g.R.Reads g.met.R.Reads.further_onward _ _ _ c.loop-id.invariant.read c.in_err-row.ensures.read
+
+pub returns-in_err-row-clause-cause : goal.returns-in_err-row-clause-cause
+returns-in_err-row-clause-cause g c =
+    cause_passed _ _ _ c.from_residual.result c.in_err-row.field-0.0
+    c.loop-id.invariant.read.later c.in_err-row.ensures.cause c.from_residual.ensures.1
+
+pub returns-in_err-row-clause-damaged : goal.returns-in_err-row-clause-damaged
+returns-in_err-row-clause-damaged g c = λ tells.
+    let p = err_from_is_err_and c.from_residual.result c.from_residual.ensures.1 in
+    rw (p.1, p.2)
+    (subst (λ (t : State). BlamesBroken t.records t.shape c.in_err-row.field-0.0) c.loop-id.invariant.read.same (c.in_err-row.ensures.damaged tells))
+
+pub returns-in_err-outs-clause-read : goal.returns-in_err-outs-clause-read
+returns-in_err-outs-clause-read g c =
+    is_read-on g.R.Reads g.met.R.Reads.further_onward _ _ _
+    (is_read-on g.R.Reads g.met.R.Reads.further_onward _ _ _ c.loop-id.invariant.read c.in_ok-row.ensures.read)
+    c.in_err-outs.ensures.read
+
+pub returns-in_err-outs-clause-cause : goal.returns-in_err-outs-clause-cause
+returns-in_err-outs-clause-cause g c =
+    cause_passed _ _ _ c.from_residual-in_err-outs.result c.in_err-outs.field-0.0
+    (later_on c.loop-id.invariant.read.later c.in_ok-row.ensures.cause.later) c.in_err-outs.ensures.cause c.from_residual-in_err-outs.ensures.1
+
+pub returns-in_err-outs-clause-damaged : goal.returns-in_err-outs-clause-damaged
+returns-in_err-outs-clause-damaged g c = λ tells.
+    let p = err_from_is_err_and c.from_residual-in_err-outs.result c.from_residual-in_err-outs.ensures.1 in
+    let read = is_read-on g.R.Reads g.met.R.Reads.further_onward c.args.space.now c.loop-id.space c.vertex_row.new.space
+    c.loop-id.invariant.read c.in_ok-row.ensures.read in
+    rw (p.1, p.2)
+    (subst (λ (t : State). BlamesBroken t.records t.shape c.in_err-outs.field-0.0) read.same (c.in_err-outs.ensures.damaged tells))
+
+pub returns-then-not-is_empty-clause-read : goal.returns-then-not-is_empty-clause-read
+returns-then-not-is_empty-clause-read g c =
+    is_read-on g.R.Reads g.met.R.Reads.further_onward _ _ _
+    (is_read-on g.R.Reads g.met.R.Reads.further_onward _ _ _ c.loop-id.invariant.read c.in_ok-row.ensures.read)
+    c.in_ok-outs.ensures.read
