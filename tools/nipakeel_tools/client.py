@@ -7,8 +7,9 @@ import os
 import socket
 import threading
 
-from nipakeel.connection import CHUNK, NIPAKEEL, Connection, Ended, Late, NotAnswered, Program, Served
-from nipakeel.replies import ARROW, FAULTS, GOES_ON, NAMED, STATUSES, after_mark, ending, mark_of
+from nipakeel.connection import CHUNK, NIPAKEEL, Connection, Late, NotAnswered, Program, Served
+from nipakeel.errors import Ended
+from nipakeel.replies import ARROW, FAULTS, GOES_ON, NAMED, NO_STATUS, STATUSES, after_mark, ending, mark_of
 
 __all__ = [
     "ARROW", "CHUNK", "FAULTS", "GOES_ON", "NAMED", "NIPAKEEL", "STATUSES", "Connection", "Ended", "Late", "NotAnswered", "Program",
@@ -22,12 +23,13 @@ SERVER_FAILURES = (
 
 
 class Left(Ended):
-    """The server has closed the connection, or it answers what no tool expects."""
+    """The server has closed the connection, or it answers what no tool expects. The status is the tool's."""
 
     def __init__(self, said: bytes = b"") -> None:
         super().__init__(4, said)
-        last = f", and said: {said.decode(errors='replace')}" if said else ""
-        self.args = (f"the server has ended the talk{last}",)
+
+    def __str__(self) -> str:
+        return ending(NO_STATUS, self.said)
 
 
 class Talk(Served):

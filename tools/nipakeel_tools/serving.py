@@ -15,7 +15,7 @@ import time
 from typing import Deque, Optional, Set
 
 from nipakeel import limits
-from nipakeel.connection import Ended
+from nipakeel.errors import Ended
 from nipakeel.limits import SESSIONS
 from nipakeel.replies import ending
 

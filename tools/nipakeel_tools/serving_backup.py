@@ -7,7 +7,8 @@ import os
 import pathlib
 from typing import TYPE_CHECKING, Tuple
 
-from nipakeel.connection import Ended, NotAnswered
+from nipakeel.connection import NotAnswered
+from nipakeel.errors import Ended
 
 from nipakeel_tools.backup import Progress, Sums, check, copy_files, files_in, in_progress, place_of_copy, puts_copy, sync_files
 from nipakeel_tools.command import Unusable
