@@ -22,7 +22,7 @@ from nipakeel.replies import ending
 from nipakeel_tools.command import BAD_FILES, PROGRAM_FAILED, WRONG_WORDS, Options, complain
 from nipakeel_tools.lines import State
 from nipakeel_tools.serving_client import TRANSACTION_LOST, Client
-from nipakeel_tools.serving_run import UNREAD, Run
+from nipakeel_tools.serving_run import LOST, UNREAD, Run
 from nipakeel_tools.serving_status import TOOL, Status
 from nipakeel_tools.serving_turn import Turn
 
@@ -71,7 +71,7 @@ class Server:
         reply = await run.give(b"stats")
         if not reply.startswith(b"nodes "):
             run.close()
-            raise Ended(await run.over, reply)
+            raise Ended(await run.over, b"" if reply == LOST else reply)
         run.ends, run.limit = self.has_ended, self.options.line_timeout
         self.up.set()
 
