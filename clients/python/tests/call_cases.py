@@ -201,6 +201,13 @@ def traversals(folder):
         for wrong in (lambda: g.V().by("k"), lambda: g.V().repeat(__), lambda: g.V().repeat(__.out()).times(1.5)):
             with raises(TypeError):
                 wrong()
+        with raises(nipakeel.Refused) as found:
+            db.query("g.V().where('x')")
+        assert found[0].place == 6 and "; where isn't known here" in str(found[0]) and "here may stand" in str(found[0]), found[0]
+        with db.snapshot() as snapshot:
+            with raises(nipakeel.Refused) as found:
+                snapshot.query("g.V().has()")
+        assert found[0].place == 10 and found[0].line == "g.V().has()" and "here may stand" in str(found[0]), found[0]
         # A traversal is a value, and what it finds is found anew.
         ages = g.V().has("age", gt(30)).values("age")
         assert list(ages) == [] and ages.next() is None

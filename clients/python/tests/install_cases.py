@@ -45,7 +45,7 @@ def by_pip(folder):
     assert (pathlib.Path(told.split()[0]).parent / "py.typed").exists()
     about = "from importlib.metadata import *; print(version('nipakeel'), requires('nipakeel'), *files('nipakeel'))"
     told = runs(folder, python, "-c", about, env=there).split()
-    assert told[:2] == ["0.1.0", "None"] and {f"nipakeel/{it.name}" for it in SOURCES} <= set(told[2:]), told
+    assert told[:2] == [(ROOT / "VERSION").read_text().strip(), "None"] and {f"nipakeel/{it.name}" for it in SOURCES} <= set(told[2:]), told
     (folder / "store").mkdir()
     use = f"import nipakeel\nwith nipakeel.open('store', program={str(ROOT / 'nipakeel')!r}) as db: print(db.node('a'))"
     assert runs(folder, python, "-c", use, env=there) == "0\n"

@@ -4,7 +4,8 @@ from __future__ import annotations
 
 from typing import Dict, Optional, Tuple, Type
 
-from nipakeel.replies import NO_STATUS, after_mark, ending, mark_of, moved, place_of
+from nipakeel.hints import hints
+from nipakeel.replies import NO_STATUS, after_mark, ending, moved, place_of
 
 MOST_SHOWN = 100
 
@@ -107,9 +108,10 @@ TOOK_TOO_LONG, ANSWER_LOST = "error line timeout", "error answer lost"
 
 def refusal(line: bytes, reply: bytes, stored: Optional[bool] = False) -> Error:
     """The error for a reply that tells a fault of this line. `stored` is for a disk that failed."""
-    mark = mark_of(line)
-    said, asked = told(moved(reply, len(mark))), told(after_mark(line))
-    message = f"{said}, to: {cut(asked)}"
+    bare = after_mark(line)
+    reply = moved(reply, len(line) - len(bare))
+    said, asked, place = told(reply), told(bare), place_of(reply)
+    message = "; ".join([f"{said}, to: {cut(asked)}", *(hints(bare, reply) if place is not None else [])])
     if said == "error failed" or said == "fault disk":
         return DiskFault(message, said, asked, None, stored if said == "fault disk" else False)
     if said.startswith(("damaged ", "broken ")):
@@ -119,7 +121,7 @@ def refusal(line: bytes, reply: bytes, stored: Optional[bool] = False) -> Error:
     if said == ANSWER_LOST:
         return end(NO_STATUS, reply, line, stored)
     kind = next((it for begins, it in REFUSALS.items() if said.startswith(begins)), Refused)
-    return kind(message, said, asked, place_of(moved(reply, len(mark))))
+    return kind(message, said, asked, place)
 
 
 def end(status: int, said: bytes, line: bytes = b"", stored: Optional[bool] = False) -> Error:
