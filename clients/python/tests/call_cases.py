@@ -1,7 +1,9 @@
 """What single calls do: values, places of values, traversals, mistakes, errors and ends."""
 
 import contextlib
+import math
 import os
+import random
 import signal
 import sys
 import threading
@@ -470,11 +472,15 @@ def killed_in_each_call(folder):
 def killed_while_it_works(folder):
     """The real program is killed at any moment: all that was answered is there, and at most one change more."""
     made, stop = [], threading.Event()
+    draw = random.Random(9)
 
     def kills(db):
-        while not stop.wait(0.02):
+        seen = 0
+        while not stop.wait(0.001 * draw.randrange(8)):
             connection = db._wire.connection
-            if connection is not None:
+            # A run that nothing was made in yet goes on, however long its opening takes.
+            if connection is not None and len(made) > seen:
+                seen = len(made)
                 os.kill(connection.started.pid, signal.SIGKILL)
 
     with nipakeel.open(folder, keys=["k"]) as db:
@@ -503,17 +509,41 @@ def killed_while_it_works(folder):
     sound(folder)
 
 
+def full_disk(folder):
+    """The real program with a disk that takes no more: what was answered is there, and of the change under way all or nothing."""
+    limited = folder / "limited"
+    limited.write_text(f"#!/bin/sh\nulimit -f 600\nexec {ROOT / 'nipakeel'} \"$@\"\n")
+    limited.chmod(0o755)
+    made = []
+    with nipakeel.open(folder, program=limited) as db:
+        with raises(nipakeel.DiskFault) as found:
+            for number in range(100_000):
+                made.append(db.node("n", text="x" * 1_000))
+        assert found[0].stored is None and found[0].reply == "fault disk"
+        for refused in (db.stats, lambda: db.node("n"), lambda: db.query("g.V()"), db.transaction().__enter__):
+            with raises(nipakeel.DiskFault) as found:
+                refused()
+            assert found[0].stored is False and found[0].reply == "error failed", found[0]
+        with contextlib.suppress(nipakeel.DiskFault):
+            db.reopen()
+            assert len(made) <= db.stats().nodes <= len(made) + 1
+    with nipakeel.open(folder) as db:
+        assert len(made) <= db.stats().nodes <= len(made) + 1
+        assert set(made) <= set(db.g.V().id())
+        db.check()
+
+
 def in_time(folder):
     """A line that takes too long ends the program, which is begun again."""
-    with nipakeel.open(folder, timeout=0.5) as db:
+    with nipakeel.open(folder) as db:
         with db.bulk() as bulk:
             ids = bulk.nodes("n", ({} for _ in range(30)))
             bulk.edges("e", ((a, b) for a in ids for b in ids))
         long = db.g.V().repeat(__.out()).times(16).count()
         begun = time.monotonic()
         with raises(nipakeel.TimedOut) as found:
-            long.next()
-        assert 0.4 < time.monotonic() - begun < 5 and isinstance(found[0], TimeoutError)
+            db.query(repr(long), timeout=0.5)
+        assert time.monotonic() - begun > 0.4 and isinstance(found[0], TimeoutError)
         assert found[0].stored is False and "has changed nothing" in str(found[0]), found[0]
         assert db.stats().nodes == 30
         with raises(nipakeel.TransactionLost):
@@ -527,32 +557,35 @@ def in_time(folder):
             with raises(nipakeel.SnapshotEnded):
                 snapshot.stats()
         assert db.stats().nodes == 30
-        # Another thread's turn has the same limit.
-        errors, entered = [], threading.Event()
+        # To wait for another thread's transaction has the same limit.
+        errors = []
 
         def other():
-            entered.wait()
             try:
                 db.stats()
             except nipakeel.TimedOut as error:
                 errors.append(error)
 
         thread = threading.Thread(target=other)
-        thread.start()
         with db.transaction():
             db.node("n")
-            entered.set()
+            db._wire.timeout = 0.1
+            thread.start()
             thread.join()
+            db._wire.timeout = None
         assert len(errors) == 1 and "not sent" in str(errors[0]) and db.stats().nodes == 31
-    stopped = folder / "stopped"
-    stopped.mkdir()
-    db = nipakeel.open(stopped, timeout=0.3)
-    os.kill(db._wire.connection.started.pid, signal.SIGSTOP)
-    with raises(nipakeel.TimedOut) as found:
-        db.node("a")
-    assert found[0].stored is None and "as a whole or not at all" in str(found[0])
-    assert db.stats().nodes in (0, 1)
-    db.close()
+        # The limit of all calls, here with a program that stands still.
+        db._wire.timeout = 0.3
+        os.kill(db._wire.connection.started.pid, signal.SIGSTOP)
+        with raises(nipakeel.TimedOut) as found:
+            db.node("a")
+        db._wire.timeout = None
+        assert found[0].stored is None and "as a whole or not at all" in str(found[0])
+        assert db.stats().nodes in (31, 32)
+    with nipakeel.open(folder, timeout=60) as db:
+        assert db._wire.connection.patience == 60 and db.stats().nodes in (31, 32)
+    with nipakeel.open(folder, timeout=math.inf) as db:
+        assert db._wire.connection.patience is None
 
 
 def new_runs(folder):
@@ -623,18 +656,22 @@ def left_open(folder):
         results = db.query("g.V()")
         next(results)
     # A thread whose turn to commit doesn't come in time: nothing of its transaction is stored.
-    with nipakeel.open(folder, timeout=0.3) as db:
+    with nipakeel.open(folder) as db:
         with db.snapshot() as snapshot:
             with raises(nipakeel.TimedOut):
                 with db.transaction():
                     db.node("dropped")
                     leave = holds(snapshot)
+                    db._wire.timeout = 0.05
+            db._wire.timeout = None
             leave()
         # A snapshot that can't be given up at its end is so later.
         with db.snapshot() as snapshot:
             for _ in range(10):
                 with db.snapshot():
                     leave = holds(snapshot)
+                    db._wire.timeout = 0.05
+                db._wire.timeout = None
                 leave()
         assert db.stats().nodes == 3_001
         db.node("n")
@@ -833,6 +870,7 @@ CASES = {
     "client: a store that can't be opened": ends_of_opening,
     "client: killed in each call": killed_in_each_call,
     "client: killed while it works": killed_while_it_works,
+    "client: a full disk": full_disk,
     "client: time limits": in_time,
     "client: a new run before the input's limit": new_runs,
     "client: results left open": left_open,

@@ -169,21 +169,21 @@ def served(folder, *words):
 
 
 def by_socket(folder):
-    with served(folder) as socket:
+    with served(folder, "--wait", "100") as socket:
         with nipakeel.connect(socket) as db:
             shares(db, lambda: contextlib.nullcontext(db))
     sound(folder / "store")
 
 
 def by_sockets(folder):
-    with served(folder) as socket:
+    with served(folder, "--wait", "100") as socket:
         with nipakeel.connect(socket) as db:
             shares(db, lambda: nipakeel.connect(socket))
     sound(folder / "store")
 
 
 def what_a_server_adds(folder):
-    with served(folder, "--wait", "0.3", "--line-timeout", "0.5") as socket:
+    with served(folder, "--wait", "0.5", "--line-timeout", "2") as socket:
         with nipakeel.connect(socket) as one, nipakeel.connect(socket, keys=["k"], timeout=20) as two:
             ada = one.node("person", k="it's")
             assert two.view(ada).properties == {"k": "it's"}
