@@ -36,12 +36,8 @@ Description-Content-Type: text/markdown
 WHEEL = "Wheel-Version: 1.0\nGenerator: wheel_backend\nRoot-Is-Purelib: true\nTag: py3-none-any\n"
 
 
-def contents():
-    """The files of the wheel, by their names in it."""
-    files = {f"{NAME}/{it.name}": it.read_bytes() for it in sorted(PACKAGE.iterdir()) if it.suffix in (".py", ".typed")}
-    files[f"{INFO}/METADATA"] = METADATA.encode() + (HERE / "README.md").read_bytes()
-    files[f"{INFO}/WHEEL"] = WHEEL.encode()
-    return files
+def sources():
+    return [it for it in sorted(PACKAGE.iterdir()) if it.suffix in (".py", ".typed")]
 
 
 def record(files):
@@ -53,11 +49,13 @@ def record(files):
     return "\n".join([*lines, f"{INFO}/RECORD,,", ""]).encode()
 
 
-def build_wheel(wheel_directory, config_settings=None, metadata_directory=None):
-    files = contents()
+def write(folder, files):
+    """Writes a wheel with these files, by their names in it, and returns its name."""
+    about = {f"{INFO}/METADATA": METADATA.encode() + (HERE / "README.md").read_bytes(), f"{INFO}/WHEEL": WHEEL.encode()}
+    files = {**files, **about}
     files[f"{INFO}/RECORD"] = record(files)
     made = f"{NAME}-{VERSION}-py3-none-any.whl"
-    with zipfile.ZipFile(pathlib.Path(wheel_directory, made), "w", zipfile.ZIP_DEFLATED) as wheel:
+    with zipfile.ZipFile(pathlib.Path(folder, made), "w", zipfile.ZIP_DEFLATED) as wheel:
         for name, held in files.items():
             about = zipfile.ZipInfo(name, MOMENT)
             about.external_attr = 0o644 << 16
@@ -66,11 +64,20 @@ def build_wheel(wheel_directory, config_settings=None, metadata_directory=None):
     return made
 
 
+def build_wheel(wheel_directory, config_settings=None, metadata_directory=None):
+    return write(wheel_directory, {f"{NAME}/{it.name}": it.read_bytes() for it in sources()})
+
+
+def build_editable(wheel_directory, config_settings=None, metadata_directory=None):
+    """A wheel that leads to the sources here, for `pip install --editable`."""
+    return write(wheel_directory, {f"{NAME}.pth": f"{PACKAGE.parent}\n".encode()})
+
+
 def build_sdist(sdist_directory, config_settings=None):
     top = f"{NAME}-{VERSION}"
     made = f"{top}.tar.gz"
     names = ["pyproject.toml", "wheel_backend.py", "README.md"]
-    names += [str(it.relative_to(HERE)) for it in sorted(PACKAGE.iterdir()) if it.suffix in (".py", ".typed")]
+    names += [str(it.relative_to(HERE)) for it in sources()]
     files = {f"{top}/{it}": (HERE / it).read_bytes() for it in names}
     files[f"{top}/PKG-INFO"] = METADATA.encode()
     with tarfile.open(pathlib.Path(sdist_directory, made), "w:gz", format=tarfile.PAX_FORMAT) as archive:

@@ -76,6 +76,9 @@ def packs(folder):
         assert wheel.testzip() is None
         names = set(wheel.namelist())
     assert {f"nipakeel/{it.name}" for it in SOURCES} | {"nipakeel/py.typed"} <= names, names
+    (folder / "c").mkdir()
+    with zipfile.ZipFile(folder / "c" / wheel_backend.build_editable(folder / "c")) as wheel:
+        assert wheel.read("nipakeel.pth").decode() == f"{PACKAGE / 'src'}\n"
     runs(folder, "tar", "tzf", folder / wheel_backend.build_sdist(folder))
 
 

@@ -13,7 +13,7 @@ from typing import Any, Callable, Dict, Iterable, List, Mapping, NoReturn, Optio
 from nipakeel.binding import Bound, bound
 from nipakeel.connection import NIPAKEEL, Connection, Path, Program, Served
 from nipakeel.elements import Edge, Element, Link, Node, Result, Stats, edge_id, edge_of, level_of, node_id, result_of
-from nipakeel.errors import Busy, Error, Misuse, Refused, SnapshotEnded, TimedOut, TransactionFull, refusal
+from nipakeel.errors import Busy, Error, Misuse, Refused, SnapshotEnded, TimedOut, TransactionFull, refusal, told
 from nipakeel.limits import BLOCK, EDGE_WEIGHT, LEAST_WEIGHT, MOST_WEIGHT, NODE_WEIGHT, SESSIONS
 from nipakeel.replies import mutates
 from nipakeel.traversal import Source
@@ -43,7 +43,7 @@ class Reader:
         """The rest of a reply of one line, which begins so."""
         reply = self._wire.ask(self._mark + line, self._holder, self._is_apart, stored, timeout)
         if not reply.startswith(begins):
-            raise Error(f"this reply is unknown: {reply!r}", repr(reply), repr(line), None, stored)
+            raise Error(f"this reply is unknown: {reply!r}", told(reply), told(line), None, stored)
         return reply[len(begins) :]
 
     def _ask_all(self, lines: Sequence[bytes], stored: Optional[bool] = False, timeout: Optional[float] = None) -> List[Reply]:

@@ -10,7 +10,7 @@ import weakref
 from typing import Any, Callable, Deque, Generic, Iterator, List, NamedTuple, NoReturn, Optional, Sequence, Set, Type, TypeVar
 
 from nipakeel.connection import Connection, Late, NotAnswered, Program
-from nipakeel.errors import Ended, Error, Misuse, Refused, TimedOut, TransactionLost, end, refusal
+from nipakeel.errors import Ended, Error, Misuse, Refused, TimedOut, TransactionLost, end, refusal, told
 from nipakeel.limits import MOST_INPUT, MOST_LINE
 from nipakeel.replies import ARROW, is_last, mark_of
 
@@ -206,7 +206,7 @@ class Wire:
             raise end(error.status, error.said or self.last_words(), line, stored) from None
         if isinstance(error, Late):
             what = "what it changes is stored as a whole or not at all" if stored is None else "it has changed nothing"
-            raise TimedOut(f"no reply came in time, and the program was ended; {what}", "", text_of(line), None, stored) from None
+            raise TimedOut(f"no reply came in time, and the program was ended; {what}", "", told(line), None, stored) from None
         raise error
 
     # --- lines
@@ -245,8 +245,8 @@ class Wire:
             connection = self.ready(holder, timeout)
             try:
                 connection.send(b"".join(b"%s\n" % it for it in lines))
-                told = connection.lines()
-                return [whole(told, mark_of(it)) for it in lines]
+                replies = connection.lines()
+                return [whole(replies, mark_of(it)) for it in lines]
             except BaseException as error:
                 self.failed(error, lines[0], stored)
         finally:
@@ -384,7 +384,3 @@ def whole(lines: Iterator[bytes], mark: bytes) -> Reply:
     while not is_last(line := next(lines).removeprefix(mark)):
         results.append(line.removeprefix(ARROW))
     return Reply(results, line)
-
-
-def text_of(line: bytes) -> str:
-    return line.decode(errors="backslashreplace")
