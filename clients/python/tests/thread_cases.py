@@ -143,6 +143,60 @@ def turns(folder):
         assert db.stats().nodes == 2
 
 
+def killed_under_load(folder):
+    """The program is killed again and again while eight threads change the store. What was answered as stored is there, of
+    a change that wasn't answered all or nothing, and of a transaction both nodes or none."""
+    stored, unknown, stop = [], [], threading.Event()
+    draw = random.Random(3)
+
+    def kills(db):
+        for _ in range(12):
+            seen = len(stored)
+            # A run in which nothing was stored yet goes on, however long its opening takes.
+            while len(stored) < seen + draw.randrange(1, 40) and not stop.wait(0.001):
+                pass
+            connection = db._wire.connection
+            if connection is not None:
+                os.kill(connection.started.pid, signal.SIGKILL)
+        stop.set()
+
+    def one(db, number):
+        db.node("one", k=number)
+
+    def two(db, number):
+        with db.transaction():
+            db.node("two", k=number)
+            assert db.stats().nodes
+            db.node("two", k=number)
+
+    def work(db, thread):
+        turn = 0
+        while not stop.is_set():
+            turn += 1
+            number = thread * 10**6 + turn
+            try:
+                (one, two)[turn % 2](db, number)
+                stored.append(number)
+            except (nipakeel.Ended, nipakeel.TransactionLost) as error:
+                if error.stored is None:
+                    unknown.append(number)
+
+    with nipakeel.open(folder) as db:
+        killer = threading.Thread(target=kills, args=(db,))
+        killer.start()
+        try:
+            all_of(lambda thread: work(db, thread))
+        finally:
+            stop.set()
+            killer.join()
+    with nipakeel.open(folder) as db:
+        ones, twos = (db.g.V().hasLabel(it).values("k").to_list() for it in ("one", "two"))
+        assert sorted(twos)[::2] == sorted(twos)[1::2] == sorted({*twos}) and len(ones) == len({*ones})
+        assert {*stored} <= {*ones, *twos} <= {*stored, *unknown}
+        assert len(stored) > 12, len(stored)
+        db.check()
+
+
 # --- by a socket
 
 
@@ -251,6 +305,7 @@ def what_a_server_adds(folder):
 CASES = {
     "threads: eight on one object": threads,
     "threads: turns": turns,
+    "threads: killed under load": killed_under_load,
     "served: eight threads on one connection": by_socket,
     "served: eight connections": by_sockets,
     "served: what a server adds": what_a_server_adds,
