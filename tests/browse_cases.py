@@ -4,6 +4,7 @@ import contextlib
 import http.client
 import json
 import pathlib
+import random
 import signal
 import socket
 import struct
@@ -32,11 +33,11 @@ edge 1 created 2
 
 
 @contextlib.contextmanager
-def served(folder, *words, status=INTERRUPTED, says=b""):
+def served(folder, *words, status=INTERRUPTED, says=b"", lines=MODERN):
     """The address of a page on the store of the folder. At its end it says this and no more, where it is given."""
     if not D3.exists():
         raise Skipped("there is no libjs-d3")
-    assert call(folder, MODERN.encode()).status == 0
+    assert call(folder, lines.encode()).status == 0
     started = subprocess.Popen([BROWSE, *words], cwd=folder, stdout=subprocess.PIPE, stderr=subprocess.PIPE)
     try:
         address = started.stdout.readline().decode().strip()
@@ -120,7 +121,18 @@ def listening(port):
 def what_is_answered(folder):
     with served(folder) as address:
         status, found = asks(address, "ask", line="g.V(0).outE()")
-        assert status == 200 and found["columns"] == ["edge", "from", "type", "to"] and found["count"] == 2, f"{found}"
+        assert status == 200 and found["columns"] == ["edge", "from", "type", "to", "from name", "to name"] and found["count"] == 2, f"{found}"
+        assert found["rows"][1] == {"edge": 1, "from": 0, "type": "created", "to": 2, "from name": "marko", "to name": MARKUP}, f"{found}"
+        # The picture has all edges between what is shown.
+        assert [it["edge"] for it in found["graph"]["edges"]] == [0, 1, 2] and not found["graph"]["partial"], f"{found}"
+        found = asks(address, "first")[1]
+        assert found == {
+            "nodes": 3, "edges": 3, "counted": 200_000, "labels": [{"name": "person", "count": 2}, {"name": "software", "count": 1}],
+            "types": [{"name": "created", "count": 2}, {"name": "knows", "count": 1}],
+        }, f"{found}"
+        found = asks(address, "between", ids=[0, 2])[1]
+        assert found == {"edges": [{"edge": 1, "from": 0, "type": "created", "to": 2}], "partial": False}, f"{found}"
+        found = asks(address, "ask", line="g.V(0).outE()")[1]
         assert [it["node"] for it in found["graph"]["nodes"]] == [0, 1, 2], f"{found}"
         assert found["graph"]["nodes"][0] == {"node": 0, "label": "person", "properties": {"age": 29, "name": "marko"}}
         found = asks(address, "ask", line="g.V().values('name','age')")[1]
@@ -128,14 +140,18 @@ def what_is_answered(folder):
         for line in ('g.V().values("name","age")', "g.V() . values( 'name' ,\"age\" )"):
             assert {**asks(address, "ask", line=line)[1], "seconds": 0} == {**found, "seconds": 0}, line
         found = asks(address, "ask", line="path 0 2 out")[1]
-        assert found["rows"] == [{"node": 0}, {"node": 2}] and len(found["graph"]["nodes"]) == 2, f"{found}"
+        assert found["rows"] == [{"node": 0, "label": "person", "name": "marko"}, {"node": 2, "label": "software", "name": MARKUP}], f"{found}"
+        assert found["graph"]["chain"] == [0, 2] and [it["edge"] for it in found["graph"]["edges"]] == [1], f"{found}"
+        found = asks(address, "ask", line="path 2 1 both created")[1]["graph"]
+        assert found["chain"] == [2, 1] and [it["edge"] for it in found["edges"]] == [2], f"{found}"
         found = asks(address, "ask", line="levels 1 2 out")[1]
-        assert found["rows"] == [{"node": 1, "level": 0}, {"node": 2, "level": 1}], f"{found}"
+        assert [(it["node"], it["level"]) for it in found["rows"]] == [(1, 0), (2, 1)], f"{found}"
         assert asks(address, "ask", line="find person name 'marko'")[1]["reply"] == "error no index"
         assert asks(address, "ask", line="path 2 0 out")[1]["reply"] == "no path"
         assert asks(address, "ask", line="g.V().count().values('name','age')")[1]["reply"] == "error step kind 14"
         assert asks(address, "ask", line="degree 0 both")[1]["reply"] == "degree 2"
-        assert asks(address, "ask", line="g.V(")[1]["place"] == 4
+        found = asks(address, "ask", line="g.V(")[1]
+        assert found["place"] == 4 and found["hints"] == ["here may stand: ), an identifier such as 0"], f"{found}"
         assert asks(address, "ask", line="stats")[1]["reply"].startswith("nodes 3 edges 3")
         assert asks(address, "around", id=2)[1]["count"] == 2
         assert asks(address, "edge", id=0)[1]["edges"][0]["properties"] == {"since": 2009}
@@ -153,13 +169,13 @@ def what_is_written(folder):
     with served(folder, "--write") as address:
         assert "no session" in asks(address, "ask", line="@1 g.V()")[1]["fault"]
         assert asks(address, "ask", line="node person nick='Z'")[1]["reply"] == "node 3"
-        assert asks(address, "ask", line="g.V(3).property('nick','Z')")[1]["rows"] == [{"node": 3}]
+        assert asks(address, "ask", line="g.V(3).property('nick','Z')")[1]["rows"] == [{"node": 3, "label": "person", "name": "Z"}]
         assert "relationships" in asks(address, "ask", line="g.V().drop()")[1]["reply"]
         # Of a line that is refused no part is carried out.
         assert asks(address, "ask", line="g.V(3).drop().values('name','age')")[1]["reply"] == "error syntax 13"
         assert asks(address, "ask", line="g.V(3)")[1]["graph"]["nodes"][0]["properties"] == {"nick": "Z"}
         assert asks(address, "ask", line="index person nick")[1]["reply"] == "ok"
-        assert asks(address, "ask", line="find person nick 'Z'")[1]["rows"] == [{"node": 3}]
+        assert asks(address, "ask", line="find person nick 'Z'")[1]["rows"][0]["node"] == 3
         asks(address, "ask", line="begin")
         assert asks(address, "ask", line="set node 3 fresh 1")[1]["reply"] == "ok"
         assert asks(address, "ask", line="g.V(3)")[1]["graph"]["nodes"][0]["properties"] == {"nick": "Z"}
@@ -178,12 +194,24 @@ def endings(folder):
 
 
 def page(folder):
-    """The page: a table, a picture that a click opens further, properties, the queries before, and no markup."""
+    """The page: a first view, a table, a picture that a click opens further, properties, the queries before, and no markup."""
     with served(folder) as address:
+        it = Page(address)
+        try:
+            it.until("document.querySelectorAll('#first button').length == 4")
+            told = it.value("[...document.querySelectorAll('#first button')].map(it => it.textContent)")
+            assert told == ["person: 2", "software: 1", "created: 2", "knows: 1"], f"{told}"
+            it.value("document.querySelector('#first button').click()")
+            it.until("document.querySelectorAll('.node').length == 2 && document.querySelectorAll('.edge').length == 1")
+            assert it.value("document.querySelector('#line').value") == "g.V().hasLabel('person').limit(100)"
+            legend = it.value("[...document.querySelectorAll('#legend div')].map(it => it.textContent)")
+            assert legend == ["person: 2", "knows: 1"] and it.value("document.querySelector('#start').hidden"), f"{legend}"
+        finally:
+            it.close()
         it = Page(address + "#" + urllib.parse.quote("g.V(0)"))
         try:
             it.until("document.querySelectorAll('.node').length == 1")
-            assert it.value("document.querySelector('#results td').textContent") == "0"
+            assert it.value("[...document.querySelectorAll('#results td')].map(it => it.textContent)") == ["0", "person", "marko"]
             click = "document.querySelector('.node').dispatchEvent(new MouseEvent('click', {bubbles: true}))"
             it.value(click)
             it.until("document.querySelectorAll('#picked button').length == 2")
@@ -191,19 +219,65 @@ def page(folder):
             buttons = it.value("[...document.querySelectorAll('#picked button')].map(it => it.textContent)")
             assert buttons == ["created out: 1", "knows out: 1"], f"{buttons}"
             it.value("document.querySelectorAll('#picked button').forEach(it => it.click())")
-            it.until("document.querySelectorAll('.node').length == 3 && document.querySelectorAll('.edge').length == 2")
-            it.value("document.querySelector('.edge').dispatchEvent(new MouseEvent('click', {bubbles: true}))")
-            it.until("document.querySelector('#picked').innerText.includes('edge')")
+            # The edge between the two that are new is drawn, too.
+            it.until("document.querySelectorAll('.node').length == 3 && document.querySelectorAll('.edge').length == 3")
+            it.value("document.querySelector('.edge path.wide').dispatchEvent(new MouseEvent('click', {bubbles: true}))")
+            it.until("document.querySelector('#picked').innerText.includes('edge ')")
             zooms_and_drags(it)
             it.value("document.querySelector('#line').value = \"g.V().values('name','age')\"")
             it.value("document.querySelector('#asking button').click()")
-            it.until("document.querySelectorAll('#results tr').length == 4")
+            it.until("document.querySelectorAll('#results tr').length == 4 && document.querySelectorAll('.node').length == 3")
             assert it.value("document.querySelectorAll('#history li').length") == 2
+            assert not it.value("'toString' in {} && document.querySelector('#results').innerText.includes('native code')")
             assert MARKUP in it.value("document.querySelector('#results').innerText")
             assert it.value("document.querySelectorAll('img').length") == 0, "a text was taken for markup"
             it.value("document.querySelector('#line').value = 'node a'")
             it.value("document.querySelector('#asking button').click()")
             it.until("document.querySelector('#reply').textContent.includes('--write')")
+            it.value("document.querySelector('#line').value = 'g.V().valueMap()'")
+            it.value("document.querySelector('#asking button').click()")
+            it.until("document.querySelector('#reply').textContent.includes('valueMap isn\\'t known here; try g.V().values(')")
+            assert it.value("getSelection().toString()") == "Map()" or it.value("document.querySelector('#line').selectionStart") == 11
+        finally:
+            it.close()
+
+
+def pictures(folder):
+    """As many edges are drawn as the graph has between the nodes, all of them inside of the window; a path is a chain, and
+    a line that takes long tells that it is at work."""
+    draw = random.Random(6)
+    ends = [(draw.randrange(260), draw.randrange(260), draw.choice("tu")) for _ in range(700)]
+    lines = [f"node {'ab'[at % 2]} name='n{at}'" for at in range(260)] + [f"edge {first} {kind} {last}" for first, last, kind in ends]
+    given = "".join("\n".join(["begin", *lines[at : at + 60], "commit", ""]) for at in range(0, len(lines), 60))
+    with served(folder, lines=given) as address:
+        it = Page(address + "#" + urllib.parse.quote("g.V().limit(200)"))
+        try:
+            it.until("document.querySelectorAll('.node').length == 200")
+            wanted = sum(first < 200 and last < 200 for first, last, _ in ends)
+            assert it.value("document.querySelectorAll('.edge').length") == wanted > 300
+            it.until("force.alpha() === 0")
+            inside = (
+                "(box => [...document.querySelectorAll('.node circle')].map(it => it.getBoundingClientRect()).every(it => it.left >= box.left"
+                " && it.right <= box.right && it.top >= box.top && it.bottom <= box.bottom))(document.querySelector('#picture').getBoundingClientRect())"
+            )
+            assert it.value(inside), "nodes are drawn outside of the window"
+            assert it.value("document.querySelectorAll('#legend div').length") == 4
+            overlap = (
+                "(boxes => boxes.some((one, at) => boxes.some((it, other) => other > at && one.left < it.right && it.left < one.right"
+                " && one.top < it.bottom && it.top < one.bottom)))([...document.querySelectorAll('.node text:not(.hidden), .edge text:not(.hidden)')]"
+                ".map(it => it.getBoundingClientRect()))"
+            )
+            assert not it.value(overlap) and it.value("document.querySelectorAll('.node text:not(.hidden)').length") > 3
+            steps = json.loads(it.value("ask('ask', {line: 'path 0 200 both'}).then(it => JSON.stringify(it.graph.chain))"))
+            it.value("runs('path 0 200 both')")
+            it.until(f"document.querySelectorAll('.edge.chain').length == {len(steps) - 1}")
+            assert it.value("document.querySelectorAll('.node').length") == len(steps) > 2
+            assert it.value("document.querySelectorAll('.edge').length") == len(steps) - 1
+            xs = it.value(f"{steps}.map(it => graph.nodes.get(it).x)")
+            assert xs == sorted(xs) and len(set(xs)) == len(steps), f"{xs}"
+            it.value("fetchIt = fetch; fetch = (...them) => new Promise(it => setTimeout(() => it(fetchIt(...them)), 3500)); runs('stats'); 0")
+            it.until("/^at work for [23] s/.test(document.querySelector('#reply').textContent)")
+            it.until("document.querySelector('#reply').textContent.startsWith('nodes 260 edges 700')")
         finally:
             it.close()
 
@@ -211,9 +285,10 @@ def page(folder):
 def zooms_and_drags(it):
     """A wheel zooms the picture, and a node goes where it is dragged."""
     it.until("force.alpha() === 0")
+    it.value("scale = zoom.scale(); 0")
     wheel = "new WheelEvent('wheel', {deltaY: -100, clientX: 300, clientY: 200, bubbles: true})"
     it.value(f"document.querySelector('#picture').dispatchEvent({wheel})")
-    it.until("zoom.scale() > 1 && document.querySelector('#picture > g').getAttribute('transform').includes('scale')")
+    it.until("zoom.scale() > scale && document.querySelector('#picture > g').getAttribute('transform').includes('scale')")
     it.value("box = document.querySelector('.node circle').getBoundingClientRect(); before = graph.nodes.get(0).x; 0")
     x, y = (it.value(f"(box.{low} + box.{high}) / 2") for low, high in (("left", "right"), ("top", "bottom")))
     it.calls("Input.dispatchMouseEvent", type="mousePressed", x=x, y=y, button="left", buttons=1, clickCount=1)
@@ -230,4 +305,5 @@ CASES = {
     "browse: lines that change something": what_is_written,
     "browse: endings": endings,
     "browse: the page in a browser": page,
+    "browse: pictures in a browser": pictures,
 }

@@ -6,6 +6,7 @@ the header Host has to be that of the address, so no other page that a browser s
 
 from __future__ import annotations
 
+import collections
 import contextlib
 import http.server
 import itertools
@@ -23,15 +24,17 @@ from nipakeel_tools.client import Ended, NotAnswered
 from nipakeel_tools.limits import MOST_LINE
 from nipakeel_tools.lines import LISTS, State, mutates, place_of
 from nipakeel_tools.names import keys_of_store, names_in
-from nipakeel_tools.query import Asking, Element, Unfit, pages
+from nipakeel_tools.query import Asking, Element, Unfit, pages, source
 from nipakeel_tools.showing import Shown, header_of, keyed, keyed_rows, rows_of
-from nipakeel_tools.values import to_bytes
+from nipakeel_tools.values import plain, to_bytes, value_of
 from nipakeel.hints import hints
 
 HOST, D3 = "127.0.0.1", pathlib.Path("/usr/share/javascript/d3/d3.min.js")
 PAGE = pathlib.Path(__file__).parent / "page"
 # Results in a table, and nodes in a picture, that are sent at once. The rest is counted.
 MOST_ROWS, MOST_NODES = 1_000, 300
+# Edges between the nodes of a picture, how many edges are looked at for them, and how many elements the first view counts.
+MOST_EDGES, MOST_LOOKED, MOST_COUNTED = 2_000, 20_000, 200_000
 MOST_ASKED = 65_536
 # How long one who asks may take to say it, in seconds, and how many may wait until they are heard.
 MOST_SECONDS, MOST_WAITING = 30, 128
@@ -68,8 +71,12 @@ class Browsing:
         with self.lock:
             if what == "ask":
                 return self.line(str(words.get("line", "")))
+            if what == "first":
+                return self.first()
             if what == "nodes":
                 return {"nodes": self.nodes(numbers(words.get("ids")))}
+            if what == "between":
+                return self.between(numbers(words.get("ids")))
             if what == "edge":
                 return {"edges": [shown(it) for it in self.elements("E", numbers([words.get("id")]))]}
             if what == "around":
@@ -102,14 +109,54 @@ class Browsing:
         return told(given, reply)
 
     def results(self, line: str) -> Dict[str, Any]:
+        """The results, with the names of nodes, and a picture of the nodes and edges that they are."""
         columns = keyed(line)
         found = keyed_rows(self.asked.program, *columns, MOST_ROWS) if columns and len(columns[1]) > 1 else None
         if columns and found is not None:
-            (rows, count), keys = found, columns[1]
+            (rows, count, elements), keys = found, columns[1]
+            held = list(rows_of(elements))
         else:
             (rows, count), keys = self.first_rows(line), []
-        graph = {"nodes": self.nodes(ends_of(rows)[:MOST_NODES]), "edges": [it for it in rows if "edge" in it]}
+            held = rows
+        nodes = {it.id: it for it in self.elements("V", ends_of(held))}
+        drawn = [it for it in ends_of(held) if it in nodes][:MOST_NODES]
+        graph: Dict[str, Any] = {"nodes": [shown(nodes[id]) for id in drawn], "of": len(nodes)}
+        if line.split()[0] == "path":
+            graph |= {"edges": self.along(line, drawn), "chain": drawn}
+        else:
+            between = self.between(drawn)
+            met = {it["edge"] for it in held if "edge" in it}
+            graph |= {**between, "edges": [it for it in held if "edge" in it] + [it for it in between["edges"] if it["edge"] not in met]}
+        rows = [named(it, nodes) for it in rows] if not keys else rows
         return {"columns": header_of(rows, keys), "rows": rows, "count": count, "graph": graph, "reply": "end"}
+
+    def between(self, ids: Sequence[int]) -> Dict[str, Any]:
+        """The edges between these nodes, and whether there may be more."""
+        if not ids:
+            return {"edges": [], "partial": False}
+        asked, among = f"{source('V', ids)}.outE().limit({MOST_LOOKED})", set(ids)
+        looked = [it for it in rows_of(self.asked.ask(asked))]
+        found = [it for it in looked if it["to"] in among]
+        return {"edges": found[:MOST_EDGES], "partial": len(looked) == MOST_LOOKED or len(found) > MOST_EDGES}
+
+    def along(self, line: str, ids: Sequence[int]) -> List[Shown]:
+        """The edges of a walk, of those between two nodes the first one that the line may follow."""
+        _, _, _, way, *types = line.split()
+        found: List[Shown] = []
+        for first, last in zip(ids, ids[1:]):
+            hop = f"{source('V', [first])}.{way}E({','.join(map(repr, types))})"
+            edges = [it for it in rows_of(self.asked.ask(hop)) if {it["from"], it["to"]} == {first, last}]
+            found += edges[:1]
+        return found
+
+    def first(self) -> Dict[str, Any]:
+        """What the graph has: how many nodes of each label, and how many edges of each type."""
+        nodes, edges = self.asked.program.counts()
+        counts = {}
+        for name, kind, count in (("labels", "V", nodes), ("types", "E", edges)):
+            found = collections.Counter(str(value_of(it)) for it in self.asked.ask(f"g.{kind}().limit({MOST_COUNTED}).label()"))
+            counts[name] = [{"name": name, "count": count} for name, count in sorted(found.items(), key=lambda it: (-it[1], it[0]))]
+        return {"nodes": nodes, "edges": edges, "counted": MOST_COUNTED, **counts}
 
     def first_rows(self, line: str) -> Tuple[List[Shown], int]:
         """The first results of a line, and how many there are in all."""
@@ -138,6 +185,23 @@ class Browsing:
 def told(line: bytes, reply: bytes) -> Dict[str, Any]:
     """A reply without results, with what helps where it is a fault."""
     return {"reply": reply.decode(errors="replace"), "place": place_of(reply), "hints": hints(line, reply)}
+
+
+def named(row: Shown, nodes: Dict[int, Element]) -> Shown:
+    """A row with the labels and the names of the nodes that it has."""
+    if "edge" in row:
+        ends = {f"{word} name": name_of(nodes[id]) for word in ("from", "to") if (id := int(row[word])) in nodes}
+        return {**row, **{word: said for word, said in ends.items() if said}}
+    if "node" not in row or (it := nodes.get(int(row["node"]))) is None:
+        return row
+    said = name_of(it)
+    return {**row, "label": it.label, **({"name": said} if said else {})}
+
+
+def name_of(it: Element) -> str:
+    """What a person knows a node by: its name, or its first text."""
+    texts = (value for value in it.properties.values() if isinstance(value, str))
+    return plain(it.properties.get("name", next(texts, "")))
 
 
 def numbers(words: Any) -> List[int]:

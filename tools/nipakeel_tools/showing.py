@@ -93,10 +93,10 @@ def rows_of(results: Iterable[bytes]) -> Iterator[Shown]:
 
 def keyed_rows(
     program: Connection, elements: str, keys: Sequence[str], most: Optional[int] = None
-) -> Optional[Tuple[List[Shown], int]]:
-    """For each element that a query gives, its values of these keys, each in its column, and how many there are: those that
-    have one of the keys. With `most` it is of so many elements, and the count is that of all. None where the query gives
-    something else, which has no values: then the line is refused."""
+) -> Optional[Tuple[List[Shown], int, List[bytes]]]:
+    """For each element that a query gives, its values of these keys, each in its column, how many there are, and the elements:
+    those that have one of the keys. With `most` it is of so many elements, and the count is that of all. None where the query
+    gives something else, which has no values: then the line is refused."""
     answer = program.results(to_bytes(elements))
     results = list(itertools.islice(answer, most))
     left = sum(1 for _ in answer)
@@ -109,9 +109,8 @@ def keyed_rows(
                 found[named[it.id]] = it.properties
     if not found.keys() >= set(results):
         return None
-    rows = [{key: found[it][key] for key in keys if key in found[it]} for it in results]
-    rows = [it for it in rows if it]
-    return rows, len(rows) + left
+    having = [it for it in results if any(key in found[it] for key in keys)]
+    return [{key: found[it][key] for key in keys if key in found[it]} for it in having], len(having) + left, having
 
 
 def keyed(line: str) -> Optional[Tuple[str, List[str]]]:
