@@ -7,7 +7,7 @@ use Rattle.disk_model.proofs.Spans.{OnlyNow, at_each_moment_none, at_each_moment
 use Rattle.stream_io.specs.Streams.{TakesFront}
 use Rattle.rec_bytes.specs.declared.shape.Shape.{Shape}
 use Rattle.txn_core.specs.Config.{Suits}
-use Rattle.txn_core.specs.Opening.{IsRefusal, OnlyDiffers}
+use Rattle.txn_core.specs.Opening.{IsAskedOther, IsRefusal, OnlyDiffers}
 use Rattle.txn_core.specs.declared.config.Config.{Config}
 use Rattle.txn_core.specs.declared.open_fault.OpenFault.{OpenFault}
 use Rattle.txn_core.specs.declared.open_fault.OpenFault.TheVariants as faults
@@ -137,6 +137,8 @@ unopened_memory g only config disk = record {
   crash = λ told recoverable. at_each_moment_none g disk (LeavesOldOrSame (g.reads disk) (g.may_leave disk) config) only told.1 (λ left was. inl was);
   careful = λ told. inl (only_reads_none g disk only);
   untouched = λ told refusal. absurd refusal;
+  differs = λ told space redoes other. absurd other;
+  clean = λ told clean. only_reads_none g disk only;
   later = omega arith;
   cause = λ is. cc;
 }
@@ -181,3 +183,12 @@ bad_files (faults.ConfigDiffers stored asked) result (inl ends) is = absurd (cc 
 -- what holds of a value holds of its equal
 pub at_equal : {T : Type 0} (P : T → Type 0) (x y : T) → P x → y ≡ x → P y
 at_equal P x y holds same = subst P (sym same) holds
+
+-- that of another shape comes of one that is asked for
+pub asked_other : (why : OpenFault) (result : Exit) {rose : Type 0} → EndsFor why result rose → result ≡ exits.ConfigDiffers → IsAskedOther why
+asked_other why result (inr failed) is = absurd (cc (failed.0, is))
+asked_other faults.Memory result (inl ends) is = absurd (cc (ends, is))
+asked_other faults.Disk result (inl ends) is = absurd (cc (ends, is))
+asked_other faults.NotAStore result (inl ends) is = absurd (cc (ends, is))
+asked_other (faults.Damaged damage) result (inl ends) is = absurd (cc (ends, is))
+asked_other (faults.ConfigDiffers stored asked) result (inl ends) is = tt

@@ -6,8 +6,12 @@ ghost use Rattle.console_words.specs.declared.run_options.RunOptions.{RunOptions
 ghost use Rattle.console_words.specs.declared.sample_options.SampleOptions.{SampleOptions};
 ghost use Rattle.plain_graph.specs.Graph.{Graph};
 ghost use Rattle.rec_bytes.specs.Shape.{is_allowed};
+ghost use Rattle.rec_bytes.specs.declared.key.Key.{Key as AKey};
+ghost use Rattle.rec_bytes.specs.declared.record.Rec.{Rec as ARec};
 ghost use Rattle.rec_bytes.specs.declared.shape.Shape.{Shape};
+ghost use Rattle.record_file.specs.Redone.{Redoes};
 ghost use Rattle.txn_core.specs.Config.{Suits, shape_of};
+ghost use Rattle.txn_core.specs.Opening.{StaysAsItWas};
 ghost use Rattle.recovery.specs.Finding.{IsCareful};
 ghost use Rattle.graph_session.specs.Known.{as_known};
 ghost use Rattle.graph_session.specs.Opening.{IsUnopened, LeavesRefused, StandsForOne};
@@ -74,6 +78,12 @@ pub fn graph_main<S: Source, K: Sink, D: Disk>(
     ensures untouched { (options : RunOptions)
         → AsksFor (map string_bytes words.items) (Asked.Run options) → D.tells_reads
         → result ≡ Exit.BadFiles → LeavesRefused D.Disk disk.old disk.new }
+
+    // Where another shape is asked for, the store keeps its records, of the version that it had.
+    ensures differs { (options : RunOptions) (space : AKey → ARec)
+        → AsksFor (map string_bytes words.items) (Asked.Run options) → D.tells_reads
+        → Redoes (D.reads disk.old) space → result ≡ Exit.ConfigDiffers
+        → StaysAsItWas D.Disk disk.old disk.new space }
 
     // A disk that stands for a graph is never refused as damaged, and for its shape only where
     // another is asked for.
@@ -155,6 +165,8 @@ fn run<S: Source, K: Sink, D: Disk>(
     ensures careful { IsCareful D.Disk disk.old disk.new }
     ensures untouched { D.tells_reads → result ≡ Exit.BadFiles
         → LeavesRefused D.Disk disk.old disk.new }
+    ensures differs { D.tells_reads → (space : AKey → ARec) → Redoes (D.reads disk.old) space
+        → result ≡ Exit.ConfigDiffers → StaysAsItWas D.Disk disk.old disk.new space }
     ensures sound { (shape : Shape) (graph : Graph) → D.tells_reads
         → Stands (D.reads disk.old) shape graph
         → (result ≢ Exit.BadFiles)

@@ -13,7 +13,7 @@ use Rattle.graph_console.specs.Sample.{Samples}
 use Rattle.graph_console.specs.Unopened.{EndsUnopened}
 use Rattle.graph_console.proofs.AskedFor.{asks-not_run, asks-nothing, follow-not_run, follow-not_sample, follow_within, other_exit, run-not_follow, run-not_sample, run_allowed, same_follow, same_run, same_sample, sample-not_follow, sample-not_run, sample_within}
 use Rattle.graph_console.proofs.Follows.{lacks_follow}
-use Rattle.graph_console.proofs.Opened.{ends_unopened, refuses_usage, serves_unopened, unopened_memory}
+use Rattle.graph_console.proofs.Opened.{asked_other, ends_unopened, refuses_usage, serves_unopened, unopened_memory}
 use Rattle.graph_console.proofs.Samples.{ends_first}
 use Rattle.graph_console.proofs.program.graph_main.Goals as goal
 
@@ -201,3 +201,18 @@ returns-clause-disk_fault g c = λ is. absurd ((other_exit c.follow.result c.fol
 
 pub returns-clause-store_failed : goal.returns-clause-store_failed
 returns-clause-store_failed g c = λ options asks told stands s k is. absurd ((other_exit c.follow.result c.follow.ensures.exits).3 is)
+
+pub returns-in-Err-Usage-clause-differs : goal.returns-in-Err-Usage-clause-differs
+returns-in-Err-Usage-clause-differs g c = λ options space asks told redoes is. absurd (rw c.deref.ensures.value at (c.in-Err-Usage.ensures.usage (ap Err c.in-Err-Usage.field-0-is)) (Run options) asks)
+
+pub returns-in-Err-Memory-clause-differs : goal.returns-in-Err-Memory-clause-differs
+returns-in-Err-Memory-clause-differs g c = λ options space asks told redoes is. absurd (asked_other Memory c.end_without_memory.result c.end_without_memory.ensures.cause is)
+
+pub returns-in-Run-clause-differs : goal.returns-in-Run-clause-differs
+returns-in-Run-clause-differs g c = λ options space asks told redoes is. c.run.ensures.differs told space redoes is
+
+pub returns-in-Sample-clause-differs : goal.returns-in-Sample-clause-differs
+returns-in-Sample-clause-differs g c = λ options space asks told redoes is. absurd (run-not_sample options c.in-Sample.options c.in-Ok.asked (rw c.deref.ensures.value at c.in-Ok.ensures.only (Run options) asks) c.in-Sample.is)
+
+pub returns-clause-differs : goal.returns-clause-differs
+returns-clause-differs g c = λ options space asks told redoes is. absurd (run-not_follow options c.in-Follow.options c.in-Ok.asked (rw c.deref.ensures.value at c.in-Ok.ensures.only (Run options) asks) c.in-Follow.is)

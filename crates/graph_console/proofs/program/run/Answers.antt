@@ -3,6 +3,7 @@ use Rattle.disk_model.proofs.Spans.{only_reads_none}
 use Rattle.recovery.specs.Finding.{IsCareful}
 use Rattle.fault_count.specs.Cause.{Rose}
 use Rattle.txn_core.specs.Config.{Suits}
+use Rattle.txn_core.specs.Opening.{StaysAsItWas}
 use Rattle.txn_core.specs.declared.config.Config.{Config}
 use Rattle.txn_core.specs.declared.open_fault.OpenFault.TheVariants.{Memory}
 use Rattle.graph_session.specs.Known.{as_known}
@@ -14,7 +15,7 @@ use Rattle.graph_console.specs.Program.{Serves, Writes, config_for, terms_for}
 use Rattle.graph_console.specs.Run.{begins_with}
 use Rattle.graph_console.specs.Unopened.{EndsUnopened}
 use Rattle.graph_console.proofs.Failing.{failed_rose}
-use Rattle.graph_console.proofs.Opened.{at_equal, bad_files, disk_failed, ends_unopened, serves_opened, serves_unopened, sound_for, unopened_memory}
+use Rattle.graph_console.proofs.Opened.{asked_other, at_equal, bad_files, disk_failed, ends_unopened, serves_opened, serves_unopened, sound_for, unopened_memory}
 use Rattle.graph_console.proofs.program.run.Goals as goal
 
 pub returns-in_default-clause-serves : goal.returns-in_default-clause-serves
@@ -110,3 +111,14 @@ pub returns-clause-untouched : goal.returns-clause-untouched
 returns-clause-untouched g c = λ told is.
     at_equal (λ (disk : g.row.D.Denot). LeavesRefused g.D.Disk c.args.disk.now disk) c.in-Err.field-0.disk.now _
     (c.in-Err.ensures.unopened.untouched told (bad_files c.in-Err.field-0.why c.end_unopened.result c.end_unopened.ensures.cause is)) (search rules)
+
+pub returns-in_default-clause-differs : goal.returns-in_default-clause-differs
+returns-in_default-clause-differs g c = λ told space redoes is. absurd (asked_other Memory c.end_without_memory.result c.end_without_memory.ensures.cause is)
+
+pub returns-in-Ok-open-clause-differs : goal.returns-in-Ok-open-clause-differs
+returns-in-Ok-open-clause-differs g c = λ told space redoes is. absurd (c.serve-exit.ensures.exits.1 (inr (inr (inl is))))
+
+pub returns-clause-differs : goal.returns-clause-differs
+returns-clause-differs g c = λ told space redoes is.
+    at_equal (λ (disk : g.row.D.Denot). StaysAsItWas g.D.Disk c.args.disk.now disk space) c.in-Err.field-0.disk.now _
+    (c.in-Err.ensures.unopened.differs told space redoes (asked_other c.in-Err.field-0.why c.end_unopened.result c.end_unopened.ensures.cause is)) (search rules)
