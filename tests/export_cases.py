@@ -673,6 +673,7 @@ case "$FAKE" in
     fails) echo "it can't be drawn" >&2; exit 3;;
     empty) exit 0;;
 esac
+[ "$1" = -Tplain ] && case "$0 $FAKE" in *dot*wide|*sfdp*wide) echo "graph 1 100 2"; exit;; *) echo "graph 1 5.5 4"; exit;; esac
 read first < "$4"
 echo "$first" > "$3"
 """
@@ -700,7 +701,8 @@ def pictures(folder):
     assert draws(folder, ["p.svg"], **there) == b"6 nodes and 6 edges in p.svg\n"
     draws(folder, ["--layout", "neato", "p.PNG"], **there)
     called = [it.split() for it in (folder / "called").read_text().splitlines()]
-    assert [(pathlib.Path(it[0]).name, it[1]) for it in called] == [("dot", "-Tsvg"), ("neato", "-Tpng")], f"{called}"
+    wanted = [("dot", "-Tplain"), ("dot", "-Tsvg"), ("neato", "-Tplain"), ("neato", "-Tpng")]
+    assert [(pathlib.Path(it[0]).name, it[1]) for it in called] == wanted, f"{called}"
     for name in ("p.svg", "p.PNG"):
         assert (folder / name).read_text() == "digraph nipakeel {\n"
 
@@ -718,6 +720,20 @@ def no_graphviz(folder):
     draws(folder, ["none/p.svg"], BAD_FILES, "graphviz ended with status", **with_graphviz(folder, "dot"))
     draws(folder, ["none/p.dot"], BAD_FILES, "none/p.dot: No such file")
     assert (folder / "p.svg").read_text() == "as it was" and not list(folder.glob("*.part"))
+
+
+def wide_pictures(folder):
+    """A picture that is too wide is tried by other layouts, and refused where it is too wide by each."""
+    graph(folder)
+    made = lambda: [pathlib.Path(it.split()[0]).name for it in (folder / "called").read_text().splitlines() if "-Tplain" not in it]
+    draws(folder, ["p.svg"], **with_graphviz(folder, "dot", "sfdp", "fdp", FAKE="wide"))
+    assert made() == ["fdp"], f"{made()}"
+    says = "the picture would be so many pixels wide and high: 9,600 x 192 by dot, 9,600 x 192 by sfdp, 528 x 384 by fdp; at most 400 are drawn"
+    draws(folder, ["--pixels", "400", "p.svg"], REFUSED, says, **with_graphviz(folder, FAKE="wide"))
+    says = "9,600 x 192 by dot; at most 8,000 are drawn; --from and --steps draw a part, and --pixels takes more"
+    draws(folder, ["--layout", "dot", "p.svg"], REFUSED, says, **with_graphviz(folder, FAKE="wide"))
+    draws(folder, ["--layout", "dot", "--pixels", "9600", "p.svg"], **with_graphviz(folder, FAKE="wide"))
+    assert made() == ["fdp", "dot"], f"{made()}"
 
 
 def real_graphviz(folder):
@@ -745,14 +761,28 @@ def path_in_picture(folder):
     graph(folder)
     assert draws(folder, ["--path", "1", "5", "--text", "name", "p.dot"]) == b"4 nodes and 3 edges in p.dot\n"
     lines = (folder / "p.dot").read_text().splitlines()
-    thick = ", penwidth=3, color=black];"
-    assert all(it.endswith(thick) for it in lines[3:-1]) and len(lines) == 11, f"{lines}"
+    assert lines[1:3] == ["  layout=neato;", "  splines=line;"], f"{lines}"
+    thick = ", penwidth=3, color=black"
+    assert all(thick in it for it in lines[5:-1]) and len(lines) == 13, f"{lines}"
+    # The nodes of the path stand in a row, by its order.
+    at = {int(id): (float(x), float(y)) for id, x, y in re.findall(r'^  (\d+) \[.*pos="(.*),(.*)!"\];$', "\n".join(lines), re.M)}
+    assert sorted(at, key=at.get) == [1, 0, 2, 5] and {y for _, y in at.values()} == {0}, f"{at}"
     # Around it there are others, whose lines are thin.
     around = ["--path", "0", "4", "--steps", "1", "--direction", "both", "p.dot"]
     assert draws(folder, around) == b"5 nodes and 5 edges in p.dot\n"
-    lines = [it for it in (folder / "p.dot").read_text().splitlines() if it.endswith(thick)]
+    lines = [it for it in (folder / "p.dot").read_text().splitlines() if thick in it]
     steps = [it.split(" [")[0].strip() for it in lines]
     assert steps == ["0", "3", "4", "0 -> 3", "3 -> 4"], f"{steps}"
+    # An edge between two that are beside the path isn't drawn, and boxes don't lie upon each other.
+    graph(folder / "wide", "node a\n" * 90 + "edge 0 t 1\nedge 1 t 2\nedge 5 t 6\n" + "".join(f"edge 1 t {it}\n" for it in range(3, 90)))
+    assert draws(folder / "wide", ["--path", "0", "2", "--steps", "1", "p.dot"]) == b"90 nodes and 89 edges in p.dot\n"
+    found = re.findall(r'pos="(.*),(.*)!"', (folder / "wide/p.dot").read_text())
+    at = sorted((float(x), float(y)) for x, y in found)
+    assert len(at) == 90 and all(abs(x - u) >= 0.4 or abs(y - v) >= 0.7 for n, (x, y) in enumerate(at) for u, v in at[:n]), "boxes overlap"
+    if shutil.which("neato"):
+        draws(folder / "wide", ["--path", "0", "2", "--steps", "1", "p.png"])
+        size = [int.from_bytes((folder / "wide/p.png").read_bytes()[at : at + 4], "big") for at in (16, 20)]
+        assert max(size) < 1_600, f"{size}"
     assert draws(folder, ["--path", "2", "2", "p.dot"]) == b"1 nodes and 0 edges in p.dot\n"
     draws(folder, ["--path", "0", "4", "--types", "knows", "p.dot"], REFUSED, "no path leads from 0 to 4")
     draws(folder, ["--path", "0", "9", "p.dot"], REFUSED, "path 0 9 both is answered: error no node 9")
@@ -904,6 +934,7 @@ CASES = {
     "draw: odd texts": odd_texts,
     "draw: pictures": pictures,
     "draw: no graphviz, and one that fails": no_graphviz,
+    "draw: a picture that is too wide": wide_pictures,
     "draw: the real graphviz": real_graphviz,
     "draw: a picture that is too large": too_large,
     "draw: a path": path_in_picture,

@@ -3,7 +3,7 @@
 from __future__ import annotations
 
 import re
-from typing import Any, Dict, List, Sequence, TextIO
+from typing import Any, Dict, List, Optional, Sequence, TextIO, Tuple
 
 from nipakeel_tools.values import Value, plain
 from nipakeel_tools.writers import Kept
@@ -32,8 +32,11 @@ class Colours:
         return self.met.setdefault(label, COLOURS[len(self.met) % len(COLOURS)])
 
 
-def begin(file: TextIO) -> None:
+def begin(file: TextIO, *attributes: str) -> None:
+    """The beginning, with attributes of the whole picture."""
     file.write("digraph nipakeel {\n")
+    for it in attributes:
+        file.write(f"  {it};\n")
     file.write('  node [shape=box, style="rounded,filled", fontname="Helvetica", fontsize=11];\n')
     file.write('  edge [fontname="Helvetica", fontsize=9, color="#555555"];\n')
 
@@ -42,8 +45,12 @@ def end(file: TextIO) -> None:
     file.write("}\n")
 
 
-def node(file: TextIO, id: int, lines: Sequence[Value], colour: str, is_thick: bool = False) -> None:
-    file.write(f'  {id} [label="{text(lines)}", fillcolor="{colour}"{THICK if is_thick else ""}];\n')
+def node(
+    file: TextIO, id: int, lines: Sequence[Value], colour: str, is_thick: bool = False, at: Optional[Tuple[float, float]] = None
+) -> None:
+    """A node, which may have its place, in inches."""
+    place = "" if at is None else f', pos="{at[0]:g},{at[1]:g}!"'
+    file.write(f'  {id} [label="{text(lines)}", fillcolor="{colour}"{THICK if is_thick else ""}{place}];\n')
 
 
 def edge(file: TextIO, source: int, target: int, lines: Sequence[Value], is_thick: bool = False) -> None:
