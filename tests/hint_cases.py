@@ -164,8 +164,22 @@ def hints_of_lines(folder):
     parser.program.end()
 
 
+def hints_of_a_refusal(folder):
+    """What a program of a user gets: the refusal has the same hints."""
+    import nipakeel
+
+    with nipakeel.open(folder, program=NIPAKEEL) as graph:
+        try:
+            list(graph.query("g.V().valueMap()"))
+        except nipakeel.Refused as error:
+            assert error.hints == hints.hints(b"g.V().valueMap()", b"error syntax 11") and len(error.hints) == 2, f"{error.hints}"
+            return
+    raise AssertionError("nothing was refused")
+
+
 CASES = {
     "hints: words of Gremlin, Cypher and SQL": words_of_others,
     "hints: each place of each line": each_place,
     "hints: what a fault says": hints_of_lines,
+    "hints: of a refusal in the package for applications": hints_of_a_refusal,
 }

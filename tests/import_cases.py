@@ -63,6 +63,11 @@ def of_tinkerpop(folder):
     has(folder / "b", MODERN, [(*it[:3], {"strength": it[3] // 10}) for it in by_type])
     imports(folder / "c", ["--graphson", FORMS / "tinkerpop.json", "--rename", "weight=,person=human"])
     has(folder / "c", [(it.replace("person", "human"), has) for it, has in MODERN], [(*it[:3], {}) for it in by_type])
+    # Older versions of GraphSON don't say types.
+    bare = json.loads((FORMS / "tinkerpop.json").read_text().replace("\n", ",").join("[]").replace(",]", "]"), object_hook=lambda it: it.get("@value", it))
+    (folder / "old").write_text("".join(json.dumps(it) + "\n" for it in bare))
+    imports(folder / "e", ["--graphson", folder / "old", *keeps])
+    has(folder / "e", MODERN, weights(by_type))
     says = "tinkerpop.graphml:1: column 604 (key weight): a store has no type 'double'"
     refuses(IMPORT, folder, ["--check", "--graphml", FORMS / "tinkerpop.graphml"], REFUSED, says)
     says = "tinkerpop.json:1: weight: a store has no type 'g:Double'; --as KEY:decimal(2) keeps it"

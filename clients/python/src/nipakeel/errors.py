@@ -2,7 +2,7 @@
 
 from __future__ import annotations
 
-from typing import Dict, Optional, Tuple, Type
+from typing import Dict, List, Optional, Tuple, Type
 
 from nipakeel.hints import hints
 from nipakeel.replies import NO_STATUS, after_mark, ending, moved, place_of
@@ -26,6 +26,12 @@ class Error(Exception):
 
 class Refused(Error):
     """The program refuses the line, and nothing of it is carried out. An open transaction stays open, as it was."""
+
+    @property
+    def hints(self) -> List[str]:
+        """What may stand at the fault, and what stands here for words of Gremlin, Cypher and SQL, in lines for a person. There
+        are none where nothing helps."""
+        return hints(self.line.encode(), self.reply.encode())
 
 
 class NotFound(Refused):
