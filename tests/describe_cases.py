@@ -3,10 +3,12 @@
 import collections
 import json
 import statistics
+import subprocess
 import sys
+import time
 
 sys.dont_write_bytecode = True
-from driver import ROOT, call
+from driver import ROOT, SECONDS, call
 
 from export_cases import EXPORT, OWN_KEYS, drawn, graph, refuses
 
@@ -141,6 +143,24 @@ def endings(folder):
     refuses(DESCRIBE, folder, ["--folder", "none"], BAD_FILES, "none")
     refuses(DESCRIBE, folder, ["--unique", "person"], WRONG_WORDS, "a label and a key with a colon between them")
     refuses(DESCRIBE, folder, ["--json", "--dot"], WRONG_WORDS, "not allowed with")
+    refuses(DESCRIBE, folder, ["--keys", "name"], WRONG_WORDS, "--keys goes with --socket, and --socket with --keys")
+    refuses(DESCRIBE, folder, ["--socket", "none", "--keys", "name"], BAD_FILES, "none: no server listens there")
+
+
+def of_a_server(folder):
+    """What a client of a server sees, whose keys are named, and whose indexes aren't told."""
+    graph(folder, SMALL)
+    started = subprocess.Popen([ROOT / "tools/serve", "--folder", ".", "--socket", "s"], cwd=folder, stdout=subprocess.PIPE, stderr=subprocess.PIPE)
+    try:
+        until = time.monotonic() + SECONDS
+        while not (folder / "s").exists() and time.monotonic() < until:
+            time.sleep(0.05)
+        found = describes(folder, "--socket", "s", "--keys", "name,email,age,since")
+        assert found == TEXT.replace("person name", "none").replace("age    int 1, text 1", "age    int 1, text 1"), found
+        refuses(DESCRIBE, folder, ["--socket", "s", "--keys", "name,age"], REFUSED, "has a key that isn't given")
+    finally:
+        started.terminate()
+        started.communicate(timeout=SECONDS)
 
 
 CASES = {
@@ -148,4 +168,5 @@ CASES = {
     "describe: the graph of a session": of_a_session,
     "describe: a graph that is drawn": counted,
     "describe: endings": endings,
+    "describe: the graph of a server": of_a_server,
 }

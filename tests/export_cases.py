@@ -272,7 +272,7 @@ def exactly(folder):
     assert (folder / "spark/vertices.json").read_text() == rows
     assert (folder / "spark/edges.json").read_text() == '{"src":0,"dst":1,"type":"knows","since":2009}\n{"src":1,"dst":1,"type":"is"}\n'
     ran = call(folder, words=["--program", PROGRAM, "--neo4j", "neo2", "--graphframes", "spark2", *SMALL_KEYS], program=EXPORT)
-    command = "neo4j-admin database import full neo4j --id-type=integer --multiline-fields=true --nodes=nodes.csv --relationships=relationships.csv"
+    command = "neo4j-admin database import full --id-type=integer --multiline-fields=true --nodes=nodes.csv --relationships=relationships.csv neo4j"
     assert ran.err.decode().splitlines()[1:] == [f"in neo2: {command}", 'in spark2: GraphFrame(spark.read.json("vertices.json"), spark.read.json("edges.json"))'], f"{ran}"
     exports(folder, ["--neo4j", "neo", *SMALL_KEYS], BAD_FILES, "neo: it is there, and isn't an empty folder")
     graph(folder / "keys", "node a src=1\nnode a id=1\n")

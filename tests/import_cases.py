@@ -10,7 +10,13 @@ from driver import ROOT, call
 
 from export_cases import EXPORT, IMPORT, STAND_IN, refuses
 
-# Each file has the form that the named program gives it; its contents are made up, but for TinkerPop's modern graph.
+# Each file was written by hand in the form that the named program gives its own. No file of such a program is here.
+# tinkerpop.graphml, tinkerpop.json: TinkerPop 3, `g.io("modern.xml").write()` and `g.io("modern.json").write()`, of its modern graph.
+# gephi_nodes.csv, gephi_edges.csv: Gephi 0.10, "Export table" of the data laboratory.
+# snap.txt: the head and lines of https://snap.stanford.edu/data, as p2p-Gnutella08.txt has them.
+# networkx.edgelist: networkx 3, `write_edgelist`; konect.txt: konect.cc, the file out.NAME of a network with weights and times.
+# neo4j_movies.csv, neo4j_actors.csv, neo4j_roles.csv: the example of the manual of neo4j-admin's import, with more types.
+# apoc_all.csv: APOC, `CALL apoc.export.csv.all("all.csv", {})`.
 FORMS = ROOT / "tests/data/forms"
 DONE, REFUSED, WRONG_WORDS, BAD_FILES, PROGRAM_FAILED = range(5)
 

@@ -146,7 +146,7 @@ def table_name(kind: str, number: int) -> str:
 
 def write_neo4j(opens: Opens, nodes: Kept, edges: Kept) -> str:
     """Writes the tables, and returns the command that imports them."""
-    words = ["neo4j-admin database import full neo4j --id-type=integer --multiline-fields=true"]
+    words = ["neo4j-admin database import full --id-type=integer --multiline-fields=true"]
     for kept, said, columns, places in (
         (nodes, "nodes", (":ID", ":LABEL"), ("node", "label")),
         (edges, "relationships", (":START_ID", ":END_ID", ":TYPE"), ("from", "to", "type")),
@@ -163,7 +163,7 @@ def write_neo4j(opens: Opens, nodes: Kept, edges: Kept) -> str:
                 row = [str(it[word]) for word in places] + [tables.value(it, key) for key in keys[number]]
                 files[number].write(",".join(row) + "\n")
         words += [f"--{said}={table_name(said, number)}" for number in range(len(files))]
-    return " ".join(words)
+    return " ".join([*words, "neo4j"])
 
 
 # --- tables for GraphFrames

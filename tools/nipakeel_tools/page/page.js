@@ -354,11 +354,20 @@ function hidesTexts() {
         const free = box.width <= room && taken.every((it) => box.right < it.left || box.left > it.right || box.bottom < it.top || box.top > it.bottom);
         if (free) taken.push(box);
         d3.select(text).classed("hidden", !free);
+        return free;
     };
     d3.selectAll(".node text, .edge text").classed("hidden", false);
     for (const circle of document.querySelectorAll(".node circle")) taken.push(circle.getBoundingClientRect());
+    // A name stands below its node, and above it where there is no room below.
+    const below = { y: RADIUS, dy: "1.1em" }, above = { y: -RADIUS, dy: "-0.5em" };
     const nodes = d3.selectAll(".node")[0].slice().sort((a, b) => (counts.get(b.__data__) || 0) - (counts.get(a.__data__) || 0));
-    for (const it of nodes) shows(it.querySelector("text"), Infinity);
+    for (const it of nodes) {
+        const text = it.querySelector("text");
+        for (const place of [below, above]) {
+            d3.select(text).attr(place).classed("hidden", false);
+            if (shows(text, Infinity)) break;
+        }
+    }
     // Where all edges have one type, the legend says it, and where there are many, their colours do.
     const isTold = new Set([...graph.edges.values()].map((it) => it.type)).size < 2 || graph.edges.size > MOST_TOLD;
     for (const it of d3.selectAll(".edge")[0]) {
