@@ -27,6 +27,8 @@ FAILURES = (b"fault disk", b"error memory", b"error failed", b"damaged", *SERVER
 # Where tools/ is in a package and not in a repository.
 IS_PACKAGE = (pathlib.Path(__file__).resolve().parents[2] / "PROVED").exists()
 Options = argparse.Namespace
+# What a word of a call is refused by, with a reason.
+WrongWord = argparse.ArgumentTypeError
 Pages = Iterator[List[Element]]
 
 
