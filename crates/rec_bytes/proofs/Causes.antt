@@ -1,5 +1,5 @@
 -- A fault that is passed on has its cause.
-use Rattle.std.specs.Prelude.{Result, Err}
+use Rattle.std.specs.Prelude.{Result, Ok, Err, IfOk}
 use Rattle.std.specs.Result.{IsErrAnd}
 use Rattle.std.proofs.Common.{◌≡◌, ◌≤◌, ℕ, ap, sym, subst, arith}
 use Rattle.std.proofs.lemmas.Result.{err_from_is_err_and}
@@ -17,3 +17,12 @@ passed {T} {U} {E} {F} into one other before mid now r fault blames early cause 
           omega (arith, early, rose);
     } in
     subst (HasDiskCause other before now) (sym p.1) (subst (λ f. HasDiskCause {T = T} other before now (Err f)) (sym p.2) here)
+
+-- what is answered blames no disk
+pub ok_cause : {T E : Type 0} (fault : E) (before now : ℕ) (x : T) → before ≤ now → HasDiskCause {T = T} fault before now (Ok x)
+ok_cause fault before now x later = record { later = later; disk = λ blamed. absurd cc }
+
+-- an exit by a fault promises nothing of an answer
+pub never_ok : {T E : Type 0} (r : Result T E) (P : T → Type 0) (Q : E → Type 0) → IsErrAnd r Q → IfOk r P
+never_ok (Ok x) P Q is = absurd is
+never_ok (Err e) P Q is = tt

@@ -14,6 +14,7 @@ use Rattle.record_file.specs.Redone.{AreAlike, IsLogged, Redoes}
 use Rattle.record_file.proofs.Records.{record_at-kept, record_at-log}
 use Rattle.record_file.proofs.Redone.{AllHaveEntries-redo, AllRedoBy, AllRedoBy-alike, AreLogged-changed, Redoes-by, Redoes-gate, Redoes-reset, RedoesBy, RedoesBy-kept, RedoesBy-logged, RedoesBy-torn, RedoesBy-torn_in, records-settled}
 use Rattle.recovery.proofs.checkpointing.checkpoint.Given.{Over}
+use Rattle.rec_bytes.proofs.Causes.{never_ok}
 use Rattle.recovery.proofs.checkpointing.checkpoint.Goals as goal
 
 -- while the records are written
@@ -100,3 +101,24 @@ returns-clause-elsewhere g c key none =
     record_at-log key 0 1 (disk.reads c.sync_record_files.new.disk) (disk.reads c.reset.new.disk) c.reset.ensures.elsewhere
     ∙ record_at-kept key (disk.reads c.write_records.new.disk) (disk.reads c.sync_record_files.new.disk) c.sync_record_files.ensures.only_reads.keeps
     ∙ c.write_records.ensures.elsewhere.others key none
+
+pub returns-in_err-write_records-clause-space : goal.returns-in_err-write_records-clause-space
+returns-in_err-write_records-clause-space g c _ = never_ok c.from_residual.result _ _ c.from_residual.ensures.1
+
+pub returns-in_err-write_records-clause-emptied : goal.returns-in_err-write_records-clause-emptied
+returns-in_err-write_records-clause-emptied g c _ = never_ok c.from_residual.result _ _ c.from_residual.ensures.1
+
+pub returns-in_err-write_records-clause-settled : goal.returns-in_err-write_records-clause-settled
+returns-in_err-write_records-clause-settled g c _ _ = never_ok c.from_residual.result _ _ c.from_residual.ensures.1
+
+pub returns-in_err-sync_record_files-clause-space : goal.returns-in_err-sync_record_files-clause-space
+returns-in_err-sync_record_files-clause-space g c _ =
+    never_ok c.from_residual-in_err-sync_record_files.result _ _ c.from_residual-in_err-sync_record_files.ensures.1
+
+pub returns-in_err-sync_record_files-clause-emptied : goal.returns-in_err-sync_record_files-clause-emptied
+returns-in_err-sync_record_files-clause-emptied g c _ =
+    never_ok c.from_residual-in_err-sync_record_files.result _ _ c.from_residual-in_err-sync_record_files.ensures.1
+
+pub returns-in_err-sync_record_files-clause-settled : goal.returns-in_err-sync_record_files-clause-settled
+returns-in_err-sync_record_files-clause-settled g c _ _ =
+    never_ok c.from_residual-in_err-sync_record_files.result _ _ c.from_residual-in_err-sync_record_files.ensures.1

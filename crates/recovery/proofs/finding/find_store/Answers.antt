@@ -11,6 +11,7 @@ use Rattle.recovery.specs.LoggedMetas.{HasMetas}
 use Rattle.recovery.specs.declared.recover_fault.RecoverFault.{RecoverFault}
 use Rattle.recovery.proofs.Metas.{same_content}
 use Rattle.recovery.proofs.StoreForms.{Redoes-metas, Refuses-records}
+use Rattle.rec_bytes.proofs.Causes.{never_ok}
 use Rattle.recovery.proofs.finding.find_store.Goals as goal
 
 on_ok_always : {T E P : Type 0} (result : Result T E) → P → OnOk result P
@@ -42,3 +43,27 @@ returns-clause-refused g c reads =
     let has : HasMetas first c.in_ok-logged.logged = subst (λ (content : Files). HasMetas content c.in_ok-logged.logged) (same_content first synced c.sync_files.ensures.only_reads.keeps) (c.in_ok-logged.ensures.found reads) in
     let space = redone (record_at first) has.entries in
     if_err_weaker c.found_of.result (RefusesRecords first space) (Refuses first) (λ fault. Refuses-records first space fault (Redoes-metas first c.in_ok-logged.logged has)) (c.found_of.ensures.refused first has)
+
+pub returns-in_err-sync_files-clause-found : goal.returns-in_err-sync_files-clause-found
+returns-in_err-sync_files-clause-found g c _ _ _ = never_ok c.from_residual.result _ _ c.from_residual.ensures.1
+
+pub returns-in_err-sync_files-clause-allowed : goal.returns-in_err-sync_files-clause-allowed
+returns-in_err-sync_files-clause-allowed g c = never_ok c.from_residual.result _ _ c.from_residual.ensures.1
+
+pub returns-in_err-sync_files-clause-intact : goal.returns-in_err-sync_files-clause-intact
+returns-in_err-sync_files-clause-intact g c _ = never_ok c.from_residual.result _ _ c.from_residual.ensures.1
+
+pub returns-in_err-sync_files-clause-settled : goal.returns-in_err-sync_files-clause-settled
+returns-in_err-sync_files-clause-settled g c _ _ = never_ok c.from_residual.result _ _ c.from_residual.ensures.1
+
+pub returns-in_err-logged-clause-found : goal.returns-in_err-logged-clause-found
+returns-in_err-logged-clause-found g c _ _ _ = never_ok c.from_residual-in_err-logged.result _ _ c.from_residual-in_err-logged.ensures.1
+
+pub returns-in_err-logged-clause-allowed : goal.returns-in_err-logged-clause-allowed
+returns-in_err-logged-clause-allowed g c = never_ok c.from_residual-in_err-logged.result _ _ c.from_residual-in_err-logged.ensures.1
+
+pub returns-in_err-logged-clause-intact : goal.returns-in_err-logged-clause-intact
+returns-in_err-logged-clause-intact g c _ = never_ok c.from_residual-in_err-logged.result _ _ c.from_residual-in_err-logged.ensures.1
+
+pub returns-in_err-logged-clause-settled : goal.returns-in_err-logged-clause-settled
+returns-in_err-logged-clause-settled g c _ _ = never_ok c.from_residual-in_err-logged.result _ _ c.from_residual-in_err-logged.ensures.1

@@ -7,6 +7,7 @@ use Rattle.record_file.specs.MetaFile.{AreMetasOf}
 use Rattle.rec_bytes.specs.Space.{laid_over}
 use Rattle.recovery.proofs.LogSteps.{IsAtEntry-read}
 use Rattle.recovery.proofs.Metas.{HasEntries-read_to, IsReadTo-more, Tells-same, same_content}
+use Rattle.rec_bytes.proofs.Causes.{never_ok}
 use Rattle.recovery.proofs.logged_metas.find_metas.Goals as goal
 
 pub loop-count-preserved : goal.loop-count-preserved
@@ -40,3 +41,10 @@ returns-in-End-clause-found g c reads =
     let read = was.read reads in
     let closed = Tells-same first (g.D.Disk.reads c.loop-count.disk) c.loop-count.place End was.only_reads.keeps (c.in-End.ensures.tells reads (was.kept reads)) in
     record { entries = read.entries; log = HasEntries-read_to first c.loop-count.place c.loop-count.metas.records read closed; are = read.are }
+
+pub returns-in_err-metas-clause-found : goal.returns-in_err-metas-clause-found
+returns-in_err-metas-clause-found g c _ = never_ok c.from_residual.result _ _ c.from_residual.ensures.1
+
+pub returns-in_err-take_entry-in-Entry-clause-found : goal.returns-in_err-take_entry-in-Entry-clause-found
+returns-in_err-take_entry-in-Entry-clause-found g c _ =
+    never_ok c.from_residual-in_err-take_entry-in-Entry.result _ _ c.from_residual-in_err-take_entry-in-Entry.ensures.1

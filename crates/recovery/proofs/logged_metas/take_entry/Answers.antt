@@ -7,6 +7,7 @@ use Rattle.rec_bytes.specs.declared.record.Rec.{Rec}
 use Rattle.redo_log.specs.Entries.{count_at, entry_at}
 use Rattle.redo_log.proofs.Entries.{length-writes_from}
 use Rattle.recovery.proofs.Metas.{IsTaken-all, IsTaken-more, IsTaken-none, same_content}
+use Rattle.rec_bytes.proofs.Causes.{never_ok}
 use Rattle.recovery.proofs.logged_metas.take_entry.Goals as goal
 
 pub loop-index-init : goal.loop-index-init
@@ -40,3 +41,6 @@ returns-clause-taken g c reads at space are =
     let first = g.D.Disk.reads c.args.disk.now in
     IsTaken-all c.loop-index.metas.records space (entry_at first c.args.place) c.loop-index.index (c.loop-index.invariant.taken reads at space are)
     (omega (arith, length-writes_from (count_at first c.args.place) (c.args.place + 3) first, at.count_is, c.loop-index-test.false))
+
+pub returns-in_err-key-clause-taken : goal.returns-in_err-key-clause-taken
+returns-in_err-key-clause-taken g c _ _ _ _ = never_ok c.from_residual.result _ _ c.from_residual.ensures.1

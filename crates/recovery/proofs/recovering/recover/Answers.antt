@@ -16,6 +16,7 @@ use Rattle.recovery.specs.declared.recover_fault.RecoverFault.{RecoverFault}
 use Rattle.recovery.specs.declared.recover_fault.RecoverFault.TheVariants as faults
 use Rattle.recovery.proofs.StoreForms.{IsFound-stands, Stands-refused}
 use Rattle.recovery.proofs.recovering.recover.Given.{Over}
+use Rattle.rec_bytes.proofs.Causes.{never_ok}
 use Rattle.recovery.proofs.recovering.recover.Goals as goal
 
 -- while the log is redone, on a disk that was only read before
@@ -121,3 +122,39 @@ returns-in_err-redo-clause-closed g c reads closed = redo_closed g c.args.disk.n
 
 pub returns-clause-closed : goal.returns-clause-closed
 returns-clause-closed g c reads closed = redo_closed g c.args.disk.now c.find_store.new.disk c.redo.new.disk closed c.find_store.ensures.only_reads (c.redo.ensures.closed reads)
+
+pub returns-in_err-found-clause-space : goal.returns-in_err-found-clause-space
+returns-in_err-found-clause-space g c _ _ _ = never_ok c.from_residual.result _ _ c.from_residual.ensures.1
+
+pub returns-in_err-found-clause-emptied : goal.returns-in_err-found-clause-emptied
+returns-in_err-found-clause-emptied g c _ = never_ok c.from_residual.result _ _ c.from_residual.ensures.1
+
+pub returns-in_err-found-clause-settled : goal.returns-in_err-found-clause-settled
+returns-in_err-found-clause-settled g c _ _ = never_ok c.from_residual.result _ _ c.from_residual.ensures.1
+
+pub returns-in_err-found-clause-found : goal.returns-in_err-found-clause-found
+returns-in_err-found-clause-found g c _ _ _ = never_ok c.from_residual.result _ _ c.from_residual.ensures.1
+
+pub returns-in_err-found-clause-allowed : goal.returns-in_err-found-clause-allowed
+returns-in_err-found-clause-allowed g c = never_ok c.from_residual.result _ _ c.from_residual.ensures.1
+
+pub returns-in_err-found-clause-intact : goal.returns-in_err-found-clause-intact
+returns-in_err-found-clause-intact g c _ = never_ok c.from_residual.result _ _ c.from_residual.ensures.1
+
+pub returns-in_err-redo-clause-space : goal.returns-in_err-redo-clause-space
+returns-in_err-redo-clause-space g c _ _ _ = never_ok c.from_residual-in_err-redo.result _ _ c.from_residual-in_err-redo.ensures.1
+
+pub returns-in_err-redo-clause-emptied : goal.returns-in_err-redo-clause-emptied
+returns-in_err-redo-clause-emptied g c _ = never_ok c.from_residual-in_err-redo.result _ _ c.from_residual-in_err-redo.ensures.1
+
+pub returns-in_err-redo-clause-settled : goal.returns-in_err-redo-clause-settled
+returns-in_err-redo-clause-settled g c _ _ = never_ok c.from_residual-in_err-redo.result _ _ c.from_residual-in_err-redo.ensures.1
+
+pub returns-in_err-redo-clause-found : goal.returns-in_err-redo-clause-found
+returns-in_err-redo-clause-found g c _ _ _ = never_ok c.from_residual-in_err-redo.result _ _ c.from_residual-in_err-redo.ensures.1
+
+pub returns-in_err-redo-clause-allowed : goal.returns-in_err-redo-clause-allowed
+returns-in_err-redo-clause-allowed g c = never_ok c.from_residual-in_err-redo.result _ _ c.from_residual-in_err-redo.ensures.1
+
+pub returns-in_err-redo-clause-intact : goal.returns-in_err-redo-clause-intact
+returns-in_err-redo-clause-intact g c _ = never_ok c.from_residual-in_err-redo.result _ _ c.from_residual-in_err-redo.ensures.1

@@ -19,6 +19,7 @@ use Rattle.recovery.specs.Syncing.{AreRecordsSettled}
 use Rattle.recovery.proofs.LogSteps.{AllRedoBy-settled, RedoesBy-torn_logged}
 use Rattle.recovery.proofs.Unmade.{unmade_gate, unmade_torn}
 use Rattle.recovery.proofs.redoing.redo.Given.{Over}
+use Rattle.rec_bytes.proofs.Causes.{never_ok}
 use Rattle.recovery.proofs.redoing.redo.Goals as goal
 
 -- the contents that redo to the space
@@ -180,3 +181,33 @@ returns-in_err-reset-clause-closed g c reads closed =
 pub returns-clause-closed : goal.returns-clause-closed
 returns-clause-closed g c reads closed =
     reset_closed g c.args.disk.now c.redo_entries.new.disk c.sync_record_files.new.disk c.reset.new.disk closed (c.redo_entries.ensures.closed reads closed) c.sync_record_files.ensures.only_reads (c.reset.ensures.closed reads)
+
+pub returns-in_err-redo_entries-clause-space : goal.returns-in_err-redo_entries-clause-space
+returns-in_err-redo_entries-clause-space g c _ _ _ = never_ok c.from_residual.result _ _ c.from_residual.ensures.1
+
+pub returns-in_err-redo_entries-clause-emptied : goal.returns-in_err-redo_entries-clause-emptied
+returns-in_err-redo_entries-clause-emptied g c _ = never_ok c.from_residual.result _ _ c.from_residual.ensures.1
+
+pub returns-in_err-redo_entries-clause-settled : goal.returns-in_err-redo_entries-clause-settled
+returns-in_err-redo_entries-clause-settled g c _ _ = never_ok c.from_residual.result _ _ c.from_residual.ensures.1
+
+pub returns-in_err-sync_record_files-clause-space : goal.returns-in_err-sync_record_files-clause-space
+returns-in_err-sync_record_files-clause-space g c _ _ _ =
+    never_ok c.from_residual-in_err-sync_record_files.result _ _ c.from_residual-in_err-sync_record_files.ensures.1
+
+pub returns-in_err-sync_record_files-clause-emptied : goal.returns-in_err-sync_record_files-clause-emptied
+returns-in_err-sync_record_files-clause-emptied g c _ =
+    never_ok c.from_residual-in_err-sync_record_files.result _ _ c.from_residual-in_err-sync_record_files.ensures.1
+
+pub returns-in_err-sync_record_files-clause-settled : goal.returns-in_err-sync_record_files-clause-settled
+returns-in_err-sync_record_files-clause-settled g c _ _ =
+    never_ok c.from_residual-in_err-sync_record_files.result _ _ c.from_residual-in_err-sync_record_files.ensures.1
+
+pub returns-in_err-reset-clause-space : goal.returns-in_err-reset-clause-space
+returns-in_err-reset-clause-space g c _ _ _ = never_ok c.from_residual-in_err-reset.result _ _ c.from_residual-in_err-reset.ensures.1
+
+pub returns-in_err-reset-clause-emptied : goal.returns-in_err-reset-clause-emptied
+returns-in_err-reset-clause-emptied g c _ = never_ok c.from_residual-in_err-reset.result _ _ c.from_residual-in_err-reset.ensures.1
+
+pub returns-in_err-reset-clause-settled : goal.returns-in_err-reset-clause-settled
+returns-in_err-reset-clause-settled g c _ _ = never_ok c.from_residual-in_err-reset.result _ _ c.from_residual-in_err-reset.ensures.1

@@ -14,6 +14,7 @@ use Rattle.record_file.specs.Records.{IsTornInRecords, record_at}
 use Rattle.record_file.proofs.Written.{AreAmong, AreWritten-all, IsKey-get, torn_in_records_more, torn_in_records_none}
 use Rattle.recovery.proofs.EntrySteps.{IsPartWritten-more, IsPartWritten-none, IsPartWritten-read, IsPartWritten-torn, write_is}
 use Rattle.recovery.proofs.redoing.redo_entry.Given.{Over}
+use Rattle.rec_bytes.proofs.Causes.{never_ok}
 use Rattle.recovery.proofs.redoing.redo_entry.Goals as goal
 
 -- with a read of the log and a write of some of the records
@@ -90,3 +91,12 @@ returns-clause-written g c reads at =
     let all = AreWritten-all _ (entry_at first c.args.place) c.loop-index.index (laid_over (record_at (disk.reads c.loop-index.disk)) c.loop-index.run) (c.loop-index.invariant.part reads at).written
     (omega (arith, length-writes_from (count_at first c.args.place) (c.args.place + 3) first, at.count_is, c.loop-index-test.false)) in
     c.in_ok-write.ensures.written reads ∙ all
+
+pub returns-in_err-key-clause-written : goal.returns-in_err-key-clause-written
+returns-in_err-key-clause-written g c _ _ = never_ok c.from_residual.result _ _ c.from_residual.ensures.1
+
+pub returns-in_err-put-clause-written : goal.returns-in_err-put-clause-written
+returns-in_err-put-clause-written g c _ _ = never_ok c.from_residual-in_err-put.result _ _ c.from_residual-in_err-put.ensures.1
+
+pub returns-in_err-write-clause-written : goal.returns-in_err-write-clause-written
+returns-in_err-write-clause-written g c _ _ = never_ok c.from_residual-in_err-write.result _ _ c.from_residual-in_err-write.ensures.1

@@ -9,6 +9,7 @@ use Rattle.redo_log.specs.Entries.{AllHaveEntries, Fits, HasEntries, IsEntryOf, 
 use Rattle.disk_model.proofs.Contents.{SameOutside-then, SameOutside-same}
 use Rattle.redo_log.proofs.Appends.{HasEntries-behind, HasEntries-read, HasOneMore-read, HasAtMostOneMore-read, IsAppended-torn, leaves_no_more, leaves_gated, AllHaveEntries-settled}
 use Rattle.redo_log.proofs.appending.append.Given.{Over}
+use Rattle.rec_bytes.proofs.Causes.{never_ok}
 use Rattle.redo_log.proofs.appending.append.Goals as goal
 
 -- what a crash leaves from one state of the disk to another
@@ -118,3 +119,51 @@ returns-clause-durable g c reads images entries all =
     let disk = g.D.Disk in
     let has = all (disk.reads c.args.disk.now) (g.met.D.Disk.read_is_image c.args.disk.now reads images) in
     AllHaveEntries-settled (disk.may_leave c.sync-2.new.self) (disk.reads c.write.new.self) (entries ++ c.args.writes.now.pairs ∷ []) (c.args.tail + entry_bytes (length c.args.writes.now.pairs)) (c.in_ok-sync-2.ensures.settled reads images) (one_more g c reads entries has)
+
+pub returns-in_err-write_payload-clause-durable : goal.returns-in_err-write_payload-clause-durable
+returns-in_err-write_payload-clause-durable g c _ _ _ _ = never_ok c.from_residual.result _ _ c.from_residual.ensures.1
+
+pub returns-in_err-write_payload-clause-settled : goal.returns-in_err-write_payload-clause-settled
+returns-in_err-write_payload-clause-settled g c _ _ = never_ok c.from_residual.result _ _ c.from_residual.ensures.1
+
+pub returns-in_err-write_payload-clause-appended : goal.returns-in_err-write_payload-clause-appended
+returns-in_err-write_payload-clause-appended g c _ _ _ = never_ok c.from_residual.result _ _ c.from_residual.ensures.1
+
+pub returns-in_err-write_payload-clause-next : goal.returns-in_err-write_payload-clause-next
+returns-in_err-write_payload-clause-next g c = never_ok c.from_residual.result _ _ c.from_residual.ensures.1
+
+pub returns-in_err-sync-clause-durable : goal.returns-in_err-sync-clause-durable
+returns-in_err-sync-clause-durable g c _ _ _ _ = never_ok c.from_residual-in_err-sync.result _ _ c.from_residual-in_err-sync.ensures.1
+
+pub returns-in_err-sync-clause-settled : goal.returns-in_err-sync-clause-settled
+returns-in_err-sync-clause-settled g c _ _ = never_ok c.from_residual-in_err-sync.result _ _ c.from_residual-in_err-sync.ensures.1
+
+pub returns-in_err-sync-clause-appended : goal.returns-in_err-sync-clause-appended
+returns-in_err-sync-clause-appended g c _ _ _ = never_ok c.from_residual-in_err-sync.result _ _ c.from_residual-in_err-sync.ensures.1
+
+pub returns-in_err-sync-clause-next : goal.returns-in_err-sync-clause-next
+returns-in_err-sync-clause-next g c = never_ok c.from_residual-in_err-sync.result _ _ c.from_residual-in_err-sync.ensures.1
+
+pub returns-in_err-write-clause-durable : goal.returns-in_err-write-clause-durable
+returns-in_err-write-clause-durable g c _ _ _ _ = never_ok c.from_residual-in_err-write.result _ _ c.from_residual-in_err-write.ensures.1
+
+pub returns-in_err-write-clause-settled : goal.returns-in_err-write-clause-settled
+returns-in_err-write-clause-settled g c _ _ = never_ok c.from_residual-in_err-write.result _ _ c.from_residual-in_err-write.ensures.1
+
+pub returns-in_err-write-clause-appended : goal.returns-in_err-write-clause-appended
+returns-in_err-write-clause-appended g c _ _ _ = never_ok c.from_residual-in_err-write.result _ _ c.from_residual-in_err-write.ensures.1
+
+pub returns-in_err-write-clause-next : goal.returns-in_err-write-clause-next
+returns-in_err-write-clause-next g c = never_ok c.from_residual-in_err-write.result _ _ c.from_residual-in_err-write.ensures.1
+
+pub returns-in_err-sync-2-clause-durable : goal.returns-in_err-sync-2-clause-durable
+returns-in_err-sync-2-clause-durable g c _ _ _ _ = never_ok c.from_residual-in_err-sync-2.result _ _ c.from_residual-in_err-sync-2.ensures.1
+
+pub returns-in_err-sync-2-clause-settled : goal.returns-in_err-sync-2-clause-settled
+returns-in_err-sync-2-clause-settled g c _ _ = never_ok c.from_residual-in_err-sync-2.result _ _ c.from_residual-in_err-sync-2.ensures.1
+
+pub returns-in_err-sync-2-clause-appended : goal.returns-in_err-sync-2-clause-appended
+returns-in_err-sync-2-clause-appended g c _ _ _ = never_ok c.from_residual-in_err-sync-2.result _ _ c.from_residual-in_err-sync-2.ensures.1
+
+pub returns-in_err-sync-2-clause-next : goal.returns-in_err-sync-2-clause-next
+returns-in_err-sync-2-clause-next g c = never_ok c.from_residual-in_err-sync-2.result _ _ c.from_residual-in_err-sync-2.ensures.1

@@ -11,6 +11,7 @@ use Rattle.redo_log.proofs.Bytes.{AreWhole-all, AreWholeFrom-then}
 use Rattle.redo_log.proofs.Sending.{IsSent, IsSent-more, IsSent-all}
 use Rattle.redo_log.proofs.Torn.{leaves_torn}
 use Rattle.redo_log.proofs.payload.write_payload.Given.{Over}
+use Rattle.rec_bytes.proofs.Causes.{never_ok}
 use Rattle.redo_log.proofs.payload.write_payload.Goals as goal
 
 -- a crash from one state of the disk to another leaves a content from before, but for the range
@@ -97,3 +98,9 @@ on_ok_always (Err e) p = tt
 pub returns-clause-whole : goal.returns-clause-whole
 returns-clause-whole g c =
     on_ok_always c.write-2.result (AreWhole-all c.args.writes.now.pairs c.loop-next.next (omega (arith, c.loop-next.invariant.within)) c.loop-next.invariant.whole)
+
+pub returns-in_err-write-clause-written : goal.returns-in_err-write-clause-written
+returns-in_err-write-clause-written g c _ = never_ok c.from_residual.result _ _ c.from_residual.ensures.1
+
+pub returns-in_err-write-clause-whole : goal.returns-in_err-write-clause-whole
+returns-in_err-write-clause-whole g c = never_ok c.from_residual.result _ _ c.from_residual.ensures.1

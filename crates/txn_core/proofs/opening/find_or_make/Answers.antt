@@ -1,4 +1,4 @@
-use Rattle.std.proofs.Common.{◌≡◌, ◌≤◌, ◌∙◌, ⊎_elim, sym, subst, inl, inr, [], ◌∷◌}
+use Rattle.std.proofs.Common.{◌≡◌, ◌≤◌, ◌∙◌, ⊎_elim, sym, subst, inl, inr, [], ◌∷◌, arith}
 use Rattle.std.proofs.lemmas.Result.{IfErr-weaker}
 use Rattle.disk_model.proofs.Spans.{at_each_moment_weaker, only_reads_on}
 use Rattle.rec_bytes.specs.Creation.{creation_pairs, own_key, raised}
@@ -15,6 +15,7 @@ use Rattle.txn_core.specs.Opening.{HasOnly, IsStore, OnlyDiffers, RefusesOpening
 use Rattle.txn_core.specs.declared.opening.Start.{Start}
 use Rattle.txn_core.proofs.Finding.{differs_untouched, if_ok_all, if_ok_both, if_ok_on, made_crash, made_log, made_opened, none_made, one_shape, redoes_own, refuses_differs, stays_read, unmade_crash, unmade_left, unmade_mid, unmade_opened}
 use Rattle.txn_core.proofs.opening.find_or_make.Given.{Over}
+use Rattle.rec_bytes.proofs.Causes.{never_ok}
 use Rattle.txn_core.proofs.opening.find_or_make.Goals as goal
 
 -- the store that is found
@@ -207,3 +208,59 @@ returns-in_ok-make_new-in-Ok-Unmade-clause-clean g c reads clean =
     let intact = c.in-Ok-Unmade.ensures.intact reads in
     let unmade = rw c.in-Ok-Unmade.field-0-is at (c.in-Ok-Unmade.ensures.found reads intact.0 intact.1) in
     absurd (none_made (g.D.Disk.reads c.args.disk.now) clean.shape unmade clean.store)
+
+pub returns-in_err-make_new-in-Ok-Unmade-clause-opened : goal.returns-in_err-make_new-in-Ok-Unmade-clause-opened
+returns-in_err-make_new-in-Ok-Unmade-clause-opened g c _ = never_ok c.from_residual.result _ _ c.from_residual.ensures.1
+
+pub returns-in_err-make_new-in-Ok-Unmade-clause-suits : goal.returns-in_err-make_new-in-Ok-Unmade-clause-suits
+returns-in_err-make_new-in-Ok-Unmade-clause-suits g c = never_ok c.from_residual.result _ _ c.from_residual.ensures.1
+
+pub returns-in_err-make_new-in-Ok-Unmade-clause-settled : goal.returns-in_err-make_new-in-Ok-Unmade-clause-settled
+returns-in_err-make_new-in-Ok-Unmade-clause-settled g c _ _ = never_ok c.from_residual.result _ _ c.from_residual.ensures.1
+
+pub returns-in_err-make_new-in-Ok-Unmade-clause-log : goal.returns-in_err-make_new-in-Ok-Unmade-clause-log
+returns-in_err-make_new-in-Ok-Unmade-clause-log g c _ = never_ok c.from_residual.result _ _ c.from_residual.ensures.1
+
+pub returns-in_err-make_new-in-Ok-Unmade-clause-allowed : goal.returns-in_err-make_new-in-Ok-Unmade-clause-allowed
+returns-in_err-make_new-in-Ok-Unmade-clause-allowed g c = never_ok c.from_residual.result _ _ c.from_residual.ensures.1
+
+pub returns-in_err-make_new-in-Ok-Unmade-clause-kept : goal.returns-in_err-make_new-in-Ok-Unmade-clause-kept
+returns-in_err-make_new-in-Ok-Unmade-clause-kept g c = never_ok c.from_residual.result _ _ c.from_residual.ensures.1
+
+pub returns-in-Ok-Made-clause-suits : goal.returns-in-Ok-Made-clause-suits
+returns-in-Ok-Made-clause-suits g c =
+    let found = c.in-Ok-Made.shape in
+    let r = c.open_made.result in
+    let shape = λ (s : Start). s.shape ≡ found in
+    let suits = λ (s : Start). Suits c.args.config found in
+    if_ok_all r (λ s. shape s × suits s) _ (λ s of. subst (Suits c.args.config) (sym of.0) of.1) (if_ok_both r shape suits c.open_made.ensures.shape c.open_made.ensures.suits)
+
+pub returns-in-Ok-Made-clause-no_memory : goal.returns-in-Ok-Made-clause-no_memory
+returns-in-Ok-Made-clause-no_memory g c = c.open_made.ensures.no_memory
+
+pub returns-in-Ok-Made-clause-room : goal.returns-in-Ok-Made-clause-room
+returns-in-Ok-Made-clause-room g c = c.open_made.ensures.room
+
+pub returns-in-Ok-Made-clause-few : goal.returns-in-Ok-Made-clause-few
+returns-in-Ok-Made-clause-few g c = c.open_made.ensures.few
+
+pub returns-in-Ok-Made-clause-later : goal.returns-in-Ok-Made-clause-later
+returns-in-Ok-Made-clause-later g c = omega (arith, c.recover.ensures.cause.later, c.open_made.ensures.later)
+
+pub returns-in_err-make_new-in-Ok-Unmade-clause-room : goal.returns-in_err-make_new-in-Ok-Unmade-clause-room
+returns-in_err-make_new-in-Ok-Unmade-clause-room g c = c.make_new.ensures.room
+
+pub returns-in_err-make_new-in-Ok-Unmade-clause-few : goal.returns-in_err-make_new-in-Ok-Unmade-clause-few
+returns-in_err-make_new-in-Ok-Unmade-clause-few g c = c.make_new.ensures.few
+
+pub returns-in_err-make_new-in-Ok-Unmade-clause-later : goal.returns-in_err-make_new-in-Ok-Unmade-clause-later
+returns-in_err-make_new-in-Ok-Unmade-clause-later g c = omega (arith, c.recover.ensures.cause.later, c.make_new.ensures.cause.later)
+
+pub returns-in_ok-make_new-in-Ok-Unmade-clause-room : goal.returns-in_ok-make_new-in-Ok-Unmade-clause-room
+returns-in_ok-make_new-in-Ok-Unmade-clause-room g c = c.make_new.ensures.room
+
+pub returns-in_ok-make_new-in-Ok-Unmade-clause-few : goal.returns-in_ok-make_new-in-Ok-Unmade-clause-few
+returns-in_ok-make_new-in-Ok-Unmade-clause-few g c = c.make_new.ensures.few
+
+pub returns-in_ok-make_new-in-Ok-Unmade-clause-later : goal.returns-in_ok-make_new-in-Ok-Unmade-clause-later
+returns-in_ok-make_new-in-Ok-Unmade-clause-later g c = omega (arith, c.recover.ensures.cause.later, c.make_new.ensures.cause.later)

@@ -13,6 +13,7 @@ use Rattle.rec_bytes.proofs.PairLaws.{growth_by_le}
 use Rattle.txn_core.proofs.Sets.{length-merged}
 use Rattle.txn_core.proofs.Making.{creation_form, kept_unmade, new_crash, new_space}
 use Rattle.txn_core.proofs.Raising.{settled_appended}
+use Rattle.rec_bytes.proofs.Causes.{never_ok}
 use Rattle.txn_core.proofs.opening.make_new.Goals as goal
 
 pub append-requires-clause-form : goal.append-requires-clause-form
@@ -68,3 +69,18 @@ pub returns-clause-log : goal.returns-clause-log
 returns-clause-log g c reads has =
     let tail = 0 + entry_bytes (length c.args.creation.now.pairs) in
     (tail, subst (λ (pairs : Pairs). HasEntries (g.D.Disk.reads c.append.new.disk) (pairs ∷ []) tail) c.requires.creation (c.in_ok-tail.ensures.appended reads [] has))
+
+pub returns-in_err-tail-clause-shape : goal.returns-in_err-tail-clause-shape
+returns-in_err-tail-clause-shape g c = never_ok c.from_residual.result _ _ c.from_residual.ensures.1
+
+pub returns-in_err-tail-clause-kept : goal.returns-in_err-tail-clause-kept
+returns-in_err-tail-clause-kept g c _ _ = never_ok c.from_residual.result _ _ c.from_residual.ensures.1
+
+pub returns-in_err-tail-clause-space : goal.returns-in_err-tail-clause-space
+returns-in_err-tail-clause-space g c _ _ = never_ok c.from_residual.result _ _ c.from_residual.ensures.1
+
+pub returns-in_err-tail-clause-settled : goal.returns-in_err-tail-clause-settled
+returns-in_err-tail-clause-settled g c _ _ _ _ = never_ok c.from_residual.result _ _ c.from_residual.ensures.1
+
+pub returns-in_err-tail-clause-log : goal.returns-in_err-tail-clause-log
+returns-in_err-tail-clause-log g c _ _ = never_ok c.from_residual.result _ _ c.from_residual.ensures.1

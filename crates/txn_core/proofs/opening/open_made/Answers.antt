@@ -5,6 +5,7 @@ use Rattle.redo_log.proofs.Appends.{HasEntries-read}
 use Rattle.record_file.specs.Records.{record_at}
 use Rattle.txn_core.proofs.Finding.{made_kept, settled_read}
 use Rattle.txn_core.proofs.Raising.{newest_reads, raised_crash, read_crash, space_read}
+use Rattle.rec_bytes.proofs.Causes.{never_ok}
 use Rattle.txn_core.proofs.opening.open_made.Goals as goal
 
 pub returns-in_err-start-clause-crash : goal.returns-in_err-start-clause-crash
@@ -53,3 +54,39 @@ returns-clause-newest g c reads newest =
     let mid = c.read_made.new.disk in
     let start = c.in_ok-start.start in
     newest_reads g.D.Disk first mid c.raise.new.disk start.metas.records c.read_made.ensures.only_reads (c.in_ok-start.ensures.metas reads) newest c.raise.ensures.newest
+
+pub returns-in_err-start-clause-shape : goal.returns-in_err-start-clause-shape
+returns-in_err-start-clause-shape g c = never_ok c.from_residual.result _ _ c.from_residual.ensures.1
+
+pub returns-in_err-start-clause-suits : goal.returns-in_err-start-clause-suits
+returns-in_err-start-clause-suits g c = never_ok c.from_residual.result _ _ c.from_residual.ensures.1
+
+pub returns-in_err-start-clause-kept : goal.returns-in_err-start-clause-kept
+returns-in_err-start-clause-kept g c _ _ = never_ok c.from_residual.result _ _ c.from_residual.ensures.1
+
+pub returns-in_err-start-clause-space : goal.returns-in_err-start-clause-space
+returns-in_err-start-clause-space g c _ _ _ = never_ok c.from_residual.result _ _ c.from_residual.ensures.1
+
+pub returns-in_err-start-clause-log : goal.returns-in_err-start-clause-log
+returns-in_err-start-clause-log g c _ _ = never_ok c.from_residual.result _ _ c.from_residual.ensures.1
+
+pub returns-in_err-start-clause-settled : goal.returns-in_err-start-clause-settled
+returns-in_err-start-clause-settled g c _ _ _ _ = never_ok c.from_residual.result _ _ c.from_residual.ensures.1
+
+pub returns-in_err-raise-clause-shape : goal.returns-in_err-raise-clause-shape
+returns-in_err-raise-clause-shape g c = never_ok c.from_residual-in_err-raise.result _ _ c.from_residual-in_err-raise.ensures.1
+
+pub returns-in_err-raise-clause-suits : goal.returns-in_err-raise-clause-suits
+returns-in_err-raise-clause-suits g c = never_ok c.from_residual-in_err-raise.result _ _ c.from_residual-in_err-raise.ensures.1
+
+pub returns-in_err-raise-clause-kept : goal.returns-in_err-raise-clause-kept
+returns-in_err-raise-clause-kept g c _ _ = never_ok c.from_residual-in_err-raise.result _ _ c.from_residual-in_err-raise.ensures.1
+
+pub returns-in_err-raise-clause-space : goal.returns-in_err-raise-clause-space
+returns-in_err-raise-clause-space g c _ _ _ = never_ok c.from_residual-in_err-raise.result _ _ c.from_residual-in_err-raise.ensures.1
+
+pub returns-in_err-raise-clause-log : goal.returns-in_err-raise-clause-log
+returns-in_err-raise-clause-log g c _ _ = never_ok c.from_residual-in_err-raise.result _ _ c.from_residual-in_err-raise.ensures.1
+
+pub returns-in_err-raise-clause-settled : goal.returns-in_err-raise-clause-settled
+returns-in_err-raise-clause-settled g c _ _ _ _ = never_ok c.from_residual-in_err-raise.result _ _ c.from_residual-in_err-raise.ensures.1

@@ -10,6 +10,7 @@ use Rattle.record_file.specs.MetaFile.{with_metas}
 use Rattle.txn_core.specs.Opening.{raising_entries}
 use Rattle.txn_core.proofs.Kept.{appended_space, kept_appended, kept_now}
 use Rattle.txn_core.proofs.Raising.{FindsMerged-first, entries_old, raise_crash, raised_old, settled_appended, version_held}
+use Rattle.rec_bytes.proofs.Causes.{never_ok}
 use Rattle.txn_core.proofs.opening.raise.Goals as goal
 
 pub returns-then-version_of-ge-VERSION-clause-crash : goal.returns-then-version_of-ge-VERSION-clause-crash
@@ -64,3 +65,18 @@ returns-clause-log g c reads has =
 pub returns-clause-settled : goal.returns-clause-settled
 returns-clause-settled g c reads images has settled =
     settled_appended g.D.Disk c.args.disk.now c.append.new.disk c.put_raising.new.set.pairs g.met.D.Disk.counts_now images has settled (c.append.ensures.crash reads images) (c.append.ensures.elsewhere reads) (c.in_ok-tail.ensures.settled reads images)
+
+pub returns-in_err-tail-clause-shape : goal.returns-in_err-tail-clause-shape
+returns-in_err-tail-clause-shape g c = never_ok c.from_residual.result _ _ c.from_residual.ensures.1
+
+pub returns-in_err-tail-clause-kept : goal.returns-in_err-tail-clause-kept
+returns-in_err-tail-clause-kept g c _ = never_ok c.from_residual.result _ _ c.from_residual.ensures.1
+
+pub returns-in_err-tail-clause-space : goal.returns-in_err-tail-clause-space
+returns-in_err-tail-clause-space g c _ _ = never_ok c.from_residual.result _ _ c.from_residual.ensures.1
+
+pub returns-in_err-tail-clause-log : goal.returns-in_err-tail-clause-log
+returns-in_err-tail-clause-log g c _ _ = never_ok c.from_residual.result _ _ c.from_residual.ensures.1
+
+pub returns-in_err-tail-clause-settled : goal.returns-in_err-tail-clause-settled
+returns-in_err-tail-clause-settled g c _ _ _ _ = never_ok c.from_residual.result _ _ c.from_residual.ensures.1

@@ -37,3 +37,15 @@ returns-clause-written c =
     let base = contents disk.base.items in
     let pokes = contents disk.pokes.items in
     subst (λ (log : CallLogState). Holds c.args.file c.args.at c.args.bytes.now (content_since base pokes log.calls)) (sym c.wrote.ensures) (Holds-wrote base pokes disk.log.calls c.args.file c.args.at c.args.bytes.now c.self.invariant.past)
+
+pub returns-then-room-at-clause-fails : goal.returns-then-room-at-clause-fails
+returns-then-room-at-clause-fails c = grind (arith, common_steps)
+
+pub returns-then-room-at-clause-err : goal.returns-then-room-at-clause-err
+returns-then-room-at-clause-err c = grind (arith, common_steps)
+
+pub returns-then-not-is_full-clause-err : goal.returns-then-not-is_full-clause-err
+returns-then-not-is_full-clause-err c = grind (arith, common_steps)
+
+pub index_mut-requires : goal.index_mut-requires
+index_mut-requires c = grind (arith, common_steps)

@@ -1,6 +1,7 @@
 use Rattle.std.proofs.Common.{◌≡◌, true, arith, refl}
 use Rattle.std.proofs.lemmas.Bool.{false≢true}
 use Rattle.redo_log.proofs.EntryForms.{is_entry, entry_size, entry_rises}
+use Rattle.rec_bytes.proofs.Causes.{never_ok}
 use Rattle.redo_log.proofs.log_reader.LogReader.answer_at.Goals as goal
 
 pub returns-then-not-head-clause-tells : goal.returns-then-not-head-clause-tells
@@ -46,3 +47,21 @@ returns-clause-tells g c = λ told content has.
 
 pub returns-clause-keeps : goal.returns-clause-keeps
 returns-clause-keeps g c = λ told content has. c.has_entry_keys.ensures.keeps told content (c.cover.ensures.keeps told content has)
+
+pub returns-in_err-cover-clause-tells : goal.returns-in_err-cover-clause-tells
+returns-in_err-cover-clause-tells g c _ _ _ = never_ok c.from_residual.result _ _ c.from_residual.ensures.1
+
+pub returns-in_err-cover-clause-in_log : goal.returns-in_err-cover-clause-in_log
+returns-in_err-cover-clause-in_log g c = never_ok c.from_residual.result _ _ c.from_residual.ensures.1
+
+pub returns-in_err-cover-clause-known : goal.returns-in_err-cover-clause-known
+returns-in_err-cover-clause-known g c = never_ok c.from_residual.result _ _ c.from_residual.ensures.1
+
+pub returns-in_err-has_entry_keys-clause-tells : goal.returns-in_err-has_entry_keys-clause-tells
+returns-in_err-has_entry_keys-clause-tells g c _ _ _ = never_ok c.from_residual-in_err-has_entry_keys.result _ _ c.from_residual-in_err-has_entry_keys.ensures.1
+
+pub returns-in_err-has_entry_keys-clause-in_log : goal.returns-in_err-has_entry_keys-clause-in_log
+returns-in_err-has_entry_keys-clause-in_log g c = never_ok c.from_residual-in_err-has_entry_keys.result _ _ c.from_residual-in_err-has_entry_keys.ensures.1
+
+pub returns-in_err-has_entry_keys-clause-known : goal.returns-in_err-has_entry_keys-clause-known
+returns-in_err-has_entry_keys-clause-known g c = never_ok c.from_residual-in_err-has_entry_keys.result _ _ c.from_residual-in_err-has_entry_keys.ensures.1

@@ -1,6 +1,7 @@
 use Rattle.std.proofs.Common.{arith, rules}
 use Rattle.disk_model.proofs.Spans.{only_reads_on}
 use Rattle.redo_log.proofs.Rising.{rising_goes_on, rising_ends}
+use Rattle.rec_bytes.proofs.Causes.{never_ok}
 use Rattle.redo_log.proofs.log_reader.LogReader.has_rising_keys.Goals as goal
 
 pub returns-in_err-key-clause-keeps : goal.returns-in_err-key-clause-keeps
@@ -23,3 +24,6 @@ loop-index-preserved g c = record {
   only_reads = only_reads_on g.D.Disk c.args.disk.now c.loop-index.disk c.key_at.new.disk c.loop-index.invariant.only_reads c.key_at.ensures.only_reads;
   later = omega (arith, c.loop-index.invariant.later, c.key_at.ensures.cause.later);
 }
+
+pub returns-in_err-key-clause-keys : goal.returns-in_err-key-clause-keys
+returns-in_err-key-clause-keys g c _ _ _ = never_ok c.from_residual.result _ _ c.from_residual.ensures.1

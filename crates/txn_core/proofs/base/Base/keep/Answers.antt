@@ -1,6 +1,7 @@
 use Rattle.std.proofs.Common.{rules, ap, sym, subst, arith, length}
 use Rattle.rec_bytes.specs.Pairs.{IsOrdered, Pairs, growth_by}
 use Rattle.txn_core.proofs.Sets.{length-merged, length-other}
+use Rattle.rec_bytes.proofs.Causes.{never_ok}
 use Rattle.txn_core.proofs.base.Base.keep.Goals as goal
 
 pub invariant_of-self-2 : goal.invariant_of-self-2
@@ -30,3 +31,9 @@ invariant_of-self-2 g c =
 pub returns-then-len-gt-MOST_OWN-clause-succeeds : goal.returns-then-len-gt-MOST_OWN-clause-succeeds
 returns-then-len-gt-MOST_OWN-clause-succeeds g c fits room = absurd
     (omega (arith, fits, c.if-len-gt-MOST_OWN.true, c.len.ensures.value, length-other c.args.self.now.own.pairs c.args.draft.now.pairs c.len.ensures.rising))
+
+pub returns-in_err-reserve-clause-own : goal.returns-in_err-reserve-clause-own
+returns-in_err-reserve-clause-own g c = never_ok c.from_residual.result _ _ c.from_residual.ensures.1
+
+pub returns-in_err-reserve-clause-fits : goal.returns-in_err-reserve-clause-fits
+returns-in_err-reserve-clause-fits g c = never_ok c.from_residual.result _ _ c.from_residual.ensures.1

@@ -5,6 +5,7 @@ use Rattle.record_file.specs.Records.{record_at}
 use Rattle.page_cache.specs.Pages.{Pages}
 use Rattle.txn_core.specs.Again.{IsOld}
 use Rattle.txn_core.proofs.Kept.{kept_settled, on_disk, plain_space}
+use Rattle.rec_bytes.proofs.Causes.{never_ok}
 use Rattle.txn_core.proofs.base.Base.recover_again.Goals as goal
 
 pub invariant_of-self-2 : goal.invariant_of-self-2
@@ -37,3 +38,6 @@ returns-clause-done g c =
       stored = on_disk disk c.find_again.new.disk c.in_ok-self.field-0.records c.clear-2.new.self.pairs 0 _ now (λ reads. refl);
       live = search rules;
     }
+
+pub returns-in_err-self-clause-done : goal.returns-in_err-self-clause-done
+returns-in_err-self-clause-done g c = never_ok c.from_residual.result _ _ c.from_residual.ensures.1

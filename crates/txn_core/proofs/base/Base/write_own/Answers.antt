@@ -8,6 +8,7 @@ use Rattle.txn_core.specs.Base.{committed, working}
 use Rattle.txn_core.specs.Outcomes.{IsInDoubt}
 use Rattle.txn_core.proofs.Kept.{Either-same, kept_now, on_disk}
 use Rattle.txn_core.proofs.Sets.{empty_pairs}
+use Rattle.rec_bytes.proofs.Causes.{never_ok}
 use Rattle.txn_core.proofs.base.Base.write_own.Goals as goal
 
 pub returns-then-len-eq0-clause-crash : goal.returns-then-len-eq0-clause-crash
@@ -48,3 +49,6 @@ returns-clause-failed g c =
       failed = failed.failed;
       stored = record { read = λ reads. same reads _ (failed.stored.read reads); images = λ reads images image left. same reads image (failed.stored.images reads images image left) };
     }) c.append_own.ensures.failed
+
+pub returns-in_err-make_room-clause-done : goal.returns-in_err-make_room-clause-done
+returns-in_err-make_room-clause-done g c = never_ok c.from_residual.result _ _ c.from_residual.ensures.1

@@ -9,6 +9,7 @@ use Rattle.record_file.specs.Records.{record_at}
 use Rattle.record_file.specs.MetaFile.{with_metas}
 use Rattle.txn_core.specs.Base.{SameBeneath, committed, working}
 use Rattle.txn_core.specs.declared.base.Base.{Base}
+use Rattle.rec_bytes.proofs.Causes.{never_ok}
 use Rattle.txn_core.proofs.store.Store.keep.Goals as goal
 
 -- the disk wasn't called, so the same is committed
@@ -26,3 +27,15 @@ returns-clause-working g c =
 -- the draft has nothing any more
 pub returns-clause-read : goal.returns-clause-read
 returns-clause-read g c = ap (λ (pairs : Pairs). laid_over (working c.discard.new.self.base) pairs) c.discard.ensures.draft ∙ returns-clause-working g c
+
+pub returns-in_err-keep-clause-own : goal.returns-in_err-keep-clause-own
+returns-in_err-keep-clause-own g c = never_ok c.from_residual.result _ _ c.from_residual.ensures.1
+
+pub returns-in_err-keep-clause-working : goal.returns-in_err-keep-clause-working
+returns-in_err-keep-clause-working g c = never_ok c.from_residual.result _ _ c.from_residual.ensures.1
+
+pub returns-in_err-keep-clause-draft : goal.returns-in_err-keep-clause-draft
+returns-in_err-keep-clause-draft g c = never_ok c.from_residual.result _ _ c.from_residual.ensures.1
+
+pub returns-in_err-keep-clause-fits : goal.returns-in_err-keep-clause-fits
+returns-in_err-keep-clause-fits g c = never_ok c.from_residual.result _ _ c.from_residual.ensures.1
