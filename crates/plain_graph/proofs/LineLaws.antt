@@ -3,7 +3,8 @@ use Rattle.std.proofs.Common.{ℕ, Option, List, [], ◌∷◌, ◌++◌, inl, i
 use Rattle.plain_graph.specs.Graph.{Graph}
 use Rattle.plain_graph.specs.LineChanges.{asked_changes, first_refused, line_reasons}
 use Rattle.plain_graph.specs.Mutations.{RefusesEach}
-use Rattle.plain_graph.specs.Refusals.{FirstReason, NoReason, Reason, change_reasons}
+use Rattle.plain_graph.specs.Lines.{index_of_reading}
+use Rattle.plain_graph.specs.Refusals.{FirstReason, NoReason, Reason, change_reasons, lacks_index}
 use Rattle.plain_graph.specs.declared.command.Command.{Command}
 use Rattle.plain_graph.specs.declared.command.Command.TheVariants as commands
 use Rattle.plain_graph.specs.declared.mutation.Mutation.{Mutation}
@@ -36,12 +37,22 @@ change_first limit graph command why first = first_front change_reasons (first_r
 
 -- ---- mutating queries
 
--- no reason of a single change is one of a mutating query
-none_single : (limit : ℕ) (graph : Graph) (reading : Option Query) (mutation : Mutation) → NoReason change_reasons limit graph (commands.Mutate reading mutation)
-none_single limit graph reading mutation = (λ o h. h, (λ o h. h, (λ o h. h, (λ o h. h, (λ o h. h, (λ o h. h, (λ o h. h, (λ o h. h, (λ o h. h, (λ o h. h, (λ o h. h, (λ o h. h, (λ o h. h, (λ o h. h, (λ o h. h, (λ o h. h, tt))))))))))))))))
+-- the graph has the index that the query begins with
+abbrev pub HasIndexOf : Graph → Option Query → Type 0
+HasIndexOf graph reading = (why : Refusal) → ¬ lacks_index (index_of_reading reading) graph why
 
-pub mutation_free : (limit : ℕ) (graph : Graph) (reading : Option Query) (mutation : Mutation) → ((why : Refusal) → ¬ RefusesEach limit graph (asked_changes graph reading mutation) why) → NoReason line_reasons limit graph (commands.Mutate reading mutation)
-mutation_free limit graph reading mutation free = none_both change_reasons (first_refused ∷ []) limit graph (commands.Mutate reading mutation) (none_single limit graph reading mutation) (free, tt)
+-- No reason of a single change is one of a mutating query, but that it asks of an index that isn't there.
+none_single : (limit : ℕ) (graph : Graph) (reading : Option Query) (mutation : Mutation) → HasIndexOf graph reading → NoReason change_reasons limit graph (commands.Mutate reading mutation)
+none_single limit graph reading mutation there = (λ o h. h, (λ o h. h, (λ o h. h, (λ o h. h, (λ o h. h, (λ o h. h, (λ o h. h, (λ o h. h, (λ o h. h, (there, (λ o h. h, (λ o h. h, (λ o h. h, (λ o h. h, (λ o h. h, (λ o h. h, tt))))))))))))))))
 
-pub mutation_first : (limit : ℕ) (graph : Graph) (reading : Option Query) (mutation : Mutation) (why : Refusal) → RefusesEach limit graph (asked_changes graph reading mutation) why → FirstReason line_reasons limit graph (commands.Mutate reading mutation) why
-mutation_first limit graph reading mutation why refused = first_after change_reasons (first_refused ∷ []) limit graph (commands.Mutate reading mutation) why (none_single limit graph reading mutation) (inl refused)
+pub mutation_free : (limit : ℕ) (graph : Graph) (reading : Option Query) (mutation : Mutation) → HasIndexOf graph reading → ((why : Refusal) → ¬ RefusesEach limit graph (asked_changes graph reading mutation) why) → NoReason line_reasons limit graph (commands.Mutate reading mutation)
+mutation_free limit graph reading mutation there free = none_both change_reasons (first_refused ∷ []) limit graph (commands.Mutate reading mutation) (none_single limit graph reading mutation there) (free, tt)
+
+pub mutation_first : (limit : ℕ) (graph : Graph) (reading : Option Query) (mutation : Mutation) (why : Refusal) → HasIndexOf graph reading → RefusesEach limit graph (asked_changes graph reading mutation) why → FirstReason line_reasons limit graph (commands.Mutate reading mutation) why
+mutation_first limit graph reading mutation why there refused = first_after change_reasons (first_refused ∷ []) limit graph (commands.Mutate reading mutation) why (none_single limit graph reading mutation there) (inl refused)
+
+-- An index that the query begins with and that isn't there refuses it.
+pub mutation_unindexed : (limit : ℕ) (graph : Graph) (reading : Option Query) (mutation : Mutation) (why : Refusal) → lacks_index (index_of_reading reading) graph why → FirstReason line_reasons limit graph (commands.Mutate reading mutation) why
+mutation_unindexed limit graph reading mutation why lacks =
+    first_front change_reasons (first_refused ∷ []) limit graph (commands.Mutate reading mutation) why
+    (inr (λ _ h. h, inr (λ _ h. h, inr (λ _ h. h, inr (λ _ h. h, inr (λ _ h. h, inr (λ _ h. h, inr (λ _ h. h, inr (λ _ h. h, inr (λ _ h. h, inl lacks))))))))))

@@ -10,9 +10,10 @@ use Rattle.plain_graph.specs.declared.command.Target.TheVariants as targets
 use Rattle.plain_graph.specs.declared.item.Item.TheVariants as items
 use Rattle.plain_graph.specs.declared.mutation.Mutation.TheVariants as mutations
 use Rattle.plain_graph.specs.declared.query.Query.{Query}
+use Rattle.plain_graph.specs.declared.query.Source.TheVariants as sources
 use Rattle.plain_graph.specs.declared.refusal.Refusal.TheVariants as refusals
 use Rattle.plain_graph.specs.declared.value.Value.TheVariants as values
-use Rattle.std.specs.Prelude.{Option, Some}
+use Rattle.std.specs.Prelude.{Option, None, Some}
 
 -- two nodes, the second with a loop
 abbrev two_nodes : Graph
@@ -33,7 +34,7 @@ one_node = record {
 
 -- all nodes are read
 abbrev all_nodes : Option Query
-all_nodes = Some (record { edges = false; ids = []; steps = [] })
+all_nodes = Some (record { source = sources.Vertices []; steps = []; maps = None })
 
 -- `g.V().drop()`: each node once
 drop_asks : asked_changes two_nodes all_nodes mutations.Drop ≡ commands.Delete (targets.Node 0) ∷ commands.Delete (targets.Node 1) ∷ []

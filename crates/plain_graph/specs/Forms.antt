@@ -1,5 +1,5 @@
 -- The forms that names, values and pairs have in a store.
-use Rattle.std.specs.Prelude.{◌≤◌, ℕ, Option, Some, None, List, [], ◌∷◌, length}
+use Rattle.std.specs.Prelude.{◌≤◌, ℕ, Option, Some, None, List, [], ◌∷◌, All, length}
 use Rattle.std.specs.Int.RustNames.{FitsSigned}
 use mir.Syntax.{w64}
 use Rattle.plain_graph.specs.Names.{IsShortName}
@@ -22,6 +22,10 @@ abbrev pub IsShown : Item → Type 0
 IsShown (items.Vertex id) = Unit {0}
 IsShown (items.Edge id label from to) = length label ≤ 48
 IsShown (items.Value value) = IsKept value
+
+-- a value that is shown, and those of pairs beside it, are ones that a store may keep
+abbrev pub HasKept : Item → List Pair → Type 0
+HasKept item pairs = IsShown item × All (λ (pair : Pair). IsKept pair.value) pairs
 
 -- keys are names, and values ones that a store may keep
 abbrev pub ArePairs : List Pair → Type 0

@@ -12,6 +12,7 @@ use Rattle.plain_graph.specs.declared.command.Target.TheVariants as targets
 use Rattle.plain_graph.specs.declared.filter.Filter.TheVariants as filters
 use Rattle.plain_graph.specs.declared.filter.Relation.TheVariants as relations
 use Rattle.plain_graph.specs.declared.query.Query.{Query}
+use Rattle.plain_graph.specs.declared.query.Source.TheVariants as sources
 use Rattle.plain_graph.specs.declared.query.Step.TheVariants as steps
 use Rattle.plain_graph.specs.declared.value.Value.{Value}
 
@@ -88,10 +89,10 @@ entry_count graph label properties =
 -- the query that reads all nodes, and gives those of the label whose key has the value
 abbrev pub scan : List ℕ → List ℕ → Value → Query
 scan label key value = record {
-  edges = false;
-  ids = [];
+  source = sources.Vertices [];
   steps = steps.Filter (filters.HasLabel (label ∷ []))
       ∷ steps.Filter (filters.HasValue key relations.Eq value) ∷ [];
+  maps = None;
 }
 
 -- ---- what a change of properties weighs for the indexes

@@ -1,6 +1,7 @@
 pub mod Adjacency
 pub mod Changes
 pub mod Counts
+pub mod ElementMaps
 pub mod Forms
 pub mod Graph
 pub mod Indexes

@@ -1,25 +1,34 @@
--- The table of lines: of each its kind, the form of its names and values, the nodes that it asks
--- of, what it shows of a graph, and the form of its answer over any files.
+-- The table of lines: of each its kind, the form of its names and values, the elements and the
+-- index that it asks of, what it shows of a graph, and the form of its answer over any files.
 use Rattle.std.specs.Prelude.{◌≡◌, ◌⊎◌, ℕ, Bool, false, Option, Some, None, List, [], ◌∷◌, ◌++◌}
-use Rattle.std.specs.Prelude.{codes, decimal, length, map}
+use Rattle.std.specs.Prelude.{codes, decimal, find, length, map, nat_eq}
+use Rattle.std.specs.Option.{option_map}
 use Rattle.plain_graph.specs.Adjacency.{adjacency_in}
 use Rattle.plain_graph.specs.Counts.{counts_of}
 use Rattle.plain_graph.specs.Forms.{ArePairs, HasMutationForm, IsKept, IsMaybeName}
-use Rattle.plain_graph.specs.Graph.{Graph}
+use Rattle.plain_graph.specs.ElementMaps.{element_map, making_text, map_line, shown_line}
+use Rattle.plain_graph.specs.Graph.{Graph, Index, edge_number, node_number}
 use Rattle.plain_graph.specs.Indexes.{scan}
 use Rattle.plain_graph.specs.Kinds.{AreQuestions, Blanks, Bound, Change, Ending, Kind, Question}
 use Rattle.plain_graph.specs.Kinds.{Sight, Upkeep}
-use Rattle.plain_graph.specs.Meaning.{edge_item, edges_at, has_past_count, meaning}
+use Rattle.plain_graph.specs.Meaning.{edge_item, edges_at, has_past_count, meaning, vertex_of}
 use Rattle.plain_graph.specs.Names.{IsShortName}
 use Rattle.plain_graph.specs.Reached.{IsAnswer, IsLeastOrNone}
-use Rattle.plain_graph.specs.Reply.{end_text, file_name, item_line}
+use Rattle.plain_graph.specs.Reply.{end_text, file_name, index_line, item_line}
 use Rattle.plain_graph.specs.declared.command.Command.{Command}
 use Rattle.plain_graph.specs.declared.command.Command.TheVariants as commands
+use Rattle.plain_graph.specs.declared.command.Target.{Target}
+use Rattle.plain_graph.specs.declared.command.Target.TheVariants as targets
 use Rattle.plain_graph.specs.declared.counts.Counts.{Counts}
 use Rattle.plain_graph.specs.declared.direction.Direction.{Direction}
+use Rattle.plain_graph.specs.declared.element_map.ElementMap.{ElementMap}
 use Rattle.plain_graph.specs.declared.item.Item.{Item}
 use Rattle.plain_graph.specs.declared.item.Item.TheVariants as items
 use Rattle.plain_graph.specs.declared.node_level.NodeLevel.{NodeLevel}
+use Rattle.plain_graph.specs.declared.query.Query.{Query}
+use Rattle.plain_graph.specs.declared.query.Source.{Source}
+use Rattle.plain_graph.specs.declared.query.Source.TheVariants as sources
+use Rattle.plain_graph.specs.declared.value.Value.TheVariants as values
 
 -- ---- what an answer is
 
@@ -99,12 +108,40 @@ abbrev pub IsFound : Graph → ℕ → ℕ → Direction → Option (List ℕ) �
 IsFound graph from to direction label walk levels =
     IsAnswer (adjacency_in graph direction (types_of label)) from to walk levels
 
--- The nodes that a question asks of, and is refused without: none, one, or two, of which the first
--- counts first.
-pub data Nodes : Type 0 where
-  Nowhere : Nodes
-  At : (id : ℕ) → Nodes
-  Between : (from to : ℕ) → Nodes
+-- The elements that a question asks of, and is refused without: none, a node, two nodes, of which
+-- the first counts first, or an edge.
+pub data Asked : Type 0 where
+  Nowhere : Asked
+  At : (id : ℕ) → Asked
+  Between : (from to : ℕ) → Asked
+  AtEdge : (id : ℕ) → Asked
+
+-- the names of a graph, each as a value
+abbrev pub name_items : Graph → List Item
+name_items graph = map (λ (name : List ℕ). items.Value (values.Text name)) graph.names
+
+-- the element of the graph that a line names, as a result
+abbrev pub item_at : Graph → Target → Option Item
+item_at graph (targets.Node id) =
+    option_map vertex_of (find (λ node. nat_eq (node_number node) id) graph.nodes)
+item_at graph (targets.Edge id) =
+    option_map edge_item (find (λ edge. nat_eq (edge_number edge) id) graph.edges)
+
+-- the lines of a query's results over any files: as they are, or as maps
+abbrev pub AreResults : Option (List (List ℕ)) → List (List ℕ) → Type 0
+AreResults None lines = (results : List Item) × (lines ≡ map item_line results)
+AreResults (Some keys) lines = (rows : List (Item × ElementMap)) × (lines ≡ map map_line rows)
+
+-- the index that a query begins with
+abbrev pub index_of_source : Source → Option Index
+index_of_source (sources.Vertices ids) = None
+index_of_source (sources.Edges ids) = None
+index_of_source (sources.Found label key value) = Some (record { label = label; key = key })
+
+-- the same where there is a query
+abbrev pub index_of_reading : Option Query → Option Index
+index_of_reading None = None
+index_of_reading (Some query) = index_of_source query.source
 
 -- ---- the table
 
@@ -133,6 +170,9 @@ kind_of (commands.Degree id direction label) = Question
 kind_of (commands.Path from to direction label) = Question
 kind_of (commands.Levels from to direction label) = Question
 kind_of (commands.Find label key value) = Question
+kind_of (commands.View target) = Question
+kind_of commands.ViewNames = Question
+kind_of commands.ViewIndexes = Question
 kind_of (commands.Query query) = Question
 
 -- labels, types and keys of the command are names, and its values ones that a store may keep
@@ -150,13 +190,22 @@ HasForm (commands.Levels from to direction label) = IsMaybeName label
 HasForm (commands.Mutate reading mutation) = HasMutationForm mutation
 HasForm _ = Unit {0}
 
--- the nodes that a question asks of
-abbrev pub nodes_of : Command → Nodes
-nodes_of (commands.Expand id direction label) = At id
-nodes_of (commands.Degree id direction label) = At id
-nodes_of (commands.Path from to direction label) = Between from to
-nodes_of (commands.Levels from to direction label) = Between from to
-nodes_of _ = Nowhere
+-- the elements that a question asks of
+abbrev pub asked_of : Command → Asked
+asked_of (commands.Expand id direction label) = At id
+asked_of (commands.Degree id direction label) = At id
+asked_of (commands.Path from to direction label) = Between from to
+asked_of (commands.Levels from to direction label) = Between from to
+asked_of (commands.View (targets.Node id)) = At id
+asked_of (commands.View (targets.Edge id)) = AtEdge id
+asked_of _ = Nowhere
+
+-- the index that a line asks of, and is refused without
+abbrev pub index_of : Command → Option Index
+index_of (commands.Find label key value) = Some (record { label = label; key = key })
+index_of (commands.Query query) = index_of_source query.source
+index_of (commands.Mutate reading mutation) = index_of_reading reading
+index_of _ = None
 
 -- The line asks for this reading of the graph. Other lines ask for none.
 abbrev pub Shows : Graph → Command → Reading → Type 0
@@ -175,10 +224,17 @@ Shows graph (commands.Levels from to direction label) reading =
     × (reading ≡ listed (map level_text levels))
 Shows graph (commands.Find label key value) reading =
     reading ≡ listed (map item_line (meaning graph (scan label key value)))
+Shows graph (commands.View target) reading =
+    (item : Item) × (item_at graph target ≡ Some item)
+    × (reading ≡ one_line (making_text item (element_map graph [] item)))
+Shows graph commands.ViewNames reading = reading ≡ listed (map item_line (name_items graph))
+Shows graph commands.ViewIndexes reading =
+    reading
+    ≡ listed (map (λ (index : Index). index_line index.label index.key) graph.indexes)
 Shows graph (commands.Query query) reading =
     reading
     ≡ record {
-      lines = map item_line (meaning graph query);
+      lines = map (shown_line graph query.maps) (meaning graph query);
       last = end_text;
       is_past = has_past_count graph query;
     }
@@ -201,9 +257,19 @@ IsFormed (commands.Levels from to direction label) reading =
 IsFormed (commands.Find label key value) reading =
     (nodes : List ℕ)
     × (reading ≡ listed (map (λ (id : ℕ). item_line (items.Vertex id)) nodes))
+IsFormed (commands.View target) reading =
+    (item : Item) × (element : ElementMap) × (reading ≡ one_line (making_text item element))
+IsFormed commands.ViewNames reading =
+    (names : List (List ℕ))
+    × (reading
+    ≡ listed (map (λ (name : List ℕ). item_line (items.Value (values.Text name))) names))
+IsFormed commands.ViewIndexes reading =
+    (indexes : List Index)
+    × (reading
+    ≡ listed (map (λ (index : Index). index_line index.label index.key) indexes))
 IsFormed (commands.Query query) reading =
-    (results : List Item) × (is_past : Bool)
-    × (reading ≡ record { lines = map item_line results; last = end_text; is_past = is_past })
+    (lines : List (List ℕ)) × AreResults query.maps lines × (is_past : Bool)
+    × (reading ≡ record { lines = lines; last = end_text; is_past = is_past })
 IsFormed _ reading = ⊥
 
 -- the line asks for what is read of the graph

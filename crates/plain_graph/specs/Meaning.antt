@@ -15,12 +15,15 @@ use Rattle.plain_graph.specs.declared.direction.Direction.{Direction}
 use Rattle.plain_graph.specs.declared.direction.Direction.TheVariants as directions
 use Rattle.plain_graph.specs.declared.filter.Filter.{Filter}
 use Rattle.plain_graph.specs.declared.filter.Filter.TheVariants as filters
+use Rattle.plain_graph.specs.declared.filter.Relation.TheVariants as relations
 use Rattle.plain_graph.specs.declared.item.Item.{Item}
 use Rattle.plain_graph.specs.declared.item.Item.TheVariants as items
 use Rattle.plain_graph.specs.declared.query.BodyStep.{BodyStep}
 use Rattle.plain_graph.specs.declared.query.BodyStep.TheVariants as bodies
 use Rattle.plain_graph.specs.declared.query.Hop.{Hop}
 use Rattle.plain_graph.specs.declared.query.Query.{Query}
+use Rattle.plain_graph.specs.declared.query.Source.{Source}
+use Rattle.plain_graph.specs.declared.query.Source.TheVariants as sources
 use Rattle.plain_graph.specs.declared.query.Step.{Step}
 use Rattle.plain_graph.specs.declared.query.Step.TheVariants as steps
 use Rattle.plain_graph.specs.declared.value.Value.{Value}
@@ -233,15 +236,25 @@ abbrev pub is_asked : List ℕ → ℕ → Bool
 is_asked [] id = true
 is_asked (first ∷ ids) id = list_any (nat_eq id) (first ∷ ids)
 
--- all vertices or all edges, or those of the identifiers that are written, by ascending identifier
-abbrev pub source_of : Graph → Bool → List ℕ → List Item
-source_of graph false ids =
+abbrev pub vertices_in : Graph → List ℕ → List Item
+vertices_in graph ids =
     map vertex_of (filter (λ (node : Node). is_asked ids node.id) graph.nodes)
-source_of graph true ids =
+
+abbrev pub edges_in : Graph → List ℕ → List Item
+edges_in graph ids =
     map edge_item (filter (λ (edge : Edge). is_asked ids edge.id) graph.edges)
 
+-- all vertices or all edges, or those of the identifiers that are written, or those of a label
+-- whose key has a value, by ascending identifier
+abbrev pub source_of : Graph → Source → List Item
+source_of graph (sources.Vertices ids) = vertices_in graph ids
+source_of graph (sources.Edges ids) = edges_in graph ids
+source_of graph (sources.Found label key value) =
+    filter (passes graph (filters.HasValue key relations.Eq value))
+    (filter (passes graph (filters.HasLabel (label ∷ []))) (vertices_in graph []))
+
 abbrev pub meaning : Graph → Query → List Item
-meaning graph query = after_steps graph query.steps (source_of graph query.edges query.ids)
+meaning graph query = after_steps graph query.steps (source_of graph query.source)
 
 -- ---- counts
 
@@ -269,4 +282,4 @@ counts_past_in graph (step ∷ later) before =
 
 abbrev pub has_past_count : Graph → Query → Bool
 has_past_count graph query =
-    counts_past_in graph query.steps (source_of graph query.edges query.ids)
+    counts_past_in graph query.steps (source_of graph query.source)

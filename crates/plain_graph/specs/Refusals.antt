@@ -1,12 +1,12 @@
 -- Why the graph refuses a line: reasons in the order in which they count.
-use Rattle.std.specs.Prelude.{◌≡◌, ◌≢◌, ◌⊎◌, ℕ, ◌+◌, ◌*◌, ◌<◌, ◌≤◌, false, true, List}
+use Rattle.std.specs.Prelude.{◌≡◌, ◌≢◌, ◌⊎◌, ℕ, ◌+◌, ◌*◌, ◌<◌, ◌≤◌, false, true, Option, None, Some, List}
 use Rattle.std.specs.Prelude.{[], ◌∷◌, length}
 use Rattle.std.specs.FinMap as maps
-use Rattle.plain_graph.specs.Graph.{Graph, UsesNames, block_count, degree_in, has_edge, has_node}
+use Rattle.plain_graph.specs.Graph.{Graph, Index, UsesNames, block_count, degree_in, has_edge, has_node}
 use Rattle.plain_graph.specs.Graph.{properties_at, property_count, with_value}
 use Rattle.plain_graph.specs.Indexes.{entry_count, has_index, index_records, indexed_count}
 use Rattle.plain_graph.specs.Indexes.{most_indexed, most_indexes}
-use Rattle.plain_graph.specs.Lines.{At, Between, Nodes, nodes_of}
+use Rattle.plain_graph.specs.Lines.{Asked, At, AtEdge, Between, asked_of, index_of}
 use Rattle.plain_graph.specs.Properties.{Properties, blocks_in, keys_in, no_properties, with_pairs}
 use Rattle.plain_graph.specs.declared.command.Command.{Command}
 use Rattle.plain_graph.specs.declared.command.Command.TheVariants as commands
@@ -37,27 +37,27 @@ abbrev pub lacks_node : Graph → ℕ → Refusal → Type 0
 lacks_node graph id why = (has_node graph id ≡ false) × (why ≡ refusals.NoNode id)
 
 -- no node has the identifier of the first of two nodes, of the second, or of the only one
-abbrev pub lacks_source : Nodes → Graph → Refusal → Type 0
+abbrev pub lacks_source : Asked → Graph → Refusal → Type 0
 lacks_source (Between from to) graph why = lacks_node graph from why
 lacks_source _ graph why = ⊥
 
-abbrev pub lacks_target : Nodes → Graph → Refusal → Type 0
+abbrev pub lacks_target : Asked → Graph → Refusal → Type 0
 lacks_target (Between from to) graph why = lacks_node graph to why
 lacks_target _ graph why = ⊥
 
-abbrev pub lacks_only : Nodes → Graph → Refusal → Type 0
+abbrev pub lacks_only : Asked → Graph → Refusal → Type 0
 lacks_only (At id) graph why = lacks_node graph id why
 lacks_only _ graph why = ⊥
 
 -- no node has the identifier that the new edge, or a walk, is to leave
 abbrev pub no_source : Reason
 no_source limit graph (commands.Edge from label to pairs) why = lacks_node graph from why
-no_source limit graph command why = lacks_source (nodes_of command) graph why
+no_source limit graph command why = lacks_source (asked_of command) graph why
 
 -- no node has the identifier that it is to come to
 abbrev pub no_target : Reason
 no_target limit graph (commands.Edge from label to pairs) why = lacks_node graph to why
-no_target limit graph command why = lacks_target (nodes_of command) graph why
+no_target limit graph command why = lacks_target (asked_of command) graph why
 
 -- an edge more would be more than the limit
 abbrev pub edges_full : Reason
@@ -70,17 +70,22 @@ abbrev pub no_node : Reason
 no_node limit graph (commands.Set (targets.Node id) key value) why = lacks_node graph id why
 no_node limit graph (commands.Unset (targets.Node id) key) why = lacks_node graph id why
 no_node limit graph (commands.Delete (targets.Node id)) why = lacks_node graph id why
-no_node limit graph command why = lacks_only (nodes_of command) graph why
+no_node limit graph command why = lacks_only (asked_of command) graph why
 
 -- no edge has the identifier
 abbrev pub lacks_edge : Graph → ℕ → Refusal → Type 0
 lacks_edge graph id why = (has_edge graph id ≡ false) × (why ≡ refusals.NoEdge id)
 
+-- no edge has the identifier of the only one that is asked of
+abbrev pub lacks_only_edge : Asked → Graph → Refusal → Type 0
+lacks_only_edge (AtEdge id) graph why = lacks_edge graph id why
+lacks_only_edge _ graph why = ⊥
+
 abbrev pub no_edge : Reason
 no_edge limit graph (commands.Set (targets.Edge id) key value) why = lacks_edge graph id why
 no_edge limit graph (commands.Unset (targets.Edge id) key) why = lacks_edge graph id why
 no_edge limit graph (commands.Delete (targets.Edge id)) why = lacks_edge graph id why
-no_edge limit graph _ why = ⊥
+no_edge limit graph command why = lacks_only_edge (asked_of command) graph why
 
 -- edges are at the node
 abbrev pub has_relationships : Reason
@@ -180,13 +185,16 @@ index_full limit graph (commands.Set (targets.Node id) key value) why =
     refusals.FullIndex why
 index_full limit graph _ why = ⊥
 
--- the label and the key have no index
-abbrev pub no_index : Reason
-no_index limit graph (commands.Find label key value) why =
-    (has_index graph label key ≡ false) × (why ≡ refusals.NoIndex)
-no_index limit graph _ why = ⊥
+-- the label and the key that are asked of have no index
+abbrev pub lacks_index : Option Index → Graph → Refusal → Type 0
+lacks_index None graph why = ⊥
+lacks_index (Some index) graph why =
+    (has_index graph index.label index.key ≡ false) × (why ≡ refusals.NoIndex)
 
--- the reasons of changes, and of lines that name nodes or an index, in the order in which they
+abbrev pub no_index : Reason
+no_index limit graph command why = lacks_index (index_of command) graph why
+
+-- the reasons of changes, and of lines that name elements or an index, in the order in which they
 -- count
 abbrev pub change_reasons : List Reason
 change_reasons =

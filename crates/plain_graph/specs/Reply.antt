@@ -49,6 +49,11 @@ value_text (values.Int number) = signed_decimal number
 value_text (values.Bool truth) = if truth then codes "true" else codes "false"
 value_text (values.Text text) = codes "'" ++ flat_map escaped text ++ codes "'"
 
+-- an index of the graph, by its label and its key
+abbrev pub index_line : List ℕ → List ℕ → List ℕ
+index_line label key =
+    codes "==>" ++ value_text (values.Text label) ++ codes " " ++ value_text (values.Text key)
+
 abbrev pub edge_text : ℕ → List ℕ → ℕ → ℕ → List ℕ
 edge_text id label from to =
     codes "e[" ++ decimal id ++ codes "][" ++ decimal from ++ codes "-" ++ label ++ codes "->"

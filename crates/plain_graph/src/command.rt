@@ -96,6 +96,12 @@ pub enum Command {
         direction: Direction,
         label: Option<Text>,
     },
+    /// An element, as the line that makes it again.
+    View(Target),
+    /// The names of the graph.
+    ViewNames,
+    /// The indexes of the graph.
+    ViewIndexes,
     /// The results of a query.
     Query(Query),
     /// Changes of what a query gives, one after the other; of none for a new node.

@@ -7,6 +7,7 @@ mod byte_buffer;
 mod command;
 mod counts;
 mod direction;
+mod element_map;
 mod filter;
 mod item;
 mod limits;
@@ -25,6 +26,7 @@ pub use byte_buffer::ByteBuffer;
 pub use command::{Command, Target};
 pub use counts::Counts;
 pub use direction::Direction;
+pub use element_map::{ElementMap, making_line, map_line};
 pub use filter::{Filter, Relation};
 pub use item::Item;
 pub use limits::{MOST_WEIGHT, NAME_BYTES, START_WEIGHT, TEXT_BYTES};
@@ -32,12 +34,12 @@ pub use mutation::Mutation;
 pub use name::{is_name_byte, is_name_start, is_short_name};
 pub use node_level::NodeLevel;
 pub use pairs::{Pair, Pairs};
-pub use query::{Body, BodyStep, Hop, Ids, Query, Step, StepList};
+pub use query::{Body, BodyStep, Hop, Ids, Query, Source, Step, StepList};
 pub use refusal::Refusal;
 pub use reply::{
     Mark, ResultLine, ShortText, broken, configuration, counted, damaged, degree, disk_fault, done,
-    edge_made, end_of_results, level_line, mark_of, no_memory, no_path, node_made, not_a_store,
-    past_count, path, refused, result_line, sound,
+    edge_made, end_of_results, index_line, level_line, mark_of, name_line, no_memory, no_path,
+    node_made, not_a_store, past_count, path, refused, result_line, sound,
 };
 pub use text::Text;
 pub use texts::Texts;

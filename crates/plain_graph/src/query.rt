@@ -1,6 +1,6 @@
 ghost use Rattle.std.specs.Prelude.{◌≡◌};
 
-use crate::{Direction, Filter, Text, Texts};
+use crate::{Direction, Filter, Text, Texts, Value};
 use std::marker::Model;
 
 /// Edges in a direction, of one of these types, or of any where none is named.
@@ -142,13 +142,28 @@ impl Ids {
     }
 }
 
-/// All vertices or all edges, or those of some identifiers, and the steps done with them.
+/// What a query begins with.
+#[derive(Drop)]
+pub enum Source {
+    /// The vertices of these identifiers; all where none is written.
+    Vertices(Ids),
+    /// The edges of these identifiers; all where none is written.
+    Edges(Ids),
+    /// The nodes of a label whose key has a value, by their index.
+    Found {
+        label: Text,
+        key: Text,
+        value: Value,
+    },
+}
+
+/// What a query begins with, the steps done with it, and how its results are shown.
 #[derive(Drop)]
 pub struct Query {
-    /// Whether it begins with edges.
-    pub edges: bool,
-    /// The identifiers that it begins with; all where none is written.
-    pub ids: Ids,
+    pub source: Source,
     /// The steps, the first one first.
     pub steps: StepList,
+    /// The keys of the maps by which elements are shown, as `elementMap` asks for them: all where
+    /// none is written. Where it doesn't ask, results are shown as they are.
+    pub maps: Option<Texts>,
 }

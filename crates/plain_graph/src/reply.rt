@@ -6,9 +6,11 @@ ghost use Rattle.plain_graph.specs.Reply.{DamagedRecord, DiskFailed, Done, EdgeM
 ghost use Rattle.plain_graph.specs.Reply.{NodeMade, PastCount, Refused};
 ghost use Rattle.plain_graph.specs.Reply.{configuration_text, damaged_text};
 ghost use Rattle.plain_graph.specs.Reply.{edge_text, end_text, escaped, fault_line};
-ghost use Rattle.plain_graph.specs.Reply.{file_name, mark_text};
+ghost use Rattle.plain_graph.specs.Reply.{file_name, index_line, mark_text};
 ghost use Rattle.plain_graph.specs.Reply.{reply_text, result_text, text_line};
 ghost use Rattle.plain_graph.specs.Reply.{value_text};
+ghost use Rattle.plain_graph.specs.declared.item.Item.TheVariants as items;
+ghost use Rattle.plain_graph.specs.declared.value.Value.TheVariants as values;
 ghost use Rattle.plain_graph.specs.RefusalWords.{refusal_number, refusal_rest, refusal_words};
 
 use crate::{ByteBuffer, Counts, Item, NodeLevel, Refusal, Text, Value};
@@ -272,6 +274,40 @@ pub fn result_line(item: &Item, line: &mut ResultLine)
     line.push(b"\n");
 }
 
+/// Writes the line of one name of the graph: `==>'NAME'`.
+pub fn name_line(name: &[u8], line: &mut ResultLine)
+    requires { length name.now ≤ 48 }
+    ensures { line.new ≡ result_text (items.Value (values.Text name.now)) }
+{
+    line.clear();
+    line.push(b"==>");
+    push_quoted(line, name);
+    line.push(b"\n");
+}
+
+/// Writes the line of one index of the graph: `==>'LABEL' 'KEY'`.
+pub fn index_line(label: &[u8], key: &[u8], line: &mut ResultLine)
+    requires { length label.now ≤ 48 × length key.now ≤ 48 }
+    ensures { line.new ≡ text_line (index_line label.now key.now) }
+{
+    line.clear();
+    line.push(b"==>");
+    push_quoted(line, label);
+    line.push(b" ");
+    push_quoted(line, key);
+    line.push(b"\n");
+}
+
+/// A value as a line spells it.
+pub(crate) fn value_piece(value: &Value) -> ResultLine
+    requires { IsKept value.now }
+    ensures { result ≡ value_text value.now }
+{
+    let mut piece = ResultLine::new();
+    push_value(&mut piece, value);
+    piece
+}
+
 /// Puts an edge at the end: `e[ID][FROM-TYPE->TO]`.
 fn push_edge(line: &mut ResultLine, id: u32, label: &Text, from: u32, to: u32)
     requires label { length label.now ≤ 48 }
@@ -303,12 +339,19 @@ fn push_value(line: &mut ResultLine, value: &Value)
         Value::Int(number) => line.push(digits.format(*number).as_bytes()),
         Value::Bool(true) => line.push(b"true"),
         Value::Bool(false) => line.push(b"false"),
-        Value::Text(text) => {
-            line.push(b"'");
-            push_escaped(line, text.as_bytes());
-            line.push(b"'");
-        }
+        Value::Text(text) => push_quoted(line, text.as_bytes()),
     }
+}
+
+/// Puts a text between quotes at the end.
+fn push_quoted(line: &mut ResultLine, text: &[u8])
+    requires { length line.old + 2 * length text.now + 2 ≤ 2112 }
+    ensures text { line.new ≡ line.old ++ value_text (values.Text text.now) }
+    ensures room { length line.new ≤ length line.old + 2 * length text.now + 2 }
+{
+    line.push(b"'");
+    push_escaped(line, text);
+    line.push(b"'");
 }
 
 /// Puts the bytes of a text at the end, with a backslash before some of them.
