@@ -22,6 +22,7 @@ use Rattle.gremlin_parse.specs.Arguments.{target_names, direction_named, directi
 use Rattle.gremlin_parse.specs.Lasts.{Lacks, last_parts}
 use Rattle.gremlin_parse.specs.declared.head.Head.{Head}
 use Rattle.gremlin_parse.specs.declared.head.Head.TheVariants as heads
+use Rattle.gremlin_parse.specs.declared.viewed.Viewed.TheVariants as views
 use Rattle.gremlin_parse.specs.declared.word.Word.{Word}
 use Rattle.gremlin_parse.specs.declared.word.Word.TheVariants as words
 use Rattle.gremlin_parse.proofs.Runs.{Halts}
@@ -118,6 +119,7 @@ asked_memory command is = absurd is
 asks_memory : (head : Head) (rest : List ℕ) → Asks head → (contents : Contents (production head)) (last : LastContent head) → ThenParts (parts_with (production head) contents) (LastOf head last) rest → ¬ NeedsNoMemory (command_of head contents last)
 asks_memory (heads.Alone word) rest asks contents last made = absurd asks
 asks_memory heads.Delete rest asks contents last made = absurd asks
+asks_memory heads.View rest asks contents last made = absurd asks
 asks_memory heads.Query rest asks contents command made = asked_memory command (query_is_asked command rest made)
 asks_memory head rest asks contents last made = λ none. none
 
@@ -128,6 +130,7 @@ lacks_asked head asks bytes rest some takes = lacks_memory head bytes rest (asks
 pub last_asks : (head : Head) → Lacks (last_part head) → Asks head
 last_asks (heads.Alone word) lacks = absurd lacks
 last_asks heads.Delete lacks = absurd lacks
+last_asks heads.View lacks = absurd lacks
 last_asks head lacks = tt
 
 -- ---- the parts of a command
@@ -169,11 +172,17 @@ command_parts heads.Degree contents last plain allows =
     ap (λ (name : List ℕ). (Exactly (codes "degree") ∷ Gap ∷ Number most_id contents.1.0 ∷ Gap ∷ Exactly name ∷ []) ++ name_to_end last) (named_direction contents.1.1.1.0 allows.1.1.1.0)
 command_parts heads.Path contents last plain allows = between (codes "path") contents.1.0 contents.1.1.1.0 contents.1.1.1.1.1.0 last allows.1.1.1.1.1.0
 command_parts heads.Levels contents last plain allows = between (codes "levels") contents.1.0 contents.1.1.1.0 contents.1.1.1.1.1.0 last allows.1.1.1.1.1.0
+command_parts heads.View contents (views.Element target) plain allows = refl
+command_parts heads.View contents views.Names plain allows = refl
+command_parts heads.View contents views.Indexes plain allows = refl
 command_parts heads.Query contents last plain allows = cc
 command_parts head contents last plain allows = refl
 
 pub is_command : (head : Head) (contents : Contents (production head)) (last : LastContent head) → IsPlain head → IsCommand (command_of head contents last)
 is_command (heads.Alone words.Begin) contents last plain = tt
+is_command heads.View contents (views.Element target) plain = tt
+is_command heads.View contents views.Names plain = tt
+is_command heads.View contents views.Indexes plain = tt
 is_command heads.Query contents last plain = cc
 is_command head contents last plain = tt
 
@@ -302,6 +311,9 @@ sentence_of (commands.Levels from to direction label) is = inr (record {
   last = label;
   is = ap (λ (d : Direction). commands.Levels from to d label) (sym (direction_is direction));
 })
+sentence_of (commands.View target) is = inr (record { head = heads.View; plain = refl; contents = tt; allowed = tt; last = views.Element target; is = refl })
+sentence_of commands.ViewNames is = inr (record { head = heads.View; plain = refl; contents = tt; allowed = tt; last = views.Names; is = refl })
+sentence_of commands.ViewIndexes is = inr (record { head = heads.View; plain = refl; contents = tt; allowed = tt; last = views.Indexes; is = refl })
 sentence_of (commands.Query query) is = absurd is
 sentence_of (commands.Mutate reading mutation) is = absurd is
 

@@ -7,7 +7,7 @@ use Rattle.gremlin_parse.specs.declared.stop.Stop.{Stop}
 use Rattle.gremlin_parse.specs.declared.stop.Stop.TheVariants as stops
 use Rattle.gremlin_parse.proofs.Stops.{stops_here}
 use Rattle.gremlin_parse.proofs.Symbols.{passes}
-use Rattle.gremlin_parse.proofs.Productions.{Enders, HaltsAt}
+use Rattle.gremlin_parse.proofs.Productions.{Closes, Enders, HaltsAt}
 
 -- each class of bytes
 abbrev pub every : Enders
@@ -29,3 +29,13 @@ stop_at_end Lack (b ∷ rest) (stops.Syntax left) at = (
   λ kind place bad. bad,
 )
 stop_at_end Lack rest (stops.Bad kind left) at = absurd at
+
+-- after the last symbol the line ends
+pub line_closes : Closes every IsEnd NoBad
+line_closes = record {
+  ends = end_halts;
+  bads_end = λ kind left class is rest bad. absurd bad;
+  within = λ kind place rest bad. absurd bad;
+  line = [];
+  some = refl;
+}

@@ -13,7 +13,9 @@ use Rattle.plain_graph.specs.declared.query.BodyStep.{BodyStep}
 use Rattle.plain_graph.specs.declared.query.Query.{Query}
 use Rattle.plain_graph.specs.declared.value.Value.{Value}
 use Rattle.gremlin_parse.specs.Grammar.{IsBounded}
-use Rattle.gremlin_parse.specs.Queries.{Into, OfQuery, OfBody, NamesFor, OfStep, OfHop, OfLabels, Subject, NewVertex, NewEdges, Elements, Quoted, OneName, Key, OrderKey, VertexLabel, EdgeType, PropertyKey, Place, Start, Source, FirstId, AfterId, NextId, Steps, StepName, Opens, FirstName, AfterName, AfterKey, ValueOf, RelationName, Compared, ClosesFilter, Most, Ordered, OrderedName, ByFirst, AfterOrderKey, OrderDirection, DirectionName, Quote, InQuotes, BodyFirst, BodyName, OpensBody, InBody, TimesWord, TimesOf, VertexCloses, TypeCloses, AfterType, ToWord, OpensTo, ToFirst, ToUnderscore, ToAnonymous, ToVertex, OpensId, ToId, IdCloses, ToCloses, Dropped, Changed, PropertyName, OpensProperty, AfterPropertyKey, PropertyValue, PropertyCloses, after_filter, after_names, after_quoted, after_step, changed, is_loose, mutation_of, opened, opened_body, opened_names, turn, with_pair, IsKeptQuery}
+use Rattle.gremlin_parse.specs.Queries.{Into, OfQuery, OfBody, NamesFor, OfStep, OfHop, OfLabels, Subject, NewVertex, NewEdges, Elements, Quoted, OneName, Key, OrderKey, VertexLabel, EdgeType, PairKey, Place, Start, SourceName, FirstId, AfterId, NextId, Steps, StepName, Opens, FirstName, AfterName, AfterKey, ValueOf, RelationName, Compared, ClosesFilter, Most, Ordered, OrderedName, ByFirst, AfterOrderKey, OrderDirection, DirectionName, Quote, InQuotes, BodyFirst, BodyName, OpensBody, InBody, TimesWord, TimesOf, VertexCloses, TypeCloses, AfterType, ToWord, OpensTo, ToFirst, ToUnderscore, ToAnonymous, ToVertex, OpensId, ToId, IdCloses, ToCloses, Dropped, Changed, PropertyName, OpensProperty, AfterPairKey, PairValue, PairCloses, after_filter, after_names, after_quoted, after_step, changed, is_loose, mutation_of, opened, opened_body, opened_names, turn, with_pair, IsKeptQuery, FoundLabel, Opening, OfMaps, PairFor, OfChange, OfSource, after_pair, opened_source, shown}
+use Rattle.gremlin_parse.specs.declared.source.SourceKind.{SourceKind}
+use Rattle.gremlin_parse.specs.declared.source.SourceKind.TheVariants as sources
 use Rattle.gremlin_parse.specs.declared.step_word.BodyWord.{BodyWord}
 use Rattle.gremlin_parse.specs.declared.step_word.BodyWord.TheVariants as of_body
 use Rattle.gremlin_parse.specs.declared.step_word.ChangeWord.TheVariants as changes
@@ -31,8 +33,12 @@ SubjectForm (Elements query) = Unit {0}
 abbrev ChangeForm : Subject → List Pair → Type 0
 ChangeForm subject pairs = SubjectForm subject × ArePairs pairs
 
+abbrev PairForm : PairFor → Type 0
+PairForm (OfChange subject pairs) = ChangeForm subject pairs
+PairForm (OfSource label) = Unit {0}
+
 abbrev QuotedForm : Quoted → Type 0
-QuotedForm (PropertyKey subject pairs) = ChangeForm subject pairs
+QuotedForm (PairKey purpose) = PairForm purpose
 QuotedForm _ = Unit {0}
 
 abbrev PlaceForm : Place → Type 0
@@ -54,9 +60,9 @@ PlaceForm (ToCloses query label to) = IsShortName label
 PlaceForm (Changed subject pairs) = ChangeForm subject pairs
 PlaceForm (PropertyName subject pairs) = ChangeForm subject pairs
 PlaceForm (OpensProperty subject pairs) = ChangeForm subject pairs
-PlaceForm (AfterPropertyKey subject pairs key) = ChangeForm subject pairs × IsShortName key
-PlaceForm (PropertyValue subject pairs key) = ChangeForm subject pairs × IsShortName key
-PlaceForm (PropertyCloses subject pairs) = ChangeForm subject pairs
+PlaceForm (AfterPairKey purpose key) = PairForm purpose × IsShortName key
+PlaceForm (PairValue purpose key) = PairForm purpose × IsShortName key
+PlaceForm (PairCloses purpose key value) = PairForm purpose × IsShortName key × IsKept value
 PlaceForm _ = Unit {0}
 
 -- ---- places that read
@@ -71,11 +77,13 @@ after_filter_form (OfBody query body) filter = tt
 
 after_names_form : (purpose : NamesFor) (names : List (List ℕ)) → PlaceForm (after_names purpose names)
 after_names_form (OfStep query step) names = tt
+after_names_form (OfMaps query) names = tt
 after_names_form (OfHop into direction) names = after_step_form into _
 after_names_form (OfLabels into) names = after_filter_form into _
 
 opened_names_form : (purpose : NamesFor) → PlaceForm (opened_names purpose)
 opened_names_form (OfStep query step) = tt
+opened_names_form (OfMaps query) = tt
 opened_names_form (OfHop into direction) = tt
 opened_names_form (OfLabels into) = tt
 
@@ -87,6 +95,7 @@ opened_body_form into of_body.Has = tt
 opened_form : (query : Query) (word : StepWord) → PlaceForm (opened query word)
 opened_form query (words.Names step) = opened_names_form (OfStep query step)
 opened_form query (words.Body word) = opened_body_form (OfQuery query) word
+opened_form query words.ElementMap = opened_names_form (OfMaps query)
 opened_form query (words.Change changes.AddE) = tt
 opened_form query (words.Change changes.Property) = (tt, tt)
 opened_form query (words.Change changes.Drop) = tt
@@ -100,14 +109,26 @@ after_quoted_form (Key into) name form short = tt
 after_quoted_form (OrderKey query) name form short = tt
 after_quoted_form VertexLabel name form short = short
 after_quoted_form (EdgeType query) name form short = short
-after_quoted_form (PropertyKey subject pairs) name form short = (form, short)
+after_quoted_form FoundLabel name form short = tt
+after_quoted_form (PairKey purpose) name form short = (form, short)
 
 one_pair_more : (pairs : List Pair) (key : List ℕ) (value : Value) → ArePairs pairs → IsShortName key → IsKept value → ArePairs (with_pair pairs key value)
 one_pair_more [] key value are short kept = (short, kept, tt)
 one_pair_more (pair ∷ pairs) key value are short kept = (are.0, are.1, one_pair_more pairs key value are.2 short kept)
 
+opened_source_form : (kind : SourceKind) → PlaceForm (opened_source kind)
+opened_source_form sources.Vertices = tt
+opened_source_form sources.Edges = tt
+opened_source_form sources.NewVertex = tt
+opened_source_form sources.Found = tt
+
+after_pair_form : (purpose : PairFor) (key : List ℕ) (value : Value) → PairForm purpose × IsShortName key × IsKept value → PlaceForm (after_pair purpose key value)
+after_pair_form (OfChange subject pairs) key value (form, short, kept) = (form.0, one_pair_more pairs key value form.1 short kept)
+after_pair_form (OfSource label) key value form = tt
+
 signs_form : (place : Place) → PlaceForm place → EachSign PlaceForm (turn place).signs
-signs_form Source form = (tt, (tt, tt))
+signs_form SourceName form = (tt, (tt, tt))
+signs_form (Opening kind) form = (opened_source_form kind, tt)
 signs_form (AfterId edges ids) form = (tt, (tt, tt))
 signs_form (NextId edges ids) form = tt
 signs_form (StepName query) form = tt
@@ -138,11 +159,12 @@ signs_form (ToId query label) form = tt
 signs_form (ToCloses query label to) form = ((form, tt), tt)
 signs_form (Dropped query) form = tt
 signs_form (PropertyName subject pairs) form = tt
-signs_form (PropertyValue subject pairs key) form = tt
+signs_form (PairValue purpose key) form = tt
+signs_form (PairCloses purpose key value) form = (after_pair_form purpose key value form, tt)
 signs_form place form = (form, tt)
 
 others_form : (place : Place) → PlaceForm place → EachOther IsBounded PlaceForm (turn place).other
-others_form Source form = λ content bound bytes is. tt
+others_form SourceName form = (λ content bound bytes is. tt, λ content bound bytes is. tt)
 others_form (FirstId edges) form = λ id bound bytes is. tt
 others_form (NextId edges ids) form = λ id bound bytes is. tt
 others_form (StepName query) form = λ word. tt
@@ -162,7 +184,7 @@ others_form (TimesOf query body) form = λ times bound bytes is. tt
 others_form (ToWord query label) form = λ word bound bytes is. form
 others_form (ToId query label) form = λ to bound bytes is. form
 others_form (PropertyName subject pairs) form = λ word. form
-others_form (PropertyValue subject pairs key) form = λ value bound bytes is. (form.0.0, one_pair_more pairs key value form.0.1 form.1 bound)
+others_form (PairValue purpose key) form = λ value bound bytes is. (form.0, form.1, bound)
 others_form place form = tt
 
 -- ---- the line's end
@@ -173,8 +195,8 @@ mutation_form (NewEdges query label to) pairs form = form
 mutation_form (Elements query) pairs form = form.1
 
 end_form : (place : Place) (end : Command) → PlaceForm place → (turn place).ends ≡ Some end → HasForm end
-end_form (Steps query) end form ends = let same : commands.Query query ≡ end = cc in subst HasForm same tt
-end_form (Ordered query) end form ends = let same : commands.Query query ≡ end = cc in subst HasForm same tt
+end_form (Steps query) end form ends = let same : commands.Query (shown query) ≡ end = cc in subst HasForm same tt
+end_form (Ordered query) end form ends = let same : commands.Query (shown query) ≡ end = cc in subst HasForm same tt
 end_form (Dropped query) end form ends = let same : commands.Mutate (Some query) mutations.Drop ≡ end = cc in subst HasForm same tt
 end_form (Changed subject pairs) end form ends = let same : changed subject pairs ≡ end = cc in subst HasForm same (mutation_form subject pairs form)
 end_form place end form ends = cc

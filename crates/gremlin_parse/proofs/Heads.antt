@@ -1,8 +1,7 @@
 -- Commands and queries by their first word: the table of words, and where reading stops at one and after it.
-use Rattle.std.proofs.Common.{◌≡◌, ◌≢◌, inr, ℕ, Some, Bool, true, false, not, List, [], ◌∷◌, ◌++◌, refl, sym, ap, ◌∙◌, subst}
+use Rattle.std.proofs.Common.{◌≡◌, ◌≢◌, inr, ℕ, Some, Bool, true, false, not, List, [], ◌∷◌, ◌++◌, refl, sym, ap, ◌∙◌}
 use Rattle.plain_graph.specs.Names.{is_name_byte}
 use Rattle.gremlin_parse.specs.Grammar.{is_blank}
-use Rattle.gremlin_parse.specs.Faults.{EndsRun}
 use Rattle.gremlin_parse.specs.Keywords.{Entry, InTable, lookup, TakesWord, LeavesTable, ThenWord}
 use Rattle.gremlin_parse.specs.Symbols.{Contents, ReadsAll, LeavesOne}
 use Rattle.gremlin_parse.specs.Stopping.{Bads, IsStop, StopsWith}
@@ -16,12 +15,13 @@ use Rattle.gremlin_parse.specs.declared.word.Word.TheVariants as words
 use Rattle.gremlin_parse.specs.declared.stop.Stop.{Stop}
 use Rattle.gremlin_parse.specs.declared.stop.Stop.TheVariants as stops
 use Rattle.gremlin_parse.proofs.Runs.{Halts}
-use Rattle.gremlin_parse.proofs.Tables.{IsWordTable, word_table, passes_in, lookup_in, ThenWord-after, continues_table, stops_in_table, no_word}
+use Rattle.gremlin_parse.proofs.Tables.{IsWordTable, word_table, passes_in}
 use Rattle.gremlin_parse.proofs.Words.{are_named, entry_named}
-use Rattle.gremlin_parse.proofs.Symbols.{NameByte, no_blanks, halts, first_fails, first_ends}
-use Rattle.gremlin_parse.proofs.Productions.{is_production, Closes, Goes, follows_halts, bad_follows_halts, some_line, stop_after, stop_among, stop_after_all}
+use Rattle.gremlin_parse.proofs.Symbols.{NameByte, no_blanks, halts, first_fails}
+use Rattle.gremlin_parse.proofs.Productions.{is_production, Closes, follows_halts, bad_follows_halts, some_line, stop_after, stop_among, stop_after_all}
 use Rattle.gremlin_parse.proofs.Repeats.{stop_of_second}
 use Rattle.gremlin_parse.proofs.Arguments.{spaced_is, spaced_halts}
+use Rattle.gremlin_parse.proofs.WordLines.{goes_word, starts_halts, stop_at_word}
 use Rattle.gremlin_parse.proofs.Lasts as of_kind
 
 -- ---- the table
@@ -43,15 +43,11 @@ word_starts = passes_in (λ (e : Entry Head). first_fails is_blank e.0) head_wor
 word_plain : (entry : Entry Head) → InTable entry head_words → first_fails is_at entry.0 ≡ true
 word_plain = passes_in (λ (e : Entry Head). first_fails is_at e.0) head_words refl
 
-starts_halts : (p : ℕ → Bool) → ((entry : Entry Head) → InTable entry head_words → first_fails p entry.0 ≡ true) → (After : Head → List ℕ → Type 0) → Halts p (ThenWord head_words After)
-starts_halts p starts After = λ bytes (entry, within, (prefix, rest, whole, word_is, after)).
-    subst (EndsRun p) (sym (whole ∙ ap (λ w. w ++ rest) word_is)) (first_ends p entry.0 rest (starts entry within))
-
 pub word_halts : (After : Head → List ℕ → Type 0) → Halts is_blank (ThenWord head_words After)
-word_halts After = starts_halts is_blank word_starts After
+word_halts After = starts_halts is_blank head_words word_starts After
 
 pub word_untagged : (After : Head → List ℕ → Type 0) → Halts is_at (ThenWord head_words After)
-word_untagged After = starts_halts is_at word_plain After
+word_untagged After = starts_halts is_at head_words word_plain After
 
 -- ---- what stands after each word
 
@@ -105,15 +101,6 @@ query_head head query = cc
 
 -- ---- stops at and after the first word
 
-goes_word : (head : Head) (bytes rest : List ℕ) → (takes : TakesWord head_words bytes head rest) → Goes (ThenWord head_words IsAfter) BadTail takes.0 (IsAfter head) (BadAfter head) rest
-goes_word head bytes rest (run, cut, is) =
-    let here : TakesWord head_words (run ++ rest) head rest = (run, record { bytes_are = refl; passes = cut.passes; ends = cut.ends }, is) in
-    record {
-      line = continues_table head_words head_table IsAfter after_halts bytes run rest head cut is;
-      onto = λ kind left bad. ((run, head), lookup_in head_words run head is, (run, rest, refl, refl, bad));
-      back = λ kind left bad. ThenWord-after head_words head_table (λ other. BadAfter other kind left) (bad_after_halts kind left) (run ++ rest) rest head here bad;
-    }
-
 -- Where there are bytes, they are those of a command or a query.
 stop_of_some : (Lack : Type 0) (bytes : List ℕ) (stop : Stop) → bytes ≢ [] → IsStop (ThenWord head_words IsAfter) BadTail Lack bytes stop → IsStop IsSomeTail BadTail Lack bytes stop
 stop_of_some Lack bytes stop some at =
@@ -123,20 +110,12 @@ stop_of_some Lack bytes stop some at =
     no_end [] b more end = cc
     no_end (c ∷ read) b more end = cc
 
-stop_at_word : (Lack : Type 0) (bytes : List ℕ) (stop : Stop) → StopsWith (LeavesTable head_words bytes) stop → IsStop (ThenWord head_words IsAfter) BadTail Lack bytes stop
-stop_at_word Lack bytes stops.Memory at = absurd at
-stop_at_word Lack bytes (stops.Syntax left) at = (
-  stops_in_table _ _ head_table IsAfter after_halts after_line bytes left at,
-  λ kind place bad. no_word head_words head_table (λ head. BadAfter head kind place) (bad_after_halts kind place) bytes left at bad,
-)
-stop_at_word Lack bytes (stops.Bad kind left) at = absurd at
-
 pub tail_at_word : (Lack : Type 0) (bytes : List ℕ) (stop : Stop) → bytes ≢ [] → StopsWith (LeavesTable head_words bytes) stop → IsStop IsSomeTail BadTail Lack bytes stop
-tail_at_word Lack bytes stop some at = stop_of_some Lack bytes stop some (stop_at_word Lack bytes stop at)
+tail_at_word Lack bytes stop some at = stop_of_some Lack bytes stop some (stop_at_word _ _ head_table IsAfter BadAfter after_halts bad_after_halts after_line Lack bytes stop at)
 
 pub tail_after_word : (Lack LackLeft : Type 0) (bytes rest : List ℕ) (head : Head) (stop : Stop) → bytes ≢ [] → (LackLeft → Lack) → TakesWord head_words bytes head rest → StopsAfter head LackLeft rest stop → IsStop IsSomeTail BadTail Lack bytes stop
 tail_after_word Lack LackLeft bytes rest head stop some lack takes at =
-    stop_of_some Lack bytes stop some (stop_after (ThenWord head_words IsAfter) BadTail Lack (IsAfter head) (BadAfter head) LackLeft bytes takes.0 rest stop takes.1.bytes_are lack (goes_word head bytes rest takes) at)
+    stop_of_some Lack bytes stop some (stop_after (ThenWord head_words IsAfter) BadTail Lack (IsAfter head) (BadAfter head) LackLeft bytes takes.0 rest stop takes.1.bytes_are lack (goes_word _ _ head_table IsAfter BadAfter after_halts bad_after_halts head bytes rest takes) at)
 
 -- No word of the table stands in nothing.
 pub no_word_in_nothing : (After : Head → List ℕ → Type 0) (bytes : List ℕ) → bytes ≡ [] → ¬ ThenWord head_words After bytes

@@ -12,25 +12,17 @@ use Rattle.gremlin_parse.specs.declared.bad_token.BadToken.{BadToken}
 use Rattle.gremlin_parse.specs.declared.last.LastPart.{LastPart}
 use Rattle.gremlin_parse.specs.declared.last.LastPart.TheVariants as lasts
 use Rattle.gremlin_parse.specs.declared.stop.Stop.{Stop}
+use Rattle.gremlin_parse.specs.declared.viewed.Viewed.TheVariants as views
 use Rattle.gremlin_parse.proofs.Names.{name_starts}
 use Rattle.gremlin_parse.proofs.Symbols.{no_blanks}
 use Rattle.gremlin_parse.proofs.Productions.{Closes, follows_halts, bad_follows_halts, stop_among, stop_after_all, Then-name-starts}
 use Rattle.gremlin_parse.proofs.Spelling.{ThenParts, follows_of_parts, parts_of_follows, follows_agree, then_of_bad_follows, bad_follows_of_then, no_bad_within}
 use Rattle.gremlin_parse.proofs.Repeats.{Language, bad_parts_within, stop_of_second}
 use Rattle.gremlin_parse.proofs.Pairs.{AtEnd, pairs_close, pairs_agree, no_bad_pairs, end_halts, end_no_bad, end_blanks, no_name, first_blanks, some_byte, not_at_end}
-use Rattle.gremlin_parse.proofs.Ends.{every, stop_at_end}
+use Rattle.gremlin_parse.proofs.Ends.{every, line_closes, stop_at_end}
 use Rattle.gremlin_parse.proofs.Ends as line_end
 use Rattle.gremlin_parse.proofs.QueryLaws.{queries_close, queries_agree}
-
--- after the last symbol the line ends
-line_closes : Closes every IsEnd NoBad
-line_closes = record {
-  ends = line_end.end_halts;
-  bads_end = λ kind left class is rest bad. absurd bad;
-  within = λ kind place rest bad. absurd bad;
-  line = [];
-  some = refl;
-}
+use Rattle.gremlin_parse.proofs.Views.{no_bad_views, views_agree, views_close}
 
 -- ---- nothing but blanks
 
@@ -162,6 +154,7 @@ pub last_closes : (kind : LastPart) → Closes no_blanks (SomeLast kind) (BadInL
 last_closes lasts.End = end_closes
 last_closes lasts.Pairs = pairs_close
 last_closes lasts.MaybeName = maybe_closes
+last_closes lasts.Viewed = views_close
 last_closes lasts.Query = queries_close
 
 -- The same bytes are of one content.
@@ -169,6 +162,7 @@ pub one_last : (kind : LastPart) (one two : LastContentOf kind) (rest : List ℕ
 one_last lasts.End one two rest made other = refl
 one_last lasts.Pairs one two rest made other = pairs_agree one two rest made other
 one_last lasts.MaybeName one two rest made other = maybe_agrees one two rest made other
+one_last lasts.Viewed one two rest made other = views_agree one two rest made other
 one_last lasts.Query one two rest made other = queries_agree one two rest made other
 
 -- What stands last within its bounds leaves no bad token.
@@ -176,12 +170,14 @@ pub last_no_bad : (kind : LastPart) → is_query kind ≡ false → (last : Last
 last_no_bad lasts.End plain last within token left rest made = λ (other, bad). end_no_bad token left rest bad
 last_no_bad lasts.Pairs plain pairs within token left rest made = no_bad_pairs pairs rest within made token left
 last_no_bad lasts.MaybeName plain name within token left rest made = no_bad_maybe name rest within made token left
+last_no_bad lasts.Viewed plain viewed within token left rest made = no_bad_views viewed rest within made token left
 last_no_bad lasts.Query plain last within token left rest made = cc
 
 pub some_last : (kind : LastPart) → LastContentOf kind
 some_last lasts.End = tt
 some_last lasts.Pairs = []
 some_last lasts.MaybeName = None
+some_last lasts.Viewed = views.Names
 some_last lasts.Query = commands.Blank
 
 -- What stands last, by its parts.

@@ -7,7 +7,7 @@ use Rattle.plain_graph.specs.declared.query.Query.{Query}
 use Rattle.plain_graph.specs.declared.value.Value.{Value}
 use Rattle.gremlin_parse.specs.Grammar.{most_id}
 use Rattle.gremlin_parse.specs.Keywords.{TakesWord}
-use Rattle.gremlin_parse.specs.Queries.{Subject, NewVertex, NewEdges, Elements, VertexLabel, EdgeType, PropertyKey, VertexCloses, TypeCloses, AfterType, ToWord, OpensTo, ToFirst, ToUnderscore, ToAnonymous, ToVertex, OpensId, ToId, IdCloses, ToCloses, DropCloses, Dropped, Changed, PropertyName, OpensProperty, AfterPropertyKey, PropertyValue, PropertyCloses, Quote, LeavesBoth, LeadsTo, StopsFrom, changed, is_loose, property_words, steps_before, turn, with_pair}
+use Rattle.gremlin_parse.specs.Queries.{Subject, NewVertex, NewEdges, Elements, VertexLabel, EdgeType, PairKey, VertexCloses, TypeCloses, AfterType, ToWord, OpensTo, ToFirst, ToUnderscore, ToAnonymous, ToVertex, OpensId, ToId, IdCloses, ToCloses, DropCloses, Dropped, Changed, PropertyName, OpensProperty, AfterPairKey, PairValue, PairCloses, Quote, LeavesBoth, LeadsTo, StopsFrom, changed, is_loose, property_words, steps_before, turn, with_pair, PairFor, OfChange, OfSource, after_pair}
 use Rattle.gremlin_parse.specs.Stages.{late_fault}
 use Rattle.gremlin_parse.specs.Stopping.{StopsWith}
 use Rattle.gremlin_parse.specs.Symbols.{AnyBlanks, AnyNumber, AnyValue, Sign, Reads, ReadsToken, ReadsId, Leaves}
@@ -23,43 +23,45 @@ use Rattle.gremlin_parse.proofs.RepeatReads.{read_in_time}
 
 -- ---- a property: its key and its value
 
-property_key_leads : (subject : Subject) (pairs : List Pair) (key bytes at_comma : List ℕ) → NameReads key bytes at_comma → LeadsTo (Quote (PropertyKey subject pairs)) bytes (AfterPropertyKey subject pairs key) at_comma
-property_key_leads subject pairs key bytes at_comma reads = reads (Quote (PropertyKey subject pairs)) (PropertyKey subject pairs) (quotes_at (PropertyKey subject pairs) bytes)
+after_pair_loose : (purpose : PairFor) (key : List ℕ) (value : Value) → is_loose (after_pair purpose key value) ≡ true
+after_pair_loose (OfChange subject pairs) key value = refl
+after_pair_loose (OfSource label) key value = refl
 
-to_property_value : (subject : Subject) (pairs : List Pair) (key bytes at_comma at_value : List ℕ) → NameReads key bytes at_comma → ReadsToken (44 ∷ []) at_comma at_value → LeadsTo (Quote (PropertyKey subject pairs)) bytes (PropertyValue subject pairs key) at_value
-to_property_value subject pairs key bytes at_comma at_value reads comma =
-    on (Quote (PropertyKey subject pairs)) bytes (AfterPropertyKey subject pairs key) at_comma (PropertyValue subject pairs key) at_value (property_key_leads subject pairs key bytes at_comma reads) (token_leads (AfterPropertyKey subject pairs key) 44 (PropertyValue subject pairs key) at_comma at_value refl refl comma)
+pair_key_leads : (purpose : PairFor) (key bytes at_comma : List ℕ) → NameReads key bytes at_comma → LeadsTo (Quote (PairKey purpose)) bytes (AfterPairKey purpose key) at_comma
+pair_key_leads purpose key bytes at_comma reads = reads (Quote (PairKey purpose)) (PairKey purpose) (quotes_at (PairKey purpose) bytes)
 
-property_value_leads : (subject : Subject) (pairs : List Pair) (key : List ℕ) (value : Value) (bytes middle rest : List ℕ) → Reads AnyValue value bytes middle → Reads AnyBlanks tt middle rest → LeadsTo (PropertyValue subject pairs key) bytes (PropertyCloses subject (with_pair pairs key value)) rest
-property_value_leads subject pairs key value bytes middle rest reads blanks =
-    reaches_next turn is_loose are some (PropertyValue subject pairs key) bytes (PropertyCloses subject (with_pair pairs key value)) middle rest
+to_pair_value : (purpose : PairFor) (key bytes at_comma at_value : List ℕ) → NameReads key bytes at_comma → ReadsToken (44 ∷ []) at_comma at_value → LeadsTo (Quote (PairKey purpose)) bytes (PairValue purpose key) at_value
+to_pair_value purpose key bytes at_comma at_value reads comma =
+    on (Quote (PairKey purpose)) bytes (AfterPairKey purpose key) at_comma (PairValue purpose key) at_value (pair_key_leads purpose key bytes at_comma reads) (token_leads (AfterPairKey purpose key) 44 (PairValue purpose key) at_comma at_value refl refl comma)
+
+pair_value_leads : (purpose : PairFor) (key : List ℕ) (value : Value) (bytes middle rest : List ℕ) → Reads AnyValue value bytes middle → Reads AnyBlanks tt middle rest → LeadsTo (PairValue purpose key) bytes (PairCloses purpose key value) rest
+pair_value_leads purpose key value bytes middle rest reads blanks =
+    reaches_next turn is_loose are some (PairValue purpose key) bytes (PairCloses purpose key value) middle rest
     (record { prefix = reads.takes.prefix; bytes_are = reads.takes.bytes_are; how = inr (value, refl, tt, reads.bounded, reads.takes.is, reads.takes.ends) })
     blanks
 
-to_property_close : (subject : Subject) (pairs : List Pair) (key : List ℕ) (value : Value) (bytes at_comma at_value middle at_close : List ℕ) → NameReads key bytes at_comma → ReadsToken (44 ∷ []) at_comma at_value → Reads AnyValue value at_value middle → Reads AnyBlanks tt middle at_close → LeadsTo (Quote (PropertyKey subject pairs)) bytes (PropertyCloses subject (with_pair pairs key value)) at_close
-to_property_close subject pairs key value bytes at_comma at_value middle at_close reads comma valued blanks =
-    on (Quote (PropertyKey subject pairs)) bytes (PropertyValue subject pairs key) at_value (PropertyCloses subject (with_pair pairs key value)) at_close (to_property_value subject pairs key bytes at_comma at_value reads comma) (property_value_leads subject pairs key value at_value middle at_close valued blanks)
+to_pair_close : (purpose : PairFor) (key : List ℕ) (value : Value) (bytes at_comma at_value middle at_close : List ℕ) → NameReads key bytes at_comma → ReadsToken (44 ∷ []) at_comma at_value → Reads AnyValue value at_value middle → Reads AnyBlanks tt middle at_close → LeadsTo (Quote (PairKey purpose)) bytes (PairCloses purpose key value) at_close
+to_pair_close purpose key value bytes at_comma at_value middle at_close reads comma valued blanks =
+    on (Quote (PairKey purpose)) bytes (PairValue purpose key) at_value (PairCloses purpose key value) at_close (to_pair_value purpose key bytes at_comma at_value reads comma) (pair_value_leads purpose key value at_value middle at_close valued blanks)
 
-pub property_read : (key bytes at_comma at_value middle at_close rest : List ℕ) (value : Value) → NameReads key bytes at_comma → ReadsToken (44 ∷ []) at_comma at_value → Reads AnyValue value at_value middle → Reads AnyBlanks tt middle at_close → ReadsToken (41 ∷ []) at_close rest → (subject : Subject) (pairs : List Pair) → LeadsTo (Quote (PropertyKey subject pairs)) bytes (Changed subject (with_pair pairs key value)) rest
-property_read key bytes at_comma at_value middle at_close rest value reads comma valued blanks close subject pairs =
-    let more : List Pair = with_pair pairs key value in
-    on (Quote (PropertyKey subject pairs)) bytes (PropertyCloses subject more) at_close (Changed subject more) rest (to_property_close subject pairs key value bytes at_comma at_value middle at_close reads comma valued blanks) (token_leads (PropertyCloses subject more) 41 (Changed subject more) at_close rest refl refl close)
+pub pair_read : (key bytes at_comma at_value middle at_close rest : List ℕ) (value : Value) → NameReads key bytes at_comma → ReadsToken (44 ∷ []) at_comma at_value → Reads AnyValue value at_value middle → Reads AnyBlanks tt middle at_close → ReadsToken (41 ∷ []) at_close rest → (purpose : PairFor) → LeadsTo (Quote (PairKey purpose)) bytes (after_pair purpose key value) rest
+pair_read key bytes at_comma at_value middle at_close rest value reads comma valued blanks close purpose =
+    on (Quote (PairKey purpose)) bytes (PairCloses purpose key value) at_close (after_pair purpose key value) rest (to_pair_close purpose key value bytes at_comma at_value middle at_close reads comma valued blanks) (token_leads (PairCloses purpose key value) 41 (after_pair purpose key value) at_close rest refl (after_pair_loose purpose key value) close)
 
-pub stop_in_property_key : (bytes : List ℕ) (stop : Stop) → NameStops bytes stop → (subject : Subject) (pairs : List Pair) → StopsFrom (Quote (PropertyKey subject pairs)) bytes stop
-stop_in_property_key bytes stop at subject pairs = at (Quote (PropertyKey subject pairs)) (PropertyKey subject pairs) (quotes_at (PropertyKey subject pairs) bytes)
+pub stop_in_pair_key : (bytes : List ℕ) (stop : Stop) → NameStops bytes stop → (purpose : PairFor) → StopsFrom (Quote (PairKey purpose)) bytes stop
+stop_in_pair_key bytes stop at purpose = at (Quote (PairKey purpose)) (PairKey purpose) (quotes_at (PairKey purpose) bytes)
 
-pub stop_after_property_key : (key bytes at_comma : List ℕ) (stop : Stop) → NameReads key bytes at_comma → Leaves (Sign (44 ∷ [])) at_comma stop → (subject : Subject) (pairs : List Pair) → StopsFrom (Quote (PropertyKey subject pairs)) bytes stop
-stop_after_property_key key bytes at_comma stop reads leaves subject pairs =
-    (property_key_leads subject pairs key bytes at_comma reads).stops stop (stop_at_sign (AfterPropertyKey subject pairs key) 44 (PropertyValue subject pairs key) at_comma stop refl leaves)
+pub stop_after_pair_key : (key bytes at_comma : List ℕ) (stop : Stop) → NameReads key bytes at_comma → Leaves (Sign (44 ∷ [])) at_comma stop → (purpose : PairFor) → StopsFrom (Quote (PairKey purpose)) bytes stop
+stop_after_pair_key key bytes at_comma stop reads leaves purpose =
+    (pair_key_leads purpose key bytes at_comma reads).stops stop (stop_at_sign (AfterPairKey purpose key) 44 (PairValue purpose key) at_comma stop refl leaves)
 
-pub stop_in_property_value : (key bytes at_comma at_value : List ℕ) (stop : Stop) → NameReads key bytes at_comma → ReadsToken (44 ∷ []) at_comma at_value → Leaves AnyValue at_value stop → (subject : Subject) (pairs : List Pair) → StopsFrom (Quote (PropertyKey subject pairs)) bytes stop
-stop_in_property_value key bytes at_comma at_value stop reads comma leaves subject pairs =
-    (to_property_value subject pairs key bytes at_comma at_value reads comma).stops stop (stop_at (PropertyValue subject pairs key) at_value stop (record { no_end = λ end ends. cc; no_sign = no_signs at_value; other = leaves }))
+pub stop_in_pair_value : (key bytes at_comma at_value : List ℕ) (stop : Stop) → NameReads key bytes at_comma → ReadsToken (44 ∷ []) at_comma at_value → Leaves AnyValue at_value stop → (purpose : PairFor) → StopsFrom (Quote (PairKey purpose)) bytes stop
+stop_in_pair_value key bytes at_comma at_value stop reads comma leaves purpose =
+    (to_pair_value purpose key bytes at_comma at_value reads comma).stops stop (stop_at (PairValue purpose key) at_value stop (record { no_end = λ end ends. cc; no_sign = no_signs at_value; other = leaves }))
 
-pub stop_after_property_value : (key bytes at_comma at_value middle at_close : List ℕ) (value : Value) (stop : Stop) → NameReads key bytes at_comma → ReadsToken (44 ∷ []) at_comma at_value → Reads AnyValue value at_value middle → Reads AnyBlanks tt middle at_close → Leaves (Sign (41 ∷ [])) at_close stop → (subject : Subject) (pairs : List Pair) → StopsFrom (Quote (PropertyKey subject pairs)) bytes stop
-stop_after_property_value key bytes at_comma at_value middle at_close value stop reads comma valued blanks leaves subject pairs =
-    let more : List Pair = with_pair pairs key value in
-    (to_property_close subject pairs key value bytes at_comma at_value middle at_close reads comma valued blanks).stops stop (stop_at_sign (PropertyCloses subject more) 41 (Changed subject more) at_close stop refl leaves)
+pub stop_after_pair_value : (key bytes at_comma at_value middle at_close : List ℕ) (value : Value) (stop : Stop) → NameReads key bytes at_comma → ReadsToken (44 ∷ []) at_comma at_value → Reads AnyValue value at_value middle → Reads AnyBlanks tt middle at_close → Leaves (Sign (41 ∷ [])) at_close stop → (purpose : PairFor) → StopsFrom (Quote (PairKey purpose)) bytes stop
+stop_after_pair_value key bytes at_comma at_value middle at_close value stop reads comma valued blanks leaves purpose =
+    (to_pair_close purpose key value bytes at_comma at_value middle at_close reads comma valued blanks).stops stop (stop_at_sign (PairCloses purpose key value) 41 (after_pair purpose key value) at_close stop refl leaves)
 
 -- ---- the name of a property's step
 
@@ -80,9 +82,9 @@ to_property_opening : (before : ℕ) (bytes at_name after_name at_open : List �
 to_property_opening before bytes at_name after_name at_open word dot early takes blanks subject pairs same =
     on (Changed subject pairs) bytes (PropertyName subject pairs) at_name (OpensProperty subject pairs) at_open (property_dot_leads subject pairs bytes at_name dot) (property_word_leads before at_name after_name at_open word early takes blanks subject pairs same)
 
-pub property_name_read : (before : ℕ) (bytes at_name after_name at_open rest : List ℕ) (word : StepWord) → ReadsToken (46 ∷ []) bytes at_name → late_fault before ≡ None → TakesWord property_words at_name word after_name → Reads AnyBlanks tt after_name at_open → ReadsToken (40 ∷ []) at_open rest → (subject : Subject) (pairs : List Pair) → steps_before subject + length pairs ≡ before → LeadsTo (Changed subject pairs) bytes (Quote (PropertyKey subject pairs)) rest
+pub property_name_read : (before : ℕ) (bytes at_name after_name at_open rest : List ℕ) (word : StepWord) → ReadsToken (46 ∷ []) bytes at_name → late_fault before ≡ None → TakesWord property_words at_name word after_name → Reads AnyBlanks tt after_name at_open → ReadsToken (40 ∷ []) at_open rest → (subject : Subject) (pairs : List Pair) → steps_before subject + length pairs ≡ before → LeadsTo (Changed subject pairs) bytes (Quote (PairKey (OfChange subject pairs))) rest
 property_name_read before bytes at_name after_name at_open rest word dot early takes blanks opening subject pairs same =
-    on (Changed subject pairs) bytes (OpensProperty subject pairs) at_open (Quote (PropertyKey subject pairs)) rest (to_property_opening before bytes at_name after_name at_open word dot early takes blanks subject pairs same) (token_leads (OpensProperty subject pairs) 40 (Quote (PropertyKey subject pairs)) at_open rest refl refl opening)
+    on (Changed subject pairs) bytes (OpensProperty subject pairs) at_open (Quote (PairKey (OfChange subject pairs))) rest (to_property_opening before bytes at_name after_name at_open word dot early takes blanks subject pairs same) (token_leads (OpensProperty subject pairs) 40 (Quote (PairKey (OfChange subject pairs))) at_open rest refl refl opening)
 
 pub stop_at_property_dot : (bytes : List ℕ) (stop : Stop) → bytes ≢ [] → Leaves (Sign (46 ∷ [])) bytes stop → (subject : Subject) (pairs : List Pair) → StopsFrom (Changed subject pairs) bytes stop
 stop_at_property_dot bytes stop some_bytes leaves subject pairs =
@@ -99,7 +101,7 @@ stop_at_property_name before bytes at_name stop dot leaves subject pairs same =
 
 pub stop_at_property_opening : (before : ℕ) (bytes at_name after_name at_open : List ℕ) (word : StepWord) (stop : Stop) → ReadsToken (46 ∷ []) bytes at_name → late_fault before ≡ None → TakesWord property_words at_name word after_name → Reads AnyBlanks tt after_name at_open → Leaves (Sign (40 ∷ [])) at_open stop → (subject : Subject) (pairs : List Pair) → steps_before subject + length pairs ≡ before → StopsFrom (Changed subject pairs) bytes stop
 stop_at_property_opening before bytes at_name after_name at_open word stop dot early takes blanks leaves subject pairs same =
-    (to_property_opening before bytes at_name after_name at_open word dot early takes blanks subject pairs same).stops stop (stop_at_sign (OpensProperty subject pairs) 40 (Quote (PropertyKey subject pairs)) at_open stop refl leaves)
+    (to_property_opening before bytes at_name after_name at_open word dot early takes blanks subject pairs same).stops stop (stop_at_sign (OpensProperty subject pairs) 40 (Quote (PairKey (OfChange subject pairs))) at_open stop refl leaves)
 
 -- ---- properties to the line's end
 
@@ -114,20 +116,20 @@ no_properties before first bytes few = record { few = few; counted = refl; leads
 
 -- A step `property` leads on, whatever the properties are for.
 abbrev pub NameLeads : ℕ → List ℕ → List ℕ → Type 0
-NameLeads count bytes rest = (subject : Subject) (pairs : List Pair) → steps_before subject + length pairs ≡ count → LeadsTo (Changed subject pairs) bytes (Quote (PropertyKey subject pairs)) rest
+NameLeads count bytes rest = (subject : Subject) (pairs : List Pair) → steps_before subject + length pairs ≡ count → LeadsTo (Changed subject pairs) bytes (Quote (PairKey (OfChange subject pairs))) rest
 
 abbrev pub NamesStop : ℕ → List ℕ → Stop → Type 0
 NamesStop count bytes stop = (subject : Subject) (pairs : List Pair) → steps_before subject + length pairs ≡ count → StopsFrom (Changed subject pairs) bytes stop
 
 abbrev pub PairLeads : List ℕ → Value → List ℕ → List ℕ → Type 0
-PairLeads key value bytes rest = (subject : Subject) (pairs : List Pair) → LeadsTo (Quote (PropertyKey subject pairs)) bytes (Changed subject (with_pair pairs key value)) rest
+PairLeads key value bytes rest = (purpose : PairFor) → LeadsTo (Quote (PairKey purpose)) bytes (after_pair purpose key value) rest
 
 count_is : (before : ℕ) (first : List Pair) (bytes : List ℕ) (pairs : List Pair) (count : ℕ) (rest : List ℕ) → PropertiesSoFar before first bytes pairs count rest → (subject : Subject) → steps_before subject + length first ≡ before → steps_before subject + length pairs ≡ count
 count_is before first bytes pairs count rest so_far subject same = let counted = so_far.counted in omega (arith, same, counted)
 
-to_key : (before : ℕ) (first : List Pair) (bytes : List ℕ) (pairs : List Pair) (count : ℕ) (rest at_key : List ℕ) → PropertiesSoFar before first bytes pairs count rest → NameLeads count rest at_key → (subject : Subject) → steps_before subject + length first ≡ before → LeadsTo (Changed subject first) bytes (Quote (PropertyKey subject pairs)) at_key
+to_key : (before : ℕ) (first : List Pair) (bytes : List ℕ) (pairs : List Pair) (count : ℕ) (rest at_key : List ℕ) → PropertiesSoFar before first bytes pairs count rest → NameLeads count rest at_key → (subject : Subject) → steps_before subject + length first ≡ before → LeadsTo (Changed subject first) bytes (Quote (PairKey (OfChange subject pairs))) at_key
 to_key before first bytes pairs count rest at_key so_far named subject same =
-    on (Changed subject first) bytes (Changed subject pairs) rest (Quote (PropertyKey subject pairs)) at_key (so_far.leads subject same) (named subject pairs (count_is before first bytes pairs count rest so_far subject same))
+    on (Changed subject first) bytes (Changed subject pairs) rest (Quote (PairKey (OfChange subject pairs))) at_key (so_far.leads subject same) (named subject pairs (count_is before first bytes pairs count rest so_far subject same))
 
 pub one_property_more : (before : ℕ) (first : List Pair) (bytes : List ℕ) (pairs : List Pair) (count : ℕ) (rest at_key after key : List ℕ) (value : Value) → PropertiesSoFar before first bytes pairs count rest → count < 32 → NameLeads count rest at_key → PairLeads key value at_key after → PropertiesSoFar before first bytes (with_pair pairs key value) (count + 1) after
 one_property_more before first bytes pairs count rest at_key after key value so_far early named paired =
@@ -136,14 +138,14 @@ one_property_more before first bytes pairs count rest at_key after key value so_
     record {
       few = omega (arith, early);
       counted = omega (arith, len, counted);
-      leads = λ subject same. on (Changed subject first) bytes (Quote (PropertyKey subject pairs)) at_key (Changed subject (with_pair pairs key value)) after (to_key before first bytes pairs count rest at_key so_far named subject same) (paired subject pairs);
+      leads = λ subject same. on (Changed subject first) bytes (Quote (PairKey (OfChange subject pairs))) at_key (Changed subject (with_pair pairs key value)) after (to_key before first bytes pairs count rest at_key so_far named subject same) (paired (OfChange subject pairs));
     }
 
 pub stop_in_names_of_properties : (before : ℕ) (first : List Pair) (bytes : List ℕ) (pairs : List Pair) (count : ℕ) (rest : List ℕ) (stop : Stop) → PropertiesSoFar before first bytes pairs count rest → NamesStop count rest stop → (subject : Subject) → steps_before subject + length first ≡ before → StopsFrom (Changed subject first) bytes stop
 stop_in_names_of_properties before first bytes pairs count rest stop so_far at subject same = (so_far.leads subject same).stops stop (at subject pairs (count_is before first bytes pairs count rest so_far subject same))
 
-pub stop_in_property : (before : ℕ) (first : List Pair) (bytes : List ℕ) (pairs : List Pair) (count : ℕ) (rest at_key : List ℕ) (stop : Stop) → PropertiesSoFar before first bytes pairs count rest → NameLeads count rest at_key → ((subject : Subject) (pairs' : List Pair) → StopsFrom (Quote (PropertyKey subject pairs')) at_key stop) → (subject : Subject) → steps_before subject + length first ≡ before → StopsFrom (Changed subject first) bytes stop
-stop_in_property before first bytes pairs count rest at_key stop so_far named at subject same = (to_key before first bytes pairs count rest at_key so_far named subject same).stops stop (at subject pairs)
+pub stop_in_property : (before : ℕ) (first : List Pair) (bytes : List ℕ) (pairs : List Pair) (count : ℕ) (rest at_key : List ℕ) (stop : Stop) → PropertiesSoFar before first bytes pairs count rest → NameLeads count rest at_key → ((purpose : PairFor) → StopsFrom (Quote (PairKey purpose)) at_key stop) → (subject : Subject) → steps_before subject + length first ≡ before → StopsFrom (Changed subject first) bytes stop
+stop_in_property before first bytes pairs count rest at_key stop so_far named at subject same = (to_key before first bytes pairs count rest at_key so_far named subject same).stops stop (at (OfChange subject pairs))
 
 -- What readers promise of properties, after the first ones.
 abbrev pub PropertiesKept : ℕ → List Pair → List Pair → List ℕ → Type 0
@@ -330,11 +332,11 @@ edges_kept query before name bytes at_close at_dot rest to pairs reads close lea
 
 -- ---- values
 
-pub stop_in_later_values : (query : Query) (before : ℕ) (key bytes rest : List ℕ) (value : Value) (stop : Stop) → PairLeads key value bytes rest → PropertiesStop before (with_pair [] key value) rest stop → steps_before (Elements query) + length (with_pair [] key value) ≡ before → StopsFrom (Quote (PropertyKey (Elements query) [])) bytes stop
-stop_in_later_values query before key bytes rest value stop leads at same = (leads (Elements query) []).stops stop (at (Elements query) same)
+pub stop_in_later_values : (query : Query) (before : ℕ) (key bytes rest : List ℕ) (value : Value) (stop : Stop) → PairLeads key value bytes rest → PropertiesStop before (with_pair [] key value) rest stop → steps_before (Elements query) + length (with_pair [] key value) ≡ before → StopsFrom (Quote (PairKey (OfChange (Elements query) []))) bytes stop
+stop_in_later_values query before key bytes rest value stop leads at same = (leads (OfChange (Elements query) [])).stops stop (at (Elements query) same)
 
-pub values_kept : (query : Query) (before : ℕ) (key bytes rest : List ℕ) (value : Value) (pairs : List Pair) → PairLeads key value bytes rest → PropertiesKept before (with_pair [] key value) pairs rest → steps_before (Elements query) + length (with_pair [] key value) ≡ before → KeptFrom turn is_loose (commands.Mutate (Some query) (mutations.Property pairs)) (Quote (PropertyKey (Elements query) [])) bytes
-values_kept query before key bytes rest value pairs leads kept same = (leads (Elements query) []).kept (changed (Elements query) pairs) (kept (Elements query) same)
+pub values_kept : (query : Query) (before : ℕ) (key bytes rest : List ℕ) (value : Value) (pairs : List Pair) → PairLeads key value bytes rest → PropertiesKept before (with_pair [] key value) pairs rest → steps_before (Elements query) + length (with_pair [] key value) ≡ before → KeptFrom turn is_loose (commands.Mutate (Some query) (mutations.Property pairs)) (Quote (PairKey (OfChange (Elements query) []))) bytes
+values_kept query before key bytes rest value pairs leads kept same = (leads (OfChange (Elements query) [])).kept (changed (Elements query) pairs) (kept (Elements query) same)
 
 -- ---- a drop
 

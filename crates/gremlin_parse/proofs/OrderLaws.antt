@@ -23,6 +23,7 @@ pub items_from-put_step : (items : Items) (list : List Step) (word : StepWord) (
 items_from-put_step items list (words.Bare bare) step last order = items_from-append items list step
 items_from-put_step items list (words.Names names) step last order = items_from-append items list step
 items_from-put_step items list (words.Body word) step last order = items_from-append items list step
+items_from-put_step items list words.ElementMap step last order = items_from-append items list step
 items_from-put_step items list words.Limit step last order = items_from-append items list step
 items_from-put_step items list words.Repeat step last order = items_from-append items list step
 items_from-put_step items list words.Order step last order = items_from-append items list step
@@ -42,6 +43,7 @@ pub steps_in-put_step : (list : List Step) (word : StepWord) (step : Step) → (
 steps_in-put_step list (words.Bare bare) step last order = steps_in-append list step
 steps_in-put_step list (words.Names names) step last order = steps_in-append list step
 steps_in-put_step list (words.Body word) step last order = steps_in-append list step
+steps_in-put_step list words.ElementMap step last order = steps_in-append list step
 steps_in-put_step list words.Limit step last order = steps_in-append list step
 steps_in-put_step list words.Repeat step last order = steps_in-append list step
 steps_in-put_step list words.Order step last order = steps_in-append list step
@@ -59,6 +61,7 @@ pub order_is_last : (list : List Step) (word : StepWord) (step : Step) → IsOrd
 order_is_last list (words.Bare bare) step order is = cc
 order_is_last list (words.Names names) step order is = cc
 order_is_last list (words.Body of_body) step order is = cc
+order_is_last list words.ElementMap step order is = cc
 order_is_last list words.Limit step order is = cc
 order_is_last list words.Repeat step order is = cc
 order_is_last list words.Order step order is = (list, ap (λ (s : Step). list ++ s ∷ []) order)

@@ -6,7 +6,7 @@ use Rattle.plain_graph.specs.declared.mutation.Mutation.TheVariants as mutations
 use Rattle.gremlin_parse.specs.Grammar.{Part, IsBounded}
 use Rattle.gremlin_parse.specs.Stopping.{IsStop}
 use Rattle.gremlin_parse.specs.Turns.{ThenSign, ThenOther, Loosely, Leads, LineFrom, KeptFrom, BadFrom}
-use Rattle.gremlin_parse.specs.Queries.{Place, Start, Steps, Ordered, Dropped, Changed, changed, turn, is_loose, LineTo, QueryTo, IsQuery, IsKeptQuery, BadQuery, StopsInQuery}
+use Rattle.gremlin_parse.specs.Queries.{Place, Start, Steps, Ordered, Dropped, Changed, changed, turn, is_loose, LineTo, QueryTo, IsQuery, IsKeptQuery, BadQuery, StopsInQuery, shown}
 use Rattle.gremlin_parse.specs.declared.bad_token.BadToken.{BadToken}
 use Rattle.gremlin_parse.specs.declared.stop.Stop.{Stop}
 use Rattle.gremlin_parse.specs.declared.stop.Stop.TheVariants as stops
@@ -106,8 +106,8 @@ IsAsked (commands.Mutate reading mutation) = Unit {0}
 IsAsked _ = ⊥
 
 end_is_asked : (place : Place) (end : Command) → Unit {0} → (turn place).ends ≡ Some end → IsAsked end
-end_is_asked (Steps query) end none ends = let same : commands.Query query ≡ end = cc in subst IsAsked same tt
-end_is_asked (Ordered query) end none ends = let same : commands.Query query ≡ end = cc in subst IsAsked same tt
+end_is_asked (Steps query) end none ends = let same : commands.Query (shown query) ≡ end = cc in subst IsAsked same tt
+end_is_asked (Ordered query) end none ends = let same : commands.Query (shown query) ≡ end = cc in subst IsAsked same tt
 end_is_asked (Dropped query) end none ends = let same : commands.Mutate (Some query) mutations.Drop ≡ end = cc in subst IsAsked same tt
 end_is_asked (Changed subject pairs) end none ends = let same : changed subject pairs ≡ end = cc in subst IsAsked same tt
 end_is_asked place end none ends = cc

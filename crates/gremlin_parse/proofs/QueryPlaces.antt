@@ -10,6 +10,7 @@ use Rattle.plain_graph.specs.declared.pairs.Pair.{Pair}
 use Rattle.plain_graph.specs.declared.query.BodyStep.{BodyStep}
 use Rattle.plain_graph.specs.declared.query.BodyStep.TheVariants as bodies
 use Rattle.plain_graph.specs.declared.query.Query.{Query}
+use Rattle.plain_graph.specs.declared.query.Source.TheVariants as origins
 use Rattle.plain_graph.specs.declared.query.Step.{Step}
 use Rattle.plain_graph.specs.declared.filter.Filter.{Filter}
 use Rattle.plain_graph.specs.declared.filter.Filter.TheVariants as filters
@@ -23,8 +24,10 @@ use Rattle.plain_graph.specs.declared.value.Value.{Value}
 use Rattle.plain_graph.specs.declared.filter.Relation.{Relation}
 use Rattle.gremlin_parse.specs.Reading.{StartsNumber}
 use Rattle.gremlin_parse.specs.Turns.{Turn, Other, Nothing, Token, ThenOther, WithBlanks, Loosely, LineFrom, sign_at}
-use Rattle.gremlin_parse.specs.Queries.{step_words, body_words, as_step_word, bare_step, Into, OfQuery, OfBody, NamesFor, OfStep, OfHop, OfLabels, Quoted, OneName, Key, OrderKey, Place, Start, Source, Opening, FirstId, AfterId, NextId, Steps, StepName, Opens, Closing, FirstName, AfterName, AfterKey, ValueOf, AfterP, RelationName, OpensValue, Compared, ClosesValue, ClosesFilter, relation_names, relation_of, relation_filter, Most, OrderCloses, Ordered, OrderedName, ByFirst, AfterOrderKey, OrderDirection, AfterOrderWord, DirectionName, ByCloses, ordered_words, sort_names, is_descending, direction_of, plain_order, reordered, Quote, InQuotes, BodyFirst, Underscore, AfterAnonymous, BodyName, OpensBody, InBody, AfterBody, TimesWord, OpensTimes, TimesOf, Subject, NewVertex, NewEdges, Elements, VertexLabel, EdgeType, PropertyKey, OpensVertex, VertexCloses, TypeCloses, AfterType, ToWord, OpensTo, ToFirst, ToUnderscore, ToAnonymous, ToVertex, OpensId, ToId, IdCloses, ToCloses, DropCloses, Dropped, Changed, PropertyName, OpensProperty, AfterPropertyKey, PropertyValue, PropertyCloses, property_words, changed, with_pair, body_name, query_from, with_step, opened, opened_names, opened_body, after_step, after_filter, after_names, after_quoted, value_filter, turn, is_loose}
+use Rattle.gremlin_parse.specs.Queries.{step_words, body_words, as_step_word, bare_step, Into, OfQuery, OfBody, NamesFor, OfStep, OfMaps, OfHop, OfLabels, Quoted, OneName, Key, OrderKey, Place, Start, SourceName, Opening, FirstId, AfterId, NextId, Steps, StepName, Opens, Closing, FirstName, AfterName, AfterKey, ValueOf, AfterP, RelationName, OpensValue, Compared, ClosesValue, ClosesFilter, relation_names, relation_of, relation_filter, Most, OrderCloses, Ordered, OrderedName, ByFirst, AfterOrderKey, OrderDirection, AfterOrderWord, DirectionName, ByCloses, ordered_words, sort_names, is_descending, direction_of, plain_order, reordered, Quote, InQuotes, BodyFirst, Underscore, AfterAnonymous, BodyName, OpensBody, InBody, AfterBody, TimesWord, OpensTimes, TimesOf, Subject, NewVertex, NewEdges, Elements, VertexLabel, EdgeType, PairKey, AfterFoundLabel, VertexCloses, TypeCloses, AfterType, ToWord, OpensTo, ToFirst, ToUnderscore, ToAnonymous, ToVertex, OpensId, ToId, IdCloses, ToCloses, DropCloses, Dropped, Changed, PropertyName, OpensProperty, AfterPairKey, PairValue, PairCloses, property_words, changed, with_pair, body_name, query_from, with_step, opened, opened_names, opened_body, after_step, after_filter, after_names, after_quoted, value_filter, turn, is_loose, FoundLabel, PairFor, OfChange, OfSource, after_pair, elements_of, named_source, opened_source, shown}
 use Rattle.plain_graph.specs.declared.value.Value.TheVariants as values
+use Rattle.gremlin_parse.specs.declared.source.SourceKind.{SourceKind}
+use Rattle.gremlin_parse.specs.declared.source.SourceKind.TheVariants as sources
 use Rattle.gremlin_parse.specs.declared.step_word.BareStep.TheVariants as bare
 use Rattle.gremlin_parse.specs.declared.step_word.BodyWord.{BodyWord}
 use Rattle.gremlin_parse.specs.declared.step_word.BodyWord.TheVariants as of_body
@@ -55,16 +58,16 @@ by_sign : (place : Place) (b : ℕ) (next : Place) (line : List ℕ) → sign_at
 by_sign place b next line is later = line_join turn is_loose place (b ∷ line) (inl (b, next, is, (b ∷ [], line, refl, refl, loose_line next line later)))
 
 steps_line : (query : Query) → Line (Steps query) []
-steps_line query = (zero, commands.Query query, (refl, refl))
+steps_line query = (zero, commands.Query (shown query), (refl, refl))
 
 ordered_line : (query : Query) → Line (Ordered query) []
-ordered_line query = (zero, commands.Query query, (refl, refl))
+ordered_line query = (zero, commands.Query (shown query), (refl, refl))
 
 closes_line : (query : Query) (step : Step) → Line (Closing query step) (41 ∷ [])
 closes_line query step = by_sign (Closing query step) 41 (Steps (with_step query step)) [] refl (steps_line (with_step query step))
 
 after_id_line : (edges : Bool) (ids : List ℕ) → Line (AfterId edges ids) (41 ∷ [])
-after_id_line edges ids = by_sign (AfterId edges ids) 41 (Steps (query_from edges ids)) [] refl (steps_line (query_from edges ids))
+after_id_line edges ids = by_sign (AfterId edges ids) 41 (Steps (query_from (elements_of edges ids))) [] refl (steps_line (query_from (elements_of edges ids)))
 
 -- the rest of a repeat after the dot that follows its body
 abbrev times_rest : List ℕ
@@ -103,11 +106,13 @@ closes_filter_line into filter = by_sign (ClosesFilter into filter) 41 (after_fi
 -- a rest after the names of a step
 abbrev rest_of_names : NamesFor → List ℕ
 rest_of_names (OfStep query step) = []
+rest_of_names (OfMaps query) = []
 rest_of_names (OfHop into direction) = rest_after into
 rest_of_names (OfLabels into) = rest_after into
 
 after_names_line : (purpose : NamesFor) (names : List (List ℕ)) → Line (after_names purpose names) (rest_of_names purpose)
 after_names_line (OfStep query step) names = steps_line _
+after_names_line (OfMaps query) names = steps_line _
 after_names_line (OfHop into direction) names = after_step_line into _
 after_names_line (OfLabels into) names = after_filter_line into _
 
@@ -160,16 +165,20 @@ after_type_line query label = by_sign (AfterType query label) 46 (ToWord query l
 type_line : (query : Query) (label : List ℕ) → Line (TypeCloses query label) (41 ∷ 46 ∷ to_rest)
 type_line query label = by_sign (TypeCloses query label) 41 (AfterType query label) (46 ∷ to_rest) refl (after_type_line query label)
 
-property_closes_line : (subject : Subject) (pairs : List Pair) → Line (PropertyCloses subject pairs) (41 ∷ [])
-property_closes_line subject pairs = by_sign (PropertyCloses subject pairs) 41 (Changed subject pairs) [] refl (changed_line subject pairs)
+after_pair_line : (purpose : PairFor) (key : List ℕ) (value : Value) → Line (after_pair purpose key value) []
+after_pair_line (OfChange subject pairs) key value = changed_line subject (with_pair pairs key value)
+after_pair_line (OfSource label) key value = steps_line (query_from (origins.Found label key value))
 
-property_value_line : (subject : Subject) (pairs : List Pair) (key : List ℕ) → Line (PropertyValue subject pairs key) (48 ∷ 41 ∷ [])
-property_value_line subject pairs key =
-    let more : List Pair = with_pair pairs key (values.Int (pos 0)) in
-    line_join turn is_loose (PropertyValue subject pairs key) (48 ∷ 41 ∷ []) (inr (values.Int (pos 0), tt, tt, (codes "0", 41 ∷ [], refl, inl (0, refl, (refl, refl)), loose_line (PropertyCloses subject more) (41 ∷ []) (property_closes_line subject more))))
+pair_closes_line : (purpose : PairFor) (key : List ℕ) (value : Value) → Line (PairCloses purpose key value) (41 ∷ [])
+pair_closes_line purpose key value = by_sign (PairCloses purpose key value) 41 (after_pair purpose key value) [] refl (after_pair_line purpose key value)
 
-property_key_line : (subject : Subject) (pairs : List Pair) (key : List ℕ) → Line (AfterPropertyKey subject pairs key) (44 ∷ 48 ∷ 41 ∷ [])
-property_key_line subject pairs key = by_sign (AfterPropertyKey subject pairs key) 44 (PropertyValue subject pairs key) (48 ∷ 41 ∷ []) refl (property_value_line subject pairs key)
+pair_value_line : (purpose : PairFor) (key : List ℕ) → Line (PairValue purpose key) (48 ∷ 41 ∷ [])
+pair_value_line purpose key =
+    let zero_value : Value = values.Int (pos 0) in
+    line_join turn is_loose (PairValue purpose key) (48 ∷ 41 ∷ []) (inr (zero_value, tt, tt, (codes "0", 41 ∷ [], refl, inl (0, refl, (refl, refl)), loose_line (PairCloses purpose key zero_value) (41 ∷ []) (pair_closes_line purpose key zero_value))))
+
+pair_key_line : (purpose : PairFor) (key : List ℕ) → Line (AfterPairKey purpose key) (44 ∷ 48 ∷ 41 ∷ [])
+pair_key_line purpose key = by_sign (AfterPairKey purpose key) 44 (PairValue purpose key) (48 ∷ 41 ∷ []) refl (pair_value_line purpose key)
 
 drop_line : (query : Query) → Line (DropCloses query) (41 ∷ [])
 drop_line query = by_sign (DropCloses query) 41 (Dropped query) [] refl (zero, commands.Mutate (Some query) mutations.Drop, (refl, refl))
@@ -183,7 +192,18 @@ rest_of_quoted (Key into) = 41 ∷ rest_after into
 rest_of_quoted (OrderKey query) = 41 ∷ []
 rest_of_quoted VertexLabel = 41 ∷ []
 rest_of_quoted (EdgeType query) = 41 ∷ 46 ∷ to_rest
-rest_of_quoted (PropertyKey subject pairs) = 44 ∷ 48 ∷ 41 ∷ []
+rest_of_quoted FoundLabel = 44 ∷ 39 ∷ 97 ∷ 39 ∷ 44 ∷ 48 ∷ 41 ∷ []
+rest_of_quoted (PairKey purpose) = 44 ∷ 48 ∷ 41 ∷ []
+
+-- a line of the key of a pair between quotes
+quoted_pair_line : (purpose : PairFor) → Line (Quote (PairKey purpose)) (39 ∷ 97 ∷ 39 ∷ 44 ∷ 48 ∷ 41 ∷ [])
+quoted_pair_line purpose =
+    let rest : List ℕ = 44 ∷ 48 ∷ 41 ∷ [] in
+    by_sign (Quote (PairKey purpose)) 39 (InQuotes (PairKey purpose) false) (97 ∷ 39 ∷ rest) refl
+    (line_join turn is_loose (InQuotes (PairKey purpose) false) (97 ∷ 39 ∷ rest) (inr (codes "a", tt, tt, (codes "a" ++ 39 ∷ [], rest, refl, (refl, (refl, tt)), loose_line (AfterPairKey purpose (codes "a")) rest (pair_key_line purpose (codes "a"))))))
+
+found_label_line : (label : List ℕ) → Line (AfterFoundLabel label) (44 ∷ 39 ∷ 97 ∷ 39 ∷ 44 ∷ 48 ∷ 41 ∷ [])
+found_label_line label = by_sign (AfterFoundLabel label) 44 (Quote (PairKey (OfSource label))) (39 ∷ 97 ∷ 39 ∷ 44 ∷ 48 ∷ 41 ∷ []) refl (quoted_pair_line (OfSource label))
 
 after_quoted_line : (quoted : Quoted) (name : List ℕ) → Line (after_quoted quoted name) (rest_of_quoted quoted)
 after_quoted_line (OneName purpose names) name = by_sign (AfterName purpose (names ++ name ∷ [])) 41 (after_names purpose (names ++ name ∷ [])) (rest_of_names purpose) refl (after_names_line purpose (names ++ name ∷ []))
@@ -191,7 +211,8 @@ after_quoted_line (Key into) name = by_sign (AfterKey into name) 41 (after_filte
 after_quoted_line (OrderKey query) name = by_sign (AfterOrderKey query name) 41 (Steps (reordered query (Some name) false)) [] refl (steps_line (reordered query (Some name) false))
 after_quoted_line VertexLabel name = vertex_line name
 after_quoted_line (EdgeType query) name = type_line query name
-after_quoted_line (PropertyKey subject pairs) name = property_key_line subject pairs name
+after_quoted_line FoundLabel name = found_label_line name
+after_quoted_line (PairKey purpose) name = pair_key_line purpose name
 
 in_quotes_line : (quoted : Quoted) (double : Bool) → Line (InQuotes quoted double) (97 ∷ quote_byte double ∷ rest_of_quoted quoted)
 in_quotes_line quoted double = line_join turn is_loose (InQuotes quoted double) (97 ∷ quote_byte double ∷ rest_of_quoted quoted) (inr (codes "a", tt, tt, (codes "a" ++ quote_byte double ∷ [], rest_of_quoted quoted, refl, (refl, (refl, tt)), loose_line (after_quoted quoted (codes "a")) (rest_of_quoted quoted) (after_quoted_line quoted (codes "a")))))
@@ -234,7 +255,8 @@ quoted_halts (Key into) name = refl
 quoted_halts (OrderKey query) name = refl
 quoted_halts VertexLabel name = refl
 quoted_halts (EdgeType query) name = refl
-quoted_halts (PropertyKey subject pairs) name = refl
+quoted_halts FoundLabel name = refl
+quoted_halts (PairKey purpose) name = refl
 
 -- ---- what an argument of has begins with
 
@@ -343,26 +365,57 @@ no_sort_order : (bytes : List ℕ) → Starts starts_sort bytes → Starts (λ b
 no_sort_order [] sort order = sort
 no_sort_order (b ∷ bytes) sort order = grind (arith, nat_tests)
 
--- Of what a query begins with, `addV` begins with no sign.
+-- Of what a query begins with, the words begin with no sign, and with other letters.
+abbrev BeginsFind : List ℕ → Type 0
+BeginsFind bytes = Begins {Word = StepWord} (Token (Sign (codes "find")) (λ _. Opening sources.Found)) bytes
+
 abbrev BeginsVertex : List ℕ → Type 0
-BeginsVertex bytes = Begins {Word = StepWord} (Token (Sign (codes "addV")) (λ _. OpensVertex)) bytes
+BeginsVertex bytes = Begins {Word = StepWord} (Token (Sign (codes "addV")) (λ _. Opening sources.NewVertex)) bytes
+
+begins_find : (bytes : List ℕ) → BeginsFind bytes → Starts (λ b. nat_eq b 102) bytes
+begins_find bytes (inl (content, allows, (prefix, rest, whole, is, after))) = subst (Starts (λ b. nat_eq b 102)) (sym (whole ∙ ap (λ p. p ++ rest) is)) refl
+begins_find bytes (inr (kind, left, (content, bad, rest, takes, at))) = absurd bad
 
 begins_vertex : (bytes : List ℕ) → BeginsVertex bytes → Starts (λ b. nat_eq b 97) bytes
 begins_vertex bytes (inl (content, allows, (prefix, rest, whole, is, after))) = subst (Starts (λ b. nat_eq b 97)) (sym (whole ∙ ap (λ p. p ++ rest) is)) refl
 begins_vertex bytes (inr (kind, left, (content, bad, rest, takes, at))) = absurd bad
 
-vertex_no_sign : (b : ℕ) → nat_eq b 97 ≡ true → sign_at (turn Source).signs b ≡ None
+find_no_vertex : (bytes : List ℕ) → Starts (λ b. nat_eq b 102) bytes → Starts (λ b. nat_eq b 97) bytes → ⊥
+find_no_vertex [] find vertex = find
+find_no_vertex (b ∷ bytes) find vertex = grind (arith, nat_tests)
+
+find_no_sign : (b : ℕ) → nat_eq b 102 ≡ true → sign_at (turn SourceName).signs b ≡ None
+find_no_sign b is =
+    let vertices : nat_eq 86 b ≡ false = grind (arith, nat_tests) in
+    let edges : nat_eq 69 b ≡ false = grind (arith, nat_tests) in
+    rw (vertices, edges)
+
+vertex_no_sign : (b : ℕ) → nat_eq b 97 ≡ true → sign_at (turn SourceName).signs b ≡ None
 vertex_no_sign b is =
     let vertices : nat_eq 86 b ≡ false = grind (arith, nat_tests) in
     let edges : nat_eq 69 b ≡ false = grind (arith, nat_tests) in
     rw (vertices, edges)
 
-vertex_apart : (bytes : List ℕ) → BeginsVertex bytes → NoSign (turn Source).signs bytes
-vertex_apart [] begins = tt
-vertex_apart (b ∷ bytes) begins = vertex_no_sign b (begins_vertex (b ∷ bytes) begins)
+source_apart : (bytes : List ℕ) → Begins named_source bytes → NoSign (turn SourceName).signs bytes
+source_apart [] begins = tt
+source_apart (b ∷ bytes) (inl find) = find_no_sign b (begins_find (b ∷ bytes) find)
+source_apart (b ∷ bytes) (inr vertex) = vertex_no_sign b (begins_vertex (b ∷ bytes) vertex)
 
-opens_vertex_line : Line OpensVertex (40 ∷ 39 ∷ 97 ∷ 39 ∷ 41 ∷ [])
-opens_vertex_line = by_sign OpensVertex 40 (Quote VertexLabel) (39 ∷ 97 ∷ 39 ∷ 41 ∷ []) refl (quote_line VertexLabel)
+first_id_line : (edges : Bool) → Line (FirstId edges) (41 ∷ [])
+first_id_line edges = by_sign (FirstId edges) 41 (Steps (query_from (elements_of edges []))) [] refl (steps_line (query_from (elements_of edges [])))
+
+opened_source_some : (kind : SourceKind) → (line : List ℕ) × Line (opened_source kind) line
+opened_source_some sources.Vertices = (_, first_id_line false)
+opened_source_some sources.Edges = (_, first_id_line true)
+opened_source_some sources.NewVertex = (_, quote_line VertexLabel)
+opened_source_some sources.Found = (_, quote_line FoundLabel)
+
+opening_line : (kind : SourceKind) → Line (Opening kind) (40 ∷ (opened_source_some kind).0)
+opening_line kind = by_sign (Opening kind) 40 (opened_source kind) (opened_source_some kind).0 refl (opened_source_some kind).1
+
+-- a word for a source, and what follows it
+source_ended : (kind : SourceKind) → (line : List ℕ) × (Unit {0} → Loosely turn is_loose (Line) (Opening kind) line)
+source_ended kind = (40 ∷ (opened_source_some kind).0, λ content. loose_line (Opening kind) (40 ∷ (opened_source_some kind).0) (opening_line kind))
 
 abbrev by_signs : Query → List (ℕ × Place)
 by_signs query = (turn (ByFirst query)).signs
@@ -424,15 +477,21 @@ other_is place other is halts ended = record {
 }
 
 pub are : (place : Place) → IsPlace turn is_loose place
-are Source = record {
+are SourceName = record {
   no_blank = refl;
-  apart = λ bytes begins. vertex_apart bytes begins;
-  ended = (refl, λ content. refl, (40 ∷ 39 ∷ 97 ∷ 39 ∷ 41 ∷ [], λ content. loose_line OpensVertex (40 ∷ 39 ∷ 97 ∷ 39 ∷ 41 ∷ []) opens_vertex_line));
+  apart = λ bytes begins. source_apart bytes begins;
+  ended = (
+    (refl, λ content. refl, source_ended sources.Found),
+    (refl, λ content. refl, source_ended sources.NewVertex),
+    λ bytes find vertex. find_no_vertex bytes (begins_find bytes find) (begins_vertex bytes vertex),
+    tt,
+    tt,
+  );
   alone = λ end ends. cc;
 }
 are (FirstId edges) = record {
   no_blank = refl;
-  apart = λ bytes begins. number_apart (Steps (query_from edges [])) bytes (begins_number bytes begins);
+  apart = λ bytes begins. number_apart (Steps (query_from (elements_of edges []))) bytes (begins_number bytes begins);
   ended = (refl, λ id. refl, (41 ∷ [], λ id. loose_line (AfterId edges (id ∷ [])) (41 ∷ []) (after_id_line edges (id ∷ []))));
   alone = λ end ends. cc;
 }
@@ -478,7 +537,7 @@ are (TimesOf query body) = other_is _ _ refl refl (refl, λ times. refl, (41 ∷
 are (ToWord query label) = other_is _ _ refl refl (refl, λ word. refl, (40 ∷ vertex_rest, λ word. loose_line (OpensTo query label) (40 ∷ vertex_rest) (opens_to_line query label)))
 are (ToId query label) = other_is _ _ refl refl (refl, λ to. refl, (41 ∷ 41 ∷ [], λ to. loose_line (IdCloses query label to) (41 ∷ 41 ∷ []) (id_closes_line query label to)))
 are (PropertyName subject pairs) = other_is _ _ refl refl (property_table, λ word. refl)
-are (PropertyValue subject pairs key) = other_is _ _ refl refl (refl, λ value. refl, (41 ∷ [], λ value. loose_line (PropertyCloses subject (with_pair pairs key value)) (41 ∷ []) (property_closes_line subject (with_pair pairs key value))))
+are (PairValue purpose key) = other_is _ _ refl refl (refl, λ value. refl, (41 ∷ [], λ value. loose_line (PairCloses purpose key value) (41 ∷ []) (pair_closes_line purpose key value)))
 are place = record { no_blank = refl; apart = λ bytes none. absurd none; ended = tt; alone = λ end ends. refl }
 
 -- ---- a line of each of the other places
@@ -491,6 +550,7 @@ first_name_line purpose = by_sign (FirstName purpose) 41 (after_names purpose []
 
 opened_names_some : (purpose : NamesFor) → (line : List ℕ) × Line (opened_names purpose) line
 opened_names_some (OfStep query step) = (_, first_name_line (OfStep query step))
+opened_names_some (OfMaps query) = (_, first_name_line (OfMaps query))
 opened_names_some (OfHop into direction) = (_, first_name_line (OfHop into direction))
 opened_names_some (OfLabels into) = (_, quote_line (OneName (OfLabels into) []))
 
@@ -520,25 +580,17 @@ opened_some : (query : Query) (word : StepWord) → (line : List ℕ) × Line (o
 opened_some query (words.Bare bare) = (41 ∷ [], closes_line query (bare_step bare))
 opened_some query (words.Names step) = opened_names_some (OfStep query step)
 opened_some query (words.Body word) = opened_body_some (OfQuery query) word
+opened_some query words.ElementMap = opened_names_some (OfMaps query)
 opened_some query words.Limit = (_, most_line query)
 opened_some query words.Order = (_, order_closes_line query)
 opened_some query words.By = (_, by_first_line query)
 opened_some query words.Repeat = body_some (BodyFirst query) query [] refl
 opened_some query (words.Change changes.AddE) = (_, quote_line (EdgeType query))
-opened_some query (words.Change changes.Property) = (_, quote_line (PropertyKey (Elements query) []))
+opened_some query (words.Change changes.Property) = (_, quote_line (PairKey (OfChange (Elements query) [])))
 opened_some query (words.Change changes.Drop) = (_, drop_line query)
 
 opens_some : (query : Query) (word : StepWord) → (line : List ℕ) × Line (Opens query word) line
 opens_some query word = let later = opened_some query word in (40 ∷ later.0, by_sign (Opens query word) 40 (opened query word) later.0 refl later.1)
-
-first_id_line : (edges : Bool) → Line (FirstId edges) (41 ∷ [])
-first_id_line edges = by_sign (FirstId edges) 41 (Steps (query_from edges [])) [] refl (steps_line (query_from edges []))
-
-opening_line : (edges : Bool) → Line (Opening edges) (40 ∷ 41 ∷ [])
-opening_line edges = by_sign (Opening edges) 40 (FirstId edges) (41 ∷ []) refl (first_id_line edges)
-
-source_line : Line Source (86 ∷ 40 ∷ 41 ∷ [])
-source_line = by_sign Source 86 (Opening false) (40 ∷ 41 ∷ []) refl (opening_line false)
 
 to_anonymous_line : (query : Query) (label : List ℕ) → Line (ToAnonymous query label) (46 ∷ vertex_rest)
 to_anonymous_line query label = by_sign (ToAnonymous query label) 46 (ToVertex query label) vertex_rest refl (to_vertex_line query label)
@@ -548,19 +600,23 @@ abbrev opened_property : List ℕ
 opened_property = 40 ∷ 39 ∷ 97 ∷ 39 ∷ 44 ∷ 48 ∷ 41 ∷ []
 
 opens_property_line : (subject : Subject) (pairs : List Pair) → Line (OpensProperty subject pairs) opened_property
-opens_property_line subject pairs = by_sign (OpensProperty subject pairs) 40 (Quote (PropertyKey subject pairs)) (39 ∷ 97 ∷ 39 ∷ 44 ∷ 48 ∷ 41 ∷ []) refl (quote_line (PropertyKey subject pairs))
+opens_property_line subject pairs = by_sign (OpensProperty subject pairs) 40 (Quote (PairKey (OfChange subject pairs))) (39 ∷ 97 ∷ 39 ∷ 44 ∷ 48 ∷ 41 ∷ []) refl (quote_line (PairKey (OfChange subject pairs)))
+
+source_line : Line SourceName (86 ∷ 40 ∷ 41 ∷ [])
+unfolding opened_source_some
+source_line = by_sign SourceName 86 (Opening sources.Vertices) (40 ∷ 41 ∷ []) refl (opening_line sources.Vertices)
 
 pub some : (place : Place) → (line : List ℕ) × Line place line
-some Start = (_, by_sign Start 46 Source (86 ∷ 40 ∷ 41 ∷ []) refl source_line)
-some Source = (_, source_line)
-some (Opening edges) = (_, opening_line edges)
+some Start = (_, by_sign Start 46 SourceName (86 ∷ 40 ∷ 41 ∷ []) refl source_line)
+some SourceName = (_, source_line)
+some (Opening kind) = (_, opening_line kind)
 some (FirstId edges) = (_, first_id_line edges)
 some (AfterId edges ids) = (_, after_id_line edges ids)
 some (NextId edges ids) = (48 ∷ 41 ∷ [], line_join turn is_loose (NextId edges ids) (48 ∷ 41 ∷ []) (inr (0, tt, tt, (codes "0", 41 ∷ [], refl, (refl, refl), loose_line (AfterId edges (ids ++ 0 ∷ [])) (41 ∷ []) (after_id_line edges (ids ++ 0 ∷ []))))))
 some (Steps query) = (_, steps_line query)
 some (StepName query) =
     let later = opens_some query (words.Bare bare.Count) in
-    (codes "count" ++ later.0, line_join turn is_loose (StepName query) (codes "count" ++ later.0) (inr ((codes "count", words.Bare bare.Count), inr (inr (inr (inr (inr (inr (inr (inr (inr (inr (inr (inr (inr (inr (inl refl)))))))))))))), tt, (codes "count", later.0, refl, refl, loose_line (Opens query (words.Bare bare.Count)) later.0 later.1))))
+    (codes "count" ++ later.0, line_join turn is_loose (StepName query) (codes "count" ++ later.0) (inr ((codes "count", words.Bare bare.Count), inr (inr (inr (inr (inr (inr (inr (inr (inr (inr (inr (inr (inr (inr (inr (inl refl))))))))))))))), tt, (codes "count", later.0, refl, refl, loose_line (Opens query (words.Bare bare.Count)) later.0 later.1))))
 some (Opens query word) = opens_some query word
 some (Closing query step) = (_, closes_line query step)
 some (FirstName purpose) = (_, first_name_line purpose)
@@ -597,7 +653,7 @@ some (AfterBody query body) = (_, after_body_line query body)
 some (TimesWord query body) = (_, times_word_line query body)
 some (OpensTimes query body) = (_, opens_times_line query body)
 some (TimesOf query body) = (_, times_of_line query body)
-some OpensVertex = (_, opens_vertex_line)
+some (AfterFoundLabel label) = (_, found_label_line label)
 some (VertexCloses label) = (_, vertex_line label)
 some (TypeCloses query label) = (_, type_line query label)
 some (AfterType query label) = (_, after_type_line query label)
@@ -616,6 +672,6 @@ some (Dropped query) = ([], (zero, commands.Mutate (Some query) mutations.Drop, 
 some (Changed subject pairs) = (_, changed_line subject pairs)
 some (PropertyName subject pairs) = (codes "property" ++ opened_property, line_join turn is_loose (PropertyName subject pairs) (codes "property" ++ opened_property) (inr ((codes "property", words.Change changes.Property), inl refl, tt, (codes "property", opened_property, refl, refl, loose_line (OpensProperty subject pairs) opened_property (opens_property_line subject pairs)))))
 some (OpensProperty subject pairs) = (_, opens_property_line subject pairs)
-some (AfterPropertyKey subject pairs key) = (_, property_key_line subject pairs key)
-some (PropertyValue subject pairs key) = (_, property_value_line subject pairs key)
-some (PropertyCloses subject pairs) = (_, property_closes_line subject pairs)
+some (AfterPairKey purpose key) = (_, pair_key_line purpose key)
+some (PairValue purpose key) = (_, pair_value_line purpose key)
+some (PairCloses purpose key value) = (_, pair_closes_line purpose key value)

@@ -1,5 +1,5 @@
 -- What the readers of queries have read, from place to place.
-use Rattle.std.proofs.Common.{◌≡◌, ◌≢◌, ◌≤◌, ◌<◌, ◌+◌, ◌⊎◌, inl, inr, ℕ, zero, suc, min, nat_eq, cond, Bool, true, false, Option, Some, None, IfSome, IfNone, List, [], ◌∷◌, ◌++◌, length, codes, refl, sym, ap, ◌∙◌, subst, ⊎_elim, length-append, arith}
+use Rattle.std.proofs.Common.{◌≡◌, ◌≢◌, ◌≤◌, ◌<◌, ◌+◌, inl, inr, ℕ, nat_eq, cond, Bool, true, false, Option, Some, None, IfSome, IfNone, List, [], ◌∷◌, ◌++◌, length, codes, refl, sym, ap, ◌∙◌, subst, ⊎_elim, length-append, arith}
 use Rattle.std.proofs.lemmas.Bool.{cases_Bool}
 use borrow.Author.Tests.{eqb-true}
 use Rattle.plain_graph.specs.declared.command.Command.{Command}
@@ -13,7 +13,6 @@ use Rattle.plain_graph.specs.declared.mutation.Mutation.{Mutation}
 use Rattle.plain_graph.specs.declared.query.BodyStep.{BodyStep}
 use Rattle.plain_graph.specs.declared.query.BodyStep.TheVariants as bodies
 use Rattle.plain_graph.specs.declared.query.Query.{Query}
-use Rattle.plain_graph.specs.declared.query.Step.{Step}
 use Rattle.plain_graph.specs.declared.query.Step.TheVariants as steps
 use Rattle.plain_graph.specs.declared.filter.Filter.{Filter}
 use Rattle.plain_graph.specs.declared.filter.Filter.TheVariants as filters
@@ -30,18 +29,17 @@ use Rattle.gremlin_parse.specs.declared.step_word.BodyWord.TheVariants as of_bod
 use Rattle.gremlin_parse.specs.declared.step_word.ChangeWord.{ChangeWord}
 use Rattle.gremlin_parse.specs.declared.step_word.ChangeWord.TheVariants as changes
 use Rattle.gremlin_parse.specs.declared.step_word.StepWord.TheVariants as words
-use Rattle.gremlin_parse.specs.Stages.{first_items, is_by, added_count, items_after, items_from, stage_of, step_fault, steps_in}
+use Rattle.gremlin_parse.specs.Stages.{is_by, stage_of, step_fault, steps_of}
 use Rattle.gremlin_parse.specs.Turns.{Turn, LeavesWords, IsBadWord, sign_at, KeptFrom}
-use Rattle.gremlin_parse.specs.Queries.{Into, OfQuery, OfBody, NamesFor, OfStep, OfHop, OfLabels, Quoted, OneName, Key, OrderKey, Place, Start, Source, Opening, FirstId, AfterId, NextId, Steps, query_from, query_of, StepName, Opens, Closing, FirstName, AfterName, AfterKey, ValueOf, AfterP, RelationName, OpensValue, Compared, ClosesValue, ClosesFilter, relation_names, relation_name, relation_of, relation_filter, Most, Ordered, OrderedName, VertexLabel, EdgeType, PropertyKey, OpensVertex, opens_source, opened_source, opened, opened_names, opened_body, after_step, after_filter, after_names, words_after, step_words, steps_place, plain_order, is_order, put_step, after_word, IsOrderStep, with_step, bare_step, needs_name, value_filter, Quote, InQuotes, one_of, QuotesAt, LeavesBoth, NeitherFirst, LeadsTo, StopsFrom, after_quoted, IsKeptQuery, StopsInQuery, turn, is_loose}
+use Rattle.gremlin_parse.specs.Queries.{Into, OfQuery, OfBody, NamesFor, OfStep, OfHop, OfLabels, Quoted, OneName, Key, OrderKey, Place, Start, SourceName, Opening, FirstId, AfterId, NextId, Steps, query_from, StepName, Opens, Closing, FirstName, AfterName, AfterKey, ValueOf, AfterP, RelationName, OpensValue, Compared, ClosesValue, ClosesFilter, relation_names, relation_name, relation_of, relation_filter, Most, Ordered, OrderedName, VertexLabel, EdgeType, PairKey, opened_source, opened, opened_names, opened_body, after_step, after_filter, after_names, words_after, step_words, steps_place, with_step, bare_step, needs_name, value_filter, Quote, InQuotes, one_of, QuotesAt, LeavesBoth, NeitherFirst, LeadsTo, StopsFrom, after_quoted, IsKeptQuery, StopsInQuery, turn, is_loose, FoundLabel, OfMaps, elements_of, shown}
 use Rattle.gremlin_parse.specs.declared.step_word.StepWord.{StepWord}
-use Rattle.gremlin_parse.specs.declared.stage.Items.{Items}
 use Rattle.gremlin_parse.specs.declared.stage.Stage.{Stage}
 use Rattle.gremlin_parse.specs.declared.stop.Stop.{Stop}
 use Rattle.gremlin_parse.specs.declared.stop.Stop.TheVariants as stops
 use Rattle.gremlin_parse.proofs.Turns.{NoSign}
-use Rattle.gremlin_parse.proofs.Walks.{kept_end, reaches_here, stop_after_blanks, Skips, LeavesOther, LeavesPlace, reaches_next, reaches_on, stop_at_place}
-use Rattle.gremlin_parse.proofs.OrderLaws.{items_from-put_step, steps_in-put_step, order_is_last}
+use Rattle.gremlin_parse.proofs.Walks.{kept_end, stop_after_blanks, Skips, LeavesOther, LeavesPlace, reaches_next, reaches_on, stop_at_place}
 use Rattle.gremlin_parse.proofs.Tables.{IsWordTable, all_in, lookup_in, whole_word_of}
+use Rattle.gremlin_parse.proofs.Later.{leaves_either}
 use Rattle.gremlin_parse.proofs.QueryPlaces.{are, some, step_table, ordered_table, no_signs}
 
 pub on : (place : Place) (bytes : List ℕ) (middle : Place) (left : List ℕ) (next : Place) (rest : List ℕ) → LeadsTo place bytes middle left → LeadsTo middle left next rest → LeadsTo place bytes next rest
@@ -119,7 +117,8 @@ after_is_loose (Key into) name = refl
 after_is_loose (OrderKey query) name = refl
 after_is_loose VertexLabel name = refl
 after_is_loose (EdgeType query) name = refl
-after_is_loose (PropertyKey subject pairs) name = refl
+after_is_loose FoundLabel name = refl
+after_is_loose (PairKey purpose) name = refl
 
 name_leads : (quoted : Quoted) (name : List ℕ) (double : Bool) (bytes middle rest : List ℕ) → Reads (AnyClosed double) name bytes middle → Reads AnyBlanks tt middle rest → LeadsTo (InQuotes quoted double) bytes (after_quoted quoted name) rest
 name_leads quoted name double bytes middle rest reads blanks =
@@ -149,15 +148,26 @@ pub comma_leads : (place : Place) (on_comma on_close : Place) (bytes rest : List
 comma_leads place on_comma on_close bytes rest true comma close loose free token = token_leads place 44 on_comma bytes rest comma loose token
 comma_leads place on_comma on_close bytes rest false comma close loose free token = token_leads place 41 on_close bytes rest close free token
 
-pub vertex_leads : (bytes rest : List ℕ) → ReadsToken (codes "addV") bytes rest → LeadsTo Source bytes OpensVertex rest
-vertex_leads bytes rest (middle, reads, blanks) =
-    reaches_next turn is_loose are some Source bytes OpensVertex middle rest
-    (record { prefix = reads.takes.prefix; bytes_are = reads.takes.bytes_are; how = inr (tt, refl, tt, tt, reads.takes.is, tt) })
+pub find_leads : (bytes rest : List ℕ) → ReadsToken (codes "find") bytes rest → LeadsTo SourceName bytes (Opening sources.Found) rest
+find_leads bytes rest (middle, reads, blanks) =
+    reaches_next turn is_loose are some SourceName bytes (Opening sources.Found) middle rest
+    (record { prefix = reads.takes.prefix; bytes_are = reads.takes.bytes_are; how = inr (inl (tt, refl, tt, tt, reads.takes.is, tt)) })
     blanks
 
--- Where neither sign of the source stands, nor the word for a new vertex.
-pub stop_at_source : (bytes : List ℕ) (stop : Stop) → first_byte bytes ≢ Some 86 → first_byte bytes ≢ Some 69 → Leaves (Sign (codes "addV")) bytes stop → StopsFrom Source bytes stop
-stop_at_source bytes stop no_vertices no_edges leaves = stop_at Source bytes stop (record { no_end = λ end ends. cc; no_sign = no_two_signs 86 69 (Opening false) (Opening true) bytes (neither bytes no_vertices no_edges); other = leaves })
+pub vertex_leads : (bytes rest : List ℕ) → ReadsToken (codes "addV") bytes rest → LeadsTo SourceName bytes (Opening sources.NewVertex) rest
+vertex_leads bytes rest (middle, reads, blanks) =
+    reaches_next turn is_loose are some SourceName bytes (Opening sources.NewVertex) middle rest
+    (record { prefix = reads.takes.prefix; bytes_are = reads.takes.bytes_are; how = inr (inr (tt, refl, tt, tt, reads.takes.is, tt)) })
+    blanks
+
+-- Where neither sign of the source stands, nor a word for one.
+pub stop_at_source : (bytes : List ℕ) (no_find no_vertex : Stop) → first_byte bytes ≢ Some 86 → first_byte bytes ≢ Some 69 → Leaves (Sign (codes "find")) bytes no_find → Leaves (Sign (codes "addV")) bytes no_vertex → StopsFrom SourceName bytes (later no_find no_vertex)
+stop_at_source bytes no_find no_vertex no_vertices no_edges find vertex =
+    stop_at SourceName bytes (later no_find no_vertex) (record {
+      no_end = λ end ends. cc;
+      no_sign = no_two_signs 86 69 (Opening sources.Vertices) (Opening sources.Edges) bytes (neither bytes no_vertices no_edges);
+      other = leaves_either (Leaves (Sign (codes "find")) bytes) (Leaves (Sign (codes "addV")) bytes) (λ none. none) (λ none. none) (λ kind left bad. bad.1) no_find no_vertex find vertex;
+    })
   where
     neither : (these : List ℕ) → first_byte these ≢ Some 86 → first_byte these ≢ Some 69 → NeitherFirst 86 69 these
     neither [] one two = tt
@@ -219,46 +229,48 @@ next_id_leads edges ids id bytes middle rest reads blanks =
 
 -- where an identifier doesn't stand, and no parenthesis closes
 pub stop_at_first_id : (edges : Bool) (bytes : List ℕ) (stop : Stop) → first_byte bytes ≢ Some 41 → Leaves (AnyNumber most_id) bytes stop → StopsFrom (FirstId edges) bytes stop
-stop_at_first_id edges bytes stop unclosed leaves = stop_at (FirstId edges) bytes stop (record { no_end = λ end ends. cc; no_sign = no_one_sign 41 (Steps (query_from edges [])) bytes unclosed; other = leaves })
+stop_at_first_id edges bytes stop unclosed leaves = stop_at (FirstId edges) bytes stop (record { no_end = λ end ends. cc; no_sign = no_one_sign 41 (Steps (query_from (elements_of edges []))) bytes unclosed; other = leaves })
 
 pub stop_at_next_id : (edges : Bool) (ids : List ℕ) (bytes : List ℕ) (stop : Stop) → Leaves (AnyNumber most_id) bytes stop → StopsFrom (NextId edges ids) bytes stop
 stop_at_next_id edges ids bytes stop leaves = stop_at (NextId edges ids) bytes stop (record { no_end = λ end ends. cc; no_sign = no_signs bytes; other = leaves })
 
 -- ---- the whole source
 
-source_opens : (kind : SourceKind) (bytes rest : List ℕ) → ReadsToken (40 ∷ []) bytes rest → LeadsTo (opens_source kind) bytes (opened_source kind) rest
-source_opens sources.Vertices bytes rest token = token_leads (Opening false) 40 (FirstId false) bytes rest refl refl token
-source_opens sources.Edges bytes rest token = token_leads (Opening true) 40 (FirstId true) bytes rest refl refl token
-source_opens sources.NewVertex bytes rest token = token_leads OpensVertex 40 (Quote VertexLabel) bytes rest refl refl token
+opened_source_loose : (kind : SourceKind) → is_loose (opened_source kind) ≡ true
+opened_source_loose sources.Vertices = refl
+opened_source_loose sources.Edges = refl
+opened_source_loose sources.NewVertex = refl
+opened_source_loose sources.Found = refl
 
-stop_at_opening_of : (kind : SourceKind) (bytes : List ℕ) (stop : Stop) → Leaves (Sign (40 ∷ [])) bytes stop → StopsFrom (opens_source kind) bytes stop
-stop_at_opening_of sources.Vertices bytes stop leaves = stop_at_sign (Opening false) 40 (FirstId false) bytes stop refl leaves
-stop_at_opening_of sources.Edges bytes stop leaves = stop_at_sign (Opening true) 40 (FirstId true) bytes stop refl leaves
-stop_at_opening_of sources.NewVertex bytes stop leaves = stop_at_sign OpensVertex 40 (Quote VertexLabel) bytes stop refl leaves
+source_opens : (kind : SourceKind) (bytes rest : List ℕ) → ReadsToken (40 ∷ []) bytes rest → LeadsTo (Opening kind) bytes (opened_source kind) rest
+source_opens kind bytes rest token = token_leads (Opening kind) 40 (opened_source kind) bytes rest refl (opened_source_loose kind) token
 
-kind_read : (bytes at_kind at_open : List ℕ) (kind : SourceKind) → ReadsToken (46 ∷ []) bytes at_kind → LeadsTo Source at_kind (opens_source kind) at_open → LeadsTo Start bytes (opens_source kind) at_open
-kind_read bytes at_kind at_open kind dot named = on Start bytes Source at_kind (opens_source kind) at_open (token_leads Start 46 Source bytes at_kind refl refl dot) named
+stop_at_opening_of : (kind : SourceKind) (bytes : List ℕ) (stop : Stop) → Leaves (Sign (40 ∷ [])) bytes stop → StopsFrom (Opening kind) bytes stop
+stop_at_opening_of kind bytes stop leaves = stop_at_sign (Opening kind) 40 (opened_source kind) bytes stop refl leaves
 
-pub source_read : (bytes at_kind at_open rest : List ℕ) (kind : SourceKind) → ReadsToken (46 ∷ []) bytes at_kind → LeadsTo Source at_kind (opens_source kind) at_open → ReadsToken (40 ∷ []) at_open rest → LeadsTo Start bytes (opened_source kind) rest
-source_read bytes at_kind at_open rest kind dot named parenthesis = on Start bytes (opens_source kind) at_open (opened_source kind) rest (kind_read bytes at_kind at_open kind dot named) (source_opens kind at_open rest parenthesis)
+kind_read : (bytes at_kind at_open : List ℕ) (kind : SourceKind) → ReadsToken (46 ∷ []) bytes at_kind → LeadsTo SourceName at_kind (Opening kind) at_open → LeadsTo Start bytes (Opening kind) at_open
+kind_read bytes at_kind at_open kind dot named = on Start bytes SourceName at_kind (Opening kind) at_open (token_leads Start 46 SourceName bytes at_kind refl refl dot) named
 
-pub stop_in_kind : (bytes at_kind : List ℕ) (stop : Stop) → ReadsToken (46 ∷ []) bytes at_kind → StopsFrom Source at_kind stop → StopsFrom Start bytes stop
-stop_in_kind bytes at_kind stop dot at = (token_leads Start 46 Source bytes at_kind refl refl dot).stops stop at
+pub source_read : (bytes at_kind at_open rest : List ℕ) (kind : SourceKind) → ReadsToken (46 ∷ []) bytes at_kind → LeadsTo SourceName at_kind (Opening kind) at_open → ReadsToken (40 ∷ []) at_open rest → LeadsTo Start bytes (opened_source kind) rest
+source_read bytes at_kind at_open rest kind dot named parenthesis = on Start bytes (Opening kind) at_open (opened_source kind) rest (kind_read bytes at_kind at_open kind dot named) (source_opens kind at_open rest parenthesis)
 
-pub stop_in_opening : (bytes at_kind at_open : List ℕ) (kind : SourceKind) (stop : Stop) → ReadsToken (46 ∷ []) bytes at_kind → LeadsTo Source at_kind (opens_source kind) at_open → Leaves (Sign (40 ∷ [])) at_open stop → StopsFrom Start bytes stop
+pub stop_in_kind : (bytes at_kind : List ℕ) (stop : Stop) → ReadsToken (46 ∷ []) bytes at_kind → StopsFrom SourceName at_kind stop → StopsFrom Start bytes stop
+stop_in_kind bytes at_kind stop dot at = (token_leads Start 46 SourceName bytes at_kind refl refl dot).stops stop at
+
+pub stop_in_opening : (bytes at_kind at_open : List ℕ) (kind : SourceKind) (stop : Stop) → ReadsToken (46 ∷ []) bytes at_kind → LeadsTo SourceName at_kind (Opening kind) at_open → Leaves (Sign (40 ∷ [])) at_open stop → StopsFrom Start bytes stop
 stop_in_opening bytes at_kind at_open kind stop dot named leaves = (kind_read bytes at_kind at_open kind dot named).stops stop (stop_at_opening_of kind at_open stop leaves)
 
 -- ---- identifiers up to the parenthesis
 
-pub no_ids : (bytes rest : List ℕ) (edges : Bool) → ReadsToken (41 ∷ []) bytes rest → LeadsTo (FirstId edges) bytes (Steps (query_from edges [])) rest
-no_ids bytes rest edges closed = token_leads (FirstId edges) 41 (Steps (query_from edges [])) bytes rest refl refl closed
+pub no_ids : (bytes rest : List ℕ) (edges : Bool) → ReadsToken (41 ∷ []) bytes rest → LeadsTo (FirstId edges) bytes (Steps (query_from (elements_of edges []))) rest
+no_ids bytes rest edges closed = token_leads (FirstId edges) 41 (Steps (query_from (elements_of edges []))) bytes rest refl refl closed
 
 -- what a comma, or a parenthesis, after an identifier leads to
 abbrev pub after_comma : Bool → List ℕ → Bool → Place
-after_comma edges ids more = cond more (NextId edges ids) (Steps (query_from edges ids))
+after_comma edges ids more = cond more (NextId edges ids) (Steps (query_from (elements_of edges ids)))
 
 pub ids_on : (edges : Bool) (ids : List ℕ) (bytes rest : List ℕ) (more : Bool) → ReadsToken (cond more 44 41 ∷ []) bytes rest → LeadsTo (AfterId edges ids) bytes (after_comma edges ids more) rest
-ids_on edges ids bytes rest more token = comma_leads (AfterId edges ids) (NextId edges ids) (Steps (query_from edges ids)) bytes rest more refl refl refl refl token
+ids_on edges ids bytes rest more token = comma_leads (AfterId edges ids) (NextId edges ids) (Steps (query_from (elements_of edges ids))) bytes rest more refl refl refl refl token
 
 pub first_ids : (bytes after rest : List ℕ) (id : ℕ) (more : Bool) → ReadsId id bytes after → ReadsToken (cond more 44 41 ∷ []) after rest → (edges : Bool) → LeadsTo (FirstId edges) bytes (after_comma edges (id ∷ []) more) rest
 first_ids bytes after rest id more (middle, reads, blanks) token edges =
@@ -266,7 +278,7 @@ first_ids bytes after rest id more (middle, reads, blanks) token edges =
 
 pub stop_after_first_id : (bytes after : List ℕ) (id : ℕ) (stop : Stop) → ReadsId id bytes after → LeavesBoth 44 41 after stop → (edges : Bool) → StopsFrom (FirstId edges) bytes stop
 stop_after_first_id bytes after id stop (middle, reads, blanks) leaves edges =
-    (first_id_leads edges id bytes middle after reads blanks).stops stop (stop_at_comma (AfterId edges (id ∷ [])) (NextId edges (id ∷ [])) (Steps (query_from edges (id ∷ []))) after stop refl leaves)
+    (first_id_leads edges id bytes middle after reads blanks).stops stop (stop_at_comma (AfterId edges (id ∷ [])) (NextId edges (id ∷ [])) (Steps (query_from (elements_of edges (id ∷ [])))) after stop refl leaves)
 
 -- What is kept while identifiers are read.
 abbrev pub IdsSoFar : List ℕ → Bool → List ℕ → List ℕ → Type 0
@@ -286,9 +298,9 @@ stop_in_ids bytes rest ids more stop goes so_far leaves edges = (to_next_id byte
 pub stop_after_id : (bytes rest after : List ℕ) (ids : List ℕ) (id : ℕ) (more : Bool) (stop : Stop) → more ≡ true → IdsSoFar bytes more ids rest → ReadsId id rest after → LeavesBoth 44 41 after stop → (edges : Bool) → StopsFrom (FirstId edges) bytes stop
 stop_after_id bytes rest after ids id more stop goes so_far (middle, reads, blanks) leaves edges =
     let one = on (FirstId edges) bytes (NextId edges ids) rest (AfterId edges (ids ++ id ∷ [])) after (to_next_id bytes rest ids more goes so_far edges) (next_id_leads edges ids id rest middle after reads blanks) in
-    one.stops stop (stop_at_comma (AfterId edges (ids ++ id ∷ [])) (NextId edges (ids ++ id ∷ [])) (Steps (query_from edges (ids ++ id ∷ []))) after stop refl leaves)
+    one.stops stop (stop_at_comma (AfterId edges (ids ++ id ∷ [])) (NextId edges (ids ++ id ∷ [])) (Steps (query_from (elements_of edges (ids ++ id ∷ [])))) after stop refl leaves)
 
-pub ids_done : (bytes rest : List ℕ) (ids : List ℕ) (more : Bool) → more ≡ false → IdsSoFar bytes more ids rest → (edges : Bool) → LeadsTo (FirstId edges) bytes (Steps (query_from edges ids)) rest
+pub ids_done : (bytes rest : List ℕ) (ids : List ℕ) (more : Bool) → more ≡ false → IdsSoFar bytes more ids rest → (edges : Bool) → LeadsTo (FirstId edges) bytes (Steps (query_from (elements_of edges ids))) rest
 ids_done bytes rest ids more stops so_far edges = subst (λ (t : Bool). LeadsTo (FirstId edges) bytes (after_comma edges ids t) rest) stops (so_far edges)
 
 pub stop_of_memory : (place : Place) (bytes : List ℕ) (stop : Stop) → stop ≡ stops.Memory → StopsFrom place bytes stop
@@ -332,7 +344,7 @@ read_faultless stage is_ordered bytes rest word no_bad takes = by_fault (step_fa
 pub by_is_ordered : (is_ordered : Bool) (bytes rest : List ℕ) (word : StepWord) → TakesWord (words_after is_ordered) bytes word rest → word ≡ words.By → is_ordered ≡ true
 by_is_ordered true bytes rest word takes by = refl
 by_is_ordered false bytes rest word (run, cut, is) by =
-    let other : is_by word ≡ false = all_in (λ (e : Entry StepWord). is_by e.1 ≡ false) step_words (run, word) (refl, (refl, (refl, (refl, (refl, (refl, (refl, (refl, (refl, (refl, (refl, (refl, (refl, (refl, (refl, (refl, (refl, (refl, (refl, (refl, (refl, tt))))))))))))))))))))) (lookup_in step_words run word is) in
+    let other : is_by word ≡ false = all_in (λ (e : Entry StepWord). is_by e.1 ≡ false) step_words (run, word) (refl, (refl, (refl, (refl, (refl, (refl, (refl, (refl, (refl, (refl, (refl, (refl, (refl, (refl, (refl, (refl, (refl, (refl, (refl, (refl, (refl, (refl, tt)))))))))))))))))))))) (lookup_in step_words run word is) in
     let clash : true ≡ false = ap is_by (sym by) ∙ other in
     cc
 
@@ -359,6 +371,7 @@ after_filter_loose into filter = after_step_loose into (bodies.Filter filter)
 
 after_names_loose : (purpose : NamesFor) (names : List (List ℕ)) → is_loose (after_names purpose names) ≡ true
 after_names_loose (OfStep query step) names = refl
+after_names_loose (OfMaps query) names = refl
 after_names_loose (OfHop into direction) names = after_step_loose into _
 after_names_loose (OfLabels into) names = after_filter_loose into _
 
@@ -371,6 +384,7 @@ opened_is_loose : (query : Query) (word : StepWord) → is_loose (opened query w
 opened_is_loose query (words.Bare bare) = refl
 opened_is_loose query (words.Names step) = refl
 opened_is_loose query (words.Body word) = opened_body_loose (OfQuery query) word
+opened_is_loose query words.ElementMap = refl
 opened_is_loose query words.Limit = refl
 opened_is_loose query words.Order = refl
 opened_is_loose query words.By = refl
@@ -496,17 +510,20 @@ quotes_first purpose bytes unclosed = record {
 -- the place of a first name
 pub quotes_needed : (purpose : NamesFor) (bytes : List ℕ) → needs_name purpose ≡ true → QuotesAt (opened_names purpose) (OneName purpose []) bytes
 quotes_needed (OfStep query step) bytes needs = cc
+quotes_needed (OfMaps query) bytes needs = cc
 quotes_needed (OfHop into direction) bytes needs = cc
 quotes_needed (OfLabels into) bytes needs = quotes_at (OneName (OfLabels into) []) bytes
 
 pub quotes_unclosed : (purpose : NamesFor) (bytes : List ℕ) → needs_name purpose ≡ false → first_byte bytes ≢ Some 41 → QuotesAt (opened_names purpose) (OneName purpose []) bytes
 quotes_unclosed (OfStep query step) bytes free unclosed = quotes_first (OfStep query step) bytes unclosed
+quotes_unclosed (OfMaps query) bytes free unclosed = quotes_first (OfMaps query) bytes unclosed
 quotes_unclosed (OfHop into direction) bytes free unclosed = quotes_first (OfHop into direction) bytes unclosed
 quotes_unclosed (OfLabels into) bytes free unclosed = cc
 
 -- no names
 pub no_names : (purpose : NamesFor) (bytes rest : List ℕ) → needs_name purpose ≡ false → ReadsToken (41 ∷ []) bytes rest → LeadsTo (opened_names purpose) bytes (after_names purpose []) rest
 no_names (OfStep query step) bytes rest free token = token_leads (FirstName (OfStep query step)) 41 (after_names (OfStep query step) []) bytes rest refl refl token
+no_names (OfMaps query) bytes rest free token = token_leads (FirstName (OfMaps query)) 41 (after_names (OfMaps query) []) bytes rest refl refl token
 no_names (OfHop into direction) bytes rest free token = token_leads (FirstName (OfHop into direction)) 41 (after_names (OfHop into direction) []) bytes rest refl (after_names_loose (OfHop into direction) []) token
 no_names (OfLabels into) bytes rest free token = cc
 
@@ -589,28 +606,11 @@ plain_read bytes middle at_close rest value reads blanks close into key =
 -- Where neither a word for a relation nor a value stands, reading stops at the later place.
 pub stop_at_argument : (bytes : List ℕ) (one two : Stop) → first_byte bytes ≢ Some 80 → Leaves (OneWord relation_names) bytes one → Leaves AnyValue bytes two → (into : Into) (key : List ℕ) → StopsFrom (ValueOf into key) bytes (later one two)
 stop_at_argument bytes one two no_p first second into key =
-    stop_at (ValueOf into key) bytes (later one two) (record { no_end = λ end ends. cc; no_sign = no_one_sign 80 (AfterP into key) bytes no_p; other = both one two first second })
-  where
-    either_left : (left other : ℕ) → (left ≤ other) ⊎ (other ≤ left)
-    either_left zero other = inl (omega arith)
-    either_left (suc left) zero = inr (omega arith)
-    either_left (suc left) (suc other) = ⊎_elim (λ (le : left ≤ other). inl (omega arith)) (λ (ge : other ≤ left). inr (omega arith)) (either_left left other)
-
-    both : (one two : Stop) → Leaves (OneWord relation_names) bytes one → Leaves AnyValue bytes two → LeavesOther turn is_loose are some (turn (ValueOf into key)).other bytes (later one two)
-    both stops.Memory two first second = absurd first
-    both (stops.Bad kind left) two first second = absurd first.1
-    both (stops.Syntax left) stops.Memory first second = absurd second
-    both (stops.Syntax left) (stops.Bad kind other) first second = inr second
-    both (stops.Syntax left) (stops.Syntax other) first second = ⊎_elim
-        (λ (le : left ≤ other).
-        let least : min left other ≡ left = omega arith in
-        let found : LeavesOther turn is_loose are some (turn (ValueOf into key)).other bytes (stops.Syntax left) = (other, le, inl (first, second)) in
-        subst (λ (n : ℕ). LeavesOther turn is_loose are some (turn (ValueOf into key)).other bytes (stops.Syntax n)) (sym least) found)
-        (λ (ge : other ≤ left).
-        let least : min left other ≡ other = omega arith in
-        let found : LeavesOther turn is_loose are some (turn (ValueOf into key)).other bytes (stops.Syntax other) = (left, ge, inr (first, second)) in
-        subst (λ (n : ℕ). LeavesOther turn is_loose are some (turn (ValueOf into key)).other bytes (stops.Syntax n)) (sym least) found)
-        (either_left left other)
+    stop_at (ValueOf into key) bytes (later one two) (record {
+      no_end = λ end ends. cc;
+      no_sign = no_one_sign 80 (AfterP into key) bytes no_p;
+      other = leaves_either (Leaves (OneWord relation_names) bytes) (Leaves AnyValue bytes) (λ none. none) (λ none. none) (λ kind left bad. bad.1) one two first second;
+    })
 
 -- ---- a predicate
 
@@ -685,70 +685,29 @@ compared_read bytes at_value middle at_close at_end rest value token reads blank
 
 -- ---- the steps
 
--- What is kept while steps are read.
-pub record StepsSoFar (edges : Bool) (bytes : List ℕ) (is_ordered : Bool) (list : List Step) (items : Items) (count : ℕ) (rest : List ℕ) : Type 0 where
-  pub items_are : items ≡ items_from (first_items edges) list
-  pub counted : count ≡ steps_in list
-  pub early : count ≤ 32
-  pub order_last : is_ordered ≡ true → (before : List Step) × (list ≡ before ++ plain_order ∷ [])
-  pub leads : (ids : List ℕ) → LeadsTo (Steps (query_from edges ids)) bytes (steps_place is_ordered (query_of edges ids list)) rest
+-- What the name of a step promises after the steps so far, with its parenthesis.
+abbrev pub OpensStep : Stage → Bool → StepWord → List ℕ → List ℕ → Type 0
+OpensStep stage is_ordered word rest at_arguments = (query : Query) → stage_of query ≡ stage → LeadsTo (steps_place is_ordered query) rest (opened query word) at_arguments
 
-pub no_steps : (edges : Bool) (bytes : List ℕ) (items : Items) → items ≡ first_items edges → StepsSoFar edges bytes false [] items 0 bytes
-no_steps edges bytes items are_first = record { items_are = are_first; counted = refl; early = omega arith; order_last = λ ordered. cc; leads = λ ids. reaches_here turn is_loose are some (Steps (query_from edges ids)) bytes }
-
--- the stage of the query so far
-pub stage_is : (edges : Bool) (bytes : List ℕ) (is_ordered : Bool) (list : List Step) (items : Items) (count : ℕ) (rest : List ℕ) → StepsSoFar edges bytes is_ordered list items count rest → (ids : List ℕ) → stage_of (query_of edges ids list) ≡ record { items = items; steps = count }
-stage_is edges bytes is_ordered list items count rest so_far ids = λ i. record { items = sym so_far.items_are i; steps = sym so_far.counted i }
-
-pub steps_more : (edges : Bool) (bytes rest after : List ℕ) (is_ordered : Bool) (list : List Step) (items later : Items) (count more : ℕ) (word : StepWord) (step : Step) → StepsSoFar edges bytes is_ordered list items count rest → later ≡ items_after items step → more ≡ count + added_count word step → more ≤ 32 → (word ≡ words.By → is_ordered ≡ true) → IsOrderStep word step → ((query : Query) → stage_of query ≡ record { items = items; steps = count } → LeadsTo (steps_place is_ordered query) rest (after_word word query step) after) → StepsSoFar edges bytes (is_order word) (put_step word list step) later more after
-steps_more edges bytes rest after is_ordered list items later count more word step so_far later_is more_is few by order reads = record {
-  items_are = later_is ∙ ap (λ (these : Items). items_after these step) so_far.items_are ∙ sym (items_from-put_step (first_items edges) list word step (λ same. so_far.order_last (by same)) order);
-  counted = more_is ∙ ap (λ (n : ℕ). n + added_count word step) so_far.counted ∙ sym (steps_in-put_step list word step (λ same. so_far.order_last (by same)) order);
-  early = few;
-  order_last = order_is_last list word step order;
-  leads = λ ids.
-      let query : Query = query_of edges ids list in
-      on (Steps (query_from edges ids)) bytes (steps_place is_ordered query) rest (after_word word query step) after (so_far.leads ids) (reads query (stage_is edges bytes is_ordered list items count rest so_far ids));
-}
-
-pub stop_in_steps : (edges : Bool) (bytes rest : List ℕ) (is_ordered : Bool) (list : List Step) (items : Items) (count : ℕ) (stop : Stop) → StepsSoFar edges bytes is_ordered list items count rest → ((query : Query) → stage_of query ≡ record { items = items; steps = count } → StopsFrom (steps_place is_ordered query) rest stop) → (ids : List ℕ) → StopsFrom (Steps (query_from edges ids)) bytes stop
-stop_in_steps edges bytes rest is_ordered list items count stop so_far at ids = (so_far.leads ids).stops stop (at (query_of edges ids list) (stage_is edges bytes is_ordered list items count rest so_far ids))
-
-steps_end : (is_ordered : Bool) (query : Query) → (turn (steps_place is_ordered query)).ends ≡ Some (commands.Query query)
+steps_end : (is_ordered : Bool) (query : Query) → (turn (steps_place is_ordered query)).ends ≡ Some (commands.Query (shown query))
 steps_end true query = refl
 steps_end false query = refl
 
-pub steps_kept : (edges : Bool) (bytes rest : List ℕ) (is_ordered : Bool) (list : List Step) (items : Items) (count : ℕ) → StepsSoFar edges bytes is_ordered list items count rest → rest ≡ [] → (ids : List ℕ) → KeptFrom turn is_loose (commands.Query (query_of edges ids list)) (Steps (query_from edges ids)) bytes
-steps_kept edges bytes rest is_ordered list items count so_far none ids =
-    let query : Query = query_of edges ids list in
-    (so_far.leads ids).kept (commands.Query query) (kept_end turn is_loose are some (steps_place is_ordered query) (commands.Query query) rest (steps_end is_ordered query) none)
-
--- What the name of a step promises after the steps so far, with its parenthesis.
-abbrev pub OpensStep : Items → ℕ → Bool → StepWord → List ℕ → List ℕ → Type 0
-OpensStep items count is_ordered word rest at_arguments = (query : Query) → stage_of query ≡ record { items = items; steps = count } → LeadsTo (steps_place is_ordered query) rest (opened query word) at_arguments
-
--- a step with its name and its arguments
-pub step_read : (items : Items) (count : ℕ) (is_ordered : Bool) (word : StepWord) (step : Step) (rest at_arguments after : List ℕ) → OpensStep items count is_ordered word rest at_arguments → ((query : Query) → stage_of query ≡ record { items = items; steps = count } → LeadsTo (opened query word) at_arguments (after_word word query step) after) → (query : Query) → stage_of query ≡ record { items = items; steps = count } → LeadsTo (steps_place is_ordered query) rest (after_word word query step) after
-step_read items count is_ordered word step rest at_arguments after opens reads query same = on (steps_place is_ordered query) rest (opened query word) at_arguments (after_word word query step) after (opens query same) (reads query same)
-
-pub stop_in_arguments : (items : Items) (count : ℕ) (is_ordered : Bool) (word : StepWord) (rest at_arguments : List ℕ) (stop : Stop) → OpensStep items count is_ordered word rest at_arguments → ((query : Query) → stage_of query ≡ record { items = items; steps = count } → StopsFrom (opened query word) at_arguments stop) → (query : Query) → stage_of query ≡ record { items = items; steps = count } → StopsFrom (steps_place is_ordered query) rest stop
-stop_in_arguments items count is_ordered word rest at_arguments stop opens at query same = (opens query same).stops stop (at query same)
+-- the query at the line's end
+pub query_kept : (place : Place) (query : Query) (bytes rest : List ℕ) (is_ordered : Bool) → LeadsTo place bytes (steps_place is_ordered query) rest → rest ≡ [] → KeptFrom turn is_loose (commands.Query (shown query)) place bytes
+query_kept place query bytes rest is_ordered leads none =
+    leads.kept (commands.Query (shown query)) (kept_end turn is_loose are some (steps_place is_ordered query) (commands.Query (shown query)) rest (steps_end is_ordered query) none)
 
 -- a step that changes the graph
-pub stop_in_change : (items : Items) (count : ℕ) (is_ordered : Bool) (word : StepWord) (change : ChangeWord) (rest at_arguments : List ℕ) (stop : Stop) → OpensStep items count is_ordered word rest at_arguments → word ≡ words.Change change → ((query : Query) → steps_in query.steps ≡ count → StopsFrom (opened query (words.Change change)) at_arguments stop) → (query : Query) → stage_of query ≡ record { items = items; steps = count } → StopsFrom (steps_place is_ordered query) rest stop
-stop_in_change items count is_ordered word change rest at_arguments stop opens is at query same =
-    (opens query same).stops stop (subst (λ (w : StepWord). StopsFrom (opened query w) at_arguments stop) (sym is) (at query (ap (λ (s : Stage). s.steps) same)))
+pub stop_in_change : (place : Place) (query : Query) (stage : Stage) (is_ordered : Bool) (word : StepWord) (change : ChangeWord) (bytes rest at_arguments : List ℕ) (stop : Stop) → LeadsTo place bytes (steps_place is_ordered query) rest → stage_of query ≡ stage → OpensStep stage is_ordered word rest at_arguments → word ≡ words.Change change → ((query : Query) → steps_of query ≡ stage.steps → StopsFrom (opened query (words.Change change)) at_arguments stop) → StopsFrom place bytes stop
+stop_in_change place query stage is_ordered word change bytes rest at_arguments stop leads same opens is at =
+    leads.stops stop ((opens query same).stops stop (subst (λ (w : StepWord). StopsFrom (opened query w) at_arguments stop) (sym is) (at query (ap (λ (s : Stage). s.steps) same))))
 
-pub change_kept : (edges : Bool) (ids : List ℕ) (bytes rest at_arguments : List ℕ) (is_ordered : Bool) (list : List Step) (items : Items) (count : ℕ) (word : StepWord) (change : ChangeWord) (mutation : Mutation) → StepsSoFar edges bytes is_ordered list items count rest → OpensStep items count is_ordered word rest at_arguments → word ≡ words.Change change → ((query : Query) → steps_in query.steps ≡ count → KeptFrom turn is_loose (commands.Mutate (Some query) mutation) (opened query (words.Change change)) at_arguments) → KeptFrom turn is_loose (commands.Mutate (Some (query_of edges ids list)) mutation) (Steps (query_from edges ids)) bytes
-change_kept edges ids bytes rest at_arguments is_ordered list items count word change mutation so_far opens is kept =
-    let query : Query = query_of edges ids list in
+pub change_kept : (place : Place) (query : Query) (stage : Stage) (is_ordered : Bool) (word : StepWord) (change : ChangeWord) (mutation : Mutation) (bytes rest at_arguments : List ℕ) → LeadsTo place bytes (steps_place is_ordered query) rest → stage_of query ≡ stage → OpensStep stage is_ordered word rest at_arguments → word ≡ words.Change change → ((query : Query) → steps_of query ≡ stage.steps → KeptFrom turn is_loose (commands.Mutate (Some query) mutation) (opened query (words.Change change)) at_arguments) → KeptFrom turn is_loose (commands.Mutate (Some query) mutation) place bytes
+change_kept place query stage is_ordered word change mutation bytes rest at_arguments leads same opens is kept =
     let command : Command = commands.Mutate (Some query) mutation in
-    let here = subst (λ (w : StepWord). KeptFrom turn is_loose command (opened query w) at_arguments) (sym is) (kept query (sym so_far.counted)) in
-    (so_far.leads ids).kept command ((opens query (stage_is edges bytes is_ordered list items count rest so_far ids)).kept command here)
-
--- What is kept from the steps on is kept from the identifiers on.
-pub elements_kept : (edges : Bool) (ids : List ℕ) (bytes at_steps : List ℕ) (command : Command) → ((edges : Bool) → LeadsTo (FirstId edges) bytes (Steps (query_from edges ids)) at_steps) → KeptFrom turn is_loose command (Steps (query_from edges ids)) at_steps → KeptFrom turn is_loose command (FirstId edges) bytes
-elements_kept edges ids bytes at_steps command these kept = (these edges).kept command kept
+    let here = subst (λ (w : StepWord). KeptFrom turn is_loose command (opened query w) at_arguments) (sym is) (kept query (ap (λ (s : Stage). s.steps) same)) in
+    leads.kept command ((opens query same).kept command here)
 
 -- the whole query
 pub query_is_kept : (kind : SourceKind) (bytes at_source rest : List ℕ) (command : Command) → Reads AnyBlanks tt bytes at_source → LeadsTo Start at_source (opened_source kind) rest → KeptFrom turn is_loose command (opened_source kind) rest → IsKeptQuery command bytes

@@ -12,7 +12,7 @@ use Rattle.gremlin_parse.specs.Grammar.{IsBounded}
 use Rattle.gremlin_parse.specs.Keywords.{Entry, common, lookup, reach, whole_word, TakesWord}
 use Rattle.gremlin_parse.specs.Reading.{first_byte}
 use Rattle.gremlin_parse.specs.Symbols.{AnyTimes, AnyBlanks, Sign, Reads, ReadsToken, Leaves}
-use Rattle.gremlin_parse.specs.Stages.{added_count, fits, is_by, late_fault, name_count, step_count, step_fault, steps_in}
+use Rattle.gremlin_parse.specs.Stages.{added_count, fits, is_by, late_fault, name_count, step_count, step_fault, steps_of}
 use Rattle.gremlin_parse.specs.Turns.{IsBadWord, LeavesWords, ThenSign, ThenOther, BadOther, Leads, KeptFrom, BadFrom, Loosely}
 use Rattle.gremlin_parse.specs.Queries.{body_words, as_step_word, OfBody, Place, Steps, Closing, BodyFirst, Underscore, AfterAnonymous, BodyName, OpensBody, InBody, AfterBody, TimesWord, OpensTimes, TimesOf, body_name, opened_body, count_before, bare_step, names_step, step_of, with_step, LeavesBoth, LeadsTo, StopsFrom, turn, is_loose}
 use Rattle.gremlin_parse.specs.declared.bad_token.BadToken.{BadToken}
@@ -306,7 +306,7 @@ stop_in_body query body bytes stop leaves =
 -- What is kept while the steps of a body are read.
 pub record BodySoFar (before : ℕ) (bytes : List ℕ) (more : Bool) (list : List BodyStep) (count : ℕ) (rest : List ℕ) : Type 0 where
   pub counted : before + 1 + length list ≡ count
-  pub leads : (query : Query) → steps_in query.steps ≡ before → LeadsTo (BodyFirst query) bytes (after_dot query list more) rest
+  pub leads : (query : Query) → steps_of query ≡ before → LeadsTo (BodyFirst query) bytes (after_dot query list more) rest
 
 -- What a step of a body promises.
 abbrev pub StepReads : ℕ → BodyStep → List ℕ → List ℕ → Type 0
@@ -318,21 +318,21 @@ no_body_steps before count bytes rest list none counted leads = record {
   leads = λ query same. subst (λ (body : List BodyStep). LeadsTo (BodyFirst query) bytes (BodyName query body) rest) (sym none) (leads query);
 }
 
-next_count : (before count : ℕ) (query : Query) (list : List BodyStep) → before + 1 + length list ≡ count → steps_in query.steps ≡ before → count_before query list ≡ count
+next_count : (before count : ℕ) (query : Query) (list : List BodyStep) → before + 1 + length list ≡ count → steps_of query ≡ before → count_before query list ≡ count
 next_count before count query list counted same = ap (λ (n : ℕ). n + 1 + length list) same ∙ counted
 
-to_body_name : (before count : ℕ) (bytes rest : List ℕ) (more : Bool) (list : List BodyStep) → more ≡ true → BodySoFar before bytes more list count rest → (query : Query) → steps_in query.steps ≡ before → LeadsTo (BodyFirst query) bytes (BodyName query list) rest
+to_body_name : (before count : ℕ) (bytes rest : List ℕ) (more : Bool) (list : List BodyStep) → more ≡ true → BodySoFar before bytes more list count rest → (query : Query) → steps_of query ≡ before → LeadsTo (BodyFirst query) bytes (BodyName query list) rest
 to_body_name before count bytes rest more list goes so_far query same = subst (λ (t : Bool). LeadsTo (BodyFirst query) bytes (after_dot query list t) rest) goes (so_far.leads query same)
 
-pub stop_in_body_step : (before count : ℕ) (bytes rest : List ℕ) (more : Bool) (list : List BodyStep) (stop : Stop) → more ≡ true → BodySoFar before bytes more list count rest → ((query : Query) (body : List BodyStep) → count_before query body ≡ count → StopsFrom (BodyName query body) rest stop) → (query : Query) → steps_in query.steps ≡ before → StopsFrom (BodyFirst query) bytes stop
+pub stop_in_body_step : (before count : ℕ) (bytes rest : List ℕ) (more : Bool) (list : List BodyStep) (stop : Stop) → more ≡ true → BodySoFar before bytes more list count rest → ((query : Query) (body : List BodyStep) → count_before query body ≡ count → StopsFrom (BodyName query body) rest stop) → (query : Query) → steps_of query ≡ before → StopsFrom (BodyFirst query) bytes stop
 stop_in_body_step before count bytes rest more list stop goes so_far at query same =
     (to_body_name before count bytes rest more list goes so_far query same).stops stop (at query list (next_count before count query list so_far.counted same))
 
-one_body_step : (before count : ℕ) (bytes rest after : List ℕ) (more : Bool) (list : List BodyStep) (step : BodyStep) → more ≡ true → BodySoFar before bytes more list count rest → StepReads count step rest after → (query : Query) → steps_in query.steps ≡ before → LeadsTo (BodyFirst query) bytes (InBody query (list ++ step ∷ [])) after
+one_body_step : (before count : ℕ) (bytes rest after : List ℕ) (more : Bool) (list : List BodyStep) (step : BodyStep) → more ≡ true → BodySoFar before bytes more list count rest → StepReads count step rest after → (query : Query) → steps_of query ≡ before → LeadsTo (BodyFirst query) bytes (InBody query (list ++ step ∷ [])) after
 one_body_step before count bytes rest after more list step goes so_far reads query same =
     on (BodyFirst query) bytes (BodyName query list) rest (InBody query (list ++ step ∷ [])) after (to_body_name before count bytes rest more list goes so_far query same) (reads query list (next_count before count query list so_far.counted same))
 
-pub stop_after_body_step : (before count : ℕ) (bytes rest after : List ℕ) (more : Bool) (list : List BodyStep) (step : BodyStep) (stop : Stop) → more ≡ true → BodySoFar before bytes more list count rest → StepReads count step rest after → LeavesBoth 46 41 after stop → (query : Query) → steps_in query.steps ≡ before → StopsFrom (BodyFirst query) bytes stop
+pub stop_after_body_step : (before count : ℕ) (bytes rest after : List ℕ) (more : Bool) (list : List BodyStep) (step : BodyStep) (stop : Stop) → more ≡ true → BodySoFar before bytes more list count rest → StepReads count step rest after → LeavesBoth 46 41 after stop → (query : Query) → steps_of query ≡ before → StopsFrom (BodyFirst query) bytes stop
 stop_after_body_step before count bytes rest after more list step stop goes so_far reads leaves query same =
     (one_body_step before count bytes rest after more list step goes so_far reads query same).stops stop (stop_in_body query (list ++ step ∷ []) after stop leaves)
 
@@ -343,7 +343,7 @@ body_steps_more before count next bytes rest after later more again list step go
       on (BodyFirst query) bytes (InBody query (list ++ step ∷ [])) after (after_dot query (list ++ step ∷ []) again) later (one_body_step before count bytes rest after more list step goes so_far reads query same) (dot_leads query (list ++ step ∷ []) after later again token);
 }
 
-pub body_done : (before count : ℕ) (bytes rest : List ℕ) (more : Bool) (list : List BodyStep) → more ≡ false → BodySoFar before bytes more list count rest → (query : Query) → steps_in query.steps ≡ before → LeadsTo (BodyFirst query) bytes (AfterBody query list) rest
+pub body_done : (before count : ℕ) (bytes rest : List ℕ) (more : Bool) (list : List BodyStep) → more ≡ false → BodySoFar before bytes more list count rest → (query : Query) → steps_of query ≡ before → LeadsTo (BodyFirst query) bytes (AfterBody query list) rest
 body_done before count bytes rest more list ends so_far query same = subst (λ (t : Bool). LeadsTo (BodyFirst query) bytes (after_dot query list t) rest) ends (so_far.leads query same)
 
 -- ---- the call of times

@@ -1,6 +1,8 @@
 -- What a command has after its first word: arguments, each after one blank or more.
 use Rattle.std.specs.Prelude.{ℕ, nat_eq, cond, pos, List, [], ◌∷◌, codes}
 use Rattle.std.specs.Cmp.Lexicographic.{pointwise}
+use Rattle.plain_graph.specs.declared.command.Target.{Target}
+use Rattle.plain_graph.specs.declared.command.Target.TheVariants as targets
 use Rattle.plain_graph.specs.declared.direction.Direction.{Direction}
 use Rattle.plain_graph.specs.declared.direction.Direction.TheVariants as directions
 use Rattle.plain_graph.specs.declared.value.Value.{Value}
@@ -32,6 +34,11 @@ target_word target_kinds.Edge = codes "edge"
 -- what one of the two names stands for
 abbrev pub kind_named : List ℕ → TargetWord
 kind_named name = cond (pointwise nat_eq (codes "node") name) target_kinds.Node target_kinds.Edge
+
+-- the element of an identifier
+abbrev pub target_of : TargetWord → ℕ → Target
+target_of target_kinds.Node id = targets.Node id
+target_of target_kinds.Edge id = targets.Edge id
 
 -- the words for a direction
 abbrev pub direction_words : List (Entry Direction)

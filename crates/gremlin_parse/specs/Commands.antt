@@ -5,7 +5,6 @@ use Rattle.std.specs.List.{AllByRecursion}
 use Rattle.plain_graph.specs.declared.command.Command.{Command}
 use Rattle.plain_graph.specs.declared.command.Command.TheVariants as commands
 use Rattle.plain_graph.specs.declared.command.Target.{Target}
-use Rattle.plain_graph.specs.declared.command.Target.TheVariants as targets
 use Rattle.gremlin_parse.specs.Grammar.{Blanks, Exactly, Gap, IsBounded, Name, Number, Part}
 use Rattle.gremlin_parse.specs.Grammar.{Written, alone, between_parts, direction_name, most_id}
 use Rattle.gremlin_parse.specs.Grammar.{name_to_end, pairs_to_end, target_parts}
@@ -14,10 +13,11 @@ use Rattle.gremlin_parse.specs.Symbols.{Symbol, Contents, Follows, BadFollows}
 use Rattle.gremlin_parse.specs.Stopping.{Bads, IsStop}
 use Rattle.gremlin_parse.specs.Reading.{Then}
 use Rattle.gremlin_parse.specs.Queries.{IsKeptQuery}
-use Rattle.gremlin_parse.specs.Arguments.{kind_named, direction_named, spaced}
-use Rattle.gremlin_parse.specs.Arguments.{contents_in, listed}
+use Rattle.gremlin_parse.specs.Arguments.{contents_in, direction_named, kind_named, listed}
+use Rattle.gremlin_parse.specs.Arguments.{spaced, target_of}
 use Rattle.gremlin_parse.specs.Lasts.{is_query, LastContentOf, LastIs, SomeLast, BadInLast}
 use Rattle.gremlin_parse.specs.Lasts.{last_content}
+use Rattle.gremlin_parse.specs.Views.{view_command, viewed_to_end}
 use Rattle.gremlin_parse.specs.declared.argument.Givens.{Givens}
 use Rattle.gremlin_parse.specs.declared.last.Last.{Last}
 use Rattle.gremlin_parse.specs.declared.argument.Argument.{Argument}
@@ -29,8 +29,12 @@ use Rattle.gremlin_parse.specs.declared.word.Word.TheVariants as words
 use Rattle.gremlin_parse.specs.declared.head.Head.{Head}
 use Rattle.gremlin_parse.specs.declared.head.Head.TheVariants as heads
 use Rattle.gremlin_parse.specs.declared.stop.Stop.{Stop}
-use Rattle.gremlin_parse.specs.declared.target.TargetWord.{TargetWord}
-use Rattle.gremlin_parse.specs.declared.target.TargetWord.TheVariants as target_kinds
+use Rattle.gremlin_parse.specs.declared.viewed.Viewed.{Viewed}
+use Rattle.gremlin_parse.specs.declared.viewed.Viewed.TheVariants as views
+
+-- the parts of a line that views this
+abbrev pub viewing : Viewed → List Part
+viewing viewed = Exactly (codes "view") ∷ viewed_to_end viewed
 
 -- the parts that spell a command, from its first letter
 abbrev pub parts_of : Command → List Part
@@ -75,6 +79,9 @@ parts_of (commands.Path from to direction label) =
     between_parts (codes "path") from to direction ++ name_to_end label
 parts_of (commands.Levels from to direction label) =
     between_parts (codes "levels") from to direction ++ name_to_end label
+parts_of (commands.View target) = viewing (views.Element target)
+parts_of commands.ViewNames = viewing views.Names
+parts_of commands.ViewIndexes = viewing views.Indexes
 parts_of (commands.Query query) = []
 parts_of (commands.Mutate reading mutation) = []
 
@@ -127,6 +134,7 @@ word_of heads.Expand = codes "expand"
 word_of heads.Degree = codes "degree"
 word_of heads.Path = codes "path"
 word_of heads.Levels = codes "levels"
+word_of heads.View = codes "view"
 word_of heads.Query = codes "g"
 
 abbrev pub all_heads : List Head
@@ -136,16 +144,11 @@ all_heads =
     ∷ heads.Alone words.Reopen ∷ heads.Alone words.Snapshot ∷ heads.Alone words.Release
     ∷ heads.Alone words.Quit ∷ heads.Node ∷ heads.Edge ∷ heads.Set ∷ heads.Unset ∷ heads.Delete
     ∷ heads.Index ∷ heads.Find ∷ heads.Expand ∷ heads.Degree ∷ heads.Path ∷ heads.Levels
-    ∷ heads.Query ∷ []
+    ∷ heads.View ∷ heads.Query ∷ []
 
 -- the words with which a command or a query begins
 abbrev pub head_words : List (Entry Head)
 head_words = map (λ head. (word_of head, head)) all_heads
-
--- the element of an identifier
-abbrev pub target_of : TargetWord → ℕ → Target
-target_of target_kinds.Node id = targets.Node id
-target_of target_kinds.Edge id = targets.Edge id
 
 -- the element of a name and an identifier
 abbrev pub element_of : List ℕ → ℕ → Target
@@ -174,6 +177,7 @@ last_part heads.Edge = lasts.Pairs
 last_part heads.Degree = lasts.MaybeName
 last_part heads.Path = lasts.MaybeName
 last_part heads.Levels = lasts.MaybeName
+last_part heads.View = lasts.Viewed
 last_part heads.Query = lasts.Query
 last_part _ = lasts.End
 
@@ -219,6 +223,7 @@ command_of heads.Path contents label =
     commands.Path contents.1.0 contents.1.1.1.0 (direction_named contents.1.1.1.1.1.0) label
 command_of heads.Levels contents label =
     commands.Levels contents.1.0 contents.1.1.1.0 (direction_named contents.1.1.1.1.1.0) label
+command_of heads.View contents viewed = view_command viewed
 command_of heads.Query contents command = command
 
 -- the command of a first word and of what a line has after it
@@ -235,6 +240,7 @@ IsPlain head = is_query (last_part head) ≡ false
 abbrev pub Asks : Head → Type 0
 Asks (heads.Alone word) = ⊥
 Asks heads.Delete = ⊥
+Asks heads.View = ⊥
 Asks _ = Unit {0}
 
 abbrev pub LastOf : (head : Head) → LastContent head → List ℕ → Type 0

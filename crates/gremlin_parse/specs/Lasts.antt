@@ -1,5 +1,5 @@
--- What stands after a command's arguments, to the line's end: nothing, pairs, a name or none, or a
--- query, which may change the graph.
+-- What stands after a command's arguments, to the line's end: nothing, pairs, a name or none, what
+-- is viewed, or a query, which may change the graph.
 use Rattle.std.specs.Prelude.{ℕ, Bool, true, false, Option, Some, None, List, [], ◌∷◌}
 use Rattle.std.specs.Borrow.{Bor}
 use Rattle.plain_graph.specs.declared.command.Command.{Command}
@@ -8,9 +8,11 @@ use Rattle.plain_graph.specs.declared.pairs.Pair.{Pair}
 use Rattle.gremlin_parse.specs.Grammar.{Part, Blanks, IsMadeOf, pairs_to_end, name_to_end}
 use Rattle.gremlin_parse.specs.Stopping.{Bads, BadInOne}
 use Rattle.gremlin_parse.specs.Queries.{QueryTo, BadQuery}
+use Rattle.gremlin_parse.specs.Views.{viewed_to_end}
 use Rattle.gremlin_parse.specs.declared.last.LastPart.{LastPart}
 use Rattle.gremlin_parse.specs.declared.last.LastPart.TheVariants as lasts
 use Rattle.gremlin_parse.specs.declared.last.Last.{Last}
+use Rattle.gremlin_parse.specs.declared.viewed.Viewed.{Viewed}
 
 abbrev pub is_query : LastPart → Bool
 is_query lasts.Query = true
@@ -21,6 +23,7 @@ abbrev pub LastContentOf : LastPart → Type 0
 LastContentOf lasts.End = Unit {0}
 LastContentOf lasts.Pairs = List Pair
 LastContentOf lasts.MaybeName = Option (List ℕ)
+LastContentOf lasts.Viewed = Viewed
 LastContentOf lasts.Query = Command
 
 abbrev pub now_of : Option (Bor (List ℕ)) → Option (List ℕ)
@@ -32,12 +35,14 @@ abbrev pub last_content : (kind : LastPart) → Last → LastContentOf kind
 last_content lasts.End last = tt
 last_content lasts.Pairs last = last.pairs
 last_content lasts.MaybeName last = now_of last.name
+last_content lasts.Viewed last = last.viewed
 last_content lasts.Query last = commands.Blank
 
 abbrev pub last_parts : (kind : LastPart) → LastContentOf kind → List Part
 last_parts lasts.End last = Blanks ∷ []
 last_parts lasts.Pairs pairs = pairs_to_end pairs
 last_parts lasts.MaybeName name = name_to_end name
+last_parts lasts.Viewed viewed = viewed_to_end viewed
 last_parts lasts.Query command = []
 
 -- the bytes are this content, to the line's end

@@ -12,9 +12,11 @@ pub mod Pairs
 pub mod OrderKeys
 pub mod Stages
 pub mod Queries
+pub mod Drafts
 pub mod Comparisons
 pub mod Orders
 pub mod Arguments
+pub mod Views
 pub mod Lasts
 pub mod Commands
 pub mod Tags

@@ -16,13 +16,16 @@ use Rattle.plain_graph.specs.declared.pairs.Pair.{Pair}
 use Rattle.plain_graph.specs.declared.query.BodyStep.{BodyStep}
 use Rattle.plain_graph.specs.declared.query.BodyStep.TheVariants as bodies
 use Rattle.plain_graph.specs.declared.query.Query.{Query}
+use Rattle.plain_graph.specs.declared.query.Source.{Source}
+use Rattle.plain_graph.specs.declared.query.Source.TheVariants as origins
 use Rattle.plain_graph.specs.declared.query.Step.{Step}
 use Rattle.plain_graph.specs.declared.query.Step.TheVariants as steps
 use Rattle.plain_graph.specs.declared.value.Value.{Value}
 use Rattle.gremlin_parse.specs.Grammar.{most_id, most_limit}
 use Rattle.gremlin_parse.specs.Keywords.{Entry, lookup}
 use Rattle.gremlin_parse.specs.Symbols.{Sign, OneWord, AnyClosed, AnyNumber, AnyTimes, AnyValue}
-use Rattle.gremlin_parse.specs.Stages.{is_by, stage_of, step_fault, steps_in, late_fault}
+use Rattle.gremlin_parse.specs.Stages.{are_elements, first_items, is_by, items_from, late_fault}
+use Rattle.gremlin_parse.specs.Stages.{stage_of, step_fault, steps_of}
 use Rattle.gremlin_parse.specs.Stopping.{Bads, IsStop, StopsWith}
 use Rattle.gremlin_parse.specs.Turns.{Other, Nothing, Words, Token, Either, Turn, LineFrom}
 use Rattle.gremlin_parse.specs.Turns.{BadFrom, BadLoosely, KeptFrom, Leads, Loosely, Reaches}
@@ -49,7 +52,7 @@ step_words =
     ∷ (codes "outE", words.Names (of_names.Incident directions.Outgoing))
     ∷ (codes "inE", words.Names (of_names.Incident directions.Incoming))
     ∷ (codes "bothE", words.Names (of_names.Incident directions.Both))
-    ∷ (codes "values", words.Names of_names.Values)
+    ∷ (codes "values", words.Names of_names.Values) ∷ (codes "elementMap", words.ElementMap)
     ∷ (codes "hasLabel", words.Body of_body.HasLabel) ∷ (codes "has", words.Body of_body.Has)
     ∷ (codes "outV", words.Bare bare.OutV) ∷ (codes "inV", words.Bare bare.InV)
     ∷ (codes "id", words.Bare bare.Id) ∷ (codes "label", words.Bare bare.Label)
@@ -151,15 +154,17 @@ pub data Into : Type 0 where
   OfQuery : (query : Query) → Into
   OfBody : (query : Query) → (body : List BodyStep) → Into
 
--- What names are read for: a step of a query alone, a hop, or labels.
+-- What names are read for: a step of a query alone, the maps of its elements, a hop, or labels.
 pub data NamesFor : Type 0 where
   OfStep : (query : Query) → (step : NamesStep) → NamesFor
+  OfMaps : (query : Query) → NamesFor
   OfHop : (into : Into) → (direction : Direction) → NamesFor
   OfLabels : (into : Into) → NamesFor
 
 -- A label is written after hasLabel; the others may have no name.
 abbrev pub needs_name : NamesFor → Bool
 needs_name (OfStep query step) = false
+needs_name (OfMaps query) = false
 needs_name (OfHop into direction) = false
 needs_name (OfLabels into) = true
 
@@ -170,21 +175,29 @@ pub data Subject : Type 0 where
   NewEdges : (query : Query) → (label : List ℕ) → (to : ℕ) → Subject
   Elements : (query : Query) → Subject
 
+-- What a key and its value are read for: a property of a change after others, or a source after
+-- its label.
+pub data PairFor : Type 0 where
+  OfChange : (subject : Subject) → (pairs : List Pair) → PairFor
+  OfSource : (label : List ℕ) → PairFor
+
 -- What a name between quotes is read for: one of the names of a step, the key of `has` or of an
--- order, the label of a new vertex, the type of new edges, or the key of a property after others.
+-- order, the label of a new vertex, the type of new edges, the label of the nodes that are found,
+-- or the key of a pair.
 pub data Quoted : Type 0 where
   OneName : (purpose : NamesFor) → (names : List (List ℕ)) → Quoted
   Key : (into : Into) → Quoted
   OrderKey : (query : Query) → Quoted
   VertexLabel : Quoted
   EdgeType : (query : Query) → Quoted
-  PropertyKey : (subject : Subject) → (pairs : List Pair) → Quoted
+  FoundLabel : Quoted
+  PairKey : (purpose : PairFor) → Quoted
 
 -- A place of a query, with what was read before it.
 pub data Place : Type 0 where
   Start : Place
-  Source : Place
-  Opening : (edges : Bool) → Place
+  SourceName : Place
+  Opening : (kind : SourceKind) → Place
   FirstId : (edges : Bool) → Place
   AfterId : (edges : Bool) → (ids : List ℕ) → Place
   NextId : (edges : Bool) → (ids : List ℕ) → Place
@@ -224,7 +237,7 @@ pub data Place : Type 0 where
   TimesWord : (query : Query) → (body : List BodyStep) → Place
   OpensTimes : (query : Query) → (body : List BodyStep) → Place
   TimesOf : (query : Query) → (body : List BodyStep) → Place
-  OpensVertex : Place
+  AfterFoundLabel : (label : List ℕ) → Place
   VertexCloses : (label : List ℕ) → Place
   TypeCloses : (query : Query) → (label : List ℕ) → Place
   AfterType : (query : Query) → (label : List ℕ) → Place
@@ -243,20 +256,37 @@ pub data Place : Type 0 where
   Changed : (subject : Subject) → (pairs : List Pair) → Place
   PropertyName : (subject : Subject) → (pairs : List Pair) → Place
   OpensProperty : (subject : Subject) → (pairs : List Pair) → Place
-  AfterPropertyKey : (subject : Subject) → (pairs : List Pair) → (key : List ℕ) → Place
-  PropertyValue : (subject : Subject) → (pairs : List Pair) → (key : List ℕ) → Place
-  PropertyCloses : (subject : Subject) → (pairs : List Pair) → Place
+  AfterPairKey : (purpose : PairFor) → (key : List ℕ) → Place
+  PairValue : (purpose : PairFor) → (key : List ℕ) → Place
+  PairCloses : (purpose : PairFor) → (key : List ℕ) → (value : Value) → Place
 
-abbrev pub query_from : Bool → List ℕ → Query
-query_from edges ids = record { edges = edges; ids = ids; steps = [] }
+-- the vertices or edges of these identifiers
+abbrev pub elements_of : Bool → List ℕ → Source
+elements_of edges ids = cond edges (origins.Edges ids) (origins.Vertices ids)
 
-abbrev pub query_of : Bool → List ℕ → List Step → Query
-query_of edges ids list = record { edges = edges; ids = ids; steps = list }
+abbrev pub query_of : Source → List Step → Option (List (List ℕ)) → Query
+query_of source list maps = record { source = source; steps = list; maps = maps }
+
+abbrev pub query_from : Source → Query
+query_from source = query_of source [] None
+
+-- the query with these steps
+abbrev pub with_steps : Query → List Step → Query
+with_steps query list = query_of query.source list query.maps
 
 -- the query with one step more
 abbrev pub with_step : Query → Step → Query
-with_step query step =
-    record { edges = query.edges; ids = query.ids; steps = query.steps ++ step ∷ [] }
+with_step query step = with_steps query (query.steps ++ step ∷ [])
+
+-- the query whose elements are shown as maps of these keys
+abbrev pub with_maps : Query → List (List ℕ) → Query
+with_maps query keys = query_of query.source query.steps (Some keys)
+
+-- The query that was read: maps are shown of elements, and of values none.
+abbrev pub shown : Query → Query
+shown query =
+    query_of query.source query.steps
+    (cond (are_elements (items_from (first_items query.source) query.steps)) query.maps None)
 
 -- after a step of a query or of a body
 abbrev pub after_step : Into → BodyStep → Place
@@ -270,6 +300,7 @@ after_filter into filter = after_step into (bodies.Filter filter)
 -- after the names of a step and the parenthesis
 abbrev pub after_names : NamesFor → List (List ℕ) → Place
 after_names (OfStep query step) names = Steps (with_step query (names_step step names))
+after_names (OfMaps query) names = Steps (with_maps query names)
 after_names (OfHop into direction) names =
     after_step into (bodies.Neighbours (record { direction = direction; labels = names }))
 after_names (OfLabels into) names = after_filter into (filters.HasLabel names)
@@ -294,11 +325,8 @@ plain_order = steps.Order None false
 
 -- the query with this order in place of its last step
 abbrev pub reordered : Query → Option (List ℕ) → Bool → Query
-reordered query key descending = record {
-  edges = query.edges;
-  ids = query.ids;
-  steps = replace_last query.steps (steps.Order key descending);
-}
+reordered query key descending =
+    with_steps query (replace_last query.steps (steps.Order key descending))
 
 -- the query whose elements a change is for, if it begins with one
 abbrev pub reading_of : Subject → Option Query
@@ -319,41 +347,42 @@ changed subject pairs = commands.Mutate (reading_of subject) (mutation_of subjec
 -- How many steps are before the first property: `addV` and `to` are no steps.
 abbrev pub steps_before : Subject → ℕ
 steps_before (NewVertex label) = 0
-steps_before (NewEdges query label to) = steps_in query.steps + 1
-steps_before (Elements query) = steps_in query.steps
+steps_before (NewEdges query label to) = steps_of query + 1
+steps_before (Elements query) = steps_of query
 
 -- the pairs with one more
 abbrev pub with_pair : List Pair → List ℕ → Value → List Pair
 with_pair pairs key value = pairs ++ record { key = key; value = value } ∷ []
 
--- after what a query begins with
-abbrev pub opens_source : SourceKind → Place
-opens_source sources.Vertices = Opening false
-opens_source sources.Edges = Opening true
-opens_source sources.NewVertex = OpensVertex
+-- after a key and its value
+abbrev pub after_pair : PairFor → List ℕ → Value → Place
+after_pair (OfChange subject pairs) key value = Changed subject (with_pair pairs key value)
+after_pair (OfSource label) key value = Steps (query_from (origins.Found label key value))
 
--- after its parenthesis
+-- after the parenthesis of what a query begins with
 abbrev pub opened_source : SourceKind → Place
 opened_source sources.Vertices = FirstId false
 opened_source sources.Edges = FirstId true
 opened_source sources.NewVertex = Quote VertexLabel
+opened_source sources.Found = Quote FoundLabel
 
 -- after the parenthesis of a step, or of the `by` of an order
 abbrev pub opened : Query → StepWord → Place
 opened query (words.Bare bare) = Closing query (bare_step bare)
 opened query (words.Names step) = opened_names (OfStep query step)
 opened query (words.Body word) = opened_body (OfQuery query) word
+opened query words.ElementMap = opened_names (OfMaps query)
 opened query words.Limit = Most query
 opened query words.Order = OrderCloses query
 opened query words.By = ByFirst query
 opened query words.Repeat = BodyFirst query
 opened query (words.Change changes.AddE) = Quote (EdgeType query)
-opened query (words.Change changes.Property) = Quote (PropertyKey (Elements query) [])
+opened query (words.Change changes.Property) = Quote (PairKey (OfChange (Elements query) []))
 opened query (words.Change changes.Drop) = DropCloses query
 
 -- how many steps are before the next one of a body: those of the query, the repeat and the body's
 abbrev pub count_before : Query → List BodyStep → ℕ
-count_before query body = steps_in query.steps + 1 + length body
+count_before query body = steps_of query + 1 + length body
 
 -- after a name and its closing quote
 abbrev pub after_quoted : Quoted → List ℕ → Place
@@ -362,7 +391,8 @@ after_quoted (Key into) name = AfterKey into name
 after_quoted (OrderKey query) name = AfterOrderKey query name
 after_quoted VertexLabel name = VertexCloses name
 after_quoted (EdgeType query) name = TypeCloses query name
-after_quoted (PropertyKey subject pairs) name = AfterPropertyKey subject pairs name
+after_quoted FoundLabel name = AfterFoundLabel name
+after_quoted (PairKey purpose) name = AfterPairKey purpose name
 
 abbrev pub value_filter : List ℕ → Value → Filter
 value_filter key value = filters.HasValue key relations.Eq value
@@ -382,6 +412,13 @@ direction_of query key =
     (Token (OneWord sort_names) (λ word. ByCloses query key (is_descending word)))
     (Token (Sign (codes "Order")) (λ _. AfterOrderWord query key))
 
+-- a word for what a query begins with, where no sign stands for it
+abbrev pub named_source : Other StepWord Place
+named_source =
+    Either
+    (Token (Sign (codes "find")) (λ _. Opening sources.Found))
+    (Token (Sign (codes "addV")) (λ _. Opening sources.NewVertex))
+
 -- What may stand in a body with these steps before: the name of a step, and nothing else.
 abbrev pub body_name : Query → List BodyStep → Other StepWord Place
 body_name query body =
@@ -391,22 +428,22 @@ body_name query body =
 -- What may stand at each place. The signs are . (46), V (86), E (69), P (80), ( (40), ) (41),
 -- , (44), _ (95) and the two quotes (39 and 34).
 abbrev pub turn : Place → Turn StepWord Place Command
-turn Start = one_of ((46, Source) ∷ [])
-turn Source =
+turn Start = one_of ((46, SourceName) ∷ [])
+turn SourceName =
     record {
       ends = None;
-      signs = (86, Opening false) ∷ (69, Opening true) ∷ [];
-      other = Token (Sign (codes "addV")) (λ _. OpensVertex);
+      signs = (86, Opening sources.Vertices) ∷ (69, Opening sources.Edges) ∷ [];
+      other = named_source;
     }
-turn (Opening edges) = one_of ((40, FirstId edges) ∷ [])
+turn (Opening kind) = one_of ((40, opened_source kind) ∷ [])
 turn (FirstId edges) =
     record {
       ends = None;
-      signs = (41, Steps (query_from edges [])) ∷ [];
+      signs = (41, Steps (query_from (elements_of edges []))) ∷ [];
       other = Token (AnyNumber most_id) (λ id. AfterId edges (id ∷ []));
     }
 turn (AfterId edges ids) =
-    one_of ((44, NextId edges ids) ∷ (41, Steps (query_from edges ids)) ∷ [])
+    one_of ((44, NextId edges ids) ∷ (41, Steps (query_from (elements_of edges ids))) ∷ [])
 turn (NextId edges ids) =
     record {
       ends = None;
@@ -415,7 +452,7 @@ turn (NextId edges ids) =
     }
 turn (Steps query) =
     record {
-      ends = Some (commands.Query query);
+      ends = Some (commands.Query (shown query));
       signs = (46, StepName query) ∷ [];
       other = Nothing;
     }
@@ -469,7 +506,7 @@ turn (Most query) =
 turn (OrderCloses query) = one_of ((41, Ordered (with_step query plain_order)) ∷ [])
 turn (Ordered query) =
     record {
-      ends = Some (commands.Query query);
+      ends = Some (commands.Query (shown query));
       signs = (46, OrderedName query) ∷ [];
       other = Nothing;
     }
@@ -526,7 +563,7 @@ turn (TimesOf query body) =
       signs = [];
       other = Token AnyTimes (λ times. Closing query (steps.Repeat body times));
     }
-turn OpensVertex = one_of ((40, Quote VertexLabel) ∷ [])
+turn (AfterFoundLabel label) = one_of ((44, Quote (PairKey (OfSource label))) ∷ [])
 turn (VertexCloses label) = one_of ((41, Changed (NewVertex label) []) ∷ [])
 turn (TypeCloses query label) = one_of ((41, AfterType query label) ∷ [])
 turn (AfterType query label) = one_of ((46, ToWord query label) ∷ [])
@@ -572,16 +609,12 @@ turn (PropertyName subject pairs) =
           Words property_words (λ _ _. late_fault (steps_before subject + length pairs))
           (λ _. OpensProperty subject pairs);
     }
-turn (OpensProperty subject pairs) = one_of ((40, Quote (PropertyKey subject pairs)) ∷ [])
-turn (AfterPropertyKey subject pairs key) =
-    one_of ((44, PropertyValue subject pairs key) ∷ [])
-turn (PropertyValue subject pairs key) =
-    record {
-      ends = None;
-      signs = [];
-      other = Token AnyValue (λ value. PropertyCloses subject (with_pair pairs key value));
-    }
-turn (PropertyCloses subject pairs) = one_of ((41, Changed subject pairs) ∷ [])
+turn (OpensProperty subject pairs) =
+    one_of ((40, Quote (PairKey (OfChange subject pairs))) ∷ [])
+turn (AfterPairKey purpose key) = one_of ((44, PairValue purpose key) ∷ [])
+turn (PairValue purpose key) =
+    record { ends = None; signs = []; other = Token AnyValue (PairCloses purpose key) }
+turn (PairCloses purpose key value) = one_of ((41, after_pair purpose key value) ∷ [])
 
 -- Blanks may stand before all but a name between quotes, its closing quote, and the second of two
 -- underscores.
@@ -622,6 +655,12 @@ abbrev pub is_change : StepWord → Bool
 is_change (words.Change word) = true
 is_change _ = false
 
+-- It is the name of a step of a query, as neither of one that changes the graph nor of maps.
+abbrev pub is_step : StepWord → Bool
+is_step (words.Change word) = false
+is_step words.ElementMap = false
+is_step _ = true
+
 -- It is an order, after which its `by` may stand.
 abbrev pub is_order : StepWord → Bool
 is_order words.Order = true
@@ -641,8 +680,7 @@ put_step word list step = cond (is_by word) (replace_last list step) (list ++ st
 -- the place after the step of this word
 abbrev pub after_word : StepWord → Query → Step → Place
 after_word word query step =
-    steps_place (is_order word)
-    (record { edges = query.edges; ids = query.ids; steps = put_step word query.steps step })
+    steps_place (is_order word) (with_steps query (put_step word query.steps step))
 
 -- The bytes begin with neither of the two.
 abbrev pub NeitherFirst : ℕ → ℕ → List ℕ → Type 0

@@ -1,7 +1,9 @@
 -- What comes to a step of a query, and the fault that the name of a step has there.
-use Rattle.std.specs.Prelude.{ℕ, ◌+◌, Bool, true, false, cond, nat_lt, if◌then◌else◌}
+use Rattle.std.specs.Prelude.{ℕ, ◌+◌, Bool, true, false, cond, nat_lt, if◌then◌else◌, not}
 use Rattle.std.specs.Prelude.{Option, Some, None, List, [], ◌∷◌, length}
 use Rattle.plain_graph.specs.declared.query.Query.{Query}
+use Rattle.plain_graph.specs.declared.query.Source.{Source}
+use Rattle.plain_graph.specs.declared.query.Source.TheVariants as origins
 use Rattle.plain_graph.specs.declared.query.Step.{Step}
 use Rattle.plain_graph.specs.declared.query.Step.TheVariants as steps
 use Rattle.gremlin_parse.specs.OrderKeys.{has_key}
@@ -21,17 +23,25 @@ abbrev pub are_vertices : Items → Bool
 are_vertices items.Vertices = true
 are_vertices items.Edges = false
 are_vertices items.Values = false
+are_vertices items.Maps = false
 
 abbrev pub are_edges : Items → Bool
 are_edges items.Vertices = false
 are_edges items.Edges = true
 are_edges items.Values = false
+are_edges items.Maps = false
 
 -- vertices or edges
 abbrev pub are_elements : Items → Bool
 are_elements items.Vertices = true
 are_elements items.Edges = true
 are_elements items.Values = false
+are_elements items.Maps = false
+
+-- elements that are shown as maps
+abbrev pub are_maps : Items → Bool
+are_maps items.Maps = true
+are_maps _ = false
 
 -- The step whose name begins the bytes may be done with these items.
 abbrev pub fits : Items → StepWord → List ℕ → Bool
@@ -40,6 +50,7 @@ fits these (words.Body of_body.HasLabel) bytes = are_elements these
 fits these (words.Body of_body.Has) bytes = are_elements these
 fits these (words.Names (of_names.Incident direction)) bytes = are_vertices these
 fits these (words.Names of_names.Values) bytes = are_elements these
+fits these words.ElementMap bytes = are_elements these
 fits these words.Repeat bytes = are_vertices these
 fits these (words.Change changes.AddE) bytes = are_vertices these
 fits these (words.Change changes.Property) bytes = are_elements these
@@ -48,15 +59,18 @@ fits these (words.Bare bare.OutV) bytes = are_edges these
 fits these (words.Bare bare.InV) bytes = are_edges these
 fits these (words.Bare bare.Id) bytes = are_elements these
 fits these (words.Bare bare.Label) bytes = are_elements these
-fits these (words.Bare bare.Dedup) bytes = true
+fits these (words.Bare bare.Dedup) bytes = not (are_maps these)
 fits these (words.Bare bare.Count) bytes = true
 fits these words.Limit bytes = true
-fits these words.Order bytes = if has_key bytes then are_elements these else true
+fits these words.Order bytes =
+    if has_key bytes then are_elements these else not (are_maps these)
 fits these words.By bytes = true
 
 -- what a query begins with
-abbrev pub first_items : Bool → Items
-first_items edges = cond edges items.Edges items.Vertices
+abbrev pub first_items : Source → Items
+first_items (origins.Vertices ids) = items.Vertices
+first_items (origins.Edges ids) = items.Edges
+first_items (origins.Found label key value) = items.Vertices
 
 -- what a step gives where these items come to it
 abbrev pub items_after : Items → Step → Items
@@ -89,11 +103,25 @@ abbrev pub steps_in : List Step → ℕ
 steps_in [] = 0
 steps_in (step ∷ list) = step_count step + steps_in list
 
+-- how many steps ask for maps
+abbrev pub maps_count : Option (List (List ℕ)) → ℕ
+maps_count None = 0
+maps_count (Some keys) = 1
+
+-- how many steps the query has so far, with the one that asks for maps
+abbrev pub steps_of : Query → ℕ
+steps_of query = steps_in query.steps + maps_count query.maps
+
+-- what comes to the next step: where maps are asked for, elements are maps
+abbrev pub mapped : Option (List (List ℕ)) → Items → Items
+mapped None these = these
+mapped (Some keys) these = cond (are_elements these) items.Maps these
+
 -- what comes after the query so far
 abbrev pub stage_of : Query → Stage
 stage_of query = record {
-  items = items_from (first_items query.edges) query.steps;
-  steps = steps_in query.steps;
+  items = mapped query.maps (items_from (first_items query.source) query.steps);
+  steps = steps_of query;
 }
 
 -- the fault of the name of a step with so many steps before it, if 32 or more are

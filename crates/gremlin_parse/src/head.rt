@@ -12,6 +12,7 @@ use crate::parts::copy_name;
 use crate::stop::Stop;
 use crate::target::target_of;
 use crate::value::value_of;
+use crate::viewed::view_command;
 use crate::word::{Word, plain_command};
 use plain_graph::Command;
 use std::alloc::Global;
@@ -31,10 +32,11 @@ pub(crate) enum Head {
     Degree,
     Path,
     Levels,
+    View,
     Query,
 }
 
-const HEADS: [(&[u8], Head); 22] = [
+const HEADS: [(&[u8], Head); 23] = [
     (b"begin", Head::Alone(Word::Begin)),
     (b"commit", Head::Alone(Word::Commit)),
     (b"rollback", Head::Alone(Word::Rollback)),
@@ -56,6 +58,7 @@ const HEADS: [(&[u8], Head); 22] = [
     (b"degree", Head::Degree),
     (b"path", Head::Path),
     (b"levels", Head::Levels),
+    (b"view", Head::View),
     (b"g", Head::Query),
 ];
 
@@ -91,7 +94,7 @@ pub(crate) fn arguments_of(head: Head) -> &'static [Argument]
         Head::Expand => &[Argument::Number, Argument::Direction, Argument::Name],
         Head::Degree => &[Argument::Number, Argument::Direction],
         Head::Path | Head::Levels => &[Argument::Number, Argument::Number, Argument::Direction],
-        Head::Alone(_) | Head::Query => &[],
+        Head::Alone(_) | Head::View | Head::Query => &[],
     }
 }
 
@@ -102,6 +105,7 @@ pub(crate) fn last_part(head: Head) -> LastPart
     match head {
         Head::Node | Head::Edge => LastPart::Pairs,
         Head::Degree | Head::Path | Head::Levels => LastPart::MaybeName,
+        Head::View => LastPart::Viewed,
         Head::Query => LastPart::Query,
         _ => LastPart::End,
     }
@@ -139,6 +143,7 @@ pub(crate) fn command_of(
         Head::Degree => degree_of(alloc, givens, last),
         Head::Path => path_of(alloc, givens, last),
         Head::Levels => levels_of(alloc, givens, last),
+        Head::View => Ok(view_of(givens, last)),
         Head::Query => unreachable!(),
     }
 }
@@ -268,4 +273,11 @@ fn levels_of(alloc: Global, givens: Givens, last: Last) -> Result<Command, Stop>
         direction: givens.third.direction(),
         label,
     })
+}
+
+#[tactic(auto, unfolding(crate::specs::Commands::built))]
+fn view_of(_givens: Givens, last: Last) -> Command
+    ensures { result ≡ built Head.View _givens.entry last.entry }
+{
+    view_command(last.viewed)
 }

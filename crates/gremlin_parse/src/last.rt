@@ -8,6 +8,7 @@ ghost use Rattle.gremlin_parse.specs.Lasts.{BadInLast, Lacks, now_of};
 use crate::pair::read_pairs;
 use crate::parts::{copy_name, read_end, read_gap, read_name, skip_blanks};
 use crate::stop::Stop;
+use crate::viewed::{Viewed, read_viewed};
 use plain_graph::{Pairs, Text};
 use std::alloc::Global;
 
@@ -19,14 +20,18 @@ pub(crate) enum LastPart {
     Pairs,
     /// A name or none.
     MaybeName,
+    /// What is viewed.
+    Viewed,
     Query,
 }
 
-/// What a line has there: no pairs and no name where its command has none.
+/// What a line has there: no pairs and no name where its command has none, and names where it views
+/// nothing.
 #[derive(Drop)]
 pub(crate) struct Last<'a> {
     pub(crate) pairs: Pairs,
     pub(crate) name: Option<&'a [u8]>,
+    pub(crate) viewed: Viewed,
 }
 
 /// What stands last, to the line's end.
@@ -43,23 +48,33 @@ pub(crate) fn read_last(alloc: Global, bytes: &[u8], kind: LastPart) -> Result<L
     match kind {
         LastPart::End => {
             read_end(skip_blanks(bytes))?;
-            Ok(Last {
-                pairs: Pairs::new(Vec::new(alloc)),
-                name: None,
-            })
+            Ok(nothing(alloc))
         }
         LastPart::Pairs => {
             let pairs = read_pairs(alloc, bytes)?;
-            Ok(Last { pairs, name: None })
+            let none = nothing(alloc);
+            Ok(Last { pairs, ..none })
         }
         LastPart::MaybeName => {
             let name = read_last_name(bytes)?;
-            Ok(Last {
-                pairs: Pairs::new(Vec::new(alloc)),
-                name,
-            })
+            let none = nothing(alloc);
+            Ok(Last { name, ..none })
+        }
+        LastPart::Viewed => {
+            let viewed = read_viewed(bytes)?;
+            let none = nothing(alloc);
+            Ok(Last { viewed, ..none })
         }
         LastPart::Query => unreachable!(),
+    }
+}
+
+/// What stands where there is nothing but blanks.
+fn nothing<'a>(alloc: Global) -> Last<'a> {
+    Last {
+        pairs: Pairs::new(Vec::new(alloc)),
+        name: None,
+        viewed: Viewed::Names,
     }
 }
 

@@ -5,10 +5,11 @@ ghost use Rattle.plain_graph.specs.declared.pairs.Pair.{Pair};
 ghost use Rattle.plain_graph.specs.declared.query.Query.{Query};
 ghost use Rattle.gremlin_parse.specs.Keywords.{TakesWord};
 ghost use Rattle.gremlin_parse.specs.Queries.{AfterType, Changed, NewEdges, OpensId};
-ghost use Rattle.gremlin_parse.specs.Queries.{PropertyKey, Quote, Subject, ToFirst, VertexLabel};
+ghost use Rattle.gremlin_parse.specs.Queries.{OfChange, PairFor, PairKey, Quote, Subject, ToFirst};
+ghost use Rattle.gremlin_parse.specs.Queries.{VertexLabel, after_pair};
 ghost use Rattle.gremlin_parse.specs.Queries.{LeadsTo, StopsFrom, changed, is_loose, opened};
-ghost use Rattle.gremlin_parse.specs.Queries.{property_words, steps_before, turn, with_pair};
-ghost use Rattle.gremlin_parse.specs.Stages.{late_fault, steps_in};
+ghost use Rattle.gremlin_parse.specs.Queries.{property_words, steps_before, turn};
+ghost use Rattle.gremlin_parse.specs.Stages.{late_fault, steps_of};
 ghost use Rattle.gremlin_parse.specs.Turns.{IsBadWord, KeptFrom, LeavesWords};
 ghost use Rattle.gremlin_parse.specs.Values.{value_of};
 ghost use Rattle.gremlin_parse.specs.declared.bad_token.BadToken.{BadToken};
@@ -59,10 +60,10 @@ pub(crate) fn read_change(
     bytes: &[u8],
 ) -> Result<Mutation, Stop>
     requires { before < 32 }
-    ensures ok { IfOk result (λ mutation. (query : Query) → steps_in query.steps ≡ before →
+    ensures ok { IfOk result (λ mutation. (query : Query) → steps_of query ≡ before →
         KeptFrom turn is_loose (commands.Mutate (Some query) mutation)
         (opened query (words.Change change)) bytes.now) }
-    ensures err { IfErr result (λ stop. (query : Query) → steps_in query.steps ≡ before →
+    ensures err { IfErr result (λ stop. (query : Query) → steps_of query ≡ before →
         StopsFrom (opened query (words.Change change)) bytes.now stop) }
 {
     match change {
@@ -84,10 +85,10 @@ pub(crate) fn read_change(
 /// New edges, from their type to the line's end.
 fn read_new_edges(alloc: Global, before: usize, bytes: &[u8]) -> Result<Mutation, Stop>
     requires { before < 32 }
-    ensures ok { IfOk result (λ mutation. (query : Query) → steps_in query.steps ≡ before →
+    ensures ok { IfOk result (λ mutation. (query : Query) → steps_of query ≡ before →
         KeptFrom turn is_loose (commands.Mutate (Some query) mutation)
         (opened query (words.Change changes.AddE)) bytes.now) }
-    ensures err { IfErr result (λ stop. (query : Query) → steps_in query.steps ≡ before →
+    ensures err { IfErr result (λ stop. (query : Query) → steps_of query ≡ before →
         StopsFrom (opened query (words.Change changes.AddE)) bytes.now stop) }
 {
     let (name, at_close) = read_quoted_name(bytes)?;
@@ -101,13 +102,13 @@ fn read_new_edges(alloc: Global, before: usize, bytes: &[u8]) -> Result<Mutation
 /// New values, from the first key to the line's end.
 fn read_values(alloc: Global, before: usize, bytes: &[u8]) -> Result<Mutation, Stop>
     requires { before < 32 }
-    ensures ok { IfOk result (λ mutation. (query : Query) → steps_in query.steps ≡ before →
+    ensures ok { IfOk result (λ mutation. (query : Query) → steps_of query ≡ before →
         KeptFrom turn is_loose (commands.Mutate (Some query) mutation)
         (opened query (words.Change changes.Property)) bytes.now) }
-    ensures err { IfErr result (λ stop. (query : Query) → steps_in query.steps ≡ before →
+    ensures err { IfErr result (λ stop. (query : Query) → steps_of query ≡ before →
         StopsFrom (opened query (words.Change changes.Property)) bytes.now stop) }
 {
-    let (key, value, rest) = read_property(bytes)?;
+    let (key, value, rest) = read_pair(bytes)?;
     let mut first = Vec::new(alloc);
     push_pair(alloc, &mut first, key, value)?;
     let pairs = read_properties(alloc, before + 1, first, rest)?;
@@ -196,7 +197,7 @@ fn read_properties(
     let mut rest = bytes;
     while !rest.is_empty() {
         let at_key = read_property_name(count, rest)?;
-        let (key, value, after) = read_property(at_key)?;
+        let (key, value, after) = read_pair(at_key)?;
         push_pair(alloc, &mut pairs, key, value)?;
         count += 1;
         rest = after;
@@ -210,7 +211,8 @@ fn read_property_name(before: usize, bytes: &[u8]) -> Result<&[u8], Stop>
     requires { bytes.now ≢ [] }
     ensures ok { IfOk result (λ rest. (subject : Subject) (pairs : List Pair) →
         steps_before subject + length pairs ≡ before →
-        LeadsTo (Changed subject pairs) bytes.now (Quote (PropertyKey subject pairs)) rest.now) }
+        LeadsTo (Changed subject pairs) bytes.now (Quote (PairKey (OfChange subject pairs)))
+        rest.now) }
     ensures early { IfOk result (λ rest. before < 32) }
     ensures less { IfOk result (λ rest. length rest.now < length bytes.now) }
     ensures err { IfErr result (λ stop. (subject : Subject) (pairs : List Pair) →
@@ -254,13 +256,13 @@ fn property_fault(before: usize, bytes: &[u8]) -> Option<BadToken>
 }
 
 /// A key between quotes and its value up to the closing parenthesis, and the bytes after it.
-fn read_property(bytes: &[u8]) -> Result<(&[u8], WrittenValue<'_>, &[u8]), Stop>
-    ensures ok { IfOk result (λ r. (subject : Subject) (pairs : List Pair) →
-        LeadsTo (Quote (PropertyKey subject pairs)) bytes.now
-        (Changed subject (with_pair pairs r.0.now (value_of r.1))) r.2.now) }
+pub(crate) fn read_pair(bytes: &[u8]) -> Result<(&[u8], WrittenValue<'_>, &[u8]), Stop>
+    ensures ok { IfOk result (λ r. (purpose : PairFor) →
+        LeadsTo (Quote (PairKey purpose)) bytes.now
+        (after_pair purpose r.0.now (value_of r.1)) r.2.now) }
     ensures within { IfOk result (λ r. length r.2.now ≤ length bytes.now) }
-    ensures err { IfErr result (λ stop. (subject : Subject) (pairs : List Pair) →
-        StopsFrom (Quote (PropertyKey subject pairs)) bytes.now stop) }
+    ensures err { IfErr result (λ stop. (purpose : PairFor) →
+        StopsFrom (Quote (PairKey purpose)) bytes.now stop) }
 {
     let (key, at_comma) = read_quoted_name(bytes)?;
     let at_value = read_token(at_comma, b",")?;

@@ -1,17 +1,17 @@
-ghost use Rattle.std.specs.Prelude.{◌≡◌, IfOk, IfErr, OnOk};
+ghost use Rattle.std.specs.Prelude.{◌≡◌, Bool, IfOk, IfErr};
 ghost use Rattle.gremlin_parse.specs.Turns.{KeptFrom};
-ghost use Rattle.gremlin_parse.specs.Queries.{FirstId, Steps, StopsFrom, opened_source, query_from};
-ghost use Rattle.gremlin_parse.specs.Queries.{turn, is_loose, is_order, put_step};
-ghost use Rattle.gremlin_parse.specs.Queries.{IsKeptQuery, StopsInQuery};
+ghost use Rattle.gremlin_parse.specs.Queries.{FirstId, FoundLabel, Quote, Steps, StopsFrom};
+ghost use Rattle.gremlin_parse.specs.Queries.{elements_of, opened_source, query_from};
+ghost use Rattle.gremlin_parse.specs.Queries.{turn, is_loose, IsKeptQuery, StopsInQuery};
 
+use crate::draft::Draft;
 use crate::mutation::{read_change, read_new_vertex};
 use crate::parts::skip_blanks;
-use crate::source::{SourceKind, read_ids, read_source};
-use crate::stage::{Stage, added_count, first_items, is_by, items_after};
-use crate::step::{read_arguments, read_opening};
+use crate::source::{SourceKind, read_found, read_ids, read_source};
+use crate::step::read_opening;
 use crate::step_word::StepWord;
 use crate::stop::Stop;
-use plain_graph::{Command, Ids, Query, Step, StepList};
+use plain_graph::{Command, Ids, Source};
 use std::alloc::Global;
 
 /// The query after its `g`, which may change the graph with its last steps.
@@ -50,6 +50,10 @@ fn read_from(alloc: Global, kind: SourceKind, bytes: &[u8]) -> Result<Command, S
                 mutation,
             })
         }
+        SourceKind::Found => {
+            let command = read_found_nodes(alloc, bytes)?;
+            Ok(command)
+        }
     }
 }
 
@@ -59,63 +63,50 @@ fn read_elements(alloc: Global, edges: bool, bytes: &[u8]) -> Result<Command, St
     ensures err { IfErr result (StopsFrom (FirstId edges) bytes.now) }
 {
     let (ids, at_steps) = read_ids(alloc, bytes)?;
-    let command = read_steps(alloc, edges, ids, at_steps)?;
+    let command = read_steps(alloc, elements_of(edges, ids), at_steps)?;
+    Ok(command)
+}
+
+/// The vertices or edges of these identifiers.
+fn elements_of(edges: bool, ids: Ids) -> Source
+    ensures { result ≡ elements_of edges ids }
+{
+    if edges {
+        Source::Edges(ids)
+    } else {
+        Source::Vertices(ids)
+    }
+}
+
+/// What is asked of the nodes that an index finds, from their label to the line's end.
+fn read_found_nodes(alloc: Global, bytes: &[u8]) -> Result<Command, Stop>
+    ensures ok { IfOk result (λ command.
+        KeptFrom turn is_loose command (Quote FoundLabel) bytes.now) }
+    ensures err { IfErr result (StopsFrom (Quote FoundLabel) bytes.now) }
+{
+    let (source, at_steps) = read_found(alloc, bytes)?;
+    let command = read_steps(alloc, source, at_steps)?;
     Ok(command)
 }
 
 /// The steps to the line's end. The first one that changes the graph has a reader of its own, which
 /// reads the rest.
-fn read_steps(alloc: Global, edges: bool, ids: Ids, bytes: &[u8]) -> Result<Command, Stop>
+fn read_steps(alloc: Global, source: Source, bytes: &[u8]) -> Result<Command, Stop>
     ensures ok { IfOk result (λ command.
-        KeptFrom turn is_loose command (Steps (query_from edges ids)) bytes.now) }
-    ensures err { IfErr result (StopsFrom (Steps (query_from edges ids)) bytes.now) }
+        KeptFrom turn is_loose command (Steps (query_from source)) bytes.now) }
+    ensures err { IfErr result (StopsFrom (Steps (query_from source)) bytes.now) }
 {
-    let mut steps = Vec::new(alloc);
-    let mut items = first_items(edges);
-    let mut count = 0;
-    let mut is_ordered = false;
+    let mut draft = Draft::new(alloc, &source);
     let mut rest = bytes;
     while !rest.is_empty() {
-        let stage = Stage {
-            items,
-            steps: count,
-        };
-        let (word, at_arguments) = read_opening(stage, is_ordered, rest)?;
+        let stage = draft.stage();
+        let (word, at_arguments) = read_opening(stage, draft.is_ordered, rest)?;
         if let StepWord::Change(change) = word {
-            let mutation = read_change(alloc, change, count, at_arguments)?;
-            let steps = StepList::new(steps);
-            let reading = Some(Query { edges, ids, steps });
+            let mutation = read_change(alloc, change, stage.steps, at_arguments)?;
+            let reading = Some(draft.reading(source));
             return Ok(Command::Mutate { reading, mutation });
         }
-        let (step, after) = read_arguments(alloc, stage, word, at_arguments)?;
-        items = items_after(items, &step);
-        count += added_count(word, &step);
-        put_step(&mut steps, word, step)?;
-        is_ordered = is_order(word);
-        rest = after;
+        rest = draft.read(alloc, word, at_arguments)?;
     }
-    let list = StepList::new(steps);
-    Ok(Command::Query(Query {
-        edges,
-        ids,
-        steps: list,
-    }))
-}
-
-/// Adds the step after the others. The order of a `by` takes the place of the last one.
-fn put_step(steps: &mut Vec<Step>, word: StepWord, step: Step) -> Result<(), Stop>
-    ensures ok { OnOk result (steps.new.items ≡ put_step word steps.old.items step) }
-    ensures err { IfErr result (λ stop. stop ≡ Stop.Memory) }
-{
-    if is_by(word) {
-        steps.pop();
-    }
-    steps.push(step).map_err(|_| Stop::Memory)
-}
-
-/// Whether it is an order, after which a `by` may stand.
-fn is_order(word: StepWord) -> bool
-    ensures { result ≡ is_order word }
-{
-    matches!(word, StepWord::Order)
+    Ok(Command::Query(draft.query(source)))
 }

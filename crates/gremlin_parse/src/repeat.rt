@@ -7,7 +7,7 @@ ghost use Rattle.gremlin_parse.specs.Keywords.{TakesWord};
 ghost use Rattle.gremlin_parse.specs.Queries.{Steps, BodyFirst, BodyName, InBody, AfterBody};
 ghost use Rattle.gremlin_parse.specs.Queries.{LeadsTo, StopsFrom, LeavesBoth, with_step};
 ghost use Rattle.gremlin_parse.specs.Queries.{body_words, count_before};
-ghost use Rattle.gremlin_parse.specs.Stages.{steps_in, step_count, late_fault};
+ghost use Rattle.gremlin_parse.specs.Stages.{steps_of, step_count, late_fault};
 ghost use Rattle.gremlin_parse.specs.Symbols.{ReadsToken};
 ghost use Rattle.gremlin_parse.specs.Turns.{IsBadWord, LeavesWords};
 ghost use Rattle.gremlin_parse.specs.declared.bad_token.BadToken.{BadToken};
@@ -39,11 +39,11 @@ const BODY: [(&[u8], BodyWord); 5] = [
 /// names and values, or `Memory`.
 pub(crate) fn read_repeat(alloc: Global, before: usize, bytes: &[u8]) -> Result<(Step, &[u8]), Stop>
     requires { before < 32 }
-    ensures ok { IfOk result (λ r. (query : Query) → steps_in query.steps ≡ before →
+    ensures ok { IfOk result (λ r. (query : Query) → steps_of query ≡ before →
         LeadsTo (BodyFirst query) bytes.now (Steps (with_step query r.0)) r.1.now) }
     ensures few { IfOk result (λ r. before + step_count r.0 ≤ 32) }
     ensures within { IfOk result (λ r. length r.1.now ≤ length bytes.now) }
-    ensures err { IfErr result (λ stop. (query : Query) → steps_in query.steps ≡ before →
+    ensures err { IfErr result (λ stop. (query : Query) → steps_of query ≡ before →
         StopsFrom (BodyFirst query) bytes.now stop) }
 {
     let (body, at_dot) = read_body(alloc, before, bytes)?;
@@ -54,11 +54,11 @@ pub(crate) fn read_repeat(alloc: Global, before: usize, bytes: &[u8]) -> Result<
 /// The body of a repeat up to the closing parenthesis, and the bytes after it.
 fn read_body(alloc: Global, before: usize, bytes: &[u8]) -> Result<(Body, &[u8]), Stop>
     requires { before < 32 }
-    ensures ok { IfOk result (λ r. (query : Query) → steps_in query.steps ≡ before →
+    ensures ok { IfOk result (λ r. (query : Query) → steps_of query ≡ before →
         LeadsTo (BodyFirst query) bytes.now (AfterBody query r.0) r.1.now) }
     ensures few { IfOk result (λ r. before + 1 + length r.0 ≤ 32) }
     ensures within { IfOk result (λ r. length r.1.now ≤ length bytes.now) }
-    ensures err { IfErr result (λ stop. (query : Query) → steps_in query.steps ≡ before →
+    ensures err { IfErr result (λ stop. (query : Query) → steps_of query ≡ before →
         StopsFrom (BodyFirst query) bytes.now stop) }
 {
     let mut steps = Vec::new(alloc);

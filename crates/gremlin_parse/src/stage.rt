@@ -1,11 +1,12 @@
 ghost use Rattle.std.specs.Prelude.{◌≡◌, ◌≤◌};
 ghost use Rattle.gremlin_parse.specs.Stages.{fits, first_items, is_by, items_after, step_fault};
-ghost use Rattle.gremlin_parse.specs.Stages.{added_count, late_fault, step_count};
+ghost use Rattle.gremlin_parse.specs.Stages.{added_count, are_elements, late_fault, mapped};
+ghost use Rattle.gremlin_parse.specs.Stages.{maps_count, step_count};
 
 use crate::bad_token::BadToken;
 use crate::order::has_key;
 use crate::step_word::{BareStep, BodyWord, ChangeWord, NamesStep, StepWord};
-use plain_graph::Step;
+use plain_graph::{Source, Step, Texts};
 
 /// How many steps a query has at most, with those of its bodies and those that change the graph.
 const MOST_STEPS: usize = 32;
@@ -16,6 +17,8 @@ pub(crate) enum Items {
     Vertices,
     Edges,
     Values,
+    /// Elements that are shown as maps.
+    Maps,
 }
 
 /// What comes to a step, and how many steps stand before it.
@@ -26,10 +29,40 @@ pub(crate) struct Stage {
 }
 
 /// What a query begins with.
-pub(crate) fn first_items(edges: bool) -> Items
-    ensures { result ≡ first_items edges }
+pub(crate) fn first_items(source: &Source) -> Items
+    ensures { result ≡ first_items source.now }
 {
-    if edges { Items::Edges } else { Items::Vertices }
+    match source {
+        Source::Vertices(_) | Source::Found { .. } => Items::Vertices,
+        Source::Edges(_) => Items::Edges,
+    }
+}
+
+/// What comes to the next step: where maps are asked for, elements are maps.
+pub(crate) fn mapped(maps: &Option<Texts>, items: Items) -> Items
+    ensures { result ≡ mapped maps.now items }
+{
+    match maps {
+        Some(_) if are_elements(items) => Items::Maps,
+        _ => items,
+    }
+}
+
+/// How many steps ask for maps.
+pub(crate) fn maps_count(maps: &Option<Texts>) -> usize
+    ensures { result ≡ maps_count maps.now }
+{
+    match maps {
+        Some(_) => 1,
+        None => 0,
+    }
+}
+
+/// Whether they are vertices or edges.
+pub(crate) fn are_elements(items: Items) -> bool
+    ensures { result ≡ are_elements items }
+{
+    matches!(items, Items::Vertices | Items::Edges)
 }
 
 /// What the step gives where these items come to it.
@@ -107,11 +140,21 @@ fn fits(items: Items, word: StepWord, bytes: &[u8]) -> bool
         StepWord::Bare(BareStep::OutV | BareStep::InV) => matches!(items, Items::Edges),
         StepWord::Body(BodyWord::HasLabel | BodyWord::Has)
         | StepWord::Names(NamesStep::Values)
+        | StepWord::ElementMap
         | StepWord::Bare(BareStep::Id | BareStep::Label)
-        | StepWord::Change(ChangeWord::Property | ChangeWord::Drop) => {
-            matches!(items, Items::Vertices | Items::Edges)
-        }
-        StepWord::Bare(BareStep::Dedup | BareStep::Count) | StepWord::Limit | StepWord::By => true,
-        StepWord::Order => !has_key(bytes) || !matches!(items, Items::Values),
+        | StepWord::Change(ChangeWord::Property | ChangeWord::Drop) => are_elements(items),
+        StepWord::Bare(BareStep::Count) | StepWord::Limit | StepWord::By => true,
+        StepWord::Bare(BareStep::Dedup) => !matches!(items, Items::Maps),
+        StepWord::Order => fits_order(items, bytes),
     }
+}
+
+/// Whether an order, with whose name the bytes begin, may be done with these items.
+fn fits_order(items: Items, bytes: &[u8]) -> bool
+    ensures { result ≡ fits items StepWord.Order bytes.now }
+{
+    if has_key(bytes) {
+        return are_elements(items);
+    }
+    !matches!(items, Items::Maps)
 }

@@ -8,7 +8,7 @@ ghost use Rattle.gremlin_parse.specs.Queries.{LeadsTo, StopsFrom, opened, opened
 ghost use Rattle.gremlin_parse.specs.Queries.{opened_names, after_filter, after_names, after_step};
 ghost use Rattle.gremlin_parse.specs.Queries.{steps_place, after_word, plain_order, IsOrderStep};
 ghost use Rattle.gremlin_parse.specs.Queries.{with_step, bare_step, names_step, step_of};
-ghost use Rattle.gremlin_parse.specs.Queries.{needs_name, QuotesAt, Place, is_change};
+ghost use Rattle.gremlin_parse.specs.Queries.{needs_name, QuotesAt, Place, is_step};
 ghost use Rattle.gremlin_parse.specs.Stages.{stage_of, name_count, added_count};
 ghost use Rattle.gremlin_parse.specs.declared.step_word.StepWord.TheVariants as words;
 
@@ -64,7 +64,7 @@ pub(crate) fn read_arguments(
     bytes: &[u8],
 ) -> Result<(Step, &[u8]), Stop>
     requires few { stage.steps + name_count word ≤ 32 }
-    requires reads { is_change word ≡ false }
+    requires step { is_step word ≡ true }
     ensures ok { IfOk result (λ r. (query : Query) → stage_of query ≡ stage →
         LeadsTo (opened query word) bytes.now (after_word word query r.0) r.1.now) }
     ensures order { IfOk result (λ r. IsOrderStep word r.0) }
@@ -102,7 +102,7 @@ pub(crate) fn read_arguments(
             let (step, rest) = read_repeat(alloc, stage.steps, bytes)?;
             Ok((step, rest))
         }
-        StepWord::Change(_) => unreachable!(),
+        StepWord::ElementMap | StepWord::Change(_) => unreachable!(),
     }
 }
 
@@ -184,7 +184,11 @@ fn step_of(step: BodyStep) -> Step
 
 /// The names of a step up to the closing parenthesis, and the bytes after it. There may be none
 /// but where one is needed.
-fn read_names(alloc: Global, is_needed: bool, bytes: &[u8]) -> Result<(Texts, &[u8]), Stop>
+pub(crate) fn read_names(
+    alloc: Global,
+    is_needed: bool,
+    bytes: &[u8],
+) -> Result<(Texts, &[u8]), Stop>
     ensures ok { IfOk result (λ r. (purpose : NamesFor) → needs_name purpose ≡ is_needed →
         LeadsTo (opened_names purpose) bytes.now (after_names purpose r.0) r.1.now) }
     ensures within { IfOk result (λ r. length r.1.now ≤ length bytes.now) }

@@ -52,6 +52,7 @@ pub(crate) enum StepWord {
     Names(NamesStep),
     Body(BodyWord),
     Change(ChangeWord),
+    ElementMap,
     Limit,
     Order,
     By,
@@ -59,7 +60,7 @@ pub(crate) enum StepWord {
 }
 
 /// `by`, which may follow an order alone, and the names of steps.
-const WORDS: [(&[u8], StepWord); 22] = [
+const WORDS: [(&[u8], StepWord); 23] = [
     (b"by", StepWord::By),
     (
         b"out",
@@ -86,6 +87,7 @@ const WORDS: [(&[u8], StepWord); 22] = [
         StepWord::Names(NamesStep::Incident(Direction::Both)),
     ),
     (b"values", StepWord::Names(NamesStep::Values)),
+    (b"elementMap", StepWord::ElementMap),
     (b"hasLabel", StepWord::Body(BodyWord::HasLabel)),
     (b"has", StepWord::Body(BodyWord::Has)),
     (b"outV", StepWord::Bare(BareStep::OutV)),

@@ -1,6 +1,5 @@
 ghost use Rattle.std.specs.Prelude.{◌≡◌, IfOk, IfErr};
-ghost use Rattle.gremlin_parse.specs.Commands.{target_of};
-ghost use Rattle.gremlin_parse.specs.Arguments.{target_names, target_word};
+ghost use Rattle.gremlin_parse.specs.Arguments.{target_names, target_of, target_word};
 ghost use Rattle.gremlin_parse.specs.Symbols.{OneWord, Reads, Leaves};
 
 use crate::keyword::read_keyword;

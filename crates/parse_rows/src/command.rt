@@ -53,6 +53,9 @@ pub(crate) fn put_command(out: &mut Vec<u8>, command: &Command) -> Result<(), Al
         | Command::Degree { .. }
         | Command::Path { .. }
         | Command::Levels { .. } => put_question(out, command),
+        Command::View(target) => put_target(out, b"view ", *target),
+        Command::ViewNames => put(out, &[b"view names"]),
+        Command::ViewIndexes => put(out, &[b"view indexes"]),
         Command::Query(query) => put_query(out, query),
         Command::Mutate { reading, mutation } => put_mutation(out, reading, mutation),
     }

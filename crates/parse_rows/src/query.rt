@@ -1,22 +1,45 @@
 use crate::text::{put, put_number, put_value, word_of};
-use plain_graph::{Body, BodyStep, Filter, Hop, Query, Relation, Step, Text, Texts};
+use plain_graph::{Body, BodyStep, Filter, Hop, Ids, Query, Relation, Source, Step, Text, Texts};
 use std::alloc::AllocError;
 
-/// Writes the query as a line spells it, without a blank.
+/// Writes the query as a line spells it, without a blank: the maps that it asks for after its steps.
 pub(crate) fn put_query(out: &mut Vec<u8>, query: &Query) -> Result<(), AllocError> {
-    let source: &[u8] = if query.edges { b"g.E(" } else { b"g.V(" };
-    out.extend_from_slice(source)?;
-    let mut before: &[u8] = b"";
-    for id in query.ids.as_slice() {
-        put_number(out, before, *id)?;
-        before = b",";
-    }
-    put(out, &[b")"])?;
+    put_source(out, &query.source)?;
     for step in query.steps.as_slice() {
         put(out, &[b"."])?;
         put_step(out, step)?;
     }
-    Ok(())
+    match &query.maps {
+        Some(keys) => put_call(out, b".elementMap(", keys),
+        None => Ok(()),
+    }
+}
+
+fn put_source(out: &mut Vec<u8>, source: &Source) -> Result<(), AllocError> {
+    match source {
+        Source::Vertices(ids) => put_elements(out, b"g.V(", ids),
+        Source::Edges(ids) => put_elements(out, b"g.E(", ids),
+        Source::Found { label, key, value } => {
+            put(
+                out,
+                &[b"g.find('", label.as_bytes(), b"','", key.as_bytes()],
+            )?;
+            put(out, &[b"',"])?;
+            put_value(out, value)?;
+            put(out, &[b")"])
+        }
+    }
+}
+
+/// Writes a beginning, the identifiers, and a closing parenthesis.
+fn put_elements(out: &mut Vec<u8>, start: &[u8], ids: &Ids) -> Result<(), AllocError> {
+    out.extend_from_slice(start)?;
+    let mut before: &[u8] = b"";
+    for id in ids.as_slice() {
+        put_number(out, before, *id)?;
+        before = b",";
+    }
+    put(out, &[b")"])
 }
 
 fn put_step(out: &mut Vec<u8>, step: &Step) -> Result<(), AllocError> {

@@ -1,6 +1,6 @@
 use Rattle.std.proofs.Common.{List, ℕ, ◌++◌, ◌∷◌, [], sym, ◌∙◌, ap, subst}
 use Rattle.std.proofs.lemmas.Result.{err_from_is_err_and}
-use Rattle.gremlin_parse.specs.Queries.{FirstId, Steps, query_from, LeadsTo}
+use Rattle.gremlin_parse.specs.Queries.{FirstId, Steps, elements_of, query_from, LeadsTo}
 use Rattle.gremlin_parse.proofs.QueryReads.{IdsSoFar, stop_at_first_id, stop_after_first_id, stop_in_ids, stop_after_id, first_ids, ids_more, ids_done}
 use Rattle.gremlin_parse.proofs.source.read_some_ids.Goals as goal
 
@@ -35,4 +35,4 @@ loop-more-preserved c =
 
 pub returns-clause-ok : goal.returns-clause-ok
 returns-clause-ok c = λ edges.
-    subst (λ (ids : List ℕ). LeadsTo (FirstId edges) c.args.bytes.now (Steps (query_from edges ids)) c.loop-more.rest.now) (sym c.new.ensures) (ids_done c.args.bytes.now c.loop-more.rest.now c.loop-more.ids.items c.loop-more.more c.loop-more-test.false c.loop-more.invariant edges)
+    subst (λ (ids : List ℕ). LeadsTo (FirstId edges) c.args.bytes.now (Steps (query_from (elements_of edges ids))) c.loop-more.rest.now) (sym c.new.ensures) (ids_done c.args.bytes.now c.loop-more.rest.now c.loop-more.ids.items c.loop-more.more c.loop-more-test.false c.loop-more.invariant edges)

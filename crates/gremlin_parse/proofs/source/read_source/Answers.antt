@@ -1,13 +1,13 @@
 use Rattle.std.proofs.Common.{refl}
 use Rattle.std.proofs.lemmas.Result.{err_from_is_err_and}
-use Rattle.gremlin_parse.specs.Queries.{Start, Source}
+use Rattle.gremlin_parse.specs.Queries.{Start, SourceName}
 use Rattle.gremlin_parse.proofs.QueryReads.{source_read, stop_at_sign, stop_in_kind, stop_in_opening}
 use Rattle.gremlin_parse.proofs.source.read_source.Goals as goal
 
 pub returns-in_err-at_kind-clause-err : goal.returns-in_err-at_kind-clause-err
 returns-in_err-at_kind-clause-err c =
     let p = err_from_is_err_and c.from_residual.result c.from_residual.ensures.1 in
-    rw (p.1, p.2) (stop_at_sign Start 46 Source c.args.bytes.now c.in_err-at_kind.field-0.0 refl c.in_err-at_kind.ensures.err)
+    rw (p.1, p.2) (stop_at_sign Start 46 SourceName c.args.bytes.now c.in_err-at_kind.field-0.0 refl c.in_err-at_kind.ensures.err)
 
 pub returns-in_err-kind-clause-err : goal.returns-in_err-kind-clause-err
 returns-in_err-kind-clause-err c =
