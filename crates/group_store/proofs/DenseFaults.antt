@@ -1,6 +1,5 @@
 -- What is told where a sparse node doesn't become dense.
-use Rattle.std.proofs.Common.{◌≡◌, ◌≢◌, ⊎_elim, inl, inr, ℕ, List, None, Result, Ok, Err, IfErr, IfSome, sym, subst}
-use Rattle.rec_bytes.specs.declared.damage.Damage.{Damage}
+use Rattle.std.proofs.Common.{◌≡◌, ◌≢◌, ⊎_elim, inl, ℕ, List, None, Result, Ok, Err, IfErr, IfSome, sym, subst}
 use Rattle.rec_bytes.specs.declared.fault.Fault.{Fault}
 use Rattle.rec_bytes.specs.declared.fault.Fault.TheVariants.{Memory, Disk, Damaged}
 use Rattle.rec_bytes.specs.declared.row_fault.RowFault.{RowFault}
@@ -10,17 +9,12 @@ use Rattle.rec_bytes.specs.Format as format
 use Rattle.rec_bytes.specs.Space.{SameButReads, State, after_get}
 use Rattle.rel_store.specs.Loading as rels
 use Rattle.store_rules.specs.Breaking.{Breaks}
-use Rattle.store_rules.specs.Rules.{Head}
 use Rattle.store_rules.specs.Views as views
 use Rattle.store_rules.specs.Views.{kind_at, rel_at}
 use Rattle.node_store.specs.Loading as nodes
 use Rattle.node_store.proofs.Rows.{kind-row_at-None}
 use Rattle.chain_edit.specs.Breaks.{IsBreakFault}
-use Rattle.chain_edit.specs.Links.{IsLinkDamage}
-use Rattle.chain_edit.specs.Links.IsLinkDamage.{LeadsNowhere, HighMark}
-use Rattle.chain_edit.specs.Pushing.{IsPushFault, first_damage}
-use Rattle.store_rules.specs.Rules.{first_of}
-use Rattle.group_store.specs.Densing.{CanBecomeDense, IsEndFault, IsLateFault, IsMoveFault, IsSparse}
+use Rattle.group_store.specs.Densing.{CanBecomeDense, IsEndFault, IsMoveFault, IsSparse}
 use Rattle.group_store.specs.Opening.{IsOpenFault}
 use Rattle.group_store.specs.SparseChain.{IsSparseFault, IsStepFault}
 use Rattle.group_store.specs.SparseChain.IsStepDamage.{BadRow}
@@ -39,10 +33,10 @@ can_of s n node most empty can = record { keeps = can.keeps; sparse = can.sparse
 
 -- ---- before anything is written
 
-pub broken_then : (s t : State) (node : ℕ) (fault : Fault) → SameButReads s t → IsBreakFault s fault → IsLateFault t fault
+pub broken_then : (s t : State) (node : ℕ) (fault : Fault) → SameButReads s t → IsBreakFault s fault → IsOpenFault t fault
 broken_then s t node Memory same told = tt
 broken_then s t node Disk same told = tt
-broken_then s t node (Damaged damage) same told = inl (inl (subst (λ (q : State). Breaks q.records q.shape damage) (sym same) told))
+broken_then s t node (Damaged damage) same told = inl (subst (λ (q : State). Breaks q.records q.shape damage) (sym same) told)
 
 pub row_told : (s : State) (node before at : ℕ) (fault : RowFault) → rels.IsRelFault s at fault → IsStepFault s node before at (of_row fault)
 row_told s node before at rows.Disk told = tt
@@ -58,47 +52,42 @@ sparse_undamaged s node count most empty is can (Damaged damage) told = no_spars
 -- a relationship that can't be read
 pub unread : (s l : State) (node rel : ℕ) → SameButReads s l → (fault : RowFault) → rels.IsRelFault s rel fault → IsMoveFault s l node rel (of_row fault)
 unread s l node rel same rows.Disk told = tt
-unread s l node rel same (rows.Damaged damage) told = inl (inl (inl (subst (λ (q : State). Breaks q.records q.shape damage) (sym same) (rel_breaks s rel damage told))))
+unread s l node rel same (rows.Damaged damage) told = inl (inl (subst (λ (q : State). Breaks q.records q.shape damage) (sym same) (rel_breaks s rel damage told)))
 
 -- no group for it
 pub no_own : (s l m : State) (node rel : ℕ) (fault : Fault) → IsOpenFault l fault → IfSome (damage_of fault) (λ _. SameButReads l m) → IsMoveFault s m node rel fault
 no_own s l m node rel Memory told same = tt
 no_own s l m node rel Disk told same = tt
-no_own s l m node rel (Damaged damage) told same = inl (inl (subst (λ (q : State). IsOpenFault q (Damaged damage)) (sym same) told))
-
-link_later : (t : State) (link : ℕ) (named damage : Damage) → IsLinkDamage t link named damage → IsLinkDamage (after_get t) link named damage
-link_later t link named damage (LeadsNowhere some above) = LeadsNowhere some above
-link_later t link named damage (HighMark above) = HighMark above
+no_own s l m node rel (Damaged damage) told same = inl (subst (λ (q : State). IsOpenFault q (Damaged damage)) (sym same) told)
 
 -- a first link of the group that leads nowhere
-pub no_push : (s t end : State) (node rel : ℕ) (head : Head) → head.key.file ≡ format.groups_file → (fault : Fault) → IsPushFault t head fault → IfSome (damage_of fault) (λ _. end ≡ after_get t) → IsMoveFault s end node rel fault
-no_push s t end node rel head group Memory told same = tt
-no_push s t end node rel head group Disk told same = tt
-no_push s t end node rel head group (Damaged damage) told same =
-    inl (inr (head, group, subst (λ (q : State). IsLinkDamage q (first_of q.records head) (first_damage head.key) damage) (sym same) (link_later t (first_of t.records head) (first_damage head.key) damage told)))
+pub no_push : (s t end : State) (node rel : ℕ) (fault : Fault) → IsBreakFault t fault → IfSome (damage_of fault) (λ _. end ≡ after_get t) → IsMoveFault s end node rel fault
+no_push s t end node rel Memory told same = tt
+no_push s t end node rel Disk told same = tt
+no_push s t end node rel (Damaged damage) told same = inl (inl (subst (λ (q : State). Breaks q.records q.shape damage) (sym same) told))
 
 -- a relationship that is there
-pub unmoved : (now t : State) (node rel : ℕ) (fault : Fault) → IsMoveFault now t node rel fault → rel_at now.records rel ≢ None → IsLateFault t fault
+pub unmoved : (now t : State) (node rel : ℕ) (fault : Fault) → IsMoveFault now t node rel fault → rel_at now.records rel ≢ None → IsOpenFault t fault
 unmoved now t node rel Memory told there = tt
 unmoved now t node rel Disk told there = tt
 unmoved now t node rel (Damaged damage) told there = ⊎_elim (λ late. late) (λ k. absurd (there k.1)) told
 
 -- ---- a group of a node that became dense
 
-pub not_opened : {T : Type 0} (z t : State) (r : Result T Fault) → IfErr r (IsOpenFault z) → OnDamage r (SameButReads z t) → IfErr r (IsLateFault t)
+pub not_opened : {T : Type 0} (z t : State) (r : Result T Fault) → IfErr r (IsOpenFault z) → OnDamage r (SameButReads z t) → IfErr r (IsOpenFault t)
 not_opened z t (Ok x) told same = tt
 not_opened z t (Err Memory) told same = tt
 not_opened z t (Err Disk) told same = tt
-not_opened z t (Err (Damaged damage)) told same = inl (subst (λ (q : State). IsOpenFault q (Damaged damage)) (sym same) told)
+not_opened z t (Err (Damaged damage)) told same = subst (λ (q : State). IsOpenFault q (Damaged damage)) (sym same) told
 
 -- ---- what is told of an end, by the space as it is then
 
 pub end_broken : (s t : State) (node : ℕ) (fault : Fault) → SameButReads s t → IsBreakFault s fault → IsEndFault t node fault
 end_broken s t node Memory same told = tt
 end_broken s t node Disk same told = tt
-end_broken s t node (Damaged damage) same told = inl (inl (inl (subst (λ (q : State). Breaks q.records q.shape damage) (sym same) told)))
+end_broken s t node (Damaged damage) same told = inl (inl (subst (λ (q : State). Breaks q.records q.shape damage) (sym same) told))
 
-pub end_late : (t : State) (node : ℕ) (fault : Fault) → IsLateFault t fault → IsEndFault t node fault
+pub end_late : (t : State) (node : ℕ) (fault : Fault) → IsOpenFault t fault → IsEndFault t node fault
 end_late t node Memory told = tt
 end_late t node Disk told = tt
 end_late t node (Damaged damage) told = inl told
@@ -107,7 +96,7 @@ pub end_opened : {T : Type 0} (z t : State) (node : ℕ) (r : Result T Fault) �
 end_opened z t node (Ok x) told same = tt
 end_opened z t node (Err Memory) told same = tt
 end_opened z t node (Err Disk) told same = tt
-end_opened z t node (Err (Damaged damage)) told same = inl (inl (subst (λ (q : State). IsOpenFault q (Damaged damage)) (sym same) told))
+end_opened z t node (Err (Damaged damage)) told same = inl (subst (λ (q : State). IsOpenFault q (Damaged damage)) (sym same) told)
 
 -- a node in use that was read and isn't dense is sparse
 pub sparse_known : (s : State) (id : ℕ) → nodes.IsKnown s id → kind_at s.records format.nodes_file id ≢ 0 → (¬ IsDense s.records id) → IsSparse s.records id

@@ -54,7 +54,7 @@ module _ (u : State) (node first id : ℕ) (rec : Rec) where
   put_node : (after_put u (group_key id) rec).records (node_key node) ≡ u.records (node_key node)
   put_node = put_other u.records (group_key id) rec (node_key node) (no_group id)
 
-  led_kind : field 1 ((led u node first id rec).records (node_key node)) format.kind ≡ field 1 (u.records (node_key node)) format.kind
+  pub led_kind : field 1 ((led u node first id rec).records (node_key node)) format.kind ≡ field 1 (u.records (node_key node)) format.kind
   unfolding led backed
   led_kind =
       let t = after_put u (group_key id) rec in

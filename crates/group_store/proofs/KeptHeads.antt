@@ -54,22 +54,29 @@ alike_none s = record { nodes = λ n. refl; groups = λ g row is. is }
 alike_then : (s t u : Records) → IsAlike s t → IsAlike t u → IsAlike s u
 alike_then s t u a b = record { nodes = λ n. b.nodes n ∙ a.nodes n; groups = λ g row is. b.groups g row (a.groups g row is) }
 
--- a group in use, whose type and owner stay
-group_kept : (s t : Records) (g : ℕ) (row : GroupRow) → high t format.groups_file ≡ high s format.groups_file
+-- a group in use, whose type and owner stay, where no fewer are given out
+pub group_grown : (s t : Records) (g : ℕ) (row : GroupRow) → high s format.groups_file ≤ high t format.groups_file
     → (field 1 (rec_at s format.groups_file g) format.kind ≢ 0 → field 1 (rec_at t format.groups_file g) format.kind ≢ 0)
     → field 4 (rec_at t format.groups_file g) format.group_type ≡ field 4 (rec_at s format.groups_file g) format.group_type
     → field 4 (rec_at t format.groups_file g) format.group_owner ≡ field 4 (rec_at s format.groups_file g) format.group_owner
     → group_at s g ≡ Some row → group_at t g ≡ Some row
-group_kept s t g row marks live typed owner is =
+group_grown s t g row marks live typed owner is =
     let r = rec_at s format.groups_file g in
     let q = rec_at t format.groups_file g in
     let was = some_row (kind_at s format.groups_file g) (group_in r g) row is in
     let lt = kind_below (high s format.groups_file) r g was.0 in
     let byte : field 1 r format.kind ≢ 0 = λ e. was.0 (kind_low (high s format.groups_file) r g lt ∙ e) in
-    let now : kind_at t format.groups_file g ≢ 0 = λ e. live byte (sym (kind_low (high t format.groups_file) q g (subst (λ m. g < m) (sym marks) lt)) ∙ e) in
+    let now : kind_at t format.groups_file g ≢ 0 = λ e. live byte (sym (kind_low (high t format.groups_file) q g (omega arith)) ∙ e) in
     row_some (kind_at t format.groups_file g) (group_in q g) now
     ∙ (λ i. Some (record { id = g; label = typed i; owner = owner i }))
     ∙ ap (λ (z : GroupRow). Some z) was.1
+
+group_kept : (s t : Records) (g : ℕ) (row : GroupRow) → high t format.groups_file ≡ high s format.groups_file
+    → (field 1 (rec_at s format.groups_file g) format.kind ≢ 0 → field 1 (rec_at t format.groups_file g) format.kind ≢ 0)
+    → field 4 (rec_at t format.groups_file g) format.group_type ≡ field 4 (rec_at s format.groups_file g) format.group_type
+    → field 4 (rec_at t format.groups_file g) format.group_owner ≡ field 4 (rec_at s format.groups_file g) format.group_owner
+    → group_at s g ≡ Some row → group_at t g ≡ Some row
+group_kept s t g row marks live typed owner is = group_grown s t g row (omega arith) live typed owner is
 
 -- by the numbers of records
 pub alike_by : (s t : Records) → high t format.nodes_file ≡ high s format.nodes_file → high t format.groups_file ≡ high s format.groups_file

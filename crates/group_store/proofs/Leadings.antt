@@ -211,7 +211,7 @@ pushed_next t h node rel y group ne =
     ∙ next_of-set_next_other b.records node rel first node y (λ e. absurd (ne e))
     ∙ next_of-backed (after_get t) node first rel node y
 
-pushed_field : (t : State) (h : Head) (node rel k n at : ℕ) → at + n ≤ 64 → (group_key k ≡ h.key → (at + n ≤ h.field) ⊎ (h.field + 4 ≤ at)) → field n (rec_at (pushed t h node rel).records format.groups_file k) at ≡ field n (rec_at t.records format.groups_file k) at
+pub pushed_field : (t : State) (h : Head) (node rel k n at : ℕ) → at + n ≤ 64 → (group_key k ≡ h.key → (at + n ≤ h.field) ⊎ (h.field + 4 ≤ at)) → field n (rec_at (pushed t h node rel).records format.groups_file k) at ≡ field n (rec_at t.records format.groups_file k) at
 unfolding pushed
 pushed_field t h node rel k n at inside apart = ⊎_elim
     (λ (e : group_key k ≡ h.key).

@@ -30,6 +30,7 @@ pub mod KeptHeads
 pub mod Leadings
 pub mod Leaves
 pub mod LeftBeside
+pub mod MadeHeads
 pub mod MadeRules
 pub mod MakeSteps
 pub mod Makes

@@ -9,12 +9,11 @@ use Rattle.rec_bytes.specs.Space.{State, meta_of}
 use Rattle.store_rules.specs.Ends.{Regroups}
 use Rattle.store_rules.specs.Breaking.{IsHeadChain}
 use Rattle.store_rules.specs.Chains.{In}
-use Rattle.store_rules.specs.Rules.{Head, KeepsRules, node_head}
+use Rattle.store_rules.specs.Rules.{KeepsRules, node_head}
 use Rattle.store_rules.specs.Views.{Records, degree, high, kind_at, rel_at}
-use Rattle.chain_edit.specs.Pushing.{IsPushFault}
 use Rattle.group_store.specs.GroupChain.{IsGroupOf}
 use Rattle.group_store.specs.Leaving.{LeavesApart, LeavesOthers}
-use Rattle.group_store.specs.Opening.{IsOpenFault}
+use Rattle.group_store.specs.Opening.{IsOpenDamage}
 use Rattle.group_store.specs.Spreading.{CanTakeEach, HasCountedGroups, HasSpread, rels_damage}
 use Rattle.group_store.specs.Walking.{chain_damage}
 
@@ -74,32 +73,19 @@ pub record SpreadsChain (s t : State) (node : ℕ) (members : List ℕ) : Type 0
       → kind_at s.records format.groups_file g ≡ format.free_kind
   pub leaves : LeavesApart s.records t.records node members groups
 
--- What is told while the relationships come into groups, of the space as it is then. The record
--- that is said to be damaged breaks the rule, or it is a group whose first link leads nowhere, or
--- the file of groups is full.
-abbrev pub IsLateDamage : State → Damage → Type 0
-IsLateDamage t damage =
-    IsOpenFault t (Damaged damage)
-    ⊎ ((head : Head) × (head.key.file ≡ format.groups_file) × IsPushFault t head (Damaged damage))
-
--- Why a relationship doesn't come into its group. It is so, or the relationship isn't there.
+-- Why a relationship doesn't come into its group: what is told is so of the space as it is then, or
+-- the relationship isn't there.
 abbrev pub IsMoveFault : State → State → ℕ → ℕ → Fault → Type 0
 IsMoveFault s t node rel Memory = Unit {0}
 IsMoveFault s t node rel Disk = Unit {0}
 IsMoveFault s t node rel (Damaged damage) =
-    IsLateDamage t damage ⊎ ((damage ≡ rels_damage node) × (rel_at s.records rel ≡ None))
-
--- why a node in use doesn't become dense, by the space as it is then
-abbrev pub IsLateFault : State → Fault → Type 0
-IsLateFault t Memory = Unit {0}
-IsLateFault t Disk = Unit {0}
-IsLateFault t (Damaged damage) = IsLateDamage t damage
+    IsOpenDamage t damage ⊎ ((damage ≡ rels_damage node) × (rel_at s.records rel ≡ None))
 
 -- What is told where no head is found or made for an end, by the space as it is then. It is so, or
 -- the node isn't in use.
 abbrev pub IsEndDamage : State → ℕ → Damage → Type 0
 IsEndDamage t node damage =
-    IsLateDamage t damage ⊎ ((damage ≡ chain_damage node)
+    IsOpenDamage t damage ⊎ ((damage ≡ chain_damage node)
     × (kind_at t.records format.nodes_file node ≡ format.free_kind))
 
 abbrev pub IsEndFault : State → ℕ → Fault → Type 0

@@ -131,15 +131,21 @@ IsHeadFault s node rel label (Damaged damage) =
     (Breaks s.records s.shape damage × IsSearchDamage s node damage)
     ⊎ ((damage ≡ end_damage rel) × LacksGroupOn s.records node label)
 
--- What a group is refused for: the record that is said to be damaged breaks the rule, or the file
--- of groups is full.
+-- the file of groups is full, by its meta record
+abbrev pub IsFullDamage : State → Damage → Type 0
+IsFullDamage s damage = (damage ≡ full_damage)
+    × ((meta_of s format.groups_file).live ≡ taking.room s format.groups_file)
+
+-- What is told where no group is found or made: the record that is said to be damaged breaks the
+-- rule, or the file of groups is full.
+abbrev pub IsOpenDamage : State → Damage → Type 0
+IsOpenDamage s damage = Breaks s.records s.shape damage ⊎ IsFullDamage s damage
+
+-- what a group is refused for
 abbrev pub IsOpenFault : State → Fault → Type 0
 IsOpenFault s Memory = Unit {0}
 IsOpenFault s Disk = Unit {0}
-IsOpenFault s (Damaged damage) =
-    Breaks s.records s.shape damage
-    ⊎ ((damage ≡ full_damage)
-    × ((meta_of s format.groups_file).live ≡ taking.room s format.groups_file))
+IsOpenFault s (Damaged damage) = IsOpenDamage s damage
 
 -- How many records of a node that becomes dense are written besides its own: its relationships' and
 -- a group's for each at most, and one of each more, for what may stand first.

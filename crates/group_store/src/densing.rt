@@ -10,6 +10,7 @@ ghost use Rattle.rec_bytes.specs.Space.{HasCause, SameButReads, WritesOnly, meta
 ghost use Rattle.rel_store.specs.Loading as rels;
 ghost use Rattle.rel_store.specs.RelRecord.{rel_key};
 ghost use Rattle.store_rules.specs.Ends.{Regroups};
+ghost use Rattle.store_rules.specs.Breaking.{IsOwnedBy};
 ghost use Rattle.store_rules.specs.Chains.{In, IsWalk};
 ghost use Rattle.store_rules.specs.Views.{degree, rec_at};
 ghost use Rattle.store_rules.specs.Writes.{WritesBeside};
@@ -18,11 +19,12 @@ ghost use Rattle.chain_edit.specs.Chains.{next_of};
 ghost use Rattle.chain_edit.specs.Links.{prev_set};
 ghost use Rattle.group_store.specs.Densing.{BecomesDense, CanBecomeDense, CanSpread, HasDenseRoom};
 ghost use Rattle.group_store.specs.Densing.{HasSpreadRoom, SpreadsChain};
-ghost use Rattle.group_store.specs.Densing.{IsEndFault, IsLateFault, IsMoveFault, IsSparse};
+ghost use Rattle.group_store.specs.Densing.{IsEndFault, IsMoveFault, IsSparse};
 ghost use Rattle.group_store.specs.GroupChain.{IsDense, IsGroupChain};
 ghost use Rattle.rec_bytes.specs.Fault.{HasFaultCause, NotDamaged, OnDamage};
 ghost use Rattle.group_store.specs.GroupRecord.{group_key};
-ghost use Rattle.group_store.specs.Leaving.{LeavesBeside, LeavesOthers};
+ghost use Rattle.group_store.specs.Leaving.{KeepsHeads, KeepsOtherHeads, LeavesBeside};
+ghost use Rattle.group_store.specs.Leaving.{LeavesOthers};
 ghost use Rattle.group_store.specs.Moving.{ComesIn, GrowsBy, HasAdded, HasFound, IsOwnTurn};
 ghost use Rattle.group_store.specs.Moving.{turn_keys};
 ghost use Rattle.group_store.specs.Opening.{IsOpenFault};
@@ -66,11 +68,13 @@ pub fn make_dense<S: Space>(space: &mut S, node: u32, threshold: u32) -> Result<
         → HasSpreadRoom (S.state space.old) node threshold members → NotDamaged result }
     ensures damaged { S.tells → IsSparse (S.state space.old).records node
         → (S.state space.old).shape.threshold ≤ threshold
-        → IfErr result (IsLateFault (S.state space.new)) }
+        → IfErr result (IsOpenFault (S.state space.new)) }
     ensures told { S.tells → (¬ IsDense (S.state space.old).records node)
         → (S.state space.old).shape.threshold ≤ threshold
         → IfErr result (IsEndFault (S.state space.new) node) }
     ensures dense { S.tells → OnOk result (IsDense (S.state space.new).records node) }
+    ensures heads { S.tells
+        → OnOk result (KeepsOtherHeads (S.state space.old) (S.state space.new) node) }
     ensures beside { S.tells → OnOk result
         (LeavesBeside (S.state space.old).records
         (S.state space.new).records node) }
@@ -169,6 +173,8 @@ fn move_one<S: Space>(space: &mut S, node: u32, rel: u32) -> Result<Turn, Fault>
         → IfErr result (IsMoveFault (S.state space.old) (S.state space.new) node rel) }
     ensures dense { S.tells → IsDense (S.state space.old).records node
         → OnOk result (IsDense (S.state space.new).records node) }
+    ensures heads { S.tells
+        → OnOk result (KeepsHeads (S.state space.old) (S.state space.new)) }
     ensures beside { S.tells → OnOk result
         (LeavesBeside (S.state space.old).records
         (S.state space.new).records node) }
@@ -237,6 +243,10 @@ pub(crate) fn own_group<S: Space>(space: &mut S, node: u32, label: u32) -> Resul
         → IfErr result (IsOpenFault (S.state space.old)) }
     ensures dense { S.tells → IsDense (S.state space.old).records node
         → OnOk result (IsDense (S.state space.new).records node) }
+    ensures owns { S.tells → IfOk result (λ own.
+        IsOwnedBy (S.state space.new).records node own.row.id) }
+    ensures heads { S.tells
+        → OnOk result (KeepsHeads (S.state space.old) (S.state space.new)) }
     ensures beside { S.tells → OnOk result
         (LeavesBeside (S.state space.old).records
         (S.state space.new).records node) }

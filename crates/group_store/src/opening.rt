@@ -14,11 +14,12 @@ ghost use Rattle.node_store.specs.Loading.{IsReadable};
 ghost use Rattle.node_store.specs.NodeRecord.{node_key};
 ghost use Rattle.chain_edit.specs.Breaks.{IsBreakFault};
 ghost use Rattle.chain_edit.specs.Heads.{head_of, IsHead};
-ghost use Rattle.group_store.specs.Densing.{IsEndFault, IsLateFault, IsSparse};
+ghost use Rattle.group_store.specs.Densing.{IsEndFault, IsSparse};
 ghost use Rattle.group_store.specs.FirstGroup.{IsNodeFault};
 ghost use Rattle.group_store.specs.GroupChain.{IsDense};
 ghost use Rattle.group_store.specs.GroupRecord.{group_key};
-ghost use Rattle.group_store.specs.Leaving.{KeepsHeads, LeavesBeside, LeavesCounted};
+ghost use Rattle.group_store.specs.Leaving.{KeepsHeads, KeepsOtherHeads, LeavesBeside};
+ghost use Rattle.group_store.specs.Leaving.{LeavesCounted};
 ghost use Rattle.rec_bytes.specs.Fault.{HasFaultCause, NotDamaged, OnDamage};
 ghost use Rattle.group_store.specs.Opening.{
   CanOpen,
@@ -135,6 +136,10 @@ fn open_group<S: Space>(space: &mut S, node: u32, label: u32, side: Side) -> Res
         → IfErr result (IsOpenFault (S.state space.old)) }
     ensures unwritten { S.tells → IsDense (S.state space.old).records node
         → OnDamage result (SameButReads (S.state space.old) (S.state space.new)) }
+    ensures owns { S.tells → IsDense (S.state space.old).records node
+        → IfOk result (λ head. IsHeadOf (S.state space.new).records (head_of head) node) }
+    ensures heads { S.tells
+        → OnOk result (KeepsHeads (S.state space.old) (S.state space.new)) }
     ensures beside { S.tells → OnOk result
         (LeavesBeside (S.state space.old).records
         (S.state space.new).records node) }
@@ -180,9 +185,14 @@ pub fn open_chain<S: Space>(
     ensures blames { S.tells → IsDense (S.state space.old).records node
         ⊎ IsSparse (S.state space.old).records node
         → (S.state space.old).shape.threshold ≤ threshold
-        → IfErr result (IsLateFault (S.state space.new)) }
+        → IfErr result (IsOpenFault (S.state space.new)) }
     ensures told { S.tells → (S.state space.old).shape.threshold ≤ threshold
         → IfErr result (IsEndFault (S.state space.new) node) }
+    ensures owns { S.tells → IsDense (S.state space.old).records node
+        ⊎ IsSparse (S.state space.old).records node
+        → IfOk result (λ head. IsHeadOf (S.state space.new).records (head_of head) node) }
+    ensures heads { S.tells
+        → OnOk result (KeepsOtherHeads (S.state space.old) (S.state space.new) node) }
     ensures beside { S.tells → OnOk result
         (LeavesBeside (S.state space.old).records
         (S.state space.new).records node) }

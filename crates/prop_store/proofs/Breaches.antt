@@ -82,6 +82,12 @@ strings_free s bad = WrongMeta format.strings_file (omega arith) (λ k. bad k.fr
 
 -- ---- the properties of an element
 
+-- a record in use that is no property's
+pub unknown_breaks : (s : State) (at : ℕ) → kind_at s.records format.properties_file at ≢ format.free_kind → ¬ rows.HasContent (rec_at s.records format.properties_file at) → Breaks s.records s.shape (damage format.properties_file at 1)
+unknown_breaks s at there none =
+    RecordRange format.properties_file at refl (kind_below (high s.records format.properties_file) (rec_at s.records format.properties_file at) at there)
+    (λ fits. none (content_if_fits (high s.records) (rec_at s.records format.properties_file at) (used_kind s.records format.properties_file at there) fits))
+
 -- the property is in use
 pub record IsThere (records : Records) (p : ℕ) : Type 0 where
   pub some : p ≢ format.nil
@@ -100,7 +106,7 @@ pub holder_more : (file : ℕ) (key : Key) (xs : List ℕ) (at : ℕ) → holder
 holder_more file key [] at = refl
 holder_more file key (x ∷ xs) at = holder_more file (key_in file x) xs at
 
-next_breaks : (s : State) (p : ℕ) → IsThere s.records p → LinkBreaks s (key_in format.properties_file p) format.properties_file (next_property s.records p)
+pub next_breaks : (s : State) (p : ℕ) → IsThere s.records p → LinkBreaks s (key_in format.properties_file p) format.properties_file (next_property s.records p)
 next_breaks s p there le some =
     RecordRange format.properties_file p refl (kind_below (high s.records format.properties_file) (rec_at s.records format.properties_file p) p there.used)
     (λ fits. none_past (high s.records format.properties_file) (next_property s.records p) le some (next_low (high s.records) (rec_at s.records format.properties_file p) (used_kind s.records format.properties_file p there.used) fits))
@@ -210,9 +216,7 @@ module _ (s : State) (owner : Owner) (is : IsOwner owner) (used : IsInUse s.reco
         subst (λ (k : Key). Breaks s.records s.shape (damage k.file k.id 1)) (sym r.from_is) (past_breaks s owner.key (first_of s.records owner) r.passed at r.past first_breaks le some)
     row_blames (Damaged d) (rows.BadLink _ (HighMark over)) = properties_mark s over
     row_blames (Damaged d) (rows.Unused e) = element_breaks (λ members list. used_of_live s.records format.properties_file at (on_list members list).0 e)
-    row_blames (Damaged d) (rows.Unknown there none) =
-        RecordRange format.properties_file at refl (kind_below (high s.records format.properties_file) (rec_at s.records format.properties_file at) at there)
-        (λ fits. none (content_if_fits (high s.records) (rec_at s.records format.properties_file at) (used_kind s.records format.properties_file at there) fits))
+    row_blames (Damaged d) (rows.Unknown there none) = unknown_breaks s at there none
 
 -- a walk along the blocks of a property's text came to this one, to which this record leads, with so many bytes left
 pub record TextReached (records : Records) (p : ℕ) (from : Key) (at left : ℕ) : Type 0 where

@@ -84,6 +84,18 @@ module _ (s t : State) (es : List Property) (at properties blocks : ℕ) where
     pub given_out : IsGivenOut t.records format.properties_file at
     given_out = subst (IsGivenOut t.records format.properties_file) (sym h.at_is) (record { low = live_low t.records format.properties_file e.id (h.held.properties.live e.id (inl refl)); small = let low = h.held.are.linked.0.low in omega arith })
 
+    -- and so was the next one's, if there is one
+    pub next_given : (next : ℕ) → next ≡ field 4 (rec_at t.records format.properties_file at) format.property_next → next ≢ format.nil → IsGivenOut t.records format.properties_file next
+    next_given next next_is some = by h.later h.held
+      where
+        to : next ≡ field 4 (rec_at t.records format.properties_file e.id) format.property_next
+        to = next_is ∙ ap (λ x. field 4 (rec_at t.records format.properties_file x) format.property_next) h.at_is
+
+        by : (later : List Property) → AreHeld t at (e ∷ later) → IsGivenOut t.records format.properties_file next
+        by [] held = absurd (some (to ∙ held.are.linked.0.next_is))
+        by (n ∷ ns) held = subst (IsGivenOut t.records format.properties_file) (sym (to ∙ held.are.linked.0.next_is))
+            (record { low = live_low t.records format.properties_file n.id (held.properties.live n.id (inr (inl refl))); small = let low = held.are.linked.1.0.low in omega arith })
+
     pub has_content : HasContent (rec_at t.records format.properties_file at)
     has_content = subst (λ x. HasContent (rec_at t.records format.properties_file x)) (sym h.at_is) (record { content = _; is = h.held.are.linked.0.content })
 

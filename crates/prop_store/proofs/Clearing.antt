@@ -124,7 +124,7 @@ pub kind_same : (old new : Records) (file x : ℕ) → high new file ≡ high ol
 kind_same old new file x mark same = ap (λ m. kind_in m (rec_at new file x) x) mark ∙ ap (λ r. kind_in (high old file) r x) same
 
 -- a record that its bytes say is free is not in use
-bytes_free : (records : Records) (file x : ℕ) → field 1 (rec_at records file x) format.kind ≡ format.free_kind → kind_at records file x ≡ format.free_kind
+pub bytes_free : (records : Records) (file x : ℕ) → field 1 (rec_at records file x) format.kind ≡ format.free_kind → kind_at records file x ≡ format.free_kind
 bytes_free records file x e = ⊎_elim (λ (lt : x < high records file). kind_low (high records file) (rec_at records file x) x lt ∙ e) (λ (le : high records file ≤ x). kind_high (high records file) (rec_at records file x) x le) (cases_lt x (high records file))
 
 module _ (old new : Records) (ps : List ℕ) (cleared : AreCleared old new ps) where

@@ -34,6 +34,7 @@ pub mod RecordFits
 pub mod RecordMoves
 pub mod ReleaseSteps
 pub mod SetCauses
+pub mod StillBroken
 pub mod TextSteps
 pub mod Touches
 pub mod ValueRemovals

@@ -71,6 +71,8 @@ pub fn drop_all<S: Space>(space: &mut S, owner: Owner) -> Result<Dropped, Fault>
         → OwnsProperties (S.state space.old) owner es → NotDamaged result }
     ensures damaged { S.tells → IsInUse (S.state space.old).records owner
         → IfErr result (BlamesDropped (S.state space.old).records (S.state space.old).shape) }
+    ensures still { S.tells → IsInUse (S.state space.old).records owner
+        → IfErr result (BlamesBroken (S.state space.new).records (S.state space.new).shape) }
     ensures few_properties { IfOk result (λ dropped. dropped.properties ≤ 32) }
     ensures few_blocks { IfOk result (λ dropped. dropped.blocks ≤ 704) }
     ensures writes { IfOk result (λ dropped.

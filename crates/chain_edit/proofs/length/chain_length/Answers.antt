@@ -12,6 +12,7 @@ use Rattle.chain_edit.proofs.Broken.{length_breaks, length_fault_breaks}
 use Rattle.chain_edit.proofs.Lengths.{CountsSoFar, counts_all, counts_more, counts_none, no_member, rest_all, rest_more, step_fault, undamaged}
 use Rattle.chain_edit.proofs.Walks.{mark_then, next_read, read_next as reads_more, reads_next, reads_within, rec_then, step_then}
 use Rattle.chain_edit.proofs.Causes.{cause_passed}
+use Rattle.rec_bytes.proofs.Causes.{never_ok}
 use Rattle.chain_edit.proofs.length.chain_length.Goals as goal
 
 pub loop-count-init : goal.loop-count-init
@@ -126,3 +127,12 @@ returns-clause-counted g c = λ tells.
 pub returns-in_err-read_next-clause-cause : goal.returns-in_err-read_next-clause-cause
 returns-in_err-read_next-clause-cause g c =
     cause_passed _ _ _ c.from_residual.result c.in_err-read_next.field-0.0 c.loop-count.invariant.later c.in_err-read_next.ensures.cause c.from_residual.ensures.1
+
+pub returns-in_err-read_next-clause-counted : goal.returns-in_err-read_next-clause-counted
+returns-in_err-read_next-clause-counted g c _ = never_ok c.from_residual.result _ _ c.from_residual.ensures.1
+
+pub returns-in_err-read_next-clause-few : goal.returns-in_err-read_next-clause-few
+returns-in_err-read_next-clause-few g c = never_ok c.from_residual.result _ _ c.from_residual.ensures.1
+
+pub returns-in_err-read_next-clause-reads : goal.returns-in_err-read_next-clause-reads
+returns-in_err-read_next-clause-reads g c = never_ok c.from_residual.result _ _ c.from_residual.ensures.1

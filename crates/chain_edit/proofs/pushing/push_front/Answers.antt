@@ -9,6 +9,7 @@ use Rattle.chain_edit.proofs.Broken.{head_breaks}
 use Rattle.chain_edit.proofs.Damages.{damage_read}
 use Rattle.chain_edit.proofs.Pushes.{has_pushed}
 use Rattle.chain_edit.proofs.Causes.{damage_cause, space_cause_passed}
+use Rattle.rec_bytes.proofs.Causes.{never_ok}
 use Rattle.chain_edit.proofs.pushing.push_front.Goals as goal
 
 pub returns-in_err-test_link-clause-damaged : goal.returns-in_err-test_link-clause-damaged
@@ -60,3 +61,81 @@ returns-in_err-put-clause-cause g c =
     let later1 = c.in_ok-back.ensures.cause.later in
     let later2 = c.in_ok-set_next.ensures.cause.later in
     space_cause_passed _ _ _ c.from_residual-in_err-put.result c.in_err-put.field-0.0 (omega (arith, later0, later1, later2)) c.in_err-put.ensures.cause c.from_residual-in_err-put.ensures.1
+
+pub returns-in_err-rec-clause-chains : goal.returns-in_err-rec-clause-chains
+returns-in_err-rec-clause-chains g c _ = never_ok c.from_residual.result _ _ c.from_residual.ensures.1
+
+pub returns-in_err-rec-clause-ok : goal.returns-in_err-rec-clause-ok
+returns-in_err-rec-clause-ok g c _ = never_ok c.from_residual.result _ _ c.from_residual.ensures.1
+
+pub returns-in_err-rec-clause-first : goal.returns-in_err-rec-clause-first
+returns-in_err-rec-clause-first g c _ = never_ok c.from_residual.result _ _ c.from_residual.ensures.1
+
+pub returns-in_err-rec-clause-known : goal.returns-in_err-rec-clause-known
+returns-in_err-rec-clause-known g c _ = never_ok c.from_residual.result _ _ c.from_residual.ensures.1
+
+pub returns-in_err-rec-clause-wrote : goal.returns-in_err-rec-clause-wrote
+returns-in_err-rec-clause-wrote g c = never_ok c.from_residual.result _ _ c.from_residual.ensures.1
+
+pub returns-in_err-rec-clause-onward : goal.returns-in_err-rec-clause-onward
+returns-in_err-rec-clause-onward g c = search rules
+
+pub returns-in_err-test_link-clause-chains : goal.returns-in_err-test_link-clause-chains
+returns-in_err-test_link-clause-chains g c _ = never_ok c.from_residual-in_err-test_link.result _ _ c.from_residual-in_err-test_link.ensures.1
+
+pub returns-in_err-test_link-clause-ok : goal.returns-in_err-test_link-clause-ok
+returns-in_err-test_link-clause-ok g c _ = never_ok c.from_residual-in_err-test_link.result _ _ c.from_residual-in_err-test_link.ensures.1
+
+pub returns-in_err-test_link-clause-first : goal.returns-in_err-test_link-clause-first
+returns-in_err-test_link-clause-first g c _ = never_ok c.from_residual-in_err-test_link.result _ _ c.from_residual-in_err-test_link.ensures.1
+
+pub returns-in_err-test_link-clause-known : goal.returns-in_err-test_link-clause-known
+returns-in_err-test_link-clause-known g c _ = never_ok c.from_residual-in_err-test_link.result _ _ c.from_residual-in_err-test_link.ensures.1
+
+pub returns-in_err-test_link-clause-wrote : goal.returns-in_err-test_link-clause-wrote
+returns-in_err-test_link-clause-wrote g c = never_ok c.from_residual-in_err-test_link.result _ _ c.from_residual-in_err-test_link.ensures.1
+
+pub returns-in_err-back-clause-chains : goal.returns-in_err-back-clause-chains
+returns-in_err-back-clause-chains g c _ = never_ok c.from_residual-in_err-back.result _ _ c.from_residual-in_err-back.ensures.1
+
+pub returns-in_err-back-clause-ok : goal.returns-in_err-back-clause-ok
+returns-in_err-back-clause-ok g c _ = never_ok c.from_residual-in_err-back.result _ _ c.from_residual-in_err-back.ensures.1
+
+pub returns-in_err-back-clause-first : goal.returns-in_err-back-clause-first
+returns-in_err-back-clause-first g c _ = never_ok c.from_residual-in_err-back.result _ _ c.from_residual-in_err-back.ensures.1
+
+pub returns-in_err-back-clause-known : goal.returns-in_err-back-clause-known
+returns-in_err-back-clause-known g c _ = never_ok c.from_residual-in_err-back.result _ _ c.from_residual-in_err-back.ensures.1
+
+pub returns-in_err-back-clause-wrote : goal.returns-in_err-back-clause-wrote
+returns-in_err-back-clause-wrote g c = never_ok c.from_residual-in_err-back.result _ _ c.from_residual-in_err-back.ensures.1
+
+pub returns-in_err-set_next-clause-chains : goal.returns-in_err-set_next-clause-chains
+returns-in_err-set_next-clause-chains g c _ = never_ok c.from_residual-in_err-set_next.result _ _ c.from_residual-in_err-set_next.ensures.1
+
+pub returns-in_err-set_next-clause-ok : goal.returns-in_err-set_next-clause-ok
+returns-in_err-set_next-clause-ok g c _ = never_ok c.from_residual-in_err-set_next.result _ _ c.from_residual-in_err-set_next.ensures.1
+
+pub returns-in_err-set_next-clause-first : goal.returns-in_err-set_next-clause-first
+returns-in_err-set_next-clause-first g c _ = never_ok c.from_residual-in_err-set_next.result _ _ c.from_residual-in_err-set_next.ensures.1
+
+pub returns-in_err-set_next-clause-known : goal.returns-in_err-set_next-clause-known
+returns-in_err-set_next-clause-known g c _ = never_ok c.from_residual-in_err-set_next.result _ _ c.from_residual-in_err-set_next.ensures.1
+
+pub returns-in_err-set_next-clause-wrote : goal.returns-in_err-set_next-clause-wrote
+returns-in_err-set_next-clause-wrote g c = never_ok c.from_residual-in_err-set_next.result _ _ c.from_residual-in_err-set_next.ensures.1
+
+pub returns-in_err-put-clause-chains : goal.returns-in_err-put-clause-chains
+returns-in_err-put-clause-chains g c _ = never_ok c.from_residual-in_err-put.result _ _ c.from_residual-in_err-put.ensures.1
+
+pub returns-in_err-put-clause-ok : goal.returns-in_err-put-clause-ok
+returns-in_err-put-clause-ok g c _ = never_ok c.from_residual-in_err-put.result _ _ c.from_residual-in_err-put.ensures.1
+
+pub returns-in_err-put-clause-first : goal.returns-in_err-put-clause-first
+returns-in_err-put-clause-first g c _ = never_ok c.from_residual-in_err-put.result _ _ c.from_residual-in_err-put.ensures.1
+
+pub returns-in_err-put-clause-known : goal.returns-in_err-put-clause-known
+returns-in_err-put-clause-known g c _ = never_ok c.from_residual-in_err-put.result _ _ c.from_residual-in_err-put.ensures.1
+
+pub returns-in_err-put-clause-wrote : goal.returns-in_err-put-clause-wrote
+returns-in_err-put-clause-wrote g c = never_ok c.from_residual-in_err-put.result _ _ c.from_residual-in_err-put.ensures.1

@@ -1,4 +1,4 @@
-use Rattle.std.proofs.Common.{arith, ◌≡◌, ◌+◌, [], ◌∷◌, refl, ap, ◌∙◌, subst, sym, inl, inr}
+use Rattle.std.proofs.Common.{arith, ◌≡◌, ◌+◌, [], ◌∷◌, refl, ap, ◌∙◌, subst, sym, inl, inr, rules}
 use Rattle.std.proofs.lemmas.Result.{err_from_is_err_and}
 use Rattle.rec_bytes.specs.Format.{nil}
 use Rattle.rec_bytes.specs.Record.{field, with_field}
@@ -16,6 +16,7 @@ use Rattle.chain_edit.proofs.Removals.{has_unlinked}
 use Rattle.chain_edit.proofs.Unhidden.{hides_nothing, loses_no_other}
 use Rattle.chain_edit.proofs.Causes.{cause_passed, damage_cause, space_cause_passed}
 use Rattle.chain_edit.proofs.Walks.{reads_next}
+use Rattle.rec_bytes.proofs.Causes.{never_ok}
 use Rattle.chain_edit.proofs.unlinking.unlink.Goals as goal
 
 pub returns-in_err-test_link-clause-damaged : goal.returns-in_err-test_link-clause-damaged
@@ -428,3 +429,174 @@ returns-in_err-write_lead-clause-cause g c =
     let later3 = c.in_ok-put.ensures.cause.later in
     let later4 = c.in_ok-write_behind.ensures.cause.later in
     space_cause_passed _ _ _ c.from_residual-in_err-write_lead.result c.in_err-write_lead.field-0.0 (omega (arith, later0, later1, later2, later3, later4)) c.in_err-write_lead.ensures.cause c.from_residual-in_err-write_lead.ensures.1
+
+pub returns-in_err-rec-clause-chains : goal.returns-in_err-rec-clause-chains
+returns-in_err-rec-clause-chains g c _ = never_ok c.from_residual.result _ _ c.from_residual.ensures.1
+
+pub returns-in_err-rec-clause-ok : goal.returns-in_err-rec-clause-ok
+returns-in_err-rec-clause-ok g c _ = never_ok c.from_residual.result _ _ c.from_residual.ensures.1
+
+pub returns-in_err-rec-clause-linked : goal.returns-in_err-rec-clause-linked
+returns-in_err-rec-clause-linked g c _ = never_ok c.from_residual.result _ _ c.from_residual.ensures.1
+
+pub returns-in_err-rec-clause-hides : goal.returns-in_err-rec-clause-hides
+returns-in_err-rec-clause-hides g c _ = never_ok c.from_residual.result _ _ c.from_residual.ensures.1
+
+pub returns-in_err-rec-clause-loses : goal.returns-in_err-rec-clause-loses
+returns-in_err-rec-clause-loses g c _ = never_ok c.from_residual.result _ _ c.from_residual.ensures.1
+
+pub returns-in_err-rec-clause-known_before : goal.returns-in_err-rec-clause-known_before
+returns-in_err-rec-clause-known_before g c _ = never_ok c.from_residual.result _ _ c.from_residual.ensures.1
+
+pub returns-in_err-rec-clause-known_after : goal.returns-in_err-rec-clause-known_after
+returns-in_err-rec-clause-known_after g c _ = never_ok c.from_residual.result _ _ c.from_residual.ensures.1
+
+pub returns-in_err-rec-clause-onward : goal.returns-in_err-rec-clause-onward
+returns-in_err-rec-clause-onward g c = search rules
+
+pub returns-in_err-test_link-clause-chains : goal.returns-in_err-test_link-clause-chains
+returns-in_err-test_link-clause-chains g c _ = never_ok c.from_residual-in_err-test_link.result _ _ c.from_residual-in_err-test_link.ensures.1
+
+pub returns-in_err-test_link-clause-ok : goal.returns-in_err-test_link-clause-ok
+returns-in_err-test_link-clause-ok g c _ = never_ok c.from_residual-in_err-test_link.result _ _ c.from_residual-in_err-test_link.ensures.1
+
+pub returns-in_err-test_link-clause-linked : goal.returns-in_err-test_link-clause-linked
+returns-in_err-test_link-clause-linked g c _ = never_ok c.from_residual-in_err-test_link.result _ _ c.from_residual-in_err-test_link.ensures.1
+
+pub returns-in_err-test_link-clause-hides : goal.returns-in_err-test_link-clause-hides
+returns-in_err-test_link-clause-hides g c _ = never_ok c.from_residual-in_err-test_link.result _ _ c.from_residual-in_err-test_link.ensures.1
+
+pub returns-in_err-test_link-clause-loses : goal.returns-in_err-test_link-clause-loses
+returns-in_err-test_link-clause-loses g c _ = never_ok c.from_residual-in_err-test_link.result _ _ c.from_residual-in_err-test_link.ensures.1
+
+pub returns-in_err-test_link-clause-known_before : goal.returns-in_err-test_link-clause-known_before
+returns-in_err-test_link-clause-known_before g c _ = never_ok c.from_residual-in_err-test_link.result _ _ c.from_residual-in_err-test_link.ensures.1
+
+pub returns-in_err-test_link-clause-known_after : goal.returns-in_err-test_link-clause-known_after
+returns-in_err-test_link-clause-known_after g c _ = never_ok c.from_residual-in_err-test_link.result _ _ c.from_residual-in_err-test_link.ensures.1
+
+pub returns-in_err-test_link-2-clause-chains : goal.returns-in_err-test_link-2-clause-chains
+returns-in_err-test_link-2-clause-chains g c _ = never_ok c.from_residual-in_err-test_link-2.result _ _ c.from_residual-in_err-test_link-2.ensures.1
+
+pub returns-in_err-test_link-2-clause-ok : goal.returns-in_err-test_link-2-clause-ok
+returns-in_err-test_link-2-clause-ok g c _ = never_ok c.from_residual-in_err-test_link-2.result _ _ c.from_residual-in_err-test_link-2.ensures.1
+
+pub returns-in_err-test_link-2-clause-linked : goal.returns-in_err-test_link-2-clause-linked
+returns-in_err-test_link-2-clause-linked g c _ = never_ok c.from_residual-in_err-test_link-2.result _ _ c.from_residual-in_err-test_link-2.ensures.1
+
+pub returns-in_err-test_link-2-clause-hides : goal.returns-in_err-test_link-2-clause-hides
+returns-in_err-test_link-2-clause-hides g c _ = never_ok c.from_residual-in_err-test_link-2.result _ _ c.from_residual-in_err-test_link-2.ensures.1
+
+pub returns-in_err-test_link-2-clause-loses : goal.returns-in_err-test_link-2-clause-loses
+returns-in_err-test_link-2-clause-loses g c _ = never_ok c.from_residual-in_err-test_link-2.result _ _ c.from_residual-in_err-test_link-2.ensures.1
+
+pub returns-in_err-test_link-2-clause-known_before : goal.returns-in_err-test_link-2-clause-known_before
+returns-in_err-test_link-2-clause-known_before g c _ = never_ok c.from_residual-in_err-test_link-2.result _ _ c.from_residual-in_err-test_link-2.ensures.1
+
+pub returns-in_err-test_link-2-clause-known_after : goal.returns-in_err-test_link-2-clause-known_after
+returns-in_err-test_link-2-clause-known_after g c _ = never_ok c.from_residual-in_err-test_link-2.result _ _ c.from_residual-in_err-test_link-2.ensures.1
+
+pub returns-in_err-behind-clause-chains : goal.returns-in_err-behind-clause-chains
+returns-in_err-behind-clause-chains g c _ = never_ok c.from_residual-in_err-behind.result _ _ c.from_residual-in_err-behind.ensures.1
+
+pub returns-in_err-behind-clause-ok : goal.returns-in_err-behind-clause-ok
+returns-in_err-behind-clause-ok g c _ = never_ok c.from_residual-in_err-behind.result _ _ c.from_residual-in_err-behind.ensures.1
+
+pub returns-in_err-behind-clause-linked : goal.returns-in_err-behind-clause-linked
+returns-in_err-behind-clause-linked g c _ = never_ok c.from_residual-in_err-behind.result _ _ c.from_residual-in_err-behind.ensures.1
+
+pub returns-in_err-behind-clause-hides : goal.returns-in_err-behind-clause-hides
+returns-in_err-behind-clause-hides g c _ = never_ok c.from_residual-in_err-behind.result _ _ c.from_residual-in_err-behind.ensures.1
+
+pub returns-in_err-behind-clause-loses : goal.returns-in_err-behind-clause-loses
+returns-in_err-behind-clause-loses g c _ = never_ok c.from_residual-in_err-behind.result _ _ c.from_residual-in_err-behind.ensures.1
+
+pub returns-in_err-behind-clause-known_before : goal.returns-in_err-behind-clause-known_before
+returns-in_err-behind-clause-known_before g c _ = never_ok c.from_residual-in_err-behind.result _ _ c.from_residual-in_err-behind.ensures.1
+
+pub returns-in_err-behind-clause-known_after : goal.returns-in_err-behind-clause-known_after
+returns-in_err-behind-clause-known_after g c _ = never_ok c.from_residual-in_err-behind.result _ _ c.from_residual-in_err-behind.ensures.1
+
+pub returns-in_err-lead-clause-chains : goal.returns-in_err-lead-clause-chains
+returns-in_err-lead-clause-chains g c _ = never_ok c.from_residual-in_err-lead.result _ _ c.from_residual-in_err-lead.ensures.1
+
+pub returns-in_err-lead-clause-ok : goal.returns-in_err-lead-clause-ok
+returns-in_err-lead-clause-ok g c _ = never_ok c.from_residual-in_err-lead.result _ _ c.from_residual-in_err-lead.ensures.1
+
+pub returns-in_err-lead-clause-linked : goal.returns-in_err-lead-clause-linked
+returns-in_err-lead-clause-linked g c _ = never_ok c.from_residual-in_err-lead.result _ _ c.from_residual-in_err-lead.ensures.1
+
+pub returns-in_err-lead-clause-hides : goal.returns-in_err-lead-clause-hides
+returns-in_err-lead-clause-hides g c _ = never_ok c.from_residual-in_err-lead.result _ _ c.from_residual-in_err-lead.ensures.1
+
+pub returns-in_err-lead-clause-loses : goal.returns-in_err-lead-clause-loses
+returns-in_err-lead-clause-loses g c _ = never_ok c.from_residual-in_err-lead.result _ _ c.from_residual-in_err-lead.ensures.1
+
+pub returns-in_err-lead-clause-known_before : goal.returns-in_err-lead-clause-known_before
+returns-in_err-lead-clause-known_before g c _ = never_ok c.from_residual-in_err-lead.result _ _ c.from_residual-in_err-lead.ensures.1
+
+pub returns-in_err-lead-clause-known_after : goal.returns-in_err-lead-clause-known_after
+returns-in_err-lead-clause-known_after g c _ = never_ok c.from_residual-in_err-lead.result _ _ c.from_residual-in_err-lead.ensures.1
+
+pub returns-in_err-put-clause-chains : goal.returns-in_err-put-clause-chains
+returns-in_err-put-clause-chains g c _ = never_ok c.from_residual-in_err-put.result _ _ c.from_residual-in_err-put.ensures.1
+
+pub returns-in_err-put-clause-ok : goal.returns-in_err-put-clause-ok
+returns-in_err-put-clause-ok g c _ = never_ok c.from_residual-in_err-put.result _ _ c.from_residual-in_err-put.ensures.1
+
+pub returns-in_err-put-clause-linked : goal.returns-in_err-put-clause-linked
+returns-in_err-put-clause-linked g c _ = never_ok c.from_residual-in_err-put.result _ _ c.from_residual-in_err-put.ensures.1
+
+pub returns-in_err-put-clause-hides : goal.returns-in_err-put-clause-hides
+returns-in_err-put-clause-hides g c _ = never_ok c.from_residual-in_err-put.result _ _ c.from_residual-in_err-put.ensures.1
+
+pub returns-in_err-put-clause-loses : goal.returns-in_err-put-clause-loses
+returns-in_err-put-clause-loses g c _ = never_ok c.from_residual-in_err-put.result _ _ c.from_residual-in_err-put.ensures.1
+
+pub returns-in_err-put-clause-known_before : goal.returns-in_err-put-clause-known_before
+returns-in_err-put-clause-known_before g c _ = never_ok c.from_residual-in_err-put.result _ _ c.from_residual-in_err-put.ensures.1
+
+pub returns-in_err-put-clause-known_after : goal.returns-in_err-put-clause-known_after
+returns-in_err-put-clause-known_after g c _ = never_ok c.from_residual-in_err-put.result _ _ c.from_residual-in_err-put.ensures.1
+
+pub returns-in_err-write_behind-clause-chains : goal.returns-in_err-write_behind-clause-chains
+returns-in_err-write_behind-clause-chains g c _ = never_ok c.from_residual-in_err-write_behind.result _ _ c.from_residual-in_err-write_behind.ensures.1
+
+pub returns-in_err-write_behind-clause-ok : goal.returns-in_err-write_behind-clause-ok
+returns-in_err-write_behind-clause-ok g c _ = never_ok c.from_residual-in_err-write_behind.result _ _ c.from_residual-in_err-write_behind.ensures.1
+
+pub returns-in_err-write_behind-clause-linked : goal.returns-in_err-write_behind-clause-linked
+returns-in_err-write_behind-clause-linked g c _ = never_ok c.from_residual-in_err-write_behind.result _ _ c.from_residual-in_err-write_behind.ensures.1
+
+pub returns-in_err-write_behind-clause-hides : goal.returns-in_err-write_behind-clause-hides
+returns-in_err-write_behind-clause-hides g c _ = never_ok c.from_residual-in_err-write_behind.result _ _ c.from_residual-in_err-write_behind.ensures.1
+
+pub returns-in_err-write_behind-clause-loses : goal.returns-in_err-write_behind-clause-loses
+returns-in_err-write_behind-clause-loses g c _ = never_ok c.from_residual-in_err-write_behind.result _ _ c.from_residual-in_err-write_behind.ensures.1
+
+pub returns-in_err-write_behind-clause-known_before : goal.returns-in_err-write_behind-clause-known_before
+returns-in_err-write_behind-clause-known_before g c _ = never_ok c.from_residual-in_err-write_behind.result _ _ c.from_residual-in_err-write_behind.ensures.1
+
+pub returns-in_err-write_behind-clause-known_after : goal.returns-in_err-write_behind-clause-known_after
+returns-in_err-write_behind-clause-known_after g c _ = never_ok c.from_residual-in_err-write_behind.result _ _ c.from_residual-in_err-write_behind.ensures.1
+
+pub returns-in_err-write_lead-clause-chains : goal.returns-in_err-write_lead-clause-chains
+returns-in_err-write_lead-clause-chains g c _ = never_ok c.from_residual-in_err-write_lead.result _ _ c.from_residual-in_err-write_lead.ensures.1
+
+pub returns-in_err-write_lead-clause-ok : goal.returns-in_err-write_lead-clause-ok
+returns-in_err-write_lead-clause-ok g c _ = never_ok c.from_residual-in_err-write_lead.result _ _ c.from_residual-in_err-write_lead.ensures.1
+
+pub returns-in_err-write_lead-clause-linked : goal.returns-in_err-write_lead-clause-linked
+returns-in_err-write_lead-clause-linked g c _ = never_ok c.from_residual-in_err-write_lead.result _ _ c.from_residual-in_err-write_lead.ensures.1
+
+pub returns-in_err-write_lead-clause-hides : goal.returns-in_err-write_lead-clause-hides
+returns-in_err-write_lead-clause-hides g c _ = never_ok c.from_residual-in_err-write_lead.result _ _ c.from_residual-in_err-write_lead.ensures.1
+
+pub returns-in_err-write_lead-clause-loses : goal.returns-in_err-write_lead-clause-loses
+returns-in_err-write_lead-clause-loses g c _ = never_ok c.from_residual-in_err-write_lead.result _ _ c.from_residual-in_err-write_lead.ensures.1
+
+pub returns-in_err-write_lead-clause-known_before : goal.returns-in_err-write_lead-clause-known_before
+returns-in_err-write_lead-clause-known_before g c _ = never_ok c.from_residual-in_err-write_lead.result _ _ c.from_residual-in_err-write_lead.ensures.1
+
+pub returns-in_err-write_lead-clause-known_after : goal.returns-in_err-write_lead-clause-known_after
+returns-in_err-write_lead-clause-known_after g c _ = never_ok c.from_residual-in_err-write_lead.result _ _ c.from_residual-in_err-write_lead.ensures.1

@@ -1,4 +1,4 @@
-use Rattle.std.proofs.Common.{◌≡◌, ap, ◌∙◌, subst, sym}
+use Rattle.std.proofs.Common.{◌≡◌, ap, ◌∙◌, subst, sym, rules}
 use Rattle.std.proofs.lemmas.Result.{err_from_is_err_and}
 use Rattle.rec_bytes.specs.Record.{field}
 use Rattle.store_rules.specs.Chains.{prev_in}
@@ -6,6 +6,7 @@ use Rattle.chain_edit.specs.Chains.{prev_of}
 use Rattle.chain_edit.specs.Walking.{IsStepDamage}
 use Rattle.chain_edit.specs.Walking.IsStepDamage.{NoStep}
 use Rattle.chain_edit.proofs.Walks.{link_step, reads_none, reads_one}
+use Rattle.rec_bytes.proofs.Causes.{never_ok}
 use Rattle.chain_edit.proofs.walking.read_next.Goals as goal
 
 pub returns-in_err-test_link-clause-at_most : goal.returns-in_err-test_link-clause-at_most
@@ -33,3 +34,36 @@ returns-then-link-before-clause-damaged g c = λ tells.
 
 pub returns-clause-at_most : goal.returns-clause-at_most
 returns-clause-at_most g c = reads_one (g.R.Reads.state c.args.space.now) (g.R.Reads.state c.get_into.new.self) c.in_ok-get_into.ensures.state
+
+pub returns-in_err-test_link-clause-got : goal.returns-in_err-test_link-clause-got
+returns-in_err-test_link-clause-got g c _ = never_ok c.from_residual.result _ _ c.from_residual.ensures.1
+
+pub returns-in_err-test_link-clause-known : goal.returns-in_err-test_link-clause-known
+returns-in_err-test_link-clause-known g c = never_ok c.from_residual.result _ _ c.from_residual.ensures.1
+
+pub returns-in_err-test_link-clause-key : goal.returns-in_err-test_link-clause-key
+returns-in_err-test_link-clause-key g c = never_ok c.from_residual.result _ _ c.from_residual.ensures.1
+
+pub returns-in_err-test_link-clause-back : goal.returns-in_err-test_link-clause-back
+returns-in_err-test_link-clause-back g c _ = never_ok c.from_residual.result _ _ c.from_residual.ensures.1
+
+pub returns-in_err-test_link-clause-state : goal.returns-in_err-test_link-clause-state
+returns-in_err-test_link-clause-state g c = never_ok c.from_residual.result _ _ c.from_residual.ensures.1
+
+pub returns-in_err-test_link-clause-onward : goal.returns-in_err-test_link-clause-onward
+returns-in_err-test_link-clause-onward g c = search rules
+
+pub returns-in_err-get_into-clause-got : goal.returns-in_err-get_into-clause-got
+returns-in_err-get_into-clause-got g c _ = never_ok c.from_residual-in_err-get_into.result _ _ c.from_residual-in_err-get_into.ensures.1
+
+pub returns-in_err-get_into-clause-known : goal.returns-in_err-get_into-clause-known
+returns-in_err-get_into-clause-known g c = never_ok c.from_residual-in_err-get_into.result _ _ c.from_residual-in_err-get_into.ensures.1
+
+pub returns-in_err-get_into-clause-key : goal.returns-in_err-get_into-clause-key
+returns-in_err-get_into-clause-key g c = never_ok c.from_residual-in_err-get_into.result _ _ c.from_residual-in_err-get_into.ensures.1
+
+pub returns-in_err-get_into-clause-back : goal.returns-in_err-get_into-clause-back
+returns-in_err-get_into-clause-back g c _ = never_ok c.from_residual-in_err-get_into.result _ _ c.from_residual-in_err-get_into.ensures.1
+
+pub returns-in_err-get_into-clause-state : goal.returns-in_err-get_into-clause-state
+returns-in_err-get_into-clause-state g c = never_ok c.from_residual-in_err-get_into.result _ _ c.from_residual-in_err-get_into.ensures.1

@@ -10,6 +10,7 @@ use Rattle.chain_edit.specs.Walking.IsWalkDamage.{NoWalk}
 use Rattle.chain_edit.proofs.Broken.{walk_breaks, walk_fault_breaks}
 use Rattle.chain_edit.proofs.Walks.{few_next, few_then, left_more, left_none, link_is, mark_then, next_read, one_longer, read_next as reads_more, reads_next, reads_within, rec_then, rows_all, rows_more, rows_none, step_then, undamaged, walk_fault}
 use Rattle.chain_edit.proofs.Causes.{cause_passed, memory_cause}
+use Rattle.rec_bytes.proofs.Causes.{never_ok}
 use Rattle.chain_edit.proofs.walking.walk.Goals as goal
 
 pub loop-init : goal.loop-init
@@ -140,3 +141,15 @@ returns-in_err-push-clause-cause g c =
     let later0 = c.loop.invariant.later in
     let later1 = c.in_ok-read_next.ensures.cause.later in
     memory_cause _ _ c.from_residual-in_err-push.result (omega (arith, later0, later1)) c.from_residual-in_err-push.ensures.1
+
+pub returns-in_err-read_next-clause-rows : goal.returns-in_err-read_next-clause-rows
+returns-in_err-read_next-clause-rows g c _ = never_ok c.from_residual.result _ _ c.from_residual.ensures.1
+
+pub returns-in_err-read_next-clause-reads : goal.returns-in_err-read_next-clause-reads
+returns-in_err-read_next-clause-reads g c = never_ok c.from_residual.result _ _ c.from_residual.ensures.1
+
+pub returns-in_err-push-clause-rows : goal.returns-in_err-push-clause-rows
+returns-in_err-push-clause-rows g c _ = never_ok c.from_residual-in_err-push.result _ _ c.from_residual-in_err-push.ensures.1
+
+pub returns-in_err-push-clause-reads : goal.returns-in_err-push-clause-reads
+returns-in_err-push-clause-reads g c = never_ok c.from_residual-in_err-push.result _ _ c.from_residual-in_err-push.ensures.1

@@ -1,4 +1,4 @@
-use Rattle.std.proofs.Common.{arith, ℕ, Bool, [], ◌∷◌, sym, subst}
+use Rattle.std.proofs.Common.{arith, ℕ, Bool, [], ◌∷◌, sym, subst, rules}
 use Rattle.std.proofs.lemmas.Result.{err_from_is_err_and}
 use Rattle.rec_bytes.specs.Format as format
 use Rattle.rec_bytes.specs.RecordFiles.{meta_key_of}
@@ -12,6 +12,7 @@ use Rattle.group_store.proofs.Closings.{closable, closed_by}
 use Rattle.group_store.proofs.KeptHeads.{heads_closed}
 use Rattle.group_store.proofs.Openings.{handed}
 use Rattle.group_store.proofs.Causes.{cause_passed}
+use Rattle.rec_bytes.proofs.Causes.{never_ok}
 use Rattle.group_store.proofs.closing.close_chain.Goals as goal
 use Rattle.group_store.proofs.closing.close_chain.Goals.{After-drop_if_empty}
 use Rattle.group_store.proofs.closing.close_chain.Given.{Over}
@@ -65,3 +66,12 @@ pub returns-in_err-drop_if_empty-clause-damaged : goal.returns-in_err-drop_if_em
 returns-in_err-drop_if_empty-clause-damaged g c = λ tells.
     let p = err_from_is_err_and c.from_residual.result c.from_residual.ensures.1 in
     rw (p.1, p.2) (c.in_err-drop_if_empty.ensures.damaged tells)
+
+pub returns-in_err-drop_if_empty-clause-closed : goal.returns-in_err-drop_if_empty-clause-closed
+returns-in_err-drop_if_empty-clause-closed g c _ = never_ok c.from_residual.result _ _ c.from_residual.ensures.1
+
+pub returns-in_err-drop_if_empty-clause-heads : goal.returns-in_err-drop_if_empty-clause-heads
+returns-in_err-drop_if_empty-clause-heads g c _ _ = never_ok c.from_residual.result _ _ c.from_residual.ensures.1
+
+pub returns-in_err-drop_if_empty-clause-onward : goal.returns-in_err-drop_if_empty-clause-onward
+returns-in_err-drop_if_empty-clause-onward g c = search rules

@@ -1,6 +1,7 @@
-use Rattle.std.proofs.Common.{arith}
+use Rattle.std.proofs.Common.{arith, rules}
 use Rattle.std.proofs.lemmas.Result.{err_from_is_err_and}
 use Rattle.group_store.proofs.Causes.{cause_passed, space_cause_passed}
+use Rattle.rec_bytes.proofs.Causes.{never_ok}
 use Rattle.group_store.proofs.counting.unlink_counted.Goals as goal
 
 pub returns-in_err-unlink_named-clause-cause : goal.returns-in_err-unlink_named-clause-cause
@@ -15,3 +16,18 @@ pub returns-in_err-unlink_named-clause-breaks : goal.returns-in_err-unlink_named
 returns-in_err-unlink_named-clause-breaks g c = λ tells row live placed.
     let p = err_from_is_err_and c.from_residual.result c.from_residual.ensures.1 in
     rw (p.1, p.2) (c.in_err-unlink_named.ensures.breaks tells row live placed)
+
+pub returns-in_err-unlink_named-clause-ok : goal.returns-in_err-unlink_named-clause-ok
+returns-in_err-unlink_named-clause-ok g c _ = never_ok c.from_residual.result _ _ c.from_residual.ensures.1
+
+pub returns-in_err-unlink_named-clause-linked : goal.returns-in_err-unlink_named-clause-linked
+returns-in_err-unlink_named-clause-linked g c _ = never_ok c.from_residual.result _ _ c.from_residual.ensures.1
+
+pub returns-in_err-unlink_named-clause-onward : goal.returns-in_err-unlink_named-clause-onward
+returns-in_err-unlink_named-clause-onward g c = search rules
+
+pub returns-in_err-count_less-clause-ok : goal.returns-in_err-count_less-clause-ok
+returns-in_err-count_less-clause-ok g c _ = never_ok c.from_residual-in_err-count_less.result _ _ c.from_residual-in_err-count_less.ensures.1
+
+pub returns-in_err-count_less-clause-linked : goal.returns-in_err-count_less-clause-linked
+returns-in_err-count_less-clause-linked g c _ = never_ok c.from_residual-in_err-count_less.result _ _ c.from_residual-in_err-count_less.ensures.1

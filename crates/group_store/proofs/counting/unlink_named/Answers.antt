@@ -11,6 +11,7 @@ use Rattle.group_store.specs.Loading.{group_mark}
 use Rattle.group_store.proofs.ChainHeads.{only_read, same_twice}
 use Rattle.group_store.proofs.MakeSteps.{on_damage, same_writes}
 use Rattle.group_store.proofs.TwinLaws.{named_breaks, part_named, part_twin, reads_more_groups, twin_then_breaks}
+use Rattle.rec_bytes.proofs.Causes.{never_ok}
 use Rattle.group_store.proofs.counting.unlink_named.Goals as goal
 
 -- ---- the record can't be named
@@ -86,3 +87,9 @@ returns-in_ok-named-in-Err-Damaged-clause-writes g c =
     let same = only_read s z 3 few in
     let t = g.S.Reads.state c.name_damage.new.space in
     (0, 0, same_writes s t _ (same_twice s z t same (only_read z t (2 + group_mark z) c.in_ok-named-in-Err-Damaged.ensures.at_most)))
+
+pub returns-in_err-named-in-Err-Damaged-clause-ok : goal.returns-in_err-named-in-Err-Damaged-clause-ok
+returns-in_err-named-in-Err-Damaged-clause-ok g c _ = never_ok c.from_residual.result _ _ c.from_residual.ensures.1
+
+pub returns-in_err-named-in-Err-Damaged-clause-linked : goal.returns-in_err-named-in-Err-Damaged-clause-linked
+returns-in_err-named-in-Err-Damaged-clause-linked g c _ = never_ok c.from_residual.result _ _ c.from_residual.ensures.1

@@ -33,6 +33,9 @@ use Rattle.group_store.proofs.Spreads.{left_all, left_first, left_next, left_non
 use Rattle.group_store.proofs.Causes.{cause_passed, later_on, row_cause_passed, space_cause_passed}
 use Rattle.group_store.proofs.LeftBeside.{beside_cleared, beside_read, beside_then, later_beside}
 use Rattle.group_store.proofs.MakeSteps.{on_damage}
+use Rattle.group_store.proofs.KeptHeads.{heads_same}
+use Rattle.group_store.proofs.MadeHeads.{heads_cleared, others_then}
+use Rattle.rec_bytes.proofs.Causes.{never_ok}
 use Rattle.group_store.proofs.densing.make_dense.Goals as goal
 
 pub loop-init : goal.loop-init
@@ -58,6 +61,7 @@ loop-init g c =
           subst (λ (q : State). IsDense q.records c.args.node) (sym (c.in_ok-clear.ensures.ok tells))
           (dense_cleared v c.args.node (subst (λ (q : State). kind_at q.records nodes_file c.args.node ≢ 0) (sym same) used));
       beside = λ tells. beside_then s.records v.records t.records c.args.node (beside_read s v c.args.node same) (beside_cleared v t c.args.node (c.in_ok-clear.ensures.ok tells));
+      heads = λ tells h n ne o. heads_cleared v t c.args.node (c.in_ok-clear.ensures.ok tells) h n ne (heads_same s v same h n o);
       writes = come_none s v t c.args.node c.new-moved.result.relationships.items c.new-moved.result.groups.items same c.in_ok-clear.ensures.writes;
       rels = ap length moved.relationships;
       groups = ap length moved.groups;
@@ -85,6 +89,7 @@ loop-preserved g c =
       rest = λ tells. rest_next s now c.args.node c.loop.at c.loop.counter c.if-at.false (was.rest tells) end turn.next (c.in_ok-turn.ensures.walk tells);
       dense = λ tells. c.in_ok-turn.ensures.dense tells (was.dense tells);
       beside = λ tells. beside_then s.records now.records end.records c.args.node (was.beside tells) (c.in_ok-turn.ensures.beside tells);
+      heads = λ tells. others_then s now end c.args.node (was.heads tells) (c.in_ok-turn.ensures.heads tells);
       writes = come_next s now end c.args.node c.loop.at turn came groups xs ys was.writes c.in_ok-turn.ensures.wrote (c.note.ensures.known.0 c.if-not-note.false) c.note.ensures.relationships c.note.ensures.groups;
       rels = one_longer c.loop.at c.loop.counter came xs c.note.ensures.relationships was.rels;
       groups = one_longer turn.group c.loop.counter groups ys c.note.ensures.groups was.groups;
@@ -306,8 +311,8 @@ returns-then-row-threshold-clause-damaged g c = λ tells sparse le.
     let s = g.S.Reads.state c.args.space.now in
     let same = only_loads_node s (g.S.Reads.state c.load.new.space) c.args.node c.load.ensures.state in
     let e = row_degree s c.args.node c.in-Some.row (sym c.in-Some.is ∙ c.in_ok-row.ensures.found tells) in
-    inl (inl (subst (λ (q : State). Breaks q.records q.shape c.degree_damage.result) (sym same)
-    (subst (λ (d : Damage). Breaks s.records s.shape d) (sym c.degree_damage.ensures) (many_break s c.args.node sparse c.args.threshold le (omega (arith, c.if-row-threshold.true, e))))))
+    inl (subst (λ (q : State). Breaks q.records q.shape c.degree_damage.result) (sym same)
+    (subst (λ (d : Damage). Breaks s.records s.shape d) (sym c.degree_damage.ensures) (many_break s c.args.node sparse c.args.threshold le (omega (arith, c.if-row-threshold.true, e)))))
 
 pub returns-in_err-test_chain-clause-damaged : goal.returns-in_err-test_chain-clause-damaged
 returns-in_err-test_chain-clause-damaged g c = λ tells sparse le.
@@ -452,8 +457,8 @@ returns-then-row-threshold-clause-told g c = λ tells thin le.
     let same = only_loads_node s l c.args.node c.load.ensures.state in
     let e = row_degree s c.args.node c.in-Some.row (sym c.in-Some.is ∙ c.in_ok-row.ensures.found tells) in
     let sparse = sparse_known s c.args.node (c.in_ok-row.ensures.known tells) (node_row s.records c.args.node c.in-Some.row (sym (sym c.in-Some.is ∙ c.in_ok-row.ensures.found tells))).0 thin in
-    inl (inl (inl (subst (λ (q : State). Breaks q.records q.shape c.degree_damage.result) (sym same)
-    (subst (λ (d : Damage). Breaks s.records s.shape d) (sym c.degree_damage.ensures) (many_break s c.args.node sparse c.args.threshold le (omega (arith, c.if-row-threshold.true, e)))))))
+    inl (inl (subst (λ (q : State). Breaks q.records q.shape c.degree_damage.result) (sym same)
+    (subst (λ (d : Damage). Breaks s.records s.shape d) (sym c.degree_damage.ensures) (many_break s c.args.node sparse c.args.threshold le (omega (arith, c.if-row-threshold.true, e))))))
 
 pub returns-in_err-test_chain-clause-told : goal.returns-in_err-test_chain-clause-told
 returns-in_err-test_chain-clause-told g c = λ tells thin le.
@@ -544,3 +549,83 @@ returns-then-not-note-clause-stays g c = λ tells.
 
 pub returns-then-at-2-clause-stays : goal.returns-then-at-2-clause-stays
 returns-then-at-2-clause-stays g c = λ tells. c.loop.invariant.beside tells
+
+-- ---- other nodes have their heads still
+
+pub returns-then-at-clause-heads : goal.returns-then-at-clause-heads
+returns-then-at-clause-heads g c = λ tells. c.loop.invariant.heads tells
+
+pub returns-clause-heads : goal.returns-clause-heads
+returns-clause-heads g c = λ tells. c.loop.invariant.heads tells
+
+pub returns-in_err-row-clause-made : goal.returns-in_err-row-clause-made
+returns-in_err-row-clause-made g c _ = never_ok c.from_residual.result _ _ c.from_residual.ensures.1
+
+pub returns-in_err-row-clause-spread : goal.returns-in_err-row-clause-spread
+returns-in_err-row-clause-spread g c _ = never_ok c.from_residual.result _ _ c.from_residual.ensures.1
+
+pub returns-in_err-row-clause-dense : goal.returns-in_err-row-clause-dense
+returns-in_err-row-clause-dense g c _ = never_ok c.from_residual.result _ _ c.from_residual.ensures.1
+
+pub returns-in_err-row-clause-heads : goal.returns-in_err-row-clause-heads
+returns-in_err-row-clause-heads g c _ = never_ok c.from_residual.result _ _ c.from_residual.ensures.1
+
+pub returns-in_err-row-clause-beside : goal.returns-in_err-row-clause-beside
+returns-in_err-row-clause-beside g c _ = never_ok c.from_residual.result _ _ c.from_residual.ensures.1
+
+pub returns-in_err-row-clause-wrote : goal.returns-in_err-row-clause-wrote
+returns-in_err-row-clause-wrote g c = never_ok c.from_residual.result _ _ c.from_residual.ensures.1
+
+pub returns-in_err-test_chain-clause-made : goal.returns-in_err-test_chain-clause-made
+returns-in_err-test_chain-clause-made g c _ = never_ok c.from_residual-in_err-test_chain.result _ _ c.from_residual-in_err-test_chain.ensures.1
+
+pub returns-in_err-test_chain-clause-spread : goal.returns-in_err-test_chain-clause-spread
+returns-in_err-test_chain-clause-spread g c _ = never_ok c.from_residual-in_err-test_chain.result _ _ c.from_residual-in_err-test_chain.ensures.1
+
+pub returns-in_err-test_chain-clause-dense : goal.returns-in_err-test_chain-clause-dense
+returns-in_err-test_chain-clause-dense g c _ = never_ok c.from_residual-in_err-test_chain.result _ _ c.from_residual-in_err-test_chain.ensures.1
+
+pub returns-in_err-test_chain-clause-heads : goal.returns-in_err-test_chain-clause-heads
+returns-in_err-test_chain-clause-heads g c _ = never_ok c.from_residual-in_err-test_chain.result _ _ c.from_residual-in_err-test_chain.ensures.1
+
+pub returns-in_err-test_chain-clause-beside : goal.returns-in_err-test_chain-clause-beside
+returns-in_err-test_chain-clause-beside g c _ = never_ok c.from_residual-in_err-test_chain.result _ _ c.from_residual-in_err-test_chain.ensures.1
+
+pub returns-in_err-test_chain-clause-wrote : goal.returns-in_err-test_chain-clause-wrote
+returns-in_err-test_chain-clause-wrote g c = never_ok c.from_residual-in_err-test_chain.result _ _ c.from_residual-in_err-test_chain.ensures.1
+
+pub returns-in_err-clear-clause-made : goal.returns-in_err-clear-clause-made
+returns-in_err-clear-clause-made g c _ = never_ok c.from_residual-in_err-clear.result _ _ c.from_residual-in_err-clear.ensures.1
+
+pub returns-in_err-clear-clause-spread : goal.returns-in_err-clear-clause-spread
+returns-in_err-clear-clause-spread g c _ = never_ok c.from_residual-in_err-clear.result _ _ c.from_residual-in_err-clear.ensures.1
+
+pub returns-in_err-clear-clause-dense : goal.returns-in_err-clear-clause-dense
+returns-in_err-clear-clause-dense g c _ = never_ok c.from_residual-in_err-clear.result _ _ c.from_residual-in_err-clear.ensures.1
+
+pub returns-in_err-clear-clause-heads : goal.returns-in_err-clear-clause-heads
+returns-in_err-clear-clause-heads g c _ = never_ok c.from_residual-in_err-clear.result _ _ c.from_residual-in_err-clear.ensures.1
+
+pub returns-in_err-clear-clause-beside : goal.returns-in_err-clear-clause-beside
+returns-in_err-clear-clause-beside g c _ = never_ok c.from_residual-in_err-clear.result _ _ c.from_residual-in_err-clear.ensures.1
+
+pub returns-in_err-clear-clause-wrote : goal.returns-in_err-clear-clause-wrote
+returns-in_err-clear-clause-wrote g c = never_ok c.from_residual-in_err-clear.result _ _ c.from_residual-in_err-clear.ensures.1
+
+pub returns-in_err-turn-clause-made : goal.returns-in_err-turn-clause-made
+returns-in_err-turn-clause-made g c _ = never_ok c.from_residual-in_err-turn.result _ _ c.from_residual-in_err-turn.ensures.1
+
+pub returns-in_err-turn-clause-spread : goal.returns-in_err-turn-clause-spread
+returns-in_err-turn-clause-spread g c _ = never_ok c.from_residual-in_err-turn.result _ _ c.from_residual-in_err-turn.ensures.1
+
+pub returns-in_err-turn-clause-dense : goal.returns-in_err-turn-clause-dense
+returns-in_err-turn-clause-dense g c _ = never_ok c.from_residual-in_err-turn.result _ _ c.from_residual-in_err-turn.ensures.1
+
+pub returns-in_err-turn-clause-heads : goal.returns-in_err-turn-clause-heads
+returns-in_err-turn-clause-heads g c _ = never_ok c.from_residual-in_err-turn.result _ _ c.from_residual-in_err-turn.ensures.1
+
+pub returns-in_err-turn-clause-beside : goal.returns-in_err-turn-clause-beside
+returns-in_err-turn-clause-beside g c _ = never_ok c.from_residual-in_err-turn.result _ _ c.from_residual-in_err-turn.ensures.1
+
+pub returns-in_err-turn-clause-wrote : goal.returns-in_err-turn-clause-wrote
+returns-in_err-turn-clause-wrote g c = never_ok c.from_residual-in_err-turn.result _ _ c.from_residual-in_err-turn.ensures.1

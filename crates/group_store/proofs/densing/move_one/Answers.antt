@@ -1,7 +1,7 @@
 use Rattle.std.specs.Prelude.{IfSome, Option}
 use Rattle.rec_bytes.specs.Key.{IsKey}
 use Rattle.rel_store.specs.declared.rel_row.RelRow.{RelRow}
-use Rattle.std.proofs.Common.{◌≡◌, ◌≢◌, ◌∷◌, [], ◌∙◌, ℕ, ap, subst, sym, inr, arith}
+use Rattle.std.proofs.Common.{◌≡◌, ◌≢◌, ◌≤◌, ◌∷◌, [], ◌∙◌, ℕ, ap, subst, sym, inr, arith, rules}
 use Rattle.rec_bytes.specs.Format.{groups_file}
 use Rattle.rec_bytes.specs.RecordFiles.{meta_key_of}
 use Rattle.id_freelist.specs.Taking.{room}
@@ -12,7 +12,7 @@ use Rattle.node_store.specs.NodeRecord.{node_key}
 use Rattle.chain_edit.specs.Heads.{head_of}
 use Rattle.group_store.specs.declared.side.Side.{Side}
 use Rattle.group_store.specs.GroupRecord.{group_key}
-use Rattle.group_store.specs.Sides.{group_head}
+use Rattle.group_store.specs.Sides.{group_head, place_of}
 use Rattle.std.proofs.lemmas.Result.{err_from_is_err_and}
 use Rattle.rel_store.proofs.Rows.{IsReadable-AreInRange, rel_at-None}
 use Rattle.group_store.proofs.Additions.{node_read, take_after}
@@ -34,7 +34,14 @@ use Rattle.group_store.proofs.Turns.{own_turn}
 use Rattle.group_store.proofs.Causes.{cause_passed, later_on, row_cause_passed, space_cause_passed}
 use Rattle.group_store.proofs.MakeSteps.{on_damage}
 use Rattle.group_store.proofs.LeftBeside.{beside_freed, beside_moved, beside_read, beside_then, unpushed_beside, unwritten_beside}
+use Rattle.store_rules.specs.Breaking.{IsHeadOf}
+use Rattle.group_store.specs.declared.side.Side.TheVariants.{Out, In as Into, Loop}
+use Rattle.group_store.proofs.KeptHeads.{heads_same, heads_then}
+use Rattle.group_store.proofs.MadeHeads.{heads_freed, heads_pushed, owned_head}
+use Rattle.rec_bytes.proofs.Causes.{never_ok}
 use Rattle.group_store.proofs.densing.move_one.Goals as goal
+use Rattle.group_store.proofs.densing.move_one.Goals.{After-push_counted}
+use Rattle.group_store.proofs.densing.move_one.Given.{Over}
 
 pub returns-in_err-row-clause-touches : goal.returns-in_err-row-clause-touches
 returns-in_err-row-clause-touches g c =
@@ -236,11 +243,24 @@ returns-in_err-own-clause-damaged g c = λ tells dense.
     let p = err_from_is_err_and c.from_residual-in_err-own.result c.from_residual-in_err-own.ensures.1 in
     rw (p.1, p.2) (no_own s l (g.S.Reads.state c.own_group.new.space) c.args.node c.args.rel c.in_err-own.field-0.0 (c.in_err-own.ensures.damaged tells dense_l) c.in_err-own.ensures.unwritten)
 
+-- the head of the node that the relationship was to come to
+own_heads : (g : Over) (c : After-push_counted g) → g.S.Reads.tells → IsDense (g.S.Reads.state c.args.space.now).records c.args.node → IsHeadOf (g.S.Reads.state c.free_previous.new.space).records (head_of c.group_head-head.result) c.args.node
+own_heads g c tells dense =
+    let s = g.S.Reads.state c.args.space.now in
+    let l = g.S.Reads.state c.load.new.space in
+    let m = g.S.Reads.state c.own_group.new.space in
+    let t = g.S.Reads.state c.free_previous.new.space in
+    let dense_l = subst (λ (q : State). IsDense q.records c.args.node) (sym (only_loads s l c.args.rel c.load.ensures.state)) dense in
+    subst (λ (h : Head). IsHeadOf t.records h c.args.node) (sym c.group_head-head.ensures.is)
+    (heads_freed m t c.args.node c.args.rel (c.in_ok-free_previous.ensures.ok tells) (group_head c.in_ok-own.own.row.id c.at.result) c.args.node
+    (owned_head m.records c.args.node c.in_ok-own.own.row.id c.at.result (c.in_ok-own.ensures.dense tells dense_l) (c.in_ok-own.ensures.owns tells)))
+
 pub returns-in_err-first-clause-damaged : goal.returns-in_err-first-clause-damaged
 returns-in_err-first-clause-damaged g c = λ tells dense.
     let p = err_from_is_err_and c.from_residual-in_err-first.result c.from_residual-in_err-first.ensures.1 in
-    rw (p.1, p.2) (no_push (g.S.Reads.state c.args.space.now) (g.S.Reads.state c.free_previous.new.space) (g.S.Reads.state c.push_counted.new.space) c.args.node c.args.rel (head_of c.group_head-head.result)
-    (ap (λ (h : Head). h.key.file) c.group_head-head.ensures.is) c.in_err-first.field-0.0 (c.in_err-first.ensures.damaged tells) c.in_err-first.ensures.unwritten)
+    let own = own_heads g (goal.at.returns-in_err-first-clause-damaged g c).After-push_counted tells dense in
+    rw (p.1, p.2) (no_push (g.S.Reads.state c.args.space.now) (g.S.Reads.state c.free_previous.new.space) (g.S.Reads.state c.push_counted.new.space) c.args.node c.args.rel
+    c.in_err-first.field-0.0 (c.in_err-first.ensures.breaks tells c.args.node own) c.in_err-first.ensures.unwritten)
 
 -- ---- the node stays dense
 
@@ -310,3 +330,135 @@ returns-in_err-first-clause-stays g c = λ tells.
     (beside_then s.records l.records t.records c.args.node (beside_read s l c.args.node (only_loads s l c.args.rel c.load.ensures.state))
     (beside_then l.records m.records t.records c.args.node (c.in_ok-own.ensures.beside tells) (beside_freed m t c.args.node c.args.rel (c.in_ok-free_previous.ensures.ok tells))))
     c.in_err-first.field-0.0 c.in_err-first.ensures.unwritten)
+
+-- ---- each node has the heads that it had
+
+pub returns-clause-heads : goal.returns-clause-heads
+returns-clause-heads g c = λ tells.
+    let s = g.S.Reads.state c.args.space.now in
+    let l = g.S.Reads.state c.load.new.space in
+    let m = g.S.Reads.state c.own_group.new.space in
+    let t = g.S.Reads.state c.free_previous.new.space in
+    let end = g.S.Reads.state c.push_counted.new.space in
+    let head : head_of c.group_head-head.result ≡ group_head c.in_ok-own.own.row.id c.at.result = c.group_head-head.ensures.is in
+    heads_then s l end (heads_same s l (only_loads s l c.args.rel c.load.ensures.state))
+    (heads_then l m end (c.in_ok-own.ensures.heads tells)
+    (heads_then m t end (heads_freed m t c.args.node c.args.rel (c.in_ok-free_previous.ensures.ok tells))
+    (heads_pushed t end c.args.node c.args.rel (head_of c.group_head-head.result) (ap (λ (h : Head). h.key.file) head)
+    (subst (λ (h : Head). 12 ≤ h.field) (sym head) (far c.at.result)) (c.in_ok-first.ensures.ok tells))))
+  where
+    far : (side : Side) → 12 ≤ place_of side
+    far Out = omega arith
+    far Into = omega arith
+    far Loop = omega arith
+
+pub returns-in_err-row-clause-moved : goal.returns-in_err-row-clause-moved
+returns-in_err-row-clause-moved g c _ = never_ok c.from_residual.result _ _ c.from_residual.ensures.1
+
+pub returns-in_err-row-clause-own : goal.returns-in_err-row-clause-own
+returns-in_err-row-clause-own g c _ = never_ok c.from_residual.result _ _ c.from_residual.ensures.1
+
+pub returns-in_err-row-clause-local : goal.returns-in_err-row-clause-local
+returns-in_err-row-clause-local g c _ = never_ok c.from_residual.result _ _ c.from_residual.ensures.1
+
+pub returns-in_err-row-clause-leads : goal.returns-in_err-row-clause-leads
+returns-in_err-row-clause-leads g c _ = never_ok c.from_residual.result _ _ c.from_residual.ensures.1
+
+pub returns-in_err-row-clause-walk : goal.returns-in_err-row-clause-walk
+returns-in_err-row-clause-walk g c _ = never_ok c.from_residual.result _ _ c.from_residual.ensures.1
+
+pub returns-in_err-row-clause-dense : goal.returns-in_err-row-clause-dense
+returns-in_err-row-clause-dense g c _ _ = never_ok c.from_residual.result _ _ c.from_residual.ensures.1
+
+pub returns-in_err-row-clause-heads : goal.returns-in_err-row-clause-heads
+returns-in_err-row-clause-heads g c _ = never_ok c.from_residual.result _ _ c.from_residual.ensures.1
+
+pub returns-in_err-row-clause-beside : goal.returns-in_err-row-clause-beside
+returns-in_err-row-clause-beside g c _ = never_ok c.from_residual.result _ _ c.from_residual.ensures.1
+
+pub returns-in_err-row-clause-wrote : goal.returns-in_err-row-clause-wrote
+returns-in_err-row-clause-wrote g c = never_ok c.from_residual.result _ _ c.from_residual.ensures.1
+
+pub returns-in_err-row-clause-onward : goal.returns-in_err-row-clause-onward
+returns-in_err-row-clause-onward g c = search rules
+
+pub returns-in_err-own-clause-moved : goal.returns-in_err-own-clause-moved
+returns-in_err-own-clause-moved g c _ = never_ok c.from_residual-in_err-own.result _ _ c.from_residual-in_err-own.ensures.1
+
+pub returns-in_err-own-clause-own : goal.returns-in_err-own-clause-own
+returns-in_err-own-clause-own g c _ = never_ok c.from_residual-in_err-own.result _ _ c.from_residual-in_err-own.ensures.1
+
+pub returns-in_err-own-clause-local : goal.returns-in_err-own-clause-local
+returns-in_err-own-clause-local g c _ = never_ok c.from_residual-in_err-own.result _ _ c.from_residual-in_err-own.ensures.1
+
+pub returns-in_err-own-clause-leads : goal.returns-in_err-own-clause-leads
+returns-in_err-own-clause-leads g c _ = never_ok c.from_residual-in_err-own.result _ _ c.from_residual-in_err-own.ensures.1
+
+pub returns-in_err-own-clause-walk : goal.returns-in_err-own-clause-walk
+returns-in_err-own-clause-walk g c _ = never_ok c.from_residual-in_err-own.result _ _ c.from_residual-in_err-own.ensures.1
+
+pub returns-in_err-own-clause-dense : goal.returns-in_err-own-clause-dense
+returns-in_err-own-clause-dense g c _ _ = never_ok c.from_residual-in_err-own.result _ _ c.from_residual-in_err-own.ensures.1
+
+pub returns-in_err-own-clause-heads : goal.returns-in_err-own-clause-heads
+returns-in_err-own-clause-heads g c _ = never_ok c.from_residual-in_err-own.result _ _ c.from_residual-in_err-own.ensures.1
+
+pub returns-in_err-own-clause-beside : goal.returns-in_err-own-clause-beside
+returns-in_err-own-clause-beside g c _ = never_ok c.from_residual-in_err-own.result _ _ c.from_residual-in_err-own.ensures.1
+
+pub returns-in_err-own-clause-wrote : goal.returns-in_err-own-clause-wrote
+returns-in_err-own-clause-wrote g c = never_ok c.from_residual-in_err-own.result _ _ c.from_residual-in_err-own.ensures.1
+
+pub returns-in_err-free_previous-clause-moved : goal.returns-in_err-free_previous-clause-moved
+returns-in_err-free_previous-clause-moved g c _ = never_ok c.from_residual-in_err-free_previous.result _ _ c.from_residual-in_err-free_previous.ensures.1
+
+pub returns-in_err-free_previous-clause-own : goal.returns-in_err-free_previous-clause-own
+returns-in_err-free_previous-clause-own g c _ = never_ok c.from_residual-in_err-free_previous.result _ _ c.from_residual-in_err-free_previous.ensures.1
+
+pub returns-in_err-free_previous-clause-local : goal.returns-in_err-free_previous-clause-local
+returns-in_err-free_previous-clause-local g c _ = never_ok c.from_residual-in_err-free_previous.result _ _ c.from_residual-in_err-free_previous.ensures.1
+
+pub returns-in_err-free_previous-clause-leads : goal.returns-in_err-free_previous-clause-leads
+returns-in_err-free_previous-clause-leads g c _ = never_ok c.from_residual-in_err-free_previous.result _ _ c.from_residual-in_err-free_previous.ensures.1
+
+pub returns-in_err-free_previous-clause-walk : goal.returns-in_err-free_previous-clause-walk
+returns-in_err-free_previous-clause-walk g c _ = never_ok c.from_residual-in_err-free_previous.result _ _ c.from_residual-in_err-free_previous.ensures.1
+
+pub returns-in_err-free_previous-clause-dense : goal.returns-in_err-free_previous-clause-dense
+returns-in_err-free_previous-clause-dense g c _ _ = never_ok c.from_residual-in_err-free_previous.result _ _ c.from_residual-in_err-free_previous.ensures.1
+
+pub returns-in_err-free_previous-clause-heads : goal.returns-in_err-free_previous-clause-heads
+returns-in_err-free_previous-clause-heads g c _ = never_ok c.from_residual-in_err-free_previous.result _ _ c.from_residual-in_err-free_previous.ensures.1
+
+pub returns-in_err-free_previous-clause-beside : goal.returns-in_err-free_previous-clause-beside
+returns-in_err-free_previous-clause-beside g c _ = never_ok c.from_residual-in_err-free_previous.result _ _ c.from_residual-in_err-free_previous.ensures.1
+
+pub returns-in_err-free_previous-clause-wrote : goal.returns-in_err-free_previous-clause-wrote
+returns-in_err-free_previous-clause-wrote g c = never_ok c.from_residual-in_err-free_previous.result _ _ c.from_residual-in_err-free_previous.ensures.1
+
+pub returns-in_err-first-clause-moved : goal.returns-in_err-first-clause-moved
+returns-in_err-first-clause-moved g c _ = never_ok c.from_residual-in_err-first.result _ _ c.from_residual-in_err-first.ensures.1
+
+pub returns-in_err-first-clause-own : goal.returns-in_err-first-clause-own
+returns-in_err-first-clause-own g c _ = never_ok c.from_residual-in_err-first.result _ _ c.from_residual-in_err-first.ensures.1
+
+pub returns-in_err-first-clause-local : goal.returns-in_err-first-clause-local
+returns-in_err-first-clause-local g c _ = never_ok c.from_residual-in_err-first.result _ _ c.from_residual-in_err-first.ensures.1
+
+pub returns-in_err-first-clause-leads : goal.returns-in_err-first-clause-leads
+returns-in_err-first-clause-leads g c _ = never_ok c.from_residual-in_err-first.result _ _ c.from_residual-in_err-first.ensures.1
+
+pub returns-in_err-first-clause-walk : goal.returns-in_err-first-clause-walk
+returns-in_err-first-clause-walk g c _ = never_ok c.from_residual-in_err-first.result _ _ c.from_residual-in_err-first.ensures.1
+
+pub returns-in_err-first-clause-dense : goal.returns-in_err-first-clause-dense
+returns-in_err-first-clause-dense g c _ _ = never_ok c.from_residual-in_err-first.result _ _ c.from_residual-in_err-first.ensures.1
+
+pub returns-in_err-first-clause-heads : goal.returns-in_err-first-clause-heads
+returns-in_err-first-clause-heads g c _ = never_ok c.from_residual-in_err-first.result _ _ c.from_residual-in_err-first.ensures.1
+
+pub returns-in_err-first-clause-beside : goal.returns-in_err-first-clause-beside
+returns-in_err-first-clause-beside g c _ = never_ok c.from_residual-in_err-first.result _ _ c.from_residual-in_err-first.ensures.1
+
+pub returns-in_err-first-clause-wrote : goal.returns-in_err-first-clause-wrote
+returns-in_err-first-clause-wrote g c = never_ok c.from_residual-in_err-first.result _ _ c.from_residual-in_err-first.ensures.1

@@ -1,4 +1,4 @@
-use Rattle.std.proofs.Common.{arith, ◌≡◌, ◌≢◌, Option, Some, inl, inr, refl, ◌∷◌, [], ℕ, List, ap, subst, sym, ◌∙◌}
+use Rattle.std.proofs.Common.{arith, ◌≡◌, ◌≢◌, Option, Some, inl, inr, refl, ◌∷◌, [], ℕ, List, ap, subst, sym, ◌∙◌, rules}
 use Rattle.rec_bytes.specs.RecordFiles.{meta_key_of}
 use Rattle.rec_bytes.specs.Format.{groups_file, relationships_file}
 use Rattle.rec_bytes.specs.Space.{SameButReads, State, WritesOnly, meta_of}
@@ -27,7 +27,11 @@ use Rattle.group_store.proofs.Turns.{found_grows, made_grows}
 use Rattle.group_store.proofs.Causes.{cause_passed}
 use Rattle.group_store.proofs.Leadings.{leads_found, leads_own, rels_made}
 use Rattle.group_store.proofs.LeftBeside.{beside_made, beside_read, beside_then, if_done}
-use Rattle.group_store.specs.Leaving.{LeavesBeside}
+use Rattle.group_store.specs.Leaving.{KeepsHeads, LeavesBeside}
+use Rattle.group_store.proofs.GroupRules.{group_owned}
+use Rattle.group_store.proofs.KeptHeads.{heads_same, heads_then}
+use Rattle.store_rules.specs.Breaking.{IsOwnedBy}
+use Rattle.rec_bytes.proofs.Causes.{never_ok}
 use Rattle.group_store.proofs.densing.own_group.Goals as goal
 
 pub returns-in_err-row-clause-writes : goal.returns-in_err-row-clause-writes
@@ -290,3 +294,66 @@ returns-in-None-clause-rels g c = λ tells.
     let end = g.S.Reads.state c.make_own.new.space in
     if_done c.make_own.result (end ≡ made now c.args.node c.args.label) ((x : ℕ) → rec_at end.records relationships_file x ≡ rec_at s.records relationships_file x)
     (λ is x. ap (λ (t : State). rec_at t.records relationships_file x) is ∙ rels_made now c.args.node c.args.label x ∙ ap (λ (t : State). rec_at t.records relationships_file x) (same_read _ s now c.find_group.ensures.at_most)) (c.make_own.ensures.ok tells)
+
+-- ---- the group is the node's, and each node has the heads that it had
+
+pub returns-in-Some-clause-owns : goal.returns-in-Some-clause-owns
+returns-in-Some-clause-owns g c = λ tells.
+    let s = g.S.Reads.state c.args.space.now in
+    let found = subst (IsFound s.records c.args.node c.args.label) c.in-Some.is (c.in_ok-row.ensures.found tells) in
+    subst (λ (t : State). IsOwnedBy t.records c.args.node c.in-Some.row.id) (sym (same_read _ s (g.S.Reads.state c.find_group.new.space) c.find_group.ensures.at_most)) (group_owned s.records c.args.node c.in-Some.row.id found.1.member)
+
+pub returns-in-Some-clause-heads : goal.returns-in-Some-clause-heads
+returns-in-Some-clause-heads g c = λ tells.
+    let s = g.S.Reads.state c.args.space.now in
+    let now = g.S.Reads.state c.find_group.new.space in
+    heads_same s now (same_read _ s now c.find_group.ensures.at_most)
+
+pub returns-in-None-clause-heads : goal.returns-in-None-clause-heads
+returns-in-None-clause-heads g c = λ tells.
+    let s = g.S.Reads.state c.args.space.now in
+    let now = g.S.Reads.state c.find_group.new.space in
+    let end = g.S.Reads.state c.make_own.new.space in
+    if_done c.make_own.result (KeepsHeads now end) (KeepsHeads s end) (λ k. heads_then s now end (heads_same s now (same_read _ s now c.find_group.ensures.at_most)) k) (c.make_own.ensures.heads tells)
+
+pub returns-in_err-row-clause-opened : goal.returns-in_err-row-clause-opened
+returns-in_err-row-clause-opened g c _ = never_ok c.from_residual.result _ _ c.from_residual.ensures.1
+
+pub returns-in_err-row-clause-local : goal.returns-in_err-row-clause-local
+returns-in_err-row-clause-local g c _ = never_ok c.from_residual.result _ _ c.from_residual.ensures.1
+
+pub returns-in_err-row-clause-leads : goal.returns-in_err-row-clause-leads
+returns-in_err-row-clause-leads g c _ = never_ok c.from_residual.result _ _ c.from_residual.ensures.1
+
+pub returns-in_err-row-clause-rels : goal.returns-in_err-row-clause-rels
+returns-in_err-row-clause-rels g c _ = never_ok c.from_residual.result _ _ c.from_residual.ensures.1
+
+pub returns-in_err-row-clause-key : goal.returns-in_err-row-clause-key
+returns-in_err-row-clause-key g c = never_ok c.from_residual.result _ _ c.from_residual.ensures.1
+
+pub returns-in_err-row-clause-row : goal.returns-in_err-row-clause-row
+returns-in_err-row-clause-row g c _ = never_ok c.from_residual.result _ _ c.from_residual.ensures.1
+
+pub returns-in_err-row-clause-dense : goal.returns-in_err-row-clause-dense
+returns-in_err-row-clause-dense g c _ _ = never_ok c.from_residual.result _ _ c.from_residual.ensures.1
+
+pub returns-in_err-row-clause-owns : goal.returns-in_err-row-clause-owns
+returns-in_err-row-clause-owns g c _ = never_ok c.from_residual.result _ _ c.from_residual.ensures.1
+
+pub returns-in_err-row-clause-heads : goal.returns-in_err-row-clause-heads
+returns-in_err-row-clause-heads g c _ = never_ok c.from_residual.result _ _ c.from_residual.ensures.1
+
+pub returns-in_err-row-clause-beside : goal.returns-in_err-row-clause-beside
+returns-in_err-row-clause-beside g c _ = never_ok c.from_residual.result _ _ c.from_residual.ensures.1
+
+pub returns-in_err-row-clause-group : goal.returns-in_err-row-clause-group
+returns-in_err-row-clause-group g c _ = never_ok c.from_residual.result _ _ c.from_residual.ensures.1
+
+pub returns-in_err-row-clause-grows : goal.returns-in_err-row-clause-grows
+returns-in_err-row-clause-grows g c _ = never_ok c.from_residual.result _ _ c.from_residual.ensures.1
+
+pub returns-in_err-row-clause-wrote : goal.returns-in_err-row-clause-wrote
+returns-in_err-row-clause-wrote g c = never_ok c.from_residual.result _ _ c.from_residual.ensures.1
+
+pub returns-in_err-row-clause-onward : goal.returns-in_err-row-clause-onward
+returns-in_err-row-clause-onward g c = search rules

@@ -1,4 +1,4 @@
-use Rattle.std.proofs.Common.{arith, true, false, ap, ◌∙◌, sym, refl}
+use Rattle.std.proofs.Common.{arith, true, false, ap, ◌∙◌, sym, refl, rules}
 use Rattle.std.specs.Prelude.{not}
 use Rattle.std.proofs.lemmas.Bool.{false≢true, true≢false}
 use Rattle.std.proofs.lemmas.Result.{err_from_is_err_and}
@@ -17,6 +17,7 @@ use Rattle.group_store.proofs.DropTests.{all_writes, behind_loose, follows_is, l
 use Rattle.group_store.proofs.GroupWalks.{not_damaged_at}
 use Rattle.group_store.proofs.MakeSteps.{on_damage, same_read, same_then, same_writes}
 use Rattle.group_store.proofs.Causes.{cause_passed, damage_cause, later_on, space_cause_passed}
+use Rattle.rec_bytes.proofs.Causes.{never_ok}
 use Rattle.group_store.proofs.dropping.drop_if_empty.Goals as goal
 
 pub returns-in_err-rec-clause-damaged : goal.returns-in_err-rec-clause-damaged
@@ -356,3 +357,126 @@ returns-in_err-give-clause-onward g c =
 pub returns-clause-onward : goal.returns-clause-onward
 returns-clause-onward g c =
     g.met.S.Reads.further_onward c.args.space.now c.write_lead.new.space c.give.new.space (g.met.S.Reads.further_onward c.args.space.now c.write_behind.new.space c.write_lead.new.space (g.met.S.Reads.further_onward c.args.space.now c.read_lead.new.space c.write_behind.new.space (g.met.S.Reads.further_onward c.args.space.now c.read_behind.new.space c.read_lead.new.space (g.met.S.Reads.further_onward c.args.space.now c.read_member.new.space c.read_behind.new.space c.in_ok-rec.ensures.onward c.in_ok-behind.ensures.onward) c.in_ok-lead.ensures.onward) c.in_ok-write_behind.ensures.onward) c.in_ok-write_lead.ensures.onward) c.in_ok-give.ensures.onward
+
+pub returns-in_err-rec-clause-dropped : goal.returns-in_err-rec-clause-dropped
+returns-in_err-rec-clause-dropped g c _ = never_ok c.from_residual.result _ _ c.from_residual.ensures.1
+
+pub returns-in_err-rec-clause-is : goal.returns-in_err-rec-clause-is
+returns-in_err-rec-clause-is g c _ = never_ok c.from_residual.result _ _ c.from_residual.ensures.1
+
+pub returns-in_err-rec-clause-kept : goal.returns-in_err-rec-clause-kept
+returns-in_err-rec-clause-kept g c = never_ok c.from_residual.result _ _ c.from_residual.ensures.1
+
+pub returns-in_err-rec-clause-ok : goal.returns-in_err-rec-clause-ok
+returns-in_err-rec-clause-ok g c _ = never_ok c.from_residual.result _ _ c.from_residual.ensures.1
+
+pub returns-in_err-rec-clause-linked : goal.returns-in_err-rec-clause-linked
+returns-in_err-rec-clause-linked g c _ = never_ok c.from_residual.result _ _ c.from_residual.ensures.1
+
+pub returns-in_err-rec-clause-onward : goal.returns-in_err-rec-clause-onward
+returns-in_err-rec-clause-onward g c = search rules
+
+pub returns-in_err-test_link-clause-dropped : goal.returns-in_err-test_link-clause-dropped
+returns-in_err-test_link-clause-dropped g c _ = never_ok c.from_residual-in_err-test_link.result _ _ c.from_residual-in_err-test_link.ensures.1
+
+pub returns-in_err-test_link-clause-is : goal.returns-in_err-test_link-clause-is
+returns-in_err-test_link-clause-is g c _ = never_ok c.from_residual-in_err-test_link.result _ _ c.from_residual-in_err-test_link.ensures.1
+
+pub returns-in_err-test_link-clause-kept : goal.returns-in_err-test_link-clause-kept
+returns-in_err-test_link-clause-kept g c = never_ok c.from_residual-in_err-test_link.result _ _ c.from_residual-in_err-test_link.ensures.1
+
+pub returns-in_err-test_link-clause-ok : goal.returns-in_err-test_link-clause-ok
+returns-in_err-test_link-clause-ok g c _ = never_ok c.from_residual-in_err-test_link.result _ _ c.from_residual-in_err-test_link.ensures.1
+
+pub returns-in_err-test_link-clause-linked : goal.returns-in_err-test_link-clause-linked
+returns-in_err-test_link-clause-linked g c _ = never_ok c.from_residual-in_err-test_link.result _ _ c.from_residual-in_err-test_link.ensures.1
+
+pub returns-in_err-test_link-2-clause-dropped : goal.returns-in_err-test_link-2-clause-dropped
+returns-in_err-test_link-2-clause-dropped g c _ = never_ok c.from_residual-in_err-test_link-2.result _ _ c.from_residual-in_err-test_link-2.ensures.1
+
+pub returns-in_err-test_link-2-clause-is : goal.returns-in_err-test_link-2-clause-is
+returns-in_err-test_link-2-clause-is g c _ = never_ok c.from_residual-in_err-test_link-2.result _ _ c.from_residual-in_err-test_link-2.ensures.1
+
+pub returns-in_err-test_link-2-clause-kept : goal.returns-in_err-test_link-2-clause-kept
+returns-in_err-test_link-2-clause-kept g c = never_ok c.from_residual-in_err-test_link-2.result _ _ c.from_residual-in_err-test_link-2.ensures.1
+
+pub returns-in_err-test_link-2-clause-ok : goal.returns-in_err-test_link-2-clause-ok
+returns-in_err-test_link-2-clause-ok g c _ = never_ok c.from_residual-in_err-test_link-2.result _ _ c.from_residual-in_err-test_link-2.ensures.1
+
+pub returns-in_err-test_link-2-clause-linked : goal.returns-in_err-test_link-2-clause-linked
+returns-in_err-test_link-2-clause-linked g c _ = never_ok c.from_residual-in_err-test_link-2.result _ _ c.from_residual-in_err-test_link-2.ensures.1
+
+pub returns-in_err-behind-clause-dropped : goal.returns-in_err-behind-clause-dropped
+returns-in_err-behind-clause-dropped g c _ = never_ok c.from_residual-in_err-behind.result _ _ c.from_residual-in_err-behind.ensures.1
+
+pub returns-in_err-behind-clause-is : goal.returns-in_err-behind-clause-is
+returns-in_err-behind-clause-is g c _ = never_ok c.from_residual-in_err-behind.result _ _ c.from_residual-in_err-behind.ensures.1
+
+pub returns-in_err-behind-clause-kept : goal.returns-in_err-behind-clause-kept
+returns-in_err-behind-clause-kept g c = never_ok c.from_residual-in_err-behind.result _ _ c.from_residual-in_err-behind.ensures.1
+
+pub returns-in_err-behind-clause-ok : goal.returns-in_err-behind-clause-ok
+returns-in_err-behind-clause-ok g c _ = never_ok c.from_residual-in_err-behind.result _ _ c.from_residual-in_err-behind.ensures.1
+
+pub returns-in_err-behind-clause-linked : goal.returns-in_err-behind-clause-linked
+returns-in_err-behind-clause-linked g c _ = never_ok c.from_residual-in_err-behind.result _ _ c.from_residual-in_err-behind.ensures.1
+
+pub returns-in_err-lead-clause-dropped : goal.returns-in_err-lead-clause-dropped
+returns-in_err-lead-clause-dropped g c _ = never_ok c.from_residual-in_err-lead.result _ _ c.from_residual-in_err-lead.ensures.1
+
+pub returns-in_err-lead-clause-is : goal.returns-in_err-lead-clause-is
+returns-in_err-lead-clause-is g c _ = never_ok c.from_residual-in_err-lead.result _ _ c.from_residual-in_err-lead.ensures.1
+
+pub returns-in_err-lead-clause-kept : goal.returns-in_err-lead-clause-kept
+returns-in_err-lead-clause-kept g c = never_ok c.from_residual-in_err-lead.result _ _ c.from_residual-in_err-lead.ensures.1
+
+pub returns-in_err-lead-clause-ok : goal.returns-in_err-lead-clause-ok
+returns-in_err-lead-clause-ok g c _ = never_ok c.from_residual-in_err-lead.result _ _ c.from_residual-in_err-lead.ensures.1
+
+pub returns-in_err-lead-clause-linked : goal.returns-in_err-lead-clause-linked
+returns-in_err-lead-clause-linked g c _ = never_ok c.from_residual-in_err-lead.result _ _ c.from_residual-in_err-lead.ensures.1
+
+pub returns-in_err-write_behind-clause-dropped : goal.returns-in_err-write_behind-clause-dropped
+returns-in_err-write_behind-clause-dropped g c _ = never_ok c.from_residual-in_err-write_behind.result _ _ c.from_residual-in_err-write_behind.ensures.1
+
+pub returns-in_err-write_behind-clause-is : goal.returns-in_err-write_behind-clause-is
+returns-in_err-write_behind-clause-is g c _ = never_ok c.from_residual-in_err-write_behind.result _ _ c.from_residual-in_err-write_behind.ensures.1
+
+pub returns-in_err-write_behind-clause-kept : goal.returns-in_err-write_behind-clause-kept
+returns-in_err-write_behind-clause-kept g c = never_ok c.from_residual-in_err-write_behind.result _ _ c.from_residual-in_err-write_behind.ensures.1
+
+pub returns-in_err-write_behind-clause-ok : goal.returns-in_err-write_behind-clause-ok
+returns-in_err-write_behind-clause-ok g c _ = never_ok c.from_residual-in_err-write_behind.result _ _ c.from_residual-in_err-write_behind.ensures.1
+
+pub returns-in_err-write_behind-clause-linked : goal.returns-in_err-write_behind-clause-linked
+returns-in_err-write_behind-clause-linked g c _ = never_ok c.from_residual-in_err-write_behind.result _ _ c.from_residual-in_err-write_behind.ensures.1
+
+pub returns-in_err-write_lead-clause-dropped : goal.returns-in_err-write_lead-clause-dropped
+returns-in_err-write_lead-clause-dropped g c _ = never_ok c.from_residual-in_err-write_lead.result _ _ c.from_residual-in_err-write_lead.ensures.1
+
+pub returns-in_err-write_lead-clause-is : goal.returns-in_err-write_lead-clause-is
+returns-in_err-write_lead-clause-is g c _ = never_ok c.from_residual-in_err-write_lead.result _ _ c.from_residual-in_err-write_lead.ensures.1
+
+pub returns-in_err-write_lead-clause-kept : goal.returns-in_err-write_lead-clause-kept
+returns-in_err-write_lead-clause-kept g c = never_ok c.from_residual-in_err-write_lead.result _ _ c.from_residual-in_err-write_lead.ensures.1
+
+pub returns-in_err-write_lead-clause-ok : goal.returns-in_err-write_lead-clause-ok
+returns-in_err-write_lead-clause-ok g c _ = never_ok c.from_residual-in_err-write_lead.result _ _ c.from_residual-in_err-write_lead.ensures.1
+
+pub returns-in_err-write_lead-clause-linked : goal.returns-in_err-write_lead-clause-linked
+returns-in_err-write_lead-clause-linked g c _ = never_ok c.from_residual-in_err-write_lead.result _ _ c.from_residual-in_err-write_lead.ensures.1
+
+pub returns-in_err-give-clause-dropped : goal.returns-in_err-give-clause-dropped
+returns-in_err-give-clause-dropped g c _ = never_ok c.from_residual-in_err-give.result _ _ c.from_residual-in_err-give.ensures.1
+
+pub returns-in_err-give-clause-is : goal.returns-in_err-give-clause-is
+returns-in_err-give-clause-is g c _ = never_ok c.from_residual-in_err-give.result _ _ c.from_residual-in_err-give.ensures.1
+
+pub returns-in_err-give-clause-kept : goal.returns-in_err-give-clause-kept
+returns-in_err-give-clause-kept g c = never_ok c.from_residual-in_err-give.result _ _ c.from_residual-in_err-give.ensures.1
+
+pub returns-in_err-give-clause-ok : goal.returns-in_err-give-clause-ok
+returns-in_err-give-clause-ok g c _ = never_ok c.from_residual-in_err-give.result _ _ c.from_residual-in_err-give.ensures.1
+
+pub returns-in_err-give-clause-linked : goal.returns-in_err-give-clause-linked
+returns-in_err-give-clause-linked g c _ = never_ok c.from_residual-in_err-give.result _ _ c.from_residual-in_err-give.ensures.1

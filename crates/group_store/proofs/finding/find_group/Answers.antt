@@ -1,7 +1,8 @@
-use Rattle.std.proofs.Common.{arith, subst}
+use Rattle.std.proofs.Common.{arith, subst, rules}
 use Rattle.group_store.specs.FirstGroup.{IsFirst}
 use Rattle.group_store.proofs.FirstGroups.{all_reads_then, fault_then, found_then, none_then, reached_then, reads_then, walkable_then}
 use Rattle.group_store.proofs.Causes.{cause_passed}
+use Rattle.rec_bytes.proofs.Causes.{never_ok}
 use Rattle.group_store.proofs.finding.find_group.Goals as goal
 
 pub returns-in-Some-clause-none : goal.returns-in-Some-clause-none
@@ -38,3 +39,18 @@ returns-in-Some-clause-reached g c = λ tells.
     let s = g.R.Reads.state c.args.space.now in
     let first = subst (IsFirst s.records c.args.node) c.in-Some.is (c.in_ok-first.ensures.first tells) in
     reached_then s (g.R.Reads.state c.first_group.new.space) c.args.node c.in-Some.first c.seek.result c.in_ok-first.ensures.at_most first.1 (c.seek.ensures.reached tells)
+
+pub returns-in_err-first-clause-found : goal.returns-in_err-first-clause-found
+returns-in_err-first-clause-found g c _ = never_ok c.from_residual.result _ _ c.from_residual.ensures.1
+
+pub returns-in_err-first-clause-none : goal.returns-in_err-first-clause-none
+returns-in_err-first-clause-none g c _ _ _ _ = never_ok c.from_residual.result _ _ c.from_residual.ensures.1
+
+pub returns-in_err-first-clause-reached : goal.returns-in_err-first-clause-reached
+returns-in_err-first-clause-reached g c _ = never_ok c.from_residual.result _ _ c.from_residual.ensures.1
+
+pub returns-in_err-first-clause-key : goal.returns-in_err-first-clause-key
+returns-in_err-first-clause-key g c = never_ok c.from_residual.result _ _ c.from_residual.ensures.1
+
+pub returns-in_err-first-clause-onward : goal.returns-in_err-first-clause-onward
+returns-in_err-first-clause-onward g c = search rules

@@ -15,6 +15,7 @@ use Rattle.group_store.specs.Walking.IsWalkDamage.{NoList}
 use Rattle.group_store.proofs.GroupWalks.{few_groups, few_owned, left_more, left_none, link_then, member_then, not_damaged_at, passed_all, passed_more, passed_none, read_next, reads_more, reads_so_far, rec_then, undamaged, walk_fault}
 use Rattle.group_store.proofs.Seeks.{group_found, lacks_more, lacks_none, passed_few, passed_fewer, type_then}
 use Rattle.group_store.proofs.Causes.{cause_passed}
+use Rattle.rec_bytes.proofs.Causes.{never_ok}
 use Rattle.group_store.proofs.finding.seek.Goals as goal
 
 pub loop-init : goal.loop-init
@@ -169,3 +170,12 @@ returns-then-at-2-clause-sound g c = λ tells xs can.
 pub returns-in_err-rec-clause-cause : goal.returns-in_err-rec-clause-cause
 returns-in_err-rec-clause-cause g c =
     cause_passed _ _ _ c.from_residual.result c.in_err-rec.field-0.0 c.loop.invariant.later c.in_err-rec.ensures.cause c.from_residual.ensures.1
+
+pub returns-in_err-rec-clause-found : goal.returns-in_err-rec-clause-found
+returns-in_err-rec-clause-found g c _ = never_ok c.from_residual.result _ _ c.from_residual.ensures.1
+
+pub returns-in_err-rec-clause-reached : goal.returns-in_err-rec-clause-reached
+returns-in_err-rec-clause-reached g c _ = never_ok c.from_residual.result _ _ c.from_residual.ensures.1
+
+pub returns-in_err-rec-clause-key : goal.returns-in_err-rec-clause-key
+returns-in_err-rec-clause-key g c = never_ok c.from_residual.result _ _ c.from_residual.ensures.1

@@ -1,24 +1,28 @@
-use Rattle.std.proofs.Common.{◌≡◌, ap, sym, subst, arith}
+use Rattle.std.proofs.Common.{◌≡◌, ap, sym, subst, arith, rules}
 use Rattle.std.specs.Prelude.{Err, IfSome, Option, ℕ, ◌∷◌, ◌++◌, []}
 use Rattle.group_store.specs.declared.group_row.GroupRow.{GroupRow}
 use Rattle.group_store.specs.declared.making.OwnGroup.{OwnGroup}
 use Rattle.std.proofs.lemmas.Bool.{false≢true}
 use Rattle.std.proofs.lemmas.Result.{err_from_is_err_and}
 use Rattle.node_store.specs.NodeRecord.{node_key}
-use Rattle.rec_bytes.specs.Format.{groups_file}
+use Rattle.rec_bytes.specs.Format.{groups_file, node_first_link, nodes_file}
 use Rattle.rec_bytes.specs.RecordFiles.{meta_key_of}
-use Rattle.store_rules.specs.Views.{first_link}
+use Rattle.store_rules.specs.Breaking.{IsOwnedBy}
+use Rattle.store_rules.specs.Views.{first_link, rec_at}
 use Rattle.group_store.specs.FirstGroup.{IsFirst}
 use Rattle.group_store.specs.GroupRecord.{group_key}
 use Rattle.group_store.specs.Making.{IsMakeDamage, IsMakeFault, link_damage}
 use Rattle.group_store.specs.Making.IsMakeDamage.{NotDense, BadLink}
 use Rattle.group_store.specs.Spreading.{LeadsAmong}
 use Rattle.group_store.proofs.Leadings.{leads_made}
+use Rattle.group_store.proofs.MadeHeads.{heads_made, owned_made}
+use Rattle.rec_bytes.proofs.Numbers.{field-lt}
 use Rattle.group_store.proofs.MakeSteps.{all_writes, link_told, made_has, made_is, node_told, on_damage, right_first, same_read, same_then, same_writes, take_told}
 use Rattle.group_store.proofs.MadeRules.{rules_made}
 use Rattle.id_freelist.specs.Taking.{room}
 use Rattle.rec_bytes.specs.Space.{State, WritesOnly, after_get, meta_of}
 use Rattle.group_store.proofs.Causes.{cause_passed, damage_cause}
+use Rattle.rec_bytes.proofs.Causes.{never_ok}
 use Rattle.group_store.proofs.making.make_own.Goals as goal
 
 pub returns-in_err-first-clause-damaged : goal.returns-in_err-first-clause-damaged
@@ -186,3 +190,122 @@ returns-in_err-first-clause-cause g c =
 pub returns-in_err-test_link-clause-cause : goal.returns-in_err-test_link-clause-cause
 returns-in_err-test_link-clause-cause g c =
     damage_cause _ _ c.from_residual-in_err-test_link.result c.in_err-test_link.field-0.0 c.in_ok-first.ensures.cause.later c.from_residual-in_err-test_link.ensures.1
+
+-- ---- the group is the node's, and each node has the heads that it had
+
+pub returns-clause-owns : goal.returns-clause-owns
+returns-clause-owns g c = λ tells.
+    let s = g.S.Reads.state c.args.space.now in
+    let now = g.S.Reads.state c.first_group.new.space in
+    let read : now ≡ after_get s = subst (λ (first : Option ℕ). IfSome first (λ _. now ≡ after_get s)) c.in-Some.is (c.in_ok-first.ensures.read tells) in
+    let first = subst (IsFirst s.records c.args.node) c.in-Some.is (c.in_ok-first.ensures.first tells) in
+    let id : c.in-Ok.id ≡ c.empty_row.result.id = sym (ap (λ (r : GroupRow). r.id) c.empty_row.ensures) in
+    let fits = field-lt 4 (rec_at s.records nodes_file c.args.node) node_first_link in
+    subst (λ k. IsOwnedBy (g.S.Reads.state c.lead.new.space).records c.args.node k) id
+    (owned_made now (g.S.Reads.state c.take.new.space) c.args.node c.args.label c.in-Some.first c.in-Ok.id c.empty_group.result
+    (c.in-Ok.ensures.ok tells) c.in-Ok.ensures.is (c.in-Ok.ensures.undamaged tells) (c.in-Ok.ensures.fresh tells) c.empty_group.ensures
+    (omega (arith, c.in-Ok.ensures.key.id)) (omega (arith, c.ranges.node.fits)) (omega (arith, c.ranges.label.fits)) (omega (arith, first.1, fits)) s (g.S.Reads.state c.lead.new.space) read (c.in_ok-lead.ensures.ok tells))
+
+pub returns-clause-heads : goal.returns-clause-heads
+returns-clause-heads g c = λ tells.
+    let s = g.S.Reads.state c.args.space.now in
+    let now = g.S.Reads.state c.first_group.new.space in
+    let read : now ≡ after_get s = subst (λ (first : Option ℕ). IfSome first (λ _. now ≡ after_get s)) c.in-Some.is (c.in_ok-first.ensures.read tells) in
+    let first = subst (IsFirst s.records c.args.node) c.in-Some.is (c.in_ok-first.ensures.first tells) in
+    let fits = field-lt 4 (rec_at s.records nodes_file c.args.node) node_first_link in
+    heads_made now (g.S.Reads.state c.take.new.space) c.args.node c.args.label c.in-Some.first c.in-Ok.id c.empty_group.result
+    (c.in-Ok.ensures.ok tells) c.in-Ok.ensures.is (c.in-Ok.ensures.undamaged tells) (c.in-Ok.ensures.fresh tells) c.empty_group.ensures
+    (omega (arith, c.in-Ok.ensures.key.id)) (omega (arith, c.ranges.node.fits)) (omega (arith, c.ranges.label.fits)) (omega (arith, first.1, fits)) s (g.S.Reads.state c.lead.new.space) read (c.in_ok-lead.ensures.ok tells)
+
+pub returns-in_err-first-clause-made : goal.returns-in_err-first-clause-made
+returns-in_err-first-clause-made g c _ = never_ok c.from_residual.result _ _ c.from_residual.ensures.1
+
+pub returns-in_err-first-clause-ok : goal.returns-in_err-first-clause-ok
+returns-in_err-first-clause-ok g c _ = never_ok c.from_residual.result _ _ c.from_residual.ensures.1
+
+pub returns-in_err-first-clause-key : goal.returns-in_err-first-clause-key
+returns-in_err-first-clause-key g c = never_ok c.from_residual.result _ _ c.from_residual.ensures.1
+
+pub returns-in_err-first-clause-counted : goal.returns-in_err-first-clause-counted
+returns-in_err-first-clause-counted g c = never_ok c.from_residual.result _ _ c.from_residual.ensures.1
+
+pub returns-in_err-first-clause-rules : goal.returns-in_err-first-clause-rules
+returns-in_err-first-clause-rules g c _ = never_ok c.from_residual.result _ _ c.from_residual.ensures.1
+
+pub returns-in_err-first-clause-owns : goal.returns-in_err-first-clause-owns
+returns-in_err-first-clause-owns g c _ = never_ok c.from_residual.result _ _ c.from_residual.ensures.1
+
+pub returns-in_err-first-clause-heads : goal.returns-in_err-first-clause-heads
+returns-in_err-first-clause-heads g c _ = never_ok c.from_residual.result _ _ c.from_residual.ensures.1
+
+pub returns-in_err-first-clause-first : goal.returns-in_err-first-clause-first
+returns-in_err-first-clause-first g c _ = never_ok c.from_residual.result _ _ c.from_residual.ensures.1
+
+pub returns-in_err-first-clause-leads : goal.returns-in_err-first-clause-leads
+returns-in_err-first-clause-leads g c _ = never_ok c.from_residual.result _ _ c.from_residual.ensures.1
+
+pub returns-in_err-first-clause-wrote : goal.returns-in_err-first-clause-wrote
+returns-in_err-first-clause-wrote g c = never_ok c.from_residual.result _ _ c.from_residual.ensures.1
+
+pub returns-in_err-first-clause-onward : goal.returns-in_err-first-clause-onward
+returns-in_err-first-clause-onward g c = search rules
+
+pub returns-in_err-test_link-clause-made : goal.returns-in_err-test_link-clause-made
+returns-in_err-test_link-clause-made g c _ = never_ok c.from_residual-in_err-test_link.result _ _ c.from_residual-in_err-test_link.ensures.1
+
+pub returns-in_err-test_link-clause-ok : goal.returns-in_err-test_link-clause-ok
+returns-in_err-test_link-clause-ok g c _ = never_ok c.from_residual-in_err-test_link.result _ _ c.from_residual-in_err-test_link.ensures.1
+
+pub returns-in_err-test_link-clause-key : goal.returns-in_err-test_link-clause-key
+returns-in_err-test_link-clause-key g c = never_ok c.from_residual-in_err-test_link.result _ _ c.from_residual-in_err-test_link.ensures.1
+
+pub returns-in_err-test_link-clause-counted : goal.returns-in_err-test_link-clause-counted
+returns-in_err-test_link-clause-counted g c = never_ok c.from_residual-in_err-test_link.result _ _ c.from_residual-in_err-test_link.ensures.1
+
+pub returns-in_err-test_link-clause-rules : goal.returns-in_err-test_link-clause-rules
+returns-in_err-test_link-clause-rules g c _ = never_ok c.from_residual-in_err-test_link.result _ _ c.from_residual-in_err-test_link.ensures.1
+
+pub returns-in_err-test_link-clause-owns : goal.returns-in_err-test_link-clause-owns
+returns-in_err-test_link-clause-owns g c _ = never_ok c.from_residual-in_err-test_link.result _ _ c.from_residual-in_err-test_link.ensures.1
+
+pub returns-in_err-test_link-clause-heads : goal.returns-in_err-test_link-clause-heads
+returns-in_err-test_link-clause-heads g c _ = never_ok c.from_residual-in_err-test_link.result _ _ c.from_residual-in_err-test_link.ensures.1
+
+pub returns-in_err-test_link-clause-first : goal.returns-in_err-test_link-clause-first
+returns-in_err-test_link-clause-first g c _ = never_ok c.from_residual-in_err-test_link.result _ _ c.from_residual-in_err-test_link.ensures.1
+
+pub returns-in_err-test_link-clause-leads : goal.returns-in_err-test_link-clause-leads
+returns-in_err-test_link-clause-leads g c _ = never_ok c.from_residual-in_err-test_link.result _ _ c.from_residual-in_err-test_link.ensures.1
+
+pub returns-in_err-test_link-clause-wrote : goal.returns-in_err-test_link-clause-wrote
+returns-in_err-test_link-clause-wrote g c = never_ok c.from_residual-in_err-test_link.result _ _ c.from_residual-in_err-test_link.ensures.1
+
+pub returns-in_err-lead-clause-made : goal.returns-in_err-lead-clause-made
+returns-in_err-lead-clause-made g c _ = never_ok c.from_residual-in_err-lead.result _ _ c.from_residual-in_err-lead.ensures.1
+
+pub returns-in_err-lead-clause-ok : goal.returns-in_err-lead-clause-ok
+returns-in_err-lead-clause-ok g c _ = never_ok c.from_residual-in_err-lead.result _ _ c.from_residual-in_err-lead.ensures.1
+
+pub returns-in_err-lead-clause-key : goal.returns-in_err-lead-clause-key
+returns-in_err-lead-clause-key g c = never_ok c.from_residual-in_err-lead.result _ _ c.from_residual-in_err-lead.ensures.1
+
+pub returns-in_err-lead-clause-counted : goal.returns-in_err-lead-clause-counted
+returns-in_err-lead-clause-counted g c = never_ok c.from_residual-in_err-lead.result _ _ c.from_residual-in_err-lead.ensures.1
+
+pub returns-in_err-lead-clause-rules : goal.returns-in_err-lead-clause-rules
+returns-in_err-lead-clause-rules g c _ = never_ok c.from_residual-in_err-lead.result _ _ c.from_residual-in_err-lead.ensures.1
+
+pub returns-in_err-lead-clause-owns : goal.returns-in_err-lead-clause-owns
+returns-in_err-lead-clause-owns g c _ = never_ok c.from_residual-in_err-lead.result _ _ c.from_residual-in_err-lead.ensures.1
+
+pub returns-in_err-lead-clause-heads : goal.returns-in_err-lead-clause-heads
+returns-in_err-lead-clause-heads g c _ = never_ok c.from_residual-in_err-lead.result _ _ c.from_residual-in_err-lead.ensures.1
+
+pub returns-in_err-lead-clause-first : goal.returns-in_err-lead-clause-first
+returns-in_err-lead-clause-first g c _ = never_ok c.from_residual-in_err-lead.result _ _ c.from_residual-in_err-lead.ensures.1
+
+pub returns-in_err-lead-clause-leads : goal.returns-in_err-lead-clause-leads
+returns-in_err-lead-clause-leads g c _ = never_ok c.from_residual-in_err-lead.result _ _ c.from_residual-in_err-lead.ensures.1
+
+pub returns-in_err-lead-clause-wrote : goal.returns-in_err-lead-clause-wrote
+returns-in_err-lead-clause-wrote g c = never_ok c.from_residual-in_err-lead.result _ _ c.from_residual-in_err-lead.ensures.1

@@ -1,4 +1,4 @@
-use Rattle.std.proofs.Common.{◌≡◌, ap, ◌∙◌, sym, subst, arith}
+use Rattle.std.proofs.Common.{◌≡◌, ap, ◌∙◌, sym, subst, arith, rules}
 use Rattle.rec_bytes.specs.declared.meta.Meta.{Meta}
 use Rattle.rec_bytes.specs.declared.shape.Shape.{Shape}
 use Rattle.rec_bytes.specs.Format as format
@@ -9,6 +9,7 @@ use Rattle.group_store.specs.Walking.IsMemberDamage.{NoMember, HighMember}
 use Rattle.group_store.proofs.GroupWalks.{reads_none, reads_one}
 use Rattle.group_store.proofs.GroupRecords.{above_none, group_is, not_member}
 use Rattle.group_store.proofs.Causes.{space_cause_passed}
+use Rattle.rec_bytes.proofs.Causes.{never_ok}
 use Rattle.group_store.proofs.members.read_member.Goals as goal
 
 pub returns-then-id-meta-clause-at_most : goal.returns-then-id-meta-clause-at_most
@@ -55,3 +56,18 @@ returns-clause-at_most g c = reads_one (g.R.Reads.state c.args.space.now) (g.R.R
 pub returns-in_err-get_into-clause-cause : goal.returns-in_err-get_into-clause-cause
 returns-in_err-get_into-clause-cause g c =
     space_cause_passed _ _ _ c.from_residual.result c.in_err-get_into.field-0.0 (omega arith) c.in_err-get_into.ensures.cause c.from_residual.ensures.1
+
+pub returns-in_err-get_into-clause-got : goal.returns-in_err-get_into-clause-got
+returns-in_err-get_into-clause-got g c _ = never_ok c.from_residual.result _ _ c.from_residual.ensures.1
+
+pub returns-in_err-get_into-clause-member : goal.returns-in_err-get_into-clause-member
+returns-in_err-get_into-clause-member g c _ = never_ok c.from_residual.result _ _ c.from_residual.ensures.1
+
+pub returns-in_err-get_into-clause-key : goal.returns-in_err-get_into-clause-key
+returns-in_err-get_into-clause-key g c = never_ok c.from_residual.result _ _ c.from_residual.ensures.1
+
+pub returns-in_err-get_into-clause-read : goal.returns-in_err-get_into-clause-read
+returns-in_err-get_into-clause-read g c = never_ok c.from_residual.result _ _ c.from_residual.ensures.1
+
+pub returns-in_err-get_into-clause-onward : goal.returns-in_err-get_into-clause-onward
+returns-in_err-get_into-clause-onward g c = search rules

@@ -1,4 +1,4 @@
-use Rattle.std.proofs.Common.{◌≡◌, ◌⊎◌, ◌≤◌, ◌+◌, ℕ, List, ap, sym, ◌∙◌, subst, inl, inr, ⊎_elim, arith}
+use Rattle.std.proofs.Common.{◌≡◌, ◌⊎◌, ◌≤◌, ◌+◌, ℕ, List, ap, sym, ◌∙◌, subst, inl, inr, ⊎_elim, arith, refl, rules}
 use Rattle.std.proofs.lemmas.Bool.{false≢true}
 use Rattle.std.proofs.lemmas.Result.{err_from_is_err_and}
 use Rattle.store_rules.specs.Rules.{Head}
@@ -22,7 +22,11 @@ use Rattle.group_store.proofs.Causes.{cause_passed}
 use Rattle.group_store.proofs.LeftBeside.{beside_read, beside_then, if_done, later_beside}
 use Rattle.group_store.proofs.DenseStays.{if_damage}
 use Rattle.group_store.proofs.MakeSteps.{on_damage}
-use Rattle.group_store.specs.Leaving.{LeavesBeside}
+use Rattle.group_store.specs.Leaving.{KeepsHeads, KeepsOtherHeads, LeavesBeside}
+use Rattle.store_rules.specs.Breaking.{IsHeadOf}
+use Rattle.group_store.proofs.KeptHeads.{heads_same, heads_then}
+use Rattle.group_store.proofs.MadeHeads.{others_of, others_then}
+use Rattle.rec_bytes.proofs.Causes.{never_ok}
 use Rattle.group_store.proofs.opening.open_chain.Goals as goal
 
 pub returns-then-branch-clause-opened : goal.returns-then-branch-clause-opened
@@ -295,3 +299,93 @@ returns-clause-stays g c = λ tells.
     let first = beside_then s.records z.records u.records c.args.node (beside_read s z c.args.node c.in_ok-is_dense.ensures.state) (c.in_ok-make_dense.ensures.beside tells) in
     if_damage c.open_group-2.result (SameButReads u t) (LeavesBeside s.records t.records c.args.node)
     (λ k. beside_then s.records u.records t.records c.args.node first (beside_read u t c.args.node k)) (c.open_group-2.ensures.unwritten tells (c.in_ok-make_dense.ensures.dense tells))
+
+-- ---- the head is the node's, and other nodes have their heads still
+
+pub returns-then-branch-clause-owns : goal.returns-then-branch-clause-owns
+returns-then-branch-clause-owns g c = λ tells way.
+    c.open_group.ensures.owns tells (subst (λ (q : State). IsDense q.records c.args.node) (sym c.in_ok-is_dense.ensures.state) ((c.in_ok-is_dense.ensures.is tells).0 c.if-branch.true))
+
+pub returns-then-degree-threshold-clause-owns : goal.returns-then-degree-threshold-clause-owns
+returns-then-degree-threshold-clause-owns g c = λ tells way.
+    let z = g.S.Reads.state c.is_dense.new.space in
+    let sparse = ⊎_elim (λ d. absurd (false≢true (sym c.if-branch.false ∙ (c.in_ok-is_dense.ensures.is tells).1 d))) (λ k. k) way in
+    subst (λ (h : Head). IsHeadOf z.records h c.args.node) (sym c.node_head.ensures.is)
+    (inl (record { sparse = subst (λ (q : State). IsSparse q.records c.args.node) (sym c.in_ok-is_dense.ensures.state) sparse; is = refl }))
+
+pub returns-clause-owns : goal.returns-clause-owns
+returns-clause-owns g c = λ tells way. c.open_group-2.ensures.owns tells (c.in_ok-make_dense.ensures.dense tells)
+
+pub returns-then-branch-clause-heads : goal.returns-then-branch-clause-heads
+returns-then-branch-clause-heads g c = λ tells.
+    let s = g.S.Reads.state c.args.space.now in
+    let z = g.S.Reads.state c.is_dense.new.space in
+    let t = g.S.Reads.state c.open_group.new.space in
+    if_done c.open_group.result (KeepsHeads z t) (KeepsOtherHeads s t c.args.node)
+    (λ k. others_of s t c.args.node (heads_then s z t (heads_same s z c.in_ok-is_dense.ensures.state) k)) (c.open_group.ensures.heads tells)
+
+pub returns-then-degree-threshold-clause-heads : goal.returns-then-degree-threshold-clause-heads
+returns-then-degree-threshold-clause-heads g c = λ tells.
+    let s = g.S.Reads.state c.args.space.now in
+    let z = g.S.Reads.state c.is_dense.new.space in
+    others_of s z c.args.node (heads_same s z c.in_ok-is_dense.ensures.state)
+
+pub returns-clause-heads : goal.returns-clause-heads
+returns-clause-heads g c = λ tells.
+    let s = g.S.Reads.state c.args.space.now in
+    let z = g.S.Reads.state c.is_dense.new.space in
+    let u = g.S.Reads.state c.make_dense.new.space in
+    let t = g.S.Reads.state c.open_group-2.new.space in
+    if_done c.open_group-2.result (KeepsHeads u t) (KeepsOtherHeads s t c.args.node)
+    (λ k. others_then s u t c.args.node (λ h n ne o. c.in_ok-make_dense.ensures.heads tells h n ne (heads_same s z c.in_ok-is_dense.ensures.state h n o)) k) (c.open_group-2.ensures.heads tells)
+
+pub returns-in_err-is_dense-clause-opened : goal.returns-in_err-is_dense-clause-opened
+returns-in_err-is_dense-clause-opened g c _ = never_ok c.from_residual.result _ _ c.from_residual.ensures.1
+
+pub returns-in_err-is_dense-clause-owns : goal.returns-in_err-is_dense-clause-owns
+returns-in_err-is_dense-clause-owns g c _ _ = never_ok c.from_residual.result _ _ c.from_residual.ensures.1
+
+pub returns-in_err-is_dense-clause-heads : goal.returns-in_err-is_dense-clause-heads
+returns-in_err-is_dense-clause-heads g c _ = never_ok c.from_residual.result _ _ c.from_residual.ensures.1
+
+pub returns-in_err-is_dense-clause-beside : goal.returns-in_err-is_dense-clause-beside
+returns-in_err-is_dense-clause-beside g c _ = never_ok c.from_residual.result _ _ c.from_residual.ensures.1
+
+pub returns-in_err-is_dense-clause-at : goal.returns-in_err-is_dense-clause-at
+returns-in_err-is_dense-clause-at g c = never_ok c.from_residual.result _ _ c.from_residual.ensures.1
+
+pub returns-in_err-is_dense-clause-head : goal.returns-in_err-is_dense-clause-head
+returns-in_err-is_dense-clause-head g c = never_ok c.from_residual.result _ _ c.from_residual.ensures.1
+
+pub returns-in_err-is_dense-clause-own : goal.returns-in_err-is_dense-clause-own
+returns-in_err-is_dense-clause-own g c = never_ok c.from_residual.result _ _ c.from_residual.ensures.1
+
+pub returns-in_err-is_dense-clause-wrote : goal.returns-in_err-is_dense-clause-wrote
+returns-in_err-is_dense-clause-wrote g c = never_ok c.from_residual.result _ _ c.from_residual.ensures.1
+
+pub returns-in_err-is_dense-clause-onward : goal.returns-in_err-is_dense-clause-onward
+returns-in_err-is_dense-clause-onward g c = search rules
+
+pub returns-in_err-make_dense-clause-opened : goal.returns-in_err-make_dense-clause-opened
+returns-in_err-make_dense-clause-opened g c _ = never_ok c.from_residual-in_err-make_dense.result _ _ c.from_residual-in_err-make_dense.ensures.1
+
+pub returns-in_err-make_dense-clause-owns : goal.returns-in_err-make_dense-clause-owns
+returns-in_err-make_dense-clause-owns g c _ _ = never_ok c.from_residual-in_err-make_dense.result _ _ c.from_residual-in_err-make_dense.ensures.1
+
+pub returns-in_err-make_dense-clause-heads : goal.returns-in_err-make_dense-clause-heads
+returns-in_err-make_dense-clause-heads g c _ = never_ok c.from_residual-in_err-make_dense.result _ _ c.from_residual-in_err-make_dense.ensures.1
+
+pub returns-in_err-make_dense-clause-beside : goal.returns-in_err-make_dense-clause-beside
+returns-in_err-make_dense-clause-beside g c _ = never_ok c.from_residual-in_err-make_dense.result _ _ c.from_residual-in_err-make_dense.ensures.1
+
+pub returns-in_err-make_dense-clause-at : goal.returns-in_err-make_dense-clause-at
+returns-in_err-make_dense-clause-at g c = never_ok c.from_residual-in_err-make_dense.result _ _ c.from_residual-in_err-make_dense.ensures.1
+
+pub returns-in_err-make_dense-clause-head : goal.returns-in_err-make_dense-clause-head
+returns-in_err-make_dense-clause-head g c = never_ok c.from_residual-in_err-make_dense.result _ _ c.from_residual-in_err-make_dense.ensures.1
+
+pub returns-in_err-make_dense-clause-own : goal.returns-in_err-make_dense-clause-own
+returns-in_err-make_dense-clause-own g c = never_ok c.from_residual-in_err-make_dense.result _ _ c.from_residual-in_err-make_dense.ensures.1
+
+pub returns-in_err-make_dense-clause-wrote : goal.returns-in_err-make_dense-clause-wrote
+returns-in_err-make_dense-clause-wrote g c = never_ok c.from_residual-in_err-make_dense.result _ _ c.from_residual-in_err-make_dense.ensures.1

@@ -1,4 +1,4 @@
-use Rattle.std.proofs.Common.{arith, [], ◌∷◌, sym, ap, subst, ⊎_elim}
+use Rattle.std.proofs.Common.{arith, [], ◌∷◌, sym, ap, subst, ⊎_elim, rules}
 use Rattle.std.proofs.lemmas.Bool.{false≢true}
 use Rattle.std.proofs.lemmas.Result.{err_from_is_err_and}
 use Rattle.rec_bytes.specs.declared.key.Key.{Key}
@@ -14,6 +14,10 @@ use Rattle.group_store.proofs.Raises.{breaks_read}
 use Rattle.group_store.proofs.Opens.{all_but, can_raise, not_full, opens_group}
 use Rattle.group_store.proofs.Causes.{cause_passed}
 use Rattle.group_store.proofs.LeftBeside.{beside_then}
+use Rattle.store_rules.specs.Breaking.{IsHeadOf}
+use Rattle.group_store.proofs.KeptHeads.{heads_then}
+use Rattle.group_store.proofs.MadeHeads.{owned_head}
+use Rattle.rec_bytes.proofs.Causes.{never_ok}
 use Rattle.group_store.proofs.opening.open_group.Goals as goal
 
 pub returns-in_err-own-clause-sound : goal.returns-in_err-own-clause-sound
@@ -119,3 +123,67 @@ returns-clause-at g c = ap (λ (h : Head). h.key.file) c.group_head.ensures.is
 -- what is left of other records
 pub returns-clause-beside : goal.returns-clause-beside
 returns-clause-beside g c = λ tells. beside_then _ _ _ c.args.node (c.in_ok-own.ensures.beside tells) (c.in_ok-count_group.ensures.beside tells)
+
+-- ---- the head is the node's, and each node has the heads that it had
+
+pub returns-clause-owns : goal.returns-clause-owns
+returns-clause-owns g c = λ tells dense.
+    let m = g.S.Reads.state c.own_group.new.space in
+    let t = g.S.Reads.state c.count_group.new.space in
+    subst (λ (h : Head). IsHeadOf t.records h c.args.node) (sym c.group_head.ensures.is)
+    (c.in_ok-count_group.ensures.heads tells _ c.args.node (owned_head m.records c.args.node c.in_ok-own.own.row.id c.args.side (c.in_ok-own.ensures.dense tells dense) (c.in_ok-own.ensures.owns tells)))
+
+pub returns-clause-heads : goal.returns-clause-heads
+returns-clause-heads g c = λ tells.
+    heads_then (g.S.Reads.state c.args.space.now) (g.S.Reads.state c.own_group.new.space) (g.S.Reads.state c.count_group.new.space) (c.in_ok-own.ensures.heads tells) (c.in_ok-count_group.ensures.heads tells)
+
+pub returns-in_err-own-clause-opened : goal.returns-in_err-own-clause-opened
+returns-in_err-own-clause-opened g c _ = never_ok c.from_residual.result _ _ c.from_residual.ensures.1
+
+pub returns-in_err-own-clause-owns : goal.returns-in_err-own-clause-owns
+returns-in_err-own-clause-owns g c _ _ = never_ok c.from_residual.result _ _ c.from_residual.ensures.1
+
+pub returns-in_err-own-clause-heads : goal.returns-in_err-own-clause-heads
+returns-in_err-own-clause-heads g c _ = never_ok c.from_residual.result _ _ c.from_residual.ensures.1
+
+pub returns-in_err-own-clause-beside : goal.returns-in_err-own-clause-beside
+returns-in_err-own-clause-beside g c _ = never_ok c.from_residual.result _ _ c.from_residual.ensures.1
+
+pub returns-in_err-own-clause-at : goal.returns-in_err-own-clause-at
+returns-in_err-own-clause-at g c = never_ok c.from_residual.result _ _ c.from_residual.ensures.1
+
+pub returns-in_err-own-clause-head : goal.returns-in_err-own-clause-head
+returns-in_err-own-clause-head g c = never_ok c.from_residual.result _ _ c.from_residual.ensures.1
+
+pub returns-in_err-own-clause-own : goal.returns-in_err-own-clause-own
+returns-in_err-own-clause-own g c = never_ok c.from_residual.result _ _ c.from_residual.ensures.1
+
+pub returns-in_err-own-clause-wrote : goal.returns-in_err-own-clause-wrote
+returns-in_err-own-clause-wrote g c = never_ok c.from_residual.result _ _ c.from_residual.ensures.1
+
+pub returns-in_err-own-clause-onward : goal.returns-in_err-own-clause-onward
+returns-in_err-own-clause-onward g c = search rules
+
+pub returns-in_err-count_group-clause-opened : goal.returns-in_err-count_group-clause-opened
+returns-in_err-count_group-clause-opened g c _ = never_ok c.from_residual-in_err-count_group.result _ _ c.from_residual-in_err-count_group.ensures.1
+
+pub returns-in_err-count_group-clause-owns : goal.returns-in_err-count_group-clause-owns
+returns-in_err-count_group-clause-owns g c _ _ = never_ok c.from_residual-in_err-count_group.result _ _ c.from_residual-in_err-count_group.ensures.1
+
+pub returns-in_err-count_group-clause-heads : goal.returns-in_err-count_group-clause-heads
+returns-in_err-count_group-clause-heads g c _ = never_ok c.from_residual-in_err-count_group.result _ _ c.from_residual-in_err-count_group.ensures.1
+
+pub returns-in_err-count_group-clause-beside : goal.returns-in_err-count_group-clause-beside
+returns-in_err-count_group-clause-beside g c _ = never_ok c.from_residual-in_err-count_group.result _ _ c.from_residual-in_err-count_group.ensures.1
+
+pub returns-in_err-count_group-clause-at : goal.returns-in_err-count_group-clause-at
+returns-in_err-count_group-clause-at g c = never_ok c.from_residual-in_err-count_group.result _ _ c.from_residual-in_err-count_group.ensures.1
+
+pub returns-in_err-count_group-clause-head : goal.returns-in_err-count_group-clause-head
+returns-in_err-count_group-clause-head g c = never_ok c.from_residual-in_err-count_group.result _ _ c.from_residual-in_err-count_group.ensures.1
+
+pub returns-in_err-count_group-clause-own : goal.returns-in_err-count_group-clause-own
+returns-in_err-count_group-clause-own g c = never_ok c.from_residual-in_err-count_group.result _ _ c.from_residual-in_err-count_group.ensures.1
+
+pub returns-in_err-count_group-clause-wrote : goal.returns-in_err-count_group-clause-wrote
+returns-in_err-count_group-clause-wrote g c = never_ok c.from_residual-in_err-count_group.result _ _ c.from_residual-in_err-count_group.ensures.1

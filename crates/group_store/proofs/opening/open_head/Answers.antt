@@ -1,4 +1,4 @@
-use Rattle.std.proofs.Common.{arith, Option, [], ◌∷◌, ◌+◌, sym, ap, ◌∙◌, subst, inl, ⊎_elim, refl}
+use Rattle.std.proofs.Common.{arith, Option, [], ◌∷◌, ◌+◌, sym, ap, ◌∙◌, subst, inl, ⊎_elim, refl, rules}
 use Rattle.std.proofs.lemmas.Bool.{false≢true}
 use Rattle.std.proofs.lemmas.Result.{err_from_is_err_and}
 use Rattle.rec_bytes.specs.declared.damage.Damage.{Damage}
@@ -26,6 +26,7 @@ use Rattle.group_store.proofs.Openings.{handed, keeps_read}
 use Rattle.group_store.proofs.OwnGroups.{writes_after}
 use Rattle.group_store.proofs.Causes.{cause_passed, later_on}
 use Rattle.group_store.proofs.LeftBeside.{counted_read, counted_then}
+use Rattle.rec_bytes.proofs.Causes.{never_ok}
 use Rattle.group_store.proofs.opening.open_head.Goals as goal
 
 pub returns-then-not-branch-clause-found : goal.returns-then-not-branch-clause-found
@@ -296,3 +297,78 @@ returns-clause-placed g c = λ tells which row rel_at_node.
     subst (λ (h : Head). IsPlaced t.records h c.args.node row) (sym c.group_head.ensures.is)
     (placed_as t y c.args.node (alike_back y t c.args.node (alike_counted y t c.args.node (g.met.S.Reads.onward_shape _ _ c.count_group.ensures.onward) (c.in_ok-count_group.ensures.counts tells at))) _ row
     (placed_group y c.args.node c.args.label c.in-Some.group c.args.side row at found.1.typed rel_at_node))
+
+pub returns-in_err-is_dense-clause-found : goal.returns-in_err-is_dense-clause-found
+returns-in_err-is_dense-clause-found g c _ = never_ok c.from_residual.result _ _ c.from_residual.ensures.1
+
+pub returns-in_err-is_dense-clause-owns : goal.returns-in_err-is_dense-clause-owns
+returns-in_err-is_dense-clause-owns g c _ _ = never_ok c.from_residual.result _ _ c.from_residual.ensures.1
+
+pub returns-in_err-is_dense-clause-placed : goal.returns-in_err-is_dense-clause-placed
+returns-in_err-is_dense-clause-placed g c _ _ _ _ = never_ok c.from_residual.result _ _ c.from_residual.ensures.1
+
+pub returns-in_err-is_dense-clause-heads : goal.returns-in_err-is_dense-clause-heads
+returns-in_err-is_dense-clause-heads g c _ = never_ok c.from_residual.result _ _ c.from_residual.ensures.1
+
+pub returns-in_err-is_dense-clause-counts : goal.returns-in_err-is_dense-clause-counts
+returns-in_err-is_dense-clause-counts g c _ = never_ok c.from_residual.result _ _ c.from_residual.ensures.1
+
+pub returns-in_err-is_dense-clause-head : goal.returns-in_err-is_dense-clause-head
+returns-in_err-is_dense-clause-head g c = never_ok c.from_residual.result _ _ c.from_residual.ensures.1
+
+pub returns-in_err-is_dense-clause-own : goal.returns-in_err-is_dense-clause-own
+returns-in_err-is_dense-clause-own g c = never_ok c.from_residual.result _ _ c.from_residual.ensures.1
+
+pub returns-in_err-is_dense-clause-wrote : goal.returns-in_err-is_dense-clause-wrote
+returns-in_err-is_dense-clause-wrote g c = never_ok c.from_residual.result _ _ c.from_residual.ensures.1
+
+pub returns-in_err-is_dense-clause-onward : goal.returns-in_err-is_dense-clause-onward
+returns-in_err-is_dense-clause-onward g c = search rules
+
+pub returns-in_err-group-clause-found : goal.returns-in_err-group-clause-found
+returns-in_err-group-clause-found g c _ = never_ok c.from_residual-in_err-group.result _ _ c.from_residual-in_err-group.ensures.1
+
+pub returns-in_err-group-clause-owns : goal.returns-in_err-group-clause-owns
+returns-in_err-group-clause-owns g c _ _ = never_ok c.from_residual-in_err-group.result _ _ c.from_residual-in_err-group.ensures.1
+
+pub returns-in_err-group-clause-placed : goal.returns-in_err-group-clause-placed
+returns-in_err-group-clause-placed g c _ _ _ _ = never_ok c.from_residual-in_err-group.result _ _ c.from_residual-in_err-group.ensures.1
+
+pub returns-in_err-group-clause-heads : goal.returns-in_err-group-clause-heads
+returns-in_err-group-clause-heads g c _ = never_ok c.from_residual-in_err-group.result _ _ c.from_residual-in_err-group.ensures.1
+
+pub returns-in_err-group-clause-counts : goal.returns-in_err-group-clause-counts
+returns-in_err-group-clause-counts g c _ = never_ok c.from_residual-in_err-group.result _ _ c.from_residual-in_err-group.ensures.1
+
+pub returns-in_err-group-clause-head : goal.returns-in_err-group-clause-head
+returns-in_err-group-clause-head g c = never_ok c.from_residual-in_err-group.result _ _ c.from_residual-in_err-group.ensures.1
+
+pub returns-in_err-group-clause-own : goal.returns-in_err-group-clause-own
+returns-in_err-group-clause-own g c = never_ok c.from_residual-in_err-group.result _ _ c.from_residual-in_err-group.ensures.1
+
+pub returns-in_err-group-clause-wrote : goal.returns-in_err-group-clause-wrote
+returns-in_err-group-clause-wrote g c = never_ok c.from_residual-in_err-group.result _ _ c.from_residual-in_err-group.ensures.1
+
+pub returns-in_err-count_group-clause-found : goal.returns-in_err-count_group-clause-found
+returns-in_err-count_group-clause-found g c _ = never_ok c.from_residual-in_err-count_group.result _ _ c.from_residual-in_err-count_group.ensures.1
+
+pub returns-in_err-count_group-clause-owns : goal.returns-in_err-count_group-clause-owns
+returns-in_err-count_group-clause-owns g c _ _ = never_ok c.from_residual-in_err-count_group.result _ _ c.from_residual-in_err-count_group.ensures.1
+
+pub returns-in_err-count_group-clause-placed : goal.returns-in_err-count_group-clause-placed
+returns-in_err-count_group-clause-placed g c _ _ _ _ = never_ok c.from_residual-in_err-count_group.result _ _ c.from_residual-in_err-count_group.ensures.1
+
+pub returns-in_err-count_group-clause-heads : goal.returns-in_err-count_group-clause-heads
+returns-in_err-count_group-clause-heads g c _ = never_ok c.from_residual-in_err-count_group.result _ _ c.from_residual-in_err-count_group.ensures.1
+
+pub returns-in_err-count_group-clause-counts : goal.returns-in_err-count_group-clause-counts
+returns-in_err-count_group-clause-counts g c _ = never_ok c.from_residual-in_err-count_group.result _ _ c.from_residual-in_err-count_group.ensures.1
+
+pub returns-in_err-count_group-clause-head : goal.returns-in_err-count_group-clause-head
+returns-in_err-count_group-clause-head g c = never_ok c.from_residual-in_err-count_group.result _ _ c.from_residual-in_err-count_group.ensures.1
+
+pub returns-in_err-count_group-clause-own : goal.returns-in_err-count_group-clause-own
+returns-in_err-count_group-clause-own g c = never_ok c.from_residual-in_err-count_group.result _ _ c.from_residual-in_err-count_group.ensures.1
+
+pub returns-in_err-count_group-clause-wrote : goal.returns-in_err-count_group-clause-wrote
+returns-in_err-count_group-clause-wrote g c = never_ok c.from_residual-in_err-count_group.result _ _ c.from_residual-in_err-count_group.ensures.1

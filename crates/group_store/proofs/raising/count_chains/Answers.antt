@@ -1,4 +1,4 @@
-use Rattle.std.proofs.Common.{◌≡◌, ◌<◌, ◌+◌, ◌-◌, ℕ, refl, sym, subst, arith}
+use Rattle.std.proofs.Common.{◌≡◌, ◌<◌, ◌+◌, ◌-◌, ℕ, refl, sym, subst, arith, rules}
 use Rattle.std.proofs.lemmas.Result.{err_from_is_err_and}
 use Rattle.rec_bytes.specs.declared.damage.Damage.{Damage}
 use Rattle.store_rules.specs.Breaking.{Breaks}
@@ -9,6 +9,7 @@ use Rattle.group_store.proofs.ChainHeads.{same_twice}
 use Rattle.group_store.proofs.Openings.{handed}
 use Rattle.group_store.proofs.Raises.{can_read, counted_read, degree_breaks, degree_right, side_chain}
 use Rattle.group_store.proofs.Causes.{cause_passed, later_on}
+use Rattle.rec_bytes.proofs.Causes.{never_ok}
 use Rattle.group_store.proofs.raising.count_chains.Goals as goal
 
 pub returns-in_err-out-clause-sound : goal.returns-in_err-out-clause-sound
@@ -101,3 +102,15 @@ returns-in_err-into-clause-cause g c =
 pub returns-in_err-loops-clause-cause : goal.returns-in_err-loops-clause-cause
 returns-in_err-loops-clause-cause g c =
     cause_passed _ _ _ c.from_residual-in_err-loops.result c.in_err-loops.field-0.0 (later_on c.in_ok-out.ensures.cause.later c.in_ok-into.ensures.cause.later) c.in_err-loops.ensures.cause c.from_residual-in_err-loops.ensures.1
+
+pub returns-in_err-out-clause-counts : goal.returns-in_err-out-clause-counts
+returns-in_err-out-clause-counts g c _ = never_ok c.from_residual.result _ _ c.from_residual.ensures.1
+
+pub returns-in_err-out-clause-onward : goal.returns-in_err-out-clause-onward
+returns-in_err-out-clause-onward g c = search rules
+
+pub returns-in_err-into-clause-counts : goal.returns-in_err-into-clause-counts
+returns-in_err-into-clause-counts g c _ = never_ok c.from_residual-in_err-into.result _ _ c.from_residual-in_err-into.ensures.1
+
+pub returns-in_err-loops-clause-counts : goal.returns-in_err-loops-clause-counts
+returns-in_err-loops-clause-counts g c _ = never_ok c.from_residual-in_err-loops.result _ _ c.from_residual-in_err-loops.ensures.1

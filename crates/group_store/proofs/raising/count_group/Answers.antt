@@ -1,4 +1,4 @@
-use Rattle.std.proofs.Common.{arith, sym, subst}
+use Rattle.std.proofs.Common.{arith, sym, subst, rules}
 use Rattle.rec_bytes.specs.Space.{State}
 use Rattle.group_store.specs.Raising.{HasRaised}
 use Rattle.group_store.proofs.ChainHeads.{same_twice}
@@ -6,6 +6,7 @@ use Rattle.group_store.proofs.Raises.{can_read, got_same, lengths_read, raises, 
 use Rattle.group_store.proofs.KeptHeads.{heads_raised}
 use Rattle.group_store.proofs.Causes.{cause_passed, later_on, space_cause_passed}
 use Rattle.group_store.proofs.LeftBeside.{beside_none, beside_raised, counted_none, counted_raised}
+use Rattle.rec_bytes.proofs.Causes.{never_ok}
 use Rattle.group_store.proofs.raising.count_group.Goals as goal
 
 pub returns-then-row-clause-raised : goal.returns-then-row-clause-raised
@@ -69,3 +70,42 @@ returns-clause-counts g c = λ tells at.
     let y = g.S.Reads.state c.get.new.self in
     let z = g.S.Reads.state c.count_chains.new.space in
     counted_raised s z (g.S.Reads.state c.set_counts.new.space) c.args.node c.args.row.now.id c.in_ok-counts.counts at.member (same_twice s y z (got_same s y c.in_ok-rec.ensures.state) c.in_ok-counts.ensures.state) (c.in_ok-set_counts.ensures.ok tells)
+
+pub returns-in_err-rec-clause-raised : goal.returns-in_err-rec-clause-raised
+returns-in_err-rec-clause-raised g c _ = never_ok c.from_residual.result _ _ c.from_residual.ensures.1
+
+pub returns-in_err-rec-clause-heads : goal.returns-in_err-rec-clause-heads
+returns-in_err-rec-clause-heads g c _ = never_ok c.from_residual.result _ _ c.from_residual.ensures.1
+
+pub returns-in_err-rec-clause-beside : goal.returns-in_err-rec-clause-beside
+returns-in_err-rec-clause-beside g c _ = never_ok c.from_residual.result _ _ c.from_residual.ensures.1
+
+pub returns-in_err-rec-clause-counts : goal.returns-in_err-rec-clause-counts
+returns-in_err-rec-clause-counts g c _ _ = never_ok c.from_residual.result _ _ c.from_residual.ensures.1
+
+pub returns-in_err-rec-clause-onward : goal.returns-in_err-rec-clause-onward
+returns-in_err-rec-clause-onward g c = search rules
+
+pub returns-in_err-counts-clause-raised : goal.returns-in_err-counts-clause-raised
+returns-in_err-counts-clause-raised g c _ = never_ok c.from_residual-in_err-counts.result _ _ c.from_residual-in_err-counts.ensures.1
+
+pub returns-in_err-counts-clause-heads : goal.returns-in_err-counts-clause-heads
+returns-in_err-counts-clause-heads g c _ = never_ok c.from_residual-in_err-counts.result _ _ c.from_residual-in_err-counts.ensures.1
+
+pub returns-in_err-counts-clause-beside : goal.returns-in_err-counts-clause-beside
+returns-in_err-counts-clause-beside g c _ = never_ok c.from_residual-in_err-counts.result _ _ c.from_residual-in_err-counts.ensures.1
+
+pub returns-in_err-counts-clause-counts : goal.returns-in_err-counts-clause-counts
+returns-in_err-counts-clause-counts g c _ _ = never_ok c.from_residual-in_err-counts.result _ _ c.from_residual-in_err-counts.ensures.1
+
+pub returns-in_err-set_counts-clause-raised : goal.returns-in_err-set_counts-clause-raised
+returns-in_err-set_counts-clause-raised g c _ = never_ok c.from_residual-in_err-set_counts.result _ _ c.from_residual-in_err-set_counts.ensures.1
+
+pub returns-in_err-set_counts-clause-heads : goal.returns-in_err-set_counts-clause-heads
+returns-in_err-set_counts-clause-heads g c _ = never_ok c.from_residual-in_err-set_counts.result _ _ c.from_residual-in_err-set_counts.ensures.1
+
+pub returns-in_err-set_counts-clause-beside : goal.returns-in_err-set_counts-clause-beside
+returns-in_err-set_counts-clause-beside g c _ = never_ok c.from_residual-in_err-set_counts.result _ _ c.from_residual-in_err-set_counts.ensures.1
+
+pub returns-in_err-set_counts-clause-counts : goal.returns-in_err-set_counts-clause-counts
+returns-in_err-set_counts-clause-counts g c _ _ = never_ok c.from_residual-in_err-set_counts.result _ _ c.from_residual-in_err-set_counts.ensures.1

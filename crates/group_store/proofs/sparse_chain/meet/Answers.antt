@@ -1,4 +1,4 @@
-use Rattle.std.proofs.Common.{ap, subst, sym, ◌∙◌}
+use Rattle.std.proofs.Common.{ap, subst, sym, ◌∙◌, rules}
 use Rattle.std.proofs.lemmas.Bool.{false≢true}
 use Rattle.std.proofs.lemmas.Result.{err_from_is_err_and}
 use Rattle.rec_bytes.specs.declared.damage.Damage.{Damage}
@@ -9,6 +9,7 @@ use Rattle.group_store.specs.SparseChain.IsStepDamage.{NotMet}
 use Rattle.group_store.proofs.DenseFaults.{row_told}
 use Rattle.group_store.proofs.SparseChains.{links_are, row_stands}
 use Rattle.group_store.proofs.Spreads.{only_loads}
+use Rattle.rec_bytes.proofs.Causes.{never_ok}
 use Rattle.group_store.proofs.sparse_chain.meet.Goals as goal
 
 pub returns-in_err-row-clause-damaged : goal.returns-in_err-row-clause-damaged
@@ -57,3 +58,9 @@ returns-clause-met g c = λ tells.
 
 pub returns-clause-state : goal.returns-clause-state
 returns-clause-state g c = only_loads (g.R.Reads.state c.args.space.now) (g.R.Reads.state c.load.new.space) c.args.at c.load.ensures.state
+
+pub returns-in_err-row-clause-met : goal.returns-in_err-row-clause-met
+returns-in_err-row-clause-met g c _ = never_ok c.from_residual.result _ _ c.from_residual.ensures.1
+
+pub returns-in_err-row-clause-onward : goal.returns-in_err-row-clause-onward
+returns-in_err-row-clause-onward g c = search rules

@@ -7,6 +7,7 @@ use Rattle.group_store.specs.SparseChain.IsSparseDamage.{MoreThanSaid}
 use Rattle.group_store.proofs.ChainHeads.{same_twice}
 use Rattle.group_store.proofs.GroupWalks.{not_damaged}
 use Rattle.group_store.proofs.SparseChains.{crossed_all, crossed_more, crossed_none, met_few, met_more, met_none, step_sound, step_told, tail_all, tail_low, tail_next}
+use Rattle.rec_bytes.proofs.Causes.{never_ok}
 use Rattle.group_store.proofs.sparse_chain.test_chain.Goals as goal
 
 pub loop-init : goal.loop-init
@@ -105,3 +106,9 @@ returns-clause-sound g c = λ tells is members chain readable few.
     let s = g.R.Reads.state c.args.space.now in
     let low = tail_low s c.args.node c.loop.before c.loop.at c.loop.counter members c.if-at-2.false (c.loop.invariant.tail tells is members chain) in
     omega (arith, low, few, c.loop-test.false, c.loop.auto.counter-end)
+
+pub returns-in_err-next-clause-chain : goal.returns-in_err-next-clause-chain
+returns-in_err-next-clause-chain g c _ = never_ok c.from_residual.result _ _ c.from_residual.ensures.1
+
+pub returns-in_err-meet-clause-chain : goal.returns-in_err-meet-clause-chain
+returns-in_err-meet-clause-chain g c _ = never_ok c.from_residual-in_err-meet.result _ _ c.from_residual-in_err-meet.ensures.1

@@ -1,4 +1,4 @@
-use Rattle.std.proofs.Common.{◌≡◌, ◌+◌, arith, sym, ap, ◌∙◌, subst}
+use Rattle.std.proofs.Common.{◌≡◌, ◌+◌, arith, sym, ap, ◌∙◌, subst, rules}
 use Rattle.std.proofs.lemmas.Result.{err_from_is_err_and}
 use Rattle.rec_bytes.specs.declared.record.Rec.{Rec}
 use Rattle.rec_bytes.specs.Format as format
@@ -11,6 +11,7 @@ use Rattle.group_store.proofs.ChainHeads.{only_read, same_records}
 use Rattle.group_store.proofs.FirstGroups.{reads_fewer}
 use Rattle.group_store.proofs.GroupWalks.{reads_one}
 use Rattle.group_store.proofs.TwinLaws.{met_then, node_then, none_lone, reads_more_groups, reads_then, walk_then}
+use Rattle.rec_bytes.proofs.Causes.{never_ok}
 use Rattle.group_store.proofs.twins.has_twin.Goals as goal
 
 -- ---- reads
@@ -83,3 +84,12 @@ returns-in-Some-clause-damaged g c = λ tells.
     let first : IsDense s.records c.args.node × (c.in-Some.first ≡ first_link s.records c.args.node)
     = subst (λ (r : Records). IsDense r c.args.node × (c.in-Some.first ≡ first_link r c.args.node)) same (subst (IsFirst u.records c.args.node) c.in-Some.is (c.in_ok-first.ensures.first tells)) in
     walk_then s v c.args.node c.in-Some.first c.seek_twin.result (only_read s v 2 (reads_then s u v 1 1 2 (omega arith) one c.in_ok-first.ensures.at_most)) first.0 first.1 (c.seek_twin.ensures.damaged tells)
+
+pub returns-in_err-rec-clause-found : goal.returns-in_err-rec-clause-found
+returns-in_err-rec-clause-found g c _ = never_ok c.from_residual.result _ _ c.from_residual.ensures.1
+
+pub returns-in_err-rec-clause-onward : goal.returns-in_err-rec-clause-onward
+returns-in_err-rec-clause-onward g c = search rules
+
+pub returns-in_err-first-clause-found : goal.returns-in_err-first-clause-found
+returns-in_err-first-clause-found g c _ = never_ok c.from_residual-in_err-first.result _ _ c.from_residual-in_err-first.ensures.1

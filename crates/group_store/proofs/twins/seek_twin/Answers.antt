@@ -12,6 +12,7 @@ use Rattle.group_store.specs.Walking.{IsWalkDamage}
 use Rattle.group_store.specs.Walking.IsWalkDamage.{NoList}
 use Rattle.group_store.proofs.GroupWalks.{few_owned, left_more, left_none, link_then, member_then, passed_all, passed_more, passed_none, read_next, reads_more, rec_then, walk_fault}
 use Rattle.group_store.proofs.TwinLaws.{lone_more, lone_none, no_twin, twin_is}
+use Rattle.rec_bytes.proofs.Causes.{never_ok}
 use Rattle.group_store.proofs.twins.seek_twin.Goals as goal
 
 pub loop-init : goal.loop-init
@@ -109,3 +110,6 @@ returns-then-at-2-clause-damaged g c = λ tells.
     let ge = c.loop-test.false in
     subst (IsWalkDamage s c.args.node c.args.first) (sym c.chain_damage.ensures)
     (NoList (λ xs list. c.if-at-2.true (left_none s.records (c.meta-budget.result.high - c.loop.counter) c.loop.at xs (omega arith) (c.loop.invariant.left tells xs list.walk (few_owned s.records c.args.node c.args.first xs list)))))
+
+pub returns-in_err-rec-clause-met : goal.returns-in_err-rec-clause-met
+returns-in_err-rec-clause-met g c _ = never_ok c.from_residual.result _ _ c.from_residual.ensures.1

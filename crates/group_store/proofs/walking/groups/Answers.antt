@@ -9,6 +9,7 @@ use Rattle.group_store.specs.Walking.{IsWalkDamage, group_row_at}
 use Rattle.group_store.specs.Walking.IsWalkDamage.{NoList}
 use Rattle.group_store.proofs.GroupWalks.{few_groups, few_owned, few_next, few_then, left_more, left_none, link_then, member_then, passed_all, passed_more, passed_none, read_next, reads_more, reads_so_far, rec_then, rows_more, not_damaged_at, undamaged, walk_fault}
 use Rattle.group_store.proofs.Causes.{cause_passed, later_on, memory_cause}
+use Rattle.rec_bytes.proofs.Causes.{never_ok}
 use Rattle.group_store.proofs.walking.groups.Goals as goal
 
 pub loop-init : goal.loop-init
@@ -155,3 +156,15 @@ returns-in_err-rec-clause-cause g c =
 pub returns-in_err-push-clause-cause : goal.returns-in_err-push-clause-cause
 returns-in_err-push-clause-cause g c =
     memory_cause _ _ c.from_residual-in_err-push.result (later_on c.loop.invariant.later c.in_ok-rec.ensures.cause.later) c.from_residual-in_err-push.ensures.1
+
+pub returns-in_err-rec-clause-rows : goal.returns-in_err-rec-clause-rows
+returns-in_err-rec-clause-rows g c _ = never_ok c.from_residual.result _ _ c.from_residual.ensures.1
+
+pub returns-in_err-rec-clause-reads : goal.returns-in_err-rec-clause-reads
+returns-in_err-rec-clause-reads g c = never_ok c.from_residual.result _ _ c.from_residual.ensures.1
+
+pub returns-in_err-push-clause-rows : goal.returns-in_err-push-clause-rows
+returns-in_err-push-clause-rows g c _ = never_ok c.from_residual-in_err-push.result _ _ c.from_residual-in_err-push.ensures.1
+
+pub returns-in_err-push-clause-reads : goal.returns-in_err-push-clause-reads
+returns-in_err-push-clause-reads g c = never_ok c.from_residual-in_err-push.result _ _ c.from_residual-in_err-push.ensures.1

@@ -6,6 +6,7 @@ use Rattle.rec_bytes.specs.Record.{field}
 use Rattle.rec_bytes.specs.Space.{SameButReads, State, after_get}
 use Rattle.store_rules.specs.Views.{Records, high, key_in, kind_at, rec_at}
 use Rattle.store_rules.proofs.ViewLaws.{kind_low}
+use Rattle.rec_bytes.proofs.Causes.{never_ok}
 use Rattle.id_freelist.proofs.taking.first_unused.Goals as goal
 
 -- what the record below the mark says is its kind
@@ -39,3 +40,9 @@ loop-id-preserved g c =
       onward = g.met.R.Reads.further_onward c.args.space.now c.loop-id.space c.get.new.self inv.onward c.in_ok-rec.ensures.onward;
       faults = let cause = c.in_ok-rec.ensures.cause in omega (arith, inv.faults, cause.later);
     }
+
+pub returns-in_err-rec-clause-found : goal.returns-in_err-rec-clause-found
+returns-in_err-rec-clause-found g c _ = never_ok c.from_residual.result _ _ c.from_residual.ensures.1
+
+pub returns-in_err-rec-clause-none : goal.returns-in_err-rec-clause-none
+returns-in_err-rec-clause-none g c _ = never_ok c.from_residual.result _ _ c.from_residual.ensures.1

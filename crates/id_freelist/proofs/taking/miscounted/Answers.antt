@@ -1,7 +1,8 @@
 use Rattle.std.specs.Prelude.{Option, IfNone, IfSome}
-use Rattle.std.proofs.Common.{ℕ, ◌∙◌, sym, subst}
+use Rattle.std.proofs.Common.{ℕ, ◌∙◌, sym, subst, rules}
 use Rattle.id_freelist.specs.Taking.{AreAllUsed, IsUnused}
 use Rattle.id_freelist.proofs.TakeDamages.{uncounted, undercounted, unlisted}
+use Rattle.rec_bytes.proofs.Causes.{never_ok}
 use Rattle.id_freelist.proofs.taking.miscounted.Goals as goal
 
 pub returns-then-not-is_undercounted-clause-is : goal.returns-then-not-is_undercounted-clause-is
@@ -19,3 +20,9 @@ returns-in-None-clause-is g c t =
     let s = g.R.Reads.state c.args.space.now in
     undercounted s c.args.file c.args.meta c.requires.meta (sym c.is_undercounted.ensures ∙ c.if-not-is_undercounted.false)
     (subst (λ (found : Option ℕ). IfNone found (AreAllUsed s.records c.args.file)) c.in-None.is (c.in_ok-id.ensures.none t))
+
+pub returns-in_err-id-clause-is : goal.returns-in_err-id-clause-is
+returns-in_err-id-clause-is g c _ = never_ok c.from_residual.result _ _ c.from_residual.ensures.1
+
+pub returns-in_err-id-clause-onward : goal.returns-in_err-id-clause-onward
+returns-in_err-id-clause-onward g c = search rules

@@ -1,5 +1,5 @@
 use Rattle.std.specs.Prelude.{Result, Ok, Err, IfOk, OnOk}
-use Rattle.std.proofs.Common.{ℕ, Bool, ◌≡◌, false, true, sym, subst, ap, ◌∙◌}
+use Rattle.std.proofs.Common.{ℕ, Bool, ◌≡◌, false, true, sym, subst, ap, ◌∙◌, rules}
 use Rattle.rec_bytes.specs.declared.meta.Meta.{Meta}
 use Rattle.rec_bytes.specs.declared.shape.Shape.{Shape}
 use Rattle.rec_bytes.specs.RecordFiles.{room_of}
@@ -11,6 +11,7 @@ use Rattle.rec_bytes.specs.Format.{free_kind}
 use Rattle.id_freelist.specs.declared.take_fault.TakeFault.TheVariants.{Damaged}
 use Rattle.id_freelist.proofs.TakeBreaches.{blames_broken, breaks_of}
 use Rattle.id_freelist.proofs.TakeDamages.{sound_of, undamaged, unranged}
+use Rattle.rec_bytes.proofs.Causes.{never_ok}
 use Rattle.id_freelist.proofs.taking.take.Goals as goal
 
 -- a test of what was read is one of what the space says
@@ -75,3 +76,48 @@ returns-then-not-is_counted-clause-damaged g c tells = breaks_of (g.S.Reads.stat
 
 pub returns-else-meta-clause-damaged : goal.returns-else-meta-clause-damaged
 returns-else-meta-clause-damaged g c tells = blames_broken (g.S.Reads.state c.args.space.now) c.args.file c.requires c.take_free.result (c.take_free.ensures.refused tells)
+
+pub returns-in_err-damage-clause-taken : goal.returns-in_err-damage-clause-taken
+returns-in_err-damage-clause-taken g c _ = never_ok c.from_residual.result _ _ c.from_residual.ensures.1
+
+pub returns-in_err-damage-clause-fresh : goal.returns-in_err-damage-clause-fresh
+returns-in_err-damage-clause-fresh g c _ = never_ok c.from_residual.result _ _ c.from_residual.ensures.1
+
+pub returns-in_err-damage-clause-undamaged : goal.returns-in_err-damage-clause-undamaged
+returns-in_err-damage-clause-undamaged g c _ = never_ok c.from_residual.result _ _ c.from_residual.ensures.1
+
+pub returns-in_err-damage-clause-ok : goal.returns-in_err-damage-clause-ok
+returns-in_err-damage-clause-ok g c _ = never_ok c.from_residual.result _ _ c.from_residual.ensures.1
+
+pub returns-in_err-damage-clause-is : goal.returns-in_err-damage-clause-is
+returns-in_err-damage-clause-is g c = never_ok c.from_residual.result _ _ c.from_residual.ensures.1
+
+pub returns-in_err-damage-clause-small : goal.returns-in_err-damage-clause-small
+returns-in_err-damage-clause-small g c = never_ok c.from_residual.result _ _ c.from_residual.ensures.1
+
+pub returns-in_err-damage-clause-key : goal.returns-in_err-damage-clause-key
+returns-in_err-damage-clause-key g c = never_ok c.from_residual.result _ _ c.from_residual.ensures.1
+
+pub returns-in_err-damage-clause-onward : goal.returns-in_err-damage-clause-onward
+returns-in_err-damage-clause-onward g c = search rules
+
+pub returns-in_err-take_mark-clause-taken : goal.returns-in_err-take_mark-clause-taken
+returns-in_err-take_mark-clause-taken g c _ = never_ok c.from_residual-in_err-take_mark.result _ _ c.from_residual-in_err-take_mark.ensures.1
+
+pub returns-in_err-take_mark-clause-fresh : goal.returns-in_err-take_mark-clause-fresh
+returns-in_err-take_mark-clause-fresh g c _ = never_ok c.from_residual-in_err-take_mark.result _ _ c.from_residual-in_err-take_mark.ensures.1
+
+pub returns-in_err-take_mark-clause-undamaged : goal.returns-in_err-take_mark-clause-undamaged
+returns-in_err-take_mark-clause-undamaged g c _ = never_ok c.from_residual-in_err-take_mark.result _ _ c.from_residual-in_err-take_mark.ensures.1
+
+pub returns-in_err-take_mark-clause-ok : goal.returns-in_err-take_mark-clause-ok
+returns-in_err-take_mark-clause-ok g c _ = never_ok c.from_residual-in_err-take_mark.result _ _ c.from_residual-in_err-take_mark.ensures.1
+
+pub returns-in_err-take_mark-clause-is : goal.returns-in_err-take_mark-clause-is
+returns-in_err-take_mark-clause-is g c = never_ok c.from_residual-in_err-take_mark.result _ _ c.from_residual-in_err-take_mark.ensures.1
+
+pub returns-in_err-take_mark-clause-small : goal.returns-in_err-take_mark-clause-small
+returns-in_err-take_mark-clause-small g c = never_ok c.from_residual-in_err-take_mark.result _ _ c.from_residual-in_err-take_mark.ensures.1
+
+pub returns-in_err-take_mark-clause-key : goal.returns-in_err-take_mark-clause-key
+returns-in_err-take_mark-clause-key g c = never_ok c.from_residual-in_err-take_mark.result _ _ c.from_residual-in_err-take_mark.ensures.1

@@ -1,4 +1,4 @@
-use Rattle.std.proofs.Common.{[], arith, refl}
+use Rattle.std.proofs.Common.{[], arith, refl, rules}
 use Rattle.std.proofs.lemmas.Result.{err_from_is_err_and}
 use Rattle.rec_bytes.specs.Format.{strings_file}
 use Rattle.prop_store.proofs.BlockSteps.{beside_put, block_written, cannot_take}
@@ -7,6 +7,7 @@ use Rattle.prop_store.specs.SetFault.{IsTextCause}
 use Rattle.prop_store.specs.Setting.{BlamesTaken}
 use Rattle.prop_store.proofs.Midway.{take_blames, take_has, take_of_space, take_still, take_still_space, text_caused, text_caused_space}
 use Rattle.prop_store.proofs.Touches.{touches_reads, touches_block, touches_block_taken, touches_more, touches_same, touches_then}
+use Rattle.rec_bytes.proofs.Causes.{never_ok}
 use Rattle.prop_store.proofs.block_writing.write_block.Goals as goal
 
 pub returns-in_err-id-clause-refused : goal.returns-in_err-id-clause-refused
@@ -67,3 +68,18 @@ pub returns-in_err-put-clause-caused : goal.returns-in_err-put-clause-caused
 returns-in_err-put-clause-caused g c tells =
     let t = g.S.Reads.state c.put.new.self in
     take_has (IsTextCause t 1) c.from_residual-in_err-put.result _ c.from_residual-in_err-put.ensures.1 (text_caused_space t 1 c.in_err-put.field-0.0)
+
+pub returns-in_err-id-clause-written : goal.returns-in_err-id-clause-written
+returns-in_err-id-clause-written g c _ = never_ok c.from_residual.result _ _ c.from_residual.ensures.1
+
+pub returns-in_err-id-clause-beside : goal.returns-in_err-id-clause-beside
+returns-in_err-id-clause-beside g c _ = never_ok c.from_residual.result _ _ c.from_residual.ensures.1
+
+pub returns-in_err-id-clause-onward : goal.returns-in_err-id-clause-onward
+returns-in_err-id-clause-onward g c = search rules
+
+pub returns-in_err-put-clause-written : goal.returns-in_err-put-clause-written
+returns-in_err-put-clause-written g c _ = never_ok c.from_residual-in_err-put.result _ _ c.from_residual-in_err-put.ensures.1
+
+pub returns-in_err-put-clause-beside : goal.returns-in_err-put-clause-beside
+returns-in_err-put-clause-beside g c _ = never_ok c.from_residual-in_err-put.result _ _ c.from_residual-in_err-put.ensures.1

@@ -10,6 +10,7 @@ use Rattle.prop_store.specs.SetFault.{IsTextCause}
 use Rattle.prop_store.specs.Setting.{BlamesTaken}
 use Rattle.prop_store.proofs.Midway.{later_take, take_has, text_caused_more}
 use Rattle.prop_store.proofs.Touches.{touches_more, touches_reads, touches_then}
+use Rattle.rec_bytes.proofs.Causes.{never_ok}
 use Rattle.prop_store.proofs.block_writing.write_text.Goals as goal
 
 pub loop-left-init : goal.loop-left-init
@@ -103,3 +104,9 @@ pub returns-in_err-first-clause-still : goal.returns-in_err-first-clause-still
 returns-in_err-first-clause-still g c tells =
     let t = g.S.Reads.state c.write_block.new.space in
     take_has (BlamesBroken t.records t.shape) c.from_residual.result c.in_err-first.field-0.0 c.from_residual.ensures.1 (c.in_err-first.ensures.still tells)
+
+pub returns-in_err-first-clause-written : goal.returns-in_err-first-clause-written
+returns-in_err-first-clause-written g c _ = never_ok c.from_residual.result _ _ c.from_residual.ensures.1
+
+pub returns-in_err-first-clause-beside : goal.returns-in_err-first-clause-beside
+returns-in_err-first-clause-beside g c _ = never_ok c.from_residual.result _ _ c.from_residual.ensures.1

@@ -13,6 +13,7 @@ use Rattle.prop_store.proofs.Exits.{same_has}
 use Rattle.prop_store.proofs.ReadCounts.{reads_none, reads_one, reads_records, reads_same, reads_then}
 use Rattle.prop_store.proofs.TextSteps.{all_left, block_here, right_here, text_after, text_over}
 use Rattle.prop_store.proofs.Causes.{cause_passed}
+use Rattle.rec_bytes.proofs.Causes.{never_ok, ok_cause}
 use Rattle.prop_store.proofs.blocks.block_ids.Goals as goal
 
 pub loop-left-init : goal.loop-left-init
@@ -94,3 +95,12 @@ returns-in_err-rec-clause-cause g c =
 pub returns-in_err-rec-clause-onward : goal.returns-in_err-rec-clause-onward
 returns-in_err-rec-clause-onward g c =
     g.met.R.Reads.further_onward _ _ _ c.loop-left.invariant.onward c.in_err-rec.ensures.onward
+
+pub returns-in_err-rec-clause-followed : goal.returns-in_err-rec-clause-followed
+returns-in_err-rec-clause-followed g c _ _ _ _ = never_ok c.from_residual.result _ _ c.from_residual.ensures.1
+
+pub returns-in_err-rec-clause-leads : goal.returns-in_err-rec-clause-leads
+returns-in_err-rec-clause-leads g c _ _ = never_ok c.from_residual.result _ _ c.from_residual.ensures.1
+
+pub returns-clause-cause : goal.returns-clause-cause
+returns-clause-cause g c = ok_cause _ _ _ _ (omega arith)

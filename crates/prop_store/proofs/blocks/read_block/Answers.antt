@@ -1,4 +1,4 @@
-use Rattle.std.proofs.Common.{◌≡◌, ◌≢◌, ◌↔◌, ◌<◌, ℕ, Bool, true, false, IsTrue, ⊎_elim, sym, ap, ◌∙◌, subst, arith}
+use Rattle.std.proofs.Common.{◌≡◌, ◌≢◌, ◌↔◌, ◌<◌, ℕ, Bool, true, false, IsTrue, ⊎_elim, sym, ap, ◌∙◌, subst, arith, rules}
 use Rattle.std.proofs.lemmas.Bool.{true≢false}
 use Rattle.std.proofs.lemmas.Result.{err_from_is_err_and}
 use Rattle.rec_bytes.specs.Format.{block, block_length, free_kind, kind, strings_file}
@@ -14,6 +14,7 @@ use Rattle.prop_store.specs.Blocks.{BadLink, HasBlockForm, IsBlockFault, IsBlock
 use Rattle.prop_store.specs.GivenOut.{IsLinkFault}
 use Rattle.prop_store.proofs.Breaches.{link_cause}
 use Rattle.prop_store.proofs.ReadCounts.{reads_none, reads_one}
+use Rattle.rec_bytes.proofs.Causes.{never_ok, ok_cause}
 use Rattle.prop_store.proofs.blocks.read_block.Goals as goal
 
 pub returns-then-id-eq-NIL-clause-at_most : goal.returns-then-id-eq-NIL-clause-at_most
@@ -95,3 +96,39 @@ returns-clause-block g c tells =
       used = λ e. absurd (let z : block ≡ free_kind = sym form.kind ∙ sym (kind_read s c.args.id c.in_ok-rec.rec c.in_ok-test_link.ensures.given.low got) ∙ e in omega arith);
       size_is = ap (λ r. field 1 r block_length) (sym got) ∙ form.length_is;
     }
+
+pub returns-in_err-test_link-clause-got : goal.returns-in_err-test_link-clause-got
+returns-in_err-test_link-clause-got g c _ = never_ok c.from_residual.result _ _ c.from_residual.ensures.1
+
+pub returns-in_err-test_link-clause-small : goal.returns-in_err-test_link-clause-small
+returns-in_err-test_link-clause-small g c = never_ok c.from_residual.result _ _ c.from_residual.ensures.1
+
+pub returns-in_err-test_link-clause-form : goal.returns-in_err-test_link-clause-form
+returns-in_err-test_link-clause-form g c = never_ok c.from_residual.result _ _ c.from_residual.ensures.1
+
+pub returns-in_err-test_link-clause-block : goal.returns-in_err-test_link-clause-block
+returns-in_err-test_link-clause-block g c _ = never_ok c.from_residual.result _ _ c.from_residual.ensures.1
+
+pub returns-in_err-test_link-clause-state : goal.returns-in_err-test_link-clause-state
+returns-in_err-test_link-clause-state g c = never_ok c.from_residual.result _ _ c.from_residual.ensures.1
+
+pub returns-in_err-test_link-clause-onward : goal.returns-in_err-test_link-clause-onward
+returns-in_err-test_link-clause-onward g c = search rules
+
+pub returns-in_err-rec-clause-got : goal.returns-in_err-rec-clause-got
+returns-in_err-rec-clause-got g c _ = never_ok c.from_residual-in_err-rec.result _ _ c.from_residual-in_err-rec.ensures.1
+
+pub returns-in_err-rec-clause-small : goal.returns-in_err-rec-clause-small
+returns-in_err-rec-clause-small g c = never_ok c.from_residual-in_err-rec.result _ _ c.from_residual-in_err-rec.ensures.1
+
+pub returns-in_err-rec-clause-form : goal.returns-in_err-rec-clause-form
+returns-in_err-rec-clause-form g c = never_ok c.from_residual-in_err-rec.result _ _ c.from_residual-in_err-rec.ensures.1
+
+pub returns-in_err-rec-clause-block : goal.returns-in_err-rec-clause-block
+returns-in_err-rec-clause-block g c _ = never_ok c.from_residual-in_err-rec.result _ _ c.from_residual-in_err-rec.ensures.1
+
+pub returns-in_err-rec-clause-state : goal.returns-in_err-rec-clause-state
+returns-in_err-rec-clause-state g c = never_ok c.from_residual-in_err-rec.result _ _ c.from_residual-in_err-rec.ensures.1
+
+pub returns-clause-cause : goal.returns-clause-cause
+returns-clause-cause g c = ok_cause _ _ _ _ (omega arith)

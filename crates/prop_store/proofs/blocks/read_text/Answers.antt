@@ -11,6 +11,7 @@ use Rattle.prop_store.proofs.Breaches.{block_fault, text_begins, text_goes_on, t
 use Rattle.prop_store.proofs.Exits.{same_has}
 use Rattle.prop_store.proofs.ReadCounts.{reads_none, reads_one, reads_records, reads_same, reads_then}
 use Rattle.prop_store.proofs.TextSteps.{all_left, block_here, piece_read, right_here, text_after, text_over, text_read}
+use Rattle.rec_bytes.proofs.Causes.{never_ok, ok_cause}
 use Rattle.prop_store.proofs.blocks.read_text.Goals as goal
 
 pub loop-left-init : goal.loop-left-init
@@ -91,3 +92,20 @@ returns-then-at-clause-damaged g c tells text =
     let old = g.R.Reads.state c.args.space.now in
     subst (IsTextFault old c.args.property) (sym c.damaged.ensures)
     (text_too_long old c.args.property c.loop-left.from c.loop-left.at c.loop-left.left text.long (c.loop-left.invariant.reached tells text) (omega (arith, c.loop-left-test.false)) c.if-at.true)
+
+pub returns-in_err-rec-clause-met : goal.returns-in_err-rec-clause-met
+returns-in_err-rec-clause-met g c _ = never_ok c.from_residual.result _ _ c.from_residual.ensures.1
+
+pub returns-in_err-rec-clause-size : goal.returns-in_err-rec-clause-size
+returns-in_err-rec-clause-size g c = never_ok c.from_residual.result _ _ c.from_residual.ensures.1
+
+pub returns-in_err-extend_from_slice-clause-met : goal.returns-in_err-extend_from_slice-clause-met
+returns-in_err-extend_from_slice-clause-met g c _ =
+    never_ok c.from_residual-in_err-extend_from_slice.result _ _ c.from_residual-in_err-extend_from_slice.ensures.1
+
+pub returns-in_err-extend_from_slice-clause-size : goal.returns-in_err-extend_from_slice-clause-size
+returns-in_err-extend_from_slice-clause-size g c =
+    never_ok c.from_residual-in_err-extend_from_slice.result _ _ c.from_residual-in_err-extend_from_slice.ensures.1
+
+pub returns-clause-cause : goal.returns-clause-cause
+returns-clause-cause g c = ok_cause _ _ _ _ (omega arith)

@@ -1,4 +1,4 @@
-use Rattle.std.proofs.Common.{◌≡◌, [], List, sym, ap, ◌∙◌, subst, arith, inl, refl, ◌∷◌}
+use Rattle.std.proofs.Common.{◌≡◌, [], List, sym, ap, ◌∙◌, subst, arith, inl, refl, ◌∷◌, rules}
 use Rattle.std.proofs.lemmas.Result.{err_from_is_err_and}
 use Rattle.rec_bytes.specs.Space.{State}
 use Rattle.store_rules.specs.Properties.{Property}
@@ -6,7 +6,7 @@ use Rattle.prop_store.specs.Alone.{OwnsProperties}
 use Rattle.prop_store.specs.Dropping.{AreHeld, DropsProperties}
 use Rattle.prop_store.proofs.ElementChanges.{all_dropped, drops_read, first_kept, first_set, held_read}
 use Rattle.prop_store.proofs.ElementGraphs.{drops_graph, owns_listed}
-use Rattle.prop_store.specs.Fault.{BlamesDropped}
+use Rattle.prop_store.specs.Fault.{BlamesBroken, BlamesDropped}
 use Rattle.prop_store.specs.Owner.{IsInUse, first_of}
 use Rattle.prop_store.proofs.Exits.{same_has, space_has}
 use Rattle.prop_store.proofs.LeftElements.{left_after, left_read, left_set, left_then}
@@ -14,6 +14,7 @@ use Rattle.prop_store.proofs.ReadCounts.{reads_one, reads_same}
 use Rattle.prop_store.proofs.Touches.{touches_after, touches_beside, touches_more, touches_owner, touches_reads, touches_then}
 use Rattle.prop_store.proofs.WriteCounts.{touched_beside}
 use Rattle.prop_store.proofs.Causes.{cause_passed, space_cause_passed}
+use Rattle.rec_bytes.proofs.Causes.{never_ok, ok_cause}
 use Rattle.prop_store.proofs.changing.drop_all.Goals as goal
 use Rattle.prop_store.proofs.changing.drop_all.Goals.{In_ok-dropped, In_ok-first}
 use Rattle.prop_store.proofs.changing.drop_all.Given.{Over}
@@ -129,6 +130,20 @@ returns-in_err-dropped-clause-damaged g c tells used =
     = subst (λ (y : State). IsInUse y.records c.args.owner → c.in_ok-first.first ≡ first_of y.records c.args.owner → BlamesDropped y.records y.shape fault) c.first.ensures.state (c.in_err-dropped.ensures.damaged tells) in
     same_has (BlamesDropped s.records s.shape) c.from_residual-in_err-dropped.result fault c.from_residual-in_err-dropped.ensures.1 (said used (c.in_ok-first.ensures.got tells))
 
+pub returns-in_err-first-clause-still : goal.returns-in_err-first-clause-still
+returns-in_err-first-clause-still g c tells used =
+    let t = g.S.Reads.state c.first.new.space in
+    space_has (BlamesBroken t.records t.shape) tt tt c.from_residual.result c.in_err-first.field-0.0 c.from_residual.ensures.1
+
+pub returns-in_err-dropped-clause-still : goal.returns-in_err-dropped-clause-still
+returns-in_err-dropped-clause-still g c tells used =
+    let s = g.S.Reads.state c.args.space.now in
+    let t = g.S.Reads.state c.drop_chain.new.space in
+    let fault = c.in_err-dropped.field-0.0 in
+    let said : IsInUse s.records c.args.owner → c.in_ok-first.first ≡ first_of s.records c.args.owner → BlamesBroken t.records t.shape fault
+    = subst (λ (y : State). IsInUse y.records c.args.owner → c.in_ok-first.first ≡ first_of y.records c.args.owner → BlamesBroken t.records t.shape fault) c.first.ensures.state (c.in_err-dropped.ensures.still tells) in
+    same_has (BlamesBroken t.records t.shape) c.from_residual-in_err-dropped.result fault c.from_residual-in_err-dropped.ensures.1 (said used (c.in_ok-first.ensures.got tells))
+
 pub returns-in_err-dropped-clause-cause : goal.returns-in_err-dropped-clause-cause
 returns-in_err-dropped-clause-cause g c =
     cause_passed _ _ _ c.from_residual-in_err-dropped.result c.in_err-dropped.field-0.0 c.in_ok-first.ensures.cause.later c.in_err-dropped.ensures.cause c.from_residual-in_err-dropped.ensures.1
@@ -177,3 +192,66 @@ returns-in_ok-set_number-clause-onward g c =
 pub returns-else-first-clause-onward : goal.returns-else-first-clause-onward
 returns-else-first-clause-onward g c =
     g.met.S.Reads.further_onward _ _ _ c.in_ok-first.ensures.onward c.in_ok-dropped.ensures.onward
+
+pub returns-in_err-first-clause-dropped : goal.returns-in_err-first-clause-dropped
+returns-in_err-first-clause-dropped g c _ = never_ok c.from_residual.result _ _ c.from_residual.ensures.1
+
+pub returns-in_err-first-clause-alone : goal.returns-in_err-first-clause-alone
+returns-in_err-first-clause-alone g c _ _ _ = never_ok c.from_residual.result _ _ c.from_residual.ensures.1
+
+pub returns-in_err-first-clause-few_properties : goal.returns-in_err-first-clause-few_properties
+returns-in_err-first-clause-few_properties g c = never_ok c.from_residual.result _ _ c.from_residual.ensures.1
+
+pub returns-in_err-first-clause-few_blocks : goal.returns-in_err-first-clause-few_blocks
+returns-in_err-first-clause-few_blocks g c = never_ok c.from_residual.result _ _ c.from_residual.ensures.1
+
+pub returns-in_err-first-clause-writes : goal.returns-in_err-first-clause-writes
+returns-in_err-first-clause-writes g c = never_ok c.from_residual.result _ _ c.from_residual.ensures.1
+
+pub returns-in_err-first-clause-touches : goal.returns-in_err-first-clause-touches
+returns-in_err-first-clause-touches g c = never_ok c.from_residual.result _ _ c.from_residual.ensures.1
+
+pub returns-in_err-first-clause-onward : goal.returns-in_err-first-clause-onward
+returns-in_err-first-clause-onward g c = search rules
+
+pub returns-in_err-dropped-clause-dropped : goal.returns-in_err-dropped-clause-dropped
+returns-in_err-dropped-clause-dropped g c _ = never_ok c.from_residual-in_err-dropped.result _ _ c.from_residual-in_err-dropped.ensures.1
+
+pub returns-in_err-dropped-clause-alone : goal.returns-in_err-dropped-clause-alone
+returns-in_err-dropped-clause-alone g c _ _ _ = never_ok c.from_residual-in_err-dropped.result _ _ c.from_residual-in_err-dropped.ensures.1
+
+pub returns-in_err-dropped-clause-few_properties : goal.returns-in_err-dropped-clause-few_properties
+returns-in_err-dropped-clause-few_properties g c = never_ok c.from_residual-in_err-dropped.result _ _ c.from_residual-in_err-dropped.ensures.1
+
+pub returns-in_err-dropped-clause-few_blocks : goal.returns-in_err-dropped-clause-few_blocks
+returns-in_err-dropped-clause-few_blocks g c = never_ok c.from_residual-in_err-dropped.result _ _ c.from_residual-in_err-dropped.ensures.1
+
+pub returns-in_err-dropped-clause-writes : goal.returns-in_err-dropped-clause-writes
+returns-in_err-dropped-clause-writes g c = never_ok c.from_residual-in_err-dropped.result _ _ c.from_residual-in_err-dropped.ensures.1
+
+pub returns-in_err-dropped-clause-touches : goal.returns-in_err-dropped-clause-touches
+returns-in_err-dropped-clause-touches g c = never_ok c.from_residual-in_err-dropped.result _ _ c.from_residual-in_err-dropped.ensures.1
+
+pub returns-in_err-set_number-clause-dropped : goal.returns-in_err-set_number-clause-dropped
+returns-in_err-set_number-clause-dropped g c _ = never_ok c.from_residual-in_err-set_number.result _ _ c.from_residual-in_err-set_number.ensures.1
+
+pub returns-in_err-set_number-clause-alone : goal.returns-in_err-set_number-clause-alone
+returns-in_err-set_number-clause-alone g c _ _ _ = never_ok c.from_residual-in_err-set_number.result _ _ c.from_residual-in_err-set_number.ensures.1
+
+pub returns-in_err-set_number-clause-few_properties : goal.returns-in_err-set_number-clause-few_properties
+returns-in_err-set_number-clause-few_properties g c = never_ok c.from_residual-in_err-set_number.result _ _ c.from_residual-in_err-set_number.ensures.1
+
+pub returns-in_err-set_number-clause-few_blocks : goal.returns-in_err-set_number-clause-few_blocks
+returns-in_err-set_number-clause-few_blocks g c = never_ok c.from_residual-in_err-set_number.result _ _ c.from_residual-in_err-set_number.ensures.1
+
+pub returns-in_err-set_number-clause-writes : goal.returns-in_err-set_number-clause-writes
+returns-in_err-set_number-clause-writes g c = never_ok c.from_residual-in_err-set_number.result _ _ c.from_residual-in_err-set_number.ensures.1
+
+pub returns-in_err-set_number-clause-touches : goal.returns-in_err-set_number-clause-touches
+returns-in_err-set_number-clause-touches g c = never_ok c.from_residual-in_err-set_number.result _ _ c.from_residual-in_err-set_number.ensures.1
+
+pub returns-in_ok-set_number-clause-cause : goal.returns-in_ok-set_number-clause-cause
+returns-in_ok-set_number-clause-cause g c = ok_cause _ _ _ _ (omega arith)
+
+pub returns-else-first-clause-cause : goal.returns-else-first-clause-cause
+returns-else-first-clause-cause g c = ok_cause _ _ _ _ (omega arith)

@@ -1,4 +1,4 @@
-use Rattle.std.proofs.Common.{◌<◌, ◌^◌, ◌+◌, List, sym, ap, ◌∙◌, subst, arith, [], ◌∷◌}
+use Rattle.std.proofs.Common.{◌<◌, ◌^◌, ◌+◌, List, sym, ap, ◌∙◌, subst, arith, [], ◌∷◌, rules}
 use Rattle.std.proofs.lemmas.Result.{err_from_is_err_and}
 use Rattle.rec_bytes.specs.Format.{property_next}
 use Rattle.rec_bytes.specs.Record.{field}
@@ -21,6 +21,7 @@ use Rattle.prop_store.proofs.Touches.{touches_after, touches_beside, touches_lin
 use Rattle.prop_store.proofs.ValueRemovals.{value_removed}
 use Rattle.prop_store.proofs.WriteCounts.{at_most_then, one_writes, reads_write, touched_count}
 use Rattle.prop_store.proofs.Causes.{cause_passed, space_cause_passed}
+use Rattle.rec_bytes.proofs.Causes.{never_ok, ok_cause}
 use Rattle.prop_store.proofs.changing.unset.Goals as goal
 use Rattle.prop_store.proofs.changing.unset.Goals.{In-Found}
 use Rattle.prop_store.proofs.changing.unset.Given.{Over}
@@ -215,3 +216,67 @@ returns-in_ok-set_number-in-Found-clause-onward g c =
     g.met.S.Reads.further_onward _ _ _
     (g.met.S.Reads.further_onward _ _ _ c.in_ok-find.ensures.onward c.in_ok-released-in-Found.ensures.onward)
     c.in_ok-set_number-in-Found.ensures.onward
+
+pub returns-in_err-find-clause-unset : goal.returns-in_err-find-clause-unset
+returns-in_err-find-clause-unset g c _ = never_ok c.from_residual.result _ _ c.from_residual.ensures.1
+
+pub returns-in_err-find-clause-alone : goal.returns-in_err-find-clause-alone
+returns-in_err-find-clause-alone g c _ _ _ = never_ok c.from_residual.result _ _ c.from_residual.ensures.1
+
+pub returns-in_err-find-clause-few : goal.returns-in_err-find-clause-few
+returns-in_err-find-clause-few g c = never_ok c.from_residual.result _ _ c.from_residual.ensures.1
+
+pub returns-in_err-find-clause-writes : goal.returns-in_err-find-clause-writes
+returns-in_err-find-clause-writes g c = never_ok c.from_residual.result _ _ c.from_residual.ensures.1
+
+pub returns-in_err-find-clause-touches : goal.returns-in_err-find-clause-touches
+returns-in_err-find-clause-touches g c = never_ok c.from_residual.result _ _ c.from_residual.ensures.1
+
+pub returns-in_err-find-clause-onward : goal.returns-in_err-find-clause-onward
+returns-in_err-find-clause-onward g c = search rules
+
+pub returns-in_err-released-in-Found-clause-unset : goal.returns-in_err-released-in-Found-clause-unset
+returns-in_err-released-in-Found-clause-unset g c _ =
+    never_ok c.from_residual-in_err-released-in-Found.result _ _ c.from_residual-in_err-released-in-Found.ensures.1
+
+pub returns-in_err-released-in-Found-clause-alone : goal.returns-in_err-released-in-Found-clause-alone
+returns-in_err-released-in-Found-clause-alone g c _ _ _ =
+    never_ok c.from_residual-in_err-released-in-Found.result _ _ c.from_residual-in_err-released-in-Found.ensures.1
+
+pub returns-in_err-released-in-Found-clause-few : goal.returns-in_err-released-in-Found-clause-few
+returns-in_err-released-in-Found-clause-few g c =
+    never_ok c.from_residual-in_err-released-in-Found.result _ _ c.from_residual-in_err-released-in-Found.ensures.1
+
+pub returns-in_err-released-in-Found-clause-writes : goal.returns-in_err-released-in-Found-clause-writes
+returns-in_err-released-in-Found-clause-writes g c =
+    never_ok c.from_residual-in_err-released-in-Found.result _ _ c.from_residual-in_err-released-in-Found.ensures.1
+
+pub returns-in_err-released-in-Found-clause-touches : goal.returns-in_err-released-in-Found-clause-touches
+returns-in_err-released-in-Found-clause-touches g c =
+    never_ok c.from_residual-in_err-released-in-Found.result _ _ c.from_residual-in_err-released-in-Found.ensures.1
+
+pub returns-in_err-set_number-in-Found-clause-unset : goal.returns-in_err-set_number-in-Found-clause-unset
+returns-in_err-set_number-in-Found-clause-unset g c _ =
+    never_ok c.from_residual-in_err-set_number-in-Found.result _ _ c.from_residual-in_err-set_number-in-Found.ensures.1
+
+pub returns-in_err-set_number-in-Found-clause-alone : goal.returns-in_err-set_number-in-Found-clause-alone
+returns-in_err-set_number-in-Found-clause-alone g c _ _ _ =
+    never_ok c.from_residual-in_err-set_number-in-Found.result _ _ c.from_residual-in_err-set_number-in-Found.ensures.1
+
+pub returns-in_err-set_number-in-Found-clause-few : goal.returns-in_err-set_number-in-Found-clause-few
+returns-in_err-set_number-in-Found-clause-few g c =
+    never_ok c.from_residual-in_err-set_number-in-Found.result _ _ c.from_residual-in_err-set_number-in-Found.ensures.1
+
+pub returns-in_err-set_number-in-Found-clause-writes : goal.returns-in_err-set_number-in-Found-clause-writes
+returns-in_err-set_number-in-Found-clause-writes g c =
+    never_ok c.from_residual-in_err-set_number-in-Found.result _ _ c.from_residual-in_err-set_number-in-Found.ensures.1
+
+pub returns-in_err-set_number-in-Found-clause-touches : goal.returns-in_err-set_number-in-Found-clause-touches
+returns-in_err-set_number-in-Found-clause-touches g c =
+    never_ok c.from_residual-in_err-set_number-in-Found.result _ _ c.from_residual-in_err-set_number-in-Found.ensures.1
+
+pub returns-in-Absent-clause-cause : goal.returns-in-Absent-clause-cause
+returns-in-Absent-clause-cause g c = ok_cause _ _ _ _ (omega arith)
+
+pub returns-in_ok-set_number-in-Found-clause-cause : goal.returns-in_ok-set_number-in-Found-clause-cause
+returns-in_ok-set_number-in-Found-clause-cause g c = ok_cause _ _ _ _ (omega arith)

@@ -1,4 +1,6 @@
-use Rattle.std.proofs.Common.{◌≡◌, ◌≤◌, ◌*◌, ◌-◌, [], List}
+use Rattle.std.proofs.Common.{◌≡◌, ◌≢◌, ◌<◌, ◌≤◌, ◌*◌, ◌-◌, [], List}
+use Rattle.rec_bytes.specs.Format.{nil, properties_file}
+use Rattle.store_rules.specs.Views.{high}
 use Rattle.store_rules.specs.Properties.{Property}
 use Rattle.prop_store.specs.Dropping.{AreHeld}
 use Rattle.prop_store.specs.Touching.{TouchesProperties}
@@ -15,6 +17,7 @@ invariant-loop-at g l =
     record {
       told : g.S.Reads.tells → (es : List Property) → AreHeld old l.fn.first es → Left old now es l.at l.properties l.blocks;
       walk : g.S.Reads.tells → l.fn.first ≡ first_of old.records l.fn.owner → WalkCleared old.records now.records l.fn.owner l.from l.at l.properties;
+      low : g.S.Reads.tells → l.fn.first ≡ first_of old.records l.fn.owner → 1 ≤ l.properties → l.at ≢ nil → l.at < high now.records properties_file;
       few : l.properties ≤ 32;
       small : l.blocks ≤ 22 * l.properties;
       touches : TouchesProperties g.S.Reads.tells [] l.properties l.blocks old now;

@@ -19,6 +19,7 @@ use Rattle.prop_store.proofs.OwnerPlaces.{place_within}
 use Rattle.prop_store.proofs.ReadCounts.{reads_none, reads_records, reads_same, reads_then}
 use Rattle.prop_store.proofs.WalkSteps.{fewer_passed, right_property, walk_after, walk_begins, walk_here, walk_over}
 use Rattle.prop_store.proofs.Causes.{cause_passed}
+use Rattle.rec_bytes.proofs.Causes.{never_ok, ok_cause}
 use Rattle.prop_store.proofs.finding.find_from.Goals as goal
 
 pub loop-count-init : goal.loop-count-init
@@ -154,3 +155,27 @@ returns-in_err-property_at-clause-cause g c =
 pub returns-in_err-property_at-clause-onward : goal.returns-in_err-property_at-clause-onward
 returns-in_err-property_at-clause-onward g c =
     g.met.R.Reads.further_onward _ _ _ c.loop-count.invariant.onward c.in_err-property_at.ensures.onward
+
+pub returns-then-at-clause-cause : goal.returns-then-at-clause-cause
+returns-then-at-clause-cause g c = ok_cause _ _ _ _ (omega arith)
+
+pub returns-in_err-property_at-clause-found : goal.returns-in_err-property_at-clause-found
+returns-in_err-property_at-clause-found g c _ _ _ = never_ok c.from_residual.result _ _ c.from_residual.ensures.1
+
+pub returns-in_err-property_at-clause-met : goal.returns-in_err-property_at-clause-met
+returns-in_err-property_at-clause-met g c _ = never_ok c.from_residual.result _ _ c.from_residual.ensures.1
+
+pub returns-in_err-property_at-clause-read : goal.returns-in_err-property_at-clause-read
+returns-in_err-property_at-clause-read g c _ = never_ok c.from_residual.result _ _ c.from_residual.ensures.1
+
+pub returns-in_err-property_at-clause-placed : goal.returns-in_err-property_at-clause-placed
+returns-in_err-property_at-clause-placed g c = never_ok c.from_residual.result _ _ c.from_residual.ensures.1
+
+pub returns-in_err-property_at-clause-cost : goal.returns-in_err-property_at-clause-cost
+returns-in_err-property_at-clause-cost g c _ _ _ = never_ok c.from_residual.result _ _ c.from_residual.ensures.1
+
+pub returns-then-number-key-clause-cause : goal.returns-then-number-key-clause-cause
+returns-then-number-key-clause-cause g c = ok_cause _ _ _ _ (omega arith)
+
+pub returns-clause-cause : goal.returns-clause-cause
+returns-clause-cause g c = ok_cause _ _ _ _ (omega arith)

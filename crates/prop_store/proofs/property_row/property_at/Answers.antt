@@ -1,4 +1,4 @@
-use Rattle.std.proofs.Common.{◌≡◌, ◌<◌, ℕ, sym, ap, ◌∙◌, subst, arith}
+use Rattle.std.proofs.Common.{◌≡◌, ◌<◌, ℕ, sym, ap, ◌∙◌, subst, arith, rules}
 use Rattle.std.proofs.lemmas.Result.{err_from_is_err_and}
 use Rattle.rec_bytes.specs.Format.{kind, properties_file}
 use Rattle.rec_bytes.specs.Record.{field}
@@ -14,6 +14,7 @@ use Rattle.prop_store.specs.PropertyRow.{BadLink, HasContent, IsRowFault, Unknow
 use Rattle.prop_store.proofs.Breaches.{link_cause}
 use Rattle.prop_store.proofs.Meanings.{no_form}
 use Rattle.prop_store.proofs.ReadCounts.{reads_none, reads_one}
+use Rattle.rec_bytes.proofs.Causes.{never_ok, ok_cause}
 use Rattle.prop_store.proofs.property_row.property_at.Goals as goal
 
 pub returns-in_err-test_link-clause-at_most : goal.returns-in_err-test_link-clause-at_most
@@ -69,3 +70,33 @@ returns-in-Some-clause-read g c tells =
     let s = g.R.Reads.state c.args.space.now in
     let got = c.in_ok-get_into.ensures.got tells in
     record { used = λ e. c.if-byte-eq-FREE.false (c.byte.ensures ∙ sym (kind_read s c.args.id c.get_into.new.rec c.in_ok-test_link.ensures.given.low got) ∙ e); rec_is = got }
+
+pub returns-in_err-test_link-clause-row : goal.returns-in_err-test_link-clause-row
+returns-in_err-test_link-clause-row g c = never_ok c.from_residual.result _ _ c.from_residual.ensures.1
+
+pub returns-in_err-test_link-clause-got : goal.returns-in_err-test_link-clause-got
+returns-in_err-test_link-clause-got g c _ = never_ok c.from_residual.result _ _ c.from_residual.ensures.1
+
+pub returns-in_err-test_link-clause-read : goal.returns-in_err-test_link-clause-read
+returns-in_err-test_link-clause-read g c _ = never_ok c.from_residual.result _ _ c.from_residual.ensures.1
+
+pub returns-in_err-test_link-clause-state : goal.returns-in_err-test_link-clause-state
+returns-in_err-test_link-clause-state g c = never_ok c.from_residual.result _ _ c.from_residual.ensures.1
+
+pub returns-in_err-test_link-clause-onward : goal.returns-in_err-test_link-clause-onward
+returns-in_err-test_link-clause-onward g c = search rules
+
+pub returns-in_err-get_into-clause-row : goal.returns-in_err-get_into-clause-row
+returns-in_err-get_into-clause-row g c = never_ok c.from_residual-in_err-get_into.result _ _ c.from_residual-in_err-get_into.ensures.1
+
+pub returns-in_err-get_into-clause-got : goal.returns-in_err-get_into-clause-got
+returns-in_err-get_into-clause-got g c _ = never_ok c.from_residual-in_err-get_into.result _ _ c.from_residual-in_err-get_into.ensures.1
+
+pub returns-in_err-get_into-clause-read : goal.returns-in_err-get_into-clause-read
+returns-in_err-get_into-clause-read g c _ = never_ok c.from_residual-in_err-get_into.result _ _ c.from_residual-in_err-get_into.ensures.1
+
+pub returns-in_err-get_into-clause-state : goal.returns-in_err-get_into-clause-state
+returns-in_err-get_into-clause-state g c = never_ok c.from_residual-in_err-get_into.result _ _ c.from_residual-in_err-get_into.ensures.1
+
+pub returns-in-Some-clause-cause : goal.returns-in-Some-clause-cause
+returns-in-Some-clause-cause g c = ok_cause _ _ _ _ (omega arith)

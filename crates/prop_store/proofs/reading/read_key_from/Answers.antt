@@ -1,4 +1,4 @@
-use Rattle.std.proofs.Common.{◌+◌, length, arith, ap, sym, ◌∙◌, subst}
+use Rattle.std.proofs.Common.{◌+◌, length, arith, ap, sym, ◌∙◌, subst, rules}
 use Rattle.std.proofs.lemmas.Result.{err_from_is_err_and}
 use Rattle.rec_bytes.specs.Space.{State}
 use Rattle.store_rules.specs.Properties.{first_property}
@@ -14,6 +14,7 @@ use Rattle.prop_store.proofs.Exits.{same_has}
 use Rattle.prop_store.proofs.ReadCounts.{reads_more, reads_records, reads_same, reads_then}
 use Rattle.prop_store.proofs.WalkSteps.{blocks_given, has_value}
 use Rattle.prop_store.proofs.Causes.{cause_passed}
+use Rattle.rec_bytes.proofs.Causes.{never_ok, ok_cause}
 use Rattle.prop_store.proofs.reading.read_key_from.Goals as goal
 
 pub returns-in-Absent-clause-cost : goal.returns-in-Absent-clause-cost
@@ -79,3 +80,42 @@ returns-in_err-value-in-Found-clause-onward g c =
 pub returns-in_ok-value-in-Found-clause-onward : goal.returns-in_ok-value-in-Found-clause-onward
 returns-in_ok-value-in-Found-clause-onward g c =
     g.met.R.Reads.further_onward _ _ _ c.in_ok-find_from.ensures.onward c.in_ok-value-in-Found.ensures.onward
+
+pub returns-in_err-find_from-clause-read : goal.returns-in_err-find_from-clause-read
+returns-in_err-find_from-clause-read g c _ _ _ = never_ok c.from_residual.result _ _ c.from_residual.ensures.1
+
+pub returns-in_err-find_from-clause-met : goal.returns-in_err-find_from-clause-met
+returns-in_err-find_from-clause-met g c _ = never_ok c.from_residual.result _ _ c.from_residual.ensures.1
+
+pub returns-in_err-find_from-clause-kept : goal.returns-in_err-find_from-clause-kept
+returns-in_err-find_from-clause-kept g c = never_ok c.from_residual.result _ _ c.from_residual.ensures.1
+
+pub returns-in_err-find_from-clause-cost : goal.returns-in_err-find_from-clause-cost
+returns-in_err-find_from-clause-cost g c _ _ _ = never_ok c.from_residual.result _ _ c.from_residual.ensures.1
+
+pub returns-in_err-find_from-clause-reads : goal.returns-in_err-find_from-clause-reads
+returns-in_err-find_from-clause-reads g c = never_ok c.from_residual.result _ _ c.from_residual.ensures.1
+
+pub returns-in_err-find_from-clause-onward : goal.returns-in_err-find_from-clause-onward
+returns-in_err-find_from-clause-onward g c = search rules
+
+pub returns-in_err-value-in-Found-clause-read : goal.returns-in_err-value-in-Found-clause-read
+returns-in_err-value-in-Found-clause-read g c _ _ _ = never_ok c.from_residual-in_err-value-in-Found.result _ _ c.from_residual-in_err-value-in-Found.ensures.1
+
+pub returns-in_err-value-in-Found-clause-met : goal.returns-in_err-value-in-Found-clause-met
+returns-in_err-value-in-Found-clause-met g c _ = never_ok c.from_residual-in_err-value-in-Found.result _ _ c.from_residual-in_err-value-in-Found.ensures.1
+
+pub returns-in_err-value-in-Found-clause-kept : goal.returns-in_err-value-in-Found-clause-kept
+returns-in_err-value-in-Found-clause-kept g c = never_ok c.from_residual-in_err-value-in-Found.result _ _ c.from_residual-in_err-value-in-Found.ensures.1
+
+pub returns-in_err-value-in-Found-clause-cost : goal.returns-in_err-value-in-Found-clause-cost
+returns-in_err-value-in-Found-clause-cost g c _ _ _ = never_ok c.from_residual-in_err-value-in-Found.result _ _ c.from_residual-in_err-value-in-Found.ensures.1
+
+pub returns-in_err-value-in-Found-clause-reads : goal.returns-in_err-value-in-Found-clause-reads
+returns-in_err-value-in-Found-clause-reads g c = never_ok c.from_residual-in_err-value-in-Found.result _ _ c.from_residual-in_err-value-in-Found.ensures.1
+
+pub returns-in-Absent-clause-cause : goal.returns-in-Absent-clause-cause
+returns-in-Absent-clause-cause g c = ok_cause _ _ _ _ (omega arith)
+
+pub returns-in_ok-value-in-Found-clause-cause : goal.returns-in_ok-value-in-Found-clause-cause
+returns-in_ok-value-in-Found-clause-cause g c = ok_cause _ _ _ _ (omega arith)

@@ -5,6 +5,7 @@ use Rattle.prop_store.proofs.FileSteps.{beside_then}
 use Rattle.prop_store.proofs.ListLaws.{drop_step, in_at}
 use Rattle.prop_store.proofs.ReleaseSteps.{beside_given, one_given}
 use Rattle.prop_store.proofs.Touches.{only_given}
+use Rattle.rec_bytes.proofs.Causes.{never_ok, ok_cause}
 use Rattle.prop_store.proofs.releasing.release.Goals as goal
 
 pub give-requires-clause-key : goal.give-requires-clause-key
@@ -31,3 +32,15 @@ loop-id-preserved g c =
       onward = g.met.S.Reads.further_onward _ _ _ c.loop-id.invariant.onward c.give.ensures.onward;
       later = omega (arith, c.loop-id.invariant.later, c.give.ensures.cause.later);
     }
+
+pub returns-in_err-give-clause-released : goal.returns-in_err-give-clause-released
+returns-in_err-give-clause-released g c _ = never_ok c.from_residual.result _ _ c.from_residual.ensures.1
+
+pub returns-in_err-give-clause-freed : goal.returns-in_err-give-clause-freed
+returns-in_err-give-clause-freed g c _ = never_ok c.from_residual.result _ _ c.from_residual.ensures.1
+
+pub returns-in_err-give-clause-beside : goal.returns-in_err-give-clause-beside
+returns-in_err-give-clause-beside g c _ = never_ok c.from_residual.result _ _ c.from_residual.ensures.1
+
+pub returns-clause-cause : goal.returns-clause-cause
+returns-clause-cause g c = ok_cause _ _ _ _ (omega arith)

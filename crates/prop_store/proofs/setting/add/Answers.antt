@@ -1,4 +1,4 @@
-use Rattle.std.proofs.Common.{◌≡◌, ◌≢◌, ◌<◌, [], length, ap, sym, subst, ◌∙◌, inl, arith, ◌+◌, ◌∷◌, refl}
+use Rattle.std.proofs.Common.{◌≡◌, ◌≢◌, ◌<◌, [], length, ap, sym, subst, ◌∙◌, inl, arith, ◌+◌, ◌∷◌, refl, rules}
 use Rattle.std.proofs.lemmas.Result.{IfErr-weaker, err_from_is_err_and}
 use Rattle.std.specs.FinMap as maps
 use Rattle.plain_graph.specs.Properties.{blocks_of}
@@ -22,6 +22,7 @@ use Rattle.prop_store.proofs.Touches.{touches_after, touches_beside, touches_own
 use Rattle.prop_store.proofs.WriteCounts.{touched_beside}
 use Rattle.prop_store.proofs.Causes.{later_on}
 use Rattle.prop_store.proofs.SetCauses.{set_cause_passed, space_set_cause}
+use Rattle.rec_bytes.proofs.Causes.{never_ok, ok_cause}
 use Rattle.prop_store.proofs.setting.add.Goals as goal
 
 -- as few are listed
@@ -205,3 +206,36 @@ returns-clause-onward g c =
     g.met.S.Reads.further_onward _ _ _
     (g.met.S.Reads.further_onward _ _ _ c.in_ok-next.ensures.onward c.in_ok-id.ensures.onward)
     c.in_ok-set_number.ensures.onward
+
+pub returns-in_err-next-clause-added : goal.returns-in_err-next-clause-added
+returns-in_err-next-clause-added g c _ = never_ok c.from_residual.result _ _ c.from_residual.ensures.1
+
+pub returns-in_err-next-clause-alone : goal.returns-in_err-next-clause-alone
+returns-in_err-next-clause-alone g c _ _ _ _ _ _ = never_ok c.from_residual.result _ _ c.from_residual.ensures.1
+
+pub returns-in_err-next-clause-writes : goal.returns-in_err-next-clause-writes
+returns-in_err-next-clause-writes g c = never_ok c.from_residual.result _ _ c.from_residual.ensures.1
+
+pub returns-in_err-next-clause-onward : goal.returns-in_err-next-clause-onward
+returns-in_err-next-clause-onward g c = search rules
+
+pub returns-in_err-id-clause-added : goal.returns-in_err-id-clause-added
+returns-in_err-id-clause-added g c _ = never_ok c.from_residual-in_err-id.result _ _ c.from_residual-in_err-id.ensures.1
+
+pub returns-in_err-id-clause-alone : goal.returns-in_err-id-clause-alone
+returns-in_err-id-clause-alone g c _ _ _ _ _ _ = never_ok c.from_residual-in_err-id.result _ _ c.from_residual-in_err-id.ensures.1
+
+pub returns-in_err-id-clause-writes : goal.returns-in_err-id-clause-writes
+returns-in_err-id-clause-writes g c = never_ok c.from_residual-in_err-id.result _ _ c.from_residual-in_err-id.ensures.1
+
+pub returns-in_err-set_number-clause-added : goal.returns-in_err-set_number-clause-added
+returns-in_err-set_number-clause-added g c _ = never_ok c.from_residual-in_err-set_number.result _ _ c.from_residual-in_err-set_number.ensures.1
+
+pub returns-in_err-set_number-clause-alone : goal.returns-in_err-set_number-clause-alone
+returns-in_err-set_number-clause-alone g c _ _ _ _ _ _ = never_ok c.from_residual-in_err-set_number.result _ _ c.from_residual-in_err-set_number.ensures.1
+
+pub returns-in_err-set_number-clause-writes : goal.returns-in_err-set_number-clause-writes
+returns-in_err-set_number-clause-writes g c = never_ok c.from_residual-in_err-set_number.result _ _ c.from_residual-in_err-set_number.ensures.1
+
+pub returns-clause-cause : goal.returns-clause-cause
+returns-clause-cause g c = ok_cause _ _ _ _ (omega arith)

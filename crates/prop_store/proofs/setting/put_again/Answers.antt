@@ -1,4 +1,4 @@
-use Rattle.std.proofs.Common.{◌∙◌, ◌+◌, ℕ, List, [], length, ap, arith, refl, subst, sym}
+use Rattle.std.proofs.Common.{◌∙◌, ◌+◌, ℕ, List, [], length, ap, arith, refl, subst, sym, rules}
 use Rattle.std.proofs.lemmas.Result.{err_from_is_err_and}
 use Rattle.plain_graph.specs.Properties.{blocks_of}
 use Rattle.rec_bytes.specs.Format.{property_key, property_next}
@@ -20,6 +20,7 @@ use Rattle.prop_store.proofs.ReadCounts.{reads_records, reads_same}
 use Rattle.prop_store.proofs.Touches.{touches_freed, touches_more, touches_reads, touches_same}
 use Rattle.prop_store.proofs.Causes.{later_on}
 use Rattle.prop_store.proofs.SetCauses.{space_set_cause}
+use Rattle.rec_bytes.proofs.Causes.{never_ok, ok_cause}
 use Rattle.prop_store.proofs.setting.put_again.Goals as goal
 
 pub returns-in_err-blocks-clause-refused : goal.returns-in_err-blocks-clause-refused
@@ -217,3 +218,54 @@ returns-in_err-release-clause-cause g c =
 pub returns-in_err-put-clause-cause : goal.returns-in_err-put-clause-cause
 returns-in_err-put-clause-cause g c =
     space_set_cause _ _ _ c.from_residual-in_err-put.result c.in_err-put.field-0.0 (later_on (later_on c.in_ok-blocks.ensures.cause.later c.in_ok-release.ensures.cause.later) c.in_ok-first.ensures.cause.later) c.in_err-put.ensures.cause c.from_residual-in_err-put.ensures.1
+
+pub returns-in_err-blocks-clause-put : goal.returns-in_err-blocks-clause-put
+returns-in_err-blocks-clause-put g c _ _ _ _ = never_ok c.from_residual.result _ _ c.from_residual.ensures.1
+
+pub returns-in_err-blocks-clause-few : goal.returns-in_err-blocks-clause-few
+returns-in_err-blocks-clause-few g c = never_ok c.from_residual.result _ _ c.from_residual.ensures.1
+
+pub returns-in_err-blocks-clause-touches : goal.returns-in_err-blocks-clause-touches
+returns-in_err-blocks-clause-touches g c = never_ok c.from_residual.result _ _ c.from_residual.ensures.1
+
+pub returns-in_err-blocks-clause-onward : goal.returns-in_err-blocks-clause-onward
+returns-in_err-blocks-clause-onward g c = search rules
+
+pub returns-in_err-test_free-clause-put : goal.returns-in_err-test_free-clause-put
+returns-in_err-test_free-clause-put g c _ _ _ _ = never_ok c.from_residual-in_err-test_free.result _ _ c.from_residual-in_err-test_free.ensures.1
+
+pub returns-in_err-test_free-clause-few : goal.returns-in_err-test_free-clause-few
+returns-in_err-test_free-clause-few g c = never_ok c.from_residual-in_err-test_free.result _ _ c.from_residual-in_err-test_free.ensures.1
+
+pub returns-in_err-test_free-clause-touches : goal.returns-in_err-test_free-clause-touches
+returns-in_err-test_free-clause-touches g c = never_ok c.from_residual-in_err-test_free.result _ _ c.from_residual-in_err-test_free.ensures.1
+
+pub returns-in_err-release-clause-put : goal.returns-in_err-release-clause-put
+returns-in_err-release-clause-put g c _ _ _ _ = never_ok c.from_residual-in_err-release.result _ _ c.from_residual-in_err-release.ensures.1
+
+pub returns-in_err-release-clause-few : goal.returns-in_err-release-clause-few
+returns-in_err-release-clause-few g c = never_ok c.from_residual-in_err-release.result _ _ c.from_residual-in_err-release.ensures.1
+
+pub returns-in_err-release-clause-touches : goal.returns-in_err-release-clause-touches
+returns-in_err-release-clause-touches g c = never_ok c.from_residual-in_err-release.result _ _ c.from_residual-in_err-release.ensures.1
+
+pub returns-in_err-first-clause-put : goal.returns-in_err-first-clause-put
+returns-in_err-first-clause-put g c _ _ _ _ = never_ok c.from_residual-in_err-first.result _ _ c.from_residual-in_err-first.ensures.1
+
+pub returns-in_err-first-clause-few : goal.returns-in_err-first-clause-few
+returns-in_err-first-clause-few g c = never_ok c.from_residual-in_err-first.result _ _ c.from_residual-in_err-first.ensures.1
+
+pub returns-in_err-first-clause-touches : goal.returns-in_err-first-clause-touches
+returns-in_err-first-clause-touches g c = never_ok c.from_residual-in_err-first.result _ _ c.from_residual-in_err-first.ensures.1
+
+pub returns-in_err-put-clause-put : goal.returns-in_err-put-clause-put
+returns-in_err-put-clause-put g c _ _ _ _ = never_ok c.from_residual-in_err-put.result _ _ c.from_residual-in_err-put.ensures.1
+
+pub returns-in_err-put-clause-few : goal.returns-in_err-put-clause-few
+returns-in_err-put-clause-few g c = never_ok c.from_residual-in_err-put.result _ _ c.from_residual-in_err-put.ensures.1
+
+pub returns-in_err-put-clause-touches : goal.returns-in_err-put-clause-touches
+returns-in_err-put-clause-touches g c = never_ok c.from_residual-in_err-put.result _ _ c.from_residual-in_err-put.ensures.1
+
+pub returns-clause-cause : goal.returns-clause-cause
+returns-clause-cause g c = ok_cause _ _ _ _ (omega arith)

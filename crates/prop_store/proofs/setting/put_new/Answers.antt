@@ -1,4 +1,4 @@
-use Rattle.std.proofs.Common.{◌≡◌, [], arith, subst}
+use Rattle.std.proofs.Common.{◌≡◌, [], arith, subst, rules}
 use Rattle.std.proofs.lemmas.Result.{err_from_is_err_and}
 use Rattle.plain_graph.specs.Properties.{blocks_of}
 use Rattle.rec_bytes.specs.Format.{properties_file}
@@ -12,6 +12,7 @@ use Rattle.prop_store.proofs.PutTouches.{touches_new, touches_text, touches_text
 use Rattle.prop_store.proofs.Touches.{touches_more, touches_same}
 use Rattle.prop_store.proofs.Causes.{later_on}
 use Rattle.prop_store.proofs.SetCauses.{space_set_cause}
+use Rattle.rec_bytes.proofs.Causes.{never_ok, ok_cause}
 use Rattle.prop_store.proofs.setting.put_new.Goals as goal
 
 pub returns-in_err-id-clause-refused : goal.returns-in_err-id-clause-refused
@@ -125,3 +126,18 @@ returns-in_err-put-clause-still g c tells =
 pub returns-in_err-put-clause-cause : goal.returns-in_err-put-clause-cause
 returns-in_err-put-clause-cause g c =
     space_set_cause _ _ _ c.from_residual-in_err-put.result c.in_err-put.field-0.0 (later_on c.in_ok-first.ensures.cause.later c.in_ok-id.ensures.cause.later) c.in_err-put.ensures.cause c.from_residual-in_err-put.ensures.1
+
+pub returns-in_err-first-clause-put : goal.returns-in_err-first-clause-put
+returns-in_err-first-clause-put g c _ = never_ok c.from_residual.result _ _ c.from_residual.ensures.1
+
+pub returns-in_err-first-clause-onward : goal.returns-in_err-first-clause-onward
+returns-in_err-first-clause-onward g c = search rules
+
+pub returns-in_err-id-clause-put : goal.returns-in_err-id-clause-put
+returns-in_err-id-clause-put g c _ = never_ok c.from_residual-in_err-id.result _ _ c.from_residual-in_err-id.ensures.1
+
+pub returns-in_err-put-clause-put : goal.returns-in_err-put-clause-put
+returns-in_err-put-clause-put g c _ = never_ok c.from_residual-in_err-put.result _ _ c.from_residual-in_err-put.ensures.1
+
+pub returns-clause-cause : goal.returns-clause-cause
+returns-clause-cause g c = ok_cause _ _ _ _ (omega arith)

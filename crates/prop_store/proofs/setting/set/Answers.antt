@@ -1,5 +1,5 @@
 use Rattle.std.specs.Prelude.{Result, Ok, Err, IfOk}
-use Rattle.std.proofs.Common.{◌≡◌, ◌+◌, ◌<◌, ℕ, List, ◌∷◌, [], length, sym, ap, ◌∙◌, subst, arith}
+use Rattle.std.proofs.Common.{◌≡◌, ◌+◌, ◌<◌, ℕ, List, ◌∷◌, [], length, sym, ap, ◌∙◌, subst, arith, rules}
 use Rattle.std.proofs.lemmas.Result.{IfErr-weaker, IfOk-weaker, err_from_is_err_and}
 use Rattle.plain_graph.specs.Properties.{blocks_of}
 use Rattle.rec_bytes.specs.Format.{property_key, property_next}
@@ -27,6 +27,7 @@ use Rattle.prop_store.proofs.ReadCounts.{reads_records, reads_same, same_then}
 use Rattle.prop_store.proofs.Touches.{touches_after, touches_beside, touches_more, touches_reads}
 use Rattle.prop_store.proofs.WriteCounts.{beside_writes, touched_beside}
 use Rattle.prop_store.proofs.SetCauses.{set_cause_passed}
+use Rattle.rec_bytes.proofs.Causes.{never_ok, ok_cause}
 use Rattle.prop_store.proofs.setting.set.Goals as goal
 use Rattle.prop_store.proofs.setting.set.Goals.{After-put_again}
 use Rattle.prop_store.proofs.setting.set.Given.{Over}
@@ -309,3 +310,39 @@ returns-in_err-add-in-Absent-clause-onward g c =
 pub returns-in_ok-add-in-Absent-clause-onward : goal.returns-in_ok-add-in-Absent-clause-onward
 returns-in_ok-add-in-Absent-clause-onward g c =
     g.met.S.Reads.further_onward _ _ _ c.in_ok-count.ensures.onward c.in_ok-add-in-Absent.ensures.onward
+
+pub returns-in_err-count-clause-set : goal.returns-in_err-count-clause-set
+returns-in_err-count-clause-set g c _ = never_ok c.from_residual.result _ _ c.from_residual.ensures.1
+
+pub returns-in_err-count-clause-alone : goal.returns-in_err-count-clause-alone
+returns-in_err-count-clause-alone g c _ _ _ _ = never_ok c.from_residual.result _ _ c.from_residual.ensures.1
+
+pub returns-in_err-count-clause-few : goal.returns-in_err-count-clause-few
+returns-in_err-count-clause-few g c = never_ok c.from_residual.result _ _ c.from_residual.ensures.1
+
+pub returns-in_err-count-clause-writes : goal.returns-in_err-count-clause-writes
+returns-in_err-count-clause-writes g c = never_ok c.from_residual.result _ _ c.from_residual.ensures.1
+
+pub returns-in_err-count-clause-touches : goal.returns-in_err-count-clause-touches
+returns-in_err-count-clause-touches g c = never_ok c.from_residual.result _ _ c.from_residual.ensures.1
+
+pub returns-in_err-count-clause-onward : goal.returns-in_err-count-clause-onward
+returns-in_err-count-clause-onward g c = search rules
+
+pub returns-in_err-add-in-Absent-clause-set : goal.returns-in_err-add-in-Absent-clause-set
+returns-in_err-add-in-Absent-clause-set g c _ = never_ok c.from_residual-in_err-add-in-Absent.result _ _ c.from_residual-in_err-add-in-Absent.ensures.1
+
+pub returns-in_err-add-in-Absent-clause-alone : goal.returns-in_err-add-in-Absent-clause-alone
+returns-in_err-add-in-Absent-clause-alone g c _ _ _ _ = never_ok c.from_residual-in_err-add-in-Absent.result _ _ c.from_residual-in_err-add-in-Absent.ensures.1
+
+pub returns-in_err-add-in-Absent-clause-few : goal.returns-in_err-add-in-Absent-clause-few
+returns-in_err-add-in-Absent-clause-few g c = never_ok c.from_residual-in_err-add-in-Absent.result _ _ c.from_residual-in_err-add-in-Absent.ensures.1
+
+pub returns-in_err-add-in-Absent-clause-writes : goal.returns-in_err-add-in-Absent-clause-writes
+returns-in_err-add-in-Absent-clause-writes g c = never_ok c.from_residual-in_err-add-in-Absent.result _ _ c.from_residual-in_err-add-in-Absent.ensures.1
+
+pub returns-in_err-add-in-Absent-clause-touches : goal.returns-in_err-add-in-Absent-clause-touches
+returns-in_err-add-in-Absent-clause-touches g c = never_ok c.from_residual-in_err-add-in-Absent.result _ _ c.from_residual-in_err-add-in-Absent.ensures.1
+
+pub returns-in_ok-add-in-Absent-clause-cause : goal.returns-in_ok-add-in-Absent-clause-cause
+returns-in_ok-add-in-Absent-clause-cause g c = ok_cause _ _ _ _ (omega arith)

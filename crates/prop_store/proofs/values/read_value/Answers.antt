@@ -1,4 +1,4 @@
-use Rattle.std.proofs.Common.{arith, ap, ◌∙◌, ◌≡◌, ◌≤◌, ℕ, List, Some, length, subst}
+use Rattle.std.proofs.Common.{arith, ap, ◌∙◌, ◌≡◌, ◌≤◌, ℕ, List, Some, length, subst, rules}
 use Rattle.rec_bytes.specs.Format.{property_text}
 use Rattle.rec_bytes.proofs.Texts.{length-text_in}
 use Rattle.prop_store.specs.Form.{FormFits}
@@ -6,6 +6,7 @@ use Rattle.prop_store.specs.Blocks.{IsTextFault}
 use Rattle.prop_store.proofs.Breaches.{text_of_row}
 use Rattle.prop_store.proofs.Exits.{same_has}
 use Rattle.prop_store.proofs.ReadCounts.{reads_none}
+use Rattle.rec_bytes.proofs.Causes.{never_ok, ok_cause}
 use Rattle.prop_store.proofs.values.read_value.Goals as goal
 
 pub returns-in_err-bytes-in-Inline-clause-at_most : goal.returns-in_err-bytes-in-Inline-clause-at_most
@@ -41,3 +42,36 @@ returns-in_err-bytes-in-Long-clause-damaged g c tells read =
     let old = g.R.Reads.state c.args.space.now in
     same_has (IsTextFault old c.args.row.now.id) c.from_residual-in_err-bytes-in-Long.result c.in_err-bytes-in-Long.field-0.0 c.from_residual-in_err-bytes-in-Long.ensures.1
     (c.in_err-bytes-in-Long.ensures.damaged tells (text_of_row old.records c.args.row.now c.in-Long.size c.in-Long.first c.requires.form_is c.in-Long.is read))
+
+pub returns-in_err-bytes-in-Inline-clause-met : goal.returns-in_err-bytes-in-Inline-clause-met
+returns-in_err-bytes-in-Inline-clause-met g c _ = never_ok c.from_residual.result _ _ c.from_residual.ensures.1
+
+pub returns-in_err-bytes-in-Inline-clause-kept : goal.returns-in_err-bytes-in-Inline-clause-kept
+returns-in_err-bytes-in-Inline-clause-kept g c = never_ok c.from_residual.result _ _ c.from_residual.ensures.1
+
+pub returns-in_err-bytes-in-Inline-clause-reads : goal.returns-in_err-bytes-in-Inline-clause-reads
+returns-in_err-bytes-in-Inline-clause-reads g c = never_ok c.from_residual.result _ _ c.from_residual.ensures.1
+
+pub returns-in_err-bytes-in-Inline-clause-onward : goal.returns-in_err-bytes-in-Inline-clause-onward
+returns-in_err-bytes-in-Inline-clause-onward g c = search rules
+
+pub returns-in_err-bytes-in-Long-clause-met : goal.returns-in_err-bytes-in-Long-clause-met
+returns-in_err-bytes-in-Long-clause-met g c _ = never_ok c.from_residual-in_err-bytes-in-Long.result _ _ c.from_residual-in_err-bytes-in-Long.ensures.1
+
+pub returns-in_err-bytes-in-Long-clause-kept : goal.returns-in_err-bytes-in-Long-clause-kept
+returns-in_err-bytes-in-Long-clause-kept g c = never_ok c.from_residual-in_err-bytes-in-Long.result _ _ c.from_residual-in_err-bytes-in-Long.ensures.1
+
+pub returns-in_err-bytes-in-Long-clause-reads : goal.returns-in_err-bytes-in-Long-clause-reads
+returns-in_err-bytes-in-Long-clause-reads g c = never_ok c.from_residual-in_err-bytes-in-Long.result _ _ c.from_residual-in_err-bytes-in-Long.ensures.1
+
+pub returns-in-Number-clause-cause : goal.returns-in-Number-clause-cause
+returns-in-Number-clause-cause g c = ok_cause _ _ _ _ (omega arith)
+
+pub returns-in-Truth-clause-cause : goal.returns-in-Truth-clause-cause
+returns-in-Truth-clause-cause g c = ok_cause _ _ _ _ (omega arith)
+
+pub returns-in_ok-bytes-in-Inline-clause-cause : goal.returns-in_ok-bytes-in-Inline-clause-cause
+returns-in_ok-bytes-in-Inline-clause-cause g c = ok_cause _ _ _ _ (omega arith)
+
+pub returns-in_ok-bytes-in-Long-clause-cause : goal.returns-in_ok-bytes-in-Long-clause-cause
+returns-in_ok-bytes-in-Long-clause-cause g c = ok_cause _ _ _ _ (omega arith)
