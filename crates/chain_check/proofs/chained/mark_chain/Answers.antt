@@ -1,10 +1,11 @@
-use Rattle.std.proofs.Common.{arith, ◌∙◌, ap, subst, sym}
+use Rattle.std.proofs.Common.{arith, ◌∙◌, ap, subst, sym, rules}
 use Rattle.rec_bytes.specs.Format.{nodes_file}
 use Rattle.store_rules.specs.Views.{Records}
 use Rattle.record_lists.proofs.RecordLaws.{kind_read}
 use Rattle.chain_check.specs.NodeChains.{IsDense}
 use Rattle.chain_check.proofs.ChainedLaws.{not_dense}
 use Rattle.record_lists.proofs.Causes.{cause_passed}
+use Rattle.rec_bytes.proofs.Causes.{never_ok}
 use Rattle.chain_check.proofs.chained.mark_chain.Goals as goal
 
 pub returns-then-byte-ne-DENSE-clause-marks : goal.returns-then-byte-ne-DENSE-clause-marks
@@ -22,3 +23,15 @@ mark_from-requires-clause-dense g c = λ tells.
 pub returns-in_err-rec-clause-cause : goal.returns-in_err-rec-clause-cause
 returns-in_err-rec-clause-cause g c =
     cause_passed _ _ _ c.from_residual.result c.in_err-rec.field-0.0 (omega arith) c.in_err-rec.ensures.cause c.from_residual.ensures.1
+
+pub returns-in_err-rec-clause-marks : goal.returns-in_err-rec-clause-marks
+returns-in_err-rec-clause-marks g c _ = never_ok c.from_residual.result _ _ c.from_residual.ensures.1
+
+pub returns-in_err-rec-clause-onward : goal.returns-in_err-rec-clause-onward
+returns-in_err-rec-clause-onward g c = search rules
+
+pub returns-in_err-rec-clause-same : goal.returns-in_err-rec-clause-same
+returns-in_err-rec-clause-same g c = search rules
+
+pub returns-in_err-rec-clause-written : goal.returns-in_err-rec-clause-written
+returns-in_err-rec-clause-written g c = search rules

@@ -1,4 +1,4 @@
-use Rattle.std.proofs.Common.{◌≡◌, ◌∙◌, ap, arith, refl, subst}
+use Rattle.std.proofs.Common.{◌≡◌, ◌∙◌, ap, arith, refl, subst, rules}
 use Rattle.rec_bytes.specs.declared.meta.Meta.{Meta}
 use Rattle.rec_bytes.specs.Format.{nodes_file}
 use Rattle.store_rules.specs.Breaking.{IsOwnedBy}
@@ -44,3 +44,9 @@ returns-clause-marks g c = λ t.
 pub returns-in_err-mark_chain-clause-cause : goal.returns-in_err-mark_chain-clause-cause
 returns-in_err-mark_chain-clause-cause g c =
     cause_passed _ _ _ c.from_residual.result c.in_err-mark_chain.field-0.0 c.loop-node.invariant.faults c.in_err-mark_chain.ensures.cause c.from_residual.ensures.1
+
+pub returns-in_err-mark_chain-clause-same : goal.returns-in_err-mark_chain-clause-same
+returns-in_err-mark_chain-clause-same g c = search (rules, c.loop-node.invariant)
+
+pub returns-in_err-mark_chain-clause-written : goal.returns-in_err-mark_chain-clause-written
+returns-in_err-mark_chain-clause-written g c = search (rules, c.loop-node.invariant)

@@ -5,6 +5,7 @@ use Rattle.record_lists.specs.Marks.{marked}
 use Rattle.chain_check.specs.Chained.{next_group}
 use Rattle.chain_check.proofs.ChainedLaws.{come_first, come_last, come_next, owned_low}
 use Rattle.record_lists.proofs.Causes.{cause_passed}
+use Rattle.rec_bytes.proofs.Causes.{never_ok}
 use Rattle.chain_check.proofs.chained.mark_from.Goals as goal
 
 pub loop-at-init : goal.loop-at-init
@@ -57,3 +58,12 @@ returns-after-loop-at-clause-marks g c = λ t.
 pub returns-in_err-next-clause-cause : goal.returns-in_err-next-clause-cause
 returns-in_err-next-clause-cause g c =
     cause_passed _ _ _ c.from_residual.result c.in_err-next.field-0.0 c.loop-at.invariant.faults c.in_err-next.ensures.cause c.from_residual.ensures.1
+
+pub returns-in_err-next-clause-marks : goal.returns-in_err-next-clause-marks
+returns-in_err-next-clause-marks g c _ = never_ok c.from_residual.result _ _ c.from_residual.ensures.1
+
+pub returns-in_err-next-clause-same : goal.returns-in_err-next-clause-same
+returns-in_err-next-clause-same g c = search (rules, c.loop-at.invariant)
+
+pub returns-in_err-next-clause-written : goal.returns-in_err-next-clause-written
+returns-in_err-next-clause-written g c = search (rules, c.loop-at.invariant)

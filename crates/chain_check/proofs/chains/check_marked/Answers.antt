@@ -7,6 +7,7 @@ use Rattle.chain_check.specs.NodeChains.{AreMet, RelHolds}
 use Rattle.chain_check.proofs.EndLaws.{all_keep, rel_holds, rel_kept}
 use Rattle.record_lists.proofs.DecidingLaws.{breaks_by}
 use Rattle.record_lists.proofs.Causes.{cause_passed}
+use Rattle.rec_bytes.proofs.Causes.{never_ok}
 use Rattle.chain_check.proofs.chains.check_marked.Goals as goal
 
 pub returns-in-Some-2-clause-decided : goal.returns-in-Some-2-clause-decided
@@ -37,3 +38,24 @@ returns-in_err-damage-clause-cause g c =
 pub returns-in_err-id-clause-cause : goal.returns-in_err-id-clause-cause
 returns-in_err-id-clause-cause g c =
     cause_passed _ _ _ c.from_residual-in_err-id.result c.in_err-id.field-0.0 c.in_ok-damage.ensures.cause.later c.in_err-id.ensures.cause c.from_residual-in_err-id.ensures.1
+
+pub returns-in_err-damage-clause-decided : goal.returns-in_err-damage-clause-decided
+returns-in_err-damage-clause-decided g c _ = never_ok c.from_residual.result _ _ c.from_residual.ensures.1
+
+pub returns-in_err-damage-clause-onward : goal.returns-in_err-damage-clause-onward
+returns-in_err-damage-clause-onward g c = search rules
+
+pub returns-in_err-id-clause-decided : goal.returns-in_err-id-clause-decided
+returns-in_err-id-clause-decided g c _ = never_ok c.from_residual-in_err-id.result _ _ c.from_residual-in_err-id.ensures.1
+
+pub returns-in_err-damage-clause-same : goal.returns-in_err-damage-clause-same
+returns-in_err-damage-clause-same g c = search rules
+
+pub returns-in_err-damage-clause-written : goal.returns-in_err-damage-clause-written
+returns-in_err-damage-clause-written g c = search rules
+
+pub returns-in_err-id-clause-same : goal.returns-in_err-id-clause-same
+returns-in_err-id-clause-same g c = search rules
+
+pub returns-in_err-id-clause-written : goal.returns-in_err-id-clause-written
+returns-in_err-id-clause-written g c = search rules

@@ -1,4 +1,4 @@
-use Rattle.std.proofs.Common.{arith, ◌≡◌, ◌<◌, ◌≤◌, ◌∙◌, ap, sym, inl, inr, ⊎_elim, refl}
+use Rattle.std.proofs.Common.{arith, ◌≡◌, ◌<◌, ◌≤◌, ◌∙◌, ap, sym, inl, inr, ⊎_elim, refl, rules}
 use Rattle.rec_bytes.specs.declared.meta.Meta.{Meta}
 use Rattle.rec_bytes.specs.Format.{nodes_file}
 use Rattle.store_rules.specs.Views.{high, kind_at, rec_at}
@@ -7,6 +7,8 @@ use Rattle.std.proofs.lemmas.Bool.{true≢false}
 use Rattle.store_rules.specs.Breaking.{HasChains}
 use Rattle.chain_check.specs.NodeChains.{EndHolds}
 use Rattle.record_lists.proofs.RecordLaws.{kind_read}
+use Rattle.rec_bytes.proofs.Causes.{never_ok}
+use Rattle.record_lists.proofs.Causes.{cause_passed}
 use Rattle.chain_check.proofs.chains.end_holds.Goals as goal
 
 pub returns-then-id-meta-clause-holds : goal.returns-then-id-meta-clause-holds
@@ -45,3 +47,19 @@ returns-else-kind-eq-DENSE-clause-holds g c = λ tells.
       }),
       (λ _. refl),
     )
+
+pub returns-in_err-rec-clause-holds : goal.returns-in_err-rec-clause-holds
+returns-in_err-rec-clause-holds g c _ = never_ok c.from_residual.result _ _ c.from_residual.ensures.1
+
+pub returns-in_err-rec-clause-onward : goal.returns-in_err-rec-clause-onward
+returns-in_err-rec-clause-onward g c = search rules
+
+pub returns-in_err-rec-clause-same : goal.returns-in_err-rec-clause-same
+returns-in_err-rec-clause-same g c = search rules
+
+pub returns-in_err-rec-clause-written : goal.returns-in_err-rec-clause-written
+returns-in_err-rec-clause-written g c = search rules
+
+pub returns-in_err-rec-clause-cause : goal.returns-in_err-rec-clause-cause
+returns-in_err-rec-clause-cause g c =
+    cause_passed _ _ _ c.from_residual.result c.in_err-rec.field-0.0 (omega arith) c.in_err-rec.ensures.cause c.from_residual.ensures.1

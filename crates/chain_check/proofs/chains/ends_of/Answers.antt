@@ -3,6 +3,7 @@ use Rattle.std.proofs.lemmas.Grind.{common_steps}
 use Rattle.std.proofs.lemmas.List.{take_all}
 use Rattle.chain_check.specs.NodeChains.{end_of}
 use Rattle.record_lists.proofs.Causes.{cause_passed}
+use Rattle.rec_bytes.proofs.Causes.{never_ok, ok_cause}
 use Rattle.chain_check.proofs.chains.ends_of.Goals as goal
 
 pub loop-id-init : goal.loop-id-init
@@ -55,3 +56,18 @@ returns-in_default-clause-cause g c = record {
   later = let later = c.in_ok-rec.ensures.cause.later in omega (arith, c.loop-id.invariant.faults, later);
   disk = λ blamed. absurd cc;
 }
+
+pub returns-in_err-rec-clause-ends : goal.returns-in_err-rec-clause-ends
+returns-in_err-rec-clause-ends g c _ = never_ok c.from_residual.result _ _ c.from_residual.ensures.1
+
+pub returns-in_err-rec-clause-low : goal.returns-in_err-rec-clause-low
+returns-in_err-rec-clause-low g c = never_ok c.from_residual.result _ _ c.from_residual.ensures.1
+
+pub returns-clause-cause : goal.returns-clause-cause
+returns-clause-cause g c = ok_cause _ _ _ _ (omega arith)
+
+pub returns-in_err-rec-clause-same : goal.returns-in_err-rec-clause-same
+returns-in_err-rec-clause-same g c = search (rules, c.loop-id.invariant)
+
+pub returns-in_err-rec-clause-written : goal.returns-in_err-rec-clause-written
+returns-in_err-rec-clause-written g c = search (rules, c.loop-id.invariant)

@@ -13,6 +13,7 @@ use Rattle.chain_check.proofs.EndLaws.{all_met, group_twice, head_of_keeps, head
 use Rattle.record_lists.proofs.HeadLaws.{told_clear}
 use Rattle.record_lists.proofs.DecidingLaws.{breaks_by}
 use Rattle.record_lists.proofs.Causes.{cause_passed}
+use Rattle.rec_bytes.proofs.Causes.{never_ok}
 use Rattle.chain_check.proofs.chains.mark_ends.Goals as goal
 
 pub returns-in-Some-Head-clause-broken : goal.returns-in-Some-Head-clause-broken
@@ -115,3 +116,30 @@ returns-in-Some-Item-2-clause-onward g c =
 pub returns-in-None-2-clause-onward : goal.returns-in-None-2-clause-onward
 returns-in-None-2-clause-onward g c =
     g.met.R.Reads.further_onward _ _ _ c.in_ok-id.ensures.onward c.in_ok-id-2.ensures.onward
+
+pub returns-in_err-id-clause-met : goal.returns-in_err-id-clause-met
+returns-in_err-id-clause-met g c _ = never_ok c.from_residual.result _ _ c.from_residual.ensures.1
+
+pub returns-in_err-id-clause-broken : goal.returns-in_err-id-clause-broken
+returns-in_err-id-clause-broken g c _ = never_ok c.from_residual.result _ _ c.from_residual.ensures.1
+
+pub returns-in_err-id-clause-onward : goal.returns-in_err-id-clause-onward
+returns-in_err-id-clause-onward g c = search rules
+
+pub returns-in_err-id-2-clause-met : goal.returns-in_err-id-2-clause-met
+returns-in_err-id-2-clause-met g c _ = never_ok c.from_residual-in_err-id-2.result _ _ c.from_residual-in_err-id-2.ensures.1
+
+pub returns-in_err-id-2-clause-broken : goal.returns-in_err-id-2-clause-broken
+returns-in_err-id-2-clause-broken g c _ = never_ok c.from_residual-in_err-id-2.result _ _ c.from_residual-in_err-id-2.ensures.1
+
+pub returns-in_err-id-clause-same : goal.returns-in_err-id-clause-same
+returns-in_err-id-clause-same g c = search rules
+
+pub returns-in_err-id-clause-written : goal.returns-in_err-id-clause-written
+returns-in_err-id-clause-written g c = search rules
+
+pub returns-in_err-id-2-clause-same : goal.returns-in_err-id-2-clause-same
+returns-in_err-id-2-clause-same g c = search rules
+
+pub returns-in_err-id-2-clause-written : goal.returns-in_err-id-2-clause-written
+returns-in_err-id-2-clause-written g c = search rules

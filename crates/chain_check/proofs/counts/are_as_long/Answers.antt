@@ -1,5 +1,6 @@
 use Rattle.std.proofs.Common.{arith, rules}
 use Rattle.record_lists.proofs.Causes.{cause_passed}
+use Rattle.rec_bytes.proofs.Causes.{never_ok}
 use Rattle.chain_check.proofs.counts.are_as_long.Goals as goal
 
 pub returns-in_err-out-clause-cause : goal.returns-in_err-out-clause-cause
@@ -40,3 +41,33 @@ returns-else-into-clause-onward g c =
     g.met.R.Reads.further_onward _ _ _
     (g.met.R.Reads.further_onward _ _ _ c.in_ok-out.ensures.onward c.in_ok-into.ensures.onward)
     c.in_ok-loops.ensures.onward
+
+pub returns-in_err-out-clause-told : goal.returns-in_err-out-clause-told
+returns-in_err-out-clause-told g c _ = never_ok c.from_residual.result _ _ c.from_residual.ensures.1
+
+pub returns-in_err-out-clause-onward : goal.returns-in_err-out-clause-onward
+returns-in_err-out-clause-onward g c = search rules
+
+pub returns-in_err-into-clause-told : goal.returns-in_err-into-clause-told
+returns-in_err-into-clause-told g c _ = never_ok c.from_residual-in_err-into.result _ _ c.from_residual-in_err-into.ensures.1
+
+pub returns-in_err-loops-clause-told : goal.returns-in_err-loops-clause-told
+returns-in_err-loops-clause-told g c _ = never_ok c.from_residual-in_err-loops.result _ _ c.from_residual-in_err-loops.ensures.1
+
+pub returns-in_err-out-clause-same : goal.returns-in_err-out-clause-same
+returns-in_err-out-clause-same g c = search rules
+
+pub returns-in_err-out-clause-written : goal.returns-in_err-out-clause-written
+returns-in_err-out-clause-written g c = search rules
+
+pub returns-in_err-into-clause-same : goal.returns-in_err-into-clause-same
+returns-in_err-into-clause-same g c = search rules
+
+pub returns-in_err-into-clause-written : goal.returns-in_err-into-clause-written
+returns-in_err-into-clause-written g c = search rules
+
+pub returns-in_err-loops-clause-same : goal.returns-in_err-loops-clause-same
+returns-in_err-loops-clause-same g c = search rules
+
+pub returns-in_err-loops-clause-written : goal.returns-in_err-loops-clause-written
+returns-in_err-loops-clause-written g c = search rules

@@ -1,9 +1,11 @@
-use Rattle.std.proofs.Common.{rules, ◌≡◌, length, nat_eq, ap, subst, ◌∙◌}
+use Rattle.std.proofs.Common.{rules, ◌≡◌, length, nat_eq, ap, subst, ◌∙◌, arith}
 use Rattle.rec_bytes.specs.Format as format
 use Rattle.rec_bytes.specs.Record.{field}
 use Rattle.record_lists.specs.Lines.{IsLineIn}
 use Rattle.chain_check.specs.NodeChains.{chain_line, side_at}
 use Rattle.chain_check.proofs.GroupCountLaws.{as_long}
+use Rattle.rec_bytes.proofs.Causes.{never_ok}
+use Rattle.record_lists.proofs.Causes.{cause_passed}
 use Rattle.chain_check.proofs.counts.is_as_long.Goals as goal
 
 pub returns-in-Some-clause-told : goal.returns-in-Some-clause-told
@@ -22,3 +24,19 @@ returns-in-Some-clause-told g c = λ tells.
     let size : c.len.result ≡ length ids = search rules in
     as_long records high r first c.args.count ids (nat_eq c.number-in-Some.result c.len.result) c.requires.high line
     (ap (λ n. nat_eq n c.len.result) c.number-in-Some.ensures ∙ ap (nat_eq (field 4 r c.args.count)) size)
+
+pub returns-in_err-ids-clause-told : goal.returns-in_err-ids-clause-told
+returns-in_err-ids-clause-told g c _ = never_ok c.from_residual.result _ _ c.from_residual.ensures.1
+
+pub returns-in_err-ids-clause-onward : goal.returns-in_err-ids-clause-onward
+returns-in_err-ids-clause-onward g c = search rules
+
+pub returns-in_err-ids-clause-same : goal.returns-in_err-ids-clause-same
+returns-in_err-ids-clause-same g c = search rules
+
+pub returns-in_err-ids-clause-written : goal.returns-in_err-ids-clause-written
+returns-in_err-ids-clause-written g c = search rules
+
+pub returns-in_err-ids-clause-cause : goal.returns-in_err-ids-clause-cause
+returns-in_err-ids-clause-cause g c =
+    cause_passed _ _ _ c.from_residual.result c.in_err-ids.field-0.0 (omega arith) c.in_err-ids.ensures.cause c.from_residual.ensures.1

@@ -9,6 +9,8 @@ use Rattle.store_rules.specs.Breaking.Breaks.{WrongDegree}
 use Rattle.chain_check.specs.Degrees.{HasDegree}
 use Rattle.chain_check.proofs.DegreeLaws.{are_counted}
 use Rattle.record_lists.proofs.DecidingLaws.{breaks_by}
+use Rattle.rec_bytes.proofs.Causes.{never_ok, ok_cause}
+use Rattle.record_lists.proofs.Causes.{cause_passed}
 use Rattle.chain_check.proofs.degrees.check_degrees.Goals as goal
 
 pub returns-in-Some-clause-decided : goal.returns-in-Some-clause-decided
@@ -43,3 +45,36 @@ returns-clause-decided g c = λ tells.
     let z = kind_high (high s.records nodes_file) (rec_at s.records nodes_file n) n ge in
     record { exact = λ live. absurd (live z); few = λ (is : kind_at s.records nodes_file n ≡ 1). absurd (let e : 0 ≡ 1 = sym z ∙ is in omega arith) })
     (cases_lt n (high s.records nodes_file)))
+
+pub returns-in_err-degrees-clause-decided : goal.returns-in_err-degrees-clause-decided
+returns-in_err-degrees-clause-decided g c _ = never_ok c.from_residual.result _ _ c.from_residual.ensures.1
+
+pub returns-in_err-degrees-clause-onward : goal.returns-in_err-degrees-clause-onward
+returns-in_err-degrees-clause-onward g c = search rules
+
+pub returns-in_err-id-clause-decided : goal.returns-in_err-id-clause-decided
+returns-in_err-id-clause-decided g c _ = never_ok c.from_residual-in_err-id.result _ _ c.from_residual-in_err-id.ensures.1
+
+pub returns-clause-cause : goal.returns-clause-cause
+returns-clause-cause g c = ok_cause _ _ _ _ (omega arith)
+
+pub returns-in_err-degrees-clause-same : goal.returns-in_err-degrees-clause-same
+returns-in_err-degrees-clause-same g c = search rules
+
+pub returns-in_err-degrees-clause-written : goal.returns-in_err-degrees-clause-written
+returns-in_err-degrees-clause-written g c = search rules
+
+pub returns-in_err-degrees-clause-cause : goal.returns-in_err-degrees-clause-cause
+returns-in_err-degrees-clause-cause g c =
+    cause_passed _ _ _ c.from_residual.result c.in_err-degrees.field-0.0 (omega arith) c.in_err-degrees.ensures.cause c.from_residual.ensures.1
+
+pub returns-in_err-id-clause-same : goal.returns-in_err-id-clause-same
+returns-in_err-id-clause-same g c = search rules
+
+pub returns-in_err-id-clause-written : goal.returns-in_err-id-clause-written
+returns-in_err-id-clause-written g c = search rules
+
+pub returns-in_err-id-clause-cause : goal.returns-in_err-id-clause-cause
+returns-in_err-id-clause-cause g c =
+    cause_passed _ _ _ c.from_residual-in_err-id.result c.in_err-id.field-0.0 c.in_ok-degrees.ensures.cause.later
+    c.in_err-id.ensures.cause c.from_residual-in_err-id.ensures.1

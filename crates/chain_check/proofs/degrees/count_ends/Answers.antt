@@ -1,9 +1,11 @@
-use Rattle.std.proofs.Common.{arith, ◌≡◌, ◌≤◌, ◌<◌, ◌+◌, ◌∙◌, cond, length, Bool, true, false, sym, ap, refl}
+use Rattle.std.proofs.Common.{arith, ◌≡◌, ◌≤◌, ◌<◌, ◌+◌, ◌∙◌, cond, length, Bool, true, false, sym, ap, refl, rules}
 use Rattle.rec_bytes.specs.declared.meta.Meta.{Meta}
 use Rattle.rec_bytes.specs.Format.{relationships_file}
 use Rattle.store_rules.specs.Views.{high, rec_at}
 use Rattle.chain_check.specs.NodeChains.{is_of_node}
 use Rattle.chain_check.proofs.DegreeLaws.{degree_more}
+use Rattle.rec_bytes.proofs.Causes.{never_ok, ok_cause}
+use Rattle.record_lists.proofs.Causes.{cause_passed}
 use Rattle.chain_check.proofs.degrees.count_ends.Goals as goal
 
 small : (b : Bool) → cond b 1 0 ≤ 1
@@ -42,3 +44,19 @@ loop-id-preserved g c =
       onward = g.met.R.Reads.further_onward c.args.space.now c.loop-id.space c.get.new.self inv.onward c.in_ok-rec.ensures.onward;
       faults = let cause = c.in_ok-rec.ensures.cause in omega (arith, inv.faults, cause.later);
     }
+
+pub returns-in_err-rec-clause-counts : goal.returns-in_err-rec-clause-counts
+returns-in_err-rec-clause-counts g c _ = never_ok c.from_residual.result _ _ c.from_residual.ensures.1
+
+pub returns-clause-cause : goal.returns-clause-cause
+returns-clause-cause g c = ok_cause _ _ _ _ (omega arith)
+
+pub returns-in_err-rec-clause-same : goal.returns-in_err-rec-clause-same
+returns-in_err-rec-clause-same g c = search (rules, c.loop-id.invariant)
+
+pub returns-in_err-rec-clause-written : goal.returns-in_err-rec-clause-written
+returns-in_err-rec-clause-written g c = search (rules, c.loop-id.invariant)
+
+pub returns-in_err-rec-clause-cause : goal.returns-in_err-rec-clause-cause
+returns-in_err-rec-clause-cause g c =
+    cause_passed _ _ _ c.from_residual.result c.in_err-rec.field-0.0 c.loop-id.invariant.faults c.in_err-rec.ensures.cause c.from_residual.ensures.1

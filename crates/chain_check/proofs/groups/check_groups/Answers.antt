@@ -8,6 +8,7 @@ use Rattle.chain_check.proofs.GroupCountLaws.{are_exact, counts_hold}
 use Rattle.store_rules.proofs.ChainRules.{Grouped, linked_of}
 use Rattle.record_lists.proofs.DecidingLaws.{breaks_by}
 use Rattle.record_lists.proofs.Causes.{cause_passed}
+use Rattle.rec_bytes.proofs.Causes.{never_ok, ok_cause}
 use Rattle.chain_check.proofs.groups.check_groups.Goals as goal
 
 pub returns-in-Some-2-clause-decided : goal.returns-in-Some-2-clause-decided
@@ -47,3 +48,27 @@ returns-in-Some-2-clause-onward g c =
 
 pub returns-clause-onward : goal.returns-clause-onward
 returns-clause-onward g c = g.met.R.Reads.further_onward _ _ _ c.in_ok-damage.ensures.onward c.in_ok-id.ensures.onward
+
+pub returns-in_err-damage-clause-decided : goal.returns-in_err-damage-clause-decided
+returns-in_err-damage-clause-decided g c _ = never_ok c.from_residual.result _ _ c.from_residual.ensures.1
+
+pub returns-in_err-damage-clause-onward : goal.returns-in_err-damage-clause-onward
+returns-in_err-damage-clause-onward g c = search rules
+
+pub returns-in_err-id-clause-decided : goal.returns-in_err-id-clause-decided
+returns-in_err-id-clause-decided g c _ = never_ok c.from_residual-in_err-id.result _ _ c.from_residual-in_err-id.ensures.1
+
+pub returns-clause-cause : goal.returns-clause-cause
+returns-clause-cause g c = ok_cause _ _ _ _ (omega arith)
+
+pub returns-in_err-damage-clause-same : goal.returns-in_err-damage-clause-same
+returns-in_err-damage-clause-same g c = search rules
+
+pub returns-in_err-damage-clause-written : goal.returns-in_err-damage-clause-written
+returns-in_err-damage-clause-written g c = search rules
+
+pub returns-in_err-id-clause-same : goal.returns-in_err-id-clause-same
+returns-in_err-id-clause-same g c = search rules
+
+pub returns-in_err-id-clause-written : goal.returns-in_err-id-clause-written
+returns-in_err-id-clause-written g c = search rules

@@ -7,6 +7,7 @@ use Rattle.chain_check.specs.Groups.{group_line}
 use Rattle.record_lists.specs.Lines.{IsLineIn}
 use Rattle.chain_check.proofs.GroupChainLaws.{groups_one}
 use Rattle.record_lists.proofs.Causes.{cause_passed}
+use Rattle.rec_bytes.proofs.Causes.{never_ok, ok_cause}
 use Rattle.chain_check.proofs.groups.groups_from.Goals as goal
 
 pub returns-in_default-clause-told : goal.returns-in_default-clause-told
@@ -43,3 +44,33 @@ returns-in_err-ids-clause-cause g c =
 pub returns-in_err-types-clause-cause : goal.returns-in_err-types-clause-cause
 returns-in_err-types-clause-cause g c =
     cause_passed _ _ _ c.from_residual-in_err-types.result c.in_err-types.field-0.0 c.in_ok-ids.ensures.cause.later c.in_err-types.ensures.cause c.from_residual-in_err-types.ensures.1
+
+pub returns-in_err-ids-clause-told : goal.returns-in_err-ids-clause-told
+returns-in_err-ids-clause-told g c _ = never_ok c.from_residual.result _ _ c.from_residual.ensures.1
+
+pub returns-in_err-ids-clause-low : goal.returns-in_err-ids-clause-low
+returns-in_err-ids-clause-low g c = never_ok c.from_residual.result _ _ c.from_residual.ensures.1
+
+pub returns-in_err-ids-clause-onward : goal.returns-in_err-ids-clause-onward
+returns-in_err-ids-clause-onward g c = search rules
+
+pub returns-in_err-types-clause-told : goal.returns-in_err-types-clause-told
+returns-in_err-types-clause-told g c _ = never_ok c.from_residual-in_err-types.result _ _ c.from_residual-in_err-types.ensures.1
+
+pub returns-in_err-types-clause-low : goal.returns-in_err-types-clause-low
+returns-in_err-types-clause-low g c = never_ok c.from_residual-in_err-types.result _ _ c.from_residual-in_err-types.ensures.1
+
+pub returns-clause-cause : goal.returns-clause-cause
+returns-clause-cause g c = ok_cause _ _ _ _ (omega arith)
+
+pub returns-in_err-ids-clause-same : goal.returns-in_err-ids-clause-same
+returns-in_err-ids-clause-same g c = search rules
+
+pub returns-in_err-ids-clause-written : goal.returns-in_err-ids-clause-written
+returns-in_err-ids-clause-written g c = search rules
+
+pub returns-in_err-types-clause-same : goal.returns-in_err-types-clause-same
+returns-in_err-types-clause-same g c = search rules
+
+pub returns-in_err-types-clause-written : goal.returns-in_err-types-clause-written
+returns-in_err-types-clause-written g c = search rules

@@ -1,4 +1,4 @@
-use Rattle.std.proofs.Common.{length, sym, inr, ap, ◌∙◌}
+use Rattle.std.proofs.Common.{length, sym, inr, ap, ◌∙◌, arith, rules}
 use Rattle.std.proofs.lemmas.Bool.{true≢false}
 use Rattle.std.proofs.lemmas.Result.{err_from_is_err_and}
 use Rattle.group_store.specs.Loading.{group_mark}
@@ -6,6 +6,7 @@ use Rattle.expand.specs.Degrees.{as_number, lacks_counts, rows_count}
 use Rattle.expand.specs.FirstLinks.{first_links}
 use Rattle.expand.proofs.DenseWalks.{blamed_then, can_walk, group_fault, has_dense_rows, of_groups, rows_are}
 use Rattle.expand.proofs.ReadCounts.{reads_both, reads_marks, reads_wider}
+use Rattle.rec_bytes.proofs.Causes.{never_ok, ok_cause}
 use Rattle.expand.proofs.degrees.dense_degree.Goals as goal
 
 pub returns-in_err-groups-clause-damaged : goal.returns-in_err-groups-clause-damaged
@@ -93,3 +94,21 @@ pub returns-clause-counted_reads : goal.returns-clause-counted_reads
 returns-clause-counted_reads g c = λ tells members walkable counted.
     let are = rows_are (g.R.Reads.state c.args.space.now) c.args.row.now c.in_ok-groups.groups.items members (c.in_ok-groups.ensures.rows tells) walkable in
     absurd (true≢false (sym (sym (c.lacks_counts.ensures ∙ ap (lacks_counts c.args.labels.now) c.deref.ensures.value) ∙ c.if-not-lacks_counts.false) ∙ ap (lacks_counts c.args.labels.now) are ∙ counted))
+
+pub returns-in_err-groups-clause-count : goal.returns-in_err-groups-clause-count
+returns-in_err-groups-clause-count g c _ = never_ok c.from_residual.result _ _ c.from_residual.ensures.1
+
+pub returns-in_err-groups-clause-onward : goal.returns-in_err-groups-clause-onward
+returns-in_err-groups-clause-onward g c = search rules
+
+pub returns-then-not-lacks_counts-clause-cause : goal.returns-then-not-lacks_counts-clause-cause
+returns-then-not-lacks_counts-clause-cause g c = ok_cause _ _ _ _ (omega arith)
+
+pub returns-in_err-links-clause-count : goal.returns-in_err-links-clause-count
+returns-in_err-links-clause-count g c _ = never_ok c.from_residual-in_err-links.result _ _ c.from_residual-in_err-links.ensures.1
+
+pub returns-in_err-rows-clause-count : goal.returns-in_err-rows-clause-count
+returns-in_err-rows-clause-count g c _ = never_ok c.from_residual-in_err-rows.result _ _ c.from_residual-in_err-rows.ensures.1
+
+pub returns-clause-cause : goal.returns-clause-cause
+returns-clause-cause g c = ok_cause _ _ _ _ (omega arith)

@@ -1,4 +1,4 @@
-use Rattle.std.proofs.Common.{List, map, subst, sym}
+use Rattle.std.proofs.Common.{List, map, subst, sym, arith, rules}
 use Rattle.plain_graph.specs.Meaning.{edges_at}
 use Rattle.rel_store.specs.declared.edge_row.EdgeRow.{EdgeRow}
 use Rattle.chain_edit.specs.Walking.{ReadsAtMost}
@@ -6,6 +6,7 @@ use Rattle.expand.specs.Expanding.{AreRowsOf, graph_in, name_of, rows_of}
 use Rattle.expand.specs.Matching.{IsPart, is_met}
 use Rattle.expand.proofs.ManyEdges.{most_is_dense}
 use Rattle.expand.proofs.ModelEdges.{names_stand, rows_at_are}
+use Rattle.rec_bytes.proofs.Causes.{never_ok, ok_cause}
 use Rattle.expand.proofs.expanding.expand.Goals as goal
 
 pub returns-clause-rows : goal.returns-clause-rows
@@ -39,3 +40,21 @@ returns-in_err-found-clause-dense_reads g c = λ tells store many.
     let s = g.R.Reads.state c.args.space.now in
     subst (λ most. ReadsAtMost most s (g.R.Reads.state c.load_rows.new.space))
     (most_is_dense s store c.args.node many c.args.direction c.args.labels.now) (c.in_ok-rows.ensures.reads tells store)
+
+pub returns-in_err-rows-clause-edges : goal.returns-in_err-rows-clause-edges
+returns-in_err-rows-clause-edges g c _ = never_ok c.from_residual.result _ _ c.from_residual.ensures.1
+
+pub returns-in_err-rows-clause-rows : goal.returns-in_err-rows-clause-rows
+returns-in_err-rows-clause-rows g c _ = never_ok c.from_residual.result _ _ c.from_residual.ensures.1
+
+pub returns-in_err-rows-clause-onward : goal.returns-in_err-rows-clause-onward
+returns-in_err-rows-clause-onward g c = search rules
+
+pub returns-in_err-found-clause-edges : goal.returns-in_err-found-clause-edges
+returns-in_err-found-clause-edges g c _ = never_ok c.from_residual-in_err-found.result _ _ c.from_residual-in_err-found.ensures.1
+
+pub returns-in_err-found-clause-rows : goal.returns-in_err-found-clause-rows
+returns-in_err-found-clause-rows g c _ = never_ok c.from_residual-in_err-found.result _ _ c.from_residual-in_err-found.ensures.1
+
+pub returns-clause-cause : goal.returns-clause-cause
+returns-clause-cause g c = ok_cause _ _ _ _ (omega arith)

@@ -1,9 +1,10 @@
-use Rattle.std.proofs.Common.{length, ap, ◌∙◌}
+use Rattle.std.proofs.Common.{length, ap, ◌∙◌, arith, rules}
 use Rattle.std.proofs.lemmas.Result.{err_from_is_err_and}
 use Rattle.group_store.specs.Loading.{group_mark}
 use Rattle.expand.specs.FirstLinks.{first_links}
 use Rattle.expand.proofs.DenseWalks.{blamed_then, can_walk, group_fault, has_dense_rows, of_groups}
 use Rattle.expand.proofs.ReadCounts.{reads_both, reads_marks, reads_wider}
+use Rattle.rec_bytes.proofs.Causes.{never_ok, ok_cause}
 use Rattle.expand.proofs.loading.dense_rows.Goals as goal
 
 pub returns-in_err-groups-clause-damaged : goal.returns-in_err-groups-clause-damaged
@@ -58,3 +59,18 @@ pub returns-clause-at_most : goal.returns-clause-at_most
 returns-clause-at_most g c =
     let s = g.R.Reads.state c.args.space.now in
     reads_marks s (g.R.Reads.state c.groups.new.space) (g.R.Reads.state c.walk_all.new.space) (group_mark s) c.in_ok-groups.ensures.at_most c.in_ok-rows.ensures.at_most
+
+pub returns-in_err-groups-clause-rows : goal.returns-in_err-groups-clause-rows
+returns-in_err-groups-clause-rows g c _ = never_ok c.from_residual.result _ _ c.from_residual.ensures.1
+
+pub returns-in_err-groups-clause-onward : goal.returns-in_err-groups-clause-onward
+returns-in_err-groups-clause-onward g c = search rules
+
+pub returns-in_err-links-clause-rows : goal.returns-in_err-links-clause-rows
+returns-in_err-links-clause-rows g c _ = never_ok c.from_residual-in_err-links.result _ _ c.from_residual-in_err-links.ensures.1
+
+pub returns-in_err-rows-clause-rows : goal.returns-in_err-rows-clause-rows
+returns-in_err-rows-clause-rows g c _ = never_ok c.from_residual-in_err-rows.result _ _ c.from_residual-in_err-rows.ensures.1
+
+pub returns-clause-cause : goal.returns-clause-cause
+returns-clause-cause g c = ok_cause _ _ _ _ (omega arith)

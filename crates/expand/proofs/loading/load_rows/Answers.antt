@@ -1,4 +1,4 @@
-use Rattle.std.proofs.Common.{◌+◌, ◌∙◌, ap, subst, sym}
+use Rattle.std.proofs.Common.{◌+◌, ◌∙◌, ap, subst, sym, arith, rules}
 use Rattle.std.proofs.lemmas.Result.{err_from_is_err_and}
 use Rattle.rec_bytes.specs.declared.meta.Meta.{Meta}
 use Rattle.rel_store.specs.Loading.{rel_mark}
@@ -6,6 +6,7 @@ use Rattle.chain_edit.specs.Walking.{ReadsAtMost}
 use Rattle.group_store.specs.Loading.{group_mark}
 use Rattle.expand.proofs.LoadedRows.{can_walk, chain_fault, chain_tells, dense_at_most, dense_fault, dense_most, load_most, mid_row, dense_parts, dense_tells, members, none_there, one_there, row_fault, sound, sparse_at_most, sparse_part, sparse_reads}
 use Rattle.expand.proofs.ReadCounts.{load_reads}
+use Rattle.rec_bytes.proofs.Causes.{never_ok, ok_cause}
 use Rattle.expand.proofs.loading.load_rows.Goals as goal
 
 pub returns-in_err-row-clause-damaged : goal.returns-in_err-row-clause-damaged
@@ -141,3 +142,15 @@ returns-clause-at_most g c =
     let new = g.R.Reads.state c.walk.new.space in
     let marked = ap (λ (meta : Meta). meta.high) c.meta-mark.ensures in
     sparse_at_most s c.args.node mid new c.in_ok-row.ensures.state (subst (λ m. ReadsAtMost m mid new) marked c.in_ok-rows.ensures.at_most)
+
+pub returns-in_err-row-clause-part : goal.returns-in_err-row-clause-part
+returns-in_err-row-clause-part g c _ = never_ok c.from_residual.result _ _ c.from_residual.ensures.1
+
+pub returns-in_err-row-clause-onward : goal.returns-in_err-row-clause-onward
+returns-in_err-row-clause-onward g c = search rules
+
+pub returns-in_err-rows-clause-part : goal.returns-in_err-rows-clause-part
+returns-in_err-rows-clause-part g c _ = never_ok c.from_residual-in_err-rows.result _ _ c.from_residual-in_err-rows.ensures.1
+
+pub returns-clause-cause : goal.returns-clause-cause
+returns-clause-cause g c = ok_cause _ _ _ _ (omega arith)

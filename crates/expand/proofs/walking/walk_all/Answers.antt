@@ -17,6 +17,7 @@ use Rattle.expand.specs.Walking.{AreSoundWalks, AreWalks}
 use Rattle.expand.proofs.BrokenChains.{more_stood, no_link, none_stood, stray_breaks, walk_breaks}
 use Rattle.expand.proofs.ChainWalks.{AreLeft, HaveMet, Rows, all_met, chain_left, chain_met, few_met, few_more, mark_bounds, none_met, reads_more, rest_left, room_then}
 use Rattle.group_store.proofs.GroupWalks.{reads_none}
+use Rattle.rec_bytes.proofs.Causes.{never_ok, ok_cause}
 use Rattle.expand.proofs.walking.walk_all.Goals as goal
 
 -- the first link at a place
@@ -224,3 +225,12 @@ returns-clause-few_reads g c = λ tells xs sound.
     let rows = c.loop-link.rows.items in
     few_met s (g.R.Reads.state c.loop-link.space) c.args.node (rel_mark s - length rows) (numbers_of links) (drop c.loop-link.link-index (numbers_of links)) rows xs
     (c.loop-link.invariant.met tells) (c.loop-link.invariant.left tells xs sound) sound.walks c.loop-link.invariant.read
+
+pub returns-in_err-extend_from_slice-clause-rows : goal.returns-in_err-extend_from_slice-clause-rows
+returns-in_err-extend_from_slice-clause-rows g c _ = never_ok c.from_residual.result _ _ c.from_residual.ensures.1
+
+pub returns-in_err-extend_from_slice-clause-reads : goal.returns-in_err-extend_from_slice-clause-reads
+returns-in_err-extend_from_slice-clause-reads g c = never_ok c.from_residual.result _ _ c.from_residual.ensures.1
+
+pub returns-clause-cause : goal.returns-clause-cause
+returns-clause-cause g c = ok_cause _ _ _ _ (omega arith)

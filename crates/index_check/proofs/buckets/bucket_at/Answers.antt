@@ -9,6 +9,7 @@ use Rattle.index_check.specs.HeadRecords.{IsHeadRead}
 use Rattle.index_check.specs.declared.head_records.HeadRecord.{HeadRecord}
 use Rattle.index_check.proofs.BucketLaws.{IsBucketLine, bucket_of_line, line_is, line_of_bucket}
 use Rattle.record_lists.proofs.Causes.{cause_passed}
+use Rattle.rec_bytes.proofs.Causes.{never_ok, ok_cause}
 use Rattle.index_check.proofs.buckets.bucket_at.Goals as goal
 
 pub returns-in_default-clause-none : goal.returns-in_default-clause-none
@@ -53,3 +54,43 @@ returns-clause-none g c = λ tells.
 pub returns-in_err-ids-clause-cause : goal.returns-in_err-ids-clause-cause
 returns-in_err-ids-clause-cause g c =
     cause_passed _ _ _ c.from_residual-in_err-ids.result c.in_err-ids.field-0.0 c.in_ok-head.ensures.cause.later c.in_err-ids.ensures.cause c.from_residual-in_err-ids.ensures.1
+
+pub returns-in_err-head-clause-found : goal.returns-in_err-head-clause-found
+returns-in_err-head-clause-found g c _ = never_ok c.from_residual.result _ _ c.from_residual.ensures.1
+
+pub returns-in_err-head-clause-none : goal.returns-in_err-head-clause-none
+returns-in_err-head-clause-none g c _ = never_ok c.from_residual.result _ _ c.from_residual.ensures.1
+
+pub returns-in_err-head-clause-low : goal.returns-in_err-head-clause-low
+returns-in_err-head-clause-low g c = never_ok c.from_residual.result _ _ c.from_residual.ensures.1
+
+pub returns-in_err-head-clause-onward : goal.returns-in_err-head-clause-onward
+returns-in_err-head-clause-onward g c = search rules
+
+pub returns-in_err-ids-clause-found : goal.returns-in_err-ids-clause-found
+returns-in_err-ids-clause-found g c _ = never_ok c.from_residual-in_err-ids.result _ _ c.from_residual-in_err-ids.ensures.1
+
+pub returns-in_err-ids-clause-none : goal.returns-in_err-ids-clause-none
+returns-in_err-ids-clause-none g c _ = never_ok c.from_residual-in_err-ids.result _ _ c.from_residual-in_err-ids.ensures.1
+
+pub returns-in_err-ids-clause-low : goal.returns-in_err-ids-clause-low
+returns-in_err-ids-clause-low g c = never_ok c.from_residual-in_err-ids.result _ _ c.from_residual-in_err-ids.ensures.1
+
+pub returns-clause-cause : goal.returns-clause-cause
+returns-clause-cause g c = ok_cause _ _ _ _ (omega arith)
+
+pub returns-in_err-head-clause-same : goal.returns-in_err-head-clause-same
+returns-in_err-head-clause-same g c = search rules
+
+pub returns-in_err-head-clause-written : goal.returns-in_err-head-clause-written
+returns-in_err-head-clause-written g c = search rules
+
+pub returns-in_err-head-clause-cause : goal.returns-in_err-head-clause-cause
+returns-in_err-head-clause-cause g c =
+    cause_passed _ _ _ c.from_residual.result c.in_err-head.field-0.0 (omega arith) c.in_err-head.ensures.cause c.from_residual.ensures.1
+
+pub returns-in_err-ids-clause-same : goal.returns-in_err-ids-clause-same
+returns-in_err-ids-clause-same g c = search rules
+
+pub returns-in_err-ids-clause-written : goal.returns-in_err-ids-clause-written
+returns-in_err-ids-clause-written g c = search rules

@@ -11,6 +11,7 @@ use Rattle.index_check.proofs.DefinitionLaws.{all_given, all_low, twin_breaks, t
 use Rattle.index_check.proofs.IndexLaws.{breaks_by}
 use Rattle.index_check.proofs.ListedLaws.{each_keeps}
 use Rattle.prop_store.proofs.Causes.{cause_passed}
+use Rattle.rec_bytes.proofs.Causes.{never_ok}
 use Rattle.index_check.proofs.checking.check_definitions.Goals as goal
 
 pub returns-in-Some-clause-decided : goal.returns-in-Some-clause-decided
@@ -65,3 +66,12 @@ returns-in_err-damage-2-clause-cause g c =
     cause_passed _ _ _ c.from_residual-in_err-damage-2.result c.in_err-damage-2.field-0.0
     c.in_ok-damage.ensures.cause.later c.in_err-damage-2.ensures.cause
     c.from_residual-in_err-damage-2.ensures.1
+
+pub returns-in_err-damage-clause-decided : goal.returns-in_err-damage-clause-decided
+returns-in_err-damage-clause-decided g c _ = never_ok c.from_residual.result _ _ c.from_residual.ensures.1
+
+pub returns-in_err-damage-clause-onward : goal.returns-in_err-damage-clause-onward
+returns-in_err-damage-clause-onward g c = search rules
+
+pub returns-in_err-damage-2-clause-decided : goal.returns-in_err-damage-2-clause-decided
+returns-in_err-damage-2-clause-decided g c _ = never_ok c.from_residual-in_err-damage-2.result _ _ c.from_residual-in_err-damage-2.ensures.1

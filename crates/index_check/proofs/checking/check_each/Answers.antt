@@ -8,6 +8,7 @@ use Rattle.index_check.specs.Indexing.{IsRight}
 use Rattle.index_check.specs.Values.{AreReadable}
 use Rattle.index_check.specs.declared.definitions.Definition.{Definition}
 use Rattle.index_check.proofs.SoundExits.{sound_exit}
+use Rattle.rec_bytes.proofs.Causes.{never_ok}
 use Rattle.index_check.proofs.checking.check_each.Goals as goal
 
 abbrev blank : Definition
@@ -72,3 +73,9 @@ returns-in_err-damage-clause-onward g c = g.met.R.Reads.further_onward c.args.sp
 pub returns-in_err-damage-clause-cause : goal.returns-in_err-damage-clause-cause
 returns-in_err-damage-clause-cause g c =
     cause_passed _ _ _ c.from_residual.result c.in_err-damage.field-0.0 c.loop-definition.invariant.faults c.in_err-damage.ensures.cause c.from_residual.ensures.1
+
+pub returns-in_err-damage-clause-right : goal.returns-in_err-damage-clause-right
+returns-in_err-damage-clause-right g c _ = never_ok c.from_residual.result _ _ c.from_residual.ensures.1
+
+pub returns-in_err-damage-clause-broken : goal.returns-in_err-damage-clause-broken
+returns-in_err-damage-clause-broken g c _ = never_ok c.from_residual.result _ _ c.from_residual.ensures.1

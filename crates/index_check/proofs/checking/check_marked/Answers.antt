@@ -6,6 +6,7 @@ use Rattle.store_rules.specs.Views.{Records, high, is_live}
 use Rattle.index_check.specs.Indexing.{AreAllMarked}
 use Rattle.index_check.proofs.IndexLaws.{breaks_by}
 use Rattle.index_check.proofs.ListedLaws.{all_held, left_over}
+use Rattle.rec_bytes.proofs.Causes.{never_ok}
 use Rattle.index_check.proofs.checking.check_marked.Goals as goal
 
 pub returns-in-Some-2-clause-broken : goal.returns-in-Some-2-clause-broken
@@ -47,3 +48,18 @@ returns-in-Some-2-clause-onward g c =
 pub returns-in-None-clause-onward : goal.returns-in-None-clause-onward
 returns-in-None-clause-onward g c =
     g.met.R.Reads.further_onward _ _ _ c.in_ok-damage.ensures.onward c.in_ok-id.ensures.onward
+
+pub returns-in_err-damage-clause-right : goal.returns-in_err-damage-clause-right
+returns-in_err-damage-clause-right g c _ = never_ok c.from_residual.result _ _ c.from_residual.ensures.1
+
+pub returns-in_err-damage-clause-broken : goal.returns-in_err-damage-clause-broken
+returns-in_err-damage-clause-broken g c _ = never_ok c.from_residual.result _ _ c.from_residual.ensures.1
+
+pub returns-in_err-damage-clause-onward : goal.returns-in_err-damage-clause-onward
+returns-in_err-damage-clause-onward g c = search rules
+
+pub returns-in_err-id-clause-right : goal.returns-in_err-id-clause-right
+returns-in_err-id-clause-right g c _ = never_ok c.from_residual-in_err-id.result _ _ c.from_residual-in_err-id.ensures.1
+
+pub returns-in_err-id-clause-broken : goal.returns-in_err-id-clause-broken
+returns-in_err-id-clause-broken g c _ = never_ok c.from_residual-in_err-id.result _ _ c.from_residual-in_err-id.ensures.1

@@ -4,6 +4,7 @@ use Rattle.store_rules.specs.IndexBreaking.{AreDefinitions}
 use Rattle.store_rules.specs.IndexBreaking.IndexBreaks.{WrongDefinitions}
 use Rattle.index_check.proofs.IndexLaws.{breaks_by}
 use Rattle.prop_store.proofs.Causes.{space_cause_passed}
+use Rattle.rec_bytes.proofs.Causes.{never_ok}
 use Rattle.index_check.proofs.checking.decide.Goals as goal
 
 pub returns-in_default-clause-decided : goal.returns-in_default-clause-decided
@@ -27,3 +28,12 @@ returns-in_err-definitions-clause-cause g c =
     space_cause_passed _ _ _ c.from_residual-in_err-definitions.result c.in_err-definitions.field-0.0
     c.in_ok-ids.ensures.cause.later c.in_err-definitions.ensures.cause
     c.from_residual-in_err-definitions.ensures.1
+
+pub returns-in_err-ids-clause-decided : goal.returns-in_err-ids-clause-decided
+returns-in_err-ids-clause-decided g c _ = never_ok c.from_residual.result _ _ c.from_residual.ensures.1
+
+pub returns-in_err-ids-clause-onward : goal.returns-in_err-ids-clause-onward
+returns-in_err-ids-clause-onward g c = search rules
+
+pub returns-in_err-definitions-clause-decided : goal.returns-in_err-definitions-clause-decided
+returns-in_err-definitions-clause-decided g c _ = never_ok c.from_residual-in_err-definitions.result _ _ c.from_residual-in_err-definitions.ensures.1

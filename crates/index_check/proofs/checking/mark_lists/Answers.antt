@@ -15,6 +15,7 @@ use Rattle.index_check.specs.HeadRecords.{IsHeadItem}
 use Rattle.index_check.proofs.IndexLaws.{breaks_by}
 use Rattle.index_check.proofs.ListedLaws.{Always, all_told, buckets_kept, entries_once, entry_twice, head_twice, heads_kept, heads_once, no_bucket, no_heads}
 use Rattle.index_check.proofs.PlaceLaws.{many_place, twelve_place}
+use Rattle.rec_bytes.proofs.Causes.{never_ok}
 use Rattle.index_check.proofs.checking.mark_lists.Goals as goal
 
 -- what was marked after the records of heads
@@ -123,3 +124,18 @@ returns-in-Some-Item-2-clause-onward g c =
 pub returns-in-None-2-clause-onward : goal.returns-in-None-2-clause-onward
 returns-in-None-2-clause-onward g c =
     g.met.R.Reads.further_onward _ _ _ c.in_ok-id.ensures.onward c.in_ok-id-2.ensures.onward
+
+pub returns-in_err-id-clause-right : goal.returns-in_err-id-clause-right
+returns-in_err-id-clause-right g c _ = never_ok c.from_residual.result _ _ c.from_residual.ensures.1
+
+pub returns-in_err-id-clause-broken : goal.returns-in_err-id-clause-broken
+returns-in_err-id-clause-broken g c _ = never_ok c.from_residual.result _ _ c.from_residual.ensures.1
+
+pub returns-in_err-id-clause-onward : goal.returns-in_err-id-clause-onward
+returns-in_err-id-clause-onward g c = search rules
+
+pub returns-in_err-id-2-clause-right : goal.returns-in_err-id-2-clause-right
+returns-in_err-id-2-clause-right g c _ = never_ok c.from_residual-in_err-id-2.result _ _ c.from_residual-in_err-id-2.ensures.1
+
+pub returns-in_err-id-2-clause-broken : goal.returns-in_err-id-2-clause-broken
+returns-in_err-id-2-clause-broken g c _ = never_ok c.from_residual-in_err-id-2.result _ _ c.from_residual-in_err-id-2.ensures.1

@@ -6,6 +6,8 @@ use Rattle.store_rules.specs.Indexes.{first_definition}
 use Rattle.store_rules.specs.Views.{high}
 use Rattle.index_check.specs.Definitions.{definition_line}
 use Rattle.index_check.proofs.DefinitionLaws.{definitions_of, line_is, line_of_definitions, same_line}
+use Rattle.rec_bytes.proofs.Causes.{never_ok, ok_cause}
+use Rattle.record_lists.proofs.Causes.{cause_passed}
 use Rattle.index_check.proofs.definitions.find_definitions.Goals as goal
 
 pub returns-in_default-clause-none : goal.returns-in_default-clause-none
@@ -56,3 +58,54 @@ returns-then-len-gt-MOST_DEFINITIONS-clause-onward g c =
 
 pub returns-clause-onward : goal.returns-clause-onward
 returns-clause-onward g c = g.met.R.Reads.further_onward _ _ _ c.in_ok-meta.ensures.onward c.in_ok-ids.ensures.onward
+
+pub returns-in_err-meta-clause-found : goal.returns-in_err-meta-clause-found
+returns-in_err-meta-clause-found g c _ = never_ok c.from_residual.result _ _ c.from_residual.ensures.1
+
+pub returns-in_err-meta-clause-none : goal.returns-in_err-meta-clause-none
+returns-in_err-meta-clause-none g c _ = never_ok c.from_residual.result _ _ c.from_residual.ensures.1
+
+pub returns-in_err-meta-clause-low : goal.returns-in_err-meta-clause-low
+returns-in_err-meta-clause-low g c = never_ok c.from_residual.result _ _ c.from_residual.ensures.1
+
+pub returns-in_err-meta-clause-few : goal.returns-in_err-meta-clause-few
+returns-in_err-meta-clause-few g c = never_ok c.from_residual.result _ _ c.from_residual.ensures.1
+
+pub returns-in_err-meta-clause-onward : goal.returns-in_err-meta-clause-onward
+returns-in_err-meta-clause-onward g c = search rules
+
+pub returns-in_err-ids-clause-found : goal.returns-in_err-ids-clause-found
+returns-in_err-ids-clause-found g c _ = never_ok c.from_residual-in_err-ids.result _ _ c.from_residual-in_err-ids.ensures.1
+
+pub returns-in_err-ids-clause-none : goal.returns-in_err-ids-clause-none
+returns-in_err-ids-clause-none g c _ = never_ok c.from_residual-in_err-ids.result _ _ c.from_residual-in_err-ids.ensures.1
+
+pub returns-in_err-ids-clause-low : goal.returns-in_err-ids-clause-low
+returns-in_err-ids-clause-low g c = never_ok c.from_residual-in_err-ids.result _ _ c.from_residual-in_err-ids.ensures.1
+
+pub returns-in_err-ids-clause-few : goal.returns-in_err-ids-clause-few
+returns-in_err-ids-clause-few g c = never_ok c.from_residual-in_err-ids.result _ _ c.from_residual-in_err-ids.ensures.1
+
+pub returns-clause-cause : goal.returns-clause-cause
+returns-clause-cause g c = ok_cause _ _ _ _ (omega arith)
+
+pub returns-in_err-meta-clause-same : goal.returns-in_err-meta-clause-same
+returns-in_err-meta-clause-same g c = search rules
+
+pub returns-in_err-meta-clause-written : goal.returns-in_err-meta-clause-written
+returns-in_err-meta-clause-written g c = search rules
+
+pub returns-in_err-meta-clause-cause : goal.returns-in_err-meta-clause-cause
+returns-in_err-meta-clause-cause g c =
+    cause_passed _ _ _ c.from_residual.result c.in_err-meta.field-0.0 (omega arith) c.in_err-meta.ensures.cause c.from_residual.ensures.1
+
+pub returns-in_err-ids-clause-same : goal.returns-in_err-ids-clause-same
+returns-in_err-ids-clause-same g c = search rules
+
+pub returns-in_err-ids-clause-written : goal.returns-in_err-ids-clause-written
+returns-in_err-ids-clause-written g c = search rules
+
+pub returns-in_err-ids-clause-cause : goal.returns-in_err-ids-clause-cause
+returns-in_err-ids-clause-cause g c =
+    cause_passed _ _ _ c.from_residual-in_err-ids.result c.in_err-ids.field-0.0 c.in_ok-meta.ensures.cause.later
+    c.in_err-ids.ensures.cause c.from_residual-in_err-ids.ensures.1

@@ -4,6 +4,7 @@ use Rattle.store_rules.specs.Views.{Records}
 use Rattle.record_lists.proofs.Causes.{cause_passed}
 use Rattle.index_check.specs.Definitions.{definition_at}
 use Rattle.index_check.specs.declared.definitions.Definition.{Definition}
+use Rattle.rec_bytes.proofs.Causes.{never_ok, ok_cause}
 use Rattle.index_check.proofs.definitions.read_definitions.Goals as goal
 
 pub loop-id-init : goal.loop-id-init
@@ -74,3 +75,12 @@ returns-in_default-clause-cause g c = record {
   later = let later = c.in_ok-definition.ensures.cause.later in omega (arith, c.loop-id.invariant.faults, later);
   disk = λ blamed. absurd cc;
 }
+
+pub returns-in_err-definition-clause-are : goal.returns-in_err-definition-clause-are
+returns-in_err-definition-clause-are g c _ = never_ok c.from_residual.result _ _ c.from_residual.ensures.1
+
+pub returns-in_err-definition-clause-ids : goal.returns-in_err-definition-clause-ids
+returns-in_err-definition-clause-ids g c = never_ok c.from_residual.result _ _ c.from_residual.ensures.1
+
+pub returns-clause-cause : goal.returns-clause-cause
+returns-clause-cause g c = ok_cause _ _ _ _ (omega arith)

@@ -7,6 +7,7 @@ use Rattle.store_rules.specs.Views.{Records, high}
 use Rattle.record_lists.proofs.Causes.{cause_passed}
 use Rattle.index_check.specs.Entries.{AreEntriesTo}
 use Rattle.index_check.proofs.EntryLaws.{entries_more, entries_none, low_more}
+use Rattle.rec_bytes.proofs.Causes.{never_ok}
 use Rattle.index_check.proofs.entries.entries_of.Goals as goal
 
 pub loop-number-init : goal.loop-number-init
@@ -76,3 +77,12 @@ returns-in_default-extend_from_slice-clause-cause g c = record {
   later = let later = c.in_ok-ids.ensures.cause.later in omega (arith, c.loop-number.invariant.faults, later);
   disk = λ blamed. absurd cc;
 }
+
+pub returns-in_err-ids-clause-found : goal.returns-in_err-ids-clause-found
+returns-in_err-ids-clause-found g c _ = never_ok c.from_residual.result _ _ c.from_residual.ensures.1
+
+pub returns-in_err-ids-clause-none : goal.returns-in_err-ids-clause-none
+returns-in_err-ids-clause-none g c _ = never_ok c.from_residual.result _ _ c.from_residual.ensures.1
+
+pub returns-in_err-ids-clause-low : goal.returns-in_err-ids-clause-low
+returns-in_err-ids-clause-low g c = never_ok c.from_residual.result _ _ c.from_residual.ensures.1

@@ -6,6 +6,8 @@ use Rattle.record_lists.proofs.RecordLaws.{kind_read}
 use Rattle.store_rules.specs.Indexes.{heads_of, index_rec}
 use Rattle.store_rules.specs.Views.{high, kind_at}
 use Rattle.store_rules.proofs.ViewLaws.{kind_high}
+use Rattle.rec_bytes.proofs.Causes.{never_ok, ok_cause}
+use Rattle.record_lists.proofs.Causes.{cause_passed}
 use Rattle.index_check.proofs.head_records.head_at.Goals as goal
 
 pub returns-then-id-records-clause-none : goal.returns-then-id-records-clause-none
@@ -50,3 +52,48 @@ returns-then-byte-ne-HEADS-clause-onward g c =
 
 pub returns-clause-onward : goal.returns-clause-onward
 returns-clause-onward g c = g.met.R.Reads.further_onward _ _ _ c.in_ok-rec.ensures.onward c.in_ok-rec-2.ensures.onward
+
+pub returns-in_err-rec-clause-found : goal.returns-in_err-rec-clause-found
+returns-in_err-rec-clause-found g c _ = never_ok c.from_residual.result _ _ c.from_residual.ensures.1
+
+pub returns-in_err-rec-clause-none : goal.returns-in_err-rec-clause-none
+returns-in_err-rec-clause-none g c _ = never_ok c.from_residual.result _ _ c.from_residual.ensures.1
+
+pub returns-in_err-rec-clause-low : goal.returns-in_err-rec-clause-low
+returns-in_err-rec-clause-low g c = never_ok c.from_residual.result _ _ c.from_residual.ensures.1
+
+pub returns-in_err-rec-clause-onward : goal.returns-in_err-rec-clause-onward
+returns-in_err-rec-clause-onward g c = search rules
+
+pub returns-in_err-rec-2-clause-found : goal.returns-in_err-rec-2-clause-found
+returns-in_err-rec-2-clause-found g c _ = never_ok c.from_residual-in_err-rec-2.result _ _ c.from_residual-in_err-rec-2.ensures.1
+
+pub returns-in_err-rec-2-clause-none : goal.returns-in_err-rec-2-clause-none
+returns-in_err-rec-2-clause-none g c _ = never_ok c.from_residual-in_err-rec-2.result _ _ c.from_residual-in_err-rec-2.ensures.1
+
+pub returns-in_err-rec-2-clause-low : goal.returns-in_err-rec-2-clause-low
+returns-in_err-rec-2-clause-low g c = never_ok c.from_residual-in_err-rec-2.result _ _ c.from_residual-in_err-rec-2.ensures.1
+
+pub returns-clause-cause : goal.returns-clause-cause
+returns-clause-cause g c = ok_cause _ _ _ _ (omega arith)
+
+pub returns-in_err-rec-clause-same : goal.returns-in_err-rec-clause-same
+returns-in_err-rec-clause-same g c = search rules
+
+pub returns-in_err-rec-clause-written : goal.returns-in_err-rec-clause-written
+returns-in_err-rec-clause-written g c = search rules
+
+pub returns-in_err-rec-clause-cause : goal.returns-in_err-rec-clause-cause
+returns-in_err-rec-clause-cause g c =
+    cause_passed _ _ _ c.from_residual.result c.in_err-rec.field-0.0 (omega arith) c.in_err-rec.ensures.cause c.from_residual.ensures.1
+
+pub returns-in_err-rec-2-clause-same : goal.returns-in_err-rec-2-clause-same
+returns-in_err-rec-2-clause-same g c = search rules
+
+pub returns-in_err-rec-2-clause-written : goal.returns-in_err-rec-2-clause-written
+returns-in_err-rec-2-clause-written g c = search rules
+
+pub returns-in_err-rec-2-clause-cause : goal.returns-in_err-rec-2-clause-cause
+returns-in_err-rec-2-clause-cause g c =
+    cause_passed _ _ _ c.from_residual-in_err-rec-2.result c.in_err-rec-2.field-0.0 c.in_ok-rec.ensures.cause.later
+    c.in_err-rec-2.ensures.cause c.from_residual-in_err-rec-2.ensures.1

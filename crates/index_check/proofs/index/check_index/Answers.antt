@@ -8,6 +8,7 @@ use Rattle.index_check.specs.declared.nodes.Entered.{Entered}
 use Rattle.index_check.specs.declared.nodes.Entered.TheVariants.{Nodes, Unwanted}
 use Rattle.index_check.proofs.IndexLaws.{breaks_by, lacks_breaks, right_of, unwanted_breaks, wrong_breaks}
 use Rattle.prop_store.proofs.Causes.{cause_passed, later_on}
+use Rattle.rec_bytes.proofs.Causes.{never_ok}
 use Rattle.index_check.proofs.index.check_index.Goals as goal
 
 pub returns-in_default-clause-broken : goal.returns-in_default-clause-broken
@@ -99,3 +100,24 @@ returns-in_err-node-in-Nodes-clause-cause g c =
     cause_passed _ _ _ c.from_residual-in_err-node-in-Nodes.result c.in_err-node-in-Nodes.field-0.0
     (later_on c.in_ok-entries.ensures.cause.later c.in_ok-id.ensures.cause.later) c.in_err-node-in-Nodes.ensures.cause
     c.from_residual-in_err-node-in-Nodes.ensures.1
+
+pub returns-in_err-entries-clause-right : goal.returns-in_err-entries-clause-right
+returns-in_err-entries-clause-right g c _ = never_ok c.from_residual.result _ _ c.from_residual.ensures.1
+
+pub returns-in_err-entries-clause-broken : goal.returns-in_err-entries-clause-broken
+returns-in_err-entries-clause-broken g c _ = never_ok c.from_residual.result _ _ c.from_residual.ensures.1
+
+pub returns-in_err-entries-clause-onward : goal.returns-in_err-entries-clause-onward
+returns-in_err-entries-clause-onward g c = search rules
+
+pub returns-in_err-id-clause-right : goal.returns-in_err-id-clause-right
+returns-in_err-id-clause-right g c _ = never_ok c.from_residual-in_err-id.result _ _ c.from_residual-in_err-id.ensures.1
+
+pub returns-in_err-id-clause-broken : goal.returns-in_err-id-clause-broken
+returns-in_err-id-clause-broken g c _ = never_ok c.from_residual-in_err-id.result _ _ c.from_residual-in_err-id.ensures.1
+
+pub returns-in_err-node-in-Nodes-clause-right : goal.returns-in_err-node-in-Nodes-clause-right
+returns-in_err-node-in-Nodes-clause-right g c _ = never_ok c.from_residual-in_err-node-in-Nodes.result _ _ c.from_residual-in_err-node-in-Nodes.ensures.1
+
+pub returns-in_err-node-in-Nodes-clause-broken : goal.returns-in_err-node-in-Nodes-clause-broken
+returns-in_err-node-in-Nodes-clause-broken g c _ = never_ok c.from_residual-in_err-node-in-Nodes.result _ _ c.from_residual-in_err-node-in-Nodes.ensures.1

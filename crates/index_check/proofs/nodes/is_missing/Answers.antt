@@ -1,4 +1,4 @@
-use Rattle.std.proofs.Common.{◌≡◌, ◌∙◌, ℕ, Option, None, Some, false, Bool, sym, subst, refl}
+use Rattle.std.proofs.Common.{◌≡◌, ◌∙◌, ℕ, Option, None, Some, false, Bool, sym, subst, refl, rules}
 use Rattle.std.specs.Prelude.{is_some}
 use Rattle.std.specs.Bool.{Decides}
 use Rattle.std.proofs.lemmas.Bool.{true≢false}
@@ -7,6 +7,7 @@ use Rattle.store_rules.specs.Indexes.{node_value}
 use Rattle.store_rules.specs.Views.{Records}
 use Rattle.index_check.specs.Nodes.{IsMissing}
 use Rattle.index_check.specs.declared.definitions.Definition.{Definition}
+use Rattle.rec_bytes.proofs.Causes.{never_ok}
 use Rattle.index_check.proofs.nodes.is_missing.Goals as goal
 
 -- a value that was read, or none
@@ -22,3 +23,9 @@ returns-clause-told g c = λ tells.
     let records = (g.R.Reads.state c.args.space.now).records in
     let unmet : c.args.met ≡ false = c.if-met.false in
     subst (λ b. Decides b (IsMissing records c.args.definition.now c.args.node c.args.met)) (sym c.is_some.ensures) (decided records c.args.definition.now c.args.node c.args.met c.in_ok-value.value unmet (c.in_ok-value.ensures.is tells))
+
+pub returns-in_err-value-clause-told : goal.returns-in_err-value-clause-told
+returns-in_err-value-clause-told g c _ = never_ok c.from_residual.result _ _ c.from_residual.ensures.1
+
+pub returns-in_err-value-clause-onward : goal.returns-in_err-value-clause-onward
+returns-in_err-value-clause-onward g c = search rules

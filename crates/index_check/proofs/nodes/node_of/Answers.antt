@@ -1,4 +1,4 @@
-use Rattle.std.proofs.Common.{arith, ◌≡◌, ◌∙◌, ℕ, Option, ap, sym}
+use Rattle.std.proofs.Common.{arith, ◌≡◌, ◌∙◌, ℕ, Option, ap, sym, rules}
 use Rattle.plain_graph.specs.declared.value.Value.{Value}
 use Rattle.rec_bytes.specs.Format as format
 use Rattle.rec_bytes.specs.Record.{field}
@@ -9,6 +9,7 @@ use Rattle.store_rules.specs.Indexes.{entry_hash, entry_node, has_hash, node_val
 use Rattle.store_rules.specs.Views.{Records}
 use Rattle.index_check.specs.Nodes.{said_by}
 use Rattle.index_check.specs.declared.definitions.Definition.{Definition}
+use Rattle.rec_bytes.proofs.Causes.{never_ok}
 use Rattle.index_check.proofs.nodes.node_of.Goals as goal
 
 -- what was tested is whether the entry is wanted
@@ -55,3 +56,24 @@ returns-then-has_hash-clause-onward g c =
 
 pub returns-clause-onward : goal.returns-clause-onward
 returns-clause-onward g c = g.met.R.Reads.further_onward _ _ _ c.in_ok-rec.ensures.onward c.in_ok-value.ensures.onward
+
+pub returns-in_err-rec-clause-wanted : goal.returns-in_err-rec-clause-wanted
+returns-in_err-rec-clause-wanted g c _ = never_ok c.from_residual.result _ _ c.from_residual.ensures.1
+
+pub returns-in_err-rec-clause-unwanted : goal.returns-in_err-rec-clause-unwanted
+returns-in_err-rec-clause-unwanted g c _ = never_ok c.from_residual.result _ _ c.from_residual.ensures.1
+
+pub returns-in_err-rec-clause-low : goal.returns-in_err-rec-clause-low
+returns-in_err-rec-clause-low g c = never_ok c.from_residual.result _ _ c.from_residual.ensures.1
+
+pub returns-in_err-rec-clause-onward : goal.returns-in_err-rec-clause-onward
+returns-in_err-rec-clause-onward g c = search rules
+
+pub returns-in_err-value-clause-wanted : goal.returns-in_err-value-clause-wanted
+returns-in_err-value-clause-wanted g c _ = never_ok c.from_residual-in_err-value.result _ _ c.from_residual-in_err-value.ensures.1
+
+pub returns-in_err-value-clause-unwanted : goal.returns-in_err-value-clause-unwanted
+returns-in_err-value-clause-unwanted g c _ = never_ok c.from_residual-in_err-value.result _ _ c.from_residual-in_err-value.ensures.1
+
+pub returns-in_err-value-clause-low : goal.returns-in_err-value-clause-low
+returns-in_err-value-clause-low g c = never_ok c.from_residual-in_err-value.result _ _ c.from_residual-in_err-value.ensures.1

@@ -12,6 +12,7 @@ use Rattle.index_check.specs.Nodes.{IsNodeOf, said_by}
 use Rattle.index_check.specs.Values.{AreReadable}
 use Rattle.index_check.proofs.PlaceLaws.{in_place}
 use Rattle.index_check.proofs.SoundExits.{sound_exit}
+use Rattle.rec_bytes.proofs.Causes.{never_ok}
 use Rattle.index_check.proofs.nodes.nodes_of.Goals as goal
 
 -- what holds of the first ones, and of the next
@@ -113,3 +114,15 @@ returns-in_err-push-in-Some-clause-cause g c =
 pub returns-in-None-clause-onward : goal.returns-in-None-clause-onward
 returns-in-None-clause-onward g c =
     g.met.R.Reads.further_onward c.args.space.now c.loop-id.space c.node_of.new.space c.loop-id.invariant.onward c.in_ok-node.ensures.onward
+
+pub returns-in_err-node-clause-told : goal.returns-in_err-node-clause-told
+returns-in_err-node-clause-told g c _ = never_ok c.from_residual.result _ _ c.from_residual.ensures.1
+
+pub returns-in_err-node-clause-low : goal.returns-in_err-node-clause-low
+returns-in_err-node-clause-low g c = never_ok c.from_residual.result _ _ c.from_residual.ensures.1
+
+pub returns-in_err-push-in-Some-clause-told : goal.returns-in_err-push-in-Some-clause-told
+returns-in_err-push-in-Some-clause-told g c _ = never_ok c.from_residual-in_err-push-in-Some.result _ _ c.from_residual-in_err-push-in-Some.ensures.1
+
+pub returns-in_err-push-in-Some-clause-low : goal.returns-in_err-push-in-Some-clause-low
+returns-in_err-push-in-Some-clause-low g c = never_ok c.from_residual-in_err-push-in-Some.result _ _ c.from_residual-in_err-push-in-Some.ensures.1

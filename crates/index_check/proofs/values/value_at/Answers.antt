@@ -15,6 +15,7 @@ use Rattle.store_rules.specs.Views.{high, rec_at}
 use Rattle.store_rules.proofs.ViewLaws.{kind_high}
 use Rattle.index_check.proofs.SoundExits.{sound_exit}
 use Rattle.index_check.proofs.ValueLaws.{value_free, value_met, value_other}
+use Rattle.rec_bytes.proofs.Causes.{never_ok}
 use Rattle.index_check.proofs.values.value_at.Goals as goal
 
 pub returns-then-node-meta-clause-is : goal.returns-then-node-meta-clause-is
@@ -90,3 +91,18 @@ returns-in_err-value-clause-onward g c =
 
 pub returns-clause-onward : goal.returns-clause-onward
 returns-clause-onward g c = g.met.R.Reads.further_onward _ _ _ c.in_ok-rec.ensures.onward c.in_ok-value.ensures.onward
+
+pub returns-in_err-rec-clause-is : goal.returns-in_err-rec-clause-is
+returns-in_err-rec-clause-is g c _ = never_ok c.from_residual.result _ _ c.from_residual.ensures.1
+
+pub returns-in_err-rec-clause-low : goal.returns-in_err-rec-clause-low
+returns-in_err-rec-clause-low g c = never_ok c.from_residual.result _ _ c.from_residual.ensures.1
+
+pub returns-in_err-rec-clause-onward : goal.returns-in_err-rec-clause-onward
+returns-in_err-rec-clause-onward g c = search rules
+
+pub returns-in_err-value-clause-is : goal.returns-in_err-value-clause-is
+returns-in_err-value-clause-is g c _ = never_ok c.from_residual-in_err-value.result _ _ c.from_residual-in_err-value.ensures.1
+
+pub returns-in_err-value-clause-low : goal.returns-in_err-value-clause-low
+returns-in_err-value-clause-low g c = never_ok c.from_residual-in_err-value.result _ _ c.from_residual-in_err-value.ensures.1

@@ -9,6 +9,7 @@ use Rattle.path_find.specs.Checking.{IsSpreadAt}
 use Rattle.path_find.specs.Reads.{neighbours_at}
 use Rattle.path_find.proofs.OnlyReads.{broken-read, is_read-on, same-read, store-read}
 use Rattle.path_find.proofs.Causes.{cause_passed}
+use Rattle.rec_bytes.proofs.Causes.{never_ok, ok_cause}
 use Rattle.path_find.proofs.checking.all_spread.Goals as goal
 
 pub returns-in_err-spreads-clause-damaged : goal.returns-in_err-spreads-clause-damaged
@@ -69,3 +70,12 @@ returns-in_err-spreads-clause-cause g c =
 pub returns-then-not-spreads-clause-read : goal.returns-then-not-spreads-clause-read
 returns-then-not-spreads-clause-read g c =
     is_read-on g.R.Reads g.met.R.Reads.further_onward _ _ _ c.loop-row.invariant.read c.is_spread.ensures.read
+
+pub returns-in_err-spreads-clause-yes : goal.returns-in_err-spreads-clause-yes
+returns-in_err-spreads-clause-yes g c _ _ = never_ok c.from_residual.result _ _ c.from_residual.ensures.1
+
+pub returns-in_err-spreads-clause-no : goal.returns-in_err-spreads-clause-no
+returns-in_err-spreads-clause-no g c _ _ = never_ok c.from_residual.result _ _ c.from_residual.ensures.1
+
+pub returns-clause-cause : goal.returns-clause-cause
+returns-clause-cause g c = ok_cause _ _ _ _ (omega arith)

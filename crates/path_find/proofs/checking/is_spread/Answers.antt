@@ -5,6 +5,7 @@ use Rattle.path_find.specs.Reads.{neighbours_at}
 use Rattle.std.proofs.lemmas.Result.{err_from_is_err_and}
 use Rattle.path_find.proofs.Answered.{load_fault}
 use Rattle.path_find.proofs.CheckLaws.{inner_fails, inner_spreads, last_spreads, past_fails}
+use Rattle.rec_bytes.proofs.Causes.{never_ok}
 use Rattle.path_find.proofs.checking.is_spread.Goals as goal
 
 pub returns-then-is_past-clause-no : goal.returns-then-is_past-clause-no
@@ -45,3 +46,15 @@ pub returns-in-None-clause-no : goal.returns-in-None-clause-no
 returns-in-None-clause-no g c = λ tells store. λ spread.
     let gone = rw c.in-None.is at c.in_ok-found.ensures.none tells store in
     false≢true (sym gone ∙ spread.node)
+
+pub returns-in_err-there-clause-yes : goal.returns-in_err-there-clause-yes
+returns-in_err-there-clause-yes g c _ _ = never_ok c.from_residual.result _ _ c.from_residual.ensures.1
+
+pub returns-in_err-there-clause-no : goal.returns-in_err-there-clause-no
+returns-in_err-there-clause-no g c _ _ = never_ok c.from_residual.result _ _ c.from_residual.ensures.1
+
+pub returns-in_err-found-clause-yes : goal.returns-in_err-found-clause-yes
+returns-in_err-found-clause-yes g c _ _ = never_ok c.from_residual-in_err-found.result _ _ c.from_residual-in_err-found.ensures.1
+
+pub returns-in_err-found-clause-no : goal.returns-in_err-found-clause-no
+returns-in_err-found-clause-no g c _ _ = never_ok c.from_residual-in_err-found.result _ _ c.from_residual-in_err-found.ensures.1

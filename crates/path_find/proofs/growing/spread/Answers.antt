@@ -3,6 +3,7 @@ use Rattle.path_find.specs.Growing.{IsSpanning}
 use Rattle.path_find.specs.Tree.{AreNeighbours, Rows, level_at}
 use Rattle.path_find.proofs.TreeGrowth.{IsStep, extends-none, extends-on, growing-begin, spanning-begin, spanning-end, step}
 use Rattle.path_find.proofs.TreeWalks.{level-low}
+use Rattle.rec_bytes.proofs.Causes.{never_ok}
 use Rattle.path_find.proofs.growing.spread.Goals as goal
 
 pub overflow_add-level : goal.overflow_add-level
@@ -46,3 +47,12 @@ returns-clause-spans c = λ near spans are.
     spanning-end near c.loop-end.tree c.args.row c.args.ends.now
     (subst (IsSpanning near c.loop-end.tree c.args.row c.args.ends.now) all (old.spans near spans are))
     (subst (λ n. AreNeighbours near n c.args.ends.now) (sym (old.extends.nodes c.args.row c.requires.low)) are)
+
+pub returns-in_err-add-clause-extends : goal.returns-in_err-add-clause-extends
+returns-in_err-add-clause-extends c = never_ok c.from_residual.result _ _ c.from_residual.ensures.1
+
+pub returns-in_err-add-clause-tree : goal.returns-in_err-add-clause-tree
+returns-in_err-add-clause-tree c = never_ok c.from_residual.result _ _ c.from_residual.ensures.1
+
+pub returns-in_err-add-clause-spans : goal.returns-in_err-add-clause-spans
+returns-in_err-add-clause-spans c = never_ok c.from_residual.result _ _ c.from_residual.ensures.1

@@ -3,6 +3,7 @@ use Rattle.std.specs.List.{list_any}
 use Rattle.std.proofs.lemmas.List.{get_or_default}
 use Rattle.plain_graph.specs.Levels.{level_of}
 use Rattle.path_find.proofs.KnownLevels.{AreSomePlaces, places_more, places_twice}
+use Rattle.rec_bytes.proofs.Causes.{never_ok}
 use Rattle.path_find.proofs.known.places_of.Goals as goal
 
 not_true : (b : Bool) → not b ≡ true → b ≡ false
@@ -31,3 +32,12 @@ loop-level-preserved c =
     let added = c.in_ok-is_new.ensures.added ∙ ap (λ b. cond b (places ++ row.node ∷ []) places) c.if-not-is_new.false in
     subst (λ (nodes : List ℕ). AreSomePlaces levels nodes (index + 1)) (sym added)
     (places_more levels places index c.loop-level.invariant c.loop-level-test.true row (λ d. get_or_default levels index d (level_of 0 0) c.loop-level-test.true) fresh)
+
+pub returns-in_err-is_new-clause-some : goal.returns-in_err-is_new-clause-some
+returns-in_err-is_new-clause-some c = never_ok c.from_residual.result _ _ c.from_residual.ensures.1
+
+pub returns-in_err-is_new-clause-distinct : goal.returns-in_err-is_new-clause-distinct
+returns-in_err-is_new-clause-distinct c = never_ok c.from_residual.result _ _ c.from_residual.ensures.1
+
+pub returns-in_err-is_new-clause-none : goal.returns-in_err-is_new-clause-none
+returns-in_err-is_new-clause-none c = never_ok c.from_residual.result _ _ c.from_residual.ensures.1

@@ -1,6 +1,7 @@
 use Rattle.std.proofs.Common.{◌++◌, ℕ, List, ap, ◌∙◌, arith}
 use Rattle.path_find.specs.Meeting.{AreApartFrom}
 use Rattle.path_find.specs.Tree.{row_count}
+use Rattle.rec_bytes.proofs.Causes.{never_ok, ok_cause}
 use Rattle.path_find.proofs.meeting.join.Goals as goal
 
 pub returns-clause-joins : goal.returns-clause-joins
@@ -23,3 +24,15 @@ unreachable-requires g c =
     let apart : AreApartFrom c.args.ahead.now 0 (row_count c.args.ahead.now) c.args.behind.now = rw c.in_default.is at c.first_shared.ensures.none in
     let met = c.requires.met in
     absurd (apart met.row (omega arith) met.low met.shared)
+
+pub returns-in_err-walk-clause-joins : goal.returns-in_err-walk-clause-joins
+returns-in_err-walk-clause-joins g c _ _ = never_ok c.from_residual.result _ _ c.from_residual.ensures.1
+
+pub returns-in_err-way-clause-joins : goal.returns-in_err-way-clause-joins
+returns-in_err-way-clause-joins g c _ _ = never_ok c.from_residual-in_err-way.result _ _ c.from_residual-in_err-way.ensures.1
+
+pub returns-in_err-append-clause-joins : goal.returns-in_err-append-clause-joins
+returns-in_err-append-clause-joins g c _ _ = never_ok c.from_residual-in_err-append.result _ _ c.from_residual-in_err-append.ensures.1
+
+pub returns-clause-cause : goal.returns-clause-cause
+returns-clause-cause g c = ok_cause _ _ _ _ (omega arith)

@@ -2,6 +2,7 @@ use Rattle.std.proofs.Common.{sym, ◌∙◌}
 use Rattle.expand.proofs.LoadedRows.{none_there, one_there}
 use Rattle.expand.proofs.ReadCounts.{load_reads}
 use Rattle.path_find.proofs.OnlyReads.{is_read-gets}
+use Rattle.rec_bytes.proofs.Causes.{never_ok}
 use Rattle.path_find.proofs.node_test.is_node.Goals as goal
 
 pub returns-in-Some-clause-is : goal.returns-in-Some-clause-is
@@ -27,3 +28,9 @@ pub returns-in-None-clause-read : goal.returns-in-None-clause-read
 returns-in-None-clause-read g c =
     let reads = load_reads (g.R.Reads.state c.args.reads.now) (g.R.Reads.state c.load.new.space) c.args.id 0 c.load.ensures.state in
     is_read-gets g.R.Reads reads.count c.args.reads.now c.load.new.space reads.is c.load.ensures.onward c.load.ensures.cause.later
+
+pub returns-in_err-load-clause-is : goal.returns-in_err-load-clause-is
+returns-in_err-load-clause-is g c _ _ = never_ok c.from_residual.result _ _ c.from_residual.ensures.1
+
+pub returns-in_err-load-clause-row : goal.returns-in_err-load-clause-row
+returns-in_err-load-clause-row g c _ = never_ok c.from_residual.result _ _ c.from_residual.ensures.1

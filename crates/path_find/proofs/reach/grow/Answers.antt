@@ -11,6 +11,7 @@ use Rattle.path_find.proofs.OnlyReads.{broken-read, is_read-none, is_read-on, sa
 use Rattle.path_find.proofs.SearchSteps.{tree_past}
 use Rattle.path_find.specs.declared.reach.Reach.{Reach}
 use Rattle.path_find.proofs.Causes.{cause_passed, later_on, memory_cause}
+use Rattle.rec_bytes.proofs.Causes.{never_ok, ok_cause}
 use Rattle.path_find.proofs.reach.grow.Goals as goal
 use Rattle.path_find.proofs.reach.grow.Goals.{in-Some+in_ok-spread, in_default}
 
@@ -106,3 +107,30 @@ pub returns-in_err-spread-clause-cause : goal.returns-in_err-spread-clause-cause
 returns-in_err-spread-clause-cause g c =
     memory_cause _ _ c.from_residual-in_err-spread.result (later_on c.loop-row.invariant.read.later c.in_ok-found.ensures.cause.later)
     c.from_residual-in_err-spread.ensures.1
+
+pub returns-in_err-found-clause-done : goal.returns-in_err-found-clause-done
+returns-in_err-found-clause-done g c = never_ok c.from_residual.result _ _ c.from_residual.ensures.1
+
+pub returns-in_err-found-clause-tree : goal.returns-in_err-found-clause-tree
+returns-in_err-found-clause-tree g c = never_ok c.from_residual.result _ _ c.from_residual.ensures.1
+
+pub returns-in_err-found-clause-grows : goal.returns-in_err-found-clause-grows
+returns-in_err-found-clause-grows g c = never_ok c.from_residual.result _ _ c.from_residual.ensures.1
+
+pub returns-in_err-found-clause-spans : goal.returns-in_err-found-clause-spans
+returns-in_err-found-clause-spans g c _ _ = never_ok c.from_residual.result _ _ c.from_residual.ensures.1
+
+pub returns-in_err-spread-clause-done : goal.returns-in_err-spread-clause-done
+returns-in_err-spread-clause-done g c = never_ok c.from_residual-in_err-spread.result _ _ c.from_residual-in_err-spread.ensures.1
+
+pub returns-in_err-spread-clause-tree : goal.returns-in_err-spread-clause-tree
+returns-in_err-spread-clause-tree g c = never_ok c.from_residual-in_err-spread.result _ _ c.from_residual-in_err-spread.ensures.1
+
+pub returns-in_err-spread-clause-grows : goal.returns-in_err-spread-clause-grows
+returns-in_err-spread-clause-grows g c = never_ok c.from_residual-in_err-spread.result _ _ c.from_residual-in_err-spread.ensures.1
+
+pub returns-in_err-spread-clause-spans : goal.returns-in_err-spread-clause-spans
+returns-in_err-spread-clause-spans g c _ _ = never_ok c.from_residual-in_err-spread.result _ _ c.from_residual-in_err-spread.ensures.1
+
+pub returns-clause-cause : goal.returns-clause-cause
+returns-clause-cause g c = ok_cause _ _ _ _ (omega arith)

@@ -1,6 +1,7 @@
 use Rattle.std.proofs.Common.{◌≡◌, ◌<◌, ◌∷◌, [], ◌++◌, reverse, sym, ap, subst, ◌∙◌, arith}
 use Rattle.path_find.specs.Tree.{level_at, way_to}
 use Rattle.path_find.proofs.WaysBack.{pos_at, way_back}
+use Rattle.rec_bytes.proofs.Causes.{never_ok}
 use Rattle.path_find.proofs.reading.walk_to.Goals as goal
 
 pub loop-preserved : goal.loop-preserved
@@ -26,3 +27,9 @@ loop-preserved c =
       way = subst (λ p. way_to rows (level_at rows c.args.row) c.args.row ≡ way_to rows (level_at rows p) p ++ reverse c.push.new.self.items) (sym parent)
           (way_back rows c.requires.tree.done tree at old.low (way_to rows (level_at rows c.args.row) c.args.row) c.loop.walk.items c.push.new.self.items some old.way pushed);
     }
+
+pub returns-in_err-push : goal.returns-in_err-push
+returns-in_err-push c = never_ok c.from_residual.result _ _ c.from_residual.ensures.1
+
+pub returns-in_err-push-2 : goal.returns-in_err-push-2
+returns-in_err-push-2 c = never_ok c.from_residual-in_err-push-2.result _ _ c.from_residual-in_err-push-2.ensures.1

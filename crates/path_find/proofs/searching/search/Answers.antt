@@ -11,6 +11,7 @@ use Rattle.path_find.specs.Search.{IsNarrow}
 use Rattle.path_find.specs.Tree.{AreNeighbours, IsTree, Rows, Spans}
 use Rattle.path_find.proofs.SearchSteps.{first_on, narrow_on, tree_past}
 use Rattle.path_find.proofs.Causes.{cause_passed, later_on, memory_cause}
+use Rattle.rec_bytes.proofs.Causes.{never_ok, ok_cause}
 use Rattle.path_find.proofs.searching.search.Goals as goal
 use Rattle.path_find.proofs.searching.search.Goals.{in-Some+in_ok-spread, in_default}
 
@@ -118,3 +119,24 @@ returns-in_err-found-clause-read g c =
 pub returns-in_err-spread-clause-read : goal.returns-in_err-spread-clause-read
 returns-in_err-spread-clause-read g c =
     is_read-on g.R.Reads g.met.R.Reads.further_onward _ _ _ c.loop-row.invariant.read c.neighbours.ensures.read
+
+pub returns-in_err-tree-clause-searched : goal.returns-in_err-tree-clause-searched
+returns-in_err-tree-clause-searched g c = never_ok c.from_residual.result _ _ c.from_residual.ensures.1
+
+pub returns-in_err-tree-clause-spans : goal.returns-in_err-tree-clause-spans
+returns-in_err-tree-clause-spans g c _ _ _ = never_ok c.from_residual.result _ _ c.from_residual.ensures.1
+
+pub returns-in_err-found-clause-searched : goal.returns-in_err-found-clause-searched
+returns-in_err-found-clause-searched g c = never_ok c.from_residual-in_err-found.result _ _ c.from_residual-in_err-found.ensures.1
+
+pub returns-in_err-found-clause-spans : goal.returns-in_err-found-clause-spans
+returns-in_err-found-clause-spans g c _ _ _ = never_ok c.from_residual-in_err-found.result _ _ c.from_residual-in_err-found.ensures.1
+
+pub returns-in_err-spread-clause-searched : goal.returns-in_err-spread-clause-searched
+returns-in_err-spread-clause-searched g c = never_ok c.from_residual-in_err-spread.result _ _ c.from_residual-in_err-spread.ensures.1
+
+pub returns-in_err-spread-clause-spans : goal.returns-in_err-spread-clause-spans
+returns-in_err-spread-clause-spans g c _ _ _ = never_ok c.from_residual-in_err-spread.result _ _ c.from_residual-in_err-spread.ensures.1
+
+pub returns-clause-cause : goal.returns-clause-cause
+returns-clause-cause g c = ok_cause _ _ _ _ (omega arith)

@@ -2,6 +2,7 @@ use Rattle.std.proofs.Common.{ℕ, List, Contains, sym, subst, ◌∙◌}
 use Rattle.std.proofs.lemmas.Bool.{OnFalse_at, OnFalse_from, OnTrue_at, OnTrue_from, false≢true}
 use Rattle.path_find.specs.Checking.{IsStep}
 use Rattle.path_find.specs.Reads.{neighbours_at}
+use Rattle.rec_bytes.proofs.Causes.{never_ok}
 use Rattle.path_find.proofs.stepping.is_step.Goals as goal
 
 pub returns-in-Some-clause-yes : goal.returns-in-Some-clause-yes
@@ -24,3 +25,9 @@ pub returns-in-None-clause-no : goal.returns-in-None-clause-no
 returns-in-None-clause-no g c = λ tells store. λ step.
     let gone = rw c.in-None.is at c.in_ok-found.ensures.none tells store in
     false≢true (sym gone ∙ step.there)
+
+pub returns-in_err-found-clause-yes : goal.returns-in_err-found-clause-yes
+returns-in_err-found-clause-yes g c _ _ = never_ok c.from_residual.result _ _ c.from_residual.ensures.1
+
+pub returns-in_err-found-clause-no : goal.returns-in_err-found-clause-no
+returns-in_err-found-clause-no g c _ _ = never_ok c.from_residual.result _ _ c.from_residual.ensures.1

@@ -11,6 +11,7 @@ use Rattle.prop_index.proofs.IndexBlames.{blames_before}
 use Rattle.prop_index.proofs.MakeFaults.{collect_exit}
 use Rattle.prop_index.proofs.Collects.{contents-more, contents-skip, length-contents-more}
 use Rattle.prop_index.proofs.Reread.{readable_after, same_records, same_then}
+use Rattle.rec_bytes.proofs.Causes.{never_ok, ok_cause}
 use Rattle.prop_index.proofs.collecting.collect.Goals as goal
 use Rattle.prop_index.proofs.collecting.collect.Goals.{in-Some, then-count-lt-MOST_ENTRIES+in_ok-push, else-count-lt-MOST_ENTRIES, in_default}
 
@@ -131,3 +132,18 @@ returns-in_err-hash-clause-onward g c =
 pub returns-in_err-push-clause-onward : goal.returns-in_err-push-clause-onward
 returns-in_err-push-clause-onward g c =
     g.met.R.Reads.further_onward _ _ _ c.loop-node.invariant.onward c.in_ok-hash.ensures.onward
+
+pub returns-in_err-hash-clause-found : goal.returns-in_err-hash-clause-found
+returns-in_err-hash-clause-found g c _ = never_ok c.from_residual.result _ _ c.from_residual.ensures.1
+
+pub returns-in_err-hash-clause-few : goal.returns-in_err-hash-clause-few
+returns-in_err-hash-clause-few g c = never_ok c.from_residual.result _ _ c.from_residual.ensures.1
+
+pub returns-in_err-push-clause-found : goal.returns-in_err-push-clause-found
+returns-in_err-push-clause-found g c _ = never_ok c.from_residual-in_err-push.result _ _ c.from_residual-in_err-push.ensures.1
+
+pub returns-in_err-push-clause-few : goal.returns-in_err-push-clause-few
+returns-in_err-push-clause-few g c = never_ok c.from_residual-in_err-push.result _ _ c.from_residual-in_err-push.ensures.1
+
+pub returns-clause-cause : goal.returns-clause-cause
+returns-clause-cause g c = ok_cause _ _ _ _ (omega arith)

@@ -1,5 +1,5 @@
 use Rattle.std.specs.Prelude.{Result, Ok, Err, IfOk}
-use Rattle.std.proofs.Common.{◌≡◌, option_map, ap, sym, ◌∙◌, subst, arith}
+use Rattle.std.proofs.Common.{◌≡◌, option_map, ap, sym, ◌∙◌, subst, arith, rules}
 use Rattle.std.proofs.lemmas.Bool.{true≢false}
 use Rattle.rec_bytes.specs.declared.record.Rec.{Rec}
 use Rattle.rec_bytes.specs.Format as format
@@ -20,6 +20,7 @@ use Rattle.prop_store.proofs.Exits.{same_has, space_has}
 use Rattle.prop_index.proofs.Counting.{owner_blames}
 use Rattle.prop_index.proofs.IndexBlames.{blames_before, if_err}
 use Rattle.prop_index.proofs.Collects.{hash_at-labelled, hash_at-none}
+use Rattle.rec_bytes.proofs.Causes.{never_ok, ok_cause}
 use Rattle.prop_index.proofs.collecting.hash_at.Goals as goal
 
 pub returns-clause-found : goal.returns-clause-found
@@ -86,3 +87,15 @@ returns-then-is_labelled-clause-damaged g c tells low =
     let used : kind_at s format.nodes_file c.args.node ≡ format.free_kind → ⊥ = λ e. both.0 (ap (λ (r : Rec). field 1 r format.kind) rec_is ∙ sym (kind_low (high s format.nodes_file) (rec_at s format.nodes_file c.args.node) c.args.node low) ∙ e) in
     if_err c.value_hash.result (λ fault is. blames_before t now fault (reads_same 1 t now (reads_one 1 t now (omega arith) c.get.ensures.state)) is)
     (c.value_hash.ensures.damaged tells (subst (λ (o : Owner). IsInUse now.records o) (sym c.in_ok-owner.ensures.is) (subst (λ (r : Records). IsInUse r (node_owner c.args.node)) (sym gone) used)))
+
+pub returns-in_err-owner-clause-found : goal.returns-in_err-owner-clause-found
+returns-in_err-owner-clause-found g c _ _ = never_ok c.from_residual.result _ _ c.from_residual.ensures.1
+
+pub returns-in_err-owner-clause-onward : goal.returns-in_err-owner-clause-onward
+returns-in_err-owner-clause-onward g c = search rules
+
+pub returns-in_err-rec-clause-found : goal.returns-in_err-rec-clause-found
+returns-in_err-rec-clause-found g c _ _ = never_ok c.from_residual-in_err-rec.result _ _ c.from_residual-in_err-rec.ensures.1
+
+pub returns-clause-cause : goal.returns-clause-cause
+returns-clause-cause g c = ok_cause _ _ _ _ (omega arith)

@@ -15,6 +15,7 @@ use Rattle.prop_index.proofs.IndexBlames.{take_has}
 use Rattle.prop_index.proofs.HeadsAdded.{head-other, head-same, head_ids-more, heads-more, length-head_ids, with_head}
 use Rattle.prop_index.proofs.IndexTouches.{index_then, only_join}
 use Rattle.prop_index.proofs.RecordFits.{empty_heads-kind}
+use Rattle.rec_bytes.proofs.Causes.{never_ok}
 use Rattle.prop_index.proofs.defining.add_heads.Goals as goal
 
 pub returns-in_err-id-clause-touches : goal.returns-in_err-id-clause-touches
@@ -68,3 +69,15 @@ returns-in_err-id-clause-roomy g c tells left =
 pub returns-in_err-id-clause-onward : goal.returns-in_err-id-clause-onward
 returns-in_err-id-clause-onward g c =
     g.met.S.Reads.further_onward _ _ _ c.loop-number.invariant.onward c.in_err-id.ensures.onward
+
+pub returns-in_err-id-clause-added : goal.returns-in_err-id-clause-added
+returns-in_err-id-clause-added g c _ _ = never_ok c.from_residual.result _ _ c.from_residual.ensures.1
+
+pub returns-in_err-id-clause-counted : goal.returns-in_err-id-clause-counted
+returns-in_err-id-clause-counted g c _ = never_ok c.from_residual.result _ _ c.from_residual.ensures.1
+
+pub returns-in_err-id-clause-heads : goal.returns-in_err-id-clause-heads
+returns-in_err-id-clause-heads g c = never_ok c.from_residual.result _ _ c.from_residual.ensures.1
+
+pub returns-in_err-id-clause-touched : goal.returns-in_err-id-clause-touched
+returns-in_err-id-clause-touched g c = never_ok c.from_residual.result _ _ c.from_residual.ensures.1

@@ -1,4 +1,4 @@
-use Rattle.std.proofs.Common.{◌<◌, ap, ◌∙◌, sym, subst, arith, [], ◌∷◌}
+use Rattle.std.proofs.Common.{◌<◌, ap, ◌∙◌, sym, subst, arith, [], ◌∷◌, rules}
 use Rattle.std.proofs.lemmas.Result.{err_from_is_err_and}
 use Rattle.rec_bytes.specs.Format as format
 use Rattle.rec_bytes.specs.Space.{State, meta_of}
@@ -14,6 +14,7 @@ use Rattle.prop_index.proofs.RecordsAdded.{record_added, space_mishap, take_mish
 use Rattle.prop_store.specs.Touching.{TouchesOnly}
 use Rattle.prop_index.specs.Touching.{index_keys}
 use Rattle.prop_store.proofs.Touches.{only_put}
+use Rattle.rec_bytes.proofs.Causes.{never_ok}
 use Rattle.prop_index.proofs.defining.add_record.Goals as goal
 
 pub returns-clause-added : goal.returns-clause-added
@@ -85,3 +86,30 @@ pub returns-in_err-put-clause-still : goal.returns-in_err-put-clause-still
 returns-in_err-put-clause-still g c tells =
     let t = g.S.Reads.state c.put.new.self in
     space_take t.records t.shape c.from_residual-in_err-put.result c.in_err-put.field-0.0 c.from_residual-in_err-put.ensures.1
+
+pub returns-in_err-id-clause-added : goal.returns-in_err-id-clause-added
+returns-in_err-id-clause-added g c _ _ _ = never_ok c.from_residual.result _ _ c.from_residual.ensures.1
+
+pub returns-in_err-id-clause-counted : goal.returns-in_err-id-clause-counted
+returns-in_err-id-clause-counted g c _ = never_ok c.from_residual.result _ _ c.from_residual.ensures.1
+
+pub returns-in_err-id-clause-key : goal.returns-in_err-id-clause-key
+returns-in_err-id-clause-key g c = never_ok c.from_residual.result _ _ c.from_residual.ensures.1
+
+pub returns-in_err-id-clause-touched : goal.returns-in_err-id-clause-touched
+returns-in_err-id-clause-touched g c = never_ok c.from_residual.result _ _ c.from_residual.ensures.1
+
+pub returns-in_err-id-clause-onward : goal.returns-in_err-id-clause-onward
+returns-in_err-id-clause-onward g c = search rules
+
+pub returns-in_err-put-clause-added : goal.returns-in_err-put-clause-added
+returns-in_err-put-clause-added g c _ _ _ = never_ok c.from_residual-in_err-put.result _ _ c.from_residual-in_err-put.ensures.1
+
+pub returns-in_err-put-clause-counted : goal.returns-in_err-put-clause-counted
+returns-in_err-put-clause-counted g c _ = never_ok c.from_residual-in_err-put.result _ _ c.from_residual-in_err-put.ensures.1
+
+pub returns-in_err-put-clause-key : goal.returns-in_err-put-clause-key
+returns-in_err-put-clause-key g c = never_ok c.from_residual-in_err-put.result _ _ c.from_residual-in_err-put.ensures.1
+
+pub returns-in_err-put-clause-touched : goal.returns-in_err-put-clause-touched
+returns-in_err-put-clause-touched g c = never_ok c.from_residual-in_err-put.result _ _ c.from_residual-in_err-put.ensures.1

@@ -22,6 +22,7 @@ use Rattle.prop_index.specs.Touching.{index_keys}
 use Rattle.prop_index.proofs.DefinitionAdded.{definition_added, definition_reread, start-kind}
 use Rattle.prop_index.proofs.HeadsAdded.{length-head_ids}
 use Rattle.prop_index.proofs.IndexTouches.{index_read, index_then, only_join, then_meta}
+use Rattle.rec_bytes.proofs.Causes.{never_ok}
 use Rattle.prop_index.proofs.defining.define.Goals as goal
 
 pub returns-in_err-rec-clause-touches : goal.returns-in_err-rec-clause-touches
@@ -166,3 +167,54 @@ returns-in_err-set_number-clause-onward g c =
     g.met.S.Reads.further_onward _ _ _
     (g.met.S.Reads.further_onward _ _ _ (g.met.S.Reads.further_onward _ _ _ c.in_ok-meta.ensures.onward c.in_ok-rec.ensures.onward) c.in_ok-id.ensures.onward)
     c.in_err-set_number.ensures.onward
+
+pub returns-in_err-meta-clause-added : goal.returns-in_err-meta-clause-added
+returns-in_err-meta-clause-added g c _ _ _ = never_ok c.from_residual.result _ _ c.from_residual.ensures.1
+
+pub returns-in_err-meta-clause-counted : goal.returns-in_err-meta-clause-counted
+returns-in_err-meta-clause-counted g c _ = never_ok c.from_residual.result _ _ c.from_residual.ensures.1
+
+pub returns-in_err-meta-clause-heads : goal.returns-in_err-meta-clause-heads
+returns-in_err-meta-clause-heads g c = never_ok c.from_residual.result _ _ c.from_residual.ensures.1
+
+pub returns-in_err-meta-clause-touched : goal.returns-in_err-meta-clause-touched
+returns-in_err-meta-clause-touched g c = never_ok c.from_residual.result _ _ c.from_residual.ensures.1
+
+pub returns-in_err-meta-clause-onward : goal.returns-in_err-meta-clause-onward
+returns-in_err-meta-clause-onward g c = search rules
+
+pub returns-in_err-rec-clause-added : goal.returns-in_err-rec-clause-added
+returns-in_err-rec-clause-added g c _ _ _ = never_ok c.from_residual-in_err-rec.result _ _ c.from_residual-in_err-rec.ensures.1
+
+pub returns-in_err-rec-clause-counted : goal.returns-in_err-rec-clause-counted
+returns-in_err-rec-clause-counted g c _ = never_ok c.from_residual-in_err-rec.result _ _ c.from_residual-in_err-rec.ensures.1
+
+pub returns-in_err-rec-clause-heads : goal.returns-in_err-rec-clause-heads
+returns-in_err-rec-clause-heads g c = never_ok c.from_residual-in_err-rec.result _ _ c.from_residual-in_err-rec.ensures.1
+
+pub returns-in_err-rec-clause-touched : goal.returns-in_err-rec-clause-touched
+returns-in_err-rec-clause-touched g c = never_ok c.from_residual-in_err-rec.result _ _ c.from_residual-in_err-rec.ensures.1
+
+pub returns-in_err-id-clause-added : goal.returns-in_err-id-clause-added
+returns-in_err-id-clause-added g c _ _ _ = never_ok c.from_residual-in_err-id.result _ _ c.from_residual-in_err-id.ensures.1
+
+pub returns-in_err-id-clause-counted : goal.returns-in_err-id-clause-counted
+returns-in_err-id-clause-counted g c _ = never_ok c.from_residual-in_err-id.result _ _ c.from_residual-in_err-id.ensures.1
+
+pub returns-in_err-id-clause-heads : goal.returns-in_err-id-clause-heads
+returns-in_err-id-clause-heads g c = never_ok c.from_residual-in_err-id.result _ _ c.from_residual-in_err-id.ensures.1
+
+pub returns-in_err-id-clause-touched : goal.returns-in_err-id-clause-touched
+returns-in_err-id-clause-touched g c = never_ok c.from_residual-in_err-id.result _ _ c.from_residual-in_err-id.ensures.1
+
+pub returns-in_err-set_number-clause-added : goal.returns-in_err-set_number-clause-added
+returns-in_err-set_number-clause-added g c _ _ _ = never_ok c.from_residual-in_err-set_number.result _ _ c.from_residual-in_err-set_number.ensures.1
+
+pub returns-in_err-set_number-clause-counted : goal.returns-in_err-set_number-clause-counted
+returns-in_err-set_number-clause-counted g c _ = never_ok c.from_residual-in_err-set_number.result _ _ c.from_residual-in_err-set_number.ensures.1
+
+pub returns-in_err-set_number-clause-heads : goal.returns-in_err-set_number-clause-heads
+returns-in_err-set_number-clause-heads g c = never_ok c.from_residual-in_err-set_number.result _ _ c.from_residual-in_err-set_number.ensures.1
+
+pub returns-in_err-set_number-clause-touched : goal.returns-in_err-set_number-clause-touched
+returns-in_err-set_number-clause-touched g c = never_ok c.from_residual-in_err-set_number.result _ _ c.from_residual-in_err-set_number.ensures.1

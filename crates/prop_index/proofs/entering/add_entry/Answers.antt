@@ -1,5 +1,5 @@
 use Rattle.std.proofs.lemmas.Bool.{true≢false}
-use Rattle.std.proofs.Common.{◌≡◌, ◌∙◌, sym, subst, refl, arith}
+use Rattle.std.proofs.Common.{◌≡◌, ◌∙◌, sym, subst, refl, arith, rules}
 use Rattle.store_rules.specs.Views.{high, kind_at, rec_at}
 use Rattle.store_rules.proofs.ViewLaws.{kind_below}
 use Rattle.rec_bytes.specs.Format as format
@@ -11,6 +11,7 @@ use Rattle.prop_index.proofs.DefinitionsStay.{made_graph}
 use Rattle.prop_index.proofs.FillSteps.{elsewhere_of}
 use Rattle.prop_index.proofs.IndexBlames.{link_blames, link_names, take_has}
 use Rattle.prop_index.proofs.IndexTouches.{front_index}
+use Rattle.rec_bytes.proofs.Causes.{never_ok}
 use Rattle.prop_index.proofs.entering.add_entry.Goals as goal
 
 pub returns-clause-made : goal.returns-clause-made
@@ -71,3 +72,18 @@ pub returns-in_err-put_in_front-clause-crowded : goal.returns-in_err-put_in_fron
 returns-in_err-put_in_front-clause-crowded g c tells =
     let t = g.S.Reads.state c.put_in_front.new.space in
     take_has (IsIndexFull t) c.from_residual.result c.in_err-put_in_front.field-0.0 c.from_residual.ensures.1 (c.in_err-put_in_front.ensures.crowded tells)
+
+pub returns-in_err-put_in_front-clause-made : goal.returns-in_err-put_in_front-clause-made
+returns-in_err-put_in_front-clause-made g c _ _ _ _ = never_ok c.from_residual.result _ _ c.from_residual.ensures.1
+
+pub returns-in_err-put_in_front-clause-keeps : goal.returns-in_err-put_in_front-clause-keeps
+returns-in_err-put_in_front-clause-keeps g c _ _ _ _ _ _ = never_ok c.from_residual.result _ _ c.from_residual.ensures.1
+
+pub returns-in_err-put_in_front-clause-graph : goal.returns-in_err-put_in_front-clause-graph
+returns-in_err-put_in_front-clause-graph g c _ _ _ _ _ _ = never_ok c.from_residual.result _ _ c.from_residual.ensures.1
+
+pub returns-in_err-put_in_front-clause-counted : goal.returns-in_err-put_in_front-clause-counted
+returns-in_err-put_in_front-clause-counted g c _ = never_ok c.from_residual.result _ _ c.from_residual.ensures.1
+
+pub returns-in_err-put_in_front-clause-onward : goal.returns-in_err-put_in_front-clause-onward
+returns-in_err-put_in_front-clause-onward g c = search rules

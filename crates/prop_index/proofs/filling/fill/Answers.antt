@@ -26,6 +26,7 @@ use Rattle.prop_index.proofs.FillSteps as fs
 use Rattle.prop_index.proofs.FillTouches.{beside_more}
 use Rattle.prop_index.proofs.HeadsAdded.{head-in}
 use Rattle.prop_index.proofs.LinkRules.{free_list, store_takes}
+use Rattle.rec_bytes.proofs.Causes.{never_ok}
 use Rattle.prop_index.proofs.filling.fill.Goals as goal
 
 pub loop-content-init : goal.loop-content-init
@@ -160,3 +161,6 @@ pub returns-in_err-firsts-clause-still : goal.returns-in_err-firsts-clause-still
 returns-in_err-firsts-clause-still g c tells =
     let t = g.S.Reads.state c.put_in_front.new.space in
     take_has (BlamesBroken t.records t.shape) c.from_residual.result c.in_err-firsts.field-0.0 c.from_residual.ensures.1 (c.in_err-firsts.ensures.still tells)
+
+pub returns-in_err-firsts-clause-filled : goal.returns-in_err-firsts-clause-filled
+returns-in_err-firsts-clause-filled g c _ _ _ _ _ _ _ _ = never_ok c.from_residual.result _ _ c.from_residual.ensures.1

@@ -16,6 +16,7 @@ use Rattle.prop_index.proofs.IndexBlames.{definition_begins, definition_blames, 
 use Rattle.prop_index.proofs.Reread.{room_after}
 use Rattle.prop_index.proofs.Searches.{search_begins, search_here, search_on, search_over}
 use Rattle.prop_store.proofs.Causes.{cause_passed}
+use Rattle.rec_bytes.proofs.Causes.{never_ok, ok_cause}
 use Rattle.prop_index.proofs.finding.find_definition.Goals as goal
 
 pub returns-in_err-meta-clause-at_most : goal.returns-in_err-meta-clause-at_most
@@ -155,3 +156,18 @@ returns-in_err-rec-clause-cause g c =
     cause_passed _ _ _ c.from_residual-in_err-rec.result c.in_err-rec.field-0.0
     c.loop.invariant.later c.in_err-rec.ensures.cause
     c.from_residual-in_err-rec.ensures.1
+
+pub returns-in_err-meta-clause-found : goal.returns-in_err-meta-clause-found
+returns-in_err-meta-clause-found g c _ _ _ = never_ok c.from_residual.result _ _ c.from_residual.ensures.1
+
+pub returns-in_err-meta-clause-defined : goal.returns-in_err-meta-clause-defined
+returns-in_err-meta-clause-defined g c _ = never_ok c.from_residual.result _ _ c.from_residual.ensures.1
+
+pub returns-in_err-rec-clause-found : goal.returns-in_err-rec-clause-found
+returns-in_err-rec-clause-found g c _ _ _ = never_ok c.from_residual-in_err-rec.result _ _ c.from_residual-in_err-rec.ensures.1
+
+pub returns-in_err-rec-clause-defined : goal.returns-in_err-rec-clause-defined
+returns-in_err-rec-clause-defined g c _ = never_ok c.from_residual-in_err-rec.result _ _ c.from_residual-in_err-rec.ensures.1
+
+pub returns-clause-cause : goal.returns-clause-cause
+returns-clause-cause g c = ok_cause _ _ _ _ (omega arith)

@@ -17,6 +17,7 @@ use Rattle.prop_index.proofs.IndexBlames.{blames_before, entry_blames, entry_goe
 use Rattle.prop_index.proofs.Gathers.{gather_begins, gather_cost, gather_here, gather_on, gather_over}
 use Rattle.prop_index.proofs.Reread.{node_after, room_after, same_records, same_then}
 use Rattle.prop_store.proofs.Causes.{cause_passed, later_on}
+use Rattle.rec_bytes.proofs.Causes.{never_ok, ok_cause}
 use Rattle.prop_index.proofs.gathering.gather.Goals as goal
 
 pub loop-init : goal.loop-init
@@ -182,3 +183,12 @@ returns-in_err-add_node-clause-cause g c =
     cause_passed _ _ _ c.from_residual-in_err-add_node.result c.in_err-add_node.field-0.0
     (later_on c.loop.invariant.later c.in_ok-rec.ensures.cause.later) c.in_err-add_node.ensures.cause
     c.from_residual-in_err-add_node.ensures.1
+
+pub returns-in_err-rec-clause-found : goal.returns-in_err-rec-clause-found
+returns-in_err-rec-clause-found g c _ _ _ = never_ok c.from_residual.result _ _ c.from_residual.ensures.1
+
+pub returns-in_err-add_node-clause-found : goal.returns-in_err-add_node-clause-found
+returns-in_err-add_node-clause-found g c _ _ _ = never_ok c.from_residual-in_err-add_node.result _ _ c.from_residual-in_err-add_node.ensures.1
+
+pub returns-clause-cause : goal.returns-clause-cause
+returns-clause-cause g c = ok_cause _ _ _ _ (omega arith)

@@ -1,4 +1,4 @@
-use Rattle.std.proofs.Common.{◌≡◌, ◌/◌, ◌+◌, ◌<◌, ℕ, length, ap, sym, ◌∙◌, subst, arith}
+use Rattle.std.proofs.Common.{◌≡◌, ◌/◌, ◌+◌, ◌<◌, ℕ, length, ap, sym, ◌∙◌, subst, arith, rules}
 use Rattle.std.proofs.lemmas.Result.{err_from_is_err_and}
 use Rattle.rec_bytes.specs.Format as format
 use Rattle.rec_bytes.specs.Space.{SameButReads}
@@ -15,6 +15,7 @@ use Rattle.prop_index.specs.Finding.{IsDefined, IsFound}
 use Rattle.prop_index.specs.Heads.{IsBucketOf}
 use Rattle.prop_index.proofs.Reread.{definitions_of, room_after, same_records}
 use Rattle.prop_store.proofs.Causes.{cause_passed}
+use Rattle.rec_bytes.proofs.Causes.{never_ok, ok_cause}
 use Rattle.prop_index.proofs.heads.find_bucket.Goals as goal
 
 pub returns-in_default-clause-found : goal.returns-in_default-clause-found
@@ -164,3 +165,39 @@ returns-in_err-bucket-clause-cause g c =
     cause_passed _ _ _ c.from_residual-in_err-bucket.result c.in_err-bucket.field-0.0
     c.in_ok-definition.ensures.cause.later c.in_err-bucket.ensures.cause
     c.from_residual-in_err-bucket.ensures.1
+
+pub returns-in_err-definition-clause-found : goal.returns-in_err-definition-clause-found
+returns-in_err-definition-clause-found g c _ _ _ = never_ok c.from_residual.result _ _ c.from_residual.ensures.1
+
+pub returns-in_err-definition-clause-lacks : goal.returns-in_err-definition-clause-lacks
+returns-in_err-definition-clause-lacks g c _ = never_ok c.from_residual.result _ _ c.from_residual.ensures.1
+
+pub returns-in_err-definition-clause-met : goal.returns-in_err-definition-clause-met
+returns-in_err-definition-clause-met g c _ = never_ok c.from_residual.result _ _ c.from_residual.ensures.1
+
+pub returns-in_err-definition-clause-key : goal.returns-in_err-definition-clause-key
+returns-in_err-definition-clause-key g c = never_ok c.from_residual.result _ _ c.from_residual.ensures.1
+
+pub returns-in_err-definition-clause-place : goal.returns-in_err-definition-clause-place
+returns-in_err-definition-clause-place g c = never_ok c.from_residual.result _ _ c.from_residual.ensures.1
+
+pub returns-in_err-definition-clause-onward : goal.returns-in_err-definition-clause-onward
+returns-in_err-definition-clause-onward g c = search rules
+
+pub returns-in_err-bucket-clause-found : goal.returns-in_err-bucket-clause-found
+returns-in_err-bucket-clause-found g c _ _ _ = never_ok c.from_residual-in_err-bucket.result _ _ c.from_residual-in_err-bucket.ensures.1
+
+pub returns-in_err-bucket-clause-lacks : goal.returns-in_err-bucket-clause-lacks
+returns-in_err-bucket-clause-lacks g c _ = never_ok c.from_residual-in_err-bucket.result _ _ c.from_residual-in_err-bucket.ensures.1
+
+pub returns-in_err-bucket-clause-met : goal.returns-in_err-bucket-clause-met
+returns-in_err-bucket-clause-met g c _ = never_ok c.from_residual-in_err-bucket.result _ _ c.from_residual-in_err-bucket.ensures.1
+
+pub returns-in_err-bucket-clause-key : goal.returns-in_err-bucket-clause-key
+returns-in_err-bucket-clause-key g c = never_ok c.from_residual-in_err-bucket.result _ _ c.from_residual-in_err-bucket.ensures.1
+
+pub returns-in_err-bucket-clause-place : goal.returns-in_err-bucket-clause-place
+returns-in_err-bucket-clause-place g c = never_ok c.from_residual-in_err-bucket.result _ _ c.from_residual-in_err-bucket.ensures.1
+
+pub returns-clause-cause : goal.returns-clause-cause
+returns-clause-cause g c = ok_cause _ _ _ _ (omega arith)

@@ -1,4 +1,4 @@
-use Rattle.std.proofs.Common.{◌≡◌, ◌/◌, ◌+◌, ◌*◌, ap, ◌∙◌, inl, refl, sym, subst, arith}
+use Rattle.std.proofs.Common.{◌≡◌, ◌/◌, ◌+◌, ◌*◌, ap, ◌∙◌, inl, refl, sym, subst, arith, rules}
 use Rattle.rec_bytes.specs.declared.record.Rec.{Rec}
 use Rattle.rec_bytes.specs.Format as format
 use Rattle.rec_bytes.specs.Record.{field}
@@ -8,6 +8,7 @@ use Rattle.prop_store.proofs.Exits.{same_has}
 use Rattle.prop_index.specs.Blaming.{IsOfIndexes, NamesIndexes}
 use Rattle.prop_index.specs.Reading.{IsReadFault}
 use Rattle.prop_index.proofs.IndexBlames.{heads_blames, read_names}
+use Rattle.rec_bytes.proofs.Causes.{never_ok, ok_cause}
 use Rattle.prop_index.proofs.heads.read_bucket.Goals as goal
 
 pub returns-in_err-rec-clause-damaged : goal.returns-in_err-rec-clause-damaged
@@ -27,3 +28,18 @@ returns-in_err-rec-clause-names g c tells =
     let fault = c.in_err-rec.field-0.0 in
     same_has NamesIndexes c.from_residual.result fault c.from_residual.ensures.1
     (read_names s c.slot_of-slot.result.id format.heads c.out_of_range.result fault (subst IsOfIndexes (sym c.out_of_range.ensures) (inl refl)) (c.in_err-rec.ensures.damaged tells))
+
+pub returns-in_err-rec-clause-is : goal.returns-in_err-rec-clause-is
+returns-in_err-rec-clause-is g c _ _ = never_ok c.from_residual.result _ _ c.from_residual.ensures.1
+
+pub returns-in_err-rec-clause-key : goal.returns-in_err-rec-clause-key
+returns-in_err-rec-clause-key g c = never_ok c.from_residual.result _ _ c.from_residual.ensures.1
+
+pub returns-in_err-rec-clause-place : goal.returns-in_err-rec-clause-place
+returns-in_err-rec-clause-place g c = never_ok c.from_residual.result _ _ c.from_residual.ensures.1
+
+pub returns-in_err-rec-clause-onward : goal.returns-in_err-rec-clause-onward
+returns-in_err-rec-clause-onward g c = search rules
+
+pub returns-clause-cause : goal.returns-clause-cause
+returns-clause-cause g c = ok_cause _ _ _ _ (omega arith)

@@ -1,4 +1,4 @@
-use Rattle.std.proofs.Common.{◌≡◌, ◌≢◌, ◌<◌, ap, ◌∙◌, sym, subst, arith}
+use Rattle.std.proofs.Common.{◌≡◌, ◌≢◌, ◌<◌, ap, ◌∙◌, sym, subst, arith, rules}
 use Rattle.std.proofs.lemmas.Result.{err_from_is_err_and}
 use Rattle.rec_bytes.specs.declared.fault.Fault.TheVariants.{Damaged}
 use Rattle.rec_bytes.specs.declared.record.Rec.{Rec}
@@ -19,6 +19,7 @@ use Rattle.prop_index.specs.Gathering.{node_owner}
 use Rattle.prop_index.proofs.EntryNodes.{entry_owner_blames, entry_unwanted, in_use}
 use Rattle.prop_index.proofs.IndexBlames.{any_read, blames_before}
 use Rattle.prop_index.proofs.Values.{value_in-is}
+use Rattle.rec_bytes.proofs.Causes.{never_ok, ok_cause}
 use Rattle.prop_index.proofs.holding.holds.Goals as goal
 
 pub returns-in_err-owner-clause-at_most : goal.returns-in_err-owner-clause-at_most
@@ -86,3 +87,18 @@ returns-in_err-held-clause-damaged g c tells d b count rec met node_is =
     same_has (BlamesBroken s.records s.shape) c.from_residual-in_err-held.result c.in_err-held.field-0.0 c.from_residual-in_err-held.ensures.1
     (blames_before s now c.in_err-held.field-0.0 (reads_same 1 s now (reads_one 1 s now (omega arith) c.get.ensures.state))
     (any_read now.records now.shape c.in_err-held.field-0.0 (c.in_err-held.ensures.damaged tells (subst (λ (o : Owner). IsInUse now.records o) (sym c.in_ok-owner.ensures.is) (subst (λ (r : Records). IsInUse r (node_owner c.args.node)) (sym gone) used)))))
+
+pub returns-in_err-owner-clause-met : goal.returns-in_err-owner-clause-met
+returns-in_err-owner-clause-met g c _ = never_ok c.from_residual.result _ _ c.from_residual.ensures.1
+
+pub returns-in_err-owner-clause-onward : goal.returns-in_err-owner-clause-onward
+returns-in_err-owner-clause-onward g c = search rules
+
+pub returns-in_err-rec-clause-met : goal.returns-in_err-rec-clause-met
+returns-in_err-rec-clause-met g c _ = never_ok c.from_residual-in_err-rec.result _ _ c.from_residual-in_err-rec.ensures.1
+
+pub returns-in_err-held-clause-met : goal.returns-in_err-held-clause-met
+returns-in_err-held-clause-met g c _ = never_ok c.from_residual-in_err-held.result _ _ c.from_residual-in_err-held.ensures.1
+
+pub returns-clause-cause : goal.returns-clause-cause
+returns-clause-cause g c = ok_cause _ _ _ _ (omega arith)

@@ -1,4 +1,4 @@
-use Rattle.std.proofs.Common.{◌≡◌, ◌≢◌, ◌⊎◌, ◌∙◌, Option, Some, List, refl, ap, sym, subst, ◌-◌, ◌<◌, ℕ, arith, inl, inr, ⊎_elim}
+use Rattle.std.proofs.Common.{◌≡◌, ◌≢◌, ◌⊎◌, ◌∙◌, Option, Some, List, refl, ap, sym, subst, ◌-◌, ◌<◌, ℕ, arith, inl, inr, ⊎_elim, rules}
 use Rattle.rec_bytes.specs.declared.damage.Damage.{Damage}
 use Rattle.rec_bytes.specs.declared.fault.Fault.TheVariants.{Damaged}
 use Rattle.rec_bytes.specs.Space.{SameButReads, State, meta_of}
@@ -34,6 +34,7 @@ use Rattle.prop_index.proofs.Unlinked.{entry_unlinked}
 use Rattle.std.proofs.lemmas.Bool.{true≢false}
 use Rattle.std.proofs.lemmas.Result.{err_from_is_err_and}
 use Rattle.prop_store.proofs.Causes.{space_cause_passed}
+use Rattle.rec_bytes.proofs.Causes.{never_ok, ok_cause}
 use Rattle.prop_index.proofs.leaving.drop_entry.Goals as goal
 
 pub returns-in_default-clause-dropped : goal.returns-in_default-clause-dropped
@@ -288,3 +289,93 @@ returns-in_err-unlink-clause-cause g c =
     space_cause_passed _ _ _ c.from_residual-in_err-unlink.result c.in_err-unlink.field-0.0
     c.in_ok-row.ensures.cause.later c.in_err-unlink.ensures.cause
     c.from_residual-in_err-unlink.ensures.1
+
+pub returns-in_err-row-clause-dropped : goal.returns-in_err-row-clause-dropped
+returns-in_err-row-clause-dropped g c _ _ _ _ _ _ = never_ok c.from_residual.result _ _ c.from_residual.ensures.1
+
+pub returns-in_err-row-clause-keeps : goal.returns-in_err-row-clause-keeps
+returns-in_err-row-clause-keeps g c _ _ _ _ _ _ = never_ok c.from_residual.result _ _ c.from_residual.ensures.1
+
+pub returns-in_err-row-clause-graph : goal.returns-in_err-row-clause-graph
+returns-in_err-row-clause-graph g c _ _ _ _ _ _ _ = never_ok c.from_residual.result _ _ c.from_residual.ensures.1
+
+pub returns-in_err-row-clause-counted : goal.returns-in_err-row-clause-counted
+returns-in_err-row-clause-counted g c _ = never_ok c.from_residual.result _ _ c.from_residual.ensures.1
+
+pub returns-in_err-row-clause-kept : goal.returns-in_err-row-clause-kept
+returns-in_err-row-clause-kept g c _ = never_ok c.from_residual.result _ _ c.from_residual.ensures.1
+
+pub returns-in_err-row-clause-absent : goal.returns-in_err-row-clause-absent
+returns-in_err-row-clause-absent g c _ _ _ _ = never_ok c.from_residual.result _ _ c.from_residual.ensures.1
+
+pub returns-in_err-row-clause-gone : goal.returns-in_err-row-clause-gone
+returns-in_err-row-clause-gone g c _ _ _ _ _ _ = never_ok c.from_residual.result _ _ c.from_residual.ensures.1
+
+pub returns-in_err-row-clause-onward : goal.returns-in_err-row-clause-onward
+returns-in_err-row-clause-onward g c = search rules
+
+pub returns-in_err-test_link-clause-dropped : goal.returns-in_err-test_link-clause-dropped
+returns-in_err-test_link-clause-dropped g c _ _ _ _ _ _ = never_ok c.from_residual-in_err-test_link.result _ _ c.from_residual-in_err-test_link.ensures.1
+
+pub returns-in_err-test_link-clause-keeps : goal.returns-in_err-test_link-clause-keeps
+returns-in_err-test_link-clause-keeps g c _ _ _ _ _ _ = never_ok c.from_residual-in_err-test_link.result _ _ c.from_residual-in_err-test_link.ensures.1
+
+pub returns-in_err-test_link-clause-graph : goal.returns-in_err-test_link-clause-graph
+returns-in_err-test_link-clause-graph g c _ _ _ _ _ _ _ = never_ok c.from_residual-in_err-test_link.result _ _ c.from_residual-in_err-test_link.ensures.1
+
+pub returns-in_err-test_link-clause-counted : goal.returns-in_err-test_link-clause-counted
+returns-in_err-test_link-clause-counted g c _ = never_ok c.from_residual-in_err-test_link.result _ _ c.from_residual-in_err-test_link.ensures.1
+
+pub returns-in_err-test_link-clause-kept : goal.returns-in_err-test_link-clause-kept
+returns-in_err-test_link-clause-kept g c _ = never_ok c.from_residual-in_err-test_link.result _ _ c.from_residual-in_err-test_link.ensures.1
+
+pub returns-in_err-test_link-clause-absent : goal.returns-in_err-test_link-clause-absent
+returns-in_err-test_link-clause-absent g c _ _ _ _ = never_ok c.from_residual-in_err-test_link.result _ _ c.from_residual-in_err-test_link.ensures.1
+
+pub returns-in_err-test_link-clause-gone : goal.returns-in_err-test_link-clause-gone
+returns-in_err-test_link-clause-gone g c _ _ _ _ _ _ = never_ok c.from_residual-in_err-test_link.result _ _ c.from_residual-in_err-test_link.ensures.1
+
+pub returns-in_err-test_link-2-clause-dropped : goal.returns-in_err-test_link-2-clause-dropped
+returns-in_err-test_link-2-clause-dropped g c _ _ _ _ _ _ = never_ok c.from_residual-in_err-test_link-2.result _ _ c.from_residual-in_err-test_link-2.ensures.1
+
+pub returns-in_err-test_link-2-clause-keeps : goal.returns-in_err-test_link-2-clause-keeps
+returns-in_err-test_link-2-clause-keeps g c _ _ _ _ _ _ = never_ok c.from_residual-in_err-test_link-2.result _ _ c.from_residual-in_err-test_link-2.ensures.1
+
+pub returns-in_err-test_link-2-clause-graph : goal.returns-in_err-test_link-2-clause-graph
+returns-in_err-test_link-2-clause-graph g c _ _ _ _ _ _ _ = never_ok c.from_residual-in_err-test_link-2.result _ _ c.from_residual-in_err-test_link-2.ensures.1
+
+pub returns-in_err-test_link-2-clause-counted : goal.returns-in_err-test_link-2-clause-counted
+returns-in_err-test_link-2-clause-counted g c _ = never_ok c.from_residual-in_err-test_link-2.result _ _ c.from_residual-in_err-test_link-2.ensures.1
+
+pub returns-in_err-test_link-2-clause-kept : goal.returns-in_err-test_link-2-clause-kept
+returns-in_err-test_link-2-clause-kept g c _ = never_ok c.from_residual-in_err-test_link-2.result _ _ c.from_residual-in_err-test_link-2.ensures.1
+
+pub returns-in_err-test_link-2-clause-absent : goal.returns-in_err-test_link-2-clause-absent
+returns-in_err-test_link-2-clause-absent g c _ _ _ _ = never_ok c.from_residual-in_err-test_link-2.result _ _ c.from_residual-in_err-test_link-2.ensures.1
+
+pub returns-in_err-test_link-2-clause-gone : goal.returns-in_err-test_link-2-clause-gone
+returns-in_err-test_link-2-clause-gone g c _ _ _ _ _ _ = never_ok c.from_residual-in_err-test_link-2.result _ _ c.from_residual-in_err-test_link-2.ensures.1
+
+pub returns-in_err-unlink-clause-dropped : goal.returns-in_err-unlink-clause-dropped
+returns-in_err-unlink-clause-dropped g c _ _ _ _ _ _ = never_ok c.from_residual-in_err-unlink.result _ _ c.from_residual-in_err-unlink.ensures.1
+
+pub returns-in_err-unlink-clause-keeps : goal.returns-in_err-unlink-clause-keeps
+returns-in_err-unlink-clause-keeps g c _ _ _ _ _ _ = never_ok c.from_residual-in_err-unlink.result _ _ c.from_residual-in_err-unlink.ensures.1
+
+pub returns-in_err-unlink-clause-graph : goal.returns-in_err-unlink-clause-graph
+returns-in_err-unlink-clause-graph g c _ _ _ _ _ _ _ = never_ok c.from_residual-in_err-unlink.result _ _ c.from_residual-in_err-unlink.ensures.1
+
+pub returns-in_err-unlink-clause-counted : goal.returns-in_err-unlink-clause-counted
+returns-in_err-unlink-clause-counted g c _ = never_ok c.from_residual-in_err-unlink.result _ _ c.from_residual-in_err-unlink.ensures.1
+
+pub returns-in_err-unlink-clause-kept : goal.returns-in_err-unlink-clause-kept
+returns-in_err-unlink-clause-kept g c _ = never_ok c.from_residual-in_err-unlink.result _ _ c.from_residual-in_err-unlink.ensures.1
+
+pub returns-in_err-unlink-clause-absent : goal.returns-in_err-unlink-clause-absent
+returns-in_err-unlink-clause-absent g c _ _ _ _ = never_ok c.from_residual-in_err-unlink.result _ _ c.from_residual-in_err-unlink.ensures.1
+
+pub returns-in_err-unlink-clause-gone : goal.returns-in_err-unlink-clause-gone
+returns-in_err-unlink-clause-gone g c _ _ _ _ _ _ = never_ok c.from_residual-in_err-unlink.result _ _ c.from_residual-in_err-unlink.ensures.1
+
+pub returns-clause-cause : goal.returns-clause-cause
+returns-clause-cause g c = ok_cause _ _ _ _ (omega arith)

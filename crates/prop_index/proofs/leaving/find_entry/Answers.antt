@@ -14,6 +14,7 @@ use Rattle.prop_store.proofs.ReadCounts.{reads_same}
 use Rattle.prop_index.proofs.Reread.{same_records, same_then, room_after}
 use Rattle.prop_index.proofs.Searches.{search_begins, search_here, search_on, search_over}
 use Rattle.std.proofs.lemmas.Result.{err_from_is_err_and}
+use Rattle.rec_bytes.proofs.Causes.{never_ok, ok_cause}
 use Rattle.prop_index.proofs.leaving.find_entry.Goals as goal
 
 pub loop-init : goal.loop-init
@@ -111,3 +112,15 @@ returns-in_err-rec-clause-names g c tells is =
 
 pub returns-then-at-2-clause-names : goal.returns-then-at-2-clause-names
 returns-then-at-2-clause-names g c tells is = subst NamesIndexes (sym c.damaged.ensures) (inl refl)
+
+pub returns-in_err-rec-clause-found : goal.returns-in_err-rec-clause-found
+returns-in_err-rec-clause-found g c _ _ _ = never_ok c.from_residual.result _ _ c.from_residual.ensures.1
+
+pub returns-in_err-rec-clause-row : goal.returns-in_err-rec-clause-row
+returns-in_err-rec-clause-row g c _ = never_ok c.from_residual.result _ _ c.from_residual.ensures.1
+
+pub returns-in_err-rec-clause-key : goal.returns-in_err-rec-clause-key
+returns-in_err-rec-clause-key g c = never_ok c.from_residual.result _ _ c.from_residual.ensures.1
+
+pub returns-clause-cause : goal.returns-clause-cause
+returns-clause-cause g c = ok_cause _ _ _ _ (omega arith)

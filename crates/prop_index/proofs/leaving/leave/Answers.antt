@@ -1,5 +1,5 @@
 use Rattle.std.specs.Prelude.{Result, Ok, Err, OnOk}
-use Rattle.std.proofs.Common.{◌≡◌, ℕ, true, ◌-◌, ◌∙◌, ap, sym, subst, arith}
+use Rattle.std.proofs.Common.{◌≡◌, ℕ, true, ◌-◌, ◌∙◌, ap, sym, subst, arith, rules}
 use Rattle.rec_bytes.specs.Format as format
 use Rattle.rec_bytes.specs.Space.{SameButReads, State, meta_of}
 use Rattle.store_rules.specs.Hashes.{bucket_of}
@@ -21,6 +21,7 @@ use Rattle.prop_index.proofs.Changed.{left_in, none_wanted, unlisted_left}
 use Rattle.prop_index.proofs.Reread.{can_after, kept_after, same_records, same_then, room_after}
 use Rattle.prop_index.proofs.IndexTouches.{index_read, index_then}
 use Rattle.std.proofs.lemmas.Result.{err_from_is_err_and}
+use Rattle.rec_bytes.proofs.Causes.{never_ok}
 use Rattle.prop_index.proofs.leaving.leave.Goals as goal
 
 on_ok : {T E : Type 0} {P Q : Type 0} (r : Result T E) → (P → Q) → OnOk r P → OnOk r Q
@@ -236,3 +237,30 @@ returns-clause-absent g c tells wanted ix unwanted =
     (c.drop_entry.ensures.absent tells xs (chain-reread s now bucket.first xs same (bucket-chain s.records wanted ix c.args.label c.args.key content.hash bucket found))
     (subst (λ (r : Records). IsNoneOf r xs content) (sym (same_records s now same))
     (none_wanted s.records wanted ix c.args.label c.args.key content bucket found (ap (λ (h : ℕ). wanted (hashed h)) c.hash_of-hash.ensures ∙ unwanted))))
+
+pub returns-in_err-bucket-clause-left : goal.returns-in_err-bucket-clause-left
+returns-in_err-bucket-clause-left g c _ _ _ _ _ = never_ok c.from_residual.result _ _ c.from_residual.ensures.1
+
+pub returns-in_err-bucket-clause-keeps : goal.returns-in_err-bucket-clause-keeps
+returns-in_err-bucket-clause-keeps g c _ _ _ _ = never_ok c.from_residual.result _ _ c.from_residual.ensures.1
+
+pub returns-in_err-bucket-clause-graph : goal.returns-in_err-bucket-clause-graph
+returns-in_err-bucket-clause-graph g c _ _ _ _ _ = never_ok c.from_residual.result _ _ c.from_residual.ensures.1
+
+pub returns-in_err-bucket-clause-counted : goal.returns-in_err-bucket-clause-counted
+returns-in_err-bucket-clause-counted g c _ = never_ok c.from_residual.result _ _ c.from_residual.ensures.1
+
+pub returns-in_err-bucket-clause-kept : goal.returns-in_err-bucket-clause-kept
+returns-in_err-bucket-clause-kept g c _ = never_ok c.from_residual.result _ _ c.from_residual.ensures.1
+
+pub returns-in_err-bucket-clause-unlisted : goal.returns-in_err-bucket-clause-unlisted
+returns-in_err-bucket-clause-unlisted g c _ _ _ _ = never_ok c.from_residual.result _ _ c.from_residual.ensures.1
+
+pub returns-in_err-bucket-clause-absent : goal.returns-in_err-bucket-clause-absent
+returns-in_err-bucket-clause-absent g c _ _ _ _ = never_ok c.from_residual.result _ _ c.from_residual.ensures.1
+
+pub returns-in_err-bucket-clause-gone : goal.returns-in_err-bucket-clause-gone
+returns-in_err-bucket-clause-gone g c _ _ _ _ _ _ _ = never_ok c.from_residual.result _ _ c.from_residual.ensures.1
+
+pub returns-in_err-bucket-clause-onward : goal.returns-in_err-bucket-clause-onward
+returns-in_err-bucket-clause-onward g c = search rules

@@ -18,6 +18,7 @@ use Rattle.prop_index.proofs.Steps.{linked-meta}
 use Rattle.std.proofs.lemmas.Result.{err_from_is_err_and}
 use Rattle.prop_index.specs.Blaming.{TakeNamesIndexes}
 use Rattle.prop_index.specs.Touching.{front_ids}
+use Rattle.rec_bytes.proofs.Causes.{never_ok}
 use Rattle.prop_index.proofs.linking.put_in_front.Goals as goal
 
 pub returns-clause-made : goal.returns-clause-made
@@ -114,3 +115,36 @@ returns-in_err-id-clause-crowded g c tells =
     let z = g.S.Reads.state c.take.new.space in
     let p = err_from_is_err_and c.from_residual.result c.from_residual.ensures.1 in
     rw (p.1, p.2) (full-after s z c.in_err-id.field-0.0 c.in_err-id.ensures.err (take-full s c.in_err-id.field-0.0 (c.in_err-id.ensures.refused tells)))
+
+pub returns-in_err-id-clause-made : goal.returns-in_err-id-clause-made
+returns-in_err-id-clause-made g c _ _ _ _ _ = never_ok c.from_residual.result _ _ c.from_residual.ensures.1
+
+pub returns-in_err-id-clause-keeps : goal.returns-in_err-id-clause-keeps
+returns-in_err-id-clause-keeps g c _ _ _ _ _ _ = never_ok c.from_residual.result _ _ c.from_residual.ensures.1
+
+pub returns-in_err-id-clause-counted : goal.returns-in_err-id-clause-counted
+returns-in_err-id-clause-counted g c _ = never_ok c.from_residual.result _ _ c.from_residual.ensures.1
+
+pub returns-in_err-id-clause-key : goal.returns-in_err-id-clause-key
+returns-in_err-id-clause-key g c = never_ok c.from_residual.result _ _ c.from_residual.ensures.1
+
+pub returns-in_err-id-clause-touched : goal.returns-in_err-id-clause-touched
+returns-in_err-id-clause-touched g c = never_ok c.from_residual.result _ _ c.from_residual.ensures.1
+
+pub returns-in_err-id-clause-onward : goal.returns-in_err-id-clause-onward
+returns-in_err-id-clause-onward g c = search rules
+
+pub returns-in_err-link-clause-made : goal.returns-in_err-link-clause-made
+returns-in_err-link-clause-made g c _ _ _ _ _ = never_ok c.from_residual-in_err-link.result _ _ c.from_residual-in_err-link.ensures.1
+
+pub returns-in_err-link-clause-keeps : goal.returns-in_err-link-clause-keeps
+returns-in_err-link-clause-keeps g c _ _ _ _ _ _ = never_ok c.from_residual-in_err-link.result _ _ c.from_residual-in_err-link.ensures.1
+
+pub returns-in_err-link-clause-counted : goal.returns-in_err-link-clause-counted
+returns-in_err-link-clause-counted g c _ = never_ok c.from_residual-in_err-link.result _ _ c.from_residual-in_err-link.ensures.1
+
+pub returns-in_err-link-clause-key : goal.returns-in_err-link-clause-key
+returns-in_err-link-clause-key g c = never_ok c.from_residual-in_err-link.result _ _ c.from_residual-in_err-link.ensures.1
+
+pub returns-in_err-link-clause-touched : goal.returns-in_err-link-clause-touched
+returns-in_err-link-clause-touched g c = never_ok c.from_residual-in_err-link.result _ _ c.from_residual-in_err-link.ensures.1

@@ -16,6 +16,7 @@ use Rattle.prop_index.proofs.IndexBlames.{definition_begins, definition_blames, 
 use Rattle.prop_index.proofs.Reread.{definitions_of, room_after}
 use Rattle.prop_index.proofs.Walks.{walk_begins, walk_here, walk_on, walk_over}
 use Rattle.prop_store.proofs.Causes.{cause_passed, later_on, memory_cause}
+use Rattle.rec_bytes.proofs.Causes.{never_ok, ok_cause}
 use Rattle.prop_index.proofs.listing.indexes.Goals as goal
 
 pub returns-in_err-meta-clause-at_most : goal.returns-in_err-meta-clause-at_most
@@ -152,3 +153,33 @@ pub returns-in_err-push-clause-cause : goal.returns-in_err-push-clause-cause
 returns-in_err-push-clause-cause g c =
     memory_cause _ _ c.from_residual-in_err-push.result (later_on c.loop.invariant.later c.in_ok-rec.ensures.cause.later)
     c.from_residual-in_err-push.ensures.1
+
+pub returns-in_err-meta-clause-listed : goal.returns-in_err-meta-clause-listed
+returns-in_err-meta-clause-listed g c _ _ _ = never_ok c.from_residual.result _ _ c.from_residual.ensures.1
+
+pub returns-in_err-meta-clause-walked : goal.returns-in_err-meta-clause-walked
+returns-in_err-meta-clause-walked g c _ = never_ok c.from_residual.result _ _ c.from_residual.ensures.1
+
+pub returns-in_err-meta-clause-few : goal.returns-in_err-meta-clause-few
+returns-in_err-meta-clause-few g c = never_ok c.from_residual.result _ _ c.from_residual.ensures.1
+
+pub returns-in_err-rec-clause-listed : goal.returns-in_err-rec-clause-listed
+returns-in_err-rec-clause-listed g c _ _ _ = never_ok c.from_residual-in_err-rec.result _ _ c.from_residual-in_err-rec.ensures.1
+
+pub returns-in_err-rec-clause-walked : goal.returns-in_err-rec-clause-walked
+returns-in_err-rec-clause-walked g c _ = never_ok c.from_residual-in_err-rec.result _ _ c.from_residual-in_err-rec.ensures.1
+
+pub returns-in_err-rec-clause-few : goal.returns-in_err-rec-clause-few
+returns-in_err-rec-clause-few g c = never_ok c.from_residual-in_err-rec.result _ _ c.from_residual-in_err-rec.ensures.1
+
+pub returns-in_err-push-clause-listed : goal.returns-in_err-push-clause-listed
+returns-in_err-push-clause-listed g c _ _ _ = never_ok c.from_residual-in_err-push.result _ _ c.from_residual-in_err-push.ensures.1
+
+pub returns-in_err-push-clause-walked : goal.returns-in_err-push-clause-walked
+returns-in_err-push-clause-walked g c _ = never_ok c.from_residual-in_err-push.result _ _ c.from_residual-in_err-push.ensures.1
+
+pub returns-in_err-push-clause-few : goal.returns-in_err-push-clause-few
+returns-in_err-push-clause-few g c = never_ok c.from_residual-in_err-push.result _ _ c.from_residual-in_err-push.ensures.1
+
+pub returns-clause-cause : goal.returns-clause-cause
+returns-clause-cause g c = ok_cause _ _ _ _ (omega arith)

@@ -1,4 +1,4 @@
-use Rattle.std.proofs.Common.{List, ℕ, sym, ◌∙◌, subst, refl, inl}
+use Rattle.std.proofs.Common.{List, ℕ, sym, ◌∙◌, subst, refl, inl, arith, rules}
 use Rattle.std.specs.Prelude.{IfNone, Option}
 use Rattle.rec_bytes.specs.Format as format
 use Rattle.rec_bytes.specs.Space.{SameButReads}
@@ -16,6 +16,7 @@ use Rattle.prop_index.proofs.IndexBlames.{blames_before, entry_begins, entry_rer
 use Rattle.prop_index.proofs.GraphFound.{graph_found}
 use Rattle.prop_index.proofs.Lookups.{are_entries, are_readable, caused_exit, definitions_are, early_reads, entries, found_is, has_room, lookup_reads, read_lookup, reads_exit, refused_exit}
 use Rattle.prop_index.proofs.Reread.{same_then}
+use Rattle.rec_bytes.proofs.Causes.{never_ok, ok_cause}
 use Rattle.prop_index.proofs.looking.lookup.Goals as goal
 
 pub returns-in_err-bucket-clause-refused : goal.returns-in_err-bucket-clause-refused
@@ -194,3 +195,36 @@ returns-in_err-put_in_order-clause-onward g c =
 pub returns-clause-onward : goal.returns-clause-onward
 returns-clause-onward g c =
     g.met.R.Reads.further_onward _ _ _ c.in_ok-bucket.ensures.onward c.in_ok-nodes.ensures.onward
+
+pub returns-in_err-bucket-clause-found : goal.returns-in_err-bucket-clause-found
+returns-in_err-bucket-clause-found g c _ _ = never_ok c.from_residual.result _ _ c.from_residual.ensures.1
+
+pub returns-in_err-bucket-clause-graph : goal.returns-in_err-bucket-clause-graph
+returns-in_err-bucket-clause-graph g c _ _ _ = never_ok c.from_residual.result _ _ c.from_residual.ensures.1
+
+pub returns-in_err-bucket-clause-cost : goal.returns-in_err-bucket-clause-cost
+returns-in_err-bucket-clause-cost g c _ _ = never_ok c.from_residual.result _ _ c.from_residual.ensures.1
+
+pub returns-in_err-bucket-clause-onward : goal.returns-in_err-bucket-clause-onward
+returns-in_err-bucket-clause-onward g c = search rules
+
+pub returns-in_err-nodes-clause-found : goal.returns-in_err-nodes-clause-found
+returns-in_err-nodes-clause-found g c _ _ = never_ok c.from_residual-in_err-nodes.result _ _ c.from_residual-in_err-nodes.ensures.1
+
+pub returns-in_err-nodes-clause-graph : goal.returns-in_err-nodes-clause-graph
+returns-in_err-nodes-clause-graph g c _ _ _ = never_ok c.from_residual-in_err-nodes.result _ _ c.from_residual-in_err-nodes.ensures.1
+
+pub returns-in_err-nodes-clause-cost : goal.returns-in_err-nodes-clause-cost
+returns-in_err-nodes-clause-cost g c _ _ = never_ok c.from_residual-in_err-nodes.result _ _ c.from_residual-in_err-nodes.ensures.1
+
+pub returns-in_err-put_in_order-clause-found : goal.returns-in_err-put_in_order-clause-found
+returns-in_err-put_in_order-clause-found g c _ _ = never_ok c.from_residual-in_err-put_in_order.result _ _ c.from_residual-in_err-put_in_order.ensures.1
+
+pub returns-in_err-put_in_order-clause-graph : goal.returns-in_err-put_in_order-clause-graph
+returns-in_err-put_in_order-clause-graph g c _ _ _ = never_ok c.from_residual-in_err-put_in_order.result _ _ c.from_residual-in_err-put_in_order.ensures.1
+
+pub returns-in_err-put_in_order-clause-cost : goal.returns-in_err-put_in_order-clause-cost
+returns-in_err-put_in_order-clause-cost g c _ _ = never_ok c.from_residual-in_err-put_in_order.result _ _ c.from_residual-in_err-put_in_order.ensures.1
+
+pub returns-clause-cause : goal.returns-clause-cause
+returns-clause-cause g c = ok_cause _ _ _ _ (omega arith)

@@ -1,4 +1,4 @@
-use Rattle.std.proofs.Common.{◌≡◌, ◌≤◌, ◌+◌, ℕ, ap, sym, ◌∙◌, subst, length, List, arith}
+use Rattle.std.proofs.Common.{◌≡◌, ◌≤◌, ◌+◌, ℕ, ap, sym, ◌∙◌, subst, length, List, arith, rules}
 use Rattle.std.proofs.lemmas.Bool.{true≢false}
 use Rattle.std.proofs.lemmas.Result.{err_from_is_err_and}
 use Rattle.rec_bytes.specs.Format as format
@@ -26,6 +26,7 @@ use Rattle.prop_index.proofs.Counting.{collect_cause, make_reread, pair_cause, r
 use Rattle.prop_index.proofs.MakeFaults.{collect_refusal, mishap_refusal, pair_refusal}
 use Rattle.prop_index.proofs.Reread.{readable_after, same_records, same_then}
 use Rattle.prop_index.specs.Touching.{TouchesIndex}
+use Rattle.rec_bytes.proofs.Causes.{never_ok}
 use Rattle.prop_index.proofs.making.make.Goals as goal
 
 pub returns-in_err-test_pair-clause-refused : goal.returns-in_err-test_pair-clause-refused
@@ -316,3 +317,24 @@ returns-clause-unwritten g c tells =
     let len : c.len-count.result ≡ length c.deref.result.now = let e = c.len-count.ensures in let o = c.in_ok-contents.contents.ok.0 in let v = ap length c.deref.ensures.value in omega (arith, e, o, v) in
     subst (IsUnwrittenFull s t) (sym c.of_take.ensures)
     (roomy_unwritten s t c.in-Err.fault (c.in-Err.ensures.roomy tells (subst (λ n. HasLeft (g.S.Reads.state c.collect.new.space) (13 + n)) len (c.has_room.ensures.0 c.if-not-has_room.false))))
+
+pub returns-in_err-test_pair-clause-made : goal.returns-in_err-test_pair-clause-made
+returns-in_err-test_pair-clause-made g c _ _ _ = never_ok c.from_residual.result _ _ c.from_residual.ensures.1
+
+pub returns-in_err-test_pair-clause-written : goal.returns-in_err-test_pair-clause-written
+returns-in_err-test_pair-clause-written g c = never_ok c.from_residual.result _ _ c.from_residual.ensures.1
+
+pub returns-in_err-test_pair-clause-few : goal.returns-in_err-test_pair-clause-few
+returns-in_err-test_pair-clause-few g c = never_ok c.from_residual.result _ _ c.from_residual.ensures.1
+
+pub returns-in_err-test_pair-clause-onward : goal.returns-in_err-test_pair-clause-onward
+returns-in_err-test_pair-clause-onward g c = search rules
+
+pub returns-in_err-contents-clause-made : goal.returns-in_err-contents-clause-made
+returns-in_err-contents-clause-made g c _ _ _ = never_ok c.from_residual-in_err-contents.result _ _ c.from_residual-in_err-contents.ensures.1
+
+pub returns-in_err-contents-clause-written : goal.returns-in_err-contents-clause-written
+returns-in_err-contents-clause-written g c = never_ok c.from_residual-in_err-contents.result _ _ c.from_residual-in_err-contents.ensures.1
+
+pub returns-in_err-contents-clause-few : goal.returns-in_err-contents-clause-few
+returns-in_err-contents-clause-few g c = never_ok c.from_residual-in_err-contents.result _ _ c.from_residual-in_err-contents.ensures.1

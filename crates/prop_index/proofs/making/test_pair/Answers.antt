@@ -3,11 +3,12 @@ use Rattle.std.proofs.lemmas.Result.{err_from_is_err_and}
 use Rattle.prop_index.specs.Making.{pair_is}
 use Rattle.prop_index.specs.declared.listing.IndexPair.{IndexPair}
 use Rattle.prop_index.proofs.Counting.{pair_read, read_make}
-use Rattle.std.proofs.Common.{List, subst, ap, sym, ◌∙◌, length, arith}
+use Rattle.std.proofs.Common.{List, subst, ap, sym, ◌∙◌, length, arith, rules}
 use Rattle.std.proofs.lemmas.Bool.{true≢false}
 use Rattle.std.proofs.lemmas.List.{length-map}
 use Rattle.prop_index.specs.Listing.{pair_of}
 use Rattle.prop_index.proofs.MakeFaults.{has_listed, lacks_listed, pair_exit}
+use Rattle.rec_bytes.proofs.Causes.{never_ok, ok_cause}
 use Rattle.prop_index.proofs.making.test_pair.Goals as goal
 
 pub returns-in_err-pairs-clause-refused : goal.returns-in_err-pairs-clause-refused
@@ -69,3 +70,12 @@ returns-in_err-pairs-clause-damaged g c tells =
     let s = g.R.Reads.state c.args.space.now in
     let p = err_from_is_err_and c.from_residual.result c.from_residual.ensures.1 in
     rw (p.1, p.2) (read_make s.records s.shape c.in_err-pairs.field-0.0 (c.in_err-pairs.ensures.damaged tells))
+
+pub returns-in_err-pairs-clause-may : goal.returns-in_err-pairs-clause-may
+returns-in_err-pairs-clause-may g c _ _ _ = never_ok c.from_residual.result _ _ c.from_residual.ensures.1
+
+pub returns-in_err-pairs-clause-onward : goal.returns-in_err-pairs-clause-onward
+returns-in_err-pairs-clause-onward g c = search rules
+
+pub returns-clause-cause : goal.returns-clause-cause
+returns-clause-cause g c = ok_cause _ _ _ _ (omega arith)

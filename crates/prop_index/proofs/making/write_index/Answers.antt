@@ -1,5 +1,5 @@
 use Rattle.std.specs.Prelude.{Result, Ok, Err, OnOk}
-use Rattle.std.proofs.Common.{◌+◌, ap, sym, subst, length, arith}
+use Rattle.std.proofs.Common.{◌+◌, ap, sym, subst, length, arith, rules}
 use Rattle.std.proofs.lemmas.Result.{err_from_is_err_and}
 use Rattle.rec_bytes.specs.Format as format
 use Rattle.rec_bytes.specs.RecordFiles.{room_of}
@@ -10,6 +10,7 @@ use Rattle.prop_index.specs.Defining.{HasLeft}
 use Rattle.prop_index.specs.Entering.{IsNotFull}
 use Rattle.prop_index.proofs.Counting.{counts_left}
 use Rattle.prop_index.proofs.IndexBlames.{take_has}
+use Rattle.rec_bytes.proofs.Causes.{never_ok}
 use Rattle.prop_index.proofs.making.write_index.Goals as goal
 
 on_ok : {T E : Type 0} {P Q : Type 0} (r : Result T E) → (P → Q) → OnOk r P → OnOk r Q
@@ -65,3 +66,9 @@ returns-clause-roomy g c tells left =
     let s = g.S.Reads.state c.args.space.now in
     let m = g.S.Reads.state c.define.new.space in
     c.fill.ensures.roomy tells (counts_left s m 13 (length c.args.contents.now) (13 + length c.args.contents.now) (c.in_ok-definition.ensures.counted tells) (omega arith) left)
+
+pub returns-in_err-definition-clause-written : goal.returns-in_err-definition-clause-written
+returns-in_err-definition-clause-written g c _ _ _ _ _ = never_ok c.from_residual.result _ _ c.from_residual.ensures.1
+
+pub returns-in_err-definition-clause-onward : goal.returns-in_err-definition-clause-onward
+returns-in_err-definition-clause-onward g c = search rules

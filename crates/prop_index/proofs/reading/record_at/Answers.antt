@@ -1,4 +1,4 @@
-use Rattle.std.proofs.Common.{◌≡◌, ◌≢◌, ◌<◌, ◌≤◌, ℕ, sym, ap, ◌∙◌, subst, arith}
+use Rattle.std.proofs.Common.{◌≡◌, ◌≢◌, ◌<◌, ◌≤◌, ℕ, sym, ap, ◌∙◌, subst, arith, rules}
 use Rattle.rec_bytes.specs.declared.meta.Meta.{Meta}
 use Rattle.rec_bytes.specs.declared.record.Rec.{Rec}
 use Rattle.rec_bytes.specs.declared.shape.Shape.{Shape}
@@ -10,6 +10,7 @@ use Rattle.store_rules.specs.Views.{high, kind_at}
 use Rattle.store_rules.proofs.ViewLaws.{kind_low}
 use Rattle.prop_store.proofs.ReadCounts.{reads_none, reads_one}
 use Rattle.prop_index.specs.Reading.{HighMark, IsReadFault, LeadsNowhere, OtherKind}
+use Rattle.rec_bytes.proofs.Causes.{never_ok, ok_cause}
 use Rattle.prop_index.proofs.reading.record_at.Goals as goal
 
 pub returns-then-id-meta-clause-damaged : goal.returns-then-id-meta-clause-damaged
@@ -46,3 +47,21 @@ returns-then-byte-kind-clause-at_most g c = reads_one 1 _ _ (omega arith) c.get.
 
 pub returns-clause-at_most : goal.returns-clause-at_most
 returns-clause-at_most g c = reads_one 1 _ _ (omega arith) c.get.ensures.state
+
+pub returns-in_err-rec-clause-key : goal.returns-in_err-rec-clause-key
+returns-in_err-rec-clause-key g c = never_ok c.from_residual.result _ _ c.from_residual.ensures.1
+
+pub returns-in_err-rec-clause-got : goal.returns-in_err-rec-clause-got
+returns-in_err-rec-clause-got g c _ = never_ok c.from_residual.result _ _ c.from_residual.ensures.1
+
+pub returns-in_err-rec-clause-used : goal.returns-in_err-rec-clause-used
+returns-in_err-rec-clause-used g c _ = never_ok c.from_residual.result _ _ c.from_residual.ensures.1
+
+pub returns-in_err-rec-clause-state : goal.returns-in_err-rec-clause-state
+returns-in_err-rec-clause-state g c = never_ok c.from_residual.result _ _ c.from_residual.ensures.1
+
+pub returns-in_err-rec-clause-onward : goal.returns-in_err-rec-clause-onward
+returns-in_err-rec-clause-onward g c = search rules
+
+pub returns-clause-cause : goal.returns-clause-cause
+returns-clause-cause g c = ok_cause _ _ _ _ (omega arith)

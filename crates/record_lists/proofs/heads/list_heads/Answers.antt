@@ -4,6 +4,8 @@ use Rattle.store_rules.specs.Views.{Records}
 use Rattle.record_lists.specs.declared.heads.Told.TheVariants.{Marked}
 use Rattle.record_lists.specs.Heads.{AtHead, HeadTold, HeadKeeps}
 use Rattle.record_lists.proofs.HeadLaws.{among_and, among_none, not_earlier, once_more, one_more}
+use Rattle.rec_bytes.proofs.Causes.{never_ok, ok_cause}
+use Rattle.record_lists.proofs.Causes.{cause_passed}
 use Rattle.record_lists.proofs.heads.list_heads.Goals as goal
 
 pub loop-id-preserved : goal.loop-id-preserved
@@ -49,3 +51,37 @@ mark_head-requires-clause-suits g c = subst (g.H.Heads.suits c.args.heads.now) (
 
 pub returns-clause-fresh : goal.returns-clause-fresh
 returns-clause-fresh g c t k lt p a = c.loop-id.invariant.fresh t k (omega arith) p a
+
+pub returns-in_err-mark_head-clause-keeps : goal.returns-in_err-mark_head-clause-keeps
+returns-in_err-mark_head-clause-keeps g c _ = never_ok c.from_residual.result _ _ c.from_residual.ensures.1
+
+pub returns-in_err-mark_head-clause-marks : goal.returns-in_err-mark_head-clause-marks
+returns-in_err-mark_head-clause-marks g c _ = never_ok c.from_residual.result _ _ c.from_residual.ensures.1
+
+pub returns-in_err-mark_head-clause-once : goal.returns-in_err-mark_head-clause-once
+returns-in_err-mark_head-clause-once g c _ = never_ok c.from_residual.result _ _ c.from_residual.ensures.1
+
+pub returns-in_err-mark_head-clause-fresh : goal.returns-in_err-mark_head-clause-fresh
+returns-in_err-mark_head-clause-fresh g c _ = never_ok c.from_residual.result _ _ c.from_residual.ensures.1
+
+pub returns-in_err-mark_head-clause-broken : goal.returns-in_err-mark_head-clause-broken
+returns-in_err-mark_head-clause-broken g c _ = never_ok c.from_residual.result _ _ c.from_residual.ensures.1
+
+pub returns-in-Unlisted-clause-cause : goal.returns-in-Unlisted-clause-cause
+returns-in-Unlisted-clause-cause g c = ok_cause _ _ _ _ (omega arith)
+
+pub returns-in-Twice-clause-cause : goal.returns-in-Twice-clause-cause
+returns-in-Twice-clause-cause g c = ok_cause _ _ _ _ (omega arith)
+
+pub returns-clause-cause : goal.returns-clause-cause
+returns-clause-cause g c = ok_cause _ _ _ _ (omega arith)
+
+pub returns-in_err-mark_head-clause-same : goal.returns-in_err-mark_head-clause-same
+returns-in_err-mark_head-clause-same g c = search (rules, c.loop-id.invariant)
+
+pub returns-in_err-mark_head-clause-written : goal.returns-in_err-mark_head-clause-written
+returns-in_err-mark_head-clause-written g c = search (rules, c.loop-id.invariant)
+
+pub returns-in_err-mark_head-clause-cause : goal.returns-in_err-mark_head-clause-cause
+returns-in_err-mark_head-clause-cause g c =
+    cause_passed _ _ _ c.from_residual.result c.in_err-mark_head.field-0.0 c.loop-id.invariant.faults c.in_err-mark_head.ensures.cause c.from_residual.ensures.1

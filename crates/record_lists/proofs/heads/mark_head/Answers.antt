@@ -1,8 +1,10 @@
-use Rattle.std.proofs.Common.{rules, subst}
+use Rattle.std.proofs.Common.{rules, subst, arith}
 use Rattle.record_lists.proofs.LineLaws.{in_from_among}
 use Rattle.record_lists.specs.declared.heads.Found.TheVariants.{Items}
 use Rattle.record_lists.specs.Heads.{FoundIs}
 use Rattle.record_lists.proofs.HeadLaws.{told_marked}
+use Rattle.rec_bytes.proofs.Causes.{never_ok, ok_cause}
+use Rattle.record_lists.proofs.Causes.{cause_passed}
 use Rattle.record_lists.proofs.heads.mark_head.Goals as goal
 
 pub returns-in-Some-clause-told : goal.returns-in-Some-clause-told
@@ -21,3 +23,31 @@ returns-in_default-clause-told g c tells =
     let lists = g.H.Heads.lists heads records in
     let found : FoundIs (has c.args.id) (lists c.args.id) (Items c.in-Items.items) = subst (FoundIs (has c.args.id) (lists c.args.id)) c.in-Items.is (c.in_ok-list.ensures.told tells) in
     told_marked has lists c.args.id c.in-Items.items.items c.args.marks.now c.mark_all.new.marks found.0 found.1 found.2 (search rules) (search rules)
+
+pub returns-in_err-list-clause-told : goal.returns-in_err-list-clause-told
+returns-in_err-list-clause-told g c _ = never_ok c.from_residual.result _ _ c.from_residual.ensures.1
+
+pub returns-in_err-list-clause-onward : goal.returns-in_err-list-clause-onward
+returns-in_err-list-clause-onward g c = search rules
+
+pub returns-in-Some-clause-cause : goal.returns-in-Some-clause-cause
+returns-in-Some-clause-cause g c = ok_cause _ _ _ _ (omega arith)
+
+pub returns-in-Nothing-clause-cause : goal.returns-in-Nothing-clause-cause
+returns-in-Nothing-clause-cause g c = ok_cause _ _ _ _ (omega arith)
+
+pub returns-in-Missing-clause-cause : goal.returns-in-Missing-clause-cause
+returns-in-Missing-clause-cause g c = ok_cause _ _ _ _ (omega arith)
+
+pub returns-in_default-clause-cause : goal.returns-in_default-clause-cause
+returns-in_default-clause-cause g c = ok_cause _ _ _ _ (omega arith)
+
+pub returns-in_err-list-clause-same : goal.returns-in_err-list-clause-same
+returns-in_err-list-clause-same g c = search rules
+
+pub returns-in_err-list-clause-written : goal.returns-in_err-list-clause-written
+returns-in_err-list-clause-written g c = search rules
+
+pub returns-in_err-list-clause-cause : goal.returns-in_err-list-clause-cause
+returns-in_err-list-clause-cause g c =
+    cause_passed _ _ _ c.from_residual.result c.in_err-list.field-0.0 (omega arith) c.in_err-list.ensures.cause c.from_residual.ensures.1

@@ -3,6 +3,7 @@ use Rattle.std.proofs.lemmas.Grind.{common_steps}
 use Rattle.rec_bytes.specs.Format.{nil}
 use Rattle.store_rules.specs.Views.{rec_at}
 use Rattle.record_lists.proofs.LineLaws.{path_step, path_ends, no_line, no_line_so_long}
+use Rattle.rec_bytes.proofs.Causes.{never_ok, ok_cause}
 use Rattle.record_lists.proofs.Causes.{cause_passed}
 use Rattle.record_lists.proofs.line.follow.Goals as goal
 
@@ -93,3 +94,27 @@ returns-in_default-clause-cause g c = record {
   later = let later = c.in_ok-rec.ensures.cause.later in omega (arith, c.loop.invariant.faults, later);
   disk = λ blamed. absurd cc;
 }
+
+pub returns-then-at-clause-cause : goal.returns-then-at-clause-cause
+returns-then-at-clause-cause g c = ok_cause _ _ _ _ c.loop.invariant.faults
+
+pub returns-then-at-high-clause-cause : goal.returns-then-at-high-clause-cause
+returns-then-at-high-clause-cause g c = ok_cause _ _ _ _ c.loop.invariant.faults
+
+pub returns-then-not-fits-clause-cause : goal.returns-then-not-fits-clause-cause
+returns-then-not-fits-clause-cause g c = ok_cause _ _ _ _ (let later = c.in_ok-rec.ensures.cause.later in omega (arith, c.loop.invariant.faults, later))
+
+pub returns-then-at-2-clause-cause : goal.returns-then-at-2-clause-cause
+returns-then-at-2-clause-cause g c = ok_cause _ _ _ _ c.loop.invariant.faults
+
+pub returns-else-at-2-clause-cause : goal.returns-else-at-2-clause-cause
+returns-else-at-2-clause-cause g c = ok_cause _ _ _ _ c.loop.invariant.faults
+
+pub returns-in_err-rec-clause-found : goal.returns-in_err-rec-clause-found
+returns-in_err-rec-clause-found g c tells = never_ok c.from_residual.result _ _ c.from_residual.ensures.1
+
+pub returns-in_err-rec-clause-none : goal.returns-in_err-rec-clause-none
+returns-in_err-rec-clause-none g c tells = never_ok c.from_residual.result _ _ c.from_residual.ensures.1
+
+pub returns-in_err-rec-clause-low : goal.returns-in_err-rec-clause-low
+returns-in_err-rec-clause-low g c = never_ok c.from_residual.result _ _ c.from_residual.ensures.1

@@ -4,6 +4,7 @@ use Rattle.rec_bytes.specs.Record.{field}
 use Rattle.store_rules.specs.Views.{Records, rec_at}
 use Rattle.record_lists.specs.Numbers.{number_at}
 use Rattle.record_lists.proofs.Causes.{cause_passed}
+use Rattle.rec_bytes.proofs.Causes.{never_ok, ok_cause}
 use Rattle.record_lists.proofs.numbers.numbers_of.Goals as goal
 
 pub loop-id-init : goal.loop-id-init
@@ -59,3 +60,15 @@ returns-in_default-clause-cause g c = record {
   later = let later = c.in_ok-rec.ensures.cause.later in omega (arith, c.loop-id.invariant.faults, later);
   disk = λ blamed. absurd cc;
 }
+
+pub returns-in_err-rec-clause-numbers : goal.returns-in_err-rec-clause-numbers
+returns-in_err-rec-clause-numbers g c _ = never_ok c.from_residual.result _ _ c.from_residual.ensures.1
+
+pub returns-clause-cause : goal.returns-clause-cause
+returns-clause-cause g c = ok_cause _ _ _ _ (omega arith)
+
+pub returns-in_err-rec-clause-same : goal.returns-in_err-rec-clause-same
+returns-in_err-rec-clause-same g c = search (rules, c.loop-id.invariant)
+
+pub returns-in_err-rec-clause-written : goal.returns-in_err-rec-clause-written
+returns-in_err-rec-clause-written g c = search (rules, c.loop-id.invariant)

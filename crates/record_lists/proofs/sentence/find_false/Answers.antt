@@ -1,6 +1,8 @@
 use Rattle.std.proofs.Common.{rules, arith, ◌≡◌, ◌∙◌, true, sym, subst, refl}
 use Rattle.store_rules.specs.Views.{Records}
 use Rattle.record_lists.proofs.HeadLaws.{one_more}
+use Rattle.rec_bytes.proofs.Causes.{never_ok, ok_cause}
+use Rattle.record_lists.proofs.Causes.{cause_passed}
 use Rattle.record_lists.proofs.sentence.find_false.Goals as goal
 
 pub loop-id-init : goal.loop-id-init
@@ -28,3 +30,25 @@ loop-id-preserved g c =
       onward = g.met.R.Reads.further_onward c.args.space.now c.loop-id.space c.holds.new.space inv.onward c.in_ok-holds.ensures.onward;
       faults = let cause = c.in_ok-holds.ensures.cause in omega (arith, inv.faults, cause.later);
     }
+
+pub returns-in_err-holds-clause-none : goal.returns-in_err-holds-clause-none
+returns-in_err-holds-clause-none g c _ = never_ok c.from_residual.result _ _ c.from_residual.ensures.1
+
+pub returns-in_err-holds-clause-found : goal.returns-in_err-holds-clause-found
+returns-in_err-holds-clause-found g c _ = never_ok c.from_residual.result _ _ c.from_residual.ensures.1
+
+pub returns-then-not-branch-clause-cause : goal.returns-then-not-branch-clause-cause
+returns-then-not-branch-clause-cause g c = ok_cause _ _ _ _ (omega arith)
+
+pub returns-clause-cause : goal.returns-clause-cause
+returns-clause-cause g c = ok_cause _ _ _ _ (omega arith)
+
+pub returns-in_err-holds-clause-same : goal.returns-in_err-holds-clause-same
+returns-in_err-holds-clause-same g c = search (rules, c.loop-id.invariant)
+
+pub returns-in_err-holds-clause-written : goal.returns-in_err-holds-clause-written
+returns-in_err-holds-clause-written g c = search (rules, c.loop-id.invariant)
+
+pub returns-in_err-holds-clause-cause : goal.returns-in_err-holds-clause-cause
+returns-in_err-holds-clause-cause g c =
+    cause_passed _ _ _ c.from_residual.result c.in_err-holds.field-0.0 c.loop-id.invariant.faults c.in_err-holds.ensures.cause c.from_residual.ensures.1

@@ -1,4 +1,4 @@
-use Rattle.std.proofs.Common.{arith, ◌≡◌, ◌<◌, ◌≤◌, ◌∙◌, Option, IfNone, ⊎_elim, sym, subst}
+use Rattle.std.proofs.Common.{arith, ◌≡◌, ◌<◌, ◌≤◌, ◌∙◌, Option, IfNone, ⊎_elim, sym, subst, rules}
 use Rattle.std.proofs.lemmas.Bool.{cases_lt}
 use Rattle.rec_bytes.specs.declared.damage.Damage.{Damage}
 use Rattle.rec_bytes.specs.declared.shape.Shape.{Shape}
@@ -10,6 +10,8 @@ use Rattle.record_lists.specs.Deciding.{AreMarksLow, BreaksRule, DecidesRule}
 use Rattle.store_rules.proofs.Breaches.{none_at_all}
 use Rattle.store_check.proofs.AllRules.{is_indexed, is_store}
 use Rattle.record_lists.proofs.HeadLaws.{one_more}
+use Rattle.rec_bytes.proofs.Causes.{never_ok, ok_cause}
+use Rattle.record_lists.proofs.Causes.{cause_passed}
 use Rattle.store_check.proofs.checking.check.Goals as goal
 
 pub decide-requires-clause-ranges : goal.decide-requires-clause-ranges
@@ -77,3 +79,22 @@ pub returns-clause-sound : goal.returns-clause-sound
 returns-clause-sound g c = λ tells e.
     let s = g.R.Reads.state c.args.space.now in
     is_indexed s.records s.shape (λ n from to. c.loop-rule.invariant.kept tells n from (let past = c.loop-rule-test.false in omega (arith, to, past)))
+
+pub returns-in_err-damage-clause-sound : goal.returns-in_err-damage-clause-sound
+returns-in_err-damage-clause-sound g c _ = never_ok c.from_residual.result _ _ c.from_residual.ensures.1
+
+pub returns-in_err-damage-clause-only : goal.returns-in_err-damage-clause-only
+returns-in_err-damage-clause-only g c _ _ = never_ok c.from_residual.result _ _ c.from_residual.ensures.1
+
+pub returns-in_err-damage-clause-broken : goal.returns-in_err-damage-clause-broken
+returns-in_err-damage-clause-broken g c _ = never_ok c.from_residual.result _ _ c.from_residual.ensures.1
+
+pub returns-clause-cause : goal.returns-clause-cause
+returns-clause-cause g c = ok_cause _ _ _ _ (omega arith)
+
+pub returns-in_err-damage-clause-same : goal.returns-in_err-damage-clause-same
+returns-in_err-damage-clause-same g c = search (rules, c.loop-rule.invariant)
+
+pub returns-in_err-damage-clause-cause : goal.returns-in_err-damage-clause-cause
+returns-in_err-damage-clause-cause g c =
+    cause_passed _ _ _ c.from_residual.result c.in_err-damage.field-0.0 c.loop-rule.invariant.faults c.in_err-damage.ensures.cause c.from_residual.ensures.1

@@ -5,6 +5,8 @@ use Rattle.store_rules.specs.Breaking.{DefinitionKeeps, damage}
 use Rattle.store_rules.specs.Breaking.Breaks.{WrongDefinition}
 use Rattle.store_rules.specs.Views.{high}
 use Rattle.record_lists.proofs.DecidingLaws.{breaks_by}
+use Rattle.rec_bytes.proofs.Causes.{never_ok}
+use Rattle.record_lists.proofs.Causes.{cause_passed}
 use Rattle.store_check.proofs.definitions.check_definitions.Goals as goal
 
 pub returns-in-Some-clause-found : goal.returns-in-Some-clause-found
@@ -14,3 +16,22 @@ returns-in-Some-clause-found g c = λ tells.
     let mark : c.meta-mark.result.high ≡ high s.records index_file = ap (λ (m : Meta). m.high) c.meta-mark.ensures in
     let bad : (id < c.meta-mark.result.high) × (¬ DefinitionKeeps s.records id) = search (rules, c.in_ok-id.ensures.found tells) in
     breaks_by s.records s.shape 5 c.broken.result (damage 8 id 5) c.broken.ensures refl (WrongDefinition id (omega (arith, bad.0)) bad.1)
+
+pub returns-in_err-id-clause-none : goal.returns-in_err-id-clause-none
+returns-in_err-id-clause-none g c _ = never_ok c.from_residual.result _ _ c.from_residual.ensures.1
+
+pub returns-in_err-id-clause-found : goal.returns-in_err-id-clause-found
+returns-in_err-id-clause-found g c _ = never_ok c.from_residual.result _ _ c.from_residual.ensures.1
+
+pub returns-in_err-id-clause-onward : goal.returns-in_err-id-clause-onward
+returns-in_err-id-clause-onward g c = search rules
+
+pub returns-in_err-id-clause-same : goal.returns-in_err-id-clause-same
+returns-in_err-id-clause-same g c = search rules
+
+pub returns-in_err-id-clause-written : goal.returns-in_err-id-clause-written
+returns-in_err-id-clause-written g c = search rules
+
+pub returns-in_err-id-clause-cause : goal.returns-in_err-id-clause-cause
+returns-in_err-id-clause-cause g c =
+    cause_passed _ _ _ c.from_residual.result c.in_err-id.field-0.0 (omega arith) c.in_err-id.ensures.cause c.from_residual.ensures.1

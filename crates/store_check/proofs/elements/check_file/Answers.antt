@@ -10,6 +10,7 @@ use Rattle.record_lists.specs.Heads.{AmongHeads, AtHead, BrokeIs, HeadKeeps, IsO
 use Rattle.record_lists.specs.Marks.{marked}
 use Rattle.store_check.proofs.ElementLaws.{are_listed, element_head, had_twice}
 use Rattle.record_lists.proofs.Causes.{cause_passed}
+use Rattle.rec_bytes.proofs.Causes.{never_ok}
 use Rattle.store_check.proofs.elements.check_file.Goals as goal
 
 pub returns-in-Some-Head-clause-found : goal.returns-in-Some-Head-clause-found
@@ -64,3 +65,30 @@ returns-in-Some-clause-onward g c =
 pub returns-in-None-2-clause-onward : goal.returns-in-None-2-clause-onward
 returns-in-None-2-clause-onward g c =
     g.met.R.Reads.further_onward _ _ _ c.in_ok-id.ensures.onward c.in_ok-id-2.ensures.onward
+
+pub returns-in_err-id-clause-none : goal.returns-in_err-id-clause-none
+returns-in_err-id-clause-none g c _ = never_ok c.from_residual.result _ _ c.from_residual.ensures.1
+
+pub returns-in_err-id-clause-found : goal.returns-in_err-id-clause-found
+returns-in_err-id-clause-found g c _ = never_ok c.from_residual.result _ _ c.from_residual.ensures.1
+
+pub returns-in_err-id-clause-onward : goal.returns-in_err-id-clause-onward
+returns-in_err-id-clause-onward g c = search rules
+
+pub returns-in_err-id-2-clause-none : goal.returns-in_err-id-2-clause-none
+returns-in_err-id-2-clause-none g c _ = never_ok c.from_residual-in_err-id-2.result _ _ c.from_residual-in_err-id-2.ensures.1
+
+pub returns-in_err-id-2-clause-found : goal.returns-in_err-id-2-clause-found
+returns-in_err-id-2-clause-found g c _ = never_ok c.from_residual-in_err-id-2.result _ _ c.from_residual-in_err-id-2.ensures.1
+
+pub returns-in_err-id-clause-same : goal.returns-in_err-id-clause-same
+returns-in_err-id-clause-same g c = search rules
+
+pub returns-in_err-id-clause-written : goal.returns-in_err-id-clause-written
+returns-in_err-id-clause-written g c = search rules
+
+pub returns-in_err-id-2-clause-same : goal.returns-in_err-id-2-clause-same
+returns-in_err-id-2-clause-same g c = search rules
+
+pub returns-in_err-id-2-clause-written : goal.returns-in_err-id-2-clause-written
+returns-in_err-id-2-clause-written g c = search rules

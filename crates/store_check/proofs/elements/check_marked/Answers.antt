@@ -10,6 +10,7 @@ use Rattle.record_lists.specs.Marks.{marked}
 use Rattle.store_check.proofs.ListingLaws.{all_listed, elements_right, first_marks, not_held, unlisted_breaks}
 use Rattle.record_lists.proofs.DecidingLaws.{breaks_by}
 use Rattle.record_lists.proofs.Causes.{cause_passed}
+use Rattle.rec_bytes.proofs.Causes.{never_ok}
 use Rattle.store_check.proofs.elements.check_marked.Goals as goal
 
 differ : (file : ℕ) → file ≡ 1 → file ≡ 2 → ⊥
@@ -96,3 +97,51 @@ returns-in_err-damage-2-clause-cause g c =
     cause_passed _ _ _ c.from_residual-in_err-damage-2.result c.in_err-damage-2.field-0.0
     c.in_ok-damage.ensures.cause.later c.in_err-damage-2.ensures.cause
     c.from_residual-in_err-damage-2.ensures.1
+
+pub returns-in_err-damage-clause-none : goal.returns-in_err-damage-clause-none
+returns-in_err-damage-clause-none g c _ = never_ok c.from_residual.result _ _ c.from_residual.ensures.1
+
+pub returns-in_err-damage-clause-found : goal.returns-in_err-damage-clause-found
+returns-in_err-damage-clause-found g c _ = never_ok c.from_residual.result _ _ c.from_residual.ensures.1
+
+pub returns-in_err-damage-clause-onward : goal.returns-in_err-damage-clause-onward
+returns-in_err-damage-clause-onward g c = search rules
+
+pub returns-in_err-damage-2-clause-none : goal.returns-in_err-damage-2-clause-none
+returns-in_err-damage-2-clause-none g c _ = never_ok c.from_residual-in_err-damage-2.result _ _ c.from_residual-in_err-damage-2.ensures.1
+
+pub returns-in_err-damage-2-clause-found : goal.returns-in_err-damage-2-clause-found
+returns-in_err-damage-2-clause-found g c _ = never_ok c.from_residual-in_err-damage-2.result _ _ c.from_residual-in_err-damage-2.ensures.1
+
+pub returns-in_err-id-clause-none : goal.returns-in_err-id-clause-none
+returns-in_err-id-clause-none g c _ = never_ok c.from_residual-in_err-id.result _ _ c.from_residual-in_err-id.ensures.1
+
+pub returns-in_err-id-clause-found : goal.returns-in_err-id-clause-found
+returns-in_err-id-clause-found g c _ = never_ok c.from_residual-in_err-id.result _ _ c.from_residual-in_err-id.ensures.1
+
+pub returns-in_err-damage-clause-same : goal.returns-in_err-damage-clause-same
+returns-in_err-damage-clause-same g c = search rules
+
+pub returns-in_err-damage-clause-written : goal.returns-in_err-damage-clause-written
+returns-in_err-damage-clause-written g c = search rules
+
+pub returns-in_err-damage-clause-cause : goal.returns-in_err-damage-clause-cause
+returns-in_err-damage-clause-cause g c =
+    cause_passed _ _ _ c.from_residual.result c.in_err-damage.field-0.0 (omega arith) c.in_err-damage.ensures.cause c.from_residual.ensures.1
+
+pub returns-in_err-damage-2-clause-same : goal.returns-in_err-damage-2-clause-same
+returns-in_err-damage-2-clause-same g c = search rules
+
+pub returns-in_err-damage-2-clause-written : goal.returns-in_err-damage-2-clause-written
+returns-in_err-damage-2-clause-written g c = search rules
+
+pub returns-in_err-id-clause-same : goal.returns-in_err-id-clause-same
+returns-in_err-id-clause-same g c = search rules
+
+pub returns-in_err-id-clause-written : goal.returns-in_err-id-clause-written
+returns-in_err-id-clause-written g c = search rules
+
+pub returns-in_err-id-clause-cause : goal.returns-in_err-id-clause-cause
+returns-in_err-id-clause-cause g c =
+    cause_passed _ _ _ c.from_residual-in_err-id.result c.in_err-id.field-0.0 (omega (arith, c.in_ok-damage.ensures.cause.later, c.in_ok-damage-2.ensures.cause.later))
+    c.in_err-id.ensures.cause c.from_residual-in_err-id.ensures.1

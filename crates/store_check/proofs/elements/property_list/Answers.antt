@@ -8,6 +8,7 @@ use Rattle.store_check.specs.Elements.{AreKeys, property_line}
 use Rattle.record_lists.specs.Lines.{IsLineIn}
 use Rattle.store_check.proofs.PropertyLaws.{IsIt, keys_from, no_properties, properties_of}
 use Rattle.record_lists.proofs.Causes.{cause_passed}
+use Rattle.rec_bytes.proofs.Causes.{never_ok, ok_cause}
 use Rattle.store_check.proofs.elements.property_list.Goals as goal
 
 pub returns-in_default-clause-none : goal.returns-in_default-clause-none
@@ -76,3 +77,39 @@ returns-then-not-are_keys-clause-onward g c =
 pub returns-clause-onward : goal.returns-clause-onward
 returns-clause-onward g c =
     g.met.R.Reads.further_onward _ _ _ c.in_ok-ids.ensures.onward c.in_ok-keys.ensures.onward
+
+pub returns-in_err-ids-clause-found : goal.returns-in_err-ids-clause-found
+returns-in_err-ids-clause-found g c _ = never_ok c.from_residual.result _ _ c.from_residual.ensures.1
+
+pub returns-in_err-ids-clause-none : goal.returns-in_err-ids-clause-none
+returns-in_err-ids-clause-none g c _ = never_ok c.from_residual.result _ _ c.from_residual.ensures.1
+
+pub returns-in_err-ids-clause-low : goal.returns-in_err-ids-clause-low
+returns-in_err-ids-clause-low g c = never_ok c.from_residual.result _ _ c.from_residual.ensures.1
+
+pub returns-in_err-ids-clause-onward : goal.returns-in_err-ids-clause-onward
+returns-in_err-ids-clause-onward g c = search rules
+
+pub returns-in_err-keys-clause-found : goal.returns-in_err-keys-clause-found
+returns-in_err-keys-clause-found g c _ = never_ok c.from_residual-in_err-keys.result _ _ c.from_residual-in_err-keys.ensures.1
+
+pub returns-in_err-keys-clause-none : goal.returns-in_err-keys-clause-none
+returns-in_err-keys-clause-none g c _ = never_ok c.from_residual-in_err-keys.result _ _ c.from_residual-in_err-keys.ensures.1
+
+pub returns-in_err-keys-clause-low : goal.returns-in_err-keys-clause-low
+returns-in_err-keys-clause-low g c = never_ok c.from_residual-in_err-keys.result _ _ c.from_residual-in_err-keys.ensures.1
+
+pub returns-clause-cause : goal.returns-clause-cause
+returns-clause-cause g c = ok_cause _ _ _ _ (omega arith)
+
+pub returns-in_err-ids-clause-same : goal.returns-in_err-ids-clause-same
+returns-in_err-ids-clause-same g c = search rules
+
+pub returns-in_err-ids-clause-written : goal.returns-in_err-ids-clause-written
+returns-in_err-ids-clause-written g c = search rules
+
+pub returns-in_err-keys-clause-same : goal.returns-in_err-keys-clause-same
+returns-in_err-keys-clause-same g c = search rules
+
+pub returns-in_err-keys-clause-written : goal.returns-in_err-keys-clause-written
+returns-in_err-keys-clause-written g c = search rules

@@ -12,6 +12,7 @@ use Rattle.store_check.specs.declared.free.Counted.TheVariants.{Live, OffList}
 use Rattle.store_check.proofs.FreeLaws.{IsIt, counted_at, is_off, is_split, no_list, wrong_count}
 use Rattle.record_lists.proofs.DecidingLaws.{breaks_by}
 use Rattle.record_lists.proofs.Causes.{cause_passed}
+use Rattle.rec_bytes.proofs.Causes.{never_ok}
 use Rattle.store_check.proofs.free.check_free.Goals as goal
 
 pub returns-in_default-clause-broken : goal.returns-in_default-clause-broken
@@ -70,3 +71,30 @@ returns-in-Live-clause-onward g c =
 pub returns-in-Live-2-clause-onward : goal.returns-in-Live-2-clause-onward
 returns-in-Live-2-clause-onward g c =
     g.met.R.Reads.further_onward _ _ _ c.in_ok-ids.ensures.onward c.in_ok-live.ensures.onward
+
+pub returns-in_err-ids-clause-sound : goal.returns-in_err-ids-clause-sound
+returns-in_err-ids-clause-sound g c _ = never_ok c.from_residual.result _ _ c.from_residual.ensures.1
+
+pub returns-in_err-ids-clause-broken : goal.returns-in_err-ids-clause-broken
+returns-in_err-ids-clause-broken g c _ = never_ok c.from_residual.result _ _ c.from_residual.ensures.1
+
+pub returns-in_err-ids-clause-onward : goal.returns-in_err-ids-clause-onward
+returns-in_err-ids-clause-onward g c = search rules
+
+pub returns-in_err-live-clause-sound : goal.returns-in_err-live-clause-sound
+returns-in_err-live-clause-sound g c _ = never_ok c.from_residual-in_err-live.result _ _ c.from_residual-in_err-live.ensures.1
+
+pub returns-in_err-live-clause-broken : goal.returns-in_err-live-clause-broken
+returns-in_err-live-clause-broken g c _ = never_ok c.from_residual-in_err-live.result _ _ c.from_residual-in_err-live.ensures.1
+
+pub returns-in_err-ids-clause-same : goal.returns-in_err-ids-clause-same
+returns-in_err-ids-clause-same g c = search rules
+
+pub returns-in_err-ids-clause-written : goal.returns-in_err-ids-clause-written
+returns-in_err-ids-clause-written g c = search rules
+
+pub returns-in_err-live-clause-same : goal.returns-in_err-live-clause-same
+returns-in_err-live-clause-same g c = search rules
+
+pub returns-in_err-live-clause-written : goal.returns-in_err-live-clause-written
+returns-in_err-live-clause-written g c = search rules

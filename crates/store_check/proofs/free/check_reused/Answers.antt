@@ -1,4 +1,4 @@
-use Rattle.std.proofs.Common.{arith, ◌≢◌, ◌≤◌, ℕ, List, slice_index_or, sym, subst, refl}
+use Rattle.std.proofs.Common.{arith, ◌≢◌, ◌≤◌, ℕ, List, slice_index_or, sym, subst, refl, rules}
 use Rattle.rec_bytes.specs.declared.record_files.RecordFile.{RecordFile}
 use Rattle.rec_bytes.specs.declared.record_files.RecordRoom.TheVariants.{Fixed}
 use Rattle.rec_bytes.specs.Format.{most_ids, names_file}
@@ -7,6 +7,7 @@ use Rattle.store_rules.specs.Views.{Records, high, is_live}
 use Rattle.store_rules.proofs.MetaLaws.{meta_of_reused}
 use Rattle.store_check.proofs.FileLaws.{entry_is, holds_all, holds_none, reused-not_names, reused-of}
 use Rattle.record_lists.proofs.Causes.{cause_passed}
+use Rattle.rec_bytes.proofs.Causes.{never_ok, ok_cause}
 use Rattle.store_check.proofs.free.check_reused.Goals as goal
 
 pub loop-entry-init : goal.loop-entry-init
@@ -44,3 +45,18 @@ returns-in-Some-clause-onward g c =
 pub returns-in_err-damage-clause-cause : goal.returns-in_err-damage-clause-cause
 returns-in_err-damage-clause-cause g c =
     cause_passed _ _ _ c.from_residual.result c.in_err-damage.field-0.0 c.loop-entry.invariant.faults c.in_err-damage.ensures.cause c.from_residual.ensures.1
+
+pub returns-in_err-damage-clause-sound : goal.returns-in_err-damage-clause-sound
+returns-in_err-damage-clause-sound g c _ = never_ok c.from_residual.result _ _ c.from_residual.ensures.1
+
+pub returns-in_err-damage-clause-broken : goal.returns-in_err-damage-clause-broken
+returns-in_err-damage-clause-broken g c _ = never_ok c.from_residual.result _ _ c.from_residual.ensures.1
+
+pub returns-clause-cause : goal.returns-clause-cause
+returns-clause-cause g c = ok_cause _ _ _ _ (omega arith)
+
+pub returns-in_err-damage-clause-same : goal.returns-in_err-damage-clause-same
+returns-in_err-damage-clause-same g c = search (rules, c.loop-entry.invariant)
+
+pub returns-in_err-damage-clause-written : goal.returns-in_err-damage-clause-written
+returns-in_err-damage-clause-written g c = search (rules, c.loop-entry.invariant)

@@ -1,4 +1,4 @@
-use Rattle.std.proofs.Common.{rules, ◌≡◌, ◌∙◌, ℕ, List, true, ap, sym, subst, refl}
+use Rattle.std.proofs.Common.{rules, ◌≡◌, ◌∙◌, ℕ, List, true, ap, sym, subst, refl, arith}
 use Rattle.rec_bytes.specs.declared.meta.Meta.{Meta}
 use Rattle.rec_bytes.specs.Format.{names_file}
 use Rattle.rec_bytes.specs.Space.{meta_in}
@@ -9,6 +9,8 @@ use Rattle.store_rules.specs.Breaking.{damage}
 use Rattle.store_rules.specs.Breaking.Breaks.{NameCount}
 use Rattle.store_check.proofs.FileLaws.{not_reused}
 use Rattle.record_lists.proofs.DecidingLaws.{breaks_by}
+use Rattle.rec_bytes.proofs.Causes.{never_ok}
+use Rattle.record_lists.proofs.Causes.{cause_passed}
 use Rattle.store_check.proofs.free.check_split.Goals as goal
 
 pub returns-then-names-clause-decided : goal.returns-then-names-clause-decided
@@ -24,3 +26,19 @@ returns-else-names-clause-decided g c = λ tells.
     let s = g.R.Reads.state c.args.space.now in
     let meta : c.meta-names.result ≡ meta_in s.records names_file = c.meta-names.ensures ∙ ap (λ (r : Records). meta_in r names_file) c.in_ok-damage.ensures.same in
     breaks_by s.records s.shape 2 _ (damage 0 6 2) refl refl (NameCount (λ all. c.if-names.false (ap (λ (m : Meta). m.live) meta ∙ all ∙ ap (λ (m : Meta). m.high) (sym meta))))
+
+pub returns-in_err-damage-clause-decided : goal.returns-in_err-damage-clause-decided
+returns-in_err-damage-clause-decided g c _ = never_ok c.from_residual.result _ _ c.from_residual.ensures.1
+
+pub returns-in_err-damage-clause-onward : goal.returns-in_err-damage-clause-onward
+returns-in_err-damage-clause-onward g c = search rules
+
+pub returns-in_err-damage-clause-same : goal.returns-in_err-damage-clause-same
+returns-in_err-damage-clause-same g c = search rules
+
+pub returns-in_err-damage-clause-written : goal.returns-in_err-damage-clause-written
+returns-in_err-damage-clause-written g c = search rules
+
+pub returns-in_err-damage-clause-cause : goal.returns-in_err-damage-clause-cause
+returns-in_err-damage-clause-cause g c =
+    cause_passed _ _ _ c.from_residual.result c.in_err-damage.field-0.0 (omega arith) c.in_err-damage.ensures.cause c.from_residual.ensures.1

@@ -8,6 +8,8 @@ use Rattle.store_check.proofs.FreeLaws.{free_by, live_by}
 use Rattle.record_lists.proofs.HeadLaws.{one_more}
 use Rattle.store_check.proofs.free.count_live.Goals.{then-byte-ne-FREE, else-byte-ne-FREE+else-not-marks-id}
 use Rattle.std.proofs.lemmas.Bool.{true≢false}
+use Rattle.rec_bytes.proofs.Causes.{never_ok, ok_cause}
+use Rattle.record_lists.proofs.Causes.{cause_passed}
 use Rattle.store_check.proofs.free.count_live.Goals as goal
 
 pub returns-then-not-marks-id-clause-counted : goal.returns-then-not-marks-id-clause-counted
@@ -53,3 +55,19 @@ loop-id-preserved g c =
       onward = g.met.R.Reads.further_onward c.args.space.now c.loop-id.space c.get.new.self inv.onward c.in_ok-rec.ensures.onward;
       faults = let cause = c.in_ok-rec.ensures.cause in omega (arith, inv.faults, cause.later);
     }
+
+pub returns-in_err-rec-clause-counted : goal.returns-in_err-rec-clause-counted
+returns-in_err-rec-clause-counted g c _ = never_ok c.from_residual.result _ _ c.from_residual.ensures.1
+
+pub returns-clause-cause : goal.returns-clause-cause
+returns-clause-cause g c = ok_cause _ _ _ _ (omega arith)
+
+pub returns-in_err-rec-clause-same : goal.returns-in_err-rec-clause-same
+returns-in_err-rec-clause-same g c = search (rules, c.loop-id.invariant)
+
+pub returns-in_err-rec-clause-written : goal.returns-in_err-rec-clause-written
+returns-in_err-rec-clause-written g c = search (rules, c.loop-id.invariant)
+
+pub returns-in_err-rec-clause-cause : goal.returns-in_err-rec-clause-cause
+returns-in_err-rec-clause-cause g c =
+    cause_passed _ _ _ c.from_residual.result c.in_err-rec.field-0.0 c.loop-id.invariant.faults c.in_err-rec.ensures.cause c.from_residual.ensures.1

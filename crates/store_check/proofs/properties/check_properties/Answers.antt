@@ -1,8 +1,9 @@
-use Rattle.std.proofs.Common.{rules, ◌∙◌, IfNone, subst}
+use Rattle.std.proofs.Common.{rules, ◌∙◌, IfNone, subst, arith}
 use Rattle.store_rules.specs.Views.{Records}
 use Rattle.store_check.specs.Holding.{AreDefinitionsRight, AreElementsRight, AreTextsRight}
 use Rattle.store_check.proofs.HoldingRule.{are_properties}
 use Rattle.record_lists.proofs.Causes.{cause_passed}
+use Rattle.rec_bytes.proofs.Causes.{never_ok}
 use Rattle.store_check.proofs.properties.check_properties.Goals as goal
 
 pub returns-in-None-clause-decided : goal.returns-in-None-clause-decided
@@ -46,3 +47,42 @@ returns-in_err-damage-2-clause-cause g c =
     cause_passed _ _ _ c.from_residual-in_err-damage-2.result c.in_err-damage-2.field-0.0
     c.in_ok-damage.ensures.cause.later c.in_err-damage-2.ensures.cause
     c.from_residual-in_err-damage-2.ensures.1
+
+pub returns-in_err-damage-clause-decided : goal.returns-in_err-damage-clause-decided
+returns-in_err-damage-clause-decided g c _ = never_ok c.from_residual.result _ _ c.from_residual.ensures.1
+
+pub returns-in_err-damage-clause-onward : goal.returns-in_err-damage-clause-onward
+returns-in_err-damage-clause-onward g c = search rules
+
+pub returns-in_err-damage-2-clause-decided : goal.returns-in_err-damage-2-clause-decided
+returns-in_err-damage-2-clause-decided g c _ = never_ok c.from_residual-in_err-damage-2.result _ _ c.from_residual-in_err-damage-2.ensures.1
+
+pub returns-in_err-damage-3-clause-decided : goal.returns-in_err-damage-3-clause-decided
+returns-in_err-damage-3-clause-decided g c _ = never_ok c.from_residual-in_err-damage-3.result _ _ c.from_residual-in_err-damage-3.ensures.1
+
+pub returns-in_err-damage-clause-same : goal.returns-in_err-damage-clause-same
+returns-in_err-damage-clause-same g c = search rules
+
+pub returns-in_err-damage-clause-written : goal.returns-in_err-damage-clause-written
+returns-in_err-damage-clause-written g c = search rules
+
+pub returns-in_err-damage-clause-cause : goal.returns-in_err-damage-clause-cause
+returns-in_err-damage-clause-cause g c =
+    cause_passed _ _ _ c.from_residual.result c.in_err-damage.field-0.0 (omega arith) c.in_err-damage.ensures.cause c.from_residual.ensures.1
+
+pub returns-in_err-damage-2-clause-same : goal.returns-in_err-damage-2-clause-same
+returns-in_err-damage-2-clause-same g c = search rules
+
+pub returns-in_err-damage-2-clause-written : goal.returns-in_err-damage-2-clause-written
+returns-in_err-damage-2-clause-written g c = search rules
+
+pub returns-in_err-damage-3-clause-same : goal.returns-in_err-damage-3-clause-same
+returns-in_err-damage-3-clause-same g c = search rules
+
+pub returns-in_err-damage-3-clause-written : goal.returns-in_err-damage-3-clause-written
+returns-in_err-damage-3-clause-written g c = search rules
+
+pub returns-in_err-damage-3-clause-cause : goal.returns-in_err-damage-3-clause-cause
+returns-in_err-damage-3-clause-cause g c =
+    cause_passed _ _ _ c.from_residual-in_err-damage-3.result c.in_err-damage-3.field-0.0 (omega (arith, c.in_ok-damage.ensures.cause.later, c.in_ok-damage-2.ensures.cause.later))
+    c.in_err-damage-3.ensures.cause c.from_residual-in_err-damage-3.ensures.1

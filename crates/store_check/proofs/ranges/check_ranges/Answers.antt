@@ -11,6 +11,7 @@ use Rattle.store_check.specs.Fitting.{FitsAt}
 use Rattle.store_check.proofs.FileLaws.{in_range_of, taken_right}
 use Rattle.record_lists.proofs.DecidingLaws.{breaks_by}
 use Rattle.record_lists.proofs.Causes.{cause_passed}
+use Rattle.rec_bytes.proofs.Causes.{never_ok}
 use Rattle.store_check.proofs.ranges.check_ranges.Goals as goal
 
 pub returns-then-not-branch-clause-decided : goal.returns-then-not-branch-clause-decided
@@ -99,3 +100,42 @@ returns-in-None-clause-onward g c =
     g.met.R.Reads.further_onward _ _ _
     (g.met.R.Reads.further_onward _ _ _ c.in_ok-is_own_right.ensures.onward c.in_ok-id.ensures.onward)
     c.in_ok-key.ensures.onward
+
+pub returns-in_err-is_own_right-clause-decided : goal.returns-in_err-is_own_right-clause-decided
+returns-in_err-is_own_right-clause-decided g c _ = never_ok c.from_residual.result _ _ c.from_residual.ensures.1
+
+pub returns-in_err-is_own_right-clause-low : goal.returns-in_err-is_own_right-clause-low
+returns-in_err-is_own_right-clause-low g c = never_ok c.from_residual.result _ _ c.from_residual.ensures.1
+
+pub returns-in_err-is_own_right-clause-onward : goal.returns-in_err-is_own_right-clause-onward
+returns-in_err-is_own_right-clause-onward g c = search rules
+
+pub returns-in_err-id-clause-decided : goal.returns-in_err-id-clause-decided
+returns-in_err-id-clause-decided g c _ = never_ok c.from_residual-in_err-id.result _ _ c.from_residual-in_err-id.ensures.1
+
+pub returns-in_err-id-clause-low : goal.returns-in_err-id-clause-low
+returns-in_err-id-clause-low g c = never_ok c.from_residual-in_err-id.result _ _ c.from_residual-in_err-id.ensures.1
+
+pub returns-in_err-key-clause-decided : goal.returns-in_err-key-clause-decided
+returns-in_err-key-clause-decided g c _ = never_ok c.from_residual-in_err-key.result _ _ c.from_residual-in_err-key.ensures.1
+
+pub returns-in_err-key-clause-low : goal.returns-in_err-key-clause-low
+returns-in_err-key-clause-low g c = never_ok c.from_residual-in_err-key.result _ _ c.from_residual-in_err-key.ensures.1
+
+pub returns-in_err-is_own_right-clause-same : goal.returns-in_err-is_own_right-clause-same
+returns-in_err-is_own_right-clause-same g c = search rules
+
+pub returns-in_err-is_own_right-clause-written : goal.returns-in_err-is_own_right-clause-written
+returns-in_err-is_own_right-clause-written g c = search rules
+
+pub returns-in_err-id-clause-same : goal.returns-in_err-id-clause-same
+returns-in_err-id-clause-same g c = search rules
+
+pub returns-in_err-id-clause-written : goal.returns-in_err-id-clause-written
+returns-in_err-id-clause-written g c = search rules
+
+pub returns-in_err-key-clause-same : goal.returns-in_err-key-clause-same
+returns-in_err-key-clause-same g c = search rules
+
+pub returns-in_err-key-clause-written : goal.returns-in_err-key-clause-written
+returns-in_err-key-clause-written g c = search rules

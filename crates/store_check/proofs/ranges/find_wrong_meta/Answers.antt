@@ -6,6 +6,8 @@ use Rattle.rec_bytes.proofs.RecordFiles.{is_meta_file-record, is_record_file-low
 use Rattle.store_rules.specs.Views.{Records, high}
 use Rattle.store_rules.specs.Breaking.{IsMetaKept}
 use Rattle.record_lists.proofs.HeadLaws.{one_more}
+use Rattle.rec_bytes.proofs.Causes.{never_ok, ok_cause}
+use Rattle.record_lists.proofs.Causes.{cause_passed}
 use Rattle.store_check.proofs.ranges.find_wrong_meta.Goals as goal
 
 pub loop-id-init : goal.loop-id-init
@@ -41,3 +43,29 @@ returns-clause-none g c t id lt = c.loop-id.invariant.all t id (let low = lt in 
 
 pub returns-clause-low : goal.returns-clause-low
 returns-clause-low g c f is = c.loop-id.invariant.low f (let low = is_record_file-low f (is_meta_file-record f is) in omega arith) is
+
+pub returns-in_err-is_meta_kept-clause-none : goal.returns-in_err-is_meta_kept-clause-none
+returns-in_err-is_meta_kept-clause-none g c _ = never_ok c.from_residual.result _ _ c.from_residual.ensures.1
+
+pub returns-in_err-is_meta_kept-clause-found : goal.returns-in_err-is_meta_kept-clause-found
+returns-in_err-is_meta_kept-clause-found g c _ = never_ok c.from_residual.result _ _ c.from_residual.ensures.1
+
+pub returns-in_err-is_meta_kept-clause-id : goal.returns-in_err-is_meta_kept-clause-id
+returns-in_err-is_meta_kept-clause-id g c = never_ok c.from_residual.result _ _ c.from_residual.ensures.1
+
+pub returns-in_err-is_meta_kept-clause-low : goal.returns-in_err-is_meta_kept-clause-low
+returns-in_err-is_meta_kept-clause-low g c = never_ok c.from_residual.result _ _ c.from_residual.ensures.1
+
+pub returns-clause-cause : goal.returns-clause-cause
+returns-clause-cause g c = ok_cause _ _ _ _ (omega arith)
+
+pub returns-in_err-is_meta_kept-clause-same : goal.returns-in_err-is_meta_kept-clause-same
+returns-in_err-is_meta_kept-clause-same g c = search (rules, c.loop-id.invariant)
+
+pub returns-in_err-is_meta_kept-clause-written : goal.returns-in_err-is_meta_kept-clause-written
+returns-in_err-is_meta_kept-clause-written g c = search (rules, c.loop-id.invariant)
+
+pub returns-in_err-is_meta_kept-clause-cause : goal.returns-in_err-is_meta_kept-clause-cause
+returns-in_err-is_meta_kept-clause-cause g c =
+    cause_passed _ _ _ c.from_residual.result c.in_err-is_meta_kept.field-0.0 c.loop-id.invariant.faults
+    c.in_err-is_meta_kept.ensures.cause c.from_residual.ensures.1

@@ -5,6 +5,8 @@ use Rattle.rec_bytes.specs.Format.{most_ids}
 use Rattle.store_rules.specs.Views.{Records, high}
 use Rattle.store_check.specs.Fitting.{FitsAt}
 use Rattle.store_check.proofs.FileLaws.{entry_is, holds_all, holds_more, holds_none}
+use Rattle.rec_bytes.proofs.Causes.{never_ok, ok_cause}
+use Rattle.record_lists.proofs.Causes.{cause_passed}
 use Rattle.store_check.proofs.ranges.find_wrong_record.Goals as goal
 
 pub loop-entry-init : goal.loop-entry-init
@@ -52,3 +54,25 @@ loop-entry-preserved g c =
       onward = g.met.R.Reads.further_onward c.args.space.now c.loop-entry.space c.find_wrong.new.space inv.onward c.in_ok-id.ensures.onward;
       faults = let cause = c.in_ok-id.ensures.cause in omega (arith, inv.faults, cause.later);
     }
+
+pub returns-in_err-id-clause-none : goal.returns-in_err-id-clause-none
+returns-in_err-id-clause-none g c _ = never_ok c.from_residual.result _ _ c.from_residual.ensures.1
+
+pub returns-in_err-id-clause-found : goal.returns-in_err-id-clause-found
+returns-in_err-id-clause-found g c _ = never_ok c.from_residual.result _ _ c.from_residual.ensures.1
+
+pub returns-in_err-id-clause-file : goal.returns-in_err-id-clause-file
+returns-in_err-id-clause-file g c = never_ok c.from_residual.result _ _ c.from_residual.ensures.1
+
+pub returns-clause-cause : goal.returns-clause-cause
+returns-clause-cause g c = ok_cause _ _ _ _ (omega arith)
+
+pub returns-in_err-id-clause-same : goal.returns-in_err-id-clause-same
+returns-in_err-id-clause-same g c = search (rules, c.loop-entry.invariant)
+
+pub returns-in_err-id-clause-written : goal.returns-in_err-id-clause-written
+returns-in_err-id-clause-written g c = search (rules, c.loop-entry.invariant)
+
+pub returns-in_err-id-clause-cause : goal.returns-in_err-id-clause-cause
+returns-in_err-id-clause-cause g c =
+    cause_passed _ _ _ c.from_residual.result c.in_err-id.field-0.0 c.loop-entry.invariant.faults c.in_err-id.ensures.cause c.from_residual.ensures.1

@@ -12,6 +12,7 @@ use Rattle.record_lists.specs.Marks.{marked}
 use Rattle.store_check.proofs.BlockLaws.{all_texts, not_held, text_head, texts_right, twice_breaks}
 use Rattle.record_lists.proofs.DecidingLaws.{breaks_by}
 use Rattle.record_lists.proofs.Causes.{cause_passed}
+use Rattle.rec_bytes.proofs.Causes.{never_ok}
 use Rattle.store_check.proofs.texts.check_marked.Goals as goal
 
 pub returns-in-Some-Head-clause-found : goal.returns-in-Some-Head-clause-found
@@ -76,3 +77,34 @@ returns-in_err-id-2-clause-cause g c =
     cause_passed _ _ _ c.from_residual-in_err-id-2.result c.in_err-id-2.field-0.0
     c.in_ok-id.ensures.cause.later c.in_err-id-2.ensures.cause
     c.from_residual-in_err-id-2.ensures.1
+
+pub returns-in_err-id-clause-none : goal.returns-in_err-id-clause-none
+returns-in_err-id-clause-none g c _ = never_ok c.from_residual.result _ _ c.from_residual.ensures.1
+
+pub returns-in_err-id-clause-found : goal.returns-in_err-id-clause-found
+returns-in_err-id-clause-found g c _ = never_ok c.from_residual.result _ _ c.from_residual.ensures.1
+
+pub returns-in_err-id-clause-onward : goal.returns-in_err-id-clause-onward
+returns-in_err-id-clause-onward g c = search rules
+
+pub returns-in_err-id-2-clause-none : goal.returns-in_err-id-2-clause-none
+returns-in_err-id-2-clause-none g c _ = never_ok c.from_residual-in_err-id-2.result _ _ c.from_residual-in_err-id-2.ensures.1
+
+pub returns-in_err-id-2-clause-found : goal.returns-in_err-id-2-clause-found
+returns-in_err-id-2-clause-found g c _ = never_ok c.from_residual-in_err-id-2.result _ _ c.from_residual-in_err-id-2.ensures.1
+
+pub returns-in_err-id-clause-same : goal.returns-in_err-id-clause-same
+returns-in_err-id-clause-same g c = search rules
+
+pub returns-in_err-id-clause-written : goal.returns-in_err-id-clause-written
+returns-in_err-id-clause-written g c = search rules
+
+pub returns-in_err-id-clause-cause : goal.returns-in_err-id-clause-cause
+returns-in_err-id-clause-cause g c =
+    cause_passed _ _ _ c.from_residual.result c.in_err-id.field-0.0 (omega arith) c.in_err-id.ensures.cause c.from_residual.ensures.1
+
+pub returns-in_err-id-2-clause-same : goal.returns-in_err-id-2-clause-same
+returns-in_err-id-2-clause-same g c = search rules
+
+pub returns-in_err-id-2-clause-written : goal.returns-in_err-id-2-clause-written
+returns-in_err-id-2-clause-written g c = search rules

@@ -1,5 +1,6 @@
 use Rattle.record_lists.proofs.Causes.{cause_passed}
 use Rattle.std.proofs.Common.{arith, refl, rules}
+use Rattle.rec_bytes.proofs.Causes.{never_ok, ok_cause}
 use Rattle.store_check.proofs.texts.lengths_of.Goals as goal
 
 pub returns-in_err-rec-clause-onward : goal.returns-in_err-rec-clause-onward
@@ -28,3 +29,15 @@ loop-id-init g c = record {
   onward = g.met.R.Reads.stays_onward c.args.space.now;
   faults = omega arith;
 }
+
+pub returns-in_err-rec-clause-lengths : goal.returns-in_err-rec-clause-lengths
+returns-in_err-rec-clause-lengths g c _ = never_ok c.from_residual.result _ _ c.from_residual.ensures.1
+
+pub returns-clause-cause : goal.returns-clause-cause
+returns-clause-cause g c = ok_cause _ _ _ _ (omega arith)
+
+pub returns-in_err-rec-clause-same : goal.returns-in_err-rec-clause-same
+returns-in_err-rec-clause-same g c = search (rules, c.loop-id.invariant)
+
+pub returns-in_err-rec-clause-written : goal.returns-in_err-rec-clause-written
+returns-in_err-rec-clause-written g c = search (rules, c.loop-id.invariant)

@@ -76,3 +76,24 @@ returns-else-leaves-clause-onward g c =
     g.met.R.Reads.further_onward _ _ _
     (g.met.R.Reads.further_onward _ _ _ c.in_ok-rec.ensures.onward c.in_ok-leaves.ensures.onward)
     c.in_ok-enters.ensures.onward
+
+pub returns-in_err-rec-clause-same : goal.returns-in_err-rec-clause-same
+returns-in_err-rec-clause-same g c = search rules
+
+pub returns-in_err-rec-clause-written : goal.returns-in_err-rec-clause-written
+returns-in_err-rec-clause-written g c = search rules
+
+pub returns-in_err-rec-clause-onward : goal.returns-in_err-rec-clause-onward
+returns-in_err-rec-clause-onward g c = search rules
+
+pub returns-in_err-leaves-clause-same : goal.returns-in_err-leaves-clause-same
+returns-in_err-leaves-clause-same g c = search rules
+
+pub returns-in_err-leaves-clause-written : goal.returns-in_err-leaves-clause-written
+returns-in_err-leaves-clause-written g c = search rules
+
+pub returns-in_err-enters-clause-same : goal.returns-in_err-enters-clause-same
+returns-in_err-enters-clause-same g c = search rules
+
+pub returns-in_err-enters-clause-written : goal.returns-in_err-enters-clause-written
+returns-in_err-enters-clause-written g c = search rules

@@ -10,6 +10,7 @@ use Rattle.chain_check.proofs.ChainLaws.{IsSideOf, found_is, group_side}
 use Rattle.record_lists.proofs.RecordLaws.{kind_read}
 use Rattle.chain_check.proofs.SideLaws.{place_first}
 use Rattle.record_lists.proofs.Causes.{cause_passed}
+use Rattle.rec_bytes.proofs.Causes.{never_ok, ok_cause}
 use Rattle.chain_check.proofs.chains.GroupHeadsHeads.list.Goals as goal
 
 pub returns-then-byte-eq-FREE-clause-told : goal.returns-then-byte-eq-FREE-clause-told
@@ -50,3 +51,36 @@ returns-in_err-rec-clause-cause g c =
 pub returns-in_err-found-clause-cause : goal.returns-in_err-found-clause-cause
 returns-in_err-found-clause-cause g c =
     cause_passed _ _ _ c.from_residual-in_err-found.result c.in_err-found.field-0.0 c.in_ok-rec.ensures.cause.later c.in_err-found.ensures.cause c.from_residual-in_err-found.ensures.1
+
+pub returns-in_err-rec-clause-told : goal.returns-in_err-rec-clause-told
+returns-in_err-rec-clause-told g c _ = never_ok c.from_residual.result _ _ c.from_residual.ensures.1
+
+pub returns-in_err-rec-clause-low : goal.returns-in_err-rec-clause-low
+returns-in_err-rec-clause-low g c = never_ok c.from_residual.result _ _ c.from_residual.ensures.1
+
+pub returns-in_err-found-clause-told : goal.returns-in_err-found-clause-told
+returns-in_err-found-clause-told g c _ = never_ok c.from_residual-in_err-found.result _ _ c.from_residual-in_err-found.ensures.1
+
+pub returns-in_err-found-clause-low : goal.returns-in_err-found-clause-low
+returns-in_err-found-clause-low g c = never_ok c.from_residual-in_err-found.result _ _ c.from_residual-in_err-found.ensures.1
+
+pub returns-then-byte-eq-FREE-clause-cause : goal.returns-then-byte-eq-FREE-clause-cause
+returns-then-byte-eq-FREE-clause-cause g c = ok_cause _ _ _ _ c.in_ok-rec.ensures.cause.later
+
+pub returns-clause-cause : goal.returns-clause-cause
+returns-clause-cause g c = ok_cause _ _ _ _ (omega (arith, c.in_ok-rec.ensures.cause.later, c.in_ok-found.ensures.cause.later))
+
+pub returns-in_err-rec-clause-same : goal.returns-in_err-rec-clause-same
+returns-in_err-rec-clause-same g c = search rules
+
+pub returns-in_err-rec-clause-written : goal.returns-in_err-rec-clause-written
+returns-in_err-rec-clause-written g c = search rules
+
+pub returns-in_err-rec-clause-onward : goal.returns-in_err-rec-clause-onward
+returns-in_err-rec-clause-onward g c = search rules
+
+pub returns-in_err-found-clause-same : goal.returns-in_err-found-clause-same
+returns-in_err-found-clause-same g c = search rules
+
+pub returns-in_err-found-clause-written : goal.returns-in_err-found-clause-written
+returns-in_err-found-clause-written g c = search rules

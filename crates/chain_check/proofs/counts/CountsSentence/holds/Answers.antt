@@ -1,4 +1,4 @@
-use Rattle.std.proofs.Common.{arith, ◌≡◌, ◌<◌, ◌∙◌, IfOk, ap, sym, refl}
+use Rattle.std.proofs.Common.{arith, ◌≡◌, ◌<◌, ◌∙◌, IfOk, ap, sym, refl, rules}
 use Rattle.std.specs.Bool.{Decides}
 use Rattle.std.proofs.lemmas.Result.{IfOk-weaker}
 use Rattle.rec_bytes.specs.Format as format
@@ -6,6 +6,7 @@ use Rattle.store_rules.specs.Views.{high, kind_at}
 use Rattle.chain_check.specs.Counts.{AreAsLong, CountsHold}
 use Rattle.chain_check.proofs.GroupCountLaws.{counts_decided}
 use Rattle.record_lists.proofs.RecordLaws.{kind_read}
+use Rattle.record_lists.proofs.Causes.{cause_passed}
 use Rattle.chain_check.proofs.counts.CountsSentence.holds.Goals as goal
 
 pub returns-then-byte-ne-COUNTED-clause-told : goal.returns-then-byte-ne-COUNTED-clause-told
@@ -27,3 +28,16 @@ returns-clause-told g c = λ tells.
     let told : IfOk c.are_as_long.result (λ are. Decides are (AreAsLong after marked c.in_ok-rec.rec)) = c.are_as_long.ensures.told tells in
     IfOk-weaker c.are_as_long.result (λ are. Decides are (AreAsLong after marked c.in_ok-rec.rec)) (λ holds. Decides holds (CountsHold records id))
     (λ b d. counts_decided records after marked id c.in_ok-rec.rec b (ap (λ s. s.records) c.in_ok-rec.ensures.state) c.requires.suits.relationships got counted d) told
+
+pub returns-in_err-rec-clause-same : goal.returns-in_err-rec-clause-same
+returns-in_err-rec-clause-same g c = search rules
+
+pub returns-in_err-rec-clause-written : goal.returns-in_err-rec-clause-written
+returns-in_err-rec-clause-written g c = search rules
+
+pub returns-in_err-rec-clause-onward : goal.returns-in_err-rec-clause-onward
+returns-in_err-rec-clause-onward g c = search rules
+
+pub returns-in_err-rec-clause-cause : goal.returns-in_err-rec-clause-cause
+returns-in_err-rec-clause-cause g c =
+    cause_passed _ _ _ c.from_residual.result c.in_err-rec.field-0.0 (omega arith) c.in_err-rec.ensures.cause c.from_residual.ensures.1

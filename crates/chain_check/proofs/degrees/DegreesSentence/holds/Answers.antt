@@ -7,6 +7,7 @@ use Rattle.store_rules.specs.Views.{degree, high, kind_at}
 use Rattle.store_rules.proofs.NumberLaws.{eq_true}
 use Rattle.chain_check.specs.Degrees.{HasDegree, count_at}
 use Rattle.record_lists.proofs.RecordLaws.{kind_read}
+use Rattle.record_lists.proofs.Causes.{cause_passed}
 use Rattle.chain_check.proofs.degrees.DegreesSentence.holds.Goals as goal
 use Rattle.chain_check.proofs.degrees.DegreesSentence.holds.Goals.{else-kind-eq-SPARSE-via-then-kind-eq-SPARSE+else-degree-self, else-kind-eq-SPARSE-via-else-kind-eq-SPARSE}
 
@@ -49,3 +50,16 @@ returns-clause-told g c = λ tells.
       }),
       (λ (h : HasDegree c.args.self.now records c.args.id). eq_true c.number-degree.result c.index.result.now (read ∙ h.exact (λ z. c.if-kind-eq-FREE.false (c.byte-kind.ensures ∙ sym kind ∙ z)) ∙ sym count)),
     )
+
+pub returns-in_err-rec-clause-same : goal.returns-in_err-rec-clause-same
+returns-in_err-rec-clause-same g c = search rules
+
+pub returns-in_err-rec-clause-written : goal.returns-in_err-rec-clause-written
+returns-in_err-rec-clause-written g c = search rules
+
+pub returns-in_err-rec-clause-onward : goal.returns-in_err-rec-clause-onward
+returns-in_err-rec-clause-onward g c = search rules
+
+pub returns-in_err-rec-clause-cause : goal.returns-in_err-rec-clause-cause
+returns-in_err-rec-clause-cause g c =
+    cause_passed _ _ _ c.from_residual.result c.in_err-rec.field-0.0 (omega arith) c.in_err-rec.ensures.cause c.from_residual.ensures.1

@@ -1,10 +1,11 @@
-use Rattle.std.proofs.Common.{arith, ◌≡◌, ◌<◌, ◌∙◌, ap, sym}
+use Rattle.std.proofs.Common.{arith, ◌≡◌, ◌<◌, ◌∙◌, ap, sym, rules}
 use Rattle.rec_bytes.specs.Format as format
 use Rattle.rec_bytes.specs.Record.{field}
 use Rattle.store_rules.specs.Views.{first_link, high}
 use Rattle.chain_check.specs.NodeChains.{IsDense}
 use Rattle.chain_check.proofs.GroupChainLaws.{found_is}
 use Rattle.record_lists.proofs.RecordLaws.{kind_read}
+use Rattle.record_lists.proofs.Causes.{cause_passed}
 use Rattle.chain_check.proofs.groups.OwnersHeads.list.Goals as goal
 
 pub returns-then-byte-ne-DENSE-clause-told : goal.returns-then-byte-ne-DENSE-clause-told
@@ -24,3 +25,27 @@ returns-clause-told g c = λ tells.
     let first : c.number-first.result ≡ first_link records id = c.number-first.ensures ∙ ap (λ r. field 4 r format.node_first_link) got in
     found_is records id (g.R.Reads.state c.get.new.self).records c.args.self.now.groups c.number-first.result c.in_ok-found.found
     (ap (λ s. s.records) c.in_ok-rec.ensures.state) c.requires.suits.groups c.requires.suits.few_groups first is (c.in_ok-found.ensures.told tells)
+
+pub returns-in_err-rec-clause-same : goal.returns-in_err-rec-clause-same
+returns-in_err-rec-clause-same g c = search rules
+
+pub returns-in_err-rec-clause-written : goal.returns-in_err-rec-clause-written
+returns-in_err-rec-clause-written g c = search rules
+
+pub returns-in_err-rec-clause-onward : goal.returns-in_err-rec-clause-onward
+returns-in_err-rec-clause-onward g c = search rules
+
+pub returns-in_err-rec-clause-cause : goal.returns-in_err-rec-clause-cause
+returns-in_err-rec-clause-cause g c =
+    cause_passed _ _ _ c.from_residual.result c.in_err-rec.field-0.0 (omega arith) c.in_err-rec.ensures.cause c.from_residual.ensures.1
+
+pub returns-in_err-found-clause-same : goal.returns-in_err-found-clause-same
+returns-in_err-found-clause-same g c = search rules
+
+pub returns-in_err-found-clause-written : goal.returns-in_err-found-clause-written
+returns-in_err-found-clause-written g c = search rules
+
+pub returns-in_err-found-clause-cause : goal.returns-in_err-found-clause-cause
+returns-in_err-found-clause-cause g c =
+    cause_passed _ _ _ c.from_residual-in_err-found.result c.in_err-found.field-0.0 c.in_ok-rec.ensures.cause.later
+    c.in_err-found.ensures.cause c.from_residual-in_err-found.ensures.1

@@ -1,7 +1,9 @@
-use Rattle.std.proofs.Common.{rules, ◌%◌, ℕ, List}
+use Rattle.std.proofs.Common.{rules, ◌%◌, ℕ, List, arith}
 use Rattle.store_rules.specs.IndexBreaking.{IsBucketList}
 use Rattle.store_rules.proofs.IndexParts.{bucket_same}
 use Rattle.index_check.specs.Definitions.{definition_of}
+use Rattle.rec_bytes.proofs.Causes.{never_ok, ok_cause}
+use Rattle.record_lists.proofs.Causes.{cause_passed}
 use Rattle.index_check.proofs.buckets.BucketsHeads.list.Goals as goal
 
 pub returns-in-Some-clause-told : goal.returns-in-Some-clause-told
@@ -20,3 +22,28 @@ returns-in-None-clause-told g c = λ tells.
     let b = c.args.id % 180 in
     let none : (xs : List ℕ) → ¬ IsBucketList records d b xs = search (rules, c.in_ok-ids.ensures.none tells) in
     (tt, none)
+
+pub returns-in_err-ids-clause-told : goal.returns-in_err-ids-clause-told
+returns-in_err-ids-clause-told g c _ = never_ok c.from_residual.result _ _ c.from_residual.ensures.1
+
+pub returns-in_err-ids-clause-low : goal.returns-in_err-ids-clause-low
+returns-in_err-ids-clause-low g c = never_ok c.from_residual.result _ _ c.from_residual.ensures.1
+
+pub returns-in-Some-clause-cause : goal.returns-in-Some-clause-cause
+returns-in-Some-clause-cause g c = ok_cause _ _ _ _ c.in_ok-ids.ensures.cause.later
+
+pub returns-in-None-clause-cause : goal.returns-in-None-clause-cause
+returns-in-None-clause-cause g c = ok_cause _ _ _ _ c.in_ok-ids.ensures.cause.later
+
+pub returns-in_err-ids-clause-same : goal.returns-in_err-ids-clause-same
+returns-in_err-ids-clause-same g c = search rules
+
+pub returns-in_err-ids-clause-written : goal.returns-in_err-ids-clause-written
+returns-in_err-ids-clause-written g c = search rules
+
+pub returns-in_err-ids-clause-onward : goal.returns-in_err-ids-clause-onward
+returns-in_err-ids-clause-onward g c = search rules
+
+pub returns-in_err-ids-clause-cause : goal.returns-in_err-ids-clause-cause
+returns-in_err-ids-clause-cause g c =
+    cause_passed _ _ _ c.from_residual.result c.in_err-ids.field-0.0 (omega arith) c.in_err-ids.ensures.cause c.from_residual.ensures.1

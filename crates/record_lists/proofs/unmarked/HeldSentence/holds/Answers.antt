@@ -1,7 +1,8 @@
-use Rattle.std.proofs.Common.{arith, ◌<◌, ◌∙◌, sym}
+use Rattle.std.proofs.Common.{arith, ◌<◌, ◌∙◌, sym, rules}
 use Rattle.store_rules.specs.Views.{high}
 use Rattle.store_rules.proofs.NumberLaws.{eq_true}
 use Rattle.record_lists.proofs.RecordLaws.{free_read, live_read}
+use Rattle.record_lists.proofs.Causes.{cause_passed}
 use Rattle.record_lists.proofs.unmarked.HeldSentence.holds.Goals as goal
 
 pub returns-then-byte-eq-FREE-clause-told : goal.returns-then-byte-eq-FREE-clause-told
@@ -18,3 +19,16 @@ returns-else-byte-eq-FREE-clause-told g c = λ tells.
     let lt : c.args.id < high records file = omega (arith, c.requires.id, c.requires.suits.records_are) in
     let live = live_read records file c.args.id c.in_ok-rec.rec lt (c.in_ok-rec.ensures.got tells) (λ z. c.if-byte-eq-FREE.false (c.byte.ensures ∙ z)) in
     ((λ e _. e), (λ h. h live))
+
+pub returns-in_err-rec-clause-same : goal.returns-in_err-rec-clause-same
+returns-in_err-rec-clause-same g c = search rules
+
+pub returns-in_err-rec-clause-written : goal.returns-in_err-rec-clause-written
+returns-in_err-rec-clause-written g c = search rules
+
+pub returns-in_err-rec-clause-onward : goal.returns-in_err-rec-clause-onward
+returns-in_err-rec-clause-onward g c = search rules
+
+pub returns-in_err-rec-clause-cause : goal.returns-in_err-rec-clause-cause
+returns-in_err-rec-clause-cause g c =
+    cause_passed _ _ _ c.from_residual.result c.in_err-rec.field-0.0 (omega arith) c.in_err-rec.ensures.cause c.from_residual.ensures.1

@@ -1,10 +1,11 @@
-use Rattle.std.proofs.Common.{arith, ◌≡◌, ◌<◌, ◌∙◌, not, ap, sym}
+use Rattle.std.proofs.Common.{arith, ◌≡◌, ◌<◌, ◌∙◌, not, ap, sym, rules}
 use Rattle.std.proofs.lemmas.Bool.{ltb-true}
 use Rattle.rec_bytes.specs.declared.meta.Meta.{Meta}
 use Rattle.rec_bytes.specs.Format.{index_file, names_file}
 use Rattle.store_rules.specs.Views.{Records, high}
 use Rattle.store_rules.proofs.NumberLaws.{eq_false, lt_true}
 use Rattle.store_check.proofs.DefinitionLaws.{key_named, label_named, named_keeps, other_keeps}
+use Rattle.record_lists.proofs.Causes.{cause_passed}
 use Rattle.store_check.proofs.definitions.DefinedSentence.holds.Goals as goal
 
 pub returns-then-byte-ne-DEFINITION-clause-told : goal.returns-then-byte-ne-DEFINITION-clause-told
@@ -37,3 +38,16 @@ returns-else-label-names-clause-told g c = λ tells.
       (λ e. let b = ltb-true c.number-label.result c.meta-names.result.high e in absurd (omega (arith, c.if-label-names.false))),
       (λ h. let b = label_named records c.args.id c.in_ok-rec.rec lt got (sym c.byte.ensures ∙ c.if-byte-ne-DEFINITION.false) h in lt_true c.number-label.result c.meta-names.result.high (omega arith)),
     )
+
+pub returns-in_err-rec-clause-same : goal.returns-in_err-rec-clause-same
+returns-in_err-rec-clause-same g c = search rules
+
+pub returns-in_err-rec-clause-written : goal.returns-in_err-rec-clause-written
+returns-in_err-rec-clause-written g c = search rules
+
+pub returns-in_err-rec-clause-onward : goal.returns-in_err-rec-clause-onward
+returns-in_err-rec-clause-onward g c = search rules
+
+pub returns-in_err-rec-clause-cause : goal.returns-in_err-rec-clause-cause
+returns-in_err-rec-clause-cause g c =
+    cause_passed _ _ _ c.from_residual.result c.in_err-rec.field-0.0 (omega arith) c.in_err-rec.ensures.cause c.from_residual.ensures.1

@@ -53,3 +53,18 @@ returns-in_err-rec-clause-cause g c =
 pub returns-in_err-ids-clause-cause : goal.returns-in_err-ids-clause-cause
 returns-in_err-ids-clause-cause g c =
     cause_passed _ _ _ c.from_residual-in_err-ids.result c.in_err-ids.field-0.0 c.in_ok-rec.ensures.cause.later c.in_err-ids.ensures.cause c.from_residual-in_err-ids.ensures.1
+
+pub returns-in_err-rec-clause-same : goal.returns-in_err-rec-clause-same
+returns-in_err-rec-clause-same g c = search rules
+
+pub returns-in_err-rec-clause-written : goal.returns-in_err-rec-clause-written
+returns-in_err-rec-clause-written g c = search rules
+
+pub returns-in_err-rec-clause-onward : goal.returns-in_err-rec-clause-onward
+returns-in_err-rec-clause-onward g c = search rules
+
+pub returns-in_err-ids-clause-same : goal.returns-in_err-ids-clause-same
+returns-in_err-ids-clause-same g c = search rules
+
+pub returns-in_err-ids-clause-written : goal.returns-in_err-ids-clause-written
+returns-in_err-ids-clause-written g c = search rules

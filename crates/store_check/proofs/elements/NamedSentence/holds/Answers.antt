@@ -1,4 +1,4 @@
-use Rattle.std.proofs.Common.{arith, ◌≡◌, ◌<◌, ◌∙◌, ℕ, true, nat_lt, ap, sym}
+use Rattle.std.proofs.Common.{arith, ◌≡◌, ◌<◌, ◌∙◌, ℕ, true, nat_lt, ap, sym, rules}
 use Rattle.std.proofs.lemmas.Bool.Decides.{nat_tests}
 use Rattle.rec_bytes.specs.declared.meta.Meta.{Meta}
 use Rattle.rec_bytes.specs.Format.{names_file, node_label}
@@ -7,6 +7,7 @@ use Rattle.store_rules.specs.Views.{Records, high}
 use Rattle.store_rules.proofs.NumberLaws.{eq_true, lt_true}
 use Rattle.store_rules.specs.Breaking.{label_of}
 use Rattle.record_lists.proofs.RecordLaws.{free_read, live_read}
+use Rattle.record_lists.proofs.Causes.{cause_passed}
 use Rattle.store_check.proofs.elements.NamedSentence.holds.Goals as goal
 
 below : (a b : ℕ) → nat_lt a b ≡ true → a < b
@@ -30,3 +31,16 @@ returns-else-byte-eq-FREE-clause-told g c = λ tells.
       (λ e _. let b = below c.number.result c.meta.result.high e in omega arith),
       (λ h. let b = h (live_read records file c.args.id c.in_ok-rec.rec lt got (λ z. c.if-byte-eq-FREE.false (c.byte.ensures ∙ z))) in lt_true c.number.result c.meta.result.high (omega arith)),
     )
+
+pub returns-in_err-rec-clause-same : goal.returns-in_err-rec-clause-same
+returns-in_err-rec-clause-same g c = search rules
+
+pub returns-in_err-rec-clause-written : goal.returns-in_err-rec-clause-written
+returns-in_err-rec-clause-written g c = search rules
+
+pub returns-in_err-rec-clause-onward : goal.returns-in_err-rec-clause-onward
+returns-in_err-rec-clause-onward g c = search rules
+
+pub returns-in_err-rec-clause-cause : goal.returns-in_err-rec-clause-cause
+returns-in_err-rec-clause-cause g c =
+    cause_passed _ _ _ c.from_residual.result c.in_err-rec.field-0.0 (omega arith) c.in_err-rec.ensures.cause c.from_residual.ensures.1

@@ -104,3 +104,33 @@ returns-in_err-ids-clause-cause g c =
     cause_passed _ _ _ c.from_residual-in_err-ids.result c.in_err-ids.field-0.0
     c.in_ok-rec.ensures.cause.later c.in_err-ids.ensures.cause
     c.from_residual-in_err-ids.ensures.1
+
+pub returns-in_err-rec-clause-same : goal.returns-in_err-rec-clause-same
+returns-in_err-rec-clause-same g c = search rules
+
+pub returns-in_err-rec-clause-written : goal.returns-in_err-rec-clause-written
+returns-in_err-rec-clause-written g c = search rules
+
+pub returns-in_err-rec-clause-onward : goal.returns-in_err-rec-clause-onward
+returns-in_err-rec-clause-onward g c = search rules
+
+pub returns-in_err-rec-clause-cause : goal.returns-in_err-rec-clause-cause
+returns-in_err-rec-clause-cause g c =
+    cause_passed _ _ _ c.from_residual.result c.in_err-rec.field-0.0 (omega arith) c.in_err-rec.ensures.cause c.from_residual.ensures.1
+
+pub returns-in_err-ids-clause-same : goal.returns-in_err-ids-clause-same
+returns-in_err-ids-clause-same g c = search rules
+
+pub returns-in_err-ids-clause-written : goal.returns-in_err-ids-clause-written
+returns-in_err-ids-clause-written g c = search rules
+
+pub returns-in_err-lengths-clause-same : goal.returns-in_err-lengths-clause-same
+returns-in_err-lengths-clause-same g c = search rules
+
+pub returns-in_err-lengths-clause-written : goal.returns-in_err-lengths-clause-written
+returns-in_err-lengths-clause-written g c = search rules
+
+pub returns-in_err-lengths-clause-cause : goal.returns-in_err-lengths-clause-cause
+returns-in_err-lengths-clause-cause g c =
+    cause_passed _ _ _ c.from_residual-in_err-lengths.result c.in_err-lengths.field-0.0 (omega (arith, c.in_ok-rec.ensures.cause.later, c.in_ok-ids.ensures.cause.later))
+    c.in_err-lengths.ensures.cause c.from_residual-in_err-lengths.ensures.1
