@@ -4,15 +4,13 @@ use Rattle.std.proofs.lemmas.List.{append-nil}
 use Rattle.std.specs.List.{AllByRecursion}
 use Rattle.plain_graph.specs.Forms.{IsShown}
 use Rattle.plain_graph.specs.Graph.{Graph}
-use Rattle.plain_graph.specs.Meaning.{meaning}
 use Rattle.plain_graph.specs.declared.item.Item.{Item}
-use Rattle.plain_graph.specs.declared.query.Query.{Query}
 use Rattle.rec_bytes.specs.Space.{State}
 use Rattle.rec_bytes.specs.declared.space.Reads.{Ghosts as SpaceGhosts}
 use Rattle.store_rules.specs.Graph.{graph_of}
 use Rattle.traversal_run.specs.Reading.{IsNamedStore, IsRead}
 use Rattle.traversal_run.specs.Row.{Stream, stream, with_first}
-use Rattle.traversal_run.specs.Run.{meant, stopped_by, to_come}
+use Rattle.traversal_run.specs.Run.{stopped_by, to_come}
 use Rattle.traversal_run.specs.declared.run.Run.{Run}
 use Rattle.traversal_run.proofs.OnlyReads.{is_read-on, named-read}
 
@@ -20,26 +18,25 @@ all_end : (P : Item → Type 0) (items : List Item) (item : Item) → AllByRecur
 all_end P [] item all has = (has, tt)
 all_end P (first ∷ items) item all has = (all.0, all_end P items item all.1 has)
 
--- Some results of a query were found, and the run has the others.
-pub record IsTaking {R : Type 0} (space : SpaceGhosts R) (names : List (List ℕ)) (query : Query) (old now : R) (found : List Item) (run : Run) : Type 0 where
+-- Some results of a run were found, and the run has the others.
+pub record IsTaking {R : Type 0} (space : SpaceGhosts R) (names : List (List ℕ)) (first : Run) (old now : R) (found : List Item) (run : Run) : Type 0 where
   pub coming : space.tells → IsNamedStore (space.state old).records (space.state old).shape names
-      → meaning (graph_of (space.state old).records) query ≡ found ++ (to_come (graph_of (space.state old).records) run).items
+      → (to_come (graph_of (space.state old).records) first).items ≡ found ++ (to_come (graph_of (space.state old).records) run).items
   pub shown : AllByRecursion IsShown found
   pub goes : stopped_by run ≡ None
   pub read : IsRead space old now
 
 -- nothing was found yet
-pub taking-first : {R : Type 0} (space : SpaceGhosts R) (names : List (List ℕ)) (query : Query) → ((a : R) → space.onward a a) → (r : R) (run : Run)
-    → ((graph : Graph) → to_come graph run ≡ meant graph query) → stopped_by run ≡ None → IsTaking space names query r r [] run
-taking-first space names query stays r run begins goes = record {
-  coming = λ tells store. ap (λ (s : Stream). s.items) (sym (begins (graph_of (space.state r).records)));
+pub taking-first : {R : Type 0} (space : SpaceGhosts R) (names : List (List ℕ)) → ((a : R) → space.onward a a) → (r : R) (run : Run) → stopped_by run ≡ None → IsTaking space names run r r [] run
+taking-first space names stays r run goes = record {
+  coming = λ tells store. refl;
   shown = tt;
   goes = goes;
   read = record { same = refl; onward = stays r; later = omega arith };
 }
 
-module _ {R : Type 0} (space : SpaceGhosts R) (names : List (List ℕ)) (query : Query) (further : (a b c : R) → space.onward a b → space.onward b c → space.onward a c) (old now : R) (found : List Item) (run : Run)
-    (taking : IsTaking space names query old now found run) where
+module _ {R : Type 0} (space : SpaceGhosts R) (names : List (List ℕ)) (first : Run) (further : (a b c : R) → space.onward a b → space.onward b c → space.onward a c) (old now : R) (found : List Item) (run : Run)
+    (taking : IsTaking space names first old now found run) where
   -- what the run says of the records as they are now, it says of those at the start
   at_start : (P : Graph → Type 0) → (space.tells → IsNamedStore (space.state now).records (space.state now).shape names → P (graph_of (space.state now).records))
       → space.tells → IsNamedStore (space.state old).records (space.state old).shape names → P (graph_of (space.state old).records)
@@ -48,7 +45,7 @@ module _ {R : Type 0} (space : SpaceGhosts R) (names : List (List ℕ)) (query :
   -- a result was found
   pub taking-on : (next : R) → IsRead space now next → (later : Run) (item : Item)
       → (space.tells → IsNamedStore (space.state now).records (space.state now).shape names → to_come (graph_of (space.state now).records) run ≡ with_first (item ∷ []) (to_come (graph_of (space.state now).records) later))
-      → IsShown item → stopped_by later ≡ None → IsTaking space names query old next (found ++ item ∷ []) later
+      → IsShown item → stopped_by later ≡ None → IsTaking space names first old next (found ++ item ∷ []) later
   taking-on next reads later item comes shown goes = record {
     coming = λ tells store.
         let is : to_come (graph_of (space.state old).records) run ≡ with_first (item ∷ []) (to_come (graph_of (space.state old).records) later) =
@@ -61,7 +58,7 @@ module _ {R : Type 0} (space : SpaceGhosts R) (names : List (List ℕ)) (query :
 
   -- all results were found
   pub taking-end : (space.tells → IsNamedStore (space.state now).records (space.state now).shape names → to_come (graph_of (space.state now).records) run ≡ stream [])
-      → space.tells → IsNamedStore (space.state old).records (space.state old).shape names → found ≡ meaning (graph_of (space.state old).records) query
+      → space.tells → IsNamedStore (space.state old).records (space.state old).shape names → found ≡ (to_come (graph_of (space.state old).records) first).items
   taking-end ends tells store =
       let is : to_come (graph_of (space.state old).records) run ≡ stream [] = at_start (λ graph. to_come graph run ≡ stream []) ends tells store in
       sym (taking.coming tells store ∙ ap (λ (s : Stream). found ++ s.items) is ∙ append-nil found)

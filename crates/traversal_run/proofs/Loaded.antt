@@ -35,13 +35,13 @@ use Rattle.rel_store.specs.Loading as rels
 use Rattle.rel_store.specs.RelRecord.{row_of}
 use Rattle.rel_store.specs.declared.rel_row.RelRow.{RelRow}
 use Rattle.rel_store.proofs.Rows as rel_rows
-use Rattle.traversal_run.specs.Elements.{IsOwnerOf}
+use Rattle.traversal_run.specs.Elements.{IsOwnerOf, owned_edge}
 use Rattle.traversal_run.specs.declared.elements.Owned.{Owned}
 use Rattle.traversal_run.specs.Naming.{FindsName, name_at, name_count}
 use Rattle.traversal_run.proofs.NamesKnown.{is_text-itself}
 
 -- what no element passes is not found
-find-none : {E : Type 0} (test : E → Bool) (xs : List E) → list_any test xs ≡ false → find test xs ≡ None
+pub find-none : {E : Type 0} (test : E → Bool) (xs : List E) → list_any test xs ≡ false → find test xs ≡ None
 find-none test [] none = refl
 find-none test (x ∷ xs) none = by (test x) (find-none test xs) none
   where
@@ -50,7 +50,7 @@ find-none test (x ∷ xs) none = by (test x) (find-none test xs) none
     by false later e = later e
 
 -- a node that isn't in use has no properties and no label
-node_not_found : (s : Records) (id : ℕ) → kind_at s format.nodes_file id ≡ format.free_kind → find (λ node. nat_eq (node_number node) id) (graph_of s).nodes ≡ None
+pub node_not_found : (s : Records) (id : ℕ) → kind_at s format.nodes_file id ≡ format.free_kind → find (λ node. nat_eq (node_number node) id) (graph_of s).nodes ≡ None
 node_not_found s id free = find-none (λ node. nat_eq (node_number node) id) (graph_of s).nodes (no_node s id free)
 
 no_node_properties : (s : Records) (id : ℕ) → kind_at s format.nodes_file id ≡ format.free_kind → properties_at (graph_of s) (targets.Node id) ≡ no_properties
@@ -83,10 +83,7 @@ node_owned s id row found =
     let is = node_rows.kind-row_at-Some s.records id row (sym found) in
     record { used = is.0; are = refl; first = ap (λ (r : NodeRow). r.props) is.1 }
 
-abbrev pub edge_owner : ℕ → RelRow → Owned
-edge_owner id row = record { owner = record { key = record { file = format.relationships_file; id = id }; field = format.relationship_first_property }; first = row.property }
-
-pub edge_owned : (s : State) (id : ℕ) (label : List ℕ) (from to : ℕ) (row : RelRow) → Some row ≡ rels.row_at s.records id → IsOwnerOf s (items.Edge id label from to) (Some (edge_owner id row))
+pub edge_owned : (s : State) (id : ℕ) (label : List ℕ) (from to : ℕ) (row : RelRow) → Some row ≡ rels.row_at s.records id → IsOwnerOf s (items.Edge id label from to) (Some (owned_edge id row))
 edge_owned s id label from to row found =
     let is = rel_rows.kind-row_at-Some s.records id row (sym found) in
     record { used = is.0; are = refl; first = sym (ap (λ (r : RelRow). r.property) is.1) }

@@ -14,6 +14,10 @@ then_same : (n : ℕ) (s t : State) → t ≡ after_gets n s → SameButReads s 
 then_same n s t is = is ∙ gets_same n s ∙ ap (λ (u : State). record s { reads = u.reads }) (sym is)
 
 module _ {R : Type 0} (space : SpaceGhosts R) where
+  -- nothing was read
+  pub is_read-none : ((a : R) → space.onward a a) → (r : R) → IsRead space r r
+  is_read-none stays r = record { same = refl; onward = stays r; later = omega arith }
+
   -- more was read
   pub is_read-on : ((a b c : R) → space.onward a b → space.onward b c → space.onward a c) → (a b c : R) → IsRead space a b → IsRead space b c → IsRead space a c
   is_read-on further a b c first more = record {

@@ -65,6 +65,10 @@ listed_in s z item owned same store is owns =
       is = owns.are ∙ properties_at-is s.records owner.key.file owner.key.id es is.file has.used chain;
     })
 
+-- an owner stays one, after reads
+pub owns_read : (s z : State) (item : Item) (owned : Owned) → SameButReads s z → Owns s item owned → Owns z item owned
+owns_read s z item owned same owns = subst (λ (w : State). Owns w item owned) (sym same) (record { used = owns.used; are = owns.are; first = owns.first })
+
 -- where the first one is the same
 pub first_in : (s z : State) (item : Item) (owned : Owned) → SameButReads s z → Owns s item owned → owned.first ≡ first_of z.records owned.owner
 first_in s z item owned same owns = subst (λ (t : State). owned.first ≡ first_of t.records owned.owner) (sym same) owns.first

@@ -1,5 +1,5 @@
 -- The values of a map are in the order of their keys, as a sort by the keys leaves them.
-use Rattle.std.proofs.Common.{All, find, nat_eq, ◌≡◌, ◌<◌, ℕ, Bool, true, false, cond, None, Some, List, [], ◌∷◌, map, option_map, inl, inr, refl, sym, ap, ◌∙◌, length, arith}
+use Rattle.std.proofs.Common.{All, find, nat_eq, ◌≡◌, ◌<◌, ℕ, ◌+◌, Bool, true, false, cond, None, Some, List, [], ◌∷◌, map, option_map, inl, inr, refl, sym, ap, ◌∙◌, length, arith}
 use Rattle.std.specs.FinMap as maps
 use Rattle.std.specs.FinMap.Entries as entries
 use Rattle.std.specs.Cmp.{IsStrictWeakOrder}
@@ -7,16 +7,18 @@ use Rattle.std.specs.Cmp.Lexicographic.{nat_list_cmp_total}
 use Rattle.std.specs.Ordering.{is_eq, is_lt, ordering_reverse}
 use Rattle.std.specs.declared.cmp.Ordering.{Ordering}
 use Rattle.std.specs.declared.cmp.Ordering.TheVariants.{Less, Equal, Greater}
+use Rattle.std.proofs.lemmas.List.{length-map}
+use Rattle.std.proofs.lemmas.List.Sums.{sum_by-cons}
 use Rattle.std.proofs.lemmas.Simd.{map-map}
+use Rattle.std.specs.List.{sum_by}
+use Rattle.plain_graph.specs.Properties.{blocks_in, blocks_of}
 use Rattle.std.proofs.lemmas.List.Elements.{All-cons, All-nil}
 use Rattle.std.proofs.lemmas.List.Sorted.{ranks_by}
 use Rattle.plain_graph.specs.Sorting.{placed, sorted}
-use Rattle.plain_graph.specs.declared.item.Item.{Item}
-use Rattle.plain_graph.specs.declared.item.Item.TheVariants as items
 use Rattle.plain_graph.specs.declared.value.Value.{Value}
-use Rattle.plain_graph.proofs.PropertyLaws.{AreApart, order}
+use Rattle.plain_graph.proofs.PropertyLaws.{AreApart, blocks_in-from_entries, len-from_entries, order}
 use Rattle.prop_store.specs.Finding.{property_of, value_of}
-use Rattle.prop_store.specs.Reading.{prop_of}
+use Rattle.prop_store.specs.Reading.{block_total, prop_of}
 use Rattle.prop_store.specs.declared.prop.Prop.{Prop}
 use Rattle.prop_store.proofs.Keys.{absent_key}
 use Rattle.rec_bytes.specs.Format as format
@@ -26,9 +28,9 @@ use Rattle.store_rules.specs.Properties.{AreOnce, Property, keys_of, map_of, nam
 use Rattle.store_rules.specs.Rules.{AreNames}
 use Rattle.store_rules.specs.Views.{Records, rec_at}
 use Rattle.traversal_run.specs.KeyValues.{entry_below, named_entry, row_below}
+use Rattle.traversal_run.specs.Viewing.{property_reads}
 use Rattle.traversal_run.specs.declared.key_values.Named.{Named}
 use Rattle.traversal_run.proofs.Owned.{find-named}
-use Rattle.traversal_run.proofs.Ranks.{map-sorted}
 
 -- keys give an order of rows
 pub rows_order : IsStrictWeakOrder row_below
@@ -60,9 +62,6 @@ no_entries = none (maps.entries (maps.empty {X = Value} {R = order})) (sym (maps
     none [] e = refl
     none (x ∷ es) e = absurd (omega arith)
 
-pub no_values : maps.values (maps.empty {X = Value} {R = order}) ≡ []
-no_values = ap (map (λ (e : Entry). e.1)) no_entries
-
 -- so the entries of a map are those that it is made of, sorted
 pub entries-from_entries : (es : List Entry) → AreApart es → maps.entries (maps.from_entries {R = order} es) ≡ sorted below es
 entries-from_entries [] apart = no_entries
@@ -79,21 +78,28 @@ module _ (name_file : ℕ → Rec) (names : ℕ) (named : AreNames name_file nam
   are_apart (e ∷ es) known once =
       (find-named name_file names named es e.key (known e.key (inl refl)) (λ k i. known k (inr i)) ∙ ap (option_map (λ (p : Property). p.value)) (absent_key es e.key once.0), are_apart es (λ k i. known k (inr i)) once.1)
 
--- a value as a result
-abbrev shown : Entry → List ℕ × Item
-shown e = (e.0, items.Value e.1)
-
--- the values of the rows in order are those of the map
-pub values-sorted : (records : Records) (names : ℕ) → AreNames (rec_at records format.names_file) names → (es : List Property) → ((k : ℕ) → In k (keys_of es) → k < names) → AreOnce (keys_of es)
-    → map (λ (entry : List ℕ × Item). entry.1) (sorted entry_below (map (named_entry records) (map prop_of es))) ≡ map items.Value (maps.values (map_of (rec_at records format.names_file) es))
-values-sorted records names named es known once =
+-- the rows in order are the entries of the map
+pub entries-sorted : (records : Records) (names : ℕ) → AreNames (rec_at records format.names_file) names → (es : List Property) → ((k : ℕ) → In k (keys_of es) → k < names) → AreOnce (keys_of es)
+    → sorted entry_below (map (named_entry records) (map prop_of es)) ≡ maps.entries (map_of (rec_at records format.names_file) es)
+entries-sorted records names named es known once =
     let own = map (named_property (rec_at records format.names_file)) es in
-    let rows : map (named_entry records) (map prop_of es) ≡ map shown own = map-map (named_entry records) prop_of es ∙ sym (map-map shown (named_property (rec_at records format.names_file)) es) in
-    ap (λ all. map (λ (entry : List ℕ × Item). entry.1) (sorted entry_below all)) rows
-    ∙ ap (map (λ (entry : List ℕ × Item). entry.1)) (sym (map-sorted shown entry_below own))
-    ∙ map-map (λ (entry : List ℕ × Item). entry.1) shown (sorted below own)
-    ∙ sym (map-map items.Value (λ (e : Entry). e.1) (sorted below own))
-    ∙ ap (λ all. map items.Value (map (λ (e : Entry). e.1) all)) (sym (entries-from_entries own (are_apart (rec_at records format.names_file) names named es known once)))
+    ap (sorted entry_below) (map-map (named_entry records) prop_of es) ∙ sym (entries-from_entries own (are_apart (rec_at records format.names_file) names named es known once))
+
+-- what their values take
+blocks_read : (name_file : ℕ → Rec) (es : List Property) → sum_by blocks_of (map (λ (e : Entry). e.1) (map (named_property name_file) es)) ≡ block_total (map prop_of es)
+blocks_read name_file [] = refl
+blocks_read name_file (e ∷ es) =
+    sum_by-cons blocks_of e.value (map (λ (e : Entry). e.1) (map (named_property name_file) es)) ∙ ap (λ (n : ℕ). blocks_of e.value + n) (blocks_read name_file es) ∙ sym (sum_by-cons (λ (prop : Prop). blocks_of prop.value) (prop_of e) (map prop_of es))
+
+-- so many reads the properties of an element take as were read
+pub reads-read : (records : Records) (names : ℕ) → AreNames (rec_at records format.names_file) names → (es : List Property) → ((k : ℕ) → In k (keys_of es) → k < names) → AreOnce (keys_of es)
+    → length (map prop_of es) + block_total (map prop_of es) ≡ property_reads (map_of (rec_at records format.names_file) es)
+reads-read records names named es known once =
+    let name_file = rec_at records format.names_file in
+    let apart = are_apart name_file names named es known once in
+    let count : length (map prop_of es) ≡ maps.len (map_of name_file es) = length-map es prop_of ∙ sym (length-map es (named_property name_file)) ∙ sym (len-from_entries (map (named_property name_file) es) apart) in
+    let blocks : block_total (map prop_of es) ≡ blocks_in (map_of name_file es) = sym (blocks_read name_file es) ∙ sym (blocks_in-from_entries (map (named_property name_file) es) apart) in
+    λ i. count i + blocks i
 
 -- what holds of the keys holds of the properties that were read
 pub all_known : (n : ℕ) (es : List Property) → ((k : ℕ) → In k (keys_of es) → k < n) → All (λ (prop : Prop). prop.key < n) (map prop_of es)

@@ -6,8 +6,10 @@ use Rattle.node_store.specs.declared.node_row.NodeRow.{NodeRow}
 use Rattle.plain_graph.specs.declared.item.Item.{Item}
 use Rattle.plain_graph.specs.declared.item.Item.TheVariants as items
 use Rattle.rec_bytes.specs.Format.{nodes_file, relationships_file}
+use Rattle.rel_store.specs.declared.rel_row.RelRow.{RelRow}
 use Rattle.store_rules.specs.Graph.{edge_of, node_of}
 use Rattle.store_rules.specs.Views.{Records, high}
+use Rattle.traversal_run.specs.Naming.{name_at}
 
 -- the vertex or the edge of an identifier, where it is in use
 abbrev pub element_at : Records → Bool → ℕ → Option Item
@@ -23,3 +25,7 @@ element_mark records true = high records relationships_file
 abbrev pub vertex_if : ℕ → Option NodeRow → Option Item
 vertex_if id None = None
 vertex_if id (Some row) = Some (items.Vertex id)
+
+-- the edge of a row, with the name of its type
+abbrev pub typed_edge : Records → RelRow → Item
+typed_edge records row = items.Edge row.id (name_at records row.label) row.from row.to

@@ -3,6 +3,7 @@ pub mod EdgeItems
 pub mod Elements
 pub mod Feeding
 pub mod Finding
+pub mod FoundNodes
 pub mod Held
 pub mod Hopping
 pub mod KeyValues
@@ -19,3 +20,4 @@ pub mod Stage
 pub mod Starting
 pub mod Stop
 pub mod TextSet
+pub mod Viewing

@@ -26,8 +26,8 @@ to_come graph run =
 -- the results that the query means, and whether a count in it passes the greatest number of a value
 abbrev pub meant : Graph → Query → Stream
 meant graph query = record {
-  items = after_steps graph query.steps (source_of graph query.edges query.ids);
-  past = counts_past_in graph query.steps (source_of graph query.edges query.ids);
+  items = after_steps graph query.steps (source_of graph query.source);
+  past = counts_past_in graph query.steps (source_of graph query.source);
 }
 
 -- why a run stops of which this is to come

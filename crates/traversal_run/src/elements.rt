@@ -5,6 +5,8 @@ ghost use Rattle.std.specs.FinMap as maps;
 ghost use Rattle.plain_graph.specs.Forms.{IsKept, IsShown};
 ghost use Rattle.plain_graph.specs.Meaning.{label_of, properties_of};
 ghost use Rattle.prop_store.specs.Owner.{IsOwner};
+ghost use Rattle.prop_store.specs.Reading.{ReadsAtMost};
+ghost use Rattle.rel_store.specs.RelRecord.{rel_key};
 ghost use Rattle.store_rules.specs.Graph.{graph_of};
 ghost use Rattle.store_rules.specs.Rules.{IsWellFormed};
 ghost use Rattle.plain_graph.specs.declared.item.Item.TheVariants as items;
@@ -12,7 +14,7 @@ ghost use Rattle.rec_bytes.specs.Key.{IsKey};
 ghost use Rattle.node_store.specs.NodeRecord.{node_key};
 ghost use Rattle.node_store.specs.Loading.{IsNodeFault, IsReadable, row_at};
 ghost use Rattle.rec_bytes.specs.RowFault.{HasRowCause};
-ghost use Rattle.traversal_run.specs.Elements.{IsOwnerOf, IsRowOf};
+ghost use Rattle.traversal_run.specs.Elements.{IsLoaded, IsOwnerOf, IsRowOf, owned_edge, owner_reads};
 ghost use Rattle.rec_bytes.specs.Fault.{HasFaultCause};
 ghost use Rattle.prop_store.specs.Fault.{BlamesBroken};
 ghost use Rattle.traversal_run.specs.Reading.{IsNamedStore, IsRead};
@@ -27,6 +29,7 @@ use rec_bytes::{
     Fault, Key, NODE_FIRST_PROPERTY, NODES, RELATIONSHIP_FIRST_PROPERTY, RELATIONSHIPS, Reads,
     RowFault,
 };
+use rel_store::RelRow;
 use std::alloc::Global;
 
 /// The owner of an item's properties, and the first of them, or `NIL`.
@@ -47,6 +50,9 @@ fn row_of<R: Reads>(
     ensures found { R.tells → IfOk result (λ row. row ≡ row_at (R.state space.old).records id) }
     ensures damaged { R.tells → IfErr result (IsNodeFault (R.state space.old) id) }
     ensures key { IfOk result (λ row. IfSome row (λ _. IsKey (node_key id))) }
+    ensures reads { ReadsAtMost (owner_reads row.now) (R.state space.old) (R.state space.new) }
+    ensures no_read { IsLoaded (items.Vertex id) row.now
+        → R.state space.new ≡ R.state space.old }
     ensures read { IsRead R.Reads space.old space.new }
     ensures cause { HasRowCause (R.faults space.old) (R.faults space.new) result }
 {
@@ -69,6 +75,7 @@ pub(crate) fn owner_of<R: Reads>(
         → IfOk result (λ owned. IsOwnerOf (R.state space.old) item.now owned) }
     ensures damaged { R.tells → IfErr result
         (BlamesBroken (R.state space.old).records (R.state space.old).shape) }
+    ensures reads { ReadsAtMost (owner_reads row.now) (R.state space.old) (R.state space.new) }
     ensures owner { IfOk result (λ owned. IfSome owned (λ found. IsOwner found.owner)) }
     ensures read { IsRead R.Reads space.old space.new }
     ensures cause { HasFaultCause (R.faults space.old) (R.faults space.new) result }
@@ -88,19 +95,28 @@ pub(crate) fn owner_of<R: Reads>(
             None => Ok(None),
         },
         Item::Edge { id, .. } => match rel_store::load(space, *id)? {
-            Some(row) => Ok(Some(Owned {
-                owner: Owner {
-                    key: Key {
-                        file: RELATIONSHIPS,
-                        id: *id,
-                    },
-                    field: RELATIONSHIP_FIRST_PROPERTY,
-                },
-                first: row.property,
-            })),
+            Some(row) => Ok(Some(edge_owner(*id, &row))),
             None => Ok(None),
         },
         Item::Value(_) => Ok(None),
+    }
+}
+
+/// The owner of the properties of an edge, by its row.
+pub(crate) fn edge_owner(id: u32, row: &RelRow) -> Owned
+    requires { IsKey (rel_key id) }
+    ensures is { result ≡ owned_edge id row.now }
+    ensures owner { IsOwner result.owner }
+{
+    Owned {
+        owner: Owner {
+            key: Key {
+                file: RELATIONSHIPS,
+                id,
+            },
+            field: RELATIONSHIP_FIRST_PROPERTY,
+        },
+        first: row.property,
     }
 }
 
@@ -118,6 +134,7 @@ pub(crate) fn label_of<'a, R: Reads>(
         ≡ label_of (graph_of (R.state space.old).records) item.now) }
     ensures damaged { R.tells → IfErr result
         (BlamesBroken (R.state space.old).records (R.state space.old).shape) }
+    ensures no_read { IsLoaded item.now row.now → R.state space.new ≡ R.state space.old }
     ensures short { IsShown item.now
         → IfOk result (λ label. IfSome label (λ text. length text.now ≤ 48)) }
     ensures read { IsRead R.Reads space.old space.new }
@@ -144,6 +161,8 @@ fn vertex_label<'a, R: Reads>(
         ≡ label_of (graph_of (R.state space.old).records) (items.Vertex id)) }
     ensures damaged { R.tells → IfErr result
         (BlamesBroken (R.state space.old).records (R.state space.old).shape) }
+    ensures no_read { IsLoaded (items.Vertex id) row.now
+        → R.state space.new ≡ R.state space.old }
     ensures short { IfOk result (λ label. IfSome label (λ text. length text.now ≤ 48)) }
     ensures read { IsRead R.Reads space.old space.new }
     ensures cause { HasFaultCause (R.faults space.old) (R.faults space.new) result }

@@ -12,7 +12,7 @@ ghost use Rattle.traversal_run.specs.Stage.{rank_in};
 
 use crate::comparing::{is_related, is_text};
 use crate::elements::{label_of, value_of};
-use crate::key_values::{all_values, several_values};
+use crate::key_values::several_values;
 use crate::shown::Shown;
 use crate::sought::{Guess, Sought};
 use crate::waiting::Waiting;
@@ -104,7 +104,6 @@ pub(crate) fn distinct_values<R: Reads>(
     ensures cause { HasFaultCause (R.faults space.old) (R.faults space.new) result }
 {
     match keys.what.as_slice() {
-        [] => all_values(alloc, space, names, item, row),
         [key] => one_value(alloc, space, names, &keys.guess, key, item, row),
         several => several_values(alloc, space, names, several, item, row),
     }

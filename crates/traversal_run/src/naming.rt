@@ -33,6 +33,16 @@ pub(crate) fn number_of<R: Reads>(
     }
 }
 
+/// The number of a text that is sought once.
+pub(crate) fn text_number<R: Reads>(space: &R, names: &Names, text: &Text) -> Option<u32>
+    ensures finds { IsNamedStore (R.state space.now).records (R.state space.now).shape
+        names.now.names
+        → FindsName (R.state space.now).records result text.now }
+    ensures below { IfSome result (λ number. number < name_count (R.state space.now).records) }
+{
+    number_of(space, names, &Guess::new(), text.as_bytes())
+}
+
 /// The numbers of these texts, but for those that are no names of the store.
 pub(crate) fn numbers_of<R: Reads>(
     alloc: Global,
@@ -49,7 +59,7 @@ pub(crate) fn numbers_of<R: Reads>(
 {
     let mut numbers = Vec::new(alloc);
     for text in texts {
-        if let Some(number) = number_of(space, names, &Guess::new(), text.as_bytes()) {
+        if let Some(number) = text_number(space, names, text) {
             numbers.push(number)?;
         }
     }

@@ -3,9 +3,13 @@ ghost use Rattle.std.specs.Prelude.{length, take, drop, true, vec_len, None, Som
 ghost use Rattle.std.specs.Prelude.{IfOk, OnOk};
 ghost use Rattle.plain_graph.specs.Forms.{IsShown};
 ghost use Rattle.plain_graph.specs.Graph.{Graph};
+ghost use Rattle.plain_graph.specs.Lines.{index_of_source};
 ghost use Rattle.store_rules.specs.Graph.{graph_of};
 ghost use Rattle.std.specs.Prelude.{◌⊎◌, ◌-◌, false};
+ghost use Rattle.plain_graph.specs.declared.query.Source.TheVariants as sources;
 ghost use Rattle.plain_graph.specs.declared.query.Step.TheVariants as steps;
+ghost use Rattle.prop_index.specs.Looking.{BlamesBroken, HasLookupCause};
+ghost use Rattle.traversal_run.specs.FoundNodes.{HasIndexOf, IsSourceRefusal, ReadsToBegin};
 ghost use Rattle.traversal_run.specs.Held.{
   ArePlainSteps,
   HasDegreesUpTo,
@@ -55,6 +59,7 @@ use crate::stop::Stop;
 use crate::waiting::Waiting;
 use name_store::Names;
 use plain_graph::{Item, Query};
+use prop_index::LookupFault;
 use rec_bytes::{Damage, Reads};
 use std::alloc::{AllocError, Global};
 
@@ -292,11 +297,43 @@ fn drop_rows(rows: &mut Vec<Row>, count: usize)
 }
 
 impl Run {
-    /// A run of a query. It reads nothing.
-    pub fn new(alloc: Global, query: &Query) -> Result<Run, AllocError>
-        // What is to come is what the query means, over any graph.
-        ensures begins { IfOk result (λ run. (graph : Graph)
-            → to_come graph run ≡ meant graph query.now) }
+    /// A run of a query. It reads nothing, but where the query begins with nodes that an index
+    /// finds: they are looked up.
+    pub fn new<R: Reads>(
+        alloc: Global,
+        space: &mut R,
+        names: &Names,
+        query: &Query,
+    ) -> Result<Run, LookupFault>
+        // What is to come is what the query means: over any graph where it begins with no index,
+        // and else over that of the store.
+        ensures begins { index_of_source query.now.source ≡ None → IfOk result (λ run.
+            (graph : Graph) → to_come graph run ≡ meant graph query.now) }
+        ensures found { R.tells
+            → IsNamedStore (R.state space.old).records (R.state space.old).shape names.now.names
+            → IfOk result (λ run. to_come (graph_of (R.state space.old).records) run
+            ≡ meant (graph_of (R.state space.old).records) query.now) }
+        // The graph has the index that the query begins with, and lacks it where that is said.
+        ensures there { R.tells
+            → IsNamedStore (R.state space.old).records (R.state space.old).shape names.now.names
+            → IfOk result (λ run.
+            HasIndexOf (graph_of (R.state space.old).records) query.now.source) }
+        ensures refused { R.tells
+            → IsNamedStore (R.state space.old).records (R.state space.old).shape names.now.names
+            → IfErr result (IsSourceRefusal
+            (graph_of (R.state space.old).records) query.now.source) }
+        // Where it begins with no index, it is refused for want of memory alone.
+        ensures memory { index_of_source query.now.source ≡ None
+            → IfErr result (λ fault. fault ≡ LookupFault.Memory) }
+        // A record that is said to be damaged breaks a rule, in whatever store.
+        ensures damaged { R.tells → IfErr result
+            (BlamesBroken (R.state space.old).records (R.state space.old).shape) }
+        ensures no_read { index_of_source query.now.source ≡ None → space.new ≡ space.old }
+        ensures cost { R.tells
+            → IsNamedStore (R.state space.old).records (R.state space.old).shape names.now.names
+            → ReadsToBegin query.now.source (R.state space.old) (R.state space.new) }
+        ensures read { IsRead R.Reads space.old space.new }
+        ensures cause { HasLookupCause (R.faults space.old) (R.faults space.new) result }
         ensures allowed { IfOk result (λ run. (most : ℕ)
             → limit_of query.now.steps ≡ Some most → still_allowed run ≡ Some most) }
         ensures stopped { IfOk result (λ run. stopped_by run ≡ None) }
@@ -305,11 +342,13 @@ impl Run {
         ensures within { ArePlainSteps query.now.steps
             → IfOk result (λ run. (d : ℕ) → IsWithin d (hops_of query.now.steps) run) }
         // A limit over all vertices begins before the first.
-        ensures scan { query.now.edges ≡ false → query.now.ids ≡ [] → (most : ℕ)
+        ensures scan { query.now.source ≡ sources.Vertices [] → (most : ℕ)
             → query.now.steps ≡ steps.Limit most ∷ [] → IfOk result (λ run. IsScan run 0) }
     {
-        let source = Source::new(alloc, query.edges, query.ids.as_slice())?;
-        let rows = rows_of(alloc, query.steps.as_slice())?;
+        let source = Source::new(alloc, space, names, &query.source)?;
+        let Ok(rows) = rows_of(alloc, query.steps.as_slice()) else {
+            return Err(LookupFault::Memory);
+        };
         Ok(Run {
             alloc,
             source,

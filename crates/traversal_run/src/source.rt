@@ -1,10 +1,16 @@
 ghost use Rattle.std.specs.Prelude.{◌≡◌, ◌<◌, ◌+◌, ℕ, [], IfErr, IfNone, IfOk, IfSome, None};
-ghost use Rattle.std.specs.Prelude.{false, true};
+ghost use Rattle.std.specs.Prelude.{false, nat_eq, true};
+ghost use Rattle.std.specs.List.{list_any};
 ghost use Rattle.plain_graph.specs.Graph.{Graph};
-ghost use Rattle.plain_graph.specs.Meaning.{source_of};
+ghost use Rattle.plain_graph.specs.Lines.{index_of_source};
+ghost use Rattle.plain_graph.specs.Meaning.{is_asked, source_of};
+ghost use Rattle.plain_graph.specs.declared.query.Source.TheVariants as sources;
+ghost use Rattle.prop_index.specs.Looking as looking;
+ghost use Rattle.prop_index.specs.declared.lookup_fault.LookupFault.TheVariants as faults;
 ghost use Rattle.store_rules.specs.Graph.{graph_of};
 ghost use Rattle.rec_bytes.specs.Fault.{HasFaultCause};
 ghost use Rattle.prop_store.specs.Fault.{BlamesBroken};
+ghost use Rattle.traversal_run.specs.FoundNodes.{HasIndexOf, IsSourceRefusal, ReadsToBegin};
 ghost use Rattle.traversal_run.specs.Reading.{IsNamedStore, IsRead};
 ghost use Rattle.traversal_run.specs.Scan.{TakesVertex, vertices_from};
 ghost use Rattle.store_rules.specs.Rules.{IsWellFormed};
@@ -14,6 +20,7 @@ ghost use Rattle.traversal_run.specs.Source.{
   GivesFirst,
   HasNoneBelow,
   TakesId,
+  is_left,
   is_over,
   left_count,
   left_of,
@@ -22,10 +29,13 @@ ghost use Rattle.traversal_run.specs.Source.{
 use crate::asked_ids::AskedIds;
 use crate::counter::Counter;
 use crate::finding::{element_at, is_in_use, mark_of};
+use crate::found_nodes::find_nodes;
 use crate::shown::Shown;
 use name_store::Names;
+use plain_graph::Source as AskedSource;
+use prop_index::LookupFault;
 use rec_bytes::{Fault, Reads};
-use std::alloc::{AllocError, Global};
+use std::alloc::Global;
 
 /// The identifiers that are still to come.
 #[derive(Drop)]
@@ -39,6 +49,30 @@ pub(crate) enum Left {
 }
 
 impl Left {
+    /// All, or those of these identifiers where some are written.
+    fn asked(alloc: Global, ids: &[u32]) -> Result<Left, Fault>
+        ensures asked { IfOk result (λ left. (id : ℕ) → is_left left id ≡ is_asked ids.now id) }
+        ensures from { ids.now ≡ [] → IfOk result (λ left. left ≡ Left.From 0) }
+        ensures over { IfOk result (λ left. is_over left ≡ false) }
+        ensures memory { IfErr result (λ fault. fault ≡ Fault.Memory) }
+    {
+        if ids.is_empty() {
+            return Ok(Left::From(0));
+        }
+        Left::among(alloc, ids)
+    }
+
+    /// Those of these identifiers; none where there is none.
+    fn among(alloc: Global, ids: &[u32]) -> Result<Left, Fault>
+        ensures among { IfOk result (λ left. (id : ℕ)
+            → is_left left id ≡ list_any (nat_eq id) ids.now) }
+        ensures over { IfOk result (λ left. is_over left ≡ false) }
+        ensures memory { IfErr result (λ fault. fault ≡ Fault.Memory) }
+    {
+        let ids = AskedIds::new(alloc, ids)?;
+        Ok(Left::Among(ids))
+    }
+
     /// Takes the first, where one may be below the mark.
     pub(crate) fn take_first(&mut self, mark: u32) -> Option<u32>
         ensures some { IfSome result (λ id. TakesId self.old id self.new) }
@@ -73,20 +107,56 @@ pub(crate) struct Source {
 }
 
 impl Source {
-    /// All vertices or all edges, or those of these identifiers where some are written.
-    pub(crate) fn new(alloc: Global, edges: bool, ids: &[u32]) -> Result<Source, AllocError>
-        ensures all { IfOk result (λ source. (graph : Graph)
-            → left_of graph source ≡ source_of graph edges ids.now) }
-        ensures from { edges ≡ false → ids.now ≡ []
+    /// What a query begins with. It reads nothing, but for nodes that are found.
+    pub(crate) fn new<R: Reads>(
+        alloc: Global,
+        space: &mut R,
+        names: &Names,
+        asked: &AskedSource,
+    ) -> Result<Source, LookupFault>
+        ensures all { index_of_source asked.now ≡ None → IfOk result (λ source.
+            (graph : Graph) → left_of graph source ≡ source_of graph asked.now) }
+        ensures found { R.tells
+            → IsNamedStore (R.state space.old).records (R.state space.old).shape names.now.names
+            → IfOk result (λ source. left_of (graph_of (R.state space.old).records) source
+            ≡ source_of (graph_of (R.state space.old).records) asked.now) }
+        ensures from { asked.now ≡ sources.Vertices []
             → IfOk result (λ source. source ≡ vertices_from 0) }
         ensures over { IfOk result (λ source. is_over source.left ≡ false) }
+        ensures there { R.tells
+            → IsNamedStore (R.state space.old).records (R.state space.old).shape names.now.names
+            → IfOk result (λ source.
+            HasIndexOf (graph_of (R.state space.old).records) asked.now) }
+        ensures refused { R.tells
+            → IsNamedStore (R.state space.old).records (R.state space.old).shape names.now.names
+            → IfErr result (IsSourceRefusal (graph_of (R.state space.old).records) asked.now) }
+        ensures memory { index_of_source asked.now ≡ None
+            → IfErr result (λ fault. fault ≡ faults.Memory) }
+        ensures damaged { R.tells → IfErr result
+            (looking.BlamesBroken (R.state space.old).records (R.state space.old).shape) }
+        ensures no_read { index_of_source asked.now ≡ None → space.new ≡ space.old }
+        ensures cost { R.tells
+            → IsNamedStore (R.state space.old).records (R.state space.old).shape names.now.names
+            → ReadsToBegin asked.now (R.state space.old) (R.state space.new) }
+        ensures read { IsRead R.Reads space.old space.new }
+        ensures cause { looking.HasLookupCause
+            (R.faults space.old) (R.faults space.new) result }
     {
-        let left = if ids.is_empty() {
-            Left::From(0)
-        } else {
-            Left::Among(AskedIds::new(alloc, ids)?)
-        };
-        Ok(Source { edges, left })
+        match asked {
+            AskedSource::Vertices(ids) => {
+                let left = Left::asked(alloc, ids.as_slice())?;
+                Ok(Source { edges: false, left })
+            }
+            AskedSource::Edges(ids) => {
+                let left = Left::asked(alloc, ids.as_slice())?;
+                Ok(Source { edges: true, left })
+            }
+            AskedSource::Found { label, key, value } => {
+                let nodes = find_nodes(alloc, space, names, label, key, value)?;
+                let left = Left::among(alloc, &nodes)?;
+                Ok(Source { edges: false, left })
+            }
+        }
     }
 
     /// How many of its elements were given out.

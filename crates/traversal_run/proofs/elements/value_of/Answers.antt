@@ -14,7 +14,8 @@ use Rattle.rec_bytes.specs.Space.{State}
 use Rattle.traversal_run.proofs.Broken.{blamed_before}
 use Rattle.traversal_run.proofs.Loaded.{no_name_no_value}
 use Rattle.traversal_run.proofs.Owned.{first_in, listed_in, then_read, value_is}
-use Rattle.traversal_run.proofs.Causes.{cause_passed}
+use Rattle.traversal_run.proofs.Causes.{cause_passed, later_on}
+use Rattle.rec_bytes.proofs.Causes.{never_ok, ok_cause}
 use Rattle.traversal_run.proofs.elements.value_of.Goals as goal
 
 pub returns-in_default-clause-found : goal.returns-in_default-clause-found
@@ -78,3 +79,21 @@ returns-in_err-owned-clause-cause g c =
 pub returns-in_err-value-clause-cause : goal.returns-in_err-value-clause-cause
 returns-in_err-value-clause-cause g c =
     cause_passed _ _ _ c.from_residual-in_err-value.result c.in_err-value.field-0.0 c.in_ok-owned.ensures.cause.later c.in_err-value.ensures.cause c.from_residual-in_err-value.ensures.1
+
+pub returns-in_err-owned-clause-found : goal.returns-in_err-owned-clause-found
+returns-in_err-owned-clause-found g c _ _ = never_ok c.from_residual.result _ _ c.from_residual.ensures.1
+
+pub returns-in_err-owned-clause-kept : goal.returns-in_err-owned-clause-kept
+returns-in_err-owned-clause-kept g c = never_ok c.from_residual.result _ _ c.from_residual.ensures.1
+
+pub returns-in_err-value-clause-found : goal.returns-in_err-value-clause-found
+returns-in_err-value-clause-found g c _ _ = never_ok c.from_residual-in_err-value.result _ _ c.from_residual-in_err-value.ensures.1
+
+pub returns-in_err-value-clause-kept : goal.returns-in_err-value-clause-kept
+returns-in_err-value-clause-kept g c = never_ok c.from_residual-in_err-value.result _ _ c.from_residual-in_err-value.ensures.1
+
+pub returns-in_default-2-clause-cause : goal.returns-in_default-2-clause-cause
+returns-in_default-2-clause-cause g c = ok_cause _ _ _ _ c.in_ok-owned.ensures.cause.later
+
+pub returns-clause-cause : goal.returns-clause-cause
+returns-clause-cause g c = ok_cause _ _ _ _ (later_on c.in_ok-owned.ensures.cause.later c.in_ok-value.ensures.cause.later)

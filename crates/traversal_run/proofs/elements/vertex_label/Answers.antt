@@ -4,6 +4,7 @@ use Rattle.prop_store.specs.Fault.{BlamesBroken}
 use Rattle.traversal_run.proofs.Broken.{node_blamed, node_unnamed}
 use Rattle.traversal_run.proofs.Loaded.{label_known, no_node_label, node_label-is}
 use Rattle.traversal_run.proofs.Causes.{row_cause_passed}
+use Rattle.rec_bytes.proofs.Causes.{never_ok, ok_cause}
 use Rattle.traversal_run.proofs.elements.vertex_label.Goals as goal
 
 pub returns-in_err-row-clause-damaged : goal.returns-in_err-row-clause-damaged
@@ -33,3 +34,15 @@ returns-clause-found g c = λ tells store.
 pub returns-in_err-row-clause-cause : goal.returns-in_err-row-clause-cause
 returns-in_err-row-clause-cause g c =
     row_cause_passed _ _ _ c.from_residual.result c.in_err-row.field-0.0 (omega arith) c.in_err-row.ensures.cause c.from_residual.ensures.1
+
+pub returns-in_err-row-clause-found : goal.returns-in_err-row-clause-found
+returns-in_err-row-clause-found g c _ _ = never_ok c.from_residual.result _ _ c.from_residual.ensures.1
+
+pub returns-in_err-row-clause-short : goal.returns-in_err-row-clause-short
+returns-in_err-row-clause-short g c = never_ok c.from_residual.result _ _ c.from_residual.ensures.1
+
+pub returns-in_default-clause-cause : goal.returns-in_default-clause-cause
+returns-in_default-clause-cause g c = ok_cause _ _ _ _ c.in_ok-row.ensures.cause.later
+
+pub returns-clause-cause : goal.returns-clause-cause
+returns-clause-cause g c = ok_cause _ _ _ _ c.in_ok-row.ensures.cause.later

@@ -12,6 +12,7 @@ use Rattle.traversal_run.proofs.OnlyReads.{is_read-on, named-read}
 use Rattle.traversal_run.proofs.Causes.{cause_passed, later_on}
 use Rattle.std.proofs.lemmas.Result.{err_from_is_err_and}
 use Rattle.prop_store.specs.Fault.{BlamesBroken}
+use Rattle.rec_bytes.proofs.Causes.{never_ok}
 use Rattle.traversal_run.proofs.feeding.count_passing.Goals as goal
 
 pub returns-then-not-add-clause-counts : goal.returns-then-not-add-clause-counts
@@ -124,3 +125,15 @@ returns-then-not-add-clause-read g c =
     is_read-on g.R.Reads g.met.R.Reads.further_onward _ _ _
     (is_read-on g.R.Reads g.met.R.Reads.further_onward _ _ _ c.loop-id.invariant.read c.in_ok-row.ensures.read)
     c.in_ok-passed.ensures.read
+
+pub returns-in_err-row-clause-counts : goal.returns-in_err-row-clause-counts
+returns-in_err-row-clause-counts g c _ _ = never_ok c.from_residual.result _ _ c.from_residual.ensures.1
+
+pub returns-in_err-row-clause-over : goal.returns-in_err-row-clause-over
+returns-in_err-row-clause-over g c = never_ok c.from_residual.result _ _ c.from_residual.ensures.1
+
+pub returns-in_err-passed-clause-counts : goal.returns-in_err-passed-clause-counts
+returns-in_err-passed-clause-counts g c _ _ = never_ok c.from_residual-in_err-passed.result _ _ c.from_residual-in_err-passed.ensures.1
+
+pub returns-in_err-passed-clause-over : goal.returns-in_err-passed-clause-over
+returns-in_err-passed-clause-over g c = never_ok c.from_residual-in_err-passed.result _ _ c.from_residual-in_err-passed.ensures.1

@@ -5,6 +5,7 @@ use Rattle.traversal_run.specs.Held.{IsBatch, is_hop, is_plain}
 use Rattle.traversal_run.specs.Stage.{is_count, limit_left}
 use Rattle.traversal_run.specs.declared.stage.Stage.{Stage}
 use Rattle.traversal_run.proofs.feeding.feed.Goals.{in-Mapped+in-Neighbours-1, in-Dedup-1}
+use Rattle.rec_bytes.proofs.Causes.{never_ok}
 use Rattle.traversal_run.proofs.feeding.feed.Goals as goal
 
 pub returns : goal.returns
@@ -25,3 +26,39 @@ returns g c =
       read = fed.read;
       cause = search rules;
     }
+
+pub returns-in_err-fits-clause-feeds : goal.returns-in_err-fits-clause-feeds
+returns-in_err-fits-clause-feeds g c _ _ = never_ok c.from_residual.result _ _ c.from_residual.ensures.1
+
+pub returns-in_err-fits-clause-limits : goal.returns-in_err-fits-clause-limits
+returns-in_err-fits-clause-limits g c = never_ok c.from_residual.result _ _ c.from_residual.ensures.1
+
+pub returns-in_err-fits-clause-few : goal.returns-in_err-fits-clause-few
+returns-in_err-fits-clause-few g c _ _ _ _ _ = never_ok c.from_residual.result _ _ c.from_residual.ensures.1
+
+pub returns-in_err-outs-clause-feeds : goal.returns-in_err-outs-clause-feeds
+returns-in_err-outs-clause-feeds g c _ _ = never_ok c.from_residual-in_err-outs.result _ _ c.from_residual-in_err-outs.ensures.1
+
+pub returns-in_err-outs-clause-limits : goal.returns-in_err-outs-clause-limits
+returns-in_err-outs-clause-limits g c = never_ok c.from_residual-in_err-outs.result _ _ c.from_residual-in_err-outs.ensures.1
+
+pub returns-in_err-outs-clause-few : goal.returns-in_err-outs-clause-few
+returns-in_err-outs-clause-few g c _ _ _ _ _ = never_ok c.from_residual-in_err-outs.result _ _ c.from_residual-in_err-outs.ensures.1
+
+pub returns-in_err-outs-2-clause-feeds : goal.returns-in_err-outs-2-clause-feeds
+returns-in_err-outs-2-clause-feeds g c _ _ = never_ok c.from_residual-in_err-outs-2.result _ _ c.from_residual-in_err-outs-2.ensures.1
+
+pub returns-in_err-outs-2-clause-limits : goal.returns-in_err-outs-2-clause-limits
+returns-in_err-outs-2-clause-limits g c = never_ok c.from_residual-in_err-outs-2.result _ _ c.from_residual-in_err-outs-2.ensures.1
+
+pub returns-in_err-outs-2-clause-few : goal.returns-in_err-outs-2-clause-few
+returns-in_err-outs-2-clause-few g c _ _ _ _ _ = never_ok c.from_residual-in_err-outs-2.result _ _ c.from_residual-in_err-outs-2.ensures.1
+
+pub returns-in_err-outs-3-clause-feeds : goal.returns-in_err-outs-3-clause-feeds
+returns-in_err-outs-3-clause-feeds g c _ _ = never_ok c.from_residual-in_err-outs-3.result _ _ c.from_residual-in_err-outs-3.ensures.1
+
+pub returns-in_err-outs-3-clause-limits : goal.returns-in_err-outs-3-clause-limits
+returns-in_err-outs-3-clause-limits g c = never_ok c.from_residual-in_err-outs-3.result _ _ c.from_residual-in_err-outs-3.ensures.1
+
+pub returns-in_err-outs-3-clause-few : goal.returns-in_err-outs-3-clause-few
+returns-in_err-outs-3-clause-few g c _ _ _ _ _ = never_ok c.from_residual-in_err-outs-3.result _ _ c.from_residual-in_err-outs-3.ensures.1

@@ -14,6 +14,7 @@ use Rattle.traversal_run.proofs.OnlyReads.{is_read-on, named-read}
 use Rattle.traversal_run.proofs.Causes.{cause_passed, later_on}
 use Rattle.std.proofs.lemmas.Result.{err_from_is_err_and}
 use Rattle.prop_store.specs.Fault.{BlamesBroken}
+use Rattle.rec_bytes.proofs.Causes.{never_ok}
 use Rattle.traversal_run.proofs.feeding.feed_vertices.Goals as goal
 
 pub returns-then-not-is_empty-clause-feeds : goal.returns-then-not-is_empty-clause-feeds
@@ -140,3 +141,21 @@ returns-then-not-is_empty-clause-read g c =
     is_read-on g.R.Reads g.met.R.Reads.further_onward _ _ _
     (is_read-on g.R.Reads g.met.R.Reads.further_onward _ _ _ c.loop-id.invariant.read c.in_ok-row.ensures.read)
     c.in_ok-outs.ensures.read
+
+pub returns-in_err-row-clause-feeds : goal.returns-in_err-row-clause-feeds
+returns-in_err-row-clause-feeds g c _ _ = never_ok c.from_residual.result _ _ c.from_residual.ensures.1
+
+pub returns-in_err-row-clause-limits : goal.returns-in_err-row-clause-limits
+returns-in_err-row-clause-limits g c = never_ok c.from_residual.result _ _ c.from_residual.ensures.1
+
+pub returns-in_err-row-clause-few : goal.returns-in_err-row-clause-few
+returns-in_err-row-clause-few g c _ _ _ _ _ = never_ok c.from_residual.result _ _ c.from_residual.ensures.1
+
+pub returns-in_err-outs-clause-feeds : goal.returns-in_err-outs-clause-feeds
+returns-in_err-outs-clause-feeds g c _ _ = never_ok c.from_residual-in_err-outs.result _ _ c.from_residual-in_err-outs.ensures.1
+
+pub returns-in_err-outs-clause-limits : goal.returns-in_err-outs-clause-limits
+returns-in_err-outs-clause-limits g c = never_ok c.from_residual-in_err-outs.result _ _ c.from_residual-in_err-outs.ensures.1
+
+pub returns-in_err-outs-clause-few : goal.returns-in_err-outs-clause-few
+returns-in_err-outs-clause-few g c _ _ _ _ _ = never_ok c.from_residual-in_err-outs.result _ _ c.from_residual-in_err-outs.ensures.1

@@ -14,6 +14,7 @@ use Rattle.traversal_run.proofs.OnlyReads.{is_read-on, named-read}
 use Rattle.traversal_run.proofs.Causes.{cause_passed, later_on}
 use Rattle.std.proofs.lemmas.Result.{err_from_is_err_and}
 use Rattle.prop_store.specs.Fault.{BlamesBroken}
+use Rattle.rec_bytes.proofs.Causes.{never_ok}
 use Rattle.traversal_run.proofs.feeding.first_passing.Goals as goal
 
 pub returns-then-passed-clause-feeds : goal.returns-then-passed-clause-feeds
@@ -123,3 +124,15 @@ returns-then-passed-clause-read g c =
     is_read-on g.R.Reads g.met.R.Reads.further_onward _ _ _
     (is_read-on g.R.Reads g.met.R.Reads.further_onward _ _ _ c.loop-id.invariant.read c.in_ok-row.ensures.read)
     c.in_ok-passed.ensures.read
+
+pub returns-in_err-row-clause-feeds : goal.returns-in_err-row-clause-feeds
+returns-in_err-row-clause-feeds g c _ _ = never_ok c.from_residual.result _ _ c.from_residual.ensures.1
+
+pub returns-in_err-row-clause-few : goal.returns-in_err-row-clause-few
+returns-in_err-row-clause-few g c = never_ok c.from_residual.result _ _ c.from_residual.ensures.1
+
+pub returns-in_err-passed-clause-feeds : goal.returns-in_err-passed-clause-feeds
+returns-in_err-passed-clause-feeds g c _ _ = never_ok c.from_residual-in_err-passed.result _ _ c.from_residual-in_err-passed.ensures.1
+
+pub returns-in_err-passed-clause-few : goal.returns-in_err-passed-clause-few
+returns-in_err-passed-clause-few g c = never_ok c.from_residual-in_err-passed.result _ _ c.from_residual-in_err-passed.ensures.1

@@ -9,6 +9,7 @@ use Rattle.traversal_run.specs.Naming.{name_count}
 use Rattle.traversal_run.proofs.Broken.{blamed_before}
 use Rattle.traversal_run.proofs.OnlyReads.{is_read-on, named-read}
 use Rattle.traversal_run.proofs.Causes.{cause_passed}
+use Rattle.rec_bytes.proofs.Causes.{never_ok}
 use Rattle.traversal_run.proofs.hopping.edge_items.Goals as goal
 
 -- after reads the numbers of names are the same
@@ -54,3 +55,6 @@ returns-clause-are g c = λ tells store typed.
 pub returns-in_err-push_edge-clause-cause : goal.returns-in_err-push_edge-clause-cause
 returns-in_err-push_edge-clause-cause g c =
     cause_passed _ _ _ c.from_residual.result c.in_err-push_edge.field-0.0 c.loop-row.invariant.read.later c.in_err-push_edge.ensures.cause c.from_residual.ensures.1
+
+pub returns-in_err-push_edge-clause-are : goal.returns-in_err-push_edge-clause-are
+returns-in_err-push_edge-clause-are g c _ _ _ = never_ok c.from_residual.result _ _ c.from_residual.ensures.1

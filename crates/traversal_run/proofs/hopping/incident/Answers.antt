@@ -8,6 +8,7 @@ use Rattle.store_rules.specs.Graph.{graph_of}
 use Rattle.traversal_run.specs.EdgeItems.{AreTyped, row_item}
 use Rattle.traversal_run.proofs.HopEdges.{rows-items, rows-typed}
 use Rattle.traversal_run.proofs.OnlyReads.{is_read-on, named-read}
+use Rattle.rec_bytes.proofs.Causes.{never_ok}
 use Rattle.traversal_run.proofs.hopping.incident.Goals as goal
 
 pub returns-clause-found : goal.returns-clause-found
@@ -31,3 +32,6 @@ returns-clause-damaged g c = λ tells. subst (λ (t : State). IfErr c.edge_items
 
 pub returns-clause-read : goal.returns-clause-read
 returns-clause-read g c = is_read-on g.R.Reads g.met.R.Reads.further_onward c.args.space.now c.rows_of.new.space c.edge_items.new.space c.in_ok-rows.ensures.read c.edge_items.ensures.read
+
+pub returns-in_err-rows-clause-found : goal.returns-in_err-rows-clause-found
+returns-in_err-rows-clause-found g c _ _ = never_ok c.from_residual.result _ _ c.from_residual.ensures.1

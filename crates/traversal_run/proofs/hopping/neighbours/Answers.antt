@@ -4,6 +4,7 @@ use Rattle.store_rules.specs.Graph.{graph_of}
 use Rattle.traversal_run.specs.EdgeItems.{end_item}
 use Rattle.traversal_run.proofs.HopEdges.{rows-ends}
 use Rattle.traversal_run.proofs.Causes.{cause_passed, memory_cause}
+use Rattle.rec_bytes.proofs.Causes.{never_ok}
 use Rattle.traversal_run.proofs.hopping.neighbours.Goals as goal
 
 pub returns-clause-found : goal.returns-clause-found
@@ -24,3 +25,9 @@ returns-in_err-rows-clause-cause g c =
 pub returns-in_err-items-clause-cause : goal.returns-in_err-items-clause-cause
 returns-in_err-items-clause-cause g c =
     memory_cause _ _ c.from_residual-in_err-items.result c.in_ok-rows.ensures.cause.later c.from_residual-in_err-items.ensures.1
+
+pub returns-in_err-rows-clause-found : goal.returns-in_err-rows-clause-found
+returns-in_err-rows-clause-found g c _ _ = never_ok c.from_residual.result _ _ c.from_residual.ensures.1
+
+pub returns-in_err-items-clause-found : goal.returns-in_err-items-clause-found
+returns-in_err-items-clause-found g c _ _ = never_ok c.from_residual-in_err-items.result _ _ c.from_residual-in_err-items.ensures.1

@@ -2,6 +2,7 @@ use Rattle.std.proofs.Common.{◌++◌, ◌∷◌, [], List, ℕ, ap, ◌∙◌,
 use Rattle.plain_graph.specs.declared.item.Item.{Item}
 use Rattle.plain_graph.specs.declared.item.Item.TheVariants as items
 use Rattle.traversal_run.proofs.Causes.{cause_passed, memory_cause}
+use Rattle.rec_bytes.proofs.Causes.{never_ok}
 use Rattle.traversal_run.proofs.hopping.push_edge.Goals as goal
 
 pub returns-then-row-mark-clause-is : goal.returns-then-row-mark-clause-is
@@ -36,3 +37,15 @@ returns-in_err-item-2-clause-cause g c =
 pub returns-in_err-push-2-clause-cause : goal.returns-in_err-push-2-clause-cause
 returns-in_err-push-2-clause-cause g c =
     memory_cause _ _ c.from_residual-in_err-push-2.result c.in_ok-item-2.ensures.cause.later c.from_residual-in_err-push-2.ensures.1
+
+pub returns-in_err-item-clause-is : goal.returns-in_err-item-clause-is
+returns-in_err-item-clause-is g c _ _ _ = never_ok c.from_residual.result _ _ c.from_residual.ensures.1
+
+pub returns-in_err-push-clause-is : goal.returns-in_err-push-clause-is
+returns-in_err-push-clause-is g c _ _ _ = never_ok c.from_residual-in_err-push.result _ _ c.from_residual-in_err-push.ensures.1
+
+pub returns-in_err-item-2-clause-is : goal.returns-in_err-item-2-clause-is
+returns-in_err-item-2-clause-is g c _ _ _ = never_ok c.from_residual-in_err-item-2.result _ _ c.from_residual-in_err-item-2.ensures.1
+
+pub returns-in_err-push-2-clause-is : goal.returns-in_err-push-2-clause-is
+returns-in_err-push-2-clause-is g c _ _ _ = never_ok c.from_residual-in_err-push-2.result _ _ c.from_residual-in_err-push-2.ensures.1

@@ -5,6 +5,7 @@ use Rattle.traversal_run.specs.Hopping.{AreTypeNumbers}
 use Rattle.traversal_run.specs.Naming.{FindsNames}
 use Rattle.traversal_run.proofs.HopEdges.{are_none, edges_at-untyped, no_length, some_length}
 use Rattle.traversal_run.proofs.Causes.{memory_cause}
+use Rattle.rec_bytes.proofs.Causes.{never_ok}
 use Rattle.traversal_run.proofs.hopping.rows_of_types.Goals as goal
 use Rattle.traversal_run.proofs.hopping.rows_of_types.Goals.{else-is_empty-via-else-is_empty, else-is_empty-via-then-is_empty+else-not-is_empty}
 
@@ -40,3 +41,6 @@ returns-clause-found g c = λ tells store.
       none = none;
     } in
     c.rows_by.ensures.found tells store.store (subst (λ (list : List ℕ). AreTypeNumbers s.records list hop.labels) (sym c.deref.ensures.value) types)
+
+pub returns-in_err-numbers-clause-found : goal.returns-in_err-numbers-clause-found
+returns-in_err-numbers-clause-found g c _ _ = never_ok c.from_residual.result _ _ c.from_residual.ensures.1

@@ -1,27 +1,37 @@
-use Rattle.std.proofs.Common.{List, sym, subst}
-use Rattle.plain_graph.specs.declared.item.Item.{Item}
-use Rattle.traversal_run.proofs.AllItems.{IsTaking, taking-end, taking-first, taking-on}
+use Rattle.std.proofs.Common.{◌≡◌, ◌∙◌, ap, subst}
+use Rattle.rec_bytes.specs.Space.{State}
+use Rattle.store_rules.specs.Graph.{graph_of}
+use Rattle.traversal_run.specs.Row.{Stream}
+use Rattle.traversal_run.specs.Run.{to_come}
+use Rattle.traversal_run.proofs.OnlyReads.{named-read}
+use Rattle.rec_bytes.proofs.Causes.{never_ok}
 use Rattle.traversal_run.proofs.items.items_of.Goals as goal
 
-pub loop-init : goal.loop-init
-loop-init g c =
-    let names = c.args.names.now.names in
-    let query = c.args.query.now in
-    let space = c.args.space.now in
-    subst (λ (found : List Item). IsTaking g.R.Reads names query space space found c.in-Ok.run') (sym c.new-items.ensures.items)
-    (taking-first g.R.Reads names query g.met.R.Reads.stays_onward space c.in-Ok.run' c.in-Ok.ensures.begins c.in-Ok.ensures.stopped)
+pub returns-clause-items : goal.returns-clause-items
+returns-clause-items g c = λ tells store.
+    let old = c.args.space.now in
+    let now = c.new.new.space in
+    let items = c.in_ok-items.items.items in
+    let read = c.new.ensures.read in
+    let run = c.in_ok-run.run' in
+    let taken = c.in_ok-items.ensures.items tells (named-read g.R.Reads old now c.args.names.now.names read store) in
+    subst (λ (s : State). items ≡ (to_come (graph_of s.records) run).items) read.same taken
+    ∙ ap (λ (s : Stream). s.items) (c.in_ok-run.ensures.found tells store)
 
-pub loop-preserved : goal.loop-preserved
-loop-preserved g c =
-    let names = c.args.names.now.names in
-    let query = c.args.query.now in
-    let found = c.loop.items.items in
-    let next = c.in-Item.ensures in
-    subst (λ (list : List Item). IsTaking g.R.Reads names query c.args.space.now c.next.new.space list c.next.new.self) (sym c.in_ok-push-in-Item.ensures.items)
-    (taking-on g.R.Reads names query g.met.R.Reads.further_onward c.args.space.now c.loop.space found c.loop.run c.loop.invariant c.next.new.space c.next.ensures.read c.next.new.self c.in-Item.item next.item next.shown next.stops)
+pub returns-in_err-run-clause-items : goal.returns-in_err-run-clause-items
+returns-in_err-run-clause-items g c _ _ = never_ok c.from_residual.result _ _ c.from_residual.ensures.1
 
-pub returns-in-End-clause-items : goal.returns-in-End-clause-items
-returns-in-End-clause-items g c =
-    let inv = c.loop.invariant in
-    taking-end g.R.Reads c.args.names.now.names c.args.query.now g.met.R.Reads.further_onward c.args.space.now c.loop.space c.loop.items.items c.loop.run inv
-    (λ tells store. c.next.ensures.end tells store inv.goes c.in-End.is)
+pub returns-in_err-run-clause-shown : goal.returns-in_err-run-clause-shown
+returns-in_err-run-clause-shown g c = never_ok c.from_residual.result _ _ c.from_residual.ensures.1
+
+pub returns-in_err-run-clause-there : goal.returns-in_err-run-clause-there
+returns-in_err-run-clause-there g c _ _ = never_ok c.from_residual.result _ _ c.from_residual.ensures.1
+
+pub returns-in_err-items-clause-items : goal.returns-in_err-items-clause-items
+returns-in_err-items-clause-items g c _ _ = never_ok c.from_residual-in_err-items.result _ _ c.from_residual-in_err-items.ensures.1
+
+pub returns-in_err-items-clause-shown : goal.returns-in_err-items-clause-shown
+returns-in_err-items-clause-shown g c = never_ok c.from_residual-in_err-items.result _ _ c.from_residual-in_err-items.ensures.1
+
+pub returns-in_err-items-clause-there : goal.returns-in_err-items-clause-there
+returns-in_err-items-clause-there g c _ _ = never_ok c.from_residual-in_err-items.result _ _ c.from_residual-in_err-items.ensures.1

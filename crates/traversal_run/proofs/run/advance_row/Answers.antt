@@ -10,6 +10,7 @@ use Rattle.traversal_run.proofs.Limits.{allowed-row}
 use Rattle.traversal_run.proofs.Rows.{advanced, passes_through}
 use Rattle.traversal_run.proofs.Scans.{limit_advanced}
 use Rattle.traversal_run.proofs.Stops.{may_stop}
+use Rattle.rec_bytes.proofs.Causes.{never_ok}
 use Rattle.traversal_run.proofs.run.advance_row.Goals as goal
 
 pub returns-in_err-outs-clause-stops : goal.returns-in_err-outs-clause-stops
@@ -49,3 +50,15 @@ returns-clause-limit g c = λ most item only.
     let rows = c.args.rows.now in
     let any = c.index-rows-at.result in
     limit_advanced _ rows c.put.new.rows c.args.at (get_or rows c.args.at any) c.advance.new.self any c.in_ok-outs.outs c.put.new.ready most item c.requires.within refl only (c.in_ok-outs.ensures.limit most item) c.put.ensures.rows c.put.ensures.given
+
+pub returns-in_err-outs-clause-same : goal.returns-in_err-outs-clause-same
+returns-in_err-outs-clause-same g c _ _ = never_ok c.from_residual.result _ _ c.from_residual.ensures.1
+
+pub returns-in_err-outs-clause-near : goal.returns-in_err-outs-clause-near
+returns-in_err-outs-clause-near g c _ _ _ _ _ _ = never_ok c.from_residual.result _ _ c.from_residual.ensures.1
+
+pub returns-in_err-outs-clause-limit : goal.returns-in_err-outs-clause-limit
+returns-in_err-outs-clause-limit g c _ _ _ = never_ok c.from_residual.result _ _ c.from_residual.ensures.1
+
+pub returns-in_err-outs-clause-allowed : goal.returns-in_err-outs-clause-allowed
+returns-in_err-outs-clause-allowed g c = never_ok c.from_residual.result _ _ c.from_residual.ensures.1

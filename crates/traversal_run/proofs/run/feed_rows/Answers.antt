@@ -8,6 +8,7 @@ use Rattle.traversal_run.specs.declared.row.Row.{Row}
 use Rattle.traversal_run.specs.declared.source.Source.{Source}
 use Rattle.traversal_run.proofs.Fed.{plain_no_count}
 use Rattle.traversal_run.proofs.OnlyReads.{named-read}
+use Rattle.rec_bytes.proofs.Causes.{never_ok}
 use Rattle.traversal_run.proofs.run.feed_rows.Goals as goal
 
 pub returns-then-branch-clause-near : goal.returns-then-branch-clause-near
@@ -29,3 +30,12 @@ returns-clause-stops g c = λ tells store.
     let stays = c.in_ok-feed_two.ensures.stays c.if-branch.false in
     subst (λ (t : List Row × Source × State). IfErr c.feed_step.result (MayStop ⊥ ((through (graph_of t.2.records) t.0 (stream (left_of (graph_of t.2.records) t.1))).past ≡ true))) (λ i. (stays.0 i, stays.1 i, g.R.Reads.state (stays.2 i)))
     (c.feed_step.ensures.stops tells (named-read g.R.Reads c.args.space.now c.feed_two.new.space c.args.names.now.names c.feed_two.ensures.read store))
+
+pub returns-in_err-feed_two-clause-same : goal.returns-in_err-feed_two-clause-same
+returns-in_err-feed_two-clause-same g c _ _ = never_ok c.from_residual.result _ _ c.from_residual.ensures.1
+
+pub returns-in_err-feed_two-clause-near : goal.returns-in_err-feed_two-clause-near
+returns-in_err-feed_two-clause-near g c _ _ _ _ _ _ = never_ok c.from_residual.result _ _ c.from_residual.ensures.1
+
+pub returns-in_err-feed_two-clause-allowed : goal.returns-in_err-feed_two-clause-allowed
+returns-in_err-feed_two-clause-allowed g c = never_ok c.from_residual.result _ _ c.from_residual.ensures.1

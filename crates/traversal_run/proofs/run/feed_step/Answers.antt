@@ -12,6 +12,7 @@ use Rattle.traversal_run.proofs.Fed.{fed, fed_past}
 use Rattle.traversal_run.proofs.HeldRows.{near-fed, plain_at}
 use Rattle.traversal_run.proofs.Limits.{allowed-row, allowed_any}
 use Rattle.traversal_run.proofs.Stops.{may_stop}
+use Rattle.rec_bytes.proofs.Causes.{never_ok}
 use Rattle.traversal_run.proofs.run.feed_step.Goals as goal
 
 pub returns-clause-same : goal.returns-clause-same
@@ -53,3 +54,12 @@ returns-in_err-outs-clause-stops g c = λ tells store.
     let p = err_from_is_err_and c.from_residual.result c.from_residual.ensures.1 in
     rw (p.1, p.2) (may_stop ⊥ (counts_past row.stage left ≡ true) ⊥ ((through graph rows (stream left)).past ≡ true) c.in_err-outs.field-0.0 (λ none. none)
     (λ past. fed_past graph c.args.source.now rows row any c.requires.some refl c.requires.idle past) (c.in_err-outs.ensures.stops tells store))
+
+pub returns-in_err-outs-clause-same : goal.returns-in_err-outs-clause-same
+returns-in_err-outs-clause-same g c _ _ = never_ok c.from_residual.result _ _ c.from_residual.ensures.1
+
+pub returns-in_err-outs-clause-near : goal.returns-in_err-outs-clause-near
+returns-in_err-outs-clause-near g c _ _ _ _ _ _ = never_ok c.from_residual.result _ _ c.from_residual.ensures.1
+
+pub returns-in_err-outs-clause-allowed : goal.returns-in_err-outs-clause-allowed
+returns-in_err-outs-clause-allowed g c = never_ok c.from_residual.result _ _ c.from_residual.ensures.1

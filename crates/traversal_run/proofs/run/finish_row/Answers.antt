@@ -3,6 +3,7 @@ use Rattle.traversal_run.specs.Row.{stream}
 use Rattle.traversal_run.specs.declared.row.Row.{Row}
 use Rattle.traversal_run.proofs.Limits.{allowed-row}
 use Rattle.traversal_run.proofs.Rows.{advanced, finished}
+use Rattle.rec_bytes.proofs.Causes.{never_ok}
 use Rattle.traversal_run.proofs.run.finish_row.Goals as goal
 
 pub returns-clause-same : goal.returns-clause-same
@@ -21,3 +22,9 @@ returns-clause-allowed c = λ over.
     let row = get_or rows c.args.at any in
     let new : Row = record { stage = c.finish.new.self; waiting = row.waiting } in
     allowed-row rows c.put.new.rows c.args.at row new any c.in_ok-outs.outs c.put.new.ready c.requires.within refl c.in_ok-outs.ensures.limits c.in_ok-outs.ensures.counts c.put.ensures.stages c.put.ensures.passed c.put.ensures.given over
+
+pub returns-in_err-outs-clause-same : goal.returns-in_err-outs-clause-same
+returns-in_err-outs-clause-same c = never_ok c.from_residual.result _ _ c.from_residual.ensures.1
+
+pub returns-in_err-outs-clause-allowed : goal.returns-in_err-outs-clause-allowed
+returns-in_err-outs-clause-allowed c = never_ok c.from_residual.result _ _ c.from_residual.ensures.1

@@ -1,5 +1,6 @@
 use Rattle.std.proofs.Common.{arith}
 use Rattle.traversal_run.proofs.Causes.{cause_passed, memory_cause}
+use Rattle.rec_bytes.proofs.Causes.{never_ok}
 use Rattle.traversal_run.proofs.stage.keep.Goals as goal
 
 pub returns-in_err-rank-clause-cause : goal.returns-in_err-rank-clause-cause
@@ -9,3 +10,9 @@ returns-in_err-rank-clause-cause g c =
 pub returns-in_err-push-in-Some-clause-cause : goal.returns-in_err-push-in-Some-clause-cause
 returns-in_err-push-in-Some-clause-cause g c =
     memory_cause _ _ c.from_residual-in_err-push-in-Some.result c.in_ok-rank.ensures.cause.later c.from_residual-in_err-push-in-Some.ensures.1
+
+pub returns-in_err-rank-clause-kept : goal.returns-in_err-rank-clause-kept
+returns-in_err-rank-clause-kept g c _ _ = never_ok c.from_residual.result _ _ c.from_residual.ensures.1
+
+pub returns-in_err-push-in-Some-clause-kept : goal.returns-in_err-push-in-Some-clause-kept
+returns-in_err-push-in-Some-clause-kept g c _ _ = never_ok c.from_residual-in_err-push-in-Some.result _ _ c.from_residual-in_err-push-in-Some.ensures.1

@@ -6,6 +6,7 @@ use Rattle.traversal_run.specs.declared.stage.Stage.{Stage}
 use Rattle.traversal_run.proofs.Counting.{counts_row, not_count, passes_all}
 use Rattle.traversal_run.proofs.HeldSteps.{few_at, takes_batch}
 use Rattle.traversal_run.proofs.Scans.{limit_taken}
+use Rattle.rec_bytes.proofs.Causes.{never_ok}
 use Rattle.traversal_run.proofs.row.Row.advance.Goals as goal
 
 pub take-requires-clause-counts : goal.take-requires-clause-counts
@@ -39,3 +40,18 @@ returns-in_ok-outs-in-Some-clause-advances g c = λ tells store coming.
       ap (λ (waiting : List Item). after_stage graph stage (waiting ++ coming)) c.in-Some.ensures.some ∙ takes.0,
       ap (λ (waiting : List Item). counts_past stage (waiting ++ coming)) c.in-Some.ensures.some ∙ takes.1,
     )
+
+pub returns-in_err-outs-in-Some-clause-advances : goal.returns-in_err-outs-in-Some-clause-advances
+returns-in_err-outs-in-Some-clause-advances g c _ _ = never_ok c.from_residual.result _ _ c.from_residual.ensures.1
+
+pub returns-in_err-outs-in-Some-clause-limits : goal.returns-in_err-outs-in-Some-clause-limits
+returns-in_err-outs-in-Some-clause-limits g c = never_ok c.from_residual.result _ _ c.from_residual.ensures.1
+
+pub returns-in_err-outs-in-Some-clause-idle : goal.returns-in_err-outs-in-Some-clause-idle
+returns-in_err-outs-in-Some-clause-idle g c _ = never_ok c.from_residual.result _ _ c.from_residual.ensures.1
+
+pub returns-in_err-outs-in-Some-clause-few : goal.returns-in_err-outs-in-Some-clause-few
+returns-in_err-outs-in-Some-clause-few g c _ _ _ _ _ = never_ok c.from_residual.result _ _ c.from_residual.ensures.1
+
+pub returns-in_err-outs-in-Some-clause-limit : goal.returns-in_err-outs-in-Some-clause-limit
+returns-in_err-outs-in-Some-clause-limit g c _ _ _ = never_ok c.from_residual.result _ _ c.from_residual.ensures.1

@@ -13,6 +13,7 @@ use Rattle.traversal_run.proofs.Nothing.{spent-to_come}
 use Rattle.traversal_run.proofs.OnlyReads.{is_read-on, named-read}
 use Rattle.traversal_run.proofs.Scans.{ScanState, scan_gives, scan_starts, scan_turns}
 use Rattle.traversal_run.proofs.Causes.{stop_cause_passed}
+use Rattle.rec_bytes.proofs.Causes.{never_ok}
 use Rattle.traversal_run.proofs.run.Run.go_on.Goals as goal
 
 pub returns-then-is_spent-clause-stops : goal.returns-then-is_spent-clause-stops
@@ -102,3 +103,18 @@ returns-in_err-turn-clause-stops g c = λ tells store.
     (c.in_err-turn.ensures.stops tells (named-read space first c.loop.space c.args.names.now.names inv.read store)) in
     rw (p.1, p.2) (subst (λ (s : Stream). IsStopOf s fault)
     (ap (λ (ready : List Item). to_come (graph_of (space.state first).records) (record run { ready = ready })) (sym same_ready) ∙ inv.same tells store) stops)
+
+pub returns-in_err-turn-clause-item : goal.returns-in_err-turn-clause-item
+returns-in_err-turn-clause-item g c _ _ = never_ok c.from_residual.result _ _ c.from_residual.ensures.1
+
+pub returns-in_err-turn-clause-shown : goal.returns-in_err-turn-clause-shown
+returns-in_err-turn-clause-shown g c = never_ok c.from_residual.result _ _ c.from_residual.ensures.1
+
+pub returns-in_err-turn-clause-within : goal.returns-in_err-turn-clause-within
+returns-in_err-turn-clause-within g c _ _ _ _ _ _ = never_ok c.from_residual.result _ _ c.from_residual.ensures.1
+
+pub returns-in_err-turn-clause-scan : goal.returns-in_err-turn-clause-scan
+returns-in_err-turn-clause-scan g c _ _ = never_ok c.from_residual.result _ _ c.from_residual.ensures.1
+
+pub returns-in_err-turn-clause-allowed : goal.returns-in_err-turn-clause-allowed
+returns-in_err-turn-clause-allowed g c = never_ok c.from_residual.result _ _ c.from_residual.ensures.1

@@ -17,6 +17,7 @@ use Rattle.traversal_run.proofs.Places.{written_back}
 use Rattle.traversal_run.proofs.Rows.{ends_at}
 use Rattle.traversal_run.proofs.Scans.{cut_scan, idle_scan, quiet_scan}
 use Rattle.traversal_run.proofs.Stops.{may_stop}
+use Rattle.rec_bytes.proofs.Causes.{never_ok}
 use Rattle.traversal_run.proofs.run.Run.turn.Goals as goal
 
 pub returns-clause-stops : goal.returns-clause-stops
@@ -145,3 +146,63 @@ returns-then-is_fed-clause-allowed g c =
     ∙ c.in_ok-feed_rows.ensures.allowed over now
     ∙ ap (λ (rs : List Row). allowed_by over (stages_of rs) 0) rows
     ∙ ap (λ (ready : List Item). allowed_by over (stages_of run.rows.items) (length ready)) (sym c.requires)
+
+pub returns-in_err-advance_row-clause-same : goal.returns-in_err-advance_row-clause-same
+returns-in_err-advance_row-clause-same g c _ _ = never_ok c.from_residual.result _ _ c.from_residual.ensures.1
+
+pub returns-in_err-advance_row-clause-allowed : goal.returns-in_err-advance_row-clause-allowed
+returns-in_err-advance_row-clause-allowed g c = never_ok c.from_residual.result _ _ c.from_residual.ensures.1
+
+pub returns-in_err-advance_row-clause-near : goal.returns-in_err-advance_row-clause-near
+returns-in_err-advance_row-clause-near g c _ _ _ _ _ _ = never_ok c.from_residual.result _ _ c.from_residual.ensures.1
+
+pub returns-in_err-advance_row-clause-scan : goal.returns-in_err-advance_row-clause-scan
+returns-in_err-advance_row-clause-scan g c _ _ _ = never_ok c.from_residual.result _ _ c.from_residual.ensures.1
+
+pub returns-in_err-advance_row-clause-limit : goal.returns-in_err-advance_row-clause-limit
+returns-in_err-advance_row-clause-limit g c _ _ _ _ = never_ok c.from_residual.result _ _ c.from_residual.ensures.1
+
+pub returns-in_err-feed_rows-clause-same : goal.returns-in_err-feed_rows-clause-same
+returns-in_err-feed_rows-clause-same g c _ _ = never_ok c.from_residual-in_err-feed_rows.result _ _ c.from_residual-in_err-feed_rows.ensures.1
+
+pub returns-in_err-feed_rows-clause-allowed : goal.returns-in_err-feed_rows-clause-allowed
+returns-in_err-feed_rows-clause-allowed g c = never_ok c.from_residual-in_err-feed_rows.result _ _ c.from_residual-in_err-feed_rows.ensures.1
+
+pub returns-in_err-feed_rows-clause-near : goal.returns-in_err-feed_rows-clause-near
+returns-in_err-feed_rows-clause-near g c _ _ _ _ _ _ = never_ok c.from_residual-in_err-feed_rows.result _ _ c.from_residual-in_err-feed_rows.ensures.1
+
+pub returns-in_err-feed_rows-clause-scan : goal.returns-in_err-feed_rows-clause-scan
+returns-in_err-feed_rows-clause-scan g c _ _ _ = never_ok c.from_residual-in_err-feed_rows.result _ _ c.from_residual-in_err-feed_rows.ensures.1
+
+pub returns-in_err-feed_rows-clause-limit : goal.returns-in_err-feed_rows-clause-limit
+returns-in_err-feed_rows-clause-limit g c _ _ _ _ = never_ok c.from_residual-in_err-feed_rows.result _ _ c.from_residual-in_err-feed_rows.ensures.1
+
+pub returns-in_err-item-clause-same : goal.returns-in_err-item-clause-same
+returns-in_err-item-clause-same g c _ _ = never_ok c.from_residual-in_err-item.result _ _ c.from_residual-in_err-item.ensures.1
+
+pub returns-in_err-item-clause-allowed : goal.returns-in_err-item-clause-allowed
+returns-in_err-item-clause-allowed g c = never_ok c.from_residual-in_err-item.result _ _ c.from_residual-in_err-item.ensures.1
+
+pub returns-in_err-item-clause-near : goal.returns-in_err-item-clause-near
+returns-in_err-item-clause-near g c _ _ _ _ _ _ = never_ok c.from_residual-in_err-item.result _ _ c.from_residual-in_err-item.ensures.1
+
+pub returns-in_err-item-clause-scan : goal.returns-in_err-item-clause-scan
+returns-in_err-item-clause-scan g c _ _ _ = never_ok c.from_residual-in_err-item.result _ _ c.from_residual-in_err-item.ensures.1
+
+pub returns-in_err-item-clause-limit : goal.returns-in_err-item-clause-limit
+returns-in_err-item-clause-limit g c _ _ _ _ = never_ok c.from_residual-in_err-item.result _ _ c.from_residual-in_err-item.ensures.1
+
+pub returns-in_err-finish_row-clause-same : goal.returns-in_err-finish_row-clause-same
+returns-in_err-finish_row-clause-same g c _ _ = never_ok c.from_residual-in_err-finish_row.result _ _ c.from_residual-in_err-finish_row.ensures.1
+
+pub returns-in_err-finish_row-clause-allowed : goal.returns-in_err-finish_row-clause-allowed
+returns-in_err-finish_row-clause-allowed g c = never_ok c.from_residual-in_err-finish_row.result _ _ c.from_residual-in_err-finish_row.ensures.1
+
+pub returns-in_err-finish_row-clause-near : goal.returns-in_err-finish_row-clause-near
+returns-in_err-finish_row-clause-near g c _ _ _ _ _ _ = never_ok c.from_residual-in_err-finish_row.result _ _ c.from_residual-in_err-finish_row.ensures.1
+
+pub returns-in_err-finish_row-clause-scan : goal.returns-in_err-finish_row-clause-scan
+returns-in_err-finish_row-clause-scan g c _ _ _ = never_ok c.from_residual-in_err-finish_row.result _ _ c.from_residual-in_err-finish_row.ensures.1
+
+pub returns-in_err-finish_row-clause-limit : goal.returns-in_err-finish_row-clause-limit
+returns-in_err-finish_row-clause-limit g c _ _ _ _ = never_ok c.from_residual-in_err-finish_row.result _ _ c.from_residual-in_err-finish_row.ensures.1

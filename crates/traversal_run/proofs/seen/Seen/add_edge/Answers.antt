@@ -3,6 +3,7 @@ use Rattle.plain_graph.specs.Meaning.{unseen}
 use Rattle.plain_graph.specs.declared.item.Item.{Item}
 use Rattle.plain_graph.specs.declared.item.Item.TheVariants as items
 use Rattle.traversal_run.proofs.Codes.{unseen-edge}
+use Rattle.rec_bytes.proofs.Causes.{never_ok}
 use Rattle.traversal_run.proofs.seen.Seen.add_edge.Goals as goal
 
 pub returns : goal.returns
@@ -11,3 +12,6 @@ returns c = λ label from to later.
     let ok = c.in_ok-is_new.ensures in
     ap (λ (seen : List Item). unseen seen (items.Edge c.args.id label from to ∷ later)) (sym c.self.view_is)
     ∙ unseen-edge old.vertices old.edges old.codes c.args.id from to label c.add.new.self c.in_ok-is_new.is_new ok.is_new ok.added later
+
+pub returns-in_err-is_new : goal.returns-in_err-is_new
+returns-in_err-is_new c _ _ _ = never_ok c.from_residual.result _ _ c.from_residual.ensures.1

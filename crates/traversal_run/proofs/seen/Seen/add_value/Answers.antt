@@ -6,6 +6,7 @@ use Rattle.plain_graph.specs.declared.item.Item.{Item}
 use Rattle.plain_graph.specs.declared.item.Item.TheVariants as items
 use Rattle.traversal_run.specs.Seen.{AreCodes, code_of}
 use Rattle.traversal_run.proofs.Codes.{codes-kept, unseen-value}
+use Rattle.rec_bytes.proofs.Causes.{never_ok}
 use Rattle.traversal_run.proofs.seen.Seen.add_value.Goals as goal
 
 pub invariant_of-self : goal.invariant_of-self
@@ -30,3 +31,9 @@ returns c = λ later.
     = c.in_ok-is_new.ensures.added ∙ ap (λ (t : List ℕ). cond c.in_ok-is_new.is_new (codes ++ t ∷ []) codes) code in
     ap (λ (seen : List Item). unseen seen (items.Value value ∷ later)) (sym c.self.view_is)
     ∙ unseen-value old.vertices old.edges codes value c.add.new.self c.in_ok-is_new.is_new c.in_ok-code.ensures.range c.self.invariant is kept later
+
+pub returns-in_err-code : goal.returns-in_err-code
+returns-in_err-code c = never_ok c.from_residual.result _ _ c.from_residual.ensures.1
+
+pub returns-in_err-is_new : goal.returns-in_err-is_new
+returns-in_err-is_new c = never_ok c.from_residual-in_err-is_new.result _ _ c.from_residual-in_err-is_new.ensures.1

@@ -8,6 +8,7 @@ use Rattle.traversal_run.specs.declared.source.Source.{Source}
 use Rattle.traversal_run.proofs.Fed.{counts_end, counts_on, counts_passes}
 use Rattle.traversal_run.proofs.LeftRows.{left-none, left-takes}
 use Rattle.traversal_run.proofs.OnlyReads.{is_read-on}
+use Rattle.rec_bytes.proofs.Causes.{never_ok}
 use Rattle.traversal_run.proofs.source.Source.count.Goals as goal
 
 pub returns-then-not-add-clause-counts : goal.returns-then-not-add-clause-counts
@@ -42,3 +43,6 @@ returns-clause-counts g c = λ tells.
     let mark = c.loop-id.invariant.mark ∙ ap (element_mark s.records) (sym c.loop-id.invariant.edges) in
     let none = left-none s.records now.edges now.left (subst (λ n. HasNoneBelow n now.left) mark c.in_default.ensures.none.0) in
     counts_end (graph_of s.records) c.args.self.now now c.end.new.self c.args.so_far.now c.loop-id.so_far (c.loop-id.invariant.counted tells) none (c.end.ensures ∙ (λ i. record { edges = now.edges; left = Nothing }))
+
+pub returns-in_err-used-clause-counts : goal.returns-in_err-used-clause-counts
+returns-in_err-used-clause-counts g c _ = never_ok c.from_residual.result _ _ c.from_residual.ensures.1

@@ -12,6 +12,7 @@ use Rattle.traversal_run.proofs.LeftRows.{gives-later, gives-some, left-none, le
 use Rattle.traversal_run.proofs.OnlyReads.{is_read-on, named-read}
 use Rattle.traversal_run.proofs.Scans.{scan_found}
 use Rattle.traversal_run.proofs.Causes.{cause_passed}
+use Rattle.rec_bytes.proofs.Causes.{never_ok}
 use Rattle.traversal_run.proofs.source.Source.next.Goals as goal
 
 pub returns-then-is_some-clause-vertex : goal.returns-then-is_some-clause-vertex
@@ -82,3 +83,12 @@ returns-in_err-item-clause-damaged g c = λ tells.
 pub returns-in_err-item-clause-cause : goal.returns-in_err-item-clause-cause
 returns-in_err-item-clause-cause g c =
     cause_passed _ _ _ c.from_residual.result c.in_err-item.field-0.0 c.loop-id.invariant.read.later c.in_err-item.ensures.cause c.from_residual.ensures.1
+
+pub returns-in_err-item-clause-first : goal.returns-in_err-item-clause-first
+returns-in_err-item-clause-first g c _ _ = never_ok c.from_residual.result _ _ c.from_residual.ensures.1
+
+pub returns-in_err-item-clause-vertex : goal.returns-in_err-item-clause-vertex
+returns-in_err-item-clause-vertex g c _ _ = never_ok c.from_residual.result _ _ c.from_residual.ensures.1
+
+pub returns-in_err-item-clause-none : goal.returns-in_err-item-clause-none
+returns-in_err-item-clause-none g c _ = never_ok c.from_residual.result _ _ c.from_residual.ensures.1

@@ -1,5 +1,0 @@
-use Rattle.traversal_run.proofs.AllItems.{IsTaking}
-use Rattle.traversal_run.proofs.items.items_of.Given as goal
-
-abbrev pub invariant-loop : goal.invariant-loop
-invariant-loop g l = IsTaking g.R.Reads l.names.names l.query l.initial.space l.space l.items.items l.run

@@ -1,0 +1,31 @@
+use Rattle.std.proofs.Common.{List, sym, subst}
+use Rattle.plain_graph.specs.declared.item.Item.{Item}
+use Rattle.traversal_run.proofs.AllItems.{IsTaking, taking-end, taking-first, taking-on}
+use Rattle.rec_bytes.proofs.Causes.{never_ok}
+use Rattle.traversal_run.proofs.items.take_all.Goals as goal
+
+pub loop-init : goal.loop-init
+loop-init g c =
+    let names = c.args.names.now.names in
+    let space = c.args.space.now in
+    subst (λ (found : List Item). IsTaking g.R.Reads names c.args.run.now space space found c.args.run.now) (sym c.new-items.ensures.items) (taking-first g.R.Reads names g.met.R.Reads.stays_onward space c.args.run.now c.requires)
+
+pub loop-preserved : goal.loop-preserved
+loop-preserved g c =
+    let names = c.args.names.now.names in
+    let found = c.loop.items.items in
+    let next = c.in-Item.ensures in
+    subst (λ (list : List Item). IsTaking g.R.Reads names c.args.run.now c.args.space.now c.next.new.space list c.next.new.self) (sym c.in_ok-push-in-Item.ensures.items)
+    (taking-on g.R.Reads names c.args.run.now g.met.R.Reads.further_onward c.args.space.now c.loop.space found c.loop.run c.loop.invariant c.next.new.space c.next.ensures.read c.next.new.self c.in-Item.item next.item next.shown next.stops)
+
+pub returns-in-End-clause-items : goal.returns-in-End-clause-items
+returns-in-End-clause-items g c =
+    let inv = c.loop.invariant in
+    taking-end g.R.Reads c.args.names.now.names c.args.run.now g.met.R.Reads.further_onward c.args.space.now c.loop.space c.loop.items.items c.loop.run inv
+    (λ tells store. c.next.ensures.end tells store inv.goes c.in-End.is)
+
+pub returns-in_err-push-in-Item-clause-items : goal.returns-in_err-push-in-Item-clause-items
+returns-in_err-push-in-Item-clause-items g c _ _ = never_ok c.from_residual.result _ _ c.from_residual.ensures.1
+
+pub returns-in_err-push-in-Item-clause-shown : goal.returns-in_err-push-in-Item-clause-shown
+returns-in_err-push-in-Item-clause-shown g c = never_ok c.from_residual.result _ _ c.from_residual.ensures.1

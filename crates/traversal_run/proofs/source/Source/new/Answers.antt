@@ -1,0 +1,90 @@
+use Rattle.std.proofs.Common.{◌≡◌, ◌∙◌, false, nat_eq, ap, sym, subst}
+use Rattle.std.specs.List.{list_any}
+use Rattle.plain_graph.specs.Meaning.{source_of}
+use Rattle.plain_graph.specs.declared.query.Source.{Source as Asked}
+use Rattle.store_rules.specs.Graph.{graph_of}
+use Rattle.traversal_run.specs.FoundNodes.{ReadsToBegin}
+use Rattle.traversal_run.specs.Source.{elements_left}
+use Rattle.traversal_run.proofs.FoundSources.{found-left}
+use Rattle.rec_bytes.proofs.Causes.{never_ok}
+use Rattle.traversal_run.proofs.source.Source.new.Goals as goal
+
+pub returns-in_err-nodes-in-Found-clause-cost : goal.returns-in_err-nodes-in-Found-clause-cost
+returns-in_err-nodes-in-Found-clause-cost g c = λ tells store.
+    subst (λ (asked : Asked). ReadsToBegin asked (g.R.Reads.state c.args.space.now) (g.R.Reads.state c.find_nodes.new.space)) (sym c.in-Found.is) (c.find_nodes.ensures.cost tells store)
+
+pub returns-in_err-left-in-Found-clause-cost : goal.returns-in_err-left-in-Found-clause-cost
+returns-in_err-left-in-Found-clause-cost g c = λ tells store.
+    subst (λ (asked : Asked). ReadsToBegin asked (g.R.Reads.state c.args.space.now) (g.R.Reads.state c.find_nodes.new.space)) (sym c.in-Found.is) (c.find_nodes.ensures.cost tells store)
+
+pub returns-in_ok-left-in-Found-clause-cost : goal.returns-in_ok-left-in-Found-clause-cost
+returns-in_ok-left-in-Found-clause-cost g c = λ tells store.
+    subst (λ (asked : Asked). ReadsToBegin asked (g.R.Reads.state c.args.space.now) (g.R.Reads.state c.find_nodes.new.space)) (sym c.in-Found.is) (c.find_nodes.ensures.cost tells store)
+
+pub returns-in_ok-left-in-Found-clause-found : goal.returns-in_ok-left-in-Found-clause-found
+returns-in_ok-left-in-Found-clause-found g c = λ tells store.
+    let graph = graph_of (g.R.Reads.state c.args.space.now).records in
+    let left = c.in_ok-left-in-Found.left in
+    subst (λ (asked : Asked). elements_left graph false left ≡ source_of graph asked) (sym c.in-Found.is)
+    (found-left graph c.in-Found.label c.in-Found.key c.in-Found.value c.in_ok-nodes-in-Found.nodes.items left (c.in_ok-nodes-in-Found.ensures.found tells store)
+    (λ id. c.in_ok-left-in-Found.ensures.among id ∙ ap (list_any (nat_eq id)) c.deref.ensures.value))
+
+pub returns-in_err-left-in-Vertices-clause-all : goal.returns-in_err-left-in-Vertices-clause-all
+returns-in_err-left-in-Vertices-clause-all g c _ = never_ok c.from_residual.result _ _ c.from_residual.ensures.1
+
+pub returns-in_err-left-in-Vertices-clause-found : goal.returns-in_err-left-in-Vertices-clause-found
+returns-in_err-left-in-Vertices-clause-found g c _ _ = never_ok c.from_residual.result _ _ c.from_residual.ensures.1
+
+pub returns-in_err-left-in-Vertices-clause-from : goal.returns-in_err-left-in-Vertices-clause-from
+returns-in_err-left-in-Vertices-clause-from g c _ = never_ok c.from_residual.result _ _ c.from_residual.ensures.1
+
+pub returns-in_err-left-in-Vertices-clause-over : goal.returns-in_err-left-in-Vertices-clause-over
+returns-in_err-left-in-Vertices-clause-over g c = never_ok c.from_residual.result _ _ c.from_residual.ensures.1
+
+pub returns-in_err-left-in-Vertices-clause-there : goal.returns-in_err-left-in-Vertices-clause-there
+returns-in_err-left-in-Vertices-clause-there g c _ _ = never_ok c.from_residual.result _ _ c.from_residual.ensures.1
+
+pub returns-in_err-left-in-Edges-clause-all : goal.returns-in_err-left-in-Edges-clause-all
+returns-in_err-left-in-Edges-clause-all g c _ = never_ok c.from_residual-in_err-left-in-Edges.result _ _ c.from_residual-in_err-left-in-Edges.ensures.1
+
+pub returns-in_err-left-in-Edges-clause-found : goal.returns-in_err-left-in-Edges-clause-found
+returns-in_err-left-in-Edges-clause-found g c _ _ = never_ok c.from_residual-in_err-left-in-Edges.result _ _ c.from_residual-in_err-left-in-Edges.ensures.1
+
+pub returns-in_err-left-in-Edges-clause-from : goal.returns-in_err-left-in-Edges-clause-from
+returns-in_err-left-in-Edges-clause-from g c _ = never_ok c.from_residual-in_err-left-in-Edges.result _ _ c.from_residual-in_err-left-in-Edges.ensures.1
+
+pub returns-in_err-left-in-Edges-clause-over : goal.returns-in_err-left-in-Edges-clause-over
+returns-in_err-left-in-Edges-clause-over g c = never_ok c.from_residual-in_err-left-in-Edges.result _ _ c.from_residual-in_err-left-in-Edges.ensures.1
+
+pub returns-in_err-left-in-Edges-clause-there : goal.returns-in_err-left-in-Edges-clause-there
+returns-in_err-left-in-Edges-clause-there g c _ _ = never_ok c.from_residual-in_err-left-in-Edges.result _ _ c.from_residual-in_err-left-in-Edges.ensures.1
+
+pub returns-in_err-nodes-in-Found-clause-all : goal.returns-in_err-nodes-in-Found-clause-all
+returns-in_err-nodes-in-Found-clause-all g c _ = never_ok c.from_residual-in_err-nodes-in-Found.result _ _ c.from_residual-in_err-nodes-in-Found.ensures.1
+
+pub returns-in_err-nodes-in-Found-clause-found : goal.returns-in_err-nodes-in-Found-clause-found
+returns-in_err-nodes-in-Found-clause-found g c _ _ = never_ok c.from_residual-in_err-nodes-in-Found.result _ _ c.from_residual-in_err-nodes-in-Found.ensures.1
+
+pub returns-in_err-nodes-in-Found-clause-from : goal.returns-in_err-nodes-in-Found-clause-from
+returns-in_err-nodes-in-Found-clause-from g c _ = never_ok c.from_residual-in_err-nodes-in-Found.result _ _ c.from_residual-in_err-nodes-in-Found.ensures.1
+
+pub returns-in_err-nodes-in-Found-clause-over : goal.returns-in_err-nodes-in-Found-clause-over
+returns-in_err-nodes-in-Found-clause-over g c = never_ok c.from_residual-in_err-nodes-in-Found.result _ _ c.from_residual-in_err-nodes-in-Found.ensures.1
+
+pub returns-in_err-nodes-in-Found-clause-there : goal.returns-in_err-nodes-in-Found-clause-there
+returns-in_err-nodes-in-Found-clause-there g c _ _ = never_ok c.from_residual-in_err-nodes-in-Found.result _ _ c.from_residual-in_err-nodes-in-Found.ensures.1
+
+pub returns-in_err-left-in-Found-clause-all : goal.returns-in_err-left-in-Found-clause-all
+returns-in_err-left-in-Found-clause-all g c _ = never_ok c.from_residual-in_err-left-in-Found.result _ _ c.from_residual-in_err-left-in-Found.ensures.1
+
+pub returns-in_err-left-in-Found-clause-found : goal.returns-in_err-left-in-Found-clause-found
+returns-in_err-left-in-Found-clause-found g c _ _ = never_ok c.from_residual-in_err-left-in-Found.result _ _ c.from_residual-in_err-left-in-Found.ensures.1
+
+pub returns-in_err-left-in-Found-clause-from : goal.returns-in_err-left-in-Found-clause-from
+returns-in_err-left-in-Found-clause-from g c _ = never_ok c.from_residual-in_err-left-in-Found.result _ _ c.from_residual-in_err-left-in-Found.ensures.1
+
+pub returns-in_err-left-in-Found-clause-over : goal.returns-in_err-left-in-Found-clause-over
+returns-in_err-left-in-Found-clause-over g c = never_ok c.from_residual-in_err-left-in-Found.result _ _ c.from_residual-in_err-left-in-Found.ensures.1
+
+pub returns-in_err-left-in-Found-clause-there : goal.returns-in_err-left-in-Found-clause-there
+returns-in_err-left-in-Found-clause-there g c _ _ = never_ok c.from_residual-in_err-left-in-Found.result _ _ c.from_residual-in_err-left-in-Found.ensures.1

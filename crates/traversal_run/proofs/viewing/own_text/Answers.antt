@@ -1,0 +1,5 @@
+use Rattle.rec_bytes.proofs.Causes.{never_ok}
+use Rattle.traversal_run.proofs.viewing.own_text.Goals as goal
+
+pub returns-in_err-from_slice-in-Some : goal.returns-in_err-from_slice-in-Some
+returns-in_err-from_slice-in-Some c = never_ok c.from_residual.result _ _ c.from_residual.ensures.1
