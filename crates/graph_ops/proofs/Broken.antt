@@ -28,11 +28,16 @@ use Rattle.name_store.specs.Interning.{interned, named}
 use Rattle.name_store.specs.declared.intern_fault.InternFault.{InternFault}
 use Rattle.name_store.specs.declared.intern_fault.InternFault.TheVariants as interns
 use Rattle.prop_store.specs.Owner.{IsInUse}
+use Rattle.std.specs.Prelude.{IfSome}
+use Rattle.rec_bytes.specs.Fault.{damage_of}
+use Rattle.chain_edit.specs.Breaks.{IsBreakFault}
+use Rattle.chain_edit.specs.Walking.{ReadsAtMost}
+use Rattle.group_store.proofs.ChainHeads.{only_read}
 use Rattle.prop_index.specs.Blaming as indexes
 use Rattle.graph_ops.specs.ChangeFault.{IsFailure, of_fault, of_intern, of_row, of_set}
 use Rattle.graph_ops.specs.declared.change_fault.ChangeFault.{ChangeFault}
 use Rattle.graph_ops.specs.declared.change_fault.ChangeFault.TheVariants.{NoNode, NoEdge, HasRelationships, IndexThere, TooManyIndexes, IndexTooLarge, Full, NamesFull, PropsFull, Memory, Disk, Damaged}
-use Rattle.graph_ops.specs.Damage.{BlamesBroken, BlamesEntry, BlamesGiven, IfBlames}
+use Rattle.graph_ops.specs.Damage.{BlamesBroken, BlamesEntry, BlamesGiven, IfBlames, IsBroken, IsEntryDamage}
 use Rattle.graph_ops.specs.NodeDeleting.{IsDeleteCause}
 use Rattle.graph_ops.specs.Owners.{MayMiss, owner_of}
 use Rattle.graph_ops.proofs.Elements.{used_of}
@@ -193,3 +198,25 @@ value_blamed tells blocks s named t last same sets.Disk told = tt
 value_blamed tells blocks s named t last same (sets.Damaged damage) told = inr (⊎_elim
     (λ (k : Breaks t.records t.shape damage). inl (inl (subst (λ (z : State). Breaks z.records z.shape damage) same k)))
     (λ (k : BreaksMidway tells blocks t damage). inr (inl (midway_read tells blocks named t damage same k))) told)
+
+-- ---- in the space as a call left it
+
+pub property_left : (t : State) (fault : Fault) → props.BlamesBroken t.records t.shape fault → BlamesBroken t (of_fault fault)
+property_left t faults.Memory told = tt
+property_left t faults.Disk told = tt
+property_left t (faults.Damaged damage) told = inl told
+
+pub entry_left : (t : State) (fault : ChangeFault) → BlamesEntry t fault → BlamesBroken t fault
+entry_left t fault told = blames_more (IsEntryDamage t) (IsBroken t) (λ damage k. k.1) fault told
+
+-- a call that writes nothing where it tells a record
+pub break_left : (s t : State) (fault : Fault) → IsBreakFault s fault → IfSome (damage_of fault) (λ _. SameButReads s t) → BlamesBroken t (of_fault fault)
+break_left s t faults.Memory told same = tt
+break_left s t faults.Disk told same = tt
+break_left s t (faults.Damaged damage) told same = inl (subst (λ (z : State). Breaks z.records z.shape damage) (sym same) told)
+
+-- one that reads some records there
+pub few_read : (s t : State) (n : ℕ) (fault : Fault) → IfSome (damage_of fault) (λ _. ReadsAtMost n s t) → IfSome (damage_of fault) (λ _. SameButReads s t)
+few_read s t n faults.Memory reads = tt
+few_read s t n faults.Disk reads = tt
+few_read s t n (faults.Damaged damage) reads = only_read s t n reads

@@ -24,9 +24,10 @@ use Rattle.store_rules.specs.Writes.{ChangesOnly}
 use Rattle.node_store.specs.Loading as nodes
 use Rattle.prop_store.specs.Fault as props
 use Rattle.chain_edit.specs.Breaks.{IsBreakFault}
+use Rattle.chain_edit.specs.Pushing.{pushed}
 use Rattle.chain_edit.specs.Unlinking.{unlinked}
 use Rattle.chain_edit.proofs.LinkLaws.{field-set_other}
-use Rattle.group_store.specs.Counting.{one_less, tallied}
+use Rattle.group_store.specs.Counting.{one_less, one_more, tallied}
 use Rattle.group_store.specs.Dropping.{IsDropDamage, IsDropFault}
 use Rattle.group_store.specs.Dropping.IsDropDamage.{Astray, BadMember, BadNext, BadPrevious}
 use Rattle.group_store.specs.GroupChain.{next_group, previous_group}
@@ -44,10 +45,10 @@ use Rattle.group_store.proofs.Tallies.{field-tallied}
 use Rattle.graph_ops.specs.ChangeFault.{of_fault, of_row}
 use Rattle.graph_ops.specs.Damage.{IfBlames, IsBroken}
 use Rattle.graph_ops.specs.EdgeDeleting.{BlamesDeleting, BlamesEnd, IsUndropped}
-use Rattle.graph_ops.specs.EdgeEnds.{parted}
+use Rattle.graph_ops.specs.EdgeEnds.{joined, parted}
 use Rattle.graph_ops.specs.declared.change_fault.ChangeFault.{ChangeFault}
 use Rattle.graph_ops.proofs.Broken.{blames_more}
-use Rattle.graph_ops.proofs.EdgeSteps.{number_unlinked, record_parted, shape_parted}
+use Rattle.graph_ops.proofs.EdgeSteps.{number_pushed, number_unlinked, record_joined, record_parted, shape_parted}
 
 -- ---- an end that is looked for
 
@@ -169,7 +170,33 @@ module _ (s : State) (head : Head) (n : ℕ) (owns : IsHeadOf s.records head n) 
         kind g = ap (λ m. kind_in m (rec_at (parted s head n rel d).records format.groups_file g) g) (mark format.groups_file)
             ∙ kind_by (high s.records format.groups_file) (rec_at (parted s head n rel d).records format.groups_file g) (rec_at s.records format.groups_file g) g (number g 1 format.kind (omega arith))
 
--- an identifier of a relationship is given back
+-- ---- heads where a relationship joins a chain
+
+module _ (s : State) (head : Head) (n : ℕ) (owns : IsHeadOf s.records head n) (rel d : ℕ) where
+  number_joined : (key : Key) (m at : ℕ) → key.file ≢ format.relationships_file → at + m ≤ 32 → (key.file ≡ format.nodes_file → at + m ≤ 12) → (key ≡ head.key → at + m ≤ head.field)
+      → field m ((joined s head n rel d).records key) at ≡ field m (s.records key) at
+  unfolding joined
+  number_joined key m at no_link within below aside =
+      field-set_other (tallied one_more (pushed s head n rel) head).records (record { key = key_in format.nodes_file n; field = format.node_degree }) d key m at (omega arith)
+      (λ e. inl (let b = below (ap (λ (k : Key). k.file) e) in omega arith))
+      ∙ field-tallied one_more (pushed s head n rel) head key m at (omega arith)
+      ∙ number_pushed s head n rel key m at no_link (omega arith) (λ e. inl (aside e))
+
+  mark_joined : (f : ℕ) → high (joined s head n rel d).records f ≡ high s.records f
+  mark_joined f = ap (λ r. (metas.meta_of r).high) (record_joined s head n rel d (meta_key_of f) (λ e. omega arith) (λ e. no_meta s head n owns (sym (ap (λ (k : Key). k.file) e))) (λ e. let k = ap (λ (q : Key). q.file) e in omega arith))
+
+  heads_joined : KeepsHeads s (joined s head n rel d)
+  heads_joined = heads_alike s.records (joined s head n rel d).records (alike_by s.records (joined s head n rel d).records
+      (mark_joined format.nodes_file) (mark_joined format.groups_file)
+      (λ x. number_joined (key_in format.nodes_file x) 1 format.kind (λ e. omega arith) (omega arith) (λ e. omega arith) (λ e. let b = behind_kind s head n owns in omega arith))
+      (λ g m at within. number_joined (key_in format.groups_file g) m at (λ e. omega arith) (omega arith) (λ e. omega arith) (λ e. let b = behind_chain s head n owns (sym (ap (λ (k : Key). k.file) e)) in omega arith)))
+
+  -- in two steps
+  pub heads_joined_by : (u t : State) → u ≡ tallied one_more (pushed s head n rel) head → t ≡ after_set u (key_in format.nodes_file n) 4 format.node_degree d → KeepsHeads s t
+  unfolding joined
+  heads_joined_by u t put set = subst (KeepsHeads s) (sym (set ∙ ap (λ (z : State). after_set z (key_in format.nodes_file n) 4 format.node_degree d) put)) heads_joined
+
+-- a relationship is written, and an identifier taken or given back
 pub heads_given : (s t : State) (id : ℕ) → ChangesOnly s t (key_in format.relationships_file id ∷ meta_key_of format.relationships_file ∷ []) → KeepsHeads s t
 heads_given s t id changes = heads_alike s.records t.records (alike_by s.records t.records (mark format.nodes_file (λ e. omega arith)) (mark format.groups_file (λ e. omega arith))
     (λ x. ap (λ (r : Rec). field 1 r format.kind) (same (key_in format.nodes_file x) (λ e. let f = ap (λ (k : Key). k.file) e in omega arith) (λ e. let f = ap (λ (k : Key). k.file) e in omega arith)))

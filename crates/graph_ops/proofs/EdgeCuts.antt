@@ -26,18 +26,18 @@ use Rattle.chain_edit.proofs.Removals.{unlinked_others}
 use Rattle.group_store.specs.Counting.{one_less, tallied}
 use Rattle.group_store.specs.Opening.{IsPlaced}
 use Rattle.group_store.specs.Twins.{IsLoneAt, IsPartFault}
-use Rattle.group_store.proofs.AlikeGroups.{AreAlike, groups_damage_as, lone_as, twin_as}
+use Rattle.group_store.proofs.AlikeGroups.{AreAlike, alike_back, groups_damage_as, lone_as, placed_as, twin_as}
 use Rattle.group_store.proofs.Tallies.{file-tallied}
 use Rattle.group_store.proofs.TwinLaws.{head_on, lone_head}
 use Rattle.graph_ops.specs.ChangeFault.{of_fault}
 use Rattle.graph_ops.specs.Damage.{IfBlames}
-use Rattle.graph_ops.specs.EdgeDeleting.{HasHead, HasPlace, IsCutDamage, IsEdgeLink, IsGroupedDamage, IsPartedDamage, IsPlacedEdge}
-use Rattle.graph_ops.specs.EdgeEnds.{AtEach, end_parted, parted, source_of, target_of}
+use Rattle.graph_ops.specs.EdgeDeleting.{HasPlace, IsCutDamage, IsEdgeLink, IsGroupedDamage, IsPartedDamage, IsPlacedEdge}
+use Rattle.graph_ops.specs.EdgeEnds.{AtEach, HasHead, end_parted, parted, source_of, target_of}
 use Rattle.graph_ops.specs.declared.edge_end.EdgeEnd.{EdgeEnd}
 use Rattle.graph_ops.specs.declared.edge_end.Ends.{Ends}
 use Rattle.graph_ops.specs.declared.edge_end.Ends.TheVariants.{Loop, Two}
 use Rattle.graph_ops.proofs.EdgeBlames.{alike_parted}
-use Rattle.graph_ops.proofs.EdgeFrames.{HasEndsIn, link_before}
+use Rattle.graph_ops.proofs.EdgeFrames.{HasEndsIn, link_before, row_still}
 use Rattle.graph_ops.proofs.EdgeSteps.{record_parted}
 
 pub cut_blamed : (s : State) (head : Head) (node id : ℕ) (fault : Fault) → IsPartFault s head node id fault → IfBlames (IsCutDamage s head node id) (of_fault fault)
@@ -210,3 +210,12 @@ target_cut s u id row a b edge ne is damage told =
     (λ from _ ys chain. subst (λ (z : State). IsChainAt z.records k b.node ys) (sym is)
     (chain_parted s h a.node id (a.degree - 1) b.node ne owns (subst (λ m. IsInChain s.records m id) (sym edge.source) from) k edge.places.1.owns ys chain))
     told
+
+-- an edge that was taken out at one end stands at the other
+pub place_later : (s u : State) (id : ℕ) (row : RelRow) (a b : EdgeEnd) → IsPlacedEdge s.records id row (Two a b) → a.node ≢ b.node → u ≡ end_parted s a id → (rel_at u.records id ≡ Some row) × HasPlace u.records row b
+place_later s u id row a b edge ne is =
+    let h = head_of a.head in
+    let owns = chain_head s.records h a.node edge.places.0.owns in (
+      row_still s u h a.node id (a.degree - 1) owns is id ∙ edge.live,
+      placed_as u s b.node (alike_back s u b.node (subst (λ (z : State). AreAlike s z b.node) (sym is) (alike_parted s h a.node owns id (a.degree - 1) b.node ne))) (head_of b.head) row edge.places.1,
+    )

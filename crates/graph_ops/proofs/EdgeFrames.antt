@@ -16,8 +16,9 @@ use Rattle.rec_bytes.proofs.Spaces.{put_other, put_same}
 use Rattle.store_rules.specs.Breaking.{IsHeadOf}
 use Rattle.store_rules.specs.Chains.{place_of}
 use Rattle.store_rules.specs.Rules.{Head}
-use Rattle.store_rules.proofs.NumberLaws.{eq_false, eq_true}
-use Rattle.store_rules.specs.Views.{Records, high, is_group_kind, key_in, kind_at, kind_in, rec_at}
+use Rattle.store_rules.proofs.NumberLaws.{eq_false, eq_true, nat_cases}
+use Rattle.store_rules.proofs.ViewLaws.{kind_by}
+use Rattle.store_rules.specs.Views.{Records, high, is_group_kind, key_in, kind_at, kind_in, rec_at, rel_at, row_if}
 use Rattle.rel_store.specs.declared.rel_row.RelRow.{RelRow}
 use Rattle.rel_store.specs.Loading.{rel_mark, rel_room, row_at}
 use Rattle.rel_store.specs.RelRecord.{rel_key}
@@ -307,3 +308,78 @@ pub taken_before : (s m t : State) (id : ℕ) (rel : RelRow) → LeavesEdge s m 
 taken_before s m t id rel left damage (Sought _ node mid which later told) = Sought damage node mid which (edge_then s m mid id left later) told
 taken_before s m t id rel left damage (Parted _ mid later told) = Parted damage mid (edge_then s m mid id left later) told
 taken_before s m t id rel left damage (Undropped _ undropped) = Undropped damage undropped
+
+-- ---- the rows of relationships where one is taken out of a chain: links alone are set
+
+module _ (s : State) (head : Head) (n rel d : ℕ) (elsewhere : head.key.file ≢ format.relationships_file) (x : ℕ) where
+  module _ (m at : ℕ) (fits : at + m ≤ 64) (out : (at + m ≤ 16) ⊎ (32 ≤ at)) where
+    abbrev IsKept : Records → Type 0
+    IsKept q = field m (rel_rec q x) at ≡ field m (rel_rec s.records x) at
+
+    kept_set : (q : Records) (p : Head) (to : ℕ) → (key_in format.relationships_file x ≡ p.key → (16 ≤ p.field) × (p.field ≤ 28)) → IsKept q → IsKept (set_at q p to)
+    kept_set q p to here was = field-set_other q p to (key_in format.relationships_file x) m at fits
+        (λ e. let b = here e in ⊎_elim (λ (k : at + m ≤ 16). inl (omega (arith, k, b.0))) (λ (k : 32 ≤ at). inr (omega (arith, k, b.1))) out) ∙ was
+
+    aside_two : (p : ℕ) → (16 ≤ p) × (p ≤ 28) → (p + 4 ≤ at) ⊎ (at + m ≤ p)
+    aside_two p b = ⊎_elim (λ (k : at + m ≤ 16). inr (omega (arith, k, b.0))) (λ (k : 32 ≤ at). inl (omega (arith, k, b.1))) out
+
+    kept_freed : IsKept (after_put (after_get s) (key_in format.relationships_file rel) (alone (s.records (key_in format.relationships_file rel)) n)).records
+    kept_freed =
+        let r = rel_rec s.records rel in
+        let p = place_of r n in
+        let b = pair_low p (pair_is r n) in
+        ⊎_elim
+        (λ (e : x ≡ rel). subst (λ y. field m (rel_rec (after_put (after_get s) (key_in format.relationships_file rel) (alone r n)).records y) at ≡ field m (rel_rec s.records y) at) (sym e)
+        (ap (λ z. field m z at) (put_same s.records (key_in format.relationships_file rel) (alone r n))
+        ∙ field-with_field_other 4 (with_field 4 r p format.nil) (p + 4) format.nil m at fits (aside_two (p + 4) (omega (arith, b.0), omega (arith, b.1)))
+        ∙ field-with_field_other 4 r p format.nil m at fits (aside_two p (b.0, omega (arith, b.1)))))
+        (λ (ne : x ≢ rel). ap (λ z. field m z at) (put_other s.records (key_in format.relationships_file rel) (alone r n) (key_in format.relationships_file x) (λ e. ne (ap (λ (k : Key). k.id) e))))
+        (nat_cases x rel)
+
+    prev_bounds : (q : Records) (y : ℕ) → (16 ≤ (prev_place q n y).field) × ((prev_place q n y).field ≤ 28)
+    prev_bounds q y = let b = pair_low (place_of (rel_rec q y) n) (pair_is (rel_rec q y) n) in (b.0, omega (arith, b.1))
+
+    next_bounds : (q : Records) (y : ℕ) → (16 ≤ (next_place q n y).field) × ((next_place q n y).field ≤ 28)
+    next_bounds q y = let b = pair_low (place_of (rel_rec q y) n) (pair_is (rel_rec q y) n) in (omega (arith, b.0), omega (arith, b.1))
+
+    kept_unlinked : IsKept (unlinked s head n rel).records
+    unfolding unlinked led backed
+    kept_unlinked =
+        let before = prev_of s.records n rel in
+        let after = next_of s.records n rel in
+        let free = after_put (after_get s) (key_in format.relationships_file rel) (alone (s.records (key_in format.relationships_file rel)) n) in
+        let back = backed free n after before in
+        let now : IsKept back.records
+        = on_test (λ (z : State). IsKept z.records) after format.nil free (prev_set free n after before) (λ _. kept_freed)
+        (λ _. kept_set free.records (prev_place free.records n after) before (λ _. prev_bounds free.records after) kept_freed) in
+        on_test (λ (z : State). IsKept z.records) before format.nil (number_set back head after) (next_set back n before after)
+        (λ _. kept_set back.records head after (λ e. absurd (elsewhere (sym (ap (λ (k : Key). k.file) e)))) now)
+        (λ _. kept_set back.records (next_place back.records n before) after (λ _. next_bounds back.records before) now)
+
+    kept_parted : IsKept (parted s head n rel d).records
+    unfolding parted
+    kept_parted =
+        let u = unlinked s head n rel in
+        let t = tallied one_less u head in
+        ap (λ z. field m z at) (put_other t.records (key_in format.nodes_file n) (with_field 4 (t.records (key_in format.nodes_file n)) format.node_degree d) (key_in format.relationships_file x) (λ e. let f = ap (λ (k : Key). k.file) e in omega arith)
+        ∙ file-tallied one_less u head (key_in format.relationships_file x) (λ e. omega arith)) ∙ kept_unlinked
+
+  pub row_parted : head.key.file ≢ format.meta_file → rel_at (parted s head n rel d).records x ≡ rel_at s.records x
+  row_parted no_meta = λ i. row_if (kind i) (record { id = x; label = number format.relationship_type (omega arith) (inl (omega arith)) i; from = number format.relationship_source (omega arith) (inl (omega arith)) i; to = number format.relationship_target (omega arith) (inl (omega arith)) i; property = number format.relationship_first_property (omega arith) (inr (omega arith)) i })
+    where
+      number : (at : ℕ) → at + 4 ≤ 64 → (at + 4 ≤ 16) ⊎ (32 ≤ at) → field 4 (rel_rec (parted s head n rel d).records x) at ≡ field 4 (rel_rec s.records x) at
+      number at fits out = kept_parted 4 at fits out
+
+      mark : high (parted s head n rel d).records format.relationships_file ≡ high s.records format.relationships_file
+      mark = ap (λ z. (metas.meta_of z).high) (record_parted s head n rel d (meta_key_of format.relationships_file) (λ e. omega arith) (λ e. no_meta (sym (ap (λ (k : Key). k.file) e))) (λ e. let f = ap (λ (k : Key). k.file) e in omega arith))
+
+      kind : kind_at (parted s head n rel d).records format.relationships_file x ≡ kind_at s.records format.relationships_file x
+      kind = ap (λ k. kind_in k (rel_rec (parted s head n rel d).records x) x) mark
+          ∙ kind_by (high s.records format.relationships_file) (rel_rec (parted s head n rel d).records x) (rel_rec s.records x) x (kept_parted 1 format.kind (omega arith) (inl (omega arith)))
+
+-- of a head that the node owns
+pub row_still : (s u : State) (head : Head) (n rel d : ℕ) → IsHeadOf s.records head n → u ≡ parted s head n rel d → (x : ℕ) → rel_at u.records x ≡ rel_at s.records x
+row_still s u head n rel d owns is x = ap (λ (z : State). rel_at z.records x) is ∙ row_parted s head n rel d (not_in format.relationships_file (omega arith) (omega arith)) x (not_in format.meta_file (omega arith) (omega arith))
+  where
+    not_in : (file : ℕ) → file ≢ format.nodes_file → file ≢ format.groups_file → head.key.file ≢ file
+    not_in file a b e = ⊎_elim (λ k. a (sym e ∙ k)) (λ k. b (sym e ∙ k)) (head_file s.records head n owns)

@@ -10,7 +10,7 @@ use Rattle.rec_bytes.specs.Meta as metas
 use Rattle.rec_bytes.specs.MetaForm.{IsMetaRight}
 use Rattle.rec_bytes.specs.Record.{field}
 use Rattle.rec_bytes.specs.RecordFiles.{is_meta_file, room_of}
-use Rattle.rec_bytes.specs.Space.{State}
+use Rattle.rec_bytes.specs.Space.{SameButReads, State}
 use Rattle.prop_store.specs.Fault.{SharesBlock}
 use Rattle.rel_store.specs.Loading.{mark_damage, row_at}
 use Rattle.rel_store.specs.declared.rel_row.RelRow.{RelRow}
@@ -21,7 +21,7 @@ use Rattle.store_rules.specs.Chains.{IsChain, next_in, place_of, prev_in}
 use Rattle.store_rules.specs.PropertyChange.{Apart}
 use Rattle.store_rules.specs.Rules.{Head, IsEnd, StandsAt, degree_of, first_of}
 use Rattle.store_rules.specs.Views as views
-use Rattle.store_rules.specs.Views.{GroupRow, Records, degree, first_link, group_at, high, is_group_kind, key_in, kind_at, kind_in, rec_at, rel_at, rel_in}
+use Rattle.store_rules.specs.Views.{GroupRow, Records, degree, group_at, high, key_in, kind_at, kind_in, rec_at, rel_at, rel_in}
 use Rattle.store_rules.proofs.ChainLaws.{chain_stays}
 use Rattle.store_rules.proofs.ChainRules.{chain_head}
 use Rattle.store_rules.proofs.IndexBreaches.{index_rule}
@@ -35,10 +35,20 @@ use Rattle.group_store.specs.Raising.{IsCountDamage}
 use Rattle.group_store.proofs.BrokenGroups.{no_group_breaks, node_breaks, walk_breaks}
 use Rattle.group_store.proofs.AlikeGroups.{AreAlike, alike_back, chain_head_as, chains_as, dense_as, group_row, groups_as, groups_damage_as, lacks_as, node_as, on_as, twin_as, walk_as}
 use Rattle.group_store.proofs.TwinLaws.{groups_break, twins_break}
-use Rattle.graph_ops.specs.Damage.{IsBroken}
-use Rattle.graph_ops.specs.EdgeDeleting.{HasRow, IsGroupedDamage, IsSoughtDamage, IsStray, IsTakenDamage, IsUndropped, LeavesEdge, with_property}
+use Rattle.std.specs.Prelude.{IfSome}
+use Rattle.rec_bytes.specs.declared.fault.Fault.{Fault}
+use Rattle.rec_bytes.specs.declared.fault.Fault.TheVariants as faults
+use Rattle.rec_bytes.specs.Fault.{damage_of}
+use Rattle.group_store.specs.Opening.{IsHeadFault}
+use Rattle.graph_ops.specs.ChangeFault.{of_fault}
+use Rattle.graph_ops.specs.declared.change_fault.ChangeFault.{ChangeFault}
+use Rattle.graph_ops.specs.Damage.{BlamesBroken, IsBroken}
+use Rattle.graph_ops.proofs.Broken.{blames_more}
+use Rattle.graph_ops.proofs.Causes.{broken_left}
+use Rattle.graph_ops.proofs.EdgeBlames.{head_blamed}
+use Rattle.graph_ops.specs.EdgeDeleting.{BlamesEnd, HasRow, IsGroupedDamage, IsSoughtDamage, IsStray, IsTakenDamage, IsUndropped, LeavesEdge, with_property}
 use Rattle.graph_ops.specs.EdgeDeleting.IsTakenDamage.{Parted, Sought, Undropped}
-use Rattle.graph_ops.proofs.EdgeFrames.{alike_edge, end_link_before, end_link_breaks, kind_same, meta, node_same, pair_is, pair_low}
+use Rattle.graph_ops.proofs.EdgeFrames.{alike_edge, edge_none, end_link_before, end_link_breaks, kind_same, meta, node_same, pair_is, pair_low}
 
 -- ---- what breaks a rule of which one record is said
 
@@ -297,3 +307,19 @@ row_found s id rel found = (
   rel.property,
   rel_rows.rel_at-Some s.records id rel found ∙ ap (λ i. Some (with_property i rel rel.property)) (sym (ap (λ (r : RelRow). r.id) (rel_rows.kind-row_at-Some s.records id rel found).1)),
 )
+
+-- ---- an end that isn't found, in the space as it is left
+
+-- where no more than reads came before
+pub end_still : (s t : State) (id node : ℕ) (rel : RelRow) → HasRow s.records id rel → (node ≡ rel.from) ⊎ (node ≡ rel.to) → SameButReads s t → (fault : ChangeFault) → BlamesEnd s id node rel.label fault → BlamesBroken t fault
+end_still s t id node rel has which same fault told = broken_left s t same fault (blames_more (IsSoughtDamage s id node rel.label) (IsBroken s)
+    (λ damage k. sought_broke s s id (edge_none s id) node rel.label (with_property id rel has.0) damage has.1 (⊎_elim (λ e. inl (sym e)) (λ e. inr (sym e)) which) refl k) fault told)
+
+-- and where a head is looked for
+pub head_still : (s m t : State) (id node : ℕ) (rel : RelRow) → HasRow s.records id rel → (node ≡ rel.from) ⊎ (node ≡ rel.to) → SameButReads s m → (fault : Fault) → IsHeadFault m node id rel.label fault → IfSome (damage_of fault) (λ _. SameButReads m t)
+    → BlamesBroken t (of_fault fault)
+head_still s m t id node rel has which same faults.Memory told later = tt
+head_still s m t id node rel has which same faults.Disk told later = tt
+head_still s m t id node rel has which same (faults.Damaged damage) told later =
+    subst (λ (z : State). IsBroken z damage) (sym later) (subst (λ (z : State). IsBroken z damage) (sym same)
+    (sought_broke s s id (edge_none s id) node rel.label (with_property id rel has.0) damage has.1 (⊎_elim (λ e. inl (sym e)) (λ e. inr (sym e)) which) refl (head_blamed s m id node rel.label same (faults.Damaged damage) told)))

@@ -1,8 +1,7 @@
 -- Which record is blamed where an edge joins the chains of its ends.
 use Rattle.std.specs.Prelude.{IfSome}
-use Rattle.std.proofs.Common.{◌≡◌, ◌≢◌, ◌∙◌, ℕ, ap, inl, inr, ⊎_elim, sym, subst, arith}
+use Rattle.std.proofs.Common.{◌≡◌, ◌≢◌, ◌∙◌, ℕ, [], ◌∷◌, ap, inl, inr, ⊎_elim, sym, subst, arith}
 use Rattle.plain_graph.specs.declared.command.Target.{Target}
-use Rattle.rec_bytes.specs.declared.damage.Damage.{Damage}
 use Rattle.rec_bytes.specs.declared.fault.Fault.{Fault}
 use Rattle.rec_bytes.specs.declared.fault.Fault.TheVariants as faults
 use Rattle.rec_bytes.specs.declared.key.Key.{Key}
@@ -11,26 +10,24 @@ use Rattle.rec_bytes.specs.Fault.{damage_of}
 use Rattle.rec_bytes.specs.Format as format
 use Rattle.rec_bytes.specs.Meta as metas
 use Rattle.rec_bytes.specs.RecordFiles.{meta_key_of}
-use Rattle.rec_bytes.specs.Space.{SameButReads, State, after_get}
+use Rattle.rec_bytes.specs.Space.{SameButReads, State, after_get, after_put}
+use Rattle.rec_bytes.proofs.Spaces.{put_other}
+use Rattle.store_rules.specs.Breaking.{Breaks}
+use Rattle.store_rules.specs.Writes.{ChangesOnly}
 use Rattle.store_rules.specs.Views.{high, key_in, kind_at, kind_in, rec_at}
-use Rattle.store_rules.specs.Rules.{first_of}
-use Rattle.chain_edit.specs.Heads.{head_of}
-use Rattle.chain_edit.specs.Links.{IsLinkDamage}
-use Rattle.chain_edit.specs.Links.IsLinkDamage.{LeadsNowhere, HighMark}
-use Rattle.chain_edit.specs.Pushing.{IsPushFault, first_damage}
-use Rattle.group_store.specs.Densing.{IsLateDamage, IsLateFault}
+use Rattle.chain_edit.specs.Breaks.{IsBreakFault}
+use Rattle.chain_edit.proofs.LinkLaws.{key_cases}
+use Rattle.group_store.specs.Opening.{IsOpenFault}
 use Rattle.group_store.specs.Leaving.{LeavesBeside}
 use Rattle.group_store.proofs.LeftBeside.{beside_kinds}
 use Rattle.graph_ops.specs.ChangeFault.{of_fault}
-use Rattle.graph_ops.specs.Damage.{BlamesBroken, IfBlames, IsBroken, KeepsBeyond}
-use Rattle.graph_ops.specs.EdgeAdding.{BlamesHead, IsLinkingDamage, IsUsedNode}
-use Rattle.graph_ops.specs.EdgeAdding.IsJoinDamage.{NotTaken}
+use Rattle.graph_ops.specs.Damage.{BlamesBroken, IfBlames, KeepsBeyond}
+use Rattle.graph_ops.specs.EdgeAdding.{IsLinkingDamage, IsUsedNode}
 use Rattle.graph_ops.specs.Owners.{IsAbsent}
 use Rattle.graph_ops.specs.Rooms.{HasRoom}
 use Rattle.graph_ops.proofs.ElementRooms.{room_still}
 use Rattle.graph_ops.specs.declared.change_fault.ChangeFault.{ChangeFault}
 use Rattle.graph_ops.specs.declared.change_fault.ChangeFault.TheVariants.{NoNode, NoEdge, HasRelationships, IndexThere, TooManyIndexes, IndexTooLarge, Full, NamesFull, PropsFull, Memory, Disk, Damaged}
-use Rattle.graph_ops.specs.declared.edge_end.EdgeEnd.{EdgeEnd}
 
 -- an element that isn't found
 pub absent_blamed : (s : State) (target : Target) (fault : ChangeFault) → IsAbsent s target fault → BlamesBroken s fault
@@ -49,10 +46,10 @@ absent_blamed s target (Damaged damage) told = told
 
 -- ---- an end for which no head is found or made
 
-pub end_blamed : (t : State) (fault : Fault) → IsLateFault t fault → IfBlames (IsLateDamage t) (of_fault fault)
+pub end_blamed : (t : State) (fault : Fault) → IsOpenFault t fault → IfBlames (IsLinkingDamage t) (of_fault fault)
 end_blamed t faults.Memory told = tt
 end_blamed t faults.Disk told = tt
-end_blamed t (faults.Damaged damage) told = told
+end_blamed t (faults.Damaged damage) told = ⊎_elim (λ broken. inl (inl broken)) (λ full. inr full) told
 
 -- ---- nodes that are sparse or dense
 
@@ -116,16 +113,16 @@ meta_beside s t node beside = beside.others (meta_key_of format.relationships_fi
 -- ---- a new edge in its chains
 
 -- a head that leads nowhere
-pub push_blamed : (s t : State) (end : EdgeEnd) (fault : Fault) → IsPushFault s (head_of end.head) fault → IfSome (damage_of fault) (λ _. t ≡ after_get s) → BlamesHead t end (of_fault fault)
-push_blamed s t end faults.Memory told same = tt
-push_blamed s t end faults.Disk told same = tt
-push_blamed s t end (faults.Damaged damage) told same = subst (λ (z : State). IsPushFault z (head_of end.head) (faults.Damaged damage)) (sym same) (by damage told)
-  where
-    by : (d : Damage) → IsLinkDamage s (first_of s.records (head_of end.head)) (first_damage end.head.key) d → IsLinkDamage (after_get s) (first_of s.records (head_of end.head)) (first_damage end.head.key) d
-    by d (LeadsNowhere some above) = LeadsNowhere some above
-    by d (HighMark above) = HighMark above
+pub push_blamed : (s t : State) (fault : Fault) → IsBreakFault s fault → IfSome (damage_of fault) (λ _. t ≡ after_get s) → BlamesBroken t (of_fault fault)
+push_blamed s t faults.Memory told same = tt
+push_blamed s t faults.Disk told same = tt
+push_blamed s t (faults.Damaged damage) told same = inl (subst (λ (z : State). Breaks z.records z.shape damage) (sym same) told)
 
--- ---- a record that breaks a rule
-
-pub broken_links : (t : State) (from to : ℕ) (damage : Damage) → IsBroken t damage → IsLinkingDamage t from to damage
-broken_links t from to damage broken = inr (NotTaken damage broken)
+-- its record is written where an identifier was taken
+pub placed_only : (s t u : State) (id : ℕ) (rec : Rec) → ChangesOnly s t (meta_key_of format.relationships_file ∷ []) → u ≡ after_put t (key_in format.relationships_file id) rec
+    → ChangesOnly s u (key_in format.relationships_file id ∷ meta_key_of format.relationships_file ∷ [])
+placed_only s t u id rec took put = record {
+  each = λ q. ⊎_elim (λ e. inr (inl e))
+      (λ ne. ⊎_elim (λ same. inl (ap (λ (z : State). z.records q) put ∙ put_other t.records (key_in format.relationships_file id) rec q ne ∙ same)) (λ i. inr (inr i)) (took.each q))
+      (key_cases q (key_in format.relationships_file id));
+}

@@ -1,6 +1,6 @@
 -- Parts of a list of changes over a store, one after the other.
 use Rattle.std.specs.Prelude.{Result, Ok, Err, IfErr, IfOk, IsErrAnd}
-use Rattle.std.proofs.Common.{◌≡◌, ◌∙◌, ℕ, zero, suc, ◌+◌, ◌<◌, ◌≤◌, min, List, [], ◌∷◌, ◌++◌, Option, None, is_some, true, false, length, take, drop, get_or, append_assoc, inl, inr, sym, ap, subst, arith, refl}
+use Rattle.std.proofs.Common.{◌≡◌, ◌∙◌, ℕ, ◌+◌, ◌<◌, ◌≤◌, min, List, [], ◌∷◌, ◌++◌, Option, None, is_some, true, false, length, take, drop, get_or, append_assoc, inl, inr, sym, ap, subst, arith, refl}
 use Rattle.plain_graph.specs.Graph.{Graph}
 use Rattle.plain_graph.specs.Refusals.{FirstReason, change_reasons}
 use Rattle.plain_graph.specs.Reply.{Reply}
@@ -23,9 +23,9 @@ use Rattle.graph_ops.specs.declared.change_fault.ChangeFault.{ChangeFault}
 use Rattle.graph_ops.specs.declared.change_fault.ChangeFault.TheVariants.{NoNode, NoEdge, HasRelationships, IndexThere, TooManyIndexes, IndexTooLarge, Full, NamesFull, PropsFull, Memory, Disk, Damaged}
 use Rattle.graph_ops.proofs.Exits.{fault_exit}
 use Rattle.graph_ops.specs.Causes.{IsStillCaused}
-use Rattle.graph_ops.specs.Damage.{IfBlames}
-use Rattle.graph_ops.specs.Mutating.{BlamesDeletion, BlamesOneOf, IsListCaused, IsListRefusal, MakesChanges, MakesList, MakesMutation, MakesPart, any_replies, most_drafted, most_told}
-use Rattle.plain_graph.specs.Mutations.{MakesEach, RefusesEach, changes_of, deletions, elements_of, new_elements, targets_once, vertex_id}
+use Rattle.graph_ops.specs.Damage.{BlamesBroken}
+use Rattle.graph_ops.specs.Mutating.{BlamesDeletion, IsListCaused, IsListRefusal, MakesChanges, MakesList, MakesMutation, MakesPart, any_replies, most_drafted, most_told}
+use Rattle.plain_graph.specs.Mutations.{MakesEach, RefusesEach, changes_of, elements_of, new_elements, targets_once, vertex_id}
 use Rattle.plain_graph.specs.declared.mutation.Mutation.TheVariants as mutations
 use Rattle.plain_graph.proofs.Alike.{AreAlike, IsNewEdge, IsOfElement, alike_self, edge_carries, element_carries, node_once}
 use Rattle.plain_graph.proofs.Making.{AreAll, Carries, each_changes, each_then, each_weighs, never_refused, reasons_apart, reasons_same, refuses_more, refuses_then, weighs_once}
@@ -185,32 +185,9 @@ pub memory_blames : (s t : State) (target : Target) (fault : ChangeFault) → fa
 memory_blames s t (targets.Node id) fault is = subst (BlamesDeletion s t (targets.Node id)) (sym is) tt
 memory_blames s t (targets.Edge id) fault is = subst (BlamesDeletion s t (targets.Edge id)) (sym is) tt
 
--- a deletion among others
-pub one_blamed : {tells : Type 0} (all before after : List Target) (target : Target) (s m t : State) (names : List (List ℕ)) (weight : ℕ) → all ≡ before ++ (target ∷ after) → MakesPart tells (deletions before) any_replies weight s m names names → (before ≡ [] → m ≡ s) → (fault : ChangeFault)
-    → BlamesDeletion m t target fault → IfBlames (BlamesOneOf tells all s t names) fault
-one_blamed all before after target s m t names weight split made first (NoNode id) told = tt
-one_blamed all before after target s m t names weight split made first (NoEdge id) told = tt
-one_blamed all before after target s m t names weight split made first (HasRelationships id degree) told = tt
-one_blamed all before after target s m t names weight split made first IndexThere told = tt
-one_blamed all before after target s m t names weight split made first TooManyIndexes told = tt
-one_blamed all before after target s m t names weight split made first (IndexTooLarge count) told = tt
-one_blamed all before after target s m t names weight split made first (Full file live) told = tt
-one_blamed all before after target s m t names weight split made first (NamesFull count) told = tt
-one_blamed all before after target s m t names weight split made first (PropsFull count) told = tt
-one_blamed all before after target s m t names weight split made first Memory told = tt
-one_blamed all before after target s m t names weight split made first Disk told = tt
-one_blamed all before after target s m t names weight split made first (Damaged damage) told =
-    record { before = before; target = target; after = after; split = split; mid = m; weight = weight; made = made; first = first; blames = told }
-
--- want of memory blames none of them
-pub no_memory_blames : (tells : Type 0) (all : List Target) (s t : State) (names : List (List ℕ)) (fault : ChangeFault) → fault ≡ Memory → IfBlames (BlamesOneOf tells all s t names) fault
-no_memory_blames tells all s t names fault is = subst (IfBlames (BlamesOneOf tells all s t names)) (sym is) tt
-
--- none of a list is left out where it begins with none
-pub begins : {X : Type 0} (xs : List X) (i : ℕ) → i < length xs → take i xs ≡ [] → i ≡ 0
-begins xs zero lt e = refl
-begins [] (suc i) lt e = absurd (omega arith)
-begins (x ∷ xs) (suc i) lt e = absurd cc
+-- nor does it in the space as it is left
+pub memory_breaks : (t : State) (fault : ChangeFault) → fault ≡ Memory → BlamesBroken t fault
+memory_breaks t fault is = subst (BlamesBroken t) (sym is) tt
 
 -- ---- a loop over a list that is asked for part by part
 

@@ -186,7 +186,7 @@ IsCaused command s t names now (Damaged damage) = Unit {0}
 -- that it tells may be gone by then.
 abbrev pub IsStillDamage : Command → State → Damage → Type 0
 IsStillDamage (commands.Node label pairs) t damage = IsBroken t damage
-IsStillDamage (commands.Edge from label to pairs) t damage = IsLinkingDamage t from to damage
+IsStillDamage (commands.Edge from label to pairs) t damage = IsLinkingDamage t damage
 IsStillDamage (commands.Set target key value) t damage = IsBroken t damage
 IsStillDamage (commands.Index label key) t damage = IsBroken t damage
 IsStillDamage _ t damage = Unit {0}

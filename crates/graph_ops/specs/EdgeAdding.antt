@@ -1,21 +1,18 @@
 -- An edge that is added.
 use Rattle.std.specs.Prelude.{◌≡◌, ◌⊎◌, ℕ, ◌+◌, ◌*◌, nat_eq, if◌then◌else◌, length}
 use Rattle.rec_bytes.specs.declared.damage.Damage.{Damage}
-use Rattle.rec_bytes.specs.declared.fault.Fault.TheVariants as faults
 use Rattle.rec_bytes.specs.Format as format
 use Rattle.rec_bytes.specs.Key.{IsKey}
 use Rattle.rec_bytes.specs.Space.{State}
 use Rattle.store_rules.specs.Views.{Records, key_in}
-use Rattle.chain_edit.specs.Heads.{head_of}
-use Rattle.chain_edit.specs.Pushing.{IsPushFault}
-use Rattle.group_store.specs.Densing.{IsLateDamage, IsSparse}
+use Rattle.group_store.specs.Densing.{IsSparse}
 use Rattle.group_store.specs.GroupChain.{IsDense}
+use Rattle.group_store.specs.Opening.{IsFullDamage}
 use Rattle.graph_ops.specs.Damage.{IfBlames, IsBroken}
 use Rattle.graph_ops.specs.EdgeEnds.{AreApart, source_of, target_of}
 use Rattle.graph_ops.specs.NodeDeleting.{HasDegree}
 use Rattle.graph_ops.specs.Store.{graph_in}
 use Rattle.graph_ops.specs.declared.change_fault.ChangeFault.{ChangeFault}
-use Rattle.graph_ops.specs.declared.edge_end.EdgeEnd.{EdgeEnd}
 use Rattle.graph_ops.specs.declared.edge_end.EndDegree.{EndDegree}
 use Rattle.graph_ops.specs.declared.edge_end.Ends.{Ends}
 
@@ -48,18 +45,6 @@ pub record LeadFrom (ends : Ends EndDegree) (from to : ℕ) : Type 0 where
   pub enters : (target_of ends).node ≡ to
   pub apart : AreApart (λ (end : EndDegree). end.node) ends
 
--- ---- which record is blamed
-
--- the head is in the node's record or in a group's
-abbrev pub IsHeadAt : EdgeEnd → Type 0
-IsHeadAt end =
-    (end.head.key ≡ key_in format.nodes_file end.node) ⊎ (end.head.key.file ≡ format.groups_file)
-
--- the head of the end is said to be damaged, and leads nowhere
-abbrev pub BlamesHead : State → EdgeEnd → ChangeFault → Type 0
-BlamesHead s end fault =
-    IfBlames (λ damage. IsPushFault s (head_of end.head) (faults.Damaged damage)) fault
-
 -- the node is in use, sparse or dense
 abbrev pub IsUsedNode : State → ℕ → Type 0
 IsUsedNode s node = IsDense s.records node ⊎ IsSparse s.records node
@@ -67,18 +52,12 @@ IsUsedNode s node = IsDense s.records node ⊎ IsSparse s.records node
 abbrev pub IsUsedEnd : State → EndDegree → Type 0
 IsUsedEnd s end = IsUsedNode s end.node
 
--- A record that is blamed where an edge joins the chains of two nodes has the head of an end, which
--- leads nowhere. Or no identifier of a relationship can be taken, since a record breaks its rule.
-pub data IsJoinDamage (s : State) (from to : ℕ) : Damage → Type 0 where
-  BadHead : (damage : Damage) (end : EdgeEnd) → (end.node ≡ from) ⊎ (end.node ≡ to)
-      → IsHeadAt end → IsPushFault s (head_of end.head) (faults.Damaged damage)
-      → IsJoinDamage s from to damage
-  NotTaken : (damage : Damage) → IsBroken s damage → IsJoinDamage s from to damage
+-- ---- which record is blamed
 
--- A record that is blamed where an edge is added: no head of an end is found or made, or the edge
--- doesn't join the chains. It is so in the space as it is left.
-abbrev pub IsLinkingDamage : State → ℕ → ℕ → Damage → Type 0
-IsLinkingDamage t from to damage = IsLateDamage t damage ⊎ IsJoinDamage t from to damage
+-- A record that is blamed where an edge is added breaks the rule in the space as it is left. Or the
+-- file of groups is full.
+abbrev pub IsLinkingDamage : State → Damage → Type 0
+IsLinkingDamage t damage = IsBroken t damage ⊎ IsFullDamage t damage
 
-abbrev pub BlamesLinking : State → ℕ → ℕ → ChangeFault → Type 0
-BlamesLinking t from to fault = IfBlames (IsLinkingDamage t from to) fault
+abbrev pub BlamesLinking : State → ChangeFault → Type 0
+BlamesLinking t fault = IfBlames (IsLinkingDamage t) fault

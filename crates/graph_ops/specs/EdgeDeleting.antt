@@ -11,7 +11,7 @@ use Rattle.rec_bytes.specs.RecordFiles.{meta_key_of}
 use Rattle.rec_bytes.specs.Space.{State, WritesOnly, meta_of}
 use Rattle.rel_store.specs.RelRecord.{range_damage, rel_key}
 use Rattle.rel_store.specs.declared.rel_row.RelRow.{RelRow}
-use Rattle.store_rules.specs.Breaking.{HasChains, IsHeadOf, IsInChain, IsOnChain}
+use Rattle.store_rules.specs.Breaking.{HasChains, IsInChain, IsOnChain}
 use Rattle.store_rules.specs.Ends.{Regroups}
 use Rattle.store_rules.specs.Graph.{names_of}
 use Rattle.store_rules.specs.PropertyChange.{Apart}
@@ -131,10 +131,6 @@ pub record TakesEdge (s t : State) (names : List (List ℕ)) (id : ℕ) : Type 0
   pub kinds : KeepsKinds s t
 
 -- ---- which record is blamed
-
--- the node of an end has its head
-abbrev pub HasHead : Records → EdgeEnd → Type 0
-HasHead records end = IsHeadOf records (head_of end.head) end.node
 
 -- The node has no chain for a relationship of the type: it isn't in use, or it is dense and no
 -- group on its chain has the type.

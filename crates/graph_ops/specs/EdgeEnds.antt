@@ -6,9 +6,10 @@ use Rattle.rec_bytes.specs.Key.{IsKey}
 use Rattle.rec_bytes.specs.RecordFiles.{is_meta_file}
 use Rattle.rec_bytes.specs.Space.{State, after_set}
 use Rattle.rel_store.specs.RelRecord.{rel_key}
+use Rattle.store_rules.specs.Breaking.{IsHeadOf}
 use Rattle.store_rules.specs.Ends.{group_of_head}
 use Rattle.store_rules.specs.Rules.{Head}
-use Rattle.store_rules.specs.Views.{key_in}
+use Rattle.store_rules.specs.Views.{Records, key_in}
 use Rattle.chain_edit.specs.Chains.{next_of, prev_of}
 use Rattle.chain_edit.specs.Heads.{IsHead, head_of}
 use Rattle.chain_edit.specs.Links.{IsRightLink}
@@ -33,6 +34,10 @@ target_of (Two source target) = target
 abbrev pub AtEach : {T : Type 0} → (T → Type 0) → Ends T → Type 0
 AtEach at (Loop end) = at end
 AtEach at (Two source target) = at source × at target
+
+-- the node of an end has its head
+abbrev pub HasHead : Records → EdgeEnd → Type 0
+HasHead records end = IsHeadOf records (head_of end.head) end.node
 
 -- two ends are at two nodes
 abbrev pub AreApart : {T : Type 0} → (T → ℕ) → Ends T → Type 0

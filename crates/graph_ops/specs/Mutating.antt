@@ -1,5 +1,5 @@
 -- What a list of changes leaves of a store, and why one is refused.
-use Rattle.std.specs.Prelude.{◌≡◌, ◌⊎◌, ℕ, ◌≤◌, min, List, [], ◌∷◌, ◌++◌}
+use Rattle.std.specs.Prelude.{◌≡◌, ◌⊎◌, ℕ, ◌≤◌, min, List, ◌∷◌, ◌++◌}
 use Rattle.plain_graph.specs.Graph.{Graph}
 use Rattle.plain_graph.specs.Reply.{Reply}
 use Rattle.plain_graph.specs.declared.command.Command.{Command}
@@ -9,7 +9,6 @@ use Rattle.plain_graph.specs.declared.item.Item.{Item}
 use Rattle.plain_graph.specs.declared.refusal.Refusal.{Refusal}
 use Rattle.plain_graph.specs.declared.refusal.Refusal.TheVariants as refusals
 use Rattle.prop_store.specs.Fault.{SharesBlock}
-use Rattle.rec_bytes.specs.declared.damage.Damage.{Damage}
 use Rattle.rec_bytes.specs.Space.{State}
 use Rattle.store_rules.specs.Writes.{WritesAtMost}
 use Rattle.graph_ops.specs.Causes.{IsStillCaused}
@@ -26,7 +25,7 @@ use Rattle.graph_ops.specs.declared.change_fault.ChangeFault.TheVariants.{IndexT
 use Rattle.graph_ops.specs.declared.change_fault.ChangeFault.TheVariants.{NamesFull, PropsFull}
 use Rattle.graph_ops.specs.declared.change_fault.ChangeFault.TheVariants.{Memory, Disk, Damaged}
 use Rattle.plain_graph.specs.Mutations.{ChangesEach, MakesEach, RefusesEach, WeighsEach, changes_of}
-use Rattle.plain_graph.specs.Mutations.{deletions, results_of}
+use Rattle.plain_graph.specs.Mutations.{results_of}
 use Rattle.plain_graph.specs.declared.mutation.Mutation.{Mutation}
 
 -- the greatest weight that is told of a list of changes
@@ -132,17 +131,3 @@ BlamesDeletion s t (targets.Node id) fault =
     IfBlames (λ damage. IsBroken s damage
     ⊎ (SharesBlock s.records damage ⊎ IsEntryDamage t damage)) fault
 BlamesDeletion s t (targets.Edge id) fault = BlamesDeleting s t fault
-
--- A record that is blamed where these elements are taken away, one after the other. What it is
--- blamed for is so of the deletion that meets it, in the space as those before it left it.
-pub record BlamesOneOf (tells : Type 0) (targets : List Target) (s t : State)
-    (names : List (List ℕ)) (damage : Damage) : Type 0 where
-  pub before : List Target
-  pub target : Target
-  pub after : List Target
-  pub split : targets ≡ before ++ target ∷ after
-  pub mid : State
-  pub weight : ℕ
-  pub made : MakesPart tells (deletions before) any_replies weight s mid names names
-  pub first : before ≡ [] → mid ≡ s
-  pub blames : BlamesDeletion mid t target (Damaged damage)

@@ -58,7 +58,7 @@ pub fn add_edge<S: Space>(
     ensures still { S.tells → IfErr result (IsStillCaused
         (commands.Edge from label.now to pairs.now) (S.state space.new)
         names.old.names names.new.names) }
-    ensures damaged { S.tells → IfErr result (BlamesLinking (S.state space.new) from to) }
+    ensures damaged { S.tells → IfErr result (BlamesLinking (S.state space.new)) }
     ensures counts { S.tells → IsStore (S.state space.old) names.old.names
         → IfErr result (IsCounted (S.state space.old)) }
     ensures full { IsStore (S.state space.old) names.old.names

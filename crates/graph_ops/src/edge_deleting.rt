@@ -20,13 +20,14 @@ ghost use Rattle.store_rules.specs.Writes.{WritesAtMost, WritesBeside};
 ghost use Rattle.graph_ops.specs.Causes.{IsCaused, IsStillCaused};
 ghost use Rattle.graph_ops.specs.Change.{IsRefusal, MakesChange};
 ghost use Rattle.graph_ops.specs.ChangeFault.{HasChangeCause, IsFailure, IsOutside, LeavesSpace};
-ghost use Rattle.graph_ops.specs.Damage.{IfBlames};
+ghost use Rattle.graph_ops.specs.Damage.{BlamesBroken, IfBlames};
 ghost use Rattle.graph_ops.specs.EdgeDeleting.{BlamesDeleting, BlamesEnd, FindsEnd, FindsEnds};
-ghost use Rattle.graph_ops.specs.EdgeDeleting.{HasBareRow, HasHead, HasPlace, HasRow, IsBareEdge};
+ghost use Rattle.graph_ops.specs.EdgeDeleting.{HasBareRow, HasPlace, HasRow, IsBareEdge};
 ghost use Rattle.graph_ops.specs.EdgeDeleting.{IsPartedDamage, IsPlacedEdge, IsTakenDamage};
 ghost use Rattle.graph_ops.specs.EdgeDeleting.{IsUndropped, KeepsKinds, LeavesEdge, TakesEdge};
 ghost use Rattle.graph_ops.specs.EdgeDeleting.{WritesTaken, with_property};
-ghost use Rattle.graph_ops.specs.EdgeEnds.{AreEdgeEnds, AtEach, IsEdgeEnd, source_of, target_of};
+ghost use Rattle.graph_ops.specs.EdgeEnds.{AreEdgeEnds, AtEach, HasHead, IsEdgeEnd, source_of};
+ghost use Rattle.graph_ops.specs.EdgeEnds.{target_of};
 ghost use Rattle.graph_ops.specs.NodeDeleting.{HasDegree};
 ghost use Rattle.graph_ops.specs.Store.{IsMidway, IsStore, graph_in};
 
@@ -55,6 +56,7 @@ pub fn delete_edge<S: Space>(space: &mut S, names: &Names, id: u32) -> Result<u3
         (S.state space.new) names.now.names names.now.names) }
     ensures damaged { S.tells → IfErr result
         (BlamesDeleting (S.state space.old) (S.state space.new)) }
+    ensures broken { S.tells → IfErr result (BlamesBroken (S.state space.new)) }
     // a dense node stays so, however few relationships it has
     ensures kinds { S.tells → IfOk result (λ _. IsStore (S.state space.old) names.now.names
         → KeepsKinds (S.state space.old) (S.state space.new)) }
@@ -87,6 +89,8 @@ fn take_edge<S: Space>(space: &mut S, id: u32, rel: RelRow) -> Result<(), Change
         → HasBareRow (S.state space.old).records id rel → IfErr result IsOutside }
     ensures damaged { S.tells → HasRow (S.state space.old).records id rel → IfErr result
         (IfBlames (IsTakenDamage (S.state space.old) (S.state space.new) id rel)) }
+    ensures still { S.tells → HasRow (S.state space.old).records id rel
+        → IfErr result (BlamesBroken (S.state space.new)) }
     ensures writes { WritesBeside (rel_key id) 12 (S.state space.old) (S.state space.new) }
     ensures failure { IfErr result IsFailure }
     ensures onward { S.onward space.old space.new }
@@ -106,6 +110,8 @@ fn edge_ends<S: Space>(space: &mut S, id: u32, rel: RelRow) -> Result<Ends<EdgeE
         → HasBareRow (S.state space.old).records id rel → IfErr result IsOutside }
     ensures damaged { S.tells → IfErr result
         (IfBlames (IsTakenDamage (S.state space.old) (S.state space.new) id rel)) }
+    ensures still { S.tells → HasRow (S.state space.old).records id rel
+        → IfErr result (BlamesBroken (S.state space.new)) }
     ensures counts { S.tells → OnOk result
         (LeavesEdge (S.state space.old) (S.state space.new) id) }
     ensures nodes { IfOk result (λ ends. ((source_of ends).node ≡ rel.from)
@@ -146,6 +152,8 @@ fn edge_end<S: Space>(
         → (node ≡ rel.from) ⊎ (node ≡ rel.to) → IfErr result IsOutside }
     ensures damaged { S.tells → IfErr result
         (BlamesEnd (S.state space.old) id node rel.label) }
+    ensures still { S.tells → HasRow (S.state space.old).records id rel
+        → (node ≡ rel.from) ⊎ (node ≡ rel.to) → IfErr result (BlamesBroken (S.state space.new)) }
     ensures counts { S.tells → OnOk result
         (LeavesCounted (S.state space.old).records (S.state space.new).records) }
     ensures has { S.tells → IfOk result (HasHead (S.state space.new).records) }
@@ -209,6 +217,9 @@ fn unlink_edge<S: Space>(space: &mut S, id: u32, ends: Ends<EdgeEnd>) -> Result<
         → IsPlacedEdge (S.state space.old).records id row ends → IfErr result
         (IfBlames (λ damage. IsPartedDamage (S.state space.old) id row.from row.to damage
         ⊎ IsUndropped (S.state space.new) damage)) }
+    ensures still { S.tells → (row : views.RelRow)
+        → IsPlacedEdge (S.state space.old).records id row ends
+        → IfErr result (BlamesBroken (S.state space.new)) }
     ensures writes { WritesTaken (S.state space.old) (S.state space.new) id ends }
     ensures failure { IfErr result IsFailure }
     ensures onward { S.onward space.old space.new }

@@ -11,13 +11,14 @@ ghost use Rattle.id_freelist.specs.Taking.{HasTaken, taken};
 ghost use Rattle.rel_store.specs.RelRecord.{rel_key};
 ghost use Rattle.store_rules.specs.Rules.{KeepsRules, first_of};
 ghost use Rattle.store_rules.specs.Views.{key_in};
-ghost use Rattle.store_rules.specs.Writes.{meta_keys};
+ghost use Rattle.store_rules.specs.Writes.{ChangesOnly, meta_keys};
 ghost use Rattle.chain_edit.specs.Heads.{head_of};
 ghost use Rattle.chain_edit.specs.Links.{IsRightLink};
+ghost use Rattle.group_store.specs.Leaving.{KeepsHeads};
 ghost use Rattle.graph_ops.specs.ChangeFault.{HasChangeCause, IsFailure, IsOutside};
-ghost use Rattle.graph_ops.specs.Damage.{IfBlames};
-ghost use Rattle.graph_ops.specs.EdgeAdding.{BlamesHead, IsHeadAt, IsJoinDamage};
-ghost use Rattle.graph_ops.specs.EdgeEnds.{AreEdgeEnds, AtEach, IsEdgeEnd, source_of, target_of};
+ghost use Rattle.graph_ops.specs.Damage.{BlamesBroken};
+ghost use Rattle.graph_ops.specs.EdgeEnds.{AreEdgeEnds, AtEach, HasHead, IsEdgeEnd, source_of};
+ghost use Rattle.graph_ops.specs.EdgeEnds.{target_of};
 ghost use Rattle.graph_ops.specs.EdgeJoining.{AreRightFirsts, CanJoin, HasPlaced, WritesJoined};
 ghost use Rattle.graph_ops.specs.EdgeJoining.{end_joined, ends_joined, joined_keys, new_row};
 ghost use Rattle.graph_ops.specs.EdgePlacing.{PutsEdge};
@@ -47,9 +48,9 @@ pub(crate) fn join_edge<S: Space>(
     ensures sound { S.tells → (names : List (List ℕ)) (text : List ℕ)
         → CanJoin (S.state space.old) names label ends → slice_get names label ≡ Some text
         → HasRoom (S.state space.old) relationships_file 1 → IfErr result IsOutside }
-    ensures damaged { S.tells → AtEach IsHeadAt ends
-        → HasRoom (S.state space.old) relationships_file 1 → IfErr result (IfBlames
-        (IsJoinDamage (S.state space.new) (source_of ends).node (target_of ends).node)) }
+    ensures damaged { S.tells → AtEach (HasHead (S.state space.old).records) ends
+        → HasRoom (S.state space.old) relationships_file 1
+        → IfErr result (BlamesBroken (S.state space.new)) }
     ensures key { IfOk result (λ id. IsKey (key_in relationships_file id)) }
     ensures writes { IfOk result (λ id.
         WritesJoined (S.state space.old) (S.state space.new) id ends) }
@@ -73,7 +74,9 @@ fn place<S: Space>(space: &mut S, label: u32, from: u32, to: u32) -> Result<u32,
         → KeepsRules (S.state space.old).records (S.state space.old).shape most empty
         → HasRoom (S.state space.old) relationships_file 1 → IfErr result IsOutside }
     ensures damaged { S.tells → HasRoom (S.state space.old) relationships_file 1
-        → IfErr result (IfBlames (IsJoinDamage (S.state space.new) from to)) }
+        → IfErr result (BlamesBroken (S.state space.new)) }
+    ensures heads { S.tells
+        → OnOk result (KeepsHeads (S.state space.old) (S.state space.new)) }
     ensures key { IfOk result (λ id. IsKey (key_in relationships_file id)) }
     ensures writes { IfOk result (λ id.
         WritesOnly (S.state space.old) (S.state space.new) (rel_key id ∷ meta_keys)) }
@@ -98,8 +101,10 @@ fn take_id<S: Space>(space: &mut S) -> Result<u32, ChangeFault>
     ensures sound { S.tells → (most : ℕ) (empty : List ℕ)
         → KeepsRules (S.state space.old).records (S.state space.old).shape most empty
         → HasRoom (S.state space.old) relationships_file 1 → IfErr result IsOutside }
-    ensures damaged { S.tells → HasRoom (S.state space.old) relationships_file 1 → (from to : ℕ)
-        → IfErr result (IfBlames (IsJoinDamage (S.state space.new) from to)) }
+    ensures damaged { S.tells → HasRoom (S.state space.old) relationships_file 1
+        → IfErr result (BlamesBroken (S.state space.new)) }
+    ensures stays { S.tells → ChangesOnly (S.state space.old) (S.state space.new)
+        (meta_key_of relationships_file ∷ []) }
     ensures ok { S.tells
         → OnOk result (S.state space.new ≡ taken (S.state space.old) relationships_file) }
     ensures err { OnErr result (SameButReads (S.state space.old) (S.state space.new)) }
@@ -151,8 +156,8 @@ fn join_ends<S: Space>(space: &mut S, rel: u32, ends: Ends<EdgeEnd>) -> Result<(
         → OnOk result (S.state space.new ≡ ends_joined (S.state space.old) ends rel) }
     ensures sound { S.tells
         → AreRightFirsts (S.state space.old) ends rel → IfErr result IsOutside }
-    ensures damaged { S.tells → AtEach IsHeadAt ends → IfErr result (IfBlames
-        (IsJoinDamage (S.state space.new) (source_of ends).node (target_of ends).node)) }
+    ensures damaged { S.tells → AtEach (HasHead (S.state space.old).records) ends
+        → IfErr result (BlamesBroken (S.state space.new)) }
     ensures writes { WritesJoined (S.state space.old) (S.state space.new) rel ends }
     ensures failure { IfErr result IsFailure }
     ensures onward { S.onward space.old space.new }
@@ -177,7 +182,10 @@ fn join_end<S: Space>(space: &mut S, rel: u32, end: EdgeEnd) -> Result<(), Chang
     ensures sound { S.tells
         → IsRightLink (S.state space.old) (first_of (S.state space.old).records (head_of end.head))
         → IfErr result IsOutside }
-    ensures damaged { S.tells → IfErr result (BlamesHead (S.state space.new) end) }
+    ensures damaged { S.tells → HasHead (S.state space.old).records end
+        → IfErr result (BlamesBroken (S.state space.new)) }
+    ensures heads { S.tells → HasHead (S.state space.old).records end
+        → OnOk result (KeepsHeads (S.state space.old) (S.state space.new)) }
     ensures writes { (first : ℕ) × WritesOnly (S.state space.old) (S.state space.new)
         (rel_key rel ∷ joined_keys first end) }
     ensures failure { IfErr result IsFailure }

@@ -2,14 +2,12 @@
 
 ghost use Rattle.std.specs.Prelude.{◌≡◌, ◌≤◌, ◌+◌, ℕ, List, IfErr, IfOk, OnOk};
 ghost use Rattle.chain_edit.specs.Heads.{head_of};
-ghost use Rattle.group_store.specs.Densing.{IsLateDamage};
-ghost use Rattle.group_store.specs.Leaving.{LeavesBeside};
+ghost use Rattle.group_store.specs.Leaving.{KeepsOtherHeads, LeavesBeside};
 ghost use Rattle.group_store.specs.Opening.{CanOpen, HasGroupRoom, OpensChain, WritesOpened};
 ghost use Rattle.group_store.specs.Opening.{moved_writes};
 ghost use Rattle.graph_ops.specs.ChangeFault.{HasChangeCause, IsFailure, IsOutside};
-ghost use Rattle.graph_ops.specs.Damage.{IfBlames};
-ghost use Rattle.graph_ops.specs.EdgeAdding.{IsHeadAt, IsNodeEnd, IsUsedEnd, IsUsedNode};
-ghost use Rattle.graph_ops.specs.EdgeEnds.{AreEdgeEnds, AtEach, IsEdgeEnd, source_of, target_of};
+ghost use Rattle.graph_ops.specs.EdgeAdding.{BlamesLinking, IsNodeEnd, IsUsedEnd, IsUsedNode};
+ghost use Rattle.graph_ops.specs.EdgeEnds.{AreEdgeEnds, AtEach, HasHead, IsEdgeEnd, source_of, target_of};
 ghost use Rattle.graph_ops.specs.EdgeOpening.{CanLink, IsJoint, OpensEnds, WritesEndsOpened};
 ghost use Rattle.graph_ops.specs.EdgeOpening.{ends_moved, from_of, to_of};
 ghost use Rattle.graph_ops.specs.Rooms.{HasRoom};
@@ -35,12 +33,13 @@ pub(crate) fn open_ends<S: Space>(space: &mut S, joint: Joint) -> Result<Ends<Ed
         → HasRoom (S.state space.old) relationships_file 1 → IfErr result IsOutside }
     ensures damaged { S.tells → AtEach (IsUsedEnd (S.state space.old)) joint.ends
         → joint.threshold ≡ (S.state space.old).shape.threshold
-        → IfErr result (IfBlames (IsLateDamage (S.state space.new))) }
+        → IfErr result (BlamesLinking (S.state space.new)) }
     // the meta record of the relationships stays
     ensures beside { S.tells
         → OnOk result ((S.state space.new).records (meta_key_of relationships_file)
         ≡ (S.state space.old).records (meta_key_of relationships_file)) }
-    ensures at { IfOk result (AtEach IsHeadAt) }
+    ensures has { S.tells → AtEach (IsUsedEnd (S.state space.old)) joint.ends
+        → IfOk result (AtEach (HasHead (S.state space.new).records)) }
     ensures nodes { IfOk result (λ ends. ((source_of ends).node ≡ from_of joint)
         × ((target_of ends).node ≡ to_of joint)) }
     ensures ends { IfOk result AreEdgeEnds }
@@ -87,10 +86,13 @@ fn open_end<S: Space>(
         empty → HasGroupRoom (S.state space.old) empty → IfErr result IsOutside }
     ensures damaged { S.tells → IsUsedNode (S.state space.old) end.node
         → (S.state space.old).shape.threshold ≤ joint.threshold
-        → IfErr result (IfBlames (IsLateDamage (S.state space.new))) }
+        → IfErr result (BlamesLinking (S.state space.new)) }
     ensures beside { S.tells → OnOk result (LeavesBeside (S.state space.old).records
         (S.state space.new).records end.node) }
-    ensures at { IfOk result IsHeadAt }
+    ensures has { S.tells → IsUsedNode (S.state space.old) end.node
+        → IfOk result (HasHead (S.state space.new).records) }
+    ensures heads { S.tells
+        → OnOk result (KeepsOtherHeads (S.state space.old) (S.state space.new) end.node) }
     ensures is { IfOk result (λ opened.
         opened ≡ record { node = end.node; head = opened.head; degree = end.degree }) }
     ensures end { IfOk result IsEdgeEnd }

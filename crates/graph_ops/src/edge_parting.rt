@@ -1,19 +1,19 @@
 //! What is taken away with an edge: its record, and its place in the chains of its ends.
 
-ghost use Rattle.std.specs.Prelude.{◌≡◌, ◌∷◌, ℕ, List, IfErr, OnOk};
+ghost use Rattle.std.specs.Prelude.{◌≡◌, ◌∷◌, ℕ, List, Some, IfErr, OnOk};
 ghost use Rattle.rec_bytes.specs.Format.{relationships_file};
 ghost use Rattle.rec_bytes.specs.Key.{IsKey};
 ghost use Rattle.rec_bytes.specs.Space.{WritesOnly};
 ghost use Rattle.rel_store.specs.RelRecord.{rel_key};
-ghost use Rattle.store_rules.specs.Views.{RelRow, key_in};
+ghost use Rattle.store_rules.specs.Views.{RelRow, key_in, rel_at};
 ghost use Rattle.chain_edit.specs.Heads.{head_of};
 ghost use Rattle.group_store.specs.Leaving.{KeepsHeads};
 ghost use Rattle.graph_ops.specs.ChangeFault.{HasChangeCause, IsFailure, IsOutside};
-ghost use Rattle.graph_ops.specs.Damage.{IfBlames};
-ghost use Rattle.graph_ops.specs.EdgeDeleting.{HasHead, IsBareEdge, IsCutDamage, IsPartedDamage};
+ghost use Rattle.graph_ops.specs.Damage.{BlamesBroken, IfBlames};
+ghost use Rattle.graph_ops.specs.EdgeDeleting.{HasPlace, IsBareEdge, IsCutDamage, IsPartedDamage};
 ghost use Rattle.graph_ops.specs.EdgeDeleting.{IsPlacedEdge, PartsEdge, WritesEnds};
 ghost use Rattle.graph_ops.specs.EdgeEnds.{AreEdgeEnds, AtEach, HasRightLinks, HaveRightLinks};
-ghost use Rattle.graph_ops.specs.EdgeEnds.{IsEdgeEnd, end_keys, end_parted, ends_parted};
+ghost use Rattle.graph_ops.specs.EdgeEnds.{HasHead, IsEdgeEnd, end_keys, end_parted, ends_parted};
 ghost use Rattle.graph_ops.specs.Store.{IsMidway};
 
 use crate::ChangeFault;
@@ -40,6 +40,9 @@ pub(crate) fn part_edge<S: Space>(
     ensures damaged { S.tells → (row : RelRow)
         → IsPlacedEdge (S.state space.old).records id row ends
         → IfErr result (IfBlames (IsPartedDamage (S.state space.old) id row.from row.to)) }
+    ensures still { S.tells → (row : RelRow)
+        → IsPlacedEdge (S.state space.old).records id row ends
+        → IfErr result (BlamesBroken (S.state space.new)) }
     ensures heads { S.tells → AtEach (HasHead (S.state space.old).records) ends
         → OnOk result (KeepsHeads (S.state space.old) (S.state space.new)) }
     ensures writes { WritesEnds (S.state space.old) (S.state space.new) id ends }
@@ -64,6 +67,9 @@ fn part_ends<S: Space>(space: &mut S, rel: u32, ends: Ends<EdgeEnd>) -> Result<(
     ensures damaged { S.tells → (row : RelRow)
         → IsPlacedEdge (S.state space.old).records rel row ends
         → IfErr result (IfBlames (IsPartedDamage (S.state space.old) rel row.from row.to)) }
+    ensures still { S.tells → (row : RelRow)
+        → IsPlacedEdge (S.state space.old).records rel row ends
+        → IfErr result (BlamesBroken (S.state space.new)) }
     ensures heads { S.tells → AtEach (HasHead (S.state space.old).records) ends
         → OnOk result (KeepsHeads (S.state space.old) (S.state space.new)) }
     ensures writes { WritesEnds (S.state space.old) (S.state space.new) rel ends }
@@ -91,6 +97,9 @@ fn part_end<S: Space>(space: &mut S, rel: u32, end: EdgeEnd) -> Result<(), Chang
         → HasRightLinks (S.state space.old) end rel → IfErr result IsOutside }
     ensures damaged { S.tells → IfErr result (IfBlames (IsCutDamage (S.state space.old)
         (head_of end.head) end.node rel)) }
+    ensures still { S.tells → (row : RelRow) → rel_at (S.state space.old).records rel ≡ Some row
+        → HasPlace (S.state space.old).records row end
+        → IfErr result (BlamesBroken (S.state space.new)) }
     ensures heads { S.tells → HasHead (S.state space.old).records end
         → OnOk result (KeepsHeads (S.state space.old) (S.state space.new)) }
     ensures writes { (before after : ℕ) × WritesOnly (S.state space.old) (S.state space.new)

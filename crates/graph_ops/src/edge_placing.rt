@@ -10,8 +10,7 @@ ghost use Rattle.rel_store.specs.RelRecord.{rel_key};
 ghost use Rattle.store_rules.specs.Views.{key_in};
 ghost use Rattle.store_rules.specs.Writes.{WritesAtMost, WritesBeside};
 ghost use Rattle.graph_ops.specs.ChangeFault.{HasChangeCause, IsFailure, IsOutside};
-ghost use Rattle.graph_ops.specs.Damage.{IfBlames};
-ghost use Rattle.graph_ops.specs.EdgeAdding.{HasEndDegree, IsLinkingDamage, IsUsedEnd, IsUsedNode};
+ghost use Rattle.graph_ops.specs.EdgeAdding.{BlamesLinking, HasEndDegree, IsUsedEnd, IsUsedNode};
 ghost use Rattle.graph_ops.specs.EdgeEnds.{AtEach};
 ghost use Rattle.graph_ops.specs.EdgeOpening.{IsJoint, ends_moved, from_of, to_of};
 ghost use Rattle.graph_ops.specs.EdgePlacing.{PutsEdge};
@@ -64,8 +63,7 @@ pub(crate) fn put_edge<S: Space>(space: &mut S, joint: Joint) -> Result<u32, Cha
     ensures damaged { S.tells → AtEach (IsUsedEnd (S.state space.old)) joint.ends
         → joint.threshold ≡ (S.state space.old).shape.threshold
         → HasRoom (S.state space.old) relationships_file 1
-        → IfErr result (IfBlames (IsLinkingDamage (S.state space.new) (from_of joint)
-        (to_of joint))) }
+        → IfErr result (BlamesLinking (S.state space.new)) }
     ensures key { IfOk result (λ id. IsKey (key_in relationships_file id)) }
     ensures writes { IfOk result (λ id. WritesBeside (rel_key id)
         (8 + ends_moved joint.threshold joint.ends) (S.state space.old) (S.state space.new)) }

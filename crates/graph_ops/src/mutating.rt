@@ -9,9 +9,8 @@ ghost use Rattle.graph_ops.specs.Change.{IsRefusal};
 ghost use Rattle.graph_ops.specs.ChangeFault.{HasChangeCause};
 ghost use Rattle.graph_ops.specs.Store.{IsStore, graph_in};
 ghost use Rattle.graph_ops.specs.Causes.{IsStillCaused};
-ghost use Rattle.graph_ops.specs.Damage.{IfBlames};
-ghost use Rattle.graph_ops.specs.Mutating.{BlamesDeletion, BlamesOneOf, IsListCaused};
-ghost use Rattle.graph_ops.specs.Mutating.{IsListRefusal};
+ghost use Rattle.graph_ops.specs.Damage.{BlamesBroken};
+ghost use Rattle.graph_ops.specs.Mutating.{BlamesDeletion, IsListCaused, IsListRefusal};
 ghost use Rattle.graph_ops.specs.Mutating.{MakesMutation, MakesPart};
 ghost use Rattle.graph_ops.specs.Mutating.{any_replies, most_drafted, most_told};
 ghost use Rattle.plain_graph.specs.Mutations.{changes_of, deletions, elements_of, new_elements};
@@ -66,10 +65,9 @@ pub fn mutate<S: Space>(
     ensures prefix { (rest : List (List ℕ)) × (names.new.names ≡ names.old.names ++ rest) }
     ensures still { S.tells → IfErr result (IsListCaused (changes_of mutation.now items.items)
         (S.state space.new) names.old.names names.new.names) }
-    // What a deletion is blamed for is so in the space as those before it left it.
-    ensures blamed { S.tells → mutation.now ≡ mutations.Drop → IfErr result
-        (IfBlames (BlamesOneOf S.tells (targets_once [] (elements_of items.items))
-        (S.state space.old) (S.state space.new) names.old.names)) }
+    // What a deletion is blamed for is so in the space as it is left.
+    ensures blamed { S.tells → mutation.now ≡ mutations.Drop
+        → IfErr result (BlamesBroken (S.state space.new)) }
     ensures lone { S.tells → (target : Target) → mutation.now ≡ mutations.Drop
         → targets_once [] (elements_of items.items) ≡ target ∷ [] → IfErr result
         (BlamesDeletion (S.state space.old) (S.state space.new) target) }
@@ -168,9 +166,7 @@ fn drop_each<S: Space>(
         (graph_in (S.state space.old)) (changes_of mutations.Drop items.now)) }
     ensures still { S.tells → IfErr result (IsListCaused (changes_of mutations.Drop items.now)
         (S.state space.new) names.now.names names.now.names) }
-    ensures blamed { S.tells → IfErr result
-        (IfBlames (BlamesOneOf S.tells (targets_once [] (elements_of items.now))
-        (S.state space.old) (S.state space.new) names.now.names)) }
+    ensures blamed { S.tells → IfErr result (BlamesBroken (S.state space.new)) }
     ensures lone { S.tells → (target : Target)
         → targets_once [] (elements_of items.now) ≡ target ∷ [] → IfErr result
         (BlamesDeletion (S.state space.old) (S.state space.new) target) }
@@ -198,8 +194,7 @@ fn delete_each<S: Space>(
         (graph_in (S.state space.old)) (deletions targets.now)) }
     ensures still { S.tells → IfErr result (IsListCaused (deletions targets.now)
         (S.state space.new) names.now.names names.now.names) }
-    ensures blamed { S.tells → IfErr result (IfBlames (BlamesOneOf S.tells targets.now
-        (S.state space.old) (S.state space.new) names.now.names)) }
+    ensures blamed { S.tells → IfErr result (BlamesBroken (S.state space.new)) }
     ensures lone { S.tells → (target : Target) → targets.now ≡ target ∷ [] → IfErr result
         (BlamesDeletion (S.state space.old) (S.state space.new) target) }
     ensures onward { S.onward space.old space.new }
@@ -231,6 +226,7 @@ fn delete<S: Space>(
         (S.state space.new) names.now.names names.now.names) }
     ensures damaged { S.tells → IfErr result
         (BlamesDeletion (S.state space.old) (S.state space.new) target) }
+    ensures broken { S.tells → IfErr result (BlamesBroken (S.state space.new)) }
     ensures onward { S.onward space.old space.new }
     ensures cause { HasChangeCause (S.faults space.old) (S.faults space.new) result }
 {

@@ -7,6 +7,7 @@ ghost use Rattle.store_rules.specs.Writes.{WritesAtMost};
 ghost use Rattle.graph_ops.specs.Causes.{IsCaused, IsStillCaused};
 ghost use Rattle.graph_ops.specs.Change.{IsRefusal, MakesChange};
 ghost use Rattle.graph_ops.specs.ChangeFault.{HasChangeCause, LeavesSpace};
+ghost use Rattle.graph_ops.specs.Damage.{BlamesBroken};
 ghost use Rattle.graph_ops.specs.NodeDeleting.{HasDegree, IsDeleteCause, KeepsOtherKinds};
 ghost use Rattle.graph_ops.specs.Store.{IsStore, graph_in};
 
@@ -40,6 +41,7 @@ pub fn delete_node<S: Space>(
         (S.state space.new) names.now.names names.now.names) }
     ensures found { S.tells → IfErr result (IsDeleteCause (S.state space.old)
         (S.state space.new) id) }
+    ensures broken { S.tells → IfErr result (BlamesBroken (S.state space.new)) }
     ensures lone { S.tells → OnOk result (HasDegree (S.state space.old).records id 0) }
     ensures kinds { S.tells → IfOk result (λ _. IsStore (S.state space.old) names.now.names
         → KeepsOtherKinds (S.state space.old) (S.state space.new) id) }

@@ -2,7 +2,6 @@ use crate::call::Call;
 use crate::counted::Counted;
 use crate::fault::RowFault;
 use crate::paths::no_answer;
-use crate::runs::no_run;
 use crate::spaces::new_space;
 use crate::spelling::{done, spell};
 use crate::write_sets::Sets;
@@ -32,12 +31,12 @@ struct Store {
     others: Box<Names>,
 }
 
-/// A record, two sets of records, a run, and an answer of a search.
+/// A record, two sets of records, a run once one has begun, and an answer of a search.
 #[derive(Drop)]
 struct Tools {
     rec: Box<Rec>,
     sets: Box<Sets>,
-    run: Box<Run>,
+    run: Option<Box<Run>>,
     found: Box<Answer>,
 }
 
@@ -66,12 +65,11 @@ impl Tools {
     fn new(alloc: Global) -> Result<Tools, AllocError> {
         let rec = Box::new(alloc, Rec::ZEROS)?;
         let sets = no_sets(alloc)?;
-        let run = no_run(alloc)?;
         let found = no_answer(alloc)?;
         Ok(Tools {
             rec,
             sets,
-            run,
+            run: None,
             found,
         })
     }

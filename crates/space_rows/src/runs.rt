@@ -3,46 +3,41 @@ use crate::counted::Counted;
 use crate::fault::RowFault;
 use crate::spelling::spell;
 use name_store::Names;
-use plain_graph::{Direction, Hop, Ids, Item, Query, Step, StepList, Texts};
-use std::alloc::{AllocError, Global};
+use plain_graph::{Direction, Hop, Ids, Item, Query, Source, Step, StepList, Texts};
+use prop_index::LookupFault;
+use std::alloc::Global;
 use traversal_run::{Next, Run};
 
 /// The calls of a run.
 pub(crate) fn answer(
     alloc: Global,
-    run: &mut Run,
+    run: &mut Option<Box<Run>>,
     space: &mut Counted,
     names: &Names,
     call: &Call,
 ) -> Result<String, RowFault> {
     match (call.verb, call.count()) {
-        (b"all", _) => begin(alloc, run, &[], &call.numbers),
-        (b"from", _) => begin(alloc, run, &[call.at(0)], call.after(1)),
+        (b"all", _) => begin(alloc, run, space, names, &[], &call.numbers),
+        (b"from", _) => begin(alloc, run, space, names, &[call.at(0)], call.after(1)),
         (b"next", 0) => next(alloc, run, space, names),
-        (b"held", 0) => spell(alloc, &run.held()),
+        (b"held", 0) => held(alloc, run),
         _ => Err(RowFault::Malformed),
     }
 }
 
-/// The run of a query of these nodes, or of all, with a step for each number: at most so many
-/// results, or, for 0, the nodes at the other ends of edges in both directions.
-fn run_of(alloc: Global, ids: &[u32], numbers: &[u32]) -> Result<Run, AllocError> {
+/// A query of these nodes, or of all, with a step for each number: at most so many results, or,
+/// for 0, the nodes at the other ends of edges in both directions.
+fn query_of(alloc: Global, ids: &[u32], numbers: &[u32]) -> Result<Query, RowFault> {
     let mut steps = Vec::new(alloc);
     for number in numbers {
         steps.push(step_of(alloc, *number))?;
     }
-    let query = Query {
-        edges: false,
-        ids: Ids::new(Vec::from_slice(alloc, ids)?),
+    let ids = Ids::new(Vec::from_slice(alloc, ids)?);
+    Ok(Query {
+        source: Source::Vertices(ids),
         steps: StepList::new(steps),
-    };
-    Run::new(alloc, &query)
-}
-
-/// The run of a query of all nodes without a step.
-pub(crate) fn no_run(alloc: Global) -> Result<Box<Run>, AllocError> {
-    let run = Box::new(alloc, run_of(alloc, &[], &[])?)?;
-    Ok(run)
+        maps: None,
+    })
 }
 
 fn step_of(alloc: Global, number: u32) -> Step {
@@ -55,17 +50,42 @@ fn step_of(alloc: Global, number: u32) -> Step {
     }
 }
 
-fn begin(alloc: Global, run: &mut Run, ids: &[u32], steps: &[u32]) -> Result<String, RowFault> {
-    *run = run_of(alloc, ids, steps)?;
-    spell(alloc, &run.held())
+fn begin(
+    alloc: Global,
+    run: &mut Option<Box<Run>>,
+    space: &mut Counted,
+    names: &Names,
+    ids: &[u32],
+    steps: &[u32],
+) -> Result<String, RowFault> {
+    let query = query_of(alloc, ids, steps)?;
+    match Run::new(alloc, space, names, &query) {
+        Ok(begun) => {
+            let count = begun.held();
+            *run = Some(Box::new(alloc, begun)?);
+            spell(alloc, &count)
+        }
+        Err(LookupFault::Memory) => Err(RowFault::Memory),
+        Err(_) => Ok(String::from_str(alloc, "a fault")?),
+    }
+}
+
+fn held(alloc: Global, run: &Option<Box<Run>>) -> Result<String, RowFault> {
+    match run {
+        Some(run) => spell(alloc, &run.held()),
+        None => Err(RowFault::Malformed),
+    }
 }
 
 fn next(
     alloc: Global,
-    run: &mut Run,
+    run: &mut Option<Box<Run>>,
     space: &mut Counted,
     names: &Names,
 ) -> Result<String, RowFault> {
+    let Some(run) = run else {
+        return Err(RowFault::Malformed);
+    };
     let text = match run.next(space, names) {
         Next::Item(Item::Vertex(id)) => return spell(alloc, &Some(id)),
         Next::Item(_) => "another item",

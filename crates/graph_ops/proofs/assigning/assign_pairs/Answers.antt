@@ -17,6 +17,7 @@ use Rattle.graph_ops.proofs.Places.{has_room, no_room}
 use Rattle.store_rules.proofs.WriteLaws.{more_written, none_written, then_written}
 use Rattle.graph_ops.proofs.Adding.{beyond_then, key_beyond}
 use Rattle.graph_ops.proofs.DiskCauses.{intern_cause_passed}
+use Rattle.rec_bytes.proofs.Causes.{never_ok, ok_cause}
 use Rattle.graph_ops.proofs.assigning.assign_pairs.Goals as goal
 use Rattle.graph_ops.proofs.assigning.assign_pairs.Goals.{After-as_bytes, After-len}
 use Rattle.graph_ops.proofs.assigning.assign_pairs.Given.{Over}
@@ -156,3 +157,33 @@ returns-clause-stays g c tells = c.loop-place.invariant.stays tells
 pub returns-in_err-key-clause-cause : goal.returns-in_err-key-clause-cause
 returns-in_err-key-clause-cause g c =
     intern_cause_passed _ _ _ c.from_residual.result c.in_err-key.field-0.0 c.loop-place.invariant.later c.in_err-key.ensures.cause c.from_residual.ensures.1
+
+pub returns-in_err-key-clause-uses : goal.returns-in_err-key-clause-uses
+returns-in_err-key-clause-uses g c = never_ok c.from_residual.result _ _ c.from_residual.ensures.1
+
+pub returns-in_err-key-clause-assigned : goal.returns-in_err-key-clause-assigned
+returns-in_err-key-clause-assigned g c = never_ok c.from_residual.result _ _ c.from_residual.ensures.1
+
+pub returns-in_err-key-clause-few : goal.returns-in_err-key-clause-few
+returns-in_err-key-clause-few g c = never_ok c.from_residual.result _ _ c.from_residual.ensures.1
+
+pub returns-in_err-key-clause-held : goal.returns-in_err-key-clause-held
+returns-in_err-key-clause-held g c = never_ok c.from_residual.result _ _ c.from_residual.ensures.1
+
+pub returns-in_err-key-clause-kept : goal.returns-in_err-key-clause-kept
+returns-in_err-key-clause-kept g c _ = never_ok c.from_residual.result _ _ c.from_residual.ensures.1
+
+pub returns-in_err-key-clause-few_names : goal.returns-in_err-key-clause-few_names
+returns-in_err-key-clause-few_names g c = never_ok c.from_residual.result _ _ c.from_residual.ensures.1
+
+pub returns-in_err-key-clause-metas : goal.returns-in_err-key-clause-metas
+returns-in_err-key-clause-metas g c _ = never_ok c.from_residual.result _ _ c.from_residual.ensures.1
+
+pub returns-in_err-key-clause-stays : goal.returns-in_err-key-clause-stays
+returns-in_err-key-clause-stays g c _ = never_ok c.from_residual.result _ _ c.from_residual.ensures.1
+
+pub returns-in_err-key-clause-writes : goal.returns-in_err-key-clause-writes
+returns-in_err-key-clause-writes g c = never_ok c.from_residual.result _ _ c.from_residual.ensures.1
+
+pub returns-clause-cause : goal.returns-clause-cause
+returns-clause-cause g c = ok_cause _ _ _ _ c.loop-place.invariant.later

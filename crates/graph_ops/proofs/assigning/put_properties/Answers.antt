@@ -32,6 +32,7 @@ use Rattle.graph_ops.proofs.Causes.{add_caused, set_blamed}
 use Rattle.graph_ops.specs.Damage.{BlamesBroken, BreaksAdding, IfBlames}
 use Rattle.graph_ops.proofs.Adding.{adds_none, adds_then, adds_value, value_breaks}
 use Rattle.graph_ops.proofs.DiskCauses.{set_cause_passed}
+use Rattle.rec_bytes.proofs.Causes.{never_ok, ok_cause}
 use Rattle.graph_ops.proofs.assigning.put_properties.Goals as goal
 use Rattle.graph_ops.proofs.assigning.put_properties.Goals.{After-index-pairs-assignment}
 use Rattle.graph_ops.proofs.assigning.put_properties.Given.{Over}
@@ -212,3 +213,18 @@ pub returns-in_err-add-clause-still : goal.returns-in_err-add-clause-still
 returns-in_err-add-clause-still g c tells =
     let t = g.S.Reads.state c.add.new.space in
     fault_exit of_set (BlamesBroken t) c.in_err-add.field-0.0 c.from_residual.result c.from_residual.ensures.1 (set_blamed t c.in_err-add.field-0.0 (c.in_err-add.ensures.still tells))
+
+pub returns-in_err-add-clause-put : goal.returns-in_err-add-clause-put
+returns-in_err-add-clause-put g c _ = never_ok c.from_residual.result _ _ c.from_residual.ensures.1
+
+pub returns-in_err-add-clause-values : goal.returns-in_err-add-clause-values
+returns-in_err-add-clause-values g c _ = never_ok c.from_residual.result _ _ c.from_residual.ensures.1
+
+pub returns-in_err-add-clause-indexes : goal.returns-in_err-add-clause-indexes
+returns-in_err-add-clause-indexes g c _ = never_ok c.from_residual.result _ _ c.from_residual.ensures.1
+
+pub returns-in_err-add-clause-writes : goal.returns-in_err-add-clause-writes
+returns-in_err-add-clause-writes g c = never_ok c.from_residual.result _ _ c.from_residual.ensures.1
+
+pub returns-clause-cause : goal.returns-clause-cause
+returns-clause-cause g c = ok_cause _ _ _ _ c.loop-assignment.invariant.later

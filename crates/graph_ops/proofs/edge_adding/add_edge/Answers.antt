@@ -1,5 +1,5 @@
 use Rattle.std.specs.Prelude.{IfErr}
-use Rattle.std.proofs.Common.{◌≡◌, ◌+◌, true, length, ◌∙◌, sym, ap, subst, inl, inr, ⊎_elim, arith, refl}
+use Rattle.std.proofs.Common.{◌≡◌, ◌+◌, true, length, ◌∙◌, sym, ap, subst, inl, inr, ⊎_elim, arith, refl, rules}
 use Rattle.plain_graph.specs.Graph.{has_node}
 use Rattle.plain_graph.specs.Refusals.{change_reasons}
 use Rattle.plain_graph.specs.Reply.{EdgeMade}
@@ -39,7 +39,8 @@ use Rattle.graph_ops.proofs.DiskCauses.{change_cause_passed, later_on, room_refu
 use Rattle.graph_ops.specs.Damage.{IsBroken}
 use Rattle.graph_ops.proofs.Adding.{line_blamed, room_blamed}
 use Rattle.graph_ops.proofs.Broken.{blames_more}
-use Rattle.graph_ops.proofs.JoinBlames.{absent_blamed, broken_links, room_beyond, used_beyond, used_read}
+use Rattle.graph_ops.proofs.JoinBlames.{absent_blamed, room_beyond, used_beyond, used_read}
+use Rattle.rec_bytes.proofs.Causes.{never_ok, ok_cause}
 use Rattle.graph_ops.proofs.edge_adding.add_edge.Goals as goal
 use Rattle.graph_ops.proofs.edge_adding.add_edge.Goals.{After-put_properties, In_err-ends, In_err-id, In_err-put_properties, In_ok-ends, In_ok-id, In_ok-prepared, In_ok-put_properties, In_ok-test_room}
 use Rattle.graph_ops.proofs.edge_adding.add_edge.Given.{Over}
@@ -420,34 +421,34 @@ returns-in_err-put_properties-clause-cause g c =
     change_cause_passed _ _ _ c.from_residual-in_err-put_properties.result c.in_err-put_properties.field-0.0 (later_on (later_on c.in_ok-ends.ensures.cause.later c.in_ok-prepared.ensures.cause.later) c.in_ok-id.ensures.cause.later) c.in_err-put_properties.ensures.cause c.from_residual-in_err-put_properties.ensures.1
 
 -- ---- which record is blamed
-ends_blamed : (g : Over) (c : In_err-ends g) → g.S.Reads.tells → BlamesLinking (g.S.Reads.state c.end_degrees.new.space) c.args.from c.args.to c.in_err-ends.field-0.0
+ends_blamed : (g : Over) (c : In_err-ends g) → g.S.Reads.tells → BlamesLinking (g.S.Reads.state c.end_degrees.new.space) c.in_err-ends.field-0.0
 ends_blamed g c tells =
     let s = g.S.Reads.state c.args.space.now in
     let n = g.S.Reads.state c.end_degrees.new.space in
     let fault = c.in_err-ends.field-0.0 in
-    blames_more (IsBroken n) (IsLinkingDamage n c.args.from c.args.to) (broken_links n c.args.from c.args.to) fault
+    blames_more (IsBroken n) (IsLinkingDamage n) (λ damage broken. inl broken) fault
     (broken_left s n c.end_degrees.ensures.state fault (⊎_elim (absent_blamed s (targets.Node c.args.from) fault) (absent_blamed s (targets.Node c.args.to) fault) (c.in_err-ends.ensures.absent tells)))
 
 pub returns-in_err-ends-clause-damaged : goal.returns-in_err-ends-clause-damaged
 returns-in_err-ends-clause-damaged g c tells =
     let n = g.S.Reads.state c.end_degrees.new.space in
-    fault_exit (λ f. f) (BlamesLinking n c.args.from c.args.to) c.in_err-ends.field-0.0 c.from_residual.result c.from_residual.ensures.1 (ends_blamed g (goal.at.returns-in_err-ends-clause-damaged g c).In_err-ends tells)
+    fault_exit (λ f. f) (BlamesLinking n) c.in_err-ends.field-0.0 c.from_residual.result c.from_residual.ensures.1 (ends_blamed g (goal.at.returns-in_err-ends-clause-damaged g c).In_err-ends tells)
 
 pub returns-in_err-test_room-clause-damaged : goal.returns-in_err-test_room-clause-damaged
 returns-in_err-test_room-clause-damaged g c tells =
     let n = g.S.Reads.state c.end_degrees.new.space in
-    fault_exit (λ f. f) (BlamesLinking n c.args.from c.args.to) c.in_err-test_room.field-0.0 c.from_residual-in_err-test_room.result c.from_residual-in_err-test_room.ensures.1
+    fault_exit (λ f. f) (BlamesLinking n) c.in_err-test_room.field-0.0 c.from_residual-in_err-test_room.result c.from_residual-in_err-test_room.ensures.1
     (room_blamed _ n format.relationships_file 1 c.in_err-test_room.field-0.0 c.in_err-test_room.ensures.full)
 
 pub returns-in_err-prepared-clause-damaged : goal.returns-in_err-prepared-clause-damaged
 returns-in_err-prepared-clause-damaged g c tells =
     let n = g.S.Reads.state c.end_degrees.new.space in
     let u = g.S.Reads.state c.prepare.new.space in
-    fault_exit (λ f. f) (BlamesLinking u c.args.from c.args.to) c.in_err-prepared.field-0.0 c.from_residual-in_err-prepared.result c.from_residual-in_err-prepared.ensures.1
+    fault_exit (λ f. f) (BlamesLinking u) c.in_err-prepared.field-0.0 c.from_residual-in_err-prepared.result c.from_residual-in_err-prepared.ensures.1
     (line_blamed _ n c.args.names.now.names c.args.label.now c.as_slice-pairs.result.now c.in_err-prepared.field-0.0 (c.in_err-prepared.ensures.caused tells))
 
 -- in the chains
-put_blamed : (g : Over) (c : In_err-id g) → g.S.Reads.tells → BlamesLinking (g.S.Reads.state c.put_edge.new.space) c.args.from c.args.to c.in_err-id.field-0.0
+put_blamed : (g : Over) (c : In_err-id g) → g.S.Reads.tells → BlamesLinking (g.S.Reads.state c.put_edge.new.space) c.in_err-id.field-0.0
 put_blamed g c tells =
     let s = g.S.Reads.state c.args.space.now in
     let n = g.S.Reads.state c.end_degrees.new.space in
@@ -457,20 +458,19 @@ put_blamed g c tells =
     let keeps = c.in_ok-prepared.ensures.stays tells in
     let used = at_more (IsUsedEnd s) (IsUsedEnd u) ends (λ end is. used_beyond n u keeps end.node (used_read s n end.node c.end_degrees.ensures.state is)) (c.in_ok-ends.ensures.used tells) in
     let limit = ap (λ (h : Shape). h.threshold) (c.shape-threshold.ensures.is ∙ sym (g.met.S.Reads.onward_shape _ _ c.prepare.ensures.onward)) in
-    at_nodes (λ from to. BlamesLinking v from to c.in_err-id.field-0.0) ends c.args.from c.args.to c.in_ok-ends.ensures.ends (c.in_err-id.ensures.damaged tells used limit
-    (room_beyond n u keeps (g.met.S.Reads.onward_shape _ _ c.prepare.ensures.onward) c.in_ok-test_room.ensures.room))
+    c.in_err-id.ensures.damaged tells used limit (room_beyond n u keeps (g.met.S.Reads.onward_shape _ _ c.prepare.ensures.onward) c.in_ok-test_room.ensures.room)
 
 pub returns-in_err-id-clause-damaged : goal.returns-in_err-id-clause-damaged
 returns-in_err-id-clause-damaged g c tells =
-    fault_exit (λ f. f) (BlamesLinking (g.S.Reads.state c.put_edge.new.space) c.args.from c.args.to) c.in_err-id.field-0.0 c.from_residual-in_err-id.result c.from_residual-in_err-id.ensures.1
+    fault_exit (λ f. f) (BlamesLinking (g.S.Reads.state c.put_edge.new.space)) c.in_err-id.field-0.0 c.from_residual-in_err-id.result c.from_residual-in_err-id.ensures.1
     (put_blamed g (goal.at.returns-in_err-id-clause-damaged g c).In_err-id tells)
 
 pub returns-in_err-put_properties-clause-damaged : goal.returns-in_err-put_properties-clause-damaged
 returns-in_err-put_properties-clause-damaged g c tells =
     let w = g.S.Reads.state c.put_properties.new.space in
     let fault = c.in_err-put_properties.field-0.0 in
-    fault_exit (λ f. f) (BlamesLinking w c.args.from c.args.to) fault c.from_residual-in_err-put_properties.result c.from_residual-in_err-put_properties.ensures.1
-    (blames_more (IsBroken w) (IsLinkingDamage w c.args.from c.args.to) (broken_links w c.args.from c.args.to) fault (c.in_err-put_properties.ensures.still tells))
+    fault_exit (λ f. f) (BlamesLinking w) fault c.from_residual-in_err-put_properties.result c.from_residual-in_err-put_properties.ensures.1
+    (blames_more (IsBroken w) (IsLinkingDamage w) (λ damage broken. inl broken) fault (c.in_err-put_properties.ensures.still tells))
 
 -- ---- and by the space as it is left alone
 
@@ -538,5 +538,89 @@ returns-in_err-put_properties-clause-still g c tells =
     (fault_exit (λ f. f) (IsStillCaused command t names now) fault c.from_residual-in_err-put_properties.result c.from_residual-in_err-put_properties.ensures.1
     (record {
       caused = put_caused command t t names now pairs (length items) (assigned_blocks pairs items) needs.0 needs.1 (λ file any. any) fault told;
-      damaged = blames_more (IsBroken t) (IsLinkingDamage t c.args.from c.args.to) (broken_links t c.args.from c.args.to) fault (c.in_err-put_properties.ensures.still tells);
+      damaged = blames_more (IsBroken t) (IsLinkingDamage t) (λ damage broken. inl broken) fault (c.in_err-put_properties.ensures.still tells);
     }))
+
+pub returns-in_err-ends-clause-made : goal.returns-in_err-ends-clause-made
+returns-in_err-ends-clause-made g c _ = never_ok c.from_residual.result _ _ c.from_residual.ensures.1
+
+pub returns-in_err-ends-clause-weight : goal.returns-in_err-ends-clause-weight
+returns-in_err-ends-clause-weight g c _ _ _ _ _ = never_ok c.from_residual.result _ _ c.from_residual.ensures.1
+
+pub returns-in_err-ends-clause-first : goal.returns-in_err-ends-clause-first
+returns-in_err-ends-clause-first g c _ = never_ok c.from_residual.result _ _ c.from_residual.ensures.1
+
+pub returns-in_err-ends-clause-light : goal.returns-in_err-ends-clause-light
+returns-in_err-ends-clause-light g c = never_ok c.from_residual.result _ _ c.from_residual.ensures.1
+
+pub returns-in_err-ends-clause-writes : goal.returns-in_err-ends-clause-writes
+returns-in_err-ends-clause-writes g c = never_ok c.from_residual.result _ _ c.from_residual.ensures.1
+
+pub returns-in_err-ends-clause-onward : goal.returns-in_err-ends-clause-onward
+returns-in_err-ends-clause-onward g c = search rules
+
+pub returns-in_err-test_room-clause-made : goal.returns-in_err-test_room-clause-made
+returns-in_err-test_room-clause-made g c _ = never_ok c.from_residual-in_err-test_room.result _ _ c.from_residual-in_err-test_room.ensures.1
+
+pub returns-in_err-test_room-clause-weight : goal.returns-in_err-test_room-clause-weight
+returns-in_err-test_room-clause-weight g c _ _ _ _ _ = never_ok c.from_residual-in_err-test_room.result _ _ c.from_residual-in_err-test_room.ensures.1
+
+pub returns-in_err-test_room-clause-first : goal.returns-in_err-test_room-clause-first
+returns-in_err-test_room-clause-first g c _ = never_ok c.from_residual-in_err-test_room.result _ _ c.from_residual-in_err-test_room.ensures.1
+
+pub returns-in_err-test_room-clause-light : goal.returns-in_err-test_room-clause-light
+returns-in_err-test_room-clause-light g c = never_ok c.from_residual-in_err-test_room.result _ _ c.from_residual-in_err-test_room.ensures.1
+
+pub returns-in_err-test_room-clause-writes : goal.returns-in_err-test_room-clause-writes
+returns-in_err-test_room-clause-writes g c = never_ok c.from_residual-in_err-test_room.result _ _ c.from_residual-in_err-test_room.ensures.1
+
+pub returns-in_err-prepared-clause-made : goal.returns-in_err-prepared-clause-made
+returns-in_err-prepared-clause-made g c _ = never_ok c.from_residual-in_err-prepared.result _ _ c.from_residual-in_err-prepared.ensures.1
+
+pub returns-in_err-prepared-clause-weight : goal.returns-in_err-prepared-clause-weight
+returns-in_err-prepared-clause-weight g c _ _ _ _ _ = never_ok c.from_residual-in_err-prepared.result _ _ c.from_residual-in_err-prepared.ensures.1
+
+pub returns-in_err-prepared-clause-first : goal.returns-in_err-prepared-clause-first
+returns-in_err-prepared-clause-first g c _ = never_ok c.from_residual-in_err-prepared.result _ _ c.from_residual-in_err-prepared.ensures.1
+
+pub returns-in_err-prepared-clause-light : goal.returns-in_err-prepared-clause-light
+returns-in_err-prepared-clause-light g c = never_ok c.from_residual-in_err-prepared.result _ _ c.from_residual-in_err-prepared.ensures.1
+
+pub returns-in_err-prepared-clause-writes : goal.returns-in_err-prepared-clause-writes
+returns-in_err-prepared-clause-writes g c = never_ok c.from_residual-in_err-prepared.result _ _ c.from_residual-in_err-prepared.ensures.1
+
+pub returns-in_err-id-clause-made : goal.returns-in_err-id-clause-made
+returns-in_err-id-clause-made g c _ = never_ok c.from_residual-in_err-id.result _ _ c.from_residual-in_err-id.ensures.1
+
+pub returns-in_err-id-clause-weight : goal.returns-in_err-id-clause-weight
+returns-in_err-id-clause-weight g c _ _ _ _ _ = never_ok c.from_residual-in_err-id.result _ _ c.from_residual-in_err-id.ensures.1
+
+pub returns-in_err-id-clause-first : goal.returns-in_err-id-clause-first
+returns-in_err-id-clause-first g c _ = never_ok c.from_residual-in_err-id.result _ _ c.from_residual-in_err-id.ensures.1
+
+pub returns-in_err-id-clause-light : goal.returns-in_err-id-clause-light
+returns-in_err-id-clause-light g c = never_ok c.from_residual-in_err-id.result _ _ c.from_residual-in_err-id.ensures.1
+
+pub returns-in_err-id-clause-writes : goal.returns-in_err-id-clause-writes
+returns-in_err-id-clause-writes g c = never_ok c.from_residual-in_err-id.result _ _ c.from_residual-in_err-id.ensures.1
+
+pub returns-in_err-put_properties-clause-made : goal.returns-in_err-put_properties-clause-made
+returns-in_err-put_properties-clause-made g c _ = never_ok c.from_residual-in_err-put_properties.result _ _ c.from_residual-in_err-put_properties.ensures.1
+
+pub returns-in_err-put_properties-clause-weight : goal.returns-in_err-put_properties-clause-weight
+returns-in_err-put_properties-clause-weight g c _ _ _ _ _ =
+    never_ok c.from_residual-in_err-put_properties.result _ _ c.from_residual-in_err-put_properties.ensures.1
+
+pub returns-in_err-put_properties-clause-first : goal.returns-in_err-put_properties-clause-first
+returns-in_err-put_properties-clause-first g c _ = never_ok c.from_residual-in_err-put_properties.result _ _ c.from_residual-in_err-put_properties.ensures.1
+
+pub returns-in_err-put_properties-clause-light : goal.returns-in_err-put_properties-clause-light
+returns-in_err-put_properties-clause-light g c = never_ok c.from_residual-in_err-put_properties.result _ _ c.from_residual-in_err-put_properties.ensures.1
+
+pub returns-in_err-put_properties-clause-writes : goal.returns-in_err-put_properties-clause-writes
+returns-in_err-put_properties-clause-writes g c = never_ok c.from_residual-in_err-put_properties.result _ _ c.from_residual-in_err-put_properties.ensures.1
+
+pub returns-clause-cause : goal.returns-clause-cause
+returns-clause-cause g c =
+    ok_cause _ _ _ _ (later_on (later_on (later_on c.in_ok-ends.ensures.cause.later c.in_ok-prepared.ensures.cause.later) c.in_ok-id.ensures.cause.later)
+    c.in_ok-put_properties.ensures.cause.later)

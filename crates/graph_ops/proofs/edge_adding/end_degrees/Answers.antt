@@ -1,4 +1,4 @@
-use Rattle.std.proofs.Common.{◌⊎◌, inl, inr, refl, subst, sym}
+use Rattle.std.proofs.Common.{◌⊎◌, inl, inr, refl, subst, sym, rules}
 use Rattle.plain_graph.specs.Refusals.{change_reasons}
 use Rattle.plain_graph.specs.declared.command.Command.TheVariants as commands
 use Rattle.plain_graph.specs.declared.command.Target.TheVariants as targets
@@ -10,11 +10,12 @@ use Rattle.graph_ops.specs.Owners.{IsAbsent}
 use Rattle.graph_ops.specs.Store.{graph_in}
 use Rattle.graph_ops.specs.declared.change_fault.ChangeFault.{ChangeFault}
 use Rattle.graph_ops.proofs.Causes.{absent_read}
-use Rattle.graph_ops.proofs.DiskCauses.{change_cause_passed}
+use Rattle.graph_ops.proofs.DiskCauses.{change_cause_passed, later_on}
 use Rattle.graph_ops.proofs.EdgeAdded.{source_missing, target_missing}
 use Rattle.graph_ops.proofs.Elements.{found_there, same_both}
 use Rattle.graph_ops.proofs.Exits.{fault_exit}
 use Rattle.graph_ops.proofs.Readings.{refused_read, store_read}
+use Rattle.rec_bytes.proofs.Causes.{never_ok, ok_cause}
 use Rattle.graph_ops.proofs.edge_adding.end_degrees.Goals as goal
 
 -- ---- an end is no node
@@ -86,3 +87,33 @@ returns-in_err-to_degree-clause-state g c = same_both (g.R.Reads.state c.args.sp
 
 pub returns-clause-state : goal.returns-clause-state
 returns-clause-state g c = same_both (g.R.Reads.state c.args.space.now) (g.R.Reads.state c.node_degree.new.space) (g.R.Reads.state c.node_degree-2.new.space) c.node_degree.ensures.state c.node_degree-2.ensures.state
+
+pub returns-in_err-from_degree-clause-ends : goal.returns-in_err-from_degree-clause-ends
+returns-in_err-from_degree-clause-ends g c = never_ok c.from_residual.result _ _ c.from_residual.ensures.1
+
+pub returns-in_err-from_degree-clause-keys : goal.returns-in_err-from_degree-clause-keys
+returns-in_err-from_degree-clause-keys g c = never_ok c.from_residual.result _ _ c.from_residual.ensures.1
+
+pub returns-in_err-from_degree-clause-found : goal.returns-in_err-from_degree-clause-found
+returns-in_err-from_degree-clause-found g c _ = never_ok c.from_residual.result _ _ c.from_residual.ensures.1
+
+pub returns-in_err-from_degree-clause-used : goal.returns-in_err-from_degree-clause-used
+returns-in_err-from_degree-clause-used g c _ = never_ok c.from_residual.result _ _ c.from_residual.ensures.1
+
+pub returns-in_err-from_degree-clause-onward : goal.returns-in_err-from_degree-clause-onward
+returns-in_err-from_degree-clause-onward g c = search rules
+
+pub returns-in_err-to_degree-clause-ends : goal.returns-in_err-to_degree-clause-ends
+returns-in_err-to_degree-clause-ends g c = never_ok c.from_residual-in_err-to_degree.result _ _ c.from_residual-in_err-to_degree.ensures.1
+
+pub returns-in_err-to_degree-clause-keys : goal.returns-in_err-to_degree-clause-keys
+returns-in_err-to_degree-clause-keys g c = never_ok c.from_residual-in_err-to_degree.result _ _ c.from_residual-in_err-to_degree.ensures.1
+
+pub returns-in_err-to_degree-clause-found : goal.returns-in_err-to_degree-clause-found
+returns-in_err-to_degree-clause-found g c _ = never_ok c.from_residual-in_err-to_degree.result _ _ c.from_residual-in_err-to_degree.ensures.1
+
+pub returns-in_err-to_degree-clause-used : goal.returns-in_err-to_degree-clause-used
+returns-in_err-to_degree-clause-used g c _ = never_ok c.from_residual-in_err-to_degree.result _ _ c.from_residual-in_err-to_degree.ensures.1
+
+pub returns-clause-cause : goal.returns-clause-cause
+returns-clause-cause g c = ok_cause _ _ _ _ (later_on c.in_ok-from_degree.ensures.cause.later c.in_ok-to_degree.ensures.cause.later)

@@ -1,4 +1,4 @@
-use Rattle.std.proofs.Common.{◌≡◌, ◌∙◌, ◌+◌, ℕ, Some, List, [], ◌∷◌, sym, ap, subst, inl, arith, refl}
+use Rattle.std.proofs.Common.{◌≡◌, ◌∙◌, ◌+◌, ℕ, Some, List, [], ◌∷◌, sym, ap, subst, inl, arith, refl, rules}
 use Rattle.plain_graph.specs.Refusals.{change_reasons}
 use Rattle.plain_graph.specs.declared.command.Command.TheVariants as commands
 use Rattle.plain_graph.specs.declared.command.Target.TheVariants as targets
@@ -20,7 +20,7 @@ use Rattle.graph_ops.proofs.KeptIndexes.{midway}
 use Rattle.graph_ops.proofs.Deleting.{edge_element, edge_lacked, edge_made, left_bare, left_store}
 use Rattle.graph_ops.proofs.Elements.{edge_missing, same_rel}
 use Rattle.graph_ops.specs.Causes.{IsCaused, IsStillCaused}
-use Rattle.graph_ops.proofs.Causes.{any_blamed, caused_left, failure_caused}
+use Rattle.graph_ops.proofs.Causes.{any_blamed, broken_left, caused_left, failure_caused}
 use Rattle.graph_ops.proofs.Exits.{failure_late, fault_exit, fault_fails, late_leaves, row_fails}
 use Rattle.graph_ops.proofs.KeptLinks.{dropped_kinds}
 use Rattle.graph_ops.proofs.Setting.{prop_refused}
@@ -30,10 +30,12 @@ use Rattle.graph_ops.proofs.Writes.{on_any_err, touched_written}
 use Rattle.graph_ops.proofs.DiskCauses.{change_cause_passed, fault_cause_passed, later_on}
 use Rattle.prop_store.specs.Owner.{IsInUse}
 use Rattle.graph_ops.specs.Owners.{owner_of}
-use Rattle.graph_ops.proofs.Broken.{blames_more, rel_broken, rel_in_use}
+use Rattle.graph_ops.proofs.Broken.{blames_more, property_left, rel_broken, rel_in_use}
 use Rattle.graph_ops.proofs.EdgeBlames.{drop_blamed}
 use Rattle.graph_ops.proofs.EdgeSought.{row_found, row_later, taken_told}
 use Rattle.graph_ops.proofs.EdgeFrames.{edge_left, edge_read, edge_then, taken_before}
+use Rattle.graph_ops.specs.Damage.{BlamesBroken}
+use Rattle.rec_bytes.proofs.Causes.{never_ok, ok_cause}
 use Rattle.graph_ops.proofs.edge_deleting.delete_edge.Goals as goal
 use Rattle.graph_ops.proofs.edge_deleting.delete_edge.Goals.{After-drop_all, After-load, After-take_edge}
 use Rattle.graph_ops.proofs.edge_deleting.delete_edge.Given.{Over}
@@ -276,3 +278,78 @@ returns-in_default-clause-still g c tells =
     let names = c.args.names.now.names in
     let read = loaded g (goal.at.returns-in_default-clause-still g c).After-load in
     record { caused = caused_left (commands.Delete (targets.Edge c.args.id)) s t t names names read (NoEdge c.args.id) (refl, sym (sym c.in_default.is ∙ c.in_ok-rel.ensures.found tells)); damaged = tt }
+
+-- ---- which record is blamed, in the space as it is left
+
+pub returns-in_err-rel-clause-broken : goal.returns-in_err-rel-clause-broken
+returns-in_err-rel-clause-broken g c tells =
+    let s = g.S.Reads.state c.args.space.now in
+    let t = g.S.Reads.state c.load.new.space in
+    let read = loaded g (goal.at.returns-in_err-rel-clause-broken g c).After-load in
+    fault_exit of_row (BlamesBroken t) c.in_err-rel.field-0.0 c.from_residual.result c.from_residual.ensures.1
+    (broken_left s t read (of_row c.in_err-rel.field-0.0) (rel_broken s c.args.id c.in_err-rel.field-0.0 (c.in_err-rel.ensures.damaged tells)))
+
+pub returns-in_err-dropped-clause-broken : goal.returns-in_err-dropped-clause-broken
+returns-in_err-dropped-clause-broken g c tells =
+    let s = g.S.Reads.state c.args.space.now in
+    let v = g.S.Reads.state c.load.new.space in
+    let t = g.S.Reads.state c.drop_all.new.space in
+    let at = (goal.at.returns-in_err-dropped-clause-broken g c).After-drop_all in
+    let used = rel_in_use s (targets.Edge c.args.id) c.args.id c.in-Some.rel refl (found g at tells) in
+    fault_exit of_fault (BlamesBroken t) c.in_err-dropped.field-0.0 c.from_residual-in_err-dropped.result c.from_residual-in_err-dropped.ensures.1
+    (property_left t c.in_err-dropped.field-0.0 (c.in_err-dropped.ensures.still tells (subst (IsInUse v.records) (sym c.edge_owner.ensures) (subst (λ (z : State). IsInUse z.records (owner_of (targets.Edge c.args.id))) (sym (was_read g at)) used))))
+
+pub returns-in_err-take_edge-clause-broken : goal.returns-in_err-take_edge-clause-broken
+returns-in_err-take_edge-clause-broken g c tells =
+    let s = g.S.Reads.state c.args.space.now in
+    let v = g.S.Reads.state c.load.new.space in
+    let w = g.S.Reads.state c.drop_all.new.space in
+    let at = (goal.at.After-take_edge g (goal.at.returns-in_err-take_edge-clause-broken g c).After-take_edge).After-drop_all in
+    let id = c.args.id in
+    let left = edge_then s v w id (edge_read s v id (was_read g at)) (edge_left v w id (g.met.S.Reads.onward_shape _ _ c.drop_all.ensures.onward)
+    (subst (LeavesElement v w) c.edge_owner.ensures (c.drop_all.ensures.leaves tells))) in
+    fault_exit (λ f. f) (BlamesBroken (g.S.Reads.state c.take_edge.new.space)) c.in_err-take_edge.field-0.0 c.from_residual-in_err-take_edge.result c.from_residual-in_err-take_edge.ensures.1
+    (c.in_err-take_edge.ensures.still tells (row_later s w id left c.in-Some.rel (row_found s id c.in-Some.rel (sym (found g at tells)))))
+
+pub returns-in_err-rel-clause-made : goal.returns-in_err-rel-clause-made
+returns-in_err-rel-clause-made g c _ = never_ok c.from_residual.result _ _ c.from_residual.ensures.1
+
+pub returns-in_err-rel-clause-kinds : goal.returns-in_err-rel-clause-kinds
+returns-in_err-rel-clause-kinds g c _ = never_ok c.from_residual.result _ _ c.from_residual.ensures.1
+
+pub returns-in_err-rel-clause-light : goal.returns-in_err-rel-clause-light
+returns-in_err-rel-clause-light g c = never_ok c.from_residual.result _ _ c.from_residual.ensures.1
+
+pub returns-in_err-rel-clause-writes : goal.returns-in_err-rel-clause-writes
+returns-in_err-rel-clause-writes g c = never_ok c.from_residual.result _ _ c.from_residual.ensures.1
+
+pub returns-in_err-rel-clause-onward : goal.returns-in_err-rel-clause-onward
+returns-in_err-rel-clause-onward g c = search rules
+
+pub returns-in_err-dropped-clause-made : goal.returns-in_err-dropped-clause-made
+returns-in_err-dropped-clause-made g c _ = never_ok c.from_residual-in_err-dropped.result _ _ c.from_residual-in_err-dropped.ensures.1
+
+pub returns-in_err-dropped-clause-kinds : goal.returns-in_err-dropped-clause-kinds
+returns-in_err-dropped-clause-kinds g c _ = never_ok c.from_residual-in_err-dropped.result _ _ c.from_residual-in_err-dropped.ensures.1
+
+pub returns-in_err-dropped-clause-light : goal.returns-in_err-dropped-clause-light
+returns-in_err-dropped-clause-light g c = never_ok c.from_residual-in_err-dropped.result _ _ c.from_residual-in_err-dropped.ensures.1
+
+pub returns-in_err-dropped-clause-writes : goal.returns-in_err-dropped-clause-writes
+returns-in_err-dropped-clause-writes g c = never_ok c.from_residual-in_err-dropped.result _ _ c.from_residual-in_err-dropped.ensures.1
+
+pub returns-in_err-take_edge-clause-made : goal.returns-in_err-take_edge-clause-made
+returns-in_err-take_edge-clause-made g c _ = never_ok c.from_residual-in_err-take_edge.result _ _ c.from_residual-in_err-take_edge.ensures.1
+
+pub returns-in_err-take_edge-clause-kinds : goal.returns-in_err-take_edge-clause-kinds
+returns-in_err-take_edge-clause-kinds g c _ = never_ok c.from_residual-in_err-take_edge.result _ _ c.from_residual-in_err-take_edge.ensures.1
+
+pub returns-in_err-take_edge-clause-light : goal.returns-in_err-take_edge-clause-light
+returns-in_err-take_edge-clause-light g c = never_ok c.from_residual-in_err-take_edge.result _ _ c.from_residual-in_err-take_edge.ensures.1
+
+pub returns-in_err-take_edge-clause-writes : goal.returns-in_err-take_edge-clause-writes
+returns-in_err-take_edge-clause-writes g c = never_ok c.from_residual-in_err-take_edge.result _ _ c.from_residual-in_err-take_edge.ensures.1
+
+pub returns-clause-cause : goal.returns-clause-cause
+returns-clause-cause g c =
+    ok_cause _ _ _ _ (later_on (later_on c.in_ok-rel.ensures.cause.later c.in_ok-dropped.ensures.cause.later) c.in_ok-take_edge.ensures.cause.later)

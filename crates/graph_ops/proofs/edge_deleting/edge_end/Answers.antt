@@ -1,4 +1,4 @@
-use Rattle.std.proofs.Common.{◌⊎◌, [], ap, inl, inr, ⊎_elim, refl, subst, sym}
+use Rattle.std.proofs.Common.{◌⊎◌, [], ap, inl, inr, ⊎_elim, refl, subst, sym, rules}
 use Rattle.rec_bytes.specs.Space.{State}
 use Rattle.rec_bytes.proofs.Spaces.{writes_none}
 use Rattle.chain_edit.specs.declared.head.Head.{Head}
@@ -6,13 +6,16 @@ use Rattle.graph_ops.specs.ChangeFault.{IsOutside, IsFailure, of_fault}
 use Rattle.graph_ops.proofs.EndsFound.{end_found, end_of, end_readable}
 use Rattle.graph_ops.proofs.EndWrites.{read_then}
 use Rattle.graph_ops.proofs.Exits.{fault_exit, fault_fails, fault_outside}
-use Rattle.graph_ops.proofs.DiskCauses.{fault_cause_passed}
+use Rattle.graph_ops.proofs.DiskCauses.{fault_cause_passed, later_on}
 use Rattle.group_store.specs.Densing.{IsSparse}
 use Rattle.group_store.specs.GroupChain.{IsDense}
 use Rattle.group_store.proofs.KeptHeads.{heads_same, heads_then}
 use Rattle.graph_ops.specs.EdgeDeleting.{BlamesEnd, with_property}
 use Rattle.group_store.proofs.LeftBeside.{counted_read, counted_then}
 use Rattle.graph_ops.proofs.EdgeBlames.{head_blamed}
+use Rattle.graph_ops.specs.Damage.{BlamesBroken}
+use Rattle.graph_ops.proofs.EdgeSought.{end_still, head_still}
+use Rattle.rec_bytes.proofs.Causes.{never_ok, ok_cause}
 use Rattle.graph_ops.proofs.edge_deleting.edge_end.Goals as goal
 
 -- ---- why it fails
@@ -93,3 +96,73 @@ returns-clause-counts g c tells =
     let s = g.S.Reads.state c.args.space.now in
     let m = g.S.Reads.state c.end_degree.new.space in
     counted_then s.records m.records (g.S.Reads.state c.open_head.new.space).records (counted_read s m c.end_degree.ensures.state) (c.in_ok-head.ensures.counts tells)
+
+-- ---- in the space as it is left
+pub returns-in_err-degree-clause-still : goal.returns-in_err-degree-clause-still
+returns-in_err-degree-clause-still g c tells has which =
+    let s = g.S.Reads.state c.args.space.now in
+    let m = g.S.Reads.state c.end_degree.new.space in
+    fault_exit (λ f. f) (BlamesBroken m) c.in_err-degree.field-0.0 c.from_residual.result c.from_residual.ensures.1
+    (end_still s m c.args.id c.args.node c.args.rel has which c.end_degree.ensures.state c.in_err-degree.field-0.0 (c.in_err-degree.ensures.damaged tells c.args.rel.label))
+
+pub returns-in_err-head-clause-still : goal.returns-in_err-head-clause-still
+returns-in_err-head-clause-still g c tells has which =
+    let s = g.S.Reads.state c.args.space.now in
+    let m = g.S.Reads.state c.end_degree.new.space in
+    let t = g.S.Reads.state c.open_head.new.space in
+    fault_exit of_fault (BlamesBroken t) c.in_err-head.field-0.0 c.from_residual-in_err-head.result c.from_residual-in_err-head.ensures.1
+    (head_still s m t c.args.id c.args.node c.args.rel has which c.end_degree.ensures.state c.in_err-head.field-0.0 (c.in_err-head.ensures.damaged tells) c.in_err-head.ensures.unwritten)
+
+pub returns-in_err-degree-clause-found : goal.returns-in_err-degree-clause-found
+returns-in_err-degree-clause-found g c _ = never_ok c.from_residual.result _ _ c.from_residual.ensures.1
+
+pub returns-in_err-degree-clause-counts : goal.returns-in_err-degree-clause-counts
+returns-in_err-degree-clause-counts g c _ = never_ok c.from_residual.result _ _ c.from_residual.ensures.1
+
+pub returns-in_err-degree-clause-has : goal.returns-in_err-degree-clause-has
+returns-in_err-degree-clause-has g c _ = never_ok c.from_residual.result _ _ c.from_residual.ensures.1
+
+pub returns-in_err-degree-clause-placed : goal.returns-in_err-degree-clause-placed
+returns-in_err-degree-clause-placed g c _ _ _ = never_ok c.from_residual.result _ _ c.from_residual.ensures.1
+
+pub returns-in_err-degree-clause-heads : goal.returns-in_err-degree-clause-heads
+returns-in_err-degree-clause-heads g c _ = never_ok c.from_residual.result _ _ c.from_residual.ensures.1
+
+pub returns-in_err-degree-clause-node : goal.returns-in_err-degree-clause-node
+returns-in_err-degree-clause-node g c = never_ok c.from_residual.result _ _ c.from_residual.ensures.1
+
+pub returns-in_err-degree-clause-end : goal.returns-in_err-degree-clause-end
+returns-in_err-degree-clause-end g c = never_ok c.from_residual.result _ _ c.from_residual.ensures.1
+
+pub returns-in_err-degree-clause-wrote : goal.returns-in_err-degree-clause-wrote
+returns-in_err-degree-clause-wrote g c = never_ok c.from_residual.result _ _ c.from_residual.ensures.1
+
+pub returns-in_err-degree-clause-onward : goal.returns-in_err-degree-clause-onward
+returns-in_err-degree-clause-onward g c = search rules
+
+pub returns-in_err-head-clause-found : goal.returns-in_err-head-clause-found
+returns-in_err-head-clause-found g c _ = never_ok c.from_residual-in_err-head.result _ _ c.from_residual-in_err-head.ensures.1
+
+pub returns-in_err-head-clause-counts : goal.returns-in_err-head-clause-counts
+returns-in_err-head-clause-counts g c _ = never_ok c.from_residual-in_err-head.result _ _ c.from_residual-in_err-head.ensures.1
+
+pub returns-in_err-head-clause-has : goal.returns-in_err-head-clause-has
+returns-in_err-head-clause-has g c _ = never_ok c.from_residual-in_err-head.result _ _ c.from_residual-in_err-head.ensures.1
+
+pub returns-in_err-head-clause-placed : goal.returns-in_err-head-clause-placed
+returns-in_err-head-clause-placed g c _ _ _ = never_ok c.from_residual-in_err-head.result _ _ c.from_residual-in_err-head.ensures.1
+
+pub returns-in_err-head-clause-heads : goal.returns-in_err-head-clause-heads
+returns-in_err-head-clause-heads g c _ = never_ok c.from_residual-in_err-head.result _ _ c.from_residual-in_err-head.ensures.1
+
+pub returns-in_err-head-clause-node : goal.returns-in_err-head-clause-node
+returns-in_err-head-clause-node g c = never_ok c.from_residual-in_err-head.result _ _ c.from_residual-in_err-head.ensures.1
+
+pub returns-in_err-head-clause-end : goal.returns-in_err-head-clause-end
+returns-in_err-head-clause-end g c = never_ok c.from_residual-in_err-head.result _ _ c.from_residual-in_err-head.ensures.1
+
+pub returns-in_err-head-clause-wrote : goal.returns-in_err-head-clause-wrote
+returns-in_err-head-clause-wrote g c = never_ok c.from_residual-in_err-head.result _ _ c.from_residual-in_err-head.ensures.1
+
+pub returns-clause-cause : goal.returns-clause-cause
+returns-clause-cause g c = ok_cause _ _ _ _ (later_on c.in_ok-degree.ensures.cause.later c.in_ok-head.ensures.cause.later)

@@ -11,6 +11,8 @@ use Rattle.graph_ops.specs.EdgeDeleting.{IsTakenDamage, with_property}
 use Rattle.group_store.proofs.AlikeGroups.{alike_back, alike_counted, placed_as}
 use Rattle.graph_ops.proofs.Broken.{blames_more}
 use Rattle.graph_ops.proofs.EdgeFrames.{edge_counted, edge_none, edge_then, end_taken}
+use Rattle.graph_ops.specs.Damage.{BlamesBroken}
+use Rattle.graph_ops.proofs.EdgeSought.{row_later}
 use Rattle.graph_ops.proofs.edge_deleting.edge_ends.Goals as goal
 
 -- ---- why it fails
@@ -120,3 +122,16 @@ returns-clause-placed g c tells property =
           (head_of end.head) (with_property c.args.id c.args.rel property) (c.in_ok-source.ensures.placed tells (inl refl) property),
       c.in_ok-target.ensures.placed tells (inr refl) property,
     )
+
+-- ---- in the space as it is left
+pub returns-in_err-source-clause-still : goal.returns-in_err-source-clause-still
+returns-in_err-source-clause-still g c tells has =
+    fault_exit (λ f. f) (BlamesBroken (g.S.Reads.state c.edge_end.new.space)) c.in_err-source.field-0.0 c.from_residual.result c.from_residual.ensures.1 (c.in_err-source.ensures.still tells has (inl refl))
+
+pub returns-in_err-target-clause-still : goal.returns-in_err-target-clause-still
+returns-in_err-target-clause-still g c tells has =
+    let s = g.S.Reads.state c.args.space.now in
+    let m = g.S.Reads.state c.edge_end.new.space in
+    let left = edge_counted s m c.args.id (g.met.S.Reads.onward_shape _ _ c.edge_end.ensures.onward) (c.in_ok-source.ensures.counts tells) in
+    fault_exit (λ f. f) (BlamesBroken (g.S.Reads.state c.edge_end-2.new.space)) c.in_err-target.field-0.0 c.from_residual-in_err-target.result c.from_residual-in_err-target.ensures.1
+    (c.in_err-target.ensures.still tells (row_later s m c.args.id left c.args.rel has) (inr refl))

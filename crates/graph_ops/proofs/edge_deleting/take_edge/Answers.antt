@@ -5,9 +5,11 @@ use Rattle.graph_ops.proofs.Exits.{fault_exit, on_ok}
 use Rattle.graph_ops.specs.Damage.{IfBlames}
 use Rattle.graph_ops.specs.EdgeDeleting.{IsTakenDamage, with_property}
 use Rattle.graph_ops.specs.EdgeDeleting.IsTakenDamage.{Parted, Undropped}
-use Rattle.std.proofs.Common.{⊎_elim}
+use Rattle.std.proofs.Common.{⊎_elim, rules}
 use Rattle.graph_ops.proofs.EdgeBlames.{if_blames}
 use Rattle.graph_ops.proofs.EdgeSought.{row_later}
+use Rattle.graph_ops.specs.Damage.{BlamesBroken}
+use Rattle.rec_bytes.proofs.Causes.{never_ok}
 use Rattle.graph_ops.proofs.edge_deleting.take_edge.Goals as goal
 
 -- ---- why it fails
@@ -56,3 +58,21 @@ returns-clause-damaged g c tells has =
     if_blames c.unlink_edge.result _ (IsTakenDamage s t c.args.id c.args.rel)
     (λ damage told. ⊎_elim (λ k. Parted damage m left k) (λ k. Undropped damage k) told)
     (c.unlink_edge.ensures.damaged tells row (record { live = now.1; source = c.in_ok-ends.ensures.nodes.0; target = c.in_ok-ends.ensures.nodes.1; places = c.in_ok-ends.ensures.placed tells now.0 }))
+
+-- ---- in the space as it is left
+pub returns-in_err-ends-clause-still : goal.returns-in_err-ends-clause-still
+returns-in_err-ends-clause-still g c tells has =
+    fault_exit (λ f. f) (BlamesBroken (g.S.Reads.state c.edge_ends.new.space)) c.in_err-ends.field-0.0 c.from_residual.result c.from_residual.ensures.1 (c.in_err-ends.ensures.still tells has)
+
+pub returns-clause-still : goal.returns-clause-still
+returns-clause-still g c tells has =
+    let s = g.S.Reads.state c.args.space.now in
+    let m = g.S.Reads.state c.edge_ends.new.space in
+    let now = row_later s m c.args.id (c.in_ok-ends.ensures.counts tells) c.args.rel has in
+    c.unlink_edge.ensures.still tells (with_property c.args.id c.args.rel now.0) (record { live = now.1; source = c.in_ok-ends.ensures.nodes.0; target = c.in_ok-ends.ensures.nodes.1; places = c.in_ok-ends.ensures.placed tells now.0 })
+
+pub returns-in_err-ends-clause-taken : goal.returns-in_err-ends-clause-taken
+returns-in_err-ends-clause-taken g c _ = never_ok c.from_residual.result _ _ c.from_residual.ensures.1
+
+pub returns-in_err-ends-clause-onward : goal.returns-in_err-ends-clause-onward
+returns-in_err-ends-clause-onward g c = search rules

@@ -1,18 +1,19 @@
-use Rattle.std.proofs.Common.{◌≢◌, ◌⊎◌, inl, inr, refl, subst, sym}
+use Rattle.std.proofs.Common.{◌≢◌, ◌⊎◌, inl, inr, refl, subst, sym, rules}
 use Rattle.chain_edit.specs.Heads.{head_of}
 use Rattle.graph_ops.specs.ChangeFault.{IsOutside, of_fault}
-use Rattle.graph_ops.specs.Damage.{IfBlames}
-use Rattle.graph_ops.specs.EdgeDeleting.{HasHead, IsBareEdge, IsPartedDamage, IsUndropped, PartsEdge, WritesEnds, WritesTaken}
-use Rattle.graph_ops.specs.EdgeEnds.{AreApart, AtEach}
+use Rattle.graph_ops.specs.Damage.{BlamesBroken, IfBlames}
+use Rattle.graph_ops.specs.EdgeDeleting.{IsBareEdge, IsPartedDamage, IsUndropped, PartsEdge, WritesEnds, WritesTaken}
+use Rattle.graph_ops.specs.EdgeEnds.{AreApart, AtEach, HasHead}
 use Rattle.graph_ops.specs.declared.edge_end.EdgeEnd.{EdgeEnd}
 use Rattle.graph_ops.specs.declared.edge_end.Ends.TheVariants.{Loop, Two}
-use Rattle.graph_ops.proofs.Broken.{blames_more}
+use Rattle.graph_ops.proofs.Broken.{blames_more, break_left}
 use Rattle.graph_ops.proofs.DiskCauses.{fault_cause_passed, later_on}
 use Rattle.graph_ops.proofs.EdgeBlames.{close_blamed}
 use Rattle.graph_ops.proofs.EdgeCuts.{placed_heads}
 use Rattle.graph_ops.proofs.EdgeClosed.{loop_taken, pair_taken, source_closes, target_closes}
 use Rattle.graph_ops.proofs.EndWrites.{ends_taken, source_taken, target_taken}
 use Rattle.graph_ops.proofs.Exits.{fault_exit, fault_outside}
+use Rattle.rec_bytes.proofs.Causes.{never_ok}
 use Rattle.graph_ops.proofs.edge_deleting.unlink_edge.Goals as goal
 
 -- ---- why it fails
@@ -182,3 +183,64 @@ returns-in_err-close_chain-in-Two-2-clause-damaged g c tells row edge =
     let told = c.in_err-close_chain-in-Two-2.ensures in
     fault_exit of_fault (IfBlames (λ damage. IsPartedDamage s c.args.id row.from row.to damage ⊎ IsUndropped w damage)) fault c.from_residual-in_err-close_chain-in-Two-2.result c.from_residual-in_err-close_chain-in-Two-2.ensures.1
     (blames_more _ _ (λ damage told. inr told) (of_fault fault) (close_blamed v w end.node end.head.key.id fault (told.damaged tells) (told.breaks tells now) told.unwritten))
+
+-- ---- in the space as it is left
+pub returns-in_err-part_edge-clause-still : goal.returns-in_err-part_edge-clause-still
+returns-in_err-part_edge-clause-still g c tells row edge =
+    fault_exit (λ f. f) (BlamesBroken (g.S.Reads.state c.part_edge.new.space)) c.in_err-part_edge.field-0.0 c.from_residual.result c.from_residual.ensures.1 (c.in_err-part_edge.ensures.still tells row edge)
+
+pub returns-in_err-close_chain-in-Loop-clause-still : goal.returns-in_err-close_chain-in-Loop-clause-still
+returns-in_err-close_chain-in-Loop-clause-still g c tells row edge =
+    let s = g.S.Reads.state c.args.space.now in
+    let v = g.S.Reads.state c.close_chain.new.space in
+    let end = c.in-Loop.end in
+    let heads = placed_heads s.records row c.args.ends edge.places in
+    let now = c.in_ok-part_edge.ensures.heads tells heads (head_of end.head) end.node (subst (AtEach (HasHead s.records)) c.in-Loop.is heads) in
+    let fault = c.in_err-close_chain-in-Loop.field-0.0 in
+    fault_exit of_fault (BlamesBroken v) fault c.from_residual-in_err-close_chain-in-Loop.result c.from_residual-in_err-close_chain-in-Loop.ensures.1
+    (break_left (g.S.Reads.state c.part_edge.new.space) v fault (c.in_err-close_chain-in-Loop.ensures.breaks tells now) c.in_err-close_chain-in-Loop.ensures.unwritten)
+
+pub returns-in_err-close_chain-in-Two-clause-still : goal.returns-in_err-close_chain-in-Two-clause-still
+returns-in_err-close_chain-in-Two-clause-still g c tells row edge =
+    let s = g.S.Reads.state c.args.space.now in
+    let v = g.S.Reads.state c.close_chain-in-Two.new.space in
+    let end = c.in-Two.source in
+    let heads = placed_heads s.records row c.args.ends edge.places in
+    let now = c.in_ok-part_edge.ensures.heads tells heads (head_of end.head) end.node (subst (AtEach (HasHead s.records)) c.in-Two.is heads).0 in
+    let fault = c.in_err-close_chain-in-Two.field-0.0 in
+    fault_exit of_fault (BlamesBroken v) fault c.from_residual-in_err-close_chain-in-Two.result c.from_residual-in_err-close_chain-in-Two.ensures.1
+    (break_left (g.S.Reads.state c.part_edge.new.space) v fault (c.in_err-close_chain-in-Two.ensures.breaks tells now) c.in_err-close_chain-in-Two.ensures.unwritten)
+
+pub returns-in_err-close_chain-in-Two-2-clause-still : goal.returns-in_err-close_chain-in-Two-2-clause-still
+returns-in_err-close_chain-in-Two-2-clause-still g c tells row edge =
+    let s = g.S.Reads.state c.args.space.now in
+    let w = g.S.Reads.state c.close_chain-in-Two-2.new.space in
+    let source = c.in-Two.source in
+    let end = c.in-Two.target in
+    let differ : source.node ≢ end.node = subst (AreApart (λ (end : EdgeEnd). end.node)) c.in-Two.is c.requires.ends.apart in
+    let heads = placed_heads s.records row c.args.ends edge.places in
+    let has = subst (AtEach (HasHead s.records)) c.in-Two.is heads in
+    let kept = c.in_ok-part_edge.ensures.heads tells heads in
+    let others = c.in_ok-close_chain-in-Two.ensures.heads tells (kept (head_of source.head) source.node has.0) in
+    let now = others (head_of end.head) end.node (λ e. differ (sym e)) (kept (head_of end.head) end.node has.1) in
+    let fault = c.in_err-close_chain-in-Two-2.field-0.0 in
+    fault_exit of_fault (BlamesBroken w) fault c.from_residual-in_err-close_chain-in-Two-2.result c.from_residual-in_err-close_chain-in-Two-2.ensures.1
+    (break_left (g.S.Reads.state c.close_chain-in-Two.new.space) w fault (c.in_err-close_chain-in-Two-2.ensures.breaks tells now) c.in_err-close_chain-in-Two-2.ensures.unwritten)
+
+pub returns-in_err-part_edge-clause-taken : goal.returns-in_err-part_edge-clause-taken
+returns-in_err-part_edge-clause-taken g c _ = never_ok c.from_residual.result _ _ c.from_residual.ensures.1
+
+pub returns-in_err-part_edge-clause-onward : goal.returns-in_err-part_edge-clause-onward
+returns-in_err-part_edge-clause-onward g c = search rules
+
+pub returns-in_err-close_chain-in-Loop-clause-taken : goal.returns-in_err-close_chain-in-Loop-clause-taken
+returns-in_err-close_chain-in-Loop-clause-taken g c _ =
+    never_ok c.from_residual-in_err-close_chain-in-Loop.result _ _ c.from_residual-in_err-close_chain-in-Loop.ensures.1
+
+pub returns-in_err-close_chain-in-Two-clause-taken : goal.returns-in_err-close_chain-in-Two-clause-taken
+returns-in_err-close_chain-in-Two-clause-taken g c _ =
+    never_ok c.from_residual-in_err-close_chain-in-Two.result _ _ c.from_residual-in_err-close_chain-in-Two.ensures.1
+
+pub returns-in_err-close_chain-in-Two-2-clause-taken : goal.returns-in_err-close_chain-in-Two-2-clause-taken
+returns-in_err-close_chain-in-Two-2-clause-taken g c _ =
+    never_ok c.from_residual-in_err-close_chain-in-Two-2.result _ _ c.from_residual-in_err-close_chain-in-Two-2.ensures.1

@@ -1,14 +1,16 @@
-use Rattle.std.proofs.Common.{ℕ, ◌∙◌, subst}
+use Rattle.std.proofs.Common.{ℕ, ◌∙◌, subst, rules}
 use Rattle.graph_ops.specs.ChangeFault.{IsOutside}
-use Rattle.graph_ops.specs.EdgeEnds.{source_of, target_of}
+use Rattle.graph_ops.specs.EdgeEnds.{HasHead}
 use Rattle.graph_ops.specs.EdgeJoining.{HasPlaced, WritesJoined}
 use Rattle.graph_ops.proofs.EdgePut.{firsts_right, puts_edge}
 use Rattle.graph_ops.proofs.Exits.{fault_exit}
 use Rattle.graph_ops.proofs.JoinWrites.{placed_joined, placed_written}
 use Rattle.graph_ops.proofs.Writes.{on_any_err}
-use Rattle.graph_ops.proofs.DiskCauses.{change_cause_passed}
-use Rattle.graph_ops.specs.Damage.{IfBlames}
-use Rattle.graph_ops.specs.EdgeAdding.{IsJoinDamage}
+use Rattle.graph_ops.proofs.DiskCauses.{change_cause_passed, later_on}
+use Rattle.chain_edit.specs.Heads.{head_of}
+use Rattle.graph_ops.specs.Damage.{BlamesBroken}
+use Rattle.graph_ops.proofs.EndLaws.{at_more}
+use Rattle.rec_bytes.proofs.Causes.{never_ok, ok_cause}
 use Rattle.graph_ops.proofs.edge_joining.join_edge.Goals as goal
 
 pub returns-in_err-id-clause-sound : goal.returns-in_err-id-clause-sound
@@ -51,12 +53,33 @@ returns-in_err-join_ends-clause-cause g c =
     change_cause_passed _ _ _ c.from_residual-in_err-join_ends.result c.in_err-join_ends.field-0.0 c.in_ok-id.ensures.cause.later c.in_err-join_ends.ensures.cause c.from_residual-in_err-join_ends.ensures.1
 
 -- ---- which record is blamed
-pub returns-in_err-id-clause-damaged : goal.returns-in_err-id-clause-damaged
-returns-in_err-id-clause-damaged g c tells at has =
-    fault_exit (λ f. f) (IfBlames (IsJoinDamage (g.S.Reads.state c.place.new.space) (source_of c.args.ends).node (target_of c.args.ends).node)) c.in_err-id.field-0.0 c.from_residual.result c.from_residual.ensures.1
-    (subst (λ (p : ℕ × ℕ). IfBlames (IsJoinDamage (g.S.Reads.state c.place.new.space) p.0 p.1) c.in_err-id.field-0.0) c.nodes-from.ensures (c.in_err-id.ensures.damaged tells has))
-
 pub returns-in_err-join_ends-clause-damaged : goal.returns-in_err-join_ends-clause-damaged
-returns-in_err-join_ends-clause-damaged g c tells at has =
-    fault_exit (λ f. f) (IfBlames (IsJoinDamage (g.S.Reads.state c.join_ends.new.space) (source_of c.args.ends).node (target_of c.args.ends).node)) c.in_err-join_ends.field-0.0 c.from_residual-in_err-join_ends.result c.from_residual-in_err-join_ends.ensures.1
-    (c.in_err-join_ends.ensures.damaged tells at)
+returns-in_err-join_ends-clause-damaged g c tells heads has =
+    let s = g.S.Reads.state c.args.space.now in
+    let t = g.S.Reads.state c.place.new.space in
+    fault_exit (λ f. f) (BlamesBroken (g.S.Reads.state c.join_ends.new.space)) c.in_err-join_ends.field-0.0 c.from_residual-in_err-join_ends.result c.from_residual-in_err-join_ends.ensures.1
+    (c.in_err-join_ends.ensures.damaged tells (at_more (HasHead s.records) (HasHead t.records) c.args.ends (λ end. c.in_ok-id.ensures.heads tells (head_of end.head) end.node) heads))
+
+pub returns-in_err-id-clause-joined : goal.returns-in_err-id-clause-joined
+returns-in_err-id-clause-joined g c _ = never_ok c.from_residual.result _ _ c.from_residual.ensures.1
+
+pub returns-in_err-id-clause-key : goal.returns-in_err-id-clause-key
+returns-in_err-id-clause-key g c = never_ok c.from_residual.result _ _ c.from_residual.ensures.1
+
+pub returns-in_err-id-clause-writes : goal.returns-in_err-id-clause-writes
+returns-in_err-id-clause-writes g c = never_ok c.from_residual.result _ _ c.from_residual.ensures.1
+
+pub returns-in_err-id-clause-onward : goal.returns-in_err-id-clause-onward
+returns-in_err-id-clause-onward g c = search rules
+
+pub returns-in_err-join_ends-clause-joined : goal.returns-in_err-join_ends-clause-joined
+returns-in_err-join_ends-clause-joined g c _ = never_ok c.from_residual-in_err-join_ends.result _ _ c.from_residual-in_err-join_ends.ensures.1
+
+pub returns-in_err-join_ends-clause-key : goal.returns-in_err-join_ends-clause-key
+returns-in_err-join_ends-clause-key g c = never_ok c.from_residual-in_err-join_ends.result _ _ c.from_residual-in_err-join_ends.ensures.1
+
+pub returns-in_err-join_ends-clause-writes : goal.returns-in_err-join_ends-clause-writes
+returns-in_err-join_ends-clause-writes g c = never_ok c.from_residual-in_err-join_ends.result _ _ c.from_residual-in_err-join_ends.ensures.1
+
+pub returns-clause-cause : goal.returns-clause-cause
+returns-clause-cause g c = ok_cause _ _ _ _ (later_on c.in_ok-id.ensures.cause.later c.in_ok-join_ends.ensures.cause.later)

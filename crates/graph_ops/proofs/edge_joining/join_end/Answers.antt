@@ -1,10 +1,14 @@
+use Rattle.std.proofs.Common.{rules}
 use Rattle.graph_ops.specs.ChangeFault.{IsFailure, of_fault, of_space}
 use Rattle.graph_ops.proofs.Exits.{fault_fails, fault_exit, space_fails}
 use Rattle.graph_ops.proofs.JoinWrites.{end_written, head_written}
-use Rattle.graph_ops.proofs.DiskCauses.{space_cause_passed}
-use Rattle.graph_ops.specs.EdgeAdding.{BlamesHead}
+use Rattle.graph_ops.proofs.DiskCauses.{space_cause_passed, later_on}
+use Rattle.chain_edit.specs.Heads.{head_of}
+use Rattle.graph_ops.specs.Damage.{BlamesBroken}
+use Rattle.graph_ops.proofs.EdgeBlames.{heads_joined_by}
 use Rattle.graph_ops.proofs.Adding.{space_blamed}
 use Rattle.graph_ops.proofs.JoinBlames.{push_blamed}
+use Rattle.rec_bytes.proofs.Causes.{never_ok, ok_cause}
 use Rattle.graph_ops.proofs.edge_joining.join_end.Goals as goal
 
 pub returns-clause-writes : goal.returns-clause-writes
@@ -26,14 +30,37 @@ pub returns-in_err-set_number-clause-cause : goal.returns-in_err-set_number-clau
 returns-in_err-set_number-clause-cause g c =
     space_cause_passed _ _ _ c.from_residual-in_err-set_number.result c.in_err-set_number.field-0.0 c.in_ok-push_counted.ensures.cause.later c.in_err-set_number.ensures.cause c.from_residual-in_err-set_number.ensures.1
 
--- ---- which record is blamed
+-- ---- which record is blamed, and heads that stay
 pub returns-in_err-push_counted-clause-damaged : goal.returns-in_err-push_counted-clause-damaged
-returns-in_err-push_counted-clause-damaged g c tells =
+returns-in_err-push_counted-clause-damaged g c tells owns =
     let s = g.S.Reads.state c.args.space.now in
     let t = g.S.Reads.state c.push_counted.new.space in
-    fault_exit of_fault (BlamesHead t c.args.end) c.in_err-push_counted.field-0.0 c.from_residual.result c.from_residual.ensures.1
-    (push_blamed s t c.args.end c.in_err-push_counted.field-0.0 (c.in_err-push_counted.ensures.damaged tells) c.in_err-push_counted.ensures.unwritten)
+    fault_exit of_fault (BlamesBroken t) c.in_err-push_counted.field-0.0 c.from_residual.result c.from_residual.ensures.1
+    (push_blamed s t c.in_err-push_counted.field-0.0 (c.in_err-push_counted.ensures.breaks tells c.args.end.node owns) c.in_err-push_counted.ensures.unwritten)
 
 pub returns-in_err-set_number-clause-damaged : goal.returns-in_err-set_number-clause-damaged
-returns-in_err-set_number-clause-damaged g c tells =
-    fault_exit of_space (BlamesHead (g.S.Reads.state c.set_number.new.space) c.args.end) c.in_err-set_number.field-0.0 c.from_residual-in_err-set_number.result c.from_residual-in_err-set_number.ensures.1 (space_blamed _ c.in_err-set_number.field-0.0)
+returns-in_err-set_number-clause-damaged g c tells owns =
+    fault_exit of_space (BlamesBroken (g.S.Reads.state c.set_number.new.space)) c.in_err-set_number.field-0.0 c.from_residual-in_err-set_number.result c.from_residual-in_err-set_number.ensures.1 (space_blamed _ c.in_err-set_number.field-0.0)
+
+pub returns-clause-heads : goal.returns-clause-heads
+returns-clause-heads g c tells owns =
+    heads_joined_by (g.S.Reads.state c.args.space.now) (head_of c.args.end.head) c.args.end.node owns c.args.rel _
+    (g.S.Reads.state c.push_counted.new.space) (g.S.Reads.state c.set_number.new.space) (c.in_ok-push_counted.ensures.ok tells) (c.in_ok-set_number.ensures.ok tells)
+
+pub returns-in_err-push_counted-clause-ok : goal.returns-in_err-push_counted-clause-ok
+returns-in_err-push_counted-clause-ok g c _ = never_ok c.from_residual.result _ _ c.from_residual.ensures.1
+
+pub returns-in_err-push_counted-clause-heads : goal.returns-in_err-push_counted-clause-heads
+returns-in_err-push_counted-clause-heads g c _ _ = never_ok c.from_residual.result _ _ c.from_residual.ensures.1
+
+pub returns-in_err-push_counted-clause-onward : goal.returns-in_err-push_counted-clause-onward
+returns-in_err-push_counted-clause-onward g c = search rules
+
+pub returns-in_err-set_number-clause-ok : goal.returns-in_err-set_number-clause-ok
+returns-in_err-set_number-clause-ok g c _ = never_ok c.from_residual-in_err-set_number.result _ _ c.from_residual-in_err-set_number.ensures.1
+
+pub returns-in_err-set_number-clause-heads : goal.returns-in_err-set_number-clause-heads
+returns-in_err-set_number-clause-heads g c _ _ = never_ok c.from_residual-in_err-set_number.result _ _ c.from_residual-in_err-set_number.ensures.1
+
+pub returns-clause-cause : goal.returns-clause-cause
+returns-clause-cause g c = ok_cause _ _ _ _ (later_on c.in_ok-push_counted.ensures.cause.later c.in_ok-set_number.ensures.cause.later)

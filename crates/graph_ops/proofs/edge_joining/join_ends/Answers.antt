@@ -1,16 +1,12 @@
-use Rattle.std.proofs.Common.{ap, inl, inr, subst, sym}
-use Rattle.graph_ops.specs.Damage.{IfBlames}
-use Rattle.graph_ops.specs.EdgeAdding.{IsHeadAt, IsJoinDamage}
-use Rattle.graph_ops.specs.EdgeAdding.IsJoinDamage.{BadHead}
-use Rattle.graph_ops.specs.EdgeEnds.{AtEach, source_of, target_of}
+use Rattle.std.proofs.Common.{subst, sym, rules}
+use Rattle.chain_edit.specs.Heads.{head_of}
+use Rattle.graph_ops.specs.Damage.{BlamesBroken}
+use Rattle.graph_ops.specs.EdgeEnds.{AtEach, HasHead}
 use Rattle.graph_ops.specs.EdgeJoining.{WritesJoined}
-use Rattle.graph_ops.specs.declared.edge_end.EdgeEnd.{EdgeEnd}
-use Rattle.graph_ops.specs.declared.edge_end.Ends.{Ends}
 use Rattle.graph_ops.specs.declared.edge_end.Ends.TheVariants.{Two}
-use Rattle.graph_ops.proofs.Broken.{blames_more}
-use Rattle.graph_ops.proofs.EdgeBlames.{if_blames}
 use Rattle.graph_ops.proofs.Exits.{fault_exit}
 use Rattle.graph_ops.proofs.JoinWrites.{both_written}
+use Rattle.rec_bytes.proofs.Causes.{never_ok}
 use Rattle.graph_ops.proofs.edge_joining.join_ends.Goals as goal
 
 pub returns-in_ok-join_end-in-Two-clause-writes : goal.returns-in_ok-join_end-in-Two-clause-writes
@@ -23,20 +19,21 @@ returns-in_ok-join_end-in-Two-clause-writes g c =
 -- ---- which record is blamed
 pub returns-in-Loop-clause-damaged : goal.returns-in-Loop-clause-damaged
 returns-in-Loop-clause-damaged g c tells heads =
-    let t = g.S.Reads.state c.join_end.new.space in
-    if_blames c.join_end.result _ (IsJoinDamage t (source_of c.args.ends).node (target_of c.args.ends).node)
-    (λ damage told. BadHead damage c.in-Loop.end (inl (ap (λ (e : Ends EdgeEnd). (source_of e).node) (sym c.in-Loop.is))) (subst (AtEach IsHeadAt) c.in-Loop.is heads) told) (c.join_end.ensures.damaged tells)
+    c.join_end.ensures.damaged tells (subst (AtEach (HasHead (g.S.Reads.state c.args.space.now).records)) c.in-Loop.is heads)
 
 pub returns-in_err-join_end-in-Two-clause-damaged : goal.returns-in_err-join_end-in-Two-clause-damaged
 returns-in_err-join_end-in-Two-clause-damaged g c tells heads =
-    let t = g.S.Reads.state c.join_end-in-Two.new.space in
-    let at = subst (AtEach IsHeadAt) c.in-Two.is heads in
-    fault_exit (λ f. f) (IfBlames (IsJoinDamage t (source_of c.args.ends).node (target_of c.args.ends).node)) c.in_err-join_end-in-Two.field-0.0 c.from_residual.result c.from_residual.ensures.1
-    (blames_more _ _ (λ damage told. BadHead damage c.in-Two.source (inl (ap (λ (e : Ends EdgeEnd). (source_of e).node) (sym c.in-Two.is))) at.0 told) c.in_err-join_end-in-Two.field-0.0 (c.in_err-join_end-in-Two.ensures.damaged tells))
+    let has = subst (AtEach (HasHead (g.S.Reads.state c.args.space.now).records)) c.in-Two.is heads in
+    fault_exit (λ f. f) (BlamesBroken (g.S.Reads.state c.join_end-in-Two.new.space)) c.in_err-join_end-in-Two.field-0.0 c.from_residual.result c.from_residual.ensures.1
+    (c.in_err-join_end-in-Two.ensures.damaged tells has.0)
 
 pub returns-in_ok-join_end-in-Two-clause-damaged : goal.returns-in_ok-join_end-in-Two-clause-damaged
 returns-in_ok-join_end-in-Two-clause-damaged g c tells heads =
-    let t = g.S.Reads.state c.join_end-in-Two-2.new.space in
-    let at = subst (AtEach IsHeadAt) c.in-Two.is heads in
-    if_blames c.join_end-in-Two-2.result _ (IsJoinDamage t (source_of c.args.ends).node (target_of c.args.ends).node)
-    (λ damage told. BadHead damage c.in-Two.target (inr (ap (λ (e : Ends EdgeEnd). (target_of e).node) (sym c.in-Two.is))) at.1 told) (c.join_end-in-Two-2.ensures.damaged tells)
+    let has = subst (AtEach (HasHead (g.S.Reads.state c.args.space.now).records)) c.in-Two.is heads in
+    c.join_end-in-Two-2.ensures.damaged tells (c.in_ok-join_end-in-Two.ensures.heads tells has.0 (head_of c.in-Two.target.head) c.in-Two.target.node has.1)
+
+pub returns-in_err-join_end-in-Two-clause-ok : goal.returns-in_err-join_end-in-Two-clause-ok
+returns-in_err-join_end-in-Two-clause-ok g c _ = never_ok c.from_residual.result _ _ c.from_residual.ensures.1
+
+pub returns-in_err-join_end-in-Two-clause-onward : goal.returns-in_err-join_end-in-Two-clause-onward
+returns-in_err-join_end-in-Two-clause-onward g c = search rules

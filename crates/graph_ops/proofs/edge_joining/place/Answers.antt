@@ -1,4 +1,4 @@
-use Rattle.std.proofs.Common.{◌≡◌, ℕ, [], ◌∷◌, ◌∙◌, ap, inl, inr, ⊎_elim, refl, subst}
+use Rattle.std.proofs.Common.{◌≡◌, ℕ, [], ◌∷◌, ◌∙◌, ap, inl, inr, ⊎_elim, refl, subst, rules}
 use Rattle.rec_bytes.specs.Format as format
 use Rattle.rec_bytes.specs.RecordFiles.{meta_key_of}
 use Rattle.rec_bytes.specs.Space.{State, WritesOnly, after_put}
@@ -11,10 +11,13 @@ use Rattle.graph_ops.proofs.Exits.{fault_exit, space_fails}
 use Rattle.graph_ops.proofs.Takes.{taken-shape}
 use Rattle.store_rules.proofs.WriteLaws.{among_metas}
 use Rattle.graph_ops.proofs.Writes.{on_any_err, only_read}
-use Rattle.graph_ops.proofs.DiskCauses.{space_cause_passed}
-use Rattle.graph_ops.specs.Damage.{IfBlames}
-use Rattle.graph_ops.specs.EdgeAdding.{IsJoinDamage}
+use Rattle.graph_ops.proofs.DiskCauses.{space_cause_passed, later_on}
+use Rattle.graph_ops.specs.Damage.{BlamesBroken}
+use Rattle.graph_ops.specs.EdgeJoining.{new_row}
+use Rattle.graph_ops.proofs.EdgeBlames.{heads_given}
+use Rattle.graph_ops.proofs.JoinBlames.{placed_only}
 use Rattle.graph_ops.proofs.Adding.{space_blamed}
+use Rattle.rec_bytes.proofs.Causes.{never_ok, ok_cause}
 use Rattle.graph_ops.proofs.edge_joining.place.Goals as goal
 use Rattle.graph_ops.proofs.edge_joining.place.Goals.{After-save, In_ok-id}
 use Rattle.graph_ops.proofs.edge_joining.place.Given.{Over}
@@ -67,11 +70,46 @@ pub returns-in_err-save-clause-cause : goal.returns-in_err-save-clause-cause
 returns-in_err-save-clause-cause g c =
     space_cause_passed _ _ _ c.from_residual-in_err-save.result c.in_err-save.field-0.0 c.in_ok-id.ensures.cause.later c.in_err-save.ensures.cause c.from_residual-in_err-save.ensures.1
 
--- ---- which record is blamed
-pub returns-in_err-id-clause-damaged : goal.returns-in_err-id-clause-damaged
-returns-in_err-id-clause-damaged g c tells has =
-    fault_exit (λ f. f) (IfBlames (IsJoinDamage (g.S.Reads.state c.take_id.new.space) c.args.from c.args.to)) c.in_err-id.field-0.0 c.from_residual.result c.from_residual.ensures.1 (c.in_err-id.ensures.damaged tells has c.args.from c.args.to)
-
+-- ---- which record is blamed, and heads that stay
 pub returns-in_err-save-clause-damaged : goal.returns-in_err-save-clause-damaged
 returns-in_err-save-clause-damaged g c tells has =
-    fault_exit of_space (IfBlames (IsJoinDamage (g.S.Reads.state c.save.new.space) c.args.from c.args.to)) c.in_err-save.field-0.0 c.from_residual-in_err-save.result c.from_residual-in_err-save.ensures.1 (space_blamed _ c.in_err-save.field-0.0)
+    fault_exit of_space (BlamesBroken (g.S.Reads.state c.save.new.space)) c.in_err-save.field-0.0 c.from_residual-in_err-save.result c.from_residual-in_err-save.ensures.1 (space_blamed _ c.in_err-save.field-0.0)
+
+pub returns-clause-heads : goal.returns-clause-heads
+returns-clause-heads g c tells =
+    let s = g.S.Reads.state c.args.space.now in
+    let t = g.S.Reads.state c.take_id.new.space in
+    let u = g.S.Reads.state c.save.new.space in
+    let id = c.in_ok-id.id in
+    heads_given s u id (placed_only s t u id (rel_record (new_row id c.args.label c.args.from c.args.to)) (c.take_id.ensures.stays tells)
+    (c.in_ok-save.ensures.ok ∙ ap (λ (r : RelRow). after_put t (rel_key r.id) (rel_record r)) c.new_row.ensures))
+
+pub returns-in_err-id-clause-placed : goal.returns-in_err-id-clause-placed
+returns-in_err-id-clause-placed g c _ = never_ok c.from_residual.result _ _ c.from_residual.ensures.1
+
+pub returns-in_err-id-clause-heads : goal.returns-in_err-id-clause-heads
+returns-in_err-id-clause-heads g c _ = never_ok c.from_residual.result _ _ c.from_residual.ensures.1
+
+pub returns-in_err-id-clause-key : goal.returns-in_err-id-clause-key
+returns-in_err-id-clause-key g c = never_ok c.from_residual.result _ _ c.from_residual.ensures.1
+
+pub returns-in_err-id-clause-writes : goal.returns-in_err-id-clause-writes
+returns-in_err-id-clause-writes g c = never_ok c.from_residual.result _ _ c.from_residual.ensures.1
+
+pub returns-in_err-id-clause-onward : goal.returns-in_err-id-clause-onward
+returns-in_err-id-clause-onward g c = search rules
+
+pub returns-in_err-save-clause-placed : goal.returns-in_err-save-clause-placed
+returns-in_err-save-clause-placed g c _ = never_ok c.from_residual-in_err-save.result _ _ c.from_residual-in_err-save.ensures.1
+
+pub returns-in_err-save-clause-heads : goal.returns-in_err-save-clause-heads
+returns-in_err-save-clause-heads g c _ = never_ok c.from_residual-in_err-save.result _ _ c.from_residual-in_err-save.ensures.1
+
+pub returns-in_err-save-clause-key : goal.returns-in_err-save-clause-key
+returns-in_err-save-clause-key g c = never_ok c.from_residual-in_err-save.result _ _ c.from_residual-in_err-save.ensures.1
+
+pub returns-in_err-save-clause-writes : goal.returns-in_err-save-clause-writes
+returns-in_err-save-clause-writes g c = never_ok c.from_residual-in_err-save.result _ _ c.from_residual-in_err-save.ensures.1
+
+pub returns-clause-cause : goal.returns-clause-cause
+returns-clause-cause g c = ok_cause _ _ _ _ (later_on c.in_ok-id.ensures.cause.later c.in_ok-save.ensures.cause.later)

@@ -1,12 +1,10 @@
 use Rattle.std.proofs.Common.{◌≡◌, ◌≢◌, ◌+◌, ◌≤◌, ℕ, List, [], ap, sym, ◌∙◌, subst, arith, refl}
 use Rattle.rec_bytes.specs.declared.shape.Shape.{Shape}
 use Rattle.chain_edit.specs.Heads.{head_of}
-use Rattle.group_store.specs.Densing.{IsLateDamage}
 use Rattle.group_store.specs.Opening.{OpensChain, moved_writes}
 use Rattle.group_store.specs.declared.side.Side.TheVariants as sides
 use Rattle.graph_ops.specs.ChangeFault.{IsOutside}
-use Rattle.graph_ops.specs.Damage.{IfBlames}
-use Rattle.graph_ops.specs.EdgeAdding.{IsUsedEnd}
+use Rattle.graph_ops.specs.EdgeAdding.{BlamesLinking, IsUsedEnd}
 use Rattle.graph_ops.specs.EdgeEnds.{AreApart, AtEach}
 use Rattle.graph_ops.specs.EdgeJoining.{edge_row}
 use Rattle.graph_ops.specs.EdgeOpening.{CanLink, OpensEnds, WritesEndsOpened, ends_moved}
@@ -54,7 +52,7 @@ returns-in_ok-only-in-Loop-clause-writes g c =
 
 pub returns-in_err-only-in-Loop-clause-damaged : goal.returns-in_err-only-in-Loop-clause-damaged
 returns-in_err-only-in-Loop-clause-damaged g c tells used limit =
-    fault_exit (λ f. f) (IfBlames (IsLateDamage (g.S.Reads.state c.open_end.new.space))) c.in_err-only-in-Loop.field-0.0 c.from_residual.result c.from_residual.ensures.1
+    fault_exit (λ f. f) (BlamesLinking (g.S.Reads.state c.open_end.new.space)) c.in_err-only-in-Loop.field-0.0 c.from_residual.result c.from_residual.ensures.1
     (c.in_err-only-in-Loop.ensures.damaged tells (subst (AtEach (IsUsedEnd (g.S.Reads.state c.args.space.now))) c.in-Loop.is used) (omega (arith, limit)))
 
 pub returns-in_ok-only-in-Loop-clause-beside : goal.returns-in_ok-only-in-Loop-clause-beside
@@ -162,7 +160,7 @@ returns-in_err-last-in-Two-clause-cause g c =
 pub returns-in_err-first-in-Two-clause-damaged : goal.returns-in_err-first-in-Two-clause-damaged
 returns-in_err-first-in-Two-clause-damaged g c tells used limit =
     let are = subst (AtEach (IsUsedEnd (g.S.Reads.state c.args.space.now))) c.in-Two.is used in
-    fault_exit (λ f. f) (IfBlames (IsLateDamage (g.S.Reads.state c.open_end-in-Two.new.space))) c.in_err-first-in-Two.field-0.0 c.from_residual-in_err-first-in-Two.result c.from_residual-in_err-first-in-Two.ensures.1
+    fault_exit (λ f. f) (BlamesLinking (g.S.Reads.state c.open_end-in-Two.new.space)) c.in_err-first-in-Two.field-0.0 c.from_residual-in_err-first-in-Two.result c.from_residual-in_err-first-in-Two.ensures.1
     (c.in_err-first-in-Two.ensures.damaged tells are.0 (omega (arith, limit)))
 
 pub returns-in_err-last-in-Two-clause-damaged : goal.returns-in_err-last-in-Two-clause-damaged
@@ -176,5 +174,26 @@ returns-in_err-last-in-Two-clause-damaged g c tells used limit =
     let now = subst (λ (h : Shape). h.threshold ≤ c.args.joint.threshold) (sym (g.met.S.Reads.onward_shape _ _ c.open_end-in-Two.ensures.onward)) (omega (arith, limit)) in
     let differ = differs g (goal.at.returns-in_err-last-in-Two-clause-damaged g c).In_ok-first-in-Two in
     let still = used_beside s m a.node b.node (c.in_ok-first-in-Two.ensures.beside tells) (λ (e : b.node ≡ a.node). differ (sym e)) are.1 in
-    fault_exit (λ f. f) (IfBlames (IsLateDamage t)) c.in_err-last-in-Two.field-0.0 c.from_residual-in_err-last-in-Two.result c.from_residual-in_err-last-in-Two.ensures.1
+    fault_exit (λ f. f) (BlamesLinking t) c.in_err-last-in-Two.field-0.0 c.from_residual-in_err-last-in-Two.result c.from_residual-in_err-last-in-Two.ensures.1
     (c.in_err-last-in-Two.ensures.damaged tells still now)
+
+-- ---- heads
+pub returns-in_ok-only-in-Loop-clause-has : goal.returns-in_ok-only-in-Loop-clause-has
+returns-in_ok-only-in-Loop-clause-has g c tells used =
+    c.in_ok-only-in-Loop.ensures.has tells (subst (AtEach (IsUsedEnd (g.S.Reads.state c.args.space.now))) c.in-Loop.is used)
+
+pub returns-in_ok-last-in-Two-clause-has : goal.returns-in_ok-last-in-Two-clause-has
+returns-in_ok-last-in-Two-clause-has g c tells used =
+    let s = g.S.Reads.state c.args.space.now in
+    let m = g.S.Reads.state c.open_end-in-Two.new.space in
+    let t = g.S.Reads.state c.open_end-in-Two-2.new.space in
+    let a = c.in-Two.source in
+    let b = c.in-Two.target in
+    let are = subst (AtEach (IsUsedEnd s)) c.in-Two.is used in
+    let differ = differs g (goal.at.returns-in_ok-last-in-Two-clause-has g c).In_ok-first-in-Two in
+    let still = used_beside s m a.node b.node (c.in_ok-first-in-Two.ensures.beside tells) (λ (e : b.node ≡ a.node). differ (sym e)) are.1 in
+    let first = c.in_ok-first-in-Two.first in
+    let own : first.node ≡ a.node = ap (λ (e : EdgeEnd). e.node) c.in_ok-first-in-Two.ensures.is in (
+      c.in_ok-last-in-Two.ensures.heads tells (head_of first.head) first.node (λ (e : first.node ≡ b.node). differ (sym own ∙ e)) (c.in_ok-first-in-Two.ensures.has tells are.0),
+      c.in_ok-last-in-Two.ensures.has tells still,
+    )

@@ -1,14 +1,15 @@
-use Rattle.std.proofs.Common.{◌∙◌}
+use Rattle.std.proofs.Common.{◌∙◌, rules}
 use Rattle.graph_ops.specs.ChangeFault.{IsOutside, of_space}
 use Rattle.graph_ops.proofs.EdgeTaken.{links_right, parts_edge}
 use Rattle.graph_ops.proofs.EndWrites.{ends_given}
 use Rattle.graph_ops.proofs.Exits.{fault_exit, space_outside}
-use Rattle.graph_ops.proofs.DiskCauses.{space_cause_passed}
-use Rattle.graph_ops.specs.Damage.{IfBlames}
+use Rattle.graph_ops.proofs.DiskCauses.{space_cause_passed, later_on}
+use Rattle.graph_ops.specs.Damage.{BlamesBroken, IfBlames}
 use Rattle.graph_ops.specs.EdgeDeleting.{IsPartedDamage}
 use Rattle.group_store.proofs.KeptHeads.{heads_then}
 use Rattle.graph_ops.proofs.Adding.{space_blamed}
 use Rattle.graph_ops.proofs.EdgeBlames.{heads_given}
+use Rattle.rec_bytes.proofs.Causes.{never_ok, ok_cause}
 use Rattle.graph_ops.proofs.edge_parting.part_edge.Goals as goal
 
 pub returns-in_err-part_ends-clause-sound : goal.returns-in_err-part_ends-clause-sound
@@ -51,3 +52,30 @@ returns-clause-heads g c tells heads =
     let u = g.S.Reads.state c.part_ends.new.space in
     let t = g.S.Reads.state c.give.new.space in
     heads_then s u t (c.in_ok-part_ends.ensures.heads tells heads) (heads_given u t c.args.id (c.give.ensures.stays tells))
+
+-- ---- in the space as it is left
+pub returns-in_err-part_ends-clause-still : goal.returns-in_err-part_ends-clause-still
+returns-in_err-part_ends-clause-still g c tells row edge =
+    fault_exit (λ f. f) (BlamesBroken (g.S.Reads.state c.part_ends.new.space)) c.in_err-part_ends.field-0.0 c.from_residual.result c.from_residual.ensures.1 (c.in_err-part_ends.ensures.still tells row edge)
+
+pub returns-in_err-give-clause-still : goal.returns-in_err-give-clause-still
+returns-in_err-give-clause-still g c tells row edge =
+    fault_exit of_space (BlamesBroken (g.S.Reads.state c.give.new.space)) c.in_err-give.field-0.0 c.from_residual-in_err-give.result c.from_residual-in_err-give.ensures.1 (space_blamed _ c.in_err-give.field-0.0)
+
+pub returns-in_err-part_ends-clause-parted : goal.returns-in_err-part_ends-clause-parted
+returns-in_err-part_ends-clause-parted g c _ = never_ok c.from_residual.result _ _ c.from_residual.ensures.1
+
+pub returns-in_err-part_ends-clause-heads : goal.returns-in_err-part_ends-clause-heads
+returns-in_err-part_ends-clause-heads g c _ _ = never_ok c.from_residual.result _ _ c.from_residual.ensures.1
+
+pub returns-in_err-part_ends-clause-onward : goal.returns-in_err-part_ends-clause-onward
+returns-in_err-part_ends-clause-onward g c = search rules
+
+pub returns-in_err-give-clause-parted : goal.returns-in_err-give-clause-parted
+returns-in_err-give-clause-parted g c _ = never_ok c.from_residual-in_err-give.result _ _ c.from_residual-in_err-give.ensures.1
+
+pub returns-in_err-give-clause-heads : goal.returns-in_err-give-clause-heads
+returns-in_err-give-clause-heads g c _ _ = never_ok c.from_residual-in_err-give.result _ _ c.from_residual-in_err-give.ensures.1
+
+pub returns-clause-cause : goal.returns-clause-cause
+returns-clause-cause g c = ok_cause _ _ _ _ (later_on c.in_ok-part_ends.ensures.cause.later c.in_ok-give.ensures.cause.later)

@@ -1,5 +1,6 @@
+use Rattle.std.proofs.Common.{rules}
 use Rattle.graph_ops.proofs.EndWrites.{end_parted}
-use Rattle.graph_ops.proofs.DiskCauses.{space_cause_passed}
+use Rattle.graph_ops.proofs.DiskCauses.{space_cause_passed, later_on}
 use Rattle.chain_edit.specs.Heads.{head_of}
 use Rattle.graph_ops.specs.ChangeFault.{IsOutside, of_fault, of_space}
 use Rattle.graph_ops.specs.Damage.{IfBlames}
@@ -8,6 +9,9 @@ use Rattle.graph_ops.proofs.EdgeBlames.{heads_parted_by}
 use Rattle.graph_ops.proofs.EdgeCuts.{cut_blamed}
 use Rattle.graph_ops.proofs.Exits.{fault_exit, fault_outside}
 use Rattle.graph_ops.specs.EdgeDeleting.{IsCutDamage}
+use Rattle.graph_ops.specs.Damage.{BlamesBroken}
+use Rattle.graph_ops.proofs.Broken.{break_left, few_read}
+use Rattle.rec_bytes.proofs.Causes.{never_ok, ok_cause}
 use Rattle.graph_ops.proofs.edge_parting.part_end.Goals as goal
 
 pub returns-in_err-set_number-clause-writes : goal.returns-in_err-set_number-clause-writes
@@ -40,3 +44,34 @@ pub returns-clause-heads : goal.returns-clause-heads
 returns-clause-heads g c tells owns =
     heads_parted_by (g.S.Reads.state c.args.space.now) (head_of c.args.end.head) c.args.end.node owns c.args.rel _
     (g.S.Reads.state c.unlink_counted.new.space) (g.S.Reads.state c.set_number.new.space) (c.in_ok-unlink_counted.ensures.ok tells) (c.in_ok-set_number.ensures.ok tells)
+
+-- ---- in the space as it is left
+pub returns-in_err-unlink_counted-clause-still : goal.returns-in_err-unlink_counted-clause-still
+returns-in_err-unlink_counted-clause-still g c tells row live place =
+    let s = g.S.Reads.state c.args.space.now in
+    let t = g.S.Reads.state c.unlink_counted.new.space in
+    let fault = c.in_err-unlink_counted.field-0.0 in
+    fault_exit of_fault (BlamesBroken t) fault c.from_residual.result c.from_residual.ensures.1
+    (break_left s t fault (c.in_err-unlink_counted.ensures.breaks tells row live place) (few_read s t _ fault c.in_err-unlink_counted.ensures.unwritten))
+
+pub returns-in_err-set_number-clause-still : goal.returns-in_err-set_number-clause-still
+returns-in_err-set_number-clause-still g c tells row live place =
+    fault_exit of_space (BlamesBroken (g.S.Reads.state c.set_number.new.space)) c.in_err-set_number.field-0.0 c.from_residual-in_err-set_number.result c.from_residual-in_err-set_number.ensures.1 (space_blamed _ c.in_err-set_number.field-0.0)
+
+pub returns-in_err-unlink_counted-clause-ok : goal.returns-in_err-unlink_counted-clause-ok
+returns-in_err-unlink_counted-clause-ok g c _ = never_ok c.from_residual.result _ _ c.from_residual.ensures.1
+
+pub returns-in_err-unlink_counted-clause-heads : goal.returns-in_err-unlink_counted-clause-heads
+returns-in_err-unlink_counted-clause-heads g c _ _ = never_ok c.from_residual.result _ _ c.from_residual.ensures.1
+
+pub returns-in_err-unlink_counted-clause-onward : goal.returns-in_err-unlink_counted-clause-onward
+returns-in_err-unlink_counted-clause-onward g c = search rules
+
+pub returns-in_err-set_number-clause-ok : goal.returns-in_err-set_number-clause-ok
+returns-in_err-set_number-clause-ok g c _ = never_ok c.from_residual-in_err-set_number.result _ _ c.from_residual-in_err-set_number.ensures.1
+
+pub returns-in_err-set_number-clause-heads : goal.returns-in_err-set_number-clause-heads
+returns-in_err-set_number-clause-heads g c _ _ = never_ok c.from_residual-in_err-set_number.result _ _ c.from_residual-in_err-set_number.ensures.1
+
+pub returns-clause-cause : goal.returns-clause-cause
+returns-clause-cause g c = ok_cause _ _ _ _ (later_on c.in_ok-unlink_counted.ensures.cause.later c.in_ok-set_number.ensures.cause.later)

@@ -1,18 +1,19 @@
-use Rattle.std.proofs.Common.{◌≢◌, subst, sym}
+use Rattle.std.proofs.Common.{◌≢◌, subst, sym, rules}
 use Rattle.chain_edit.specs.Heads.{head_of}
 use Rattle.group_store.proofs.KeptHeads.{heads_then}
-use Rattle.graph_ops.specs.Damage.{IfBlames}
-use Rattle.graph_ops.specs.EdgeDeleting.{HasHead, IsPartedDamage, IsPlacedEdge, WritesEnds}
-use Rattle.graph_ops.specs.EdgeEnds.{AreApart, AtEach}
+use Rattle.graph_ops.specs.Damage.{BlamesBroken, IfBlames}
+use Rattle.graph_ops.specs.EdgeDeleting.{HasPlace, IsPartedDamage, IsPlacedEdge, WritesEnds}
+use Rattle.graph_ops.specs.EdgeEnds.{AreApart, AtEach, HasHead}
 use Rattle.graph_ops.specs.declared.edge_end.EdgeEnd.{EdgeEnd}
 use Rattle.graph_ops.specs.declared.edge_end.Ends.{Ends}
 use Rattle.graph_ops.specs.declared.edge_end.Ends.TheVariants.{Loop, Two}
 use Rattle.std.specs.Prelude.{IfErr}
 use Rattle.graph_ops.proofs.EdgeBlames.{if_blames}
 use Rattle.graph_ops.proofs.Broken.{blames_more}
-use Rattle.graph_ops.proofs.EdgeCuts.{source_cut, target_cut}
+use Rattle.graph_ops.proofs.EdgeCuts.{place_later, source_cut, target_cut}
 use Rattle.graph_ops.proofs.EndWrites.{ends_written}
 use Rattle.graph_ops.proofs.Exits.{fault_exit, on_ok}
+use Rattle.rec_bytes.proofs.Causes.{never_ok}
 use Rattle.graph_ops.proofs.edge_parting.part_ends.Goals as goal
 
 pub returns-in_ok-part_end-in-Two-clause-writes : goal.returns-in_ok-part_end-in-Two-clause-writes
@@ -56,3 +57,33 @@ returns-in_ok-part_end-in-Two-clause-heads g c tells heads =
     let has = subst (AtEach (HasHead s.records)) c.in-Two.is heads in
     let first = c.in_ok-part_end-in-Two.ensures.heads tells has.0 in
     on_ok c.part_end-in-Two-2.result _ _ (λ second. heads_then s u t first second) (c.part_end-in-Two-2.ensures.heads tells (first (head_of c.in-Two.target.head) c.in-Two.target.node has.1))
+
+-- ---- in the space as it is left
+pub returns-in-Loop-clause-still : goal.returns-in-Loop-clause-still
+returns-in-Loop-clause-still g c tells row edge =
+    c.part_end.ensures.still tells row edge.live (subst (AtEach (HasPlace (g.S.Reads.state c.args.space.now).records row)) c.in-Loop.is edge.places)
+
+pub returns-in_err-part_end-in-Two-clause-still : goal.returns-in_err-part_end-in-Two-clause-still
+returns-in_err-part_end-in-Two-clause-still g c tells row edge =
+    let at = subst (AtEach (HasPlace (g.S.Reads.state c.args.space.now).records row)) c.in-Two.is edge.places in
+    fault_exit (λ f. f) (BlamesBroken (g.S.Reads.state c.part_end-in-Two.new.space)) c.in_err-part_end-in-Two.field-0.0 c.from_residual.result c.from_residual.ensures.1
+    (c.in_err-part_end-in-Two.ensures.still tells row edge.live at.0)
+
+pub returns-in_ok-part_end-in-Two-clause-still : goal.returns-in_ok-part_end-in-Two-clause-still
+returns-in_ok-part_end-in-Two-clause-still g c tells row edge =
+    let s = g.S.Reads.state c.args.space.now in
+    let u = g.S.Reads.state c.part_end-in-Two.new.space in
+    let a = c.in-Two.source in
+    let b = c.in-Two.target in
+    let differ : a.node ≢ b.node = subst (AreApart (λ (end : EdgeEnd). end.node)) c.in-Two.is c.requires.ends.apart in
+    let later = place_later s u c.args.rel row a b (subst (IsPlacedEdge s.records c.args.rel row) c.in-Two.is edge) differ (c.in_ok-part_end-in-Two.ensures.ok tells) in
+    c.part_end-in-Two-2.ensures.still tells row later.0 later.1
+
+pub returns-in_err-part_end-in-Two-clause-ok : goal.returns-in_err-part_end-in-Two-clause-ok
+returns-in_err-part_end-in-Two-clause-ok g c _ = never_ok c.from_residual.result _ _ c.from_residual.ensures.1
+
+pub returns-in_err-part_end-in-Two-clause-heads : goal.returns-in_err-part_end-in-Two-clause-heads
+returns-in_err-part_end-in-Two-clause-heads g c _ _ = never_ok c.from_residual.result _ _ c.from_residual.ensures.1
+
+pub returns-in_err-part_end-in-Two-clause-onward : goal.returns-in_err-part_end-in-Two-clause-onward
+returns-in_err-part_end-in-Two-clause-onward g c = search rules

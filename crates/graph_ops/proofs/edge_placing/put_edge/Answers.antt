@@ -1,5 +1,5 @@
-use Rattle.std.specs.Prelude.{IfErr, slice_get}
-use Rattle.std.proofs.Common.{◌≡◌, ◌+◌, ℕ, List, Some, ap, subst, inl, inr, arith}
+use Rattle.std.specs.Prelude.{slice_get}
+use Rattle.std.proofs.Common.{◌≡◌, ◌+◌, ℕ, List, Some, ap, subst, inl, arith}
 use Rattle.rec_bytes.specs.declared.meta.Meta.{Meta}
 use Rattle.rec_bytes.specs.declared.record.Rec.{Rec}
 use Rattle.rec_bytes.specs.Format as format
@@ -19,9 +19,8 @@ use Rattle.graph_ops.proofs.NodePut.{number_in}
 use Rattle.graph_ops.proofs.OpenWrites.{err_more, put_beside, put_failed}
 use Rattle.store_rules.proofs.WriteLaws.{beside_more, more_written}
 use Rattle.graph_ops.proofs.Writes.{on_any_err}
-use Rattle.graph_ops.specs.Damage.{IfBlames}
-use Rattle.graph_ops.specs.EdgeAdding.{HasEndDegree, IsJoinDamage, IsLinkingDamage}
-use Rattle.graph_ops.proofs.Broken.{blames_more}
+use Rattle.graph_ops.specs.Damage.{IsBroken}
+use Rattle.graph_ops.specs.EdgeAdding.{HasEndDegree, IsLinkingDamage}
 use Rattle.graph_ops.proofs.EdgeBlames.{if_blames}
 use Rattle.graph_ops.proofs.edge_placing.put_edge.Goals as goal
 
@@ -77,19 +76,10 @@ returns-clause-err_writes g c =
     (put_failed s (g.S.Reads.state c.open_ends.new.space) u c.in_ok-ends.ends ends.each c.in_ok-ends.ensures.writes c.join_edge.result c.join_edge.ensures.err_writes)
 
 -- ---- which record is blamed
-pub returns-in_err-ends-clause-damaged : goal.returns-in_err-ends-clause-damaged
-returns-in_err-ends-clause-damaged g c tells used limit has =
-    fault_exit (λ f. f) (IfBlames (IsLinkingDamage (g.S.Reads.state c.open_ends.new.space) (from_of c.args.joint) (to_of c.args.joint))) c.in_err-ends.field-0.0 c.from_residual.result c.from_residual.ensures.1
-    (blames_more _ _ (λ damage told. inl told) c.in_err-ends.field-0.0 (c.in_err-ends.ensures.damaged tells used limit))
-
 pub returns-clause-damaged : goal.returns-clause-damaged
 returns-clause-damaged g c tells used limit has =
     let s = g.S.Reads.state c.args.space.now in
     let t = g.S.Reads.state c.open_ends.new.space in
     let u = g.S.Reads.state c.join_edge.new.space in
-    let nodes = c.in_ok-ends.ensures.nodes in
-    let at = c.in_ok-ends.ensures.at in
     let room = room_still s t format.relationships_file 1 (ap (λ (r : Rec). (metas.meta_of r).live) (c.in_ok-ends.ensures.beside tells)) (g.met.S.Reads.onward_shape _ _ c.open_ends.ensures.onward) has in
-    if_blames c.join_edge.result (IsJoinDamage u (from_of c.args.joint) (to_of c.args.joint)) (IsLinkingDamage u (from_of c.args.joint) (to_of c.args.joint)) (λ damage told. inr told)
-    (subst (λ n. IfErr c.join_edge.result (IfBlames (IsJoinDamage u n (to_of c.args.joint)))) nodes.0
-    (subst (λ n. IfErr c.join_edge.result (IfBlames (IsJoinDamage u (source_of c.in_ok-ends.ends).node n))) nodes.1 (c.join_edge.ensures.damaged tells at room)))
+    if_blames c.join_edge.result (IsBroken u) (IsLinkingDamage u) (λ damage told. inl told) (c.join_edge.ensures.damaged tells (c.in_ok-ends.ensures.has tells used) room)

@@ -18,6 +18,7 @@ use Rattle.graph_ops.specs.declared.assigning.Assignment.{Assignment}
 use Rattle.graph_ops.proofs.EntriesMade.{IsEntering, count_few, count_more, entered_all, entered_lacks, entered_more, entered_none, entered_skip}
 use Rattle.graph_ops.proofs.EntriesFaults.{take_blames, take_full, take_outside}
 use Rattle.graph_ops.proofs.Exits.{fault_exit}
+use Rattle.rec_bytes.proofs.Causes.{never_ok, ok_cause}
 use Rattle.graph_ops.proofs.entries.enter_values.Goals as goal
 use Rattle.graph_ops.proofs.entries.enter_values.Goals.{then-has_pair+in_ok-enter, else-has_pair}
 
@@ -139,3 +140,15 @@ returns-in_err-enter-clause-full g c tells =
 pub returns-in_err-enter-clause-some : goal.returns-in_err-enter-clause-some
 returns-in_err-enter-clause-some g c =
     fault_exit of_take (λ _. 0 < length c.args.assigned.now) c.in_err-enter.field-0.0 c.from_residual.result c.from_residual.ensures.1 (omega (arith, c.loop-assignment-test.true))
+
+pub returns-in_err-enter-clause-entered : goal.returns-in_err-enter-clause-entered
+returns-in_err-enter-clause-entered g c _ _ _ _ _ _ = never_ok c.from_residual.result _ _ c.from_residual.ensures.1
+
+pub returns-in_err-enter-clause-keeps : goal.returns-in_err-enter-clause-keeps
+returns-in_err-enter-clause-keeps g c _ _ _ _ _ _ = never_ok c.from_residual.result _ _ c.from_residual.ensures.1
+
+pub returns-in_err-enter-clause-graph : goal.returns-in_err-enter-clause-graph
+returns-in_err-enter-clause-graph g c _ _ _ _ _ _ = never_ok c.from_residual.result _ _ c.from_residual.ensures.1
+
+pub returns-clause-cause : goal.returns-clause-cause
+returns-clause-cause g c = ok_cause _ _ _ _ c.loop-assignment.invariant.later

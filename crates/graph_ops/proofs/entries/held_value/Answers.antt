@@ -1,4 +1,4 @@
-use Rattle.std.proofs.Common.{None, Some, sym, ap, ◌∙◌, subst, arith}
+use Rattle.std.proofs.Common.{None, Some, sym, ap, ◌∙◌, subst, arith, rules}
 use Rattle.prop_store.proofs.ReadCounts.{reads_same}
 use Rattle.prop_store.specs.Finding.{value_of}
 use Rattle.prop_store.specs.Owner.{HasProperties}
@@ -8,6 +8,7 @@ use Rattle.graph_ops.specs.ChangeFault.{IsOutside, of_fault}
 use Rattle.graph_ops.proofs.EntriesGone.{owner_known}
 use Rattle.graph_ops.proofs.EntriesHeld.{held_met}
 use Rattle.graph_ops.proofs.Exits.{fault_exit, fault_outside}
+use Rattle.rec_bytes.proofs.Causes.{never_ok, ok_cause}
 use Rattle.graph_ops.proofs.entries.held_value.Goals as goal
 
 pub returns-in_err-value-clause-sound : goal.returns-in_err-value-clause-sound
@@ -37,3 +38,15 @@ returns-clause-held g c tells used is =
 
 pub returns-clause-same : goal.returns-clause-same
 returns-clause-same g c = reads_same 55 _ _ c.read_key.ensures.at_most
+
+pub returns-in_err-value-clause-held : goal.returns-in_err-value-clause-held
+returns-in_err-value-clause-held g c _ _ _ = never_ok c.from_residual.result _ _ c.from_residual.ensures.1
+
+pub returns-in_err-value-clause-onward : goal.returns-in_err-value-clause-onward
+returns-in_err-value-clause-onward g c = search rules
+
+pub returns-in_default-clause-cause : goal.returns-in_default-clause-cause
+returns-in_default-clause-cause g c = ok_cause _ _ _ _ c.in_ok-value.ensures.cause.later
+
+pub returns-clause-cause : goal.returns-clause-cause
+returns-clause-cause g c = ok_cause _ _ _ _ c.in_ok-value.ensures.cause.later

@@ -18,6 +18,7 @@ use Rattle.graph_ops.specs.Owners.{owner_of}
 use Rattle.graph_ops.proofs.DiskCauses.{change_cause_passed}
 use Rattle.graph_ops.proofs.EntriesHeld.{held_more, option_few}
 use Rattle.graph_ops.proofs.Exits.{fault_exit}
+use Rattle.rec_bytes.proofs.Causes.{never_ok, ok_cause}
 use Rattle.graph_ops.proofs.entries.held_values.Goals as goal
 
 pub loop-pair-init : goal.loop-pair-init
@@ -131,3 +132,24 @@ returns-clause-same g c = c.loop-pair.invariant.same
 
 pub returns-clause-onward : goal.returns-clause-onward
 returns-clause-onward g c = c.loop-pair.invariant.onward
+
+pub returns-in_err-listed-clause-held : goal.returns-in_err-listed-clause-held
+returns-in_err-listed-clause-held g c _ _ _ _ = never_ok c.from_residual.result _ _ c.from_residual.ensures.1
+
+pub returns-in_err-listed-clause-few : goal.returns-in_err-listed-clause-few
+returns-in_err-listed-clause-few g c = never_ok c.from_residual.result _ _ c.from_residual.ensures.1
+
+pub returns-in_err-value-clause-held : goal.returns-in_err-value-clause-held
+returns-in_err-value-clause-held g c _ _ _ _ = never_ok c.from_residual-in_err-value.result _ _ c.from_residual-in_err-value.ensures.1
+
+pub returns-in_err-value-clause-few : goal.returns-in_err-value-clause-few
+returns-in_err-value-clause-few g c = never_ok c.from_residual-in_err-value.result _ _ c.from_residual-in_err-value.ensures.1
+
+pub returns-in_err-hold-clause-held : goal.returns-in_err-hold-clause-held
+returns-in_err-hold-clause-held g c _ _ _ _ = never_ok c.from_residual-in_err-hold.result _ _ c.from_residual-in_err-hold.ensures.1
+
+pub returns-in_err-hold-clause-few : goal.returns-in_err-hold-clause-few
+returns-in_err-hold-clause-few g c = never_ok c.from_residual-in_err-hold.result _ _ c.from_residual-in_err-hold.ensures.1
+
+pub returns-clause-cause : goal.returns-clause-cause
+returns-clause-cause g c = ok_cause _ _ _ _ c.loop-pair.invariant.later

@@ -1,4 +1,4 @@
-use Rattle.std.proofs.Common.{◌≡◌, ℕ, Bool, true, false, cond, nat_lt, ◌&&◌, None, Some, List, [], map, sym, ap, ◌∙◌, subst, refl, arith}
+use Rattle.std.proofs.Common.{◌≡◌, ℕ, Bool, true, false, cond, nat_lt, ◌&&◌, None, Some, List, [], map, sym, ap, ◌∙◌, subst, refl, arith, rules}
 use Rattle.plain_graph.specs.declared.command.Target.{Target}
 use Rattle.plain_graph.specs.declared.command.Target.TheVariants as targets
 use Rattle.node_store.proofs.Rows.{IsReadable-AreInRange, kind-row_at-None, kind-row_at-Some}
@@ -27,6 +27,8 @@ use Rattle.graph_ops.proofs.EntriesFaults.{row_outside}
 use Rattle.graph_ops.proofs.EntriesGone.{eq_of, own_met, owner_known}
 use Rattle.graph_ops.proofs.EntriesHeld.{none_of}
 use Rattle.graph_ops.proofs.Exits.{fault_exit, fault_outside}
+use Rattle.rec_bytes.proofs.Causes.{never_ok, ok_cause}
+use Rattle.graph_ops.proofs.DiskCauses.{later_on}
 use Rattle.graph_ops.proofs.entries.indexed_value.Goals as goal
 
 load_same : (s mid : State) (id : ℕ) → mid ≡ after_load s id → SameButReads s mid
@@ -168,3 +170,46 @@ returns-in_err-value-clause-damaged g c tells used =
 
 pub returns-clause-of_node : goal.returns-clause-of_node
 returns-clause-of_node g c = subst IsNodeTarget (sym c.in-Node.is) tt
+
+pub returns-in_err-listed-clause-held : goal.returns-in_err-listed-clause-held
+returns-in_err-listed-clause-held g c _ _ _ _ _ = never_ok c.from_residual.result _ _ c.from_residual.ensures.1
+
+pub returns-in_err-listed-clause-of_node : goal.returns-in_err-listed-clause-of_node
+returns-in_err-listed-clause-of_node g c = never_ok c.from_residual.result _ _ c.from_residual.ensures.1
+
+pub returns-in_err-listed-clause-kept : goal.returns-in_err-listed-clause-kept
+returns-in_err-listed-clause-kept g c = never_ok c.from_residual.result _ _ c.from_residual.ensures.1
+
+pub returns-in_err-listed-clause-onward : goal.returns-in_err-listed-clause-onward
+returns-in_err-listed-clause-onward g c = search rules
+
+pub returns-in_err-row-clause-held : goal.returns-in_err-row-clause-held
+returns-in_err-row-clause-held g c _ _ _ _ _ = never_ok c.from_residual-in_err-row.result _ _ c.from_residual-in_err-row.ensures.1
+
+pub returns-in_err-row-clause-of_node : goal.returns-in_err-row-clause-of_node
+returns-in_err-row-clause-of_node g c = never_ok c.from_residual-in_err-row.result _ _ c.from_residual-in_err-row.ensures.1
+
+pub returns-in_err-row-clause-kept : goal.returns-in_err-row-clause-kept
+returns-in_err-row-clause-kept g c = never_ok c.from_residual-in_err-row.result _ _ c.from_residual-in_err-row.ensures.1
+
+pub returns-in_err-value-clause-held : goal.returns-in_err-value-clause-held
+returns-in_err-value-clause-held g c _ _ _ _ _ = never_ok c.from_residual-in_err-value.result _ _ c.from_residual-in_err-value.ensures.1
+
+pub returns-in_err-value-clause-of_node : goal.returns-in_err-value-clause-of_node
+returns-in_err-value-clause-of_node g c = never_ok c.from_residual-in_err-value.result _ _ c.from_residual-in_err-value.ensures.1
+
+pub returns-in_err-value-clause-kept : goal.returns-in_err-value-clause-kept
+returns-in_err-value-clause-kept g c = never_ok c.from_residual-in_err-value.result _ _ c.from_residual-in_err-value.ensures.1
+
+pub returns-then-is_empty-clause-cause : goal.returns-then-is_empty-clause-cause
+returns-then-is_empty-clause-cause g c = ok_cause _ _ _ _ c.in_ok-listed.ensures.cause.later
+
+pub returns-in_default-2-clause-cause : goal.returns-in_default-2-clause-cause
+returns-in_default-2-clause-cause g c = ok_cause _ _ _ _ (later_on c.in_ok-listed.ensures.cause.later c.in_ok-row.ensures.cause.later)
+
+pub returns-then-not-has_pair-clause-cause : goal.returns-then-not-has_pair-clause-cause
+returns-then-not-has_pair-clause-cause g c = ok_cause _ _ _ _ (later_on c.in_ok-listed.ensures.cause.later c.in_ok-row.ensures.cause.later)
+
+pub returns-clause-cause : goal.returns-clause-cause
+returns-clause-cause g c =
+    ok_cause _ _ _ _ (later_on (later_on c.in_ok-listed.ensures.cause.later c.in_ok-row.ensures.cause.later) c.in_ok-value.ensures.cause.later)

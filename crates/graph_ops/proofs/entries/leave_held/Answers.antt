@@ -1,5 +1,5 @@
 use Rattle.std.specs.Prelude.{Option}
-use Rattle.std.proofs.Common.{◌≡◌, true, ap, ◌∙◌, refl, sym, subst, arith}
+use Rattle.std.proofs.Common.{◌≡◌, true, ap, ◌∙◌, refl, sym, subst, arith, rules}
 use Rattle.plain_graph.specs.declared.value.Value.{Value}
 use Rattle.prop_index.proofs.LinkRules.{free_list, store_takes}
 use Rattle.prop_index.specs.Entering.{entry_of}
@@ -13,6 +13,7 @@ use Rattle.graph_ops.specs.Entries.{value_weight}
 use Rattle.graph_ops.proofs.EntriesFaults.{fault_blames}
 use Rattle.graph_ops.proofs.EntriesHeld.{definition_of, no_definition, some_live}
 use Rattle.graph_ops.proofs.Exits.{fault_exit, fault_outside}
+use Rattle.rec_bytes.proofs.Causes.{never_ok, ok_cause}
 use Rattle.graph_ops.proofs.entries.leave_held.Goals as goal
 
 pub returns-in_err-leave-clause-sound : goal.returns-in_err-leave-clause-sound
@@ -64,3 +65,33 @@ returns-clause-unlisted g c tells wanted ix none =
     let s = g.S.Reads.state c.args.space.now in
     let held = c.args.held.now in
     c.in_ok-leave.ensures.unlisted tells wanted ix (no_definition s.records ix.definitions held.label held.key none)
+
+pub returns-in_err-leave-clause-left : goal.returns-in_err-leave-clause-left
+returns-in_err-leave-clause-left g c _ _ _ _ = never_ok c.from_residual.result _ _ c.from_residual.ensures.1
+
+pub returns-in_err-leave-clause-keeps : goal.returns-in_err-leave-clause-keeps
+returns-in_err-leave-clause-keeps g c _ _ _ _ = never_ok c.from_residual.result _ _ c.from_residual.ensures.1
+
+pub returns-in_err-leave-clause-weight : goal.returns-in_err-leave-clause-weight
+returns-in_err-leave-clause-weight g c = never_ok c.from_residual.result _ _ c.from_residual.ensures.1
+
+pub returns-in_err-leave-clause-few : goal.returns-in_err-leave-clause-few
+returns-in_err-leave-clause-few g c = never_ok c.from_residual.result _ _ c.from_residual.ensures.1
+
+pub returns-in_err-leave-clause-touches : goal.returns-in_err-leave-clause-touches
+returns-in_err-leave-clause-touches g c = never_ok c.from_residual.result _ _ c.from_residual.ensures.1
+
+pub returns-in_err-leave-clause-graph : goal.returns-in_err-leave-clause-graph
+returns-in_err-leave-clause-graph g c _ _ _ _ = never_ok c.from_residual.result _ _ c.from_residual.ensures.1
+
+pub returns-in_err-leave-clause-unlisted : goal.returns-in_err-leave-clause-unlisted
+returns-in_err-leave-clause-unlisted g c _ _ _ _ = never_ok c.from_residual.result _ _ c.from_residual.ensures.1
+
+pub returns-in_err-leave-clause-gone : goal.returns-in_err-leave-clause-gone
+returns-in_err-leave-clause-gone g c _ _ _ _ _ _ _ = never_ok c.from_residual.result _ _ c.from_residual.ensures.1
+
+pub returns-in_err-leave-clause-onward : goal.returns-in_err-leave-clause-onward
+returns-in_err-leave-clause-onward g c = search rules
+
+pub returns-clause-cause : goal.returns-clause-cause
+returns-clause-cause g c = ok_cause _ _ _ _ c.in_ok-leave.ensures.cause.later

@@ -9,6 +9,7 @@ use Rattle.graph_ops.specs.declared.entries.IndexedValue.{IndexedValue}
 use Rattle.graph_ops.proofs.DiskCauses.{change_cause_passed}
 use Rattle.graph_ops.proofs.EntriesHeld.{without_more}
 use Rattle.graph_ops.proofs.Exits.{fault_exit}
+use Rattle.rec_bytes.proofs.Causes.{never_ok, ok_cause}
 use Rattle.graph_ops.proofs.entries.leave_values.Goals as goal
 
 pub loop-value-init : goal.loop-value-init
@@ -108,3 +109,24 @@ returns-clause-at_most g c =
 
 pub returns-clause-onward : goal.returns-clause-onward
 returns-clause-onward g c = c.loop-value.invariant.onward
+
+pub returns-in_err-more-clause-left : goal.returns-in_err-more-clause-left
+returns-in_err-more-clause-left g c _ _ _ _ = never_ok c.from_residual.result _ _ c.from_residual.ensures.1
+
+pub returns-in_err-more-clause-keeps : goal.returns-in_err-more-clause-keeps
+returns-in_err-more-clause-keeps g c _ _ _ _ = never_ok c.from_residual.result _ _ c.from_residual.ensures.1
+
+pub returns-in_err-more-clause-graph : goal.returns-in_err-more-clause-graph
+returns-in_err-more-clause-graph g c _ _ _ _ = never_ok c.from_residual.result _ _ c.from_residual.ensures.1
+
+pub returns-in_err-more-clause-weight : goal.returns-in_err-more-clause-weight
+returns-in_err-more-clause-weight g c = never_ok c.from_residual.result _ _ c.from_residual.ensures.1
+
+pub returns-in_err-more-clause-few : goal.returns-in_err-more-clause-few
+returns-in_err-more-clause-few g c = never_ok c.from_residual.result _ _ c.from_residual.ensures.1
+
+pub returns-in_err-more-clause-touches : goal.returns-in_err-more-clause-touches
+returns-in_err-more-clause-touches g c = never_ok c.from_residual.result _ _ c.from_residual.ensures.1
+
+pub returns-clause-cause : goal.returns-clause-cause
+returns-clause-cause g c = ok_cause _ _ _ _ c.loop-value.invariant.later

@@ -1,4 +1,4 @@
-use Rattle.std.proofs.Common.{◌≡◌, map, refl, sym, ap, ◌∙◌, arith}
+use Rattle.std.proofs.Common.{◌≡◌, map, refl, sym, ap, ◌∙◌, arith, rules}
 use Rattle.prop_index.proofs.IndexCounts.{index_count}
 use Rattle.prop_index.specs.Listing.{pair_of}
 use Rattle.prop_index.proofs.LinkRules.{free_list, store_room}
@@ -12,6 +12,7 @@ use Rattle.graph_ops.specs.Damage.{BlamesBroken}
 use Rattle.graph_ops.proofs.Broken.{index_broken}
 use Rattle.graph_ops.proofs.EntriesHeld.{none_of}
 use Rattle.graph_ops.proofs.Exits.{fault_exit, fault_outside}
+use Rattle.rec_bytes.proofs.Causes.{never_ok, ok_cause}
 use Rattle.graph_ops.proofs.entries.listed_pairs.Goals as goal
 
 pub returns-then-meta-eq0-clause-reads : goal.returns-then-meta-eq0-clause-reads
@@ -47,3 +48,18 @@ returns-in_err-pairs-clause-same g c = reads_same 17 _ _ c.indexes.ensures.at_mo
 
 pub returns-clause-same : goal.returns-clause-same
 returns-clause-same g c = reads_same 17 _ _ c.indexes.ensures.at_most
+
+pub returns-in_err-pairs-clause-listed : goal.returns-in_err-pairs-clause-listed
+returns-in_err-pairs-clause-listed g c _ _ _ _ = never_ok c.from_residual.result _ _ c.from_residual.ensures.1
+
+pub returns-in_err-pairs-clause-few : goal.returns-in_err-pairs-clause-few
+returns-in_err-pairs-clause-few g c = never_ok c.from_residual.result _ _ c.from_residual.ensures.1
+
+pub returns-in_err-pairs-clause-none : goal.returns-in_err-pairs-clause-none
+returns-in_err-pairs-clause-none g c _ = never_ok c.from_residual.result _ _ c.from_residual.ensures.1
+
+pub returns-in_err-pairs-clause-onward : goal.returns-in_err-pairs-clause-onward
+returns-in_err-pairs-clause-onward g c = search rules
+
+pub returns-clause-cause : goal.returns-clause-cause
+returns-clause-cause g c = ok_cause _ _ _ _ c.in_ok-pairs.ensures.cause.later

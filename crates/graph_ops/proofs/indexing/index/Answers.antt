@@ -1,5 +1,5 @@
 use Rattle.std.specs.Prelude.{Contains}
-use Rattle.std.proofs.Common.{◌≡◌, ◌≢◌, ◌+◌, ◌≤◌, Some, [], ◌∷◌, ◌++◌, length, ap, sym, ◌∙◌, subst, append_assoc, arith, refl}
+use Rattle.std.proofs.Common.{◌≡◌, ◌≢◌, ◌+◌, ◌≤◌, Some, [], ◌∷◌, ◌++◌, length, ap, sym, ◌∙◌, subst, append_assoc, arith, refl, rules}
 use Rattle.plain_graph.specs.Graph.{UsesName}
 use Rattle.plain_graph.specs.Refusals.{most_names}
 use Rattle.plain_graph.specs.declared.command.Command.TheVariants as commands
@@ -29,6 +29,7 @@ use Rattle.graph_ops.proofs.Interned.{name_written, one_written}
 use Rattle.graph_ops.proofs.LineNames.{first_lacks, held_name, name_long, name_prefix, uses_once}
 use Rattle.graph_ops.proofs.NewNames.{name_one}
 use Rattle.graph_ops.proofs.Writes.{on_any_err, read_exit}
+use Rattle.rec_bytes.proofs.Causes.{never_ok}
 use Rattle.graph_ops.proofs.indexing.index.Goals as goal
 use Rattle.graph_ops.proofs.indexing.index.Goals.{After-intern, After-intern-2, After-make, In_err-key, In_err-label}
 use Rattle.graph_ops.proofs.indexing.index.Given.{Over}
@@ -552,3 +553,42 @@ returns-clause-cause g c = record {
   later = later_on (later g (goal.at.returns-clause-cause g c).After-make) c.in_ok-count.ensures.cause.later;
   disk = λ blamed. absurd cc;
 }
+
+pub returns-in_err-test_pair-clause-made : goal.returns-in_err-test_pair-clause-made
+returns-in_err-test_pair-clause-made g c _ = never_ok c.from_residual.result _ _ c.from_residual.ensures.1
+
+pub returns-in_err-test_pair-clause-light : goal.returns-in_err-test_pair-clause-light
+returns-in_err-test_pair-clause-light g c = never_ok c.from_residual.result _ _ c.from_residual.ensures.1
+
+pub returns-in_err-test_pair-clause-writes : goal.returns-in_err-test_pair-clause-writes
+returns-in_err-test_pair-clause-writes g c = never_ok c.from_residual.result _ _ c.from_residual.ensures.1
+
+pub returns-in_err-test_pair-clause-onward : goal.returns-in_err-test_pair-clause-onward
+returns-in_err-test_pair-clause-onward g c = search rules
+
+pub returns-in_err-label-clause-made : goal.returns-in_err-label-clause-made
+returns-in_err-label-clause-made g c _ = never_ok c.from_residual-in_err-label.result _ _ c.from_residual-in_err-label.ensures.1
+
+pub returns-in_err-label-clause-light : goal.returns-in_err-label-clause-light
+returns-in_err-label-clause-light g c = never_ok c.from_residual-in_err-label.result _ _ c.from_residual-in_err-label.ensures.1
+
+pub returns-in_err-label-clause-writes : goal.returns-in_err-label-clause-writes
+returns-in_err-label-clause-writes g c = never_ok c.from_residual-in_err-label.result _ _ c.from_residual-in_err-label.ensures.1
+
+pub returns-in_err-key-clause-made : goal.returns-in_err-key-clause-made
+returns-in_err-key-clause-made g c _ = never_ok c.from_residual-in_err-key.result _ _ c.from_residual-in_err-key.ensures.1
+
+pub returns-in_err-key-clause-light : goal.returns-in_err-key-clause-light
+returns-in_err-key-clause-light g c = never_ok c.from_residual-in_err-key.result _ _ c.from_residual-in_err-key.ensures.1
+
+pub returns-in_err-key-clause-writes : goal.returns-in_err-key-clause-writes
+returns-in_err-key-clause-writes g c = never_ok c.from_residual-in_err-key.result _ _ c.from_residual-in_err-key.ensures.1
+
+pub returns-in_err-count-clause-made : goal.returns-in_err-count-clause-made
+returns-in_err-count-clause-made g c _ = never_ok c.from_residual-in_err-count.result _ _ c.from_residual-in_err-count.ensures.1
+
+pub returns-in_err-count-clause-light : goal.returns-in_err-count-clause-light
+returns-in_err-count-clause-light g c = never_ok c.from_residual-in_err-count.result _ _ c.from_residual-in_err-count.ensures.1
+
+pub returns-in_err-count-clause-writes : goal.returns-in_err-count-clause-writes
+returns-in_err-count-clause-writes g c = never_ok c.from_residual-in_err-count.result _ _ c.from_residual-in_err-count.ensures.1

@@ -1,4 +1,4 @@
-use Rattle.std.proofs.Common.{◌≡◌, length, ap, sym, ◌∙◌, arith}
+use Rattle.std.proofs.Common.{◌≡◌, length, ap, sym, ◌∙◌, arith, rules}
 use Rattle.plain_graph.specs.declared.command.Command.TheVariants as commands
 use Rattle.store_rules.specs.Indexes.{wanted_in}
 use Rattle.prop_index.proofs.LinkRules.{store_room}
@@ -17,6 +17,7 @@ use Rattle.graph_ops.proofs.Exits.{fault_exit, fault_fails, fault_outside}
 use Rattle.graph_ops.proofs.IndexTested.{listed_there, many_caused, many_first, may_index, pairs_long, there_caused, there_first, unlisted_free}
 use Rattle.graph_ops.proofs.Reasons.{outside_refused}
 use Rattle.graph_ops.proofs.indexing.test_pair.Given.{Over}
+use Rattle.rec_bytes.proofs.Causes.{never_ok, ok_cause}
 use Rattle.graph_ops.proofs.indexing.test_pair.Goals as goal
 use Rattle.graph_ops.proofs.indexing.test_pair.Goals.{After-has_pair}
 
@@ -140,3 +141,15 @@ returns-clause-tested g c tells =
 
 pub returns-clause-same : goal.returns-clause-same
 returns-clause-same g c = reads_same 17 _ _ c.indexes.ensures.at_most
+
+pub returns-in_err-listed-clause-may : goal.returns-in_err-listed-clause-may
+returns-in_err-listed-clause-may g c _ _ = never_ok c.from_residual.result _ _ c.from_residual.ensures.1
+
+pub returns-in_err-listed-clause-tested : goal.returns-in_err-listed-clause-tested
+returns-in_err-listed-clause-tested g c _ = never_ok c.from_residual.result _ _ c.from_residual.ensures.1
+
+pub returns-in_err-listed-clause-onward : goal.returns-in_err-listed-clause-onward
+returns-in_err-listed-clause-onward g c = search rules
+
+pub returns-clause-cause : goal.returns-clause-cause
+returns-clause-cause g c = ok_cause _ _ _ _ c.in_ok-listed.ensures.cause.later

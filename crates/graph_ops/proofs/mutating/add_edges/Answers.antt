@@ -11,6 +11,7 @@ use Rattle.plain_graph.specs.declared.mutation.Mutation.TheVariants as mutations
 use Rattle.plain_graph.proofs.Making.{elements_then}
 use Rattle.graph_ops.proofs.Parts.{making_more, next_exit, next_still, up_to}
 use Rattle.graph_ops.proofs.Spreading.{edges_spread}
+use Rattle.rec_bytes.proofs.Causes.{never_ok, ok_cause}
 use Rattle.graph_ops.proofs.mutating.add_edges.Goals as goal
 
 pub returns-in_err-more-clause-refused : goal.returns-in_err-more-clause-refused
@@ -70,3 +71,18 @@ returns-in_err-both-clause-still g c tells =
     let t = g.S.Reads.state c.add_edge_from.new.space in
     fault_exit (λ f. f) (IsListCaused (changes_of (mutations.AddE c.args.label.now c.args.to c.args.pairs.now) c.args.items.now) t c.args.names.now.names c.add_edge_from.new.names.names) c.in_err-both.field-0.0 c.from_residual-in_err-both.result c.from_residual-in_err-both.ensures.1
     (inl c.in_err-both.ensures.memory)
+
+pub returns-in_err-more-clause-part : goal.returns-in_err-more-clause-part
+returns-in_err-more-clause-part g c = never_ok c.from_residual.result _ _ c.from_residual.ensures.1
+
+pub returns-in_err-more-clause-lines : goal.returns-in_err-more-clause-lines
+returns-in_err-more-clause-lines g c _ = never_ok c.from_residual.result _ _ c.from_residual.ensures.1
+
+pub returns-in_err-both-clause-part : goal.returns-in_err-both-clause-part
+returns-in_err-both-clause-part g c = never_ok c.from_residual-in_err-both.result _ _ c.from_residual-in_err-both.ensures.1
+
+pub returns-in_err-both-clause-lines : goal.returns-in_err-both-clause-lines
+returns-in_err-both-clause-lines g c _ = never_ok c.from_residual-in_err-both.result _ _ c.from_residual-in_err-both.ensures.1
+
+pub returns-clause-cause : goal.returns-clause-cause
+returns-clause-cause g c = ok_cause _ _ _ _ c.loop-item.invariant.making.later

@@ -1,4 +1,4 @@
-use Rattle.std.proofs.Common.{◌≡◌, ◌++◌, ◌∷◌, [], List, inl}
+use Rattle.std.proofs.Common.{◌≡◌, ◌++◌, ◌∷◌, [], List, inl, rules}
 use Rattle.graph_ops.specs.Mutating.{IsListCaused}
 use Rattle.graph_ops.proofs.Exits.{fault_exit}
 use Rattle.plain_graph.specs.Reply.{NodeMade, Reply}
@@ -6,6 +6,7 @@ use Rattle.plain_graph.specs.declared.command.Command.TheVariants as commands
 use Rattle.plain_graph.specs.declared.item.Item.TheVariants as items
 use Rattle.plain_graph.specs.Mutations.{new_elements}
 use Rattle.graph_ops.proofs.Parts.{one_caused, one_part}
+use Rattle.rec_bytes.proofs.Causes.{never_ok, ok_cause}
 use Rattle.graph_ops.proofs.mutating.add_vertex.Goals as goal
 
 pub returns-clause-part : goal.returns-clause-part
@@ -34,3 +35,21 @@ returns-in_err-show-clause-still g c tells =
     let t = g.S.Reads.state c.add_node.new.space in
     let command = commands.Node c.args.label.now c.args.pairs.now in
     fault_exit (λ f. f) (IsListCaused (command ∷ []) t c.args.names.now.names c.add_node.new.names.names) c.in_err-show.field-0.0 c.from_residual-in_err-show.result c.from_residual-in_err-show.ensures.1 (inl c.in_err-show.ensures.memory)
+
+pub returns-in_err-id-clause-part : goal.returns-in_err-id-clause-part
+returns-in_err-id-clause-part g c = never_ok c.from_residual.result _ _ c.from_residual.ensures.1
+
+pub returns-in_err-id-clause-lines : goal.returns-in_err-id-clause-lines
+returns-in_err-id-clause-lines g c _ = never_ok c.from_residual.result _ _ c.from_residual.ensures.1
+
+pub returns-in_err-id-clause-onward : goal.returns-in_err-id-clause-onward
+returns-in_err-id-clause-onward g c = search rules
+
+pub returns-in_err-show-clause-part : goal.returns-in_err-show-clause-part
+returns-in_err-show-clause-part g c = never_ok c.from_residual-in_err-show.result _ _ c.from_residual-in_err-show.ensures.1
+
+pub returns-in_err-show-clause-lines : goal.returns-in_err-show-clause-lines
+returns-in_err-show-clause-lines g c _ = never_ok c.from_residual-in_err-show.result _ _ c.from_residual-in_err-show.ensures.1
+
+pub returns-clause-cause : goal.returns-clause-cause
+returns-clause-cause g c = ok_cause _ _ _ _ c.in_ok-id.ensures.cause.later

@@ -1,14 +1,14 @@
-use Rattle.std.proofs.Common.{◌≡◌, ◌∙◌, ◌+◌, List, [], length, take, drop, get_or, inl, ap, sym, subst, arith, refl}
+use Rattle.std.proofs.Common.{◌≡◌, ◌∙◌, List, [], length, get_or, inl, ap, sym, subst, arith, refl}
 use Rattle.plain_graph.specs.declared.command.Target.{Target}
 use Rattle.rec_bytes.specs.Space.{State}
 use Rattle.plain_graph.specs.declared.command.Command.TheVariants as commands
 use Rattle.plain_graph.specs.declared.command.Target.TheVariants as targets
 use Rattle.plain_graph.specs.Mutations.{deletions}
-use Rattle.graph_ops.specs.Mutating.{BlamesDeletion, BlamesOneOf, IsListCaused, any_replies}
-use Rattle.graph_ops.specs.Damage.{IfBlames}
+use Rattle.graph_ops.specs.Mutating.{BlamesDeletion, IsListCaused, any_replies}
+use Rattle.graph_ops.specs.Damage.{BlamesBroken}
 use Rattle.graph_ops.proofs.Exits.{fault_exit}
-use Rattle.graph_ops.proofs.Parts.{begins, making_more, memory_blames, next_exit, next_still, no_memory_blames, none_part, one_blamed, one_caused, one_refused}
-use Rattle.graph_ops.proofs.Spreading.{cut_at, deletions_spread}
+use Rattle.graph_ops.proofs.Parts.{making_more, memory_blames, memory_breaks, next_exit, next_still, none_part, one_caused, one_refused}
+use Rattle.graph_ops.proofs.Spreading.{deletions_spread}
 use Rattle.store_rules.proofs.RowLaws.{append_none}
 use Rattle.graph_ops.specs.Store.{graph_in}
 use Rattle.graph_ops.proofs.mutating.delete_each.Goals as goal
@@ -90,25 +90,12 @@ returns-in_err-both-clause-lone g c tells target is =
     let t = g.S.Reads.state c.delete.new.space in
     fault_exit (λ f. f) (BlamesDeletion s t target) c.in_err-both.field-0.0 c.from_residual-in_err-both.result c.from_residual-in_err-both.ensures.1 (memory_blames s t target c.in_err-both.field-0.0 c.in_err-both.ensures.memory)
 
--- one of several
+-- in the space as it is left
 pub returns-in_err-more-clause-blamed : goal.returns-in_err-more-clause-blamed
 returns-in_err-more-clause-blamed g c tells =
-    let s = g.S.Reads.state c.args.space.now in
-    let m = g.S.Reads.state c.loop-target.space in
-    let t = g.S.Reads.state c.delete.new.space in
-    let names = c.args.names.now.names in
-    let all = c.args.targets.now in
-    let i = c.loop-target.target-index in
-    let lt = c.loop-target-test.true in
-    let fault = c.in_err-more.field-0.0 in
-    fault_exit (λ f. f) (IfBlames (BlamesOneOf g.S.Reads.tells all s t names)) fault c.from_residual.result c.from_residual.ensures.1
-    (one_blamed all (take i all) (drop (i + 1) all) (get_or all i (targets.Node 0)) s m t names c.loop-target.weight (cut_at deletions deletions_spread all i (targets.Node 0) lt) c.loop-target.invariant.making.part
-    (λ none. c.loop-target.invariant.fresh (begins all i lt none)) fault (c.in_err-more.ensures.damaged tells))
+    fault_exit (λ f. f) (BlamesBroken (g.S.Reads.state c.delete.new.space)) c.in_err-more.field-0.0 c.from_residual.result c.from_residual.ensures.1 (c.in_err-more.ensures.broken tells)
 
 pub returns-in_err-both-clause-blamed : goal.returns-in_err-both-clause-blamed
 returns-in_err-both-clause-blamed g c tells =
-    let s = g.S.Reads.state c.args.space.now in
     let t = g.S.Reads.state c.delete.new.space in
-    let names = c.args.names.now.names in
-    fault_exit (λ f. f) (IfBlames (BlamesOneOf g.S.Reads.tells c.args.targets.now s t names)) c.in_err-both.field-0.0 c.from_residual-in_err-both.result c.from_residual-in_err-both.ensures.1
-    (no_memory_blames g.S.Reads.tells c.args.targets.now s t names c.in_err-both.field-0.0 c.in_err-both.ensures.memory)
+    fault_exit (λ f. f) (BlamesBroken t) c.in_err-both.field-0.0 c.from_residual-in_err-both.result c.from_residual-in_err-both.ensures.1 (memory_breaks t c.in_err-both.field-0.0 c.in_err-both.ensures.memory)

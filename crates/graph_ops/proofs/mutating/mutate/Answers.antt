@@ -1,4 +1,4 @@
-use Rattle.std.proofs.Common.{◌≡◌, ◌∙◌, ◌++◌, ◌∷◌, [], List, sym, subst}
+use Rattle.std.proofs.Common.{◌≡◌, ◌∙◌, ◌++◌, ◌∷◌, [], List, sym, subst, rules}
 use Rattle.std.specs.Prelude.{IfErr}
 use Rattle.plain_graph.specs.Reply.{Reply}
 use Rattle.plain_graph.specs.declared.command.Command.TheVariants as commands
@@ -11,6 +11,7 @@ use Rattle.plain_graph.specs.Mutations.{changes_of, new_elements}
 use Rattle.plain_graph.specs.declared.mutation.Mutation.{Mutation}
 use Rattle.plain_graph.specs.declared.mutation.Mutation.TheVariants as mutations
 use Rattle.graph_ops.proofs.Parts.{drops_made, edges_made, one_refused, values_made, vertex_made}
+use Rattle.rec_bytes.proofs.Causes.{never_ok}
 use Rattle.graph_ops.proofs.mutating.mutate.Goals as goal
 
 pub returns-in_err-weight-in-AddV-clause-refused :
@@ -91,3 +92,58 @@ returns-in_err-weight-in-AddV-clause-lone g c tells target drop lone = let e = s
 
 pub returns-in_err-weight-in-AddV-clause-blamed : goal.returns-in_err-weight-in-AddV-clause-blamed
 returns-in_err-weight-in-AddV-clause-blamed g c tells drop = let e = sym c.in-AddV.is ∙ drop in absurd cc
+
+pub returns-in_err-weight-in-AddV-clause-made : goal.returns-in_err-weight-in-AddV-clause-made
+returns-in_err-weight-in-AddV-clause-made g c _ = never_ok c.from_residual.result _ _ c.from_residual.ensures.1
+
+pub returns-in_err-weight-in-AddV-clause-shown : goal.returns-in_err-weight-in-AddV-clause-shown
+returns-in_err-weight-in-AddV-clause-shown g c _ = never_ok c.from_residual.result _ _ c.from_residual.ensures.1
+
+pub returns-in_err-weight-in-AddV-clause-few : goal.returns-in_err-weight-in-AddV-clause-few
+returns-in_err-weight-in-AddV-clause-few g c = never_ok c.from_residual.result _ _ c.from_residual.ensures.1
+
+pub returns-in_err-weight-in-AddV-clause-writes : goal.returns-in_err-weight-in-AddV-clause-writes
+returns-in_err-weight-in-AddV-clause-writes g c = never_ok c.from_residual.result _ _ c.from_residual.ensures.1
+
+pub returns-in_err-weight-in-AddV-clause-onward : goal.returns-in_err-weight-in-AddV-clause-onward
+returns-in_err-weight-in-AddV-clause-onward g c = search rules
+
+pub returns-in_err-weight-in-AddE-clause-made : goal.returns-in_err-weight-in-AddE-clause-made
+returns-in_err-weight-in-AddE-clause-made g c _ = never_ok c.from_residual-in_err-weight-in-AddE.result _ _ c.from_residual-in_err-weight-in-AddE.ensures.1
+
+pub returns-in_err-weight-in-AddE-clause-shown : goal.returns-in_err-weight-in-AddE-clause-shown
+returns-in_err-weight-in-AddE-clause-shown g c _ = never_ok c.from_residual-in_err-weight-in-AddE.result _ _ c.from_residual-in_err-weight-in-AddE.ensures.1
+
+pub returns-in_err-weight-in-AddE-clause-few : goal.returns-in_err-weight-in-AddE-clause-few
+returns-in_err-weight-in-AddE-clause-few g c = never_ok c.from_residual-in_err-weight-in-AddE.result _ _ c.from_residual-in_err-weight-in-AddE.ensures.1
+
+pub returns-in_err-weight-in-AddE-clause-writes : goal.returns-in_err-weight-in-AddE-clause-writes
+returns-in_err-weight-in-AddE-clause-writes g c = never_ok c.from_residual-in_err-weight-in-AddE.result _ _ c.from_residual-in_err-weight-in-AddE.ensures.1
+
+pub returns-in_err-weight-in-Property-clause-made : goal.returns-in_err-weight-in-Property-clause-made
+returns-in_err-weight-in-Property-clause-made g c _ =
+    never_ok c.from_residual-in_err-weight-in-Property.result _ _ c.from_residual-in_err-weight-in-Property.ensures.1
+
+pub returns-in_err-weight-in-Property-clause-shown : goal.returns-in_err-weight-in-Property-clause-shown
+returns-in_err-weight-in-Property-clause-shown g c _ =
+    never_ok c.from_residual-in_err-weight-in-Property.result _ _ c.from_residual-in_err-weight-in-Property.ensures.1
+
+pub returns-in_err-weight-in-Property-clause-few : goal.returns-in_err-weight-in-Property-clause-few
+returns-in_err-weight-in-Property-clause-few g c =
+    never_ok c.from_residual-in_err-weight-in-Property.result _ _ c.from_residual-in_err-weight-in-Property.ensures.1
+
+pub returns-in_err-weight-in-Property-clause-writes : goal.returns-in_err-weight-in-Property-clause-writes
+returns-in_err-weight-in-Property-clause-writes g c =
+    never_ok c.from_residual-in_err-weight-in-Property.result _ _ c.from_residual-in_err-weight-in-Property.ensures.1
+
+pub returns-in_err-weight-in-Drop-clause-made : goal.returns-in_err-weight-in-Drop-clause-made
+returns-in_err-weight-in-Drop-clause-made g c _ = never_ok c.from_residual-in_err-weight-in-Drop.result _ _ c.from_residual-in_err-weight-in-Drop.ensures.1
+
+pub returns-in_err-weight-in-Drop-clause-shown : goal.returns-in_err-weight-in-Drop-clause-shown
+returns-in_err-weight-in-Drop-clause-shown g c _ = never_ok c.from_residual-in_err-weight-in-Drop.result _ _ c.from_residual-in_err-weight-in-Drop.ensures.1
+
+pub returns-in_err-weight-in-Drop-clause-few : goal.returns-in_err-weight-in-Drop-clause-few
+returns-in_err-weight-in-Drop-clause-few g c = never_ok c.from_residual-in_err-weight-in-Drop.result _ _ c.from_residual-in_err-weight-in-Drop.ensures.1
+
+pub returns-in_err-weight-in-Drop-clause-writes : goal.returns-in_err-weight-in-Drop-clause-writes
+returns-in_err-weight-in-Drop-clause-writes g c = never_ok c.from_residual-in_err-weight-in-Drop.result _ _ c.from_residual-in_err-weight-in-Drop.ensures.1

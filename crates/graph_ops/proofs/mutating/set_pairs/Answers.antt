@@ -11,6 +11,7 @@ use Rattle.graph_ops.proofs.Exits.{fault_exit}
 use Rattle.plain_graph.specs.Mutations.{settings}
 use Rattle.graph_ops.proofs.Parts.{making_more, next_exit, next_still, one_caused, one_part, one_refused}
 use Rattle.graph_ops.proofs.Spreading.{pairs_spread}
+use Rattle.rec_bytes.proofs.Causes.{never_ok, ok_cause}
 use Rattle.graph_ops.proofs.mutating.set_pairs.Goals as goal
 
 pub set-requires : goal.set-requires
@@ -58,3 +59,12 @@ pub returns-in_err-both-clause-still : goal.returns-in_err-both-clause-still
 returns-in_err-both-clause-still g c tells =
     let t = g.S.Reads.state c.set.new.space in
     fault_exit (λ f. f) (IsListCaused (settings c.args.pairs.now c.args.target) t c.args.names.now.names c.set.new.names.names) c.in_err-both.field-0.0 c.from_residual-in_err-both.result c.from_residual-in_err-both.ensures.1 (inl c.in_err-both.ensures.memory)
+
+pub returns-in_err-more-clause-part : goal.returns-in_err-more-clause-part
+returns-in_err-more-clause-part g c = never_ok c.from_residual.result _ _ c.from_residual.ensures.1
+
+pub returns-in_err-both-clause-part : goal.returns-in_err-both-clause-part
+returns-in_err-both-clause-part g c = never_ok c.from_residual-in_err-both.result _ _ c.from_residual-in_err-both.ensures.1
+
+pub returns-clause-cause : goal.returns-clause-cause
+returns-clause-cause g c = ok_cause _ _ _ _ c.loop-pair.invariant.later

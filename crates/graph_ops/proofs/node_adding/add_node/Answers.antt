@@ -1,6 +1,6 @@
 use Rattle.std.specs.FinMap as maps
 use Rattle.std.specs.Prelude.{Err, IfErr}
-use Rattle.std.proofs.Common.{◌≡◌, ◌≢◌, ⊎_elim, ℕ, ◌+◌, ◌-◌, ◌*◌, ◌<◌, ◌≤◌, List, [], ◌∷◌, length, map, ◌∙◌, sym, ap, subst, inl, inr, arith, refl}
+use Rattle.std.proofs.Common.{◌≡◌, ◌≢◌, ⊎_elim, ℕ, ◌+◌, ◌-◌, ◌*◌, ◌<◌, ◌≤◌, List, [], ◌∷◌, length, map, ◌∙◌, sym, ap, subst, inl, inr, arith, refl, rules}
 use Rattle.plain_graph.specs.Changes.{properties_weight}
 use Rattle.plain_graph.specs.Properties.{blocks_in, no_properties, with_pairs}
 use Rattle.plain_graph.specs.Refusals.{change_reasons}
@@ -48,6 +48,7 @@ use Rattle.graph_ops.proofs.Broken.{blames_more}
 use Rattle.graph_ops.proofs.DiskCauses.{change_cause_passed, later_on}
 use Rattle.graph_ops.proofs.IndexBeside.{index_written, kinds_beside, touched_beside}
 use Rattle.graph_ops.proofs.NodeEntries.{added_made, entries, entries_refused, keys_once, listed, node_low, pairs_then, prepared_read, room_then, whole_before}
+use Rattle.rec_bytes.proofs.Causes.{never_ok, ok_cause}
 use Rattle.graph_ops.proofs.node_adding.add_node.Goals as goal
 use Rattle.graph_ops.proofs.node_adding.add_node.Goals.{After-enter_values, After-listed_pairs, After-put_properties, In_err-enter_values, In_err-id, In_err-listed, In_err-put_properties, In_ok-id, In_ok-listed, After-entry_count-entries}
 use Rattle.graph_ops.proofs.node_adding.add_node.Given.{Over}
@@ -744,3 +745,138 @@ returns-in_err-put_properties-clause-still g c tells =
     subst (λ l. IfErr c.from_residual-in_err-put_properties.result (IsStillCaused (commands.Node c.args.label.now l) t names now)) c.as_slice-pairs.ensures
     (fault_exit (λ f. f) (IsStillCaused command t names now) fault c.from_residual-in_err-put_properties.result c.from_residual-in_err-put_properties.ensures.1
     (record { caused = put_caused command t t names now pairs (length items) (assigned_blocks pairs items) needs.0 needs.1 (λ file any. inl any) fault told; damaged = c.in_err-put_properties.ensures.still tells }))
+
+pub returns-in_err-test_room-clause-made : goal.returns-in_err-test_room-clause-made
+returns-in_err-test_room-clause-made g c _ = never_ok c.from_residual.result _ _ c.from_residual.ensures.1
+
+pub returns-in_err-test_room-clause-weight : goal.returns-in_err-test_room-clause-weight
+returns-in_err-test_room-clause-weight g c = never_ok c.from_residual.result _ _ c.from_residual.ensures.1
+
+pub returns-in_err-test_room-clause-unindexed : goal.returns-in_err-test_room-clause-unindexed
+returns-in_err-test_room-clause-unindexed g c _ _ = never_ok c.from_residual.result _ _ c.from_residual.ensures.1
+
+pub returns-in_err-test_room-clause-sparse : goal.returns-in_err-test_room-clause-sparse
+returns-in_err-test_room-clause-sparse g c _ = never_ok c.from_residual.result _ _ c.from_residual.ensures.1
+
+pub returns-in_err-test_room-clause-light : goal.returns-in_err-test_room-clause-light
+returns-in_err-test_room-clause-light g c = never_ok c.from_residual.result _ _ c.from_residual.ensures.1
+
+pub returns-in_err-test_room-clause-writes : goal.returns-in_err-test_room-clause-writes
+returns-in_err-test_room-clause-writes g c = never_ok c.from_residual.result _ _ c.from_residual.ensures.1
+
+pub returns-in_err-test_room-clause-onward : goal.returns-in_err-test_room-clause-onward
+returns-in_err-test_room-clause-onward g c = search rules
+
+pub returns-in_err-prepared-clause-made : goal.returns-in_err-prepared-clause-made
+returns-in_err-prepared-clause-made g c _ = never_ok c.from_residual-in_err-prepared.result _ _ c.from_residual-in_err-prepared.ensures.1
+
+pub returns-in_err-prepared-clause-weight : goal.returns-in_err-prepared-clause-weight
+returns-in_err-prepared-clause-weight g c = never_ok c.from_residual-in_err-prepared.result _ _ c.from_residual-in_err-prepared.ensures.1
+
+pub returns-in_err-prepared-clause-unindexed : goal.returns-in_err-prepared-clause-unindexed
+returns-in_err-prepared-clause-unindexed g c _ _ = never_ok c.from_residual-in_err-prepared.result _ _ c.from_residual-in_err-prepared.ensures.1
+
+pub returns-in_err-prepared-clause-sparse : goal.returns-in_err-prepared-clause-sparse
+returns-in_err-prepared-clause-sparse g c _ = never_ok c.from_residual-in_err-prepared.result _ _ c.from_residual-in_err-prepared.ensures.1
+
+pub returns-in_err-prepared-clause-light : goal.returns-in_err-prepared-clause-light
+returns-in_err-prepared-clause-light g c = never_ok c.from_residual-in_err-prepared.result _ _ c.from_residual-in_err-prepared.ensures.1
+
+pub returns-in_err-prepared-clause-writes : goal.returns-in_err-prepared-clause-writes
+returns-in_err-prepared-clause-writes g c = never_ok c.from_residual-in_err-prepared.result _ _ c.from_residual-in_err-prepared.ensures.1
+
+pub returns-in_err-listed-clause-made : goal.returns-in_err-listed-clause-made
+returns-in_err-listed-clause-made g c _ = never_ok c.from_residual-in_err-listed.result _ _ c.from_residual-in_err-listed.ensures.1
+
+pub returns-in_err-listed-clause-weight : goal.returns-in_err-listed-clause-weight
+returns-in_err-listed-clause-weight g c = never_ok c.from_residual-in_err-listed.result _ _ c.from_residual-in_err-listed.ensures.1
+
+pub returns-in_err-listed-clause-unindexed : goal.returns-in_err-listed-clause-unindexed
+returns-in_err-listed-clause-unindexed g c _ _ = never_ok c.from_residual-in_err-listed.result _ _ c.from_residual-in_err-listed.ensures.1
+
+pub returns-in_err-listed-clause-sparse : goal.returns-in_err-listed-clause-sparse
+returns-in_err-listed-clause-sparse g c _ = never_ok c.from_residual-in_err-listed.result _ _ c.from_residual-in_err-listed.ensures.1
+
+pub returns-in_err-listed-clause-light : goal.returns-in_err-listed-clause-light
+returns-in_err-listed-clause-light g c = never_ok c.from_residual-in_err-listed.result _ _ c.from_residual-in_err-listed.ensures.1
+
+pub returns-in_err-listed-clause-writes : goal.returns-in_err-listed-clause-writes
+returns-in_err-listed-clause-writes g c = never_ok c.from_residual-in_err-listed.result _ _ c.from_residual-in_err-listed.ensures.1
+
+pub returns-in_err-test_room-2-clause-made : goal.returns-in_err-test_room-2-clause-made
+returns-in_err-test_room-2-clause-made g c _ = never_ok c.from_residual-in_err-test_room-2.result _ _ c.from_residual-in_err-test_room-2.ensures.1
+
+pub returns-in_err-test_room-2-clause-weight : goal.returns-in_err-test_room-2-clause-weight
+returns-in_err-test_room-2-clause-weight g c = never_ok c.from_residual-in_err-test_room-2.result _ _ c.from_residual-in_err-test_room-2.ensures.1
+
+pub returns-in_err-test_room-2-clause-unindexed : goal.returns-in_err-test_room-2-clause-unindexed
+returns-in_err-test_room-2-clause-unindexed g c _ _ = never_ok c.from_residual-in_err-test_room-2.result _ _ c.from_residual-in_err-test_room-2.ensures.1
+
+pub returns-in_err-test_room-2-clause-sparse : goal.returns-in_err-test_room-2-clause-sparse
+returns-in_err-test_room-2-clause-sparse g c _ = never_ok c.from_residual-in_err-test_room-2.result _ _ c.from_residual-in_err-test_room-2.ensures.1
+
+pub returns-in_err-test_room-2-clause-light : goal.returns-in_err-test_room-2-clause-light
+returns-in_err-test_room-2-clause-light g c = never_ok c.from_residual-in_err-test_room-2.result _ _ c.from_residual-in_err-test_room-2.ensures.1
+
+pub returns-in_err-test_room-2-clause-writes : goal.returns-in_err-test_room-2-clause-writes
+returns-in_err-test_room-2-clause-writes g c = never_ok c.from_residual-in_err-test_room-2.result _ _ c.from_residual-in_err-test_room-2.ensures.1
+
+pub returns-in_err-id-clause-made : goal.returns-in_err-id-clause-made
+returns-in_err-id-clause-made g c _ = never_ok c.from_residual-in_err-id.result _ _ c.from_residual-in_err-id.ensures.1
+
+pub returns-in_err-id-clause-weight : goal.returns-in_err-id-clause-weight
+returns-in_err-id-clause-weight g c = never_ok c.from_residual-in_err-id.result _ _ c.from_residual-in_err-id.ensures.1
+
+pub returns-in_err-id-clause-unindexed : goal.returns-in_err-id-clause-unindexed
+returns-in_err-id-clause-unindexed g c _ _ = never_ok c.from_residual-in_err-id.result _ _ c.from_residual-in_err-id.ensures.1
+
+pub returns-in_err-id-clause-sparse : goal.returns-in_err-id-clause-sparse
+returns-in_err-id-clause-sparse g c _ = never_ok c.from_residual-in_err-id.result _ _ c.from_residual-in_err-id.ensures.1
+
+pub returns-in_err-id-clause-light : goal.returns-in_err-id-clause-light
+returns-in_err-id-clause-light g c = never_ok c.from_residual-in_err-id.result _ _ c.from_residual-in_err-id.ensures.1
+
+pub returns-in_err-id-clause-writes : goal.returns-in_err-id-clause-writes
+returns-in_err-id-clause-writes g c = never_ok c.from_residual-in_err-id.result _ _ c.from_residual-in_err-id.ensures.1
+
+pub returns-in_err-put_properties-clause-made : goal.returns-in_err-put_properties-clause-made
+returns-in_err-put_properties-clause-made g c _ = never_ok c.from_residual-in_err-put_properties.result _ _ c.from_residual-in_err-put_properties.ensures.1
+
+pub returns-in_err-put_properties-clause-weight : goal.returns-in_err-put_properties-clause-weight
+returns-in_err-put_properties-clause-weight g c = never_ok c.from_residual-in_err-put_properties.result _ _ c.from_residual-in_err-put_properties.ensures.1
+
+pub returns-in_err-put_properties-clause-unindexed : goal.returns-in_err-put_properties-clause-unindexed
+returns-in_err-put_properties-clause-unindexed g c _ _ =
+    never_ok c.from_residual-in_err-put_properties.result _ _ c.from_residual-in_err-put_properties.ensures.1
+
+pub returns-in_err-put_properties-clause-sparse : goal.returns-in_err-put_properties-clause-sparse
+returns-in_err-put_properties-clause-sparse g c _ = never_ok c.from_residual-in_err-put_properties.result _ _ c.from_residual-in_err-put_properties.ensures.1
+
+pub returns-in_err-put_properties-clause-light : goal.returns-in_err-put_properties-clause-light
+returns-in_err-put_properties-clause-light g c = never_ok c.from_residual-in_err-put_properties.result _ _ c.from_residual-in_err-put_properties.ensures.1
+
+pub returns-in_err-put_properties-clause-writes : goal.returns-in_err-put_properties-clause-writes
+returns-in_err-put_properties-clause-writes g c = never_ok c.from_residual-in_err-put_properties.result _ _ c.from_residual-in_err-put_properties.ensures.1
+
+pub returns-in_err-enter_values-clause-made : goal.returns-in_err-enter_values-clause-made
+returns-in_err-enter_values-clause-made g c _ = never_ok c.from_residual-in_err-enter_values.result _ _ c.from_residual-in_err-enter_values.ensures.1
+
+pub returns-in_err-enter_values-clause-weight : goal.returns-in_err-enter_values-clause-weight
+returns-in_err-enter_values-clause-weight g c = never_ok c.from_residual-in_err-enter_values.result _ _ c.from_residual-in_err-enter_values.ensures.1
+
+pub returns-in_err-enter_values-clause-unindexed : goal.returns-in_err-enter_values-clause-unindexed
+returns-in_err-enter_values-clause-unindexed g c _ _ = never_ok c.from_residual-in_err-enter_values.result _ _ c.from_residual-in_err-enter_values.ensures.1
+
+pub returns-in_err-enter_values-clause-sparse : goal.returns-in_err-enter_values-clause-sparse
+returns-in_err-enter_values-clause-sparse g c _ = never_ok c.from_residual-in_err-enter_values.result _ _ c.from_residual-in_err-enter_values.ensures.1
+
+pub returns-in_err-enter_values-clause-light : goal.returns-in_err-enter_values-clause-light
+returns-in_err-enter_values-clause-light g c = never_ok c.from_residual-in_err-enter_values.result _ _ c.from_residual-in_err-enter_values.ensures.1
+
+pub returns-in_err-enter_values-clause-writes : goal.returns-in_err-enter_values-clause-writes
+returns-in_err-enter_values-clause-writes g c = never_ok c.from_residual-in_err-enter_values.result _ _ c.from_residual-in_err-enter_values.ensures.1
+
+pub returns-clause-cause : goal.returns-clause-cause
+returns-clause-cause g c =
+    ok_cause _ _ _ _ (later_on (later_on (later_on (later_on c.in_ok-prepared.ensures.cause.later c.in_ok-listed.ensures.cause.later)
+    c.in_ok-id.ensures.cause.later) c.in_ok-put_properties.ensures.cause.later) c.in_ok-enter_values.ensures.cause.later)

@@ -1,4 +1,4 @@
-use Rattle.std.proofs.Common.{◌≡◌, ◌∙◌, ap, refl, sym, subst, inl, inr, ⊎_elim, [], ◌∷◌}
+use Rattle.std.proofs.Common.{◌≡◌, ◌∙◌, ap, refl, sym, subst, inl, inr, ⊎_elim, [], ◌∷◌, rules}
 use Rattle.rec_bytes.specs.Format as format
 use Rattle.rec_bytes.specs.RecordFiles.{meta_key_of}
 use Rattle.rec_bytes.specs.Space.{State, after_put}
@@ -16,7 +16,8 @@ use Rattle.graph_ops.proofs.Causes.{take_blamed_still}
 use Rattle.id_freelist.specs.Taking.{IsTakeDamage}
 use Rattle.graph_ops.specs.NodeAdding.{new_row}
 use Rattle.graph_ops.proofs.Adding.{adds_record, space_blamed, take_blamed}
-use Rattle.graph_ops.proofs.DiskCauses.{space_cause_passed}
+use Rattle.graph_ops.proofs.DiskCauses.{space_cause_passed, later_on}
+use Rattle.rec_bytes.proofs.Causes.{never_ok, ok_cause}
 use Rattle.graph_ops.proofs.node_adding.put_node.Goals as goal
 use Rattle.graph_ops.proofs.node_adding.put_node.Goals.{In_ok-id}
 use Rattle.graph_ops.proofs.node_adding.put_node.Given.{Over}
@@ -93,3 +94,33 @@ returns-in_err-id-clause-still g c tells =
 pub returns-in_err-save-clause-still : goal.returns-in_err-save-clause-still
 returns-in_err-save-clause-still g c tells =
     fault_exit of_space (BlamesBroken (g.S.Reads.state c.save.new.space)) c.in_err-save.field-0.0 c.from_residual-in_err-save.result c.from_residual-in_err-save.ensures.1 (space_blamed _ c.in_err-save.field-0.0)
+
+pub returns-in_err-id-clause-put : goal.returns-in_err-id-clause-put
+returns-in_err-id-clause-put g c _ = never_ok c.from_residual.result _ _ c.from_residual.ensures.1
+
+pub returns-in_err-id-clause-adds : goal.returns-in_err-id-clause-adds
+returns-in_err-id-clause-adds g c _ = never_ok c.from_residual.result _ _ c.from_residual.ensures.1
+
+pub returns-in_err-id-clause-key : goal.returns-in_err-id-clause-key
+returns-in_err-id-clause-key g c = never_ok c.from_residual.result _ _ c.from_residual.ensures.1
+
+pub returns-in_err-id-clause-writes : goal.returns-in_err-id-clause-writes
+returns-in_err-id-clause-writes g c = never_ok c.from_residual.result _ _ c.from_residual.ensures.1
+
+pub returns-in_err-id-clause-onward : goal.returns-in_err-id-clause-onward
+returns-in_err-id-clause-onward g c = search rules
+
+pub returns-in_err-save-clause-put : goal.returns-in_err-save-clause-put
+returns-in_err-save-clause-put g c _ = never_ok c.from_residual-in_err-save.result _ _ c.from_residual-in_err-save.ensures.1
+
+pub returns-in_err-save-clause-adds : goal.returns-in_err-save-clause-adds
+returns-in_err-save-clause-adds g c _ = never_ok c.from_residual-in_err-save.result _ _ c.from_residual-in_err-save.ensures.1
+
+pub returns-in_err-save-clause-key : goal.returns-in_err-save-clause-key
+returns-in_err-save-clause-key g c = never_ok c.from_residual-in_err-save.result _ _ c.from_residual-in_err-save.ensures.1
+
+pub returns-in_err-save-clause-writes : goal.returns-in_err-save-clause-writes
+returns-in_err-save-clause-writes g c = never_ok c.from_residual-in_err-save.result _ _ c.from_residual-in_err-save.ensures.1
+
+pub returns-clause-cause : goal.returns-clause-cause
+returns-clause-cause g c = ok_cause _ _ _ _ (later_on c.in_ok-id.ensures.cause.later c.in_ok-save.ensures.cause.later)

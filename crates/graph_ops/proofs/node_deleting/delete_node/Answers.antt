@@ -1,4 +1,4 @@
-use Rattle.std.proofs.Common.{◌≡◌, ◌≢◌, ◌∙◌, ℕ, ◌+◌, Some, List, [], ◌∷◌, map, sym, ap, subst, inl, inr, ⊎_elim, arith, refl}
+use Rattle.std.proofs.Common.{◌≡◌, ◌≢◌, ◌∙◌, ℕ, ◌+◌, Some, List, [], ◌∷◌, map, sym, ap, subst, inl, inr, ⊎_elim, arith, refl, rules}
 use Rattle.plain_graph.specs.Reply.{Done}
 use Rattle.plain_graph.specs.declared.command.Command.TheVariants as commands
 use Rattle.plain_graph.specs.declared.command.Target.TheVariants as targets
@@ -21,9 +21,10 @@ use Rattle.graph_ops.proofs.Deleting.{node_joined, node_lacked}
 use Rattle.graph_ops.proofs.Elements.{node_loaded, node_missing, same_both, same_node, used_of}
 use Rattle.graph_ops.specs.Owners.{owner_of}
 use Rattle.prop_store.specs.Owner.{IsInUse}
-use Rattle.graph_ops.proofs.Broken.{blames_more, drop_cause, entry_cause, held_cause, node_cause, node_in_use}
+use Rattle.graph_ops.proofs.Broken.{blames_more, drop_cause, entry_cause, entry_left, held_cause, node_broken, node_cause, node_in_use, property_left}
 use Rattle.graph_ops.specs.Causes.{IsCaused, IsStillCaused}
-use Rattle.graph_ops.proofs.Causes.{any_blamed, caused_left, failure_caused}
+use Rattle.graph_ops.proofs.Causes.{any_blamed, broken_left, caused_left, failure_caused}
+use Rattle.graph_ops.proofs.Adding.{space_blamed}
 use Rattle.graph_ops.proofs.Exits.{fault_exit, fault_fails, row_fails, space_fails}
 use Rattle.graph_ops.proofs.Setting.{prop_refused}
 use Rattle.graph_ops.proofs.Readings.{made_read}
@@ -43,11 +44,12 @@ use Rattle.graph_ops.proofs.IndexBeside.{index_written, touched_beside}
 use Rattle.graph_ops.proofs.KeptIndexes.{whole_read}
 use Rattle.graph_ops.proofs.LiveIndexes.{node_owned}
 use Rattle.graph_ops.proofs.NodeGone.{gone_between, gone_kinds, gone_left, gone_made, label_found}
-use Rattle.graph_ops.specs.Damage.{IsBroken}
+use Rattle.graph_ops.specs.Damage.{BlamesBroken, IsBroken}
 use Rattle.graph_ops.specs.Entries.{held_of}
 use Rattle.store_rules.specs.Indexes.{AreIndexed, IsIndexed, wanted_in}
 use Rattle.graph_ops.proofs.PairsPut.{label_at}
 use Rattle.graph_ops.proofs.Reasons.{outside_refused}
+use Rattle.rec_bytes.proofs.Causes.{never_ok, ok_cause}
 use Rattle.graph_ops.proofs.node_deleting.delete_node.Goals as goal
 use Rattle.graph_ops.proofs.node_deleting.delete_node.Goals.{After-drop_all, After-give, After-held_values, After-leave_values, After-load}
 use Rattle.graph_ops.proofs.node_deleting.delete_node.Given.{Over}
@@ -453,3 +455,126 @@ returns-then-node-ne0-clause-still g c tells =
           (refl, record { row = c.in-Some.node; found = sym (sym c.in-Some.is ∙ c.in_ok-node.ensures.found tells); is = refl }, c.if-node-ne0.true);
       damaged = tt;
     }
+
+-- ---- which record is blamed, in the space as it is left
+
+pub returns-in_err-node-clause-broken : goal.returns-in_err-node-clause-broken
+returns-in_err-node-clause-broken g c tells =
+    let s = g.S.Reads.state c.args.space.now in
+    let t = g.S.Reads.state c.load.new.space in
+    let loaded_only = same g (goal.at.returns-in_err-node-clause-broken g c).After-load in
+    fault_exit of_row (BlamesBroken t) c.in_err-node.field-0.0 c.from_residual.result c.from_residual.ensures.1
+    (broken_left s t loaded_only (of_row c.in_err-node.field-0.0) (node_broken s c.args.id c.in_err-node.field-0.0 (c.in_err-node.ensures.damaged tells)))
+
+pub returns-in_err-held-clause-broken : goal.returns-in_err-held-clause-broken
+returns-in_err-held-clause-broken g c tells =
+    let after = (goal.at.returns-in_err-held-clause-broken g c).After-held_values in
+    let s = g.S.Reads.state c.args.space.now in
+    let m = g.S.Reads.state c.load.new.space in
+    let t = g.S.Reads.state c.held_values.new.space in
+    let fault = c.in_err-held.field-0.0 in
+    fault_exit (λ f. f) (BlamesBroken t) fault c.from_residual-in_err-held.result c.from_residual-in_err-held.ensures.1
+    (broken_left s t (read g after) fault (blames_more (IsBroken m) (IsBroken s) (λ damage broken. subst (λ (z : State). IsBroken z damage) (loaded g after) broken) fault (c.in_err-held.ensures.damaged tells (used g after tells m (loaded g after)))))
+
+pub returns-in_err-dropped-clause-broken : goal.returns-in_err-dropped-clause-broken
+returns-in_err-dropped-clause-broken g c tells =
+    let after = (goal.at.returns-in_err-dropped-clause-broken g c).After-held_values in
+    let s = g.S.Reads.state c.args.space.now in
+    let n = g.S.Reads.state c.held_values.new.space in
+    let t = g.S.Reads.state c.drop_all.new.space in
+    let in_use = node_in_use s (targets.Node c.args.id) c.args.id c.in-Some.node refl (sym c.in-Some.is ∙ c.in_ok-node.ensures.found tells) in
+    fault_exit of_fault (BlamesBroken t) c.in_err-dropped.field-0.0 c.from_residual-in_err-dropped.result c.from_residual-in_err-dropped.ensures.1
+    (property_left t c.in_err-dropped.field-0.0 (c.in_err-dropped.ensures.still tells (subst (IsInUse n.records) (sym c.node_owner.ensures) (subst (λ (z : State). IsInUse z.records (owner_of (targets.Node c.args.id))) (sym (read g after)) in_use))))
+
+pub returns-in_err-give-clause-broken : goal.returns-in_err-give-clause-broken
+returns-in_err-give-clause-broken g c tells =
+    fault_exit of_space (BlamesBroken (g.S.Reads.state c.give.new.space)) c.in_err-give.field-0.0 c.from_residual-in_err-give.result c.from_residual-in_err-give.ensures.1 (space_blamed _ c.in_err-give.field-0.0)
+
+pub returns-in_err-entries-clause-broken : goal.returns-in_err-entries-clause-broken
+returns-in_err-entries-clause-broken g c tells =
+    let t = g.S.Reads.state c.leave_values.new.space in
+    fault_exit (λ f. f) (BlamesBroken t) c.in_err-entries.field-0.0 c.from_residual-in_err-entries.result c.from_residual-in_err-entries.ensures.1
+    (entry_left t c.in_err-entries.field-0.0 (c.in_err-entries.ensures.blames tells))
+
+pub returns-in_err-node-clause-made : goal.returns-in_err-node-clause-made
+returns-in_err-node-clause-made g c _ = never_ok c.from_residual.result _ _ c.from_residual.ensures.1
+
+pub returns-in_err-node-clause-lone : goal.returns-in_err-node-clause-lone
+returns-in_err-node-clause-lone g c _ = never_ok c.from_residual.result _ _ c.from_residual.ensures.1
+
+pub returns-in_err-node-clause-kinds : goal.returns-in_err-node-clause-kinds
+returns-in_err-node-clause-kinds g c _ = never_ok c.from_residual.result _ _ c.from_residual.ensures.1
+
+pub returns-in_err-node-clause-light : goal.returns-in_err-node-clause-light
+returns-in_err-node-clause-light g c = never_ok c.from_residual.result _ _ c.from_residual.ensures.1
+
+pub returns-in_err-node-clause-writes : goal.returns-in_err-node-clause-writes
+returns-in_err-node-clause-writes g c = never_ok c.from_residual.result _ _ c.from_residual.ensures.1
+
+pub returns-in_err-node-clause-onward : goal.returns-in_err-node-clause-onward
+returns-in_err-node-clause-onward g c = search rules
+
+pub returns-in_err-held-clause-made : goal.returns-in_err-held-clause-made
+returns-in_err-held-clause-made g c _ = never_ok c.from_residual-in_err-held.result _ _ c.from_residual-in_err-held.ensures.1
+
+pub returns-in_err-held-clause-lone : goal.returns-in_err-held-clause-lone
+returns-in_err-held-clause-lone g c _ = never_ok c.from_residual-in_err-held.result _ _ c.from_residual-in_err-held.ensures.1
+
+pub returns-in_err-held-clause-kinds : goal.returns-in_err-held-clause-kinds
+returns-in_err-held-clause-kinds g c _ = never_ok c.from_residual-in_err-held.result _ _ c.from_residual-in_err-held.ensures.1
+
+pub returns-in_err-held-clause-light : goal.returns-in_err-held-clause-light
+returns-in_err-held-clause-light g c = never_ok c.from_residual-in_err-held.result _ _ c.from_residual-in_err-held.ensures.1
+
+pub returns-in_err-held-clause-writes : goal.returns-in_err-held-clause-writes
+returns-in_err-held-clause-writes g c = never_ok c.from_residual-in_err-held.result _ _ c.from_residual-in_err-held.ensures.1
+
+pub returns-in_err-dropped-clause-made : goal.returns-in_err-dropped-clause-made
+returns-in_err-dropped-clause-made g c _ = never_ok c.from_residual-in_err-dropped.result _ _ c.from_residual-in_err-dropped.ensures.1
+
+pub returns-in_err-dropped-clause-lone : goal.returns-in_err-dropped-clause-lone
+returns-in_err-dropped-clause-lone g c _ = never_ok c.from_residual-in_err-dropped.result _ _ c.from_residual-in_err-dropped.ensures.1
+
+pub returns-in_err-dropped-clause-kinds : goal.returns-in_err-dropped-clause-kinds
+returns-in_err-dropped-clause-kinds g c _ = never_ok c.from_residual-in_err-dropped.result _ _ c.from_residual-in_err-dropped.ensures.1
+
+pub returns-in_err-dropped-clause-light : goal.returns-in_err-dropped-clause-light
+returns-in_err-dropped-clause-light g c = never_ok c.from_residual-in_err-dropped.result _ _ c.from_residual-in_err-dropped.ensures.1
+
+pub returns-in_err-dropped-clause-writes : goal.returns-in_err-dropped-clause-writes
+returns-in_err-dropped-clause-writes g c = never_ok c.from_residual-in_err-dropped.result _ _ c.from_residual-in_err-dropped.ensures.1
+
+pub returns-in_err-give-clause-made : goal.returns-in_err-give-clause-made
+returns-in_err-give-clause-made g c _ = never_ok c.from_residual-in_err-give.result _ _ c.from_residual-in_err-give.ensures.1
+
+pub returns-in_err-give-clause-lone : goal.returns-in_err-give-clause-lone
+returns-in_err-give-clause-lone g c _ = never_ok c.from_residual-in_err-give.result _ _ c.from_residual-in_err-give.ensures.1
+
+pub returns-in_err-give-clause-kinds : goal.returns-in_err-give-clause-kinds
+returns-in_err-give-clause-kinds g c _ = never_ok c.from_residual-in_err-give.result _ _ c.from_residual-in_err-give.ensures.1
+
+pub returns-in_err-give-clause-light : goal.returns-in_err-give-clause-light
+returns-in_err-give-clause-light g c = never_ok c.from_residual-in_err-give.result _ _ c.from_residual-in_err-give.ensures.1
+
+pub returns-in_err-give-clause-writes : goal.returns-in_err-give-clause-writes
+returns-in_err-give-clause-writes g c = never_ok c.from_residual-in_err-give.result _ _ c.from_residual-in_err-give.ensures.1
+
+pub returns-in_err-entries-clause-made : goal.returns-in_err-entries-clause-made
+returns-in_err-entries-clause-made g c _ = never_ok c.from_residual-in_err-entries.result _ _ c.from_residual-in_err-entries.ensures.1
+
+pub returns-in_err-entries-clause-lone : goal.returns-in_err-entries-clause-lone
+returns-in_err-entries-clause-lone g c _ = never_ok c.from_residual-in_err-entries.result _ _ c.from_residual-in_err-entries.ensures.1
+
+pub returns-in_err-entries-clause-kinds : goal.returns-in_err-entries-clause-kinds
+returns-in_err-entries-clause-kinds g c _ = never_ok c.from_residual-in_err-entries.result _ _ c.from_residual-in_err-entries.ensures.1
+
+pub returns-in_err-entries-clause-light : goal.returns-in_err-entries-clause-light
+returns-in_err-entries-clause-light g c = never_ok c.from_residual-in_err-entries.result _ _ c.from_residual-in_err-entries.ensures.1
+
+pub returns-in_err-entries-clause-writes : goal.returns-in_err-entries-clause-writes
+returns-in_err-entries-clause-writes g c = never_ok c.from_residual-in_err-entries.result _ _ c.from_residual-in_err-entries.ensures.1
+
+pub returns-clause-cause : goal.returns-clause-cause
+returns-clause-cause g c =
+    ok_cause _ _ _ _ (later_on (later_on (later_on (later_on c.in_ok-node.ensures.cause.later c.in_ok-held.ensures.cause.later)
+    c.in_ok-dropped.ensures.cause.later) c.in_ok-give.ensures.cause.later) c.in_ok-entries.ensures.cause.later)

@@ -1,4 +1,4 @@
-use Rattle.std.proofs.Common.{◌≡◌, true, ◌∙◌, subst, sym}
+use Rattle.std.proofs.Common.{◌≡◌, true, ◌∙◌, subst, sym, rules}
 use Rattle.plain_graph.specs.Graph.{has_element}
 use Rattle.graph_ops.specs.Store.{graph_in}
 use Rattle.graph_ops.specs.ChangeFault.{of_row}
@@ -9,6 +9,7 @@ use Rattle.graph_ops.proofs.Exits.{fault_exit}
 use Rattle.graph_ops.proofs.Elements.{edge_loaded, edge_missing, node_loaded, node_missing}
 use Rattle.graph_ops.specs.Owners.{IsAbsent}
 use Rattle.graph_ops.proofs.Causes.{edge_absent, node_absent}
+use Rattle.rec_bytes.proofs.Causes.{never_ok}
 use Rattle.graph_ops.proofs.owners.find_owner.Goals as goal
 
 pub returns-in-Some-clause-there : goal.returns-in-Some-clause-there
@@ -68,3 +69,30 @@ pub returns-in_err-load-in-Edge-clause-absent : goal.returns-in_err-load-in-Edge
 returns-in_err-load-in-Edge-clause-absent g c tells =
     let s = g.R.Reads.state c.args.space.now in
     fault_exit of_row (IsAbsent s c.args.target) c.in_err-load-in-Edge.field-0.0 c.from_residual-in_err-load-in-Edge.result c.from_residual-in_err-load-in-Edge.ensures.1 (edge_absent s c.args.target c.in-Edge.id c.in_err-load-in-Edge.field-0.0 (c.in_err-load-in-Edge.ensures.damaged tells))
+
+pub returns-in_err-load-in-Node-clause-owner : goal.returns-in_err-load-in-Node-clause-owner
+returns-in_err-load-in-Node-clause-owner g c = never_ok c.from_residual.result _ _ c.from_residual.ensures.1
+
+pub returns-in_err-load-in-Node-clause-there : goal.returns-in_err-load-in-Node-clause-there
+returns-in_err-load-in-Node-clause-there g c _ = never_ok c.from_residual.result _ _ c.from_residual.ensures.1
+
+pub returns-in_err-load-in-Node-clause-in_use : goal.returns-in_err-load-in-Node-clause-in_use
+returns-in_err-load-in-Node-clause-in_use g c _ = never_ok c.from_residual.result _ _ c.from_residual.ensures.1
+
+pub returns-in_err-load-in-Node-clause-key : goal.returns-in_err-load-in-Node-clause-key
+returns-in_err-load-in-Node-clause-key g c = never_ok c.from_residual.result _ _ c.from_residual.ensures.1
+
+pub returns-in_err-load-in-Node-clause-onward : goal.returns-in_err-load-in-Node-clause-onward
+returns-in_err-load-in-Node-clause-onward g c = search rules
+
+pub returns-in_err-load-in-Edge-clause-owner : goal.returns-in_err-load-in-Edge-clause-owner
+returns-in_err-load-in-Edge-clause-owner g c = never_ok c.from_residual-in_err-load-in-Edge.result _ _ c.from_residual-in_err-load-in-Edge.ensures.1
+
+pub returns-in_err-load-in-Edge-clause-there : goal.returns-in_err-load-in-Edge-clause-there
+returns-in_err-load-in-Edge-clause-there g c _ = never_ok c.from_residual-in_err-load-in-Edge.result _ _ c.from_residual-in_err-load-in-Edge.ensures.1
+
+pub returns-in_err-load-in-Edge-clause-in_use : goal.returns-in_err-load-in-Edge-clause-in_use
+returns-in_err-load-in-Edge-clause-in_use g c _ = never_ok c.from_residual-in_err-load-in-Edge.result _ _ c.from_residual-in_err-load-in-Edge.ensures.1
+
+pub returns-in_err-load-in-Edge-clause-key : goal.returns-in_err-load-in-Edge-clause-key
+returns-in_err-load-in-Edge-clause-key g c = never_ok c.from_residual-in_err-load-in-Edge.result _ _ c.from_residual-in_err-load-in-Edge.ensures.1

@@ -1,5 +1,5 @@
 use Rattle.std.specs.Prelude.{Contains}
-use Rattle.std.proofs.Common.{◌≢◌, ◌++◌, ◌∷◌, Some, length, ◌∙◌, sym, ap, subst, append_assoc, inl, inr, arith, refl}
+use Rattle.std.proofs.Common.{◌≢◌, ◌++◌, ◌∷◌, Some, length, ◌∙◌, sym, ap, subst, append_assoc, inl, inr, arith, refl, rules}
 use Rattle.plain_graph.specs.Graph.{UsesName}
 use Rattle.plain_graph.specs.Names.{IsShortName}
 use Rattle.plain_graph.specs.Properties.{keys_in}
@@ -22,6 +22,7 @@ use Rattle.store_rules.proofs.WriteLaws.{more_written, then_written}
 use Rattle.graph_ops.proofs.Causes.{assign_caused, label_caused, reserve_caused}
 use Rattle.graph_ops.proofs.Adding.{beyond_then, interned_beyond}
 use Rattle.graph_ops.proofs.DiskCauses.{change_cause_passed, intern_cause_passed, later_on, reserve_refusal_cause}
+use Rattle.rec_bytes.proofs.Causes.{never_ok, ok_cause}
 use Rattle.graph_ops.proofs.preparing.prepare.Goals as goal
 use Rattle.graph_ops.proofs.preparing.prepare.Goals.{After-assign_pairs, After-intern, In_ok-assigned, In_ok-label}
 use Rattle.graph_ops.proofs.preparing.prepare.Given.{Over}
@@ -265,3 +266,99 @@ returns-in_err-blocks-clause-still g c tells =
     (reserve_caused u u old c.args.label.now pairs refl (length items) (assigned_blocks pairs items) (length-assigned names pairs items c.in_ok-assigned.ensures.assigned) (blocks-assigned names pairs items c.in_ok-assigned.ensures.assigned)
     (record { nodes = refl; edges = refl; properties = refl; blocks = refl }) fault
     (subst (λ l. IsReserveFault u (length l) (assigned_blocks pairs l) fault) c.deref.ensures.0 c.in_err-blocks.ensures.refused))
+
+pub returns-in_err-label-clause-prepared : goal.returns-in_err-label-clause-prepared
+returns-in_err-label-clause-prepared g c _ = never_ok c.from_residual.result _ _ c.from_residual.ensures.1
+
+pub returns-in_err-label-clause-placed : goal.returns-in_err-label-clause-placed
+returns-in_err-label-clause-placed g c = never_ok c.from_residual.result _ _ c.from_residual.ensures.1
+
+pub returns-in_err-label-clause-few : goal.returns-in_err-label-clause-few
+returns-in_err-label-clause-few g c = never_ok c.from_residual.result _ _ c.from_residual.ensures.1
+
+pub returns-in_err-label-clause-weight : goal.returns-in_err-label-clause-weight
+returns-in_err-label-clause-weight g c = never_ok c.from_residual.result _ _ c.from_residual.ensures.1
+
+pub returns-in_err-label-clause-weighs : goal.returns-in_err-label-clause-weighs
+returns-in_err-label-clause-weighs g c = never_ok c.from_residual.result _ _ c.from_residual.ensures.1
+
+pub returns-in_err-label-clause-needs : goal.returns-in_err-label-clause-needs
+returns-in_err-label-clause-needs g c = never_ok c.from_residual.result _ _ c.from_residual.ensures.1
+
+pub returns-in_err-label-clause-light : goal.returns-in_err-label-clause-light
+returns-in_err-label-clause-light g c = never_ok c.from_residual.result _ _ c.from_residual.ensures.1
+
+pub returns-in_err-label-clause-writes : goal.returns-in_err-label-clause-writes
+returns-in_err-label-clause-writes g c = never_ok c.from_residual.result _ _ c.from_residual.ensures.1
+
+pub returns-in_err-label-clause-metas : goal.returns-in_err-label-clause-metas
+returns-in_err-label-clause-metas g c _ = never_ok c.from_residual.result _ _ c.from_residual.ensures.1
+
+pub returns-in_err-label-clause-stays : goal.returns-in_err-label-clause-stays
+returns-in_err-label-clause-stays g c _ = never_ok c.from_residual.result _ _ c.from_residual.ensures.1
+
+pub returns-in_err-label-clause-onward : goal.returns-in_err-label-clause-onward
+returns-in_err-label-clause-onward g c = search rules
+
+pub returns-in_err-assigned-clause-prepared : goal.returns-in_err-assigned-clause-prepared
+returns-in_err-assigned-clause-prepared g c _ = never_ok c.from_residual-in_err-assigned.result _ _ c.from_residual-in_err-assigned.ensures.1
+
+pub returns-in_err-assigned-clause-placed : goal.returns-in_err-assigned-clause-placed
+returns-in_err-assigned-clause-placed g c = never_ok c.from_residual-in_err-assigned.result _ _ c.from_residual-in_err-assigned.ensures.1
+
+pub returns-in_err-assigned-clause-few : goal.returns-in_err-assigned-clause-few
+returns-in_err-assigned-clause-few g c = never_ok c.from_residual-in_err-assigned.result _ _ c.from_residual-in_err-assigned.ensures.1
+
+pub returns-in_err-assigned-clause-weight : goal.returns-in_err-assigned-clause-weight
+returns-in_err-assigned-clause-weight g c = never_ok c.from_residual-in_err-assigned.result _ _ c.from_residual-in_err-assigned.ensures.1
+
+pub returns-in_err-assigned-clause-weighs : goal.returns-in_err-assigned-clause-weighs
+returns-in_err-assigned-clause-weighs g c = never_ok c.from_residual-in_err-assigned.result _ _ c.from_residual-in_err-assigned.ensures.1
+
+pub returns-in_err-assigned-clause-needs : goal.returns-in_err-assigned-clause-needs
+returns-in_err-assigned-clause-needs g c = never_ok c.from_residual-in_err-assigned.result _ _ c.from_residual-in_err-assigned.ensures.1
+
+pub returns-in_err-assigned-clause-light : goal.returns-in_err-assigned-clause-light
+returns-in_err-assigned-clause-light g c = never_ok c.from_residual-in_err-assigned.result _ _ c.from_residual-in_err-assigned.ensures.1
+
+pub returns-in_err-assigned-clause-writes : goal.returns-in_err-assigned-clause-writes
+returns-in_err-assigned-clause-writes g c = never_ok c.from_residual-in_err-assigned.result _ _ c.from_residual-in_err-assigned.ensures.1
+
+pub returns-in_err-assigned-clause-metas : goal.returns-in_err-assigned-clause-metas
+returns-in_err-assigned-clause-metas g c _ = never_ok c.from_residual-in_err-assigned.result _ _ c.from_residual-in_err-assigned.ensures.1
+
+pub returns-in_err-assigned-clause-stays : goal.returns-in_err-assigned-clause-stays
+returns-in_err-assigned-clause-stays g c _ = never_ok c.from_residual-in_err-assigned.result _ _ c.from_residual-in_err-assigned.ensures.1
+
+pub returns-in_err-blocks-clause-prepared : goal.returns-in_err-blocks-clause-prepared
+returns-in_err-blocks-clause-prepared g c _ = never_ok c.from_residual-in_err-blocks.result _ _ c.from_residual-in_err-blocks.ensures.1
+
+pub returns-in_err-blocks-clause-placed : goal.returns-in_err-blocks-clause-placed
+returns-in_err-blocks-clause-placed g c = never_ok c.from_residual-in_err-blocks.result _ _ c.from_residual-in_err-blocks.ensures.1
+
+pub returns-in_err-blocks-clause-few : goal.returns-in_err-blocks-clause-few
+returns-in_err-blocks-clause-few g c = never_ok c.from_residual-in_err-blocks.result _ _ c.from_residual-in_err-blocks.ensures.1
+
+pub returns-in_err-blocks-clause-weight : goal.returns-in_err-blocks-clause-weight
+returns-in_err-blocks-clause-weight g c = never_ok c.from_residual-in_err-blocks.result _ _ c.from_residual-in_err-blocks.ensures.1
+
+pub returns-in_err-blocks-clause-weighs : goal.returns-in_err-blocks-clause-weighs
+returns-in_err-blocks-clause-weighs g c = never_ok c.from_residual-in_err-blocks.result _ _ c.from_residual-in_err-blocks.ensures.1
+
+pub returns-in_err-blocks-clause-needs : goal.returns-in_err-blocks-clause-needs
+returns-in_err-blocks-clause-needs g c = never_ok c.from_residual-in_err-blocks.result _ _ c.from_residual-in_err-blocks.ensures.1
+
+pub returns-in_err-blocks-clause-light : goal.returns-in_err-blocks-clause-light
+returns-in_err-blocks-clause-light g c = never_ok c.from_residual-in_err-blocks.result _ _ c.from_residual-in_err-blocks.ensures.1
+
+pub returns-in_err-blocks-clause-writes : goal.returns-in_err-blocks-clause-writes
+returns-in_err-blocks-clause-writes g c = never_ok c.from_residual-in_err-blocks.result _ _ c.from_residual-in_err-blocks.ensures.1
+
+pub returns-in_err-blocks-clause-metas : goal.returns-in_err-blocks-clause-metas
+returns-in_err-blocks-clause-metas g c _ = never_ok c.from_residual-in_err-blocks.result _ _ c.from_residual-in_err-blocks.ensures.1
+
+pub returns-in_err-blocks-clause-stays : goal.returns-in_err-blocks-clause-stays
+returns-in_err-blocks-clause-stays g c _ = never_ok c.from_residual-in_err-blocks.result _ _ c.from_residual-in_err-blocks.ensures.1
+
+pub returns-clause-cause : goal.returns-clause-cause
+returns-clause-cause g c = ok_cause _ _ _ _ (later_on c.in_ok-label.ensures.cause.later c.in_ok-assigned.ensures.cause.later)

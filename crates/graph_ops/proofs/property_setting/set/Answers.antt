@@ -1,5 +1,6 @@
 use Rattle.std.specs.Prelude.{Contains, IfSome, slice_get}
 use Rattle.std.proofs.Common.{◌≡◌, ◌≢◌, ◌∙◌, ℕ, ◌+◌, ◌-◌, ◌<◌, ◌≤◌, true, ⊎_elim, Option, None, Some, List, length, map, inr, sym, ap, subst, inl, arith, refl}
+use Rattle.std.proofs.Common.{rules}
 use Rattle.plain_graph.specs.Graph.{UsesName, has_element}
 use Rattle.plain_graph.specs.Properties.{blocks_of}
 use Rattle.plain_graph.specs.Refusals.{most_names}
@@ -61,6 +62,7 @@ use Rattle.prop_store.proofs.ElementGraphs.{listed_at, owns_listed}
 use Rattle.rec_bytes.specs.Key.{IsKey}
 use Rattle.store_rules.specs.Indexes.{AreIndexed, wanted_in}
 use Rattle.store_rules.specs.Properties.{Property}
+use Rattle.rec_bytes.proofs.Causes.{never_ok, ok_cause}
 use Rattle.graph_ops.proofs.property_setting.set.Goals as goal
 use Rattle.graph_ops.proofs.property_setting.set.Goals.{After-change_entry, After-indexed_value, After-intern, In_err-entries}
 use Rattle.graph_ops.proofs.property_setting.set.Given.{Over}
@@ -633,3 +635,56 @@ returns-in_err-entries-clause-refused g c tells whole =
     (λ (k : LacksValue held × LacksRoom u format.index_file 1 fault). subst (λ (z : State). IsRefusal z.shape.limit (graph_in z) command fault) c.find_owner.ensures.state
     (set_entry_refused m old target key value (store_found g back tells mid) (there g back tells mid) n u c.intern.new.self.names number (uses g back) (kept_then g back tells mid) (few g back) (at g back)
     ready (owned g after) (element g after tells whole) c.in_ok-released.released change (g.met.S.Reads.onward_shape _ _ c.set.ensures.onward) held (is_held g after tells whole) fault k.0 k.1)) why)
+
+pub returns-in_err-owner-clause-made : goal.returns-in_err-owner-clause-made
+returns-in_err-owner-clause-made g c _ = never_ok c.from_residual.result _ _ c.from_residual.ensures.1
+
+pub returns-in_err-owner-clause-light : goal.returns-in_err-owner-clause-light
+returns-in_err-owner-clause-light g c = never_ok c.from_residual.result _ _ c.from_residual.ensures.1
+
+pub returns-in_err-owner-clause-writes : goal.returns-in_err-owner-clause-writes
+returns-in_err-owner-clause-writes g c = never_ok c.from_residual.result _ _ c.from_residual.ensures.1
+
+pub returns-in_err-owner-clause-onward : goal.returns-in_err-owner-clause-onward
+returns-in_err-owner-clause-onward g c = search rules
+
+pub returns-in_err-number-clause-made : goal.returns-in_err-number-clause-made
+returns-in_err-number-clause-made g c _ = never_ok c.from_residual-in_err-number.result _ _ c.from_residual-in_err-number.ensures.1
+
+pub returns-in_err-number-clause-light : goal.returns-in_err-number-clause-light
+returns-in_err-number-clause-light g c = never_ok c.from_residual-in_err-number.result _ _ c.from_residual-in_err-number.ensures.1
+
+pub returns-in_err-number-clause-writes : goal.returns-in_err-number-clause-writes
+returns-in_err-number-clause-writes g c = never_ok c.from_residual-in_err-number.result _ _ c.from_residual-in_err-number.ensures.1
+
+pub returns-in_err-held-clause-made : goal.returns-in_err-held-clause-made
+returns-in_err-held-clause-made g c _ = never_ok c.from_residual-in_err-held.result _ _ c.from_residual-in_err-held.ensures.1
+
+pub returns-in_err-held-clause-light : goal.returns-in_err-held-clause-light
+returns-in_err-held-clause-light g c = never_ok c.from_residual-in_err-held.result _ _ c.from_residual-in_err-held.ensures.1
+
+pub returns-in_err-held-clause-writes : goal.returns-in_err-held-clause-writes
+returns-in_err-held-clause-writes g c = never_ok c.from_residual-in_err-held.result _ _ c.from_residual-in_err-held.ensures.1
+
+pub returns-in_err-released-clause-made : goal.returns-in_err-released-clause-made
+returns-in_err-released-clause-made g c _ = never_ok c.from_residual-in_err-released.result _ _ c.from_residual-in_err-released.ensures.1
+
+pub returns-in_err-released-clause-light : goal.returns-in_err-released-clause-light
+returns-in_err-released-clause-light g c = never_ok c.from_residual-in_err-released.result _ _ c.from_residual-in_err-released.ensures.1
+
+pub returns-in_err-released-clause-writes : goal.returns-in_err-released-clause-writes
+returns-in_err-released-clause-writes g c = never_ok c.from_residual-in_err-released.result _ _ c.from_residual-in_err-released.ensures.1
+
+pub returns-in_err-entries-clause-made : goal.returns-in_err-entries-clause-made
+returns-in_err-entries-clause-made g c _ = never_ok c.from_residual-in_err-entries.result _ _ c.from_residual-in_err-entries.ensures.1
+
+pub returns-in_err-entries-clause-light : goal.returns-in_err-entries-clause-light
+returns-in_err-entries-clause-light g c = never_ok c.from_residual-in_err-entries.result _ _ c.from_residual-in_err-entries.ensures.1
+
+pub returns-in_err-entries-clause-writes : goal.returns-in_err-entries-clause-writes
+returns-in_err-entries-clause-writes g c = never_ok c.from_residual-in_err-entries.result _ _ c.from_residual-in_err-entries.ensures.1
+
+pub returns-clause-cause : goal.returns-clause-cause
+returns-clause-cause g c =
+    ok_cause _ _ _ _ (later_on (later_on (later_on (later_on c.in_ok-owner.ensures.cause.later c.in_ok-number.ensures.cause.later)
+    c.in_ok-held.ensures.cause.later) c.in_ok-released.ensures.cause.later) c.in_ok-entries.ensures.cause.later)

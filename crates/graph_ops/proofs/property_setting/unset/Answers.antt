@@ -1,5 +1,5 @@
 use Rattle.std.specs.Prelude.{Contains, slice_get}
-use Rattle.std.proofs.Common.{◌≡◌, ◌∙◌, ◌+◌, ◌≤◌, ℕ, true, Option, Some, List, map, inl, inr, sym, ap, subst, arith}
+use Rattle.std.proofs.Common.{◌≡◌, ◌∙◌, ◌+◌, ◌≤◌, ℕ, true, Option, Some, List, map, inl, inr, sym, ap, subst, arith, rules}
 use Rattle.plain_graph.specs.Reply.{Done}
 use Rattle.plain_graph.specs.declared.command.Command.TheVariants as commands
 use Rattle.prop_store.specs.Changing.{UnsetsValue, released_blocks}
@@ -41,6 +41,7 @@ use Rattle.prop_store.proofs.ElementGraphs.{listed_at, owns_listed}
 use Rattle.rec_bytes.specs.Key.{IsKey}
 use Rattle.store_rules.specs.Indexes.{AreIndexed}
 use Rattle.store_rules.specs.Properties.{Property}
+use Rattle.rec_bytes.proofs.Causes.{never_ok, ok_cause}
 use Rattle.graph_ops.proofs.property_setting.unset.Goals as goal
 use Rattle.graph_ops.proofs.property_setting.unset.Goals.{After-indexed_value, After-leave_entry}
 use Rattle.graph_ops.proofs.property_setting.unset.Given.{Over}
@@ -350,3 +351,47 @@ returns-in_err-entries-clause-damaged g c tells =
     let v = g.S.Reads.state c.leave_entry.new.space in
     fault_exit (λ f. f) (BlamesTaken s v) c.in_err-entries.field-0.0 c.from_residual-in_err-entries.result c.from_residual-in_err-entries.ensures.1
     (blames_more _ _ (λ damage entry. inr entry) c.in_err-entries.field-0.0 (c.in_err-entries.ensures.blames tells))
+
+pub returns-in_err-owner-clause-made : goal.returns-in_err-owner-clause-made
+returns-in_err-owner-clause-made g c _ = never_ok c.from_residual.result _ _ c.from_residual.ensures.1
+
+pub returns-in_err-owner-clause-light : goal.returns-in_err-owner-clause-light
+returns-in_err-owner-clause-light g c = never_ok c.from_residual.result _ _ c.from_residual.ensures.1
+
+pub returns-in_err-owner-clause-writes : goal.returns-in_err-owner-clause-writes
+returns-in_err-owner-clause-writes g c = never_ok c.from_residual.result _ _ c.from_residual.ensures.1
+
+pub returns-in_err-owner-clause-onward : goal.returns-in_err-owner-clause-onward
+returns-in_err-owner-clause-onward g c = search rules
+
+pub returns-in_err-held-clause-made : goal.returns-in_err-held-clause-made
+returns-in_err-held-clause-made g c _ = never_ok c.from_residual-in_err-held.result _ _ c.from_residual-in_err-held.ensures.1
+
+pub returns-in_err-held-clause-light : goal.returns-in_err-held-clause-light
+returns-in_err-held-clause-light g c = never_ok c.from_residual-in_err-held.result _ _ c.from_residual-in_err-held.ensures.1
+
+pub returns-in_err-held-clause-writes : goal.returns-in_err-held-clause-writes
+returns-in_err-held-clause-writes g c = never_ok c.from_residual-in_err-held.result _ _ c.from_residual-in_err-held.ensures.1
+
+pub returns-in_err-released-clause-made : goal.returns-in_err-released-clause-made
+returns-in_err-released-clause-made g c _ = never_ok c.from_residual-in_err-released.result _ _ c.from_residual-in_err-released.ensures.1
+
+pub returns-in_err-released-clause-light : goal.returns-in_err-released-clause-light
+returns-in_err-released-clause-light g c = never_ok c.from_residual-in_err-released.result _ _ c.from_residual-in_err-released.ensures.1
+
+pub returns-in_err-released-clause-writes : goal.returns-in_err-released-clause-writes
+returns-in_err-released-clause-writes g c = never_ok c.from_residual-in_err-released.result _ _ c.from_residual-in_err-released.ensures.1
+
+pub returns-in_err-entries-clause-made : goal.returns-in_err-entries-clause-made
+returns-in_err-entries-clause-made g c _ = never_ok c.from_residual-in_err-entries.result _ _ c.from_residual-in_err-entries.ensures.1
+
+pub returns-in_err-entries-clause-light : goal.returns-in_err-entries-clause-light
+returns-in_err-entries-clause-light g c = never_ok c.from_residual-in_err-entries.result _ _ c.from_residual-in_err-entries.ensures.1
+
+pub returns-in_err-entries-clause-writes : goal.returns-in_err-entries-clause-writes
+returns-in_err-entries-clause-writes g c = never_ok c.from_residual-in_err-entries.result _ _ c.from_residual-in_err-entries.ensures.1
+
+pub returns-clause-cause : goal.returns-clause-cause
+returns-clause-cause g c =
+    ok_cause _ _ _ _ (later_on (later_on (later_on c.in_ok-owner.ensures.cause.later c.in_ok-held.ensures.cause.later) c.in_ok-released.ensures.cause.later)
+    c.in_ok-entries.ensures.cause.later)
