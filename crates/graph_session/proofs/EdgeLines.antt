@@ -38,7 +38,7 @@ lines-more label rows n lt = ap (map item_line) (items-more label rows n lt) ∙
 -- the lines of the first rows are the first lines
 first-rows : (label : List ℕ) (rows : List EdgeRow) (n : ℕ) → AreFirst (edge_lines label n rows) (map item_line (items_of label rows))
 first-rows label rows n =
-    lines-first (items_of label (take n rows)) (items_of label rows) (items_of label (drop n rows), sym (map-append (item_of label) (take n rows) (drop n rows)) ∙ ap (items_of label) (take-append-drop n rows))
+    lines-first item_line (items_of label (take n rows)) (items_of label rows) (items_of label (drop n rows), sym (map-append (item_of label) (take n rows) (drop n rows)) ∙ ap (items_of label) (take-append-drop n rows))
 
 -- no line yet
 pub giving-none : {K : Type 0} {sink : Ghosts K} (mark : List ℕ) (k : K) (label : List ℕ) (rows : List EdgeRow) (id number from to : ℕ) → IsGiving sink mark k k (no_lines mark) label (item_of label (record { id = id; label = number; from = from; to = to })) 0 rows

@@ -1,7 +1,6 @@
 pub mod Answering
 pub mod Anyhow
 pub mod Asking
-pub mod AskedIndexes
 pub mod AtOnce
 pub mod Beginnings
 pub mod ChangeEnds
@@ -15,9 +14,10 @@ pub mod Expansion
 pub mod FailedReads
 pub mod Finishing
 pub mod FinishingAlone
-pub mod FoundNodes
+pub mod GraphIndexes
 pub mod Held
 pub mod IndexQuestions
+pub mod IndexesTold
 pub mod Judging
 pub mod Knowing
 pub mod KeptChanges
@@ -25,13 +25,15 @@ pub mod Known
 pub mod LineMoves
 pub mod Lifting
 pub mod LineDrafts
-pub mod ListedIndexes
 pub mod ListedLines
 pub mod Moves
+pub mod NamesTold
 pub mod NodeQuestions
 pub mod OneCommand
 pub mod Openings
 pub mod PartCounts
+pub mod Places
+pub mod Questioned
 pub mod ReaderAnswers
 pub mod ReaderLines
 pub mod ReaderRefusals
@@ -57,6 +59,7 @@ pub mod Streams
 pub mod Taps
 pub mod Transactions
 pub mod Versions
+pub mod Viewing
 pub mod Weighing
 pub mod Weights
 pub mod WalkReplies

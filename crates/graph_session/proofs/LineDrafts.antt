@@ -16,7 +16,7 @@ use Rattle.plain_graph.specs.declared.mutation.Mutation.{Mutation}
 use Rattle.plain_graph.specs.declared.query.Query.{Query}
 use Rattle.plain_graph.specs.declared.refusal.Refusal.{Refusal}
 use Rattle.plain_graph.specs.declared.refusal.Refusal.TheVariants as refusals
-use Rattle.plain_graph.proofs.LineLaws.{change_first, change_free, mutation_first, mutation_free}
+use Rattle.plain_graph.proofs.LineLaws.{HasIndexOf, change_first, change_free, mutation_first, mutation_free}
 use Rattle.rec_bytes.specs.Space.{SameButReads, State as Space}
 use Rattle.store_rules.specs.Writes.{WritesAtMost}
 use Rattle.txn_core.specs.OnlyReading.{only_reads_base_on}
@@ -88,7 +88,7 @@ module _ (old mid : Space) (same : SameButReads old mid) where
   pub store-read : {names : List (List ℕ)} → IsStore old names → IsStore mid names
   store-read {names = names} has = subst (λ (space : Space). IsStore space names) (sym same) (record { store = has.store; names = has.names })
 
-  module _ (reading : Option Query) (mutation : Mutation) (items : List Item) (read : items ≡ read_items (graph_in old) reading) where
+  module _ (reading : Option Query) (mutation : Mutation) (there : HasIndexOf (graph_in old) reading) (items : List Item) (read : items ≡ read_items (graph_in old) reading) where
     pub mutation-made : (shown : List Item) (weight : ℕ) (new : Space) (names : List (List ℕ)) → MakesMutation mutation items shown weight mid new names → MakesLine (commands.Mutate reading mutation) (mutated_reply shown) weight old new names
     mutation-made shown weight new names made =
         let asked =
@@ -101,7 +101,7 @@ module _ (old mid : Space) (same : SameButReads old mid) where
           weighs = asked.2.weighs;
           only = asked.2.only;
           told = asked.2.told;
-          free = mutation_free old.shape.limit (graph_in old) reading mutation asked.2.free;
+          free = mutation_free old.shape.limit (graph_in old) reading mutation there asked.2.free;
         }
 
     pub mutation-refused : (fault : ChangeFault) → IsListRefusal mid.shape.limit (graph_in mid) (changes_of mutation items) fault → IsRefusedBy line_reasons old.shape.limit (graph_in old) (commands.Mutate reading mutation) fault
@@ -111,7 +111,7 @@ module _ (old mid : Space) (same : SameButReads old mid) where
         (subst (λ (space : Space). IsListRefusal space.shape.limit (graph_in space) (changes_of mutation items) fault) same why))
       where
         first : (why : Refusal) → RefusesEach old.shape.limit (graph_in old) (asked_changes (graph_in old) reading mutation) why → FirstReason line_reasons old.shape.limit (graph_in old) (commands.Mutate reading mutation) why
-        first why = mutation_first old.shape.limit (graph_in old) reading mutation why
+        first why = mutation_first old.shape.limit (graph_in old) reading mutation why there
 
         by : (fault : ChangeFault) → IsListRefusal old.shape.limit (graph_in old) (asked_changes (graph_in old) reading mutation) fault → IsRefusedBy line_reasons old.shape.limit (graph_in old) (commands.Mutate reading mutation) fault
         by (faults.NoNode id) why = first (refusals.NoNode id) why

@@ -1,15 +1,20 @@
 -- A query's results, taken from its run one by one.
-use Rattle.std.proofs.Common.{◌≡◌, ◌≢◌, ◌∙◌, ℕ, true, None, List, [], ◌∷◌, ◌++◌, append_assoc, inl, inr, map, refl, sym, ap, subst, arith}
+use Rattle.std.proofs.Common.{◌≡◌, ◌≢◌, ◌∙◌, ℕ, true, None, List, [], ◌∷◌, ◌++◌, append_assoc, inr, map, refl, sym, ap, subst, arith}
 use Rattle.std.proofs.lemmas.List.{append-nil, map-append}
 use Rattle.fault_count.specs.Cause.{Rose}
 use Rattle.stream_io.specs.declared.streams.Sink.{Ghosts as SinkGhosts}
+use Rattle.plain_graph.specs.ElementMaps.{shown_line}
 use Rattle.plain_graph.specs.Graph.{Graph}
+use Rattle.plain_graph.specs.Lines.{AreResults}
 use Rattle.plain_graph.specs.Meaning.{has_past_count, meaning}
-use Rattle.plain_graph.specs.Reply.{Fault, Faulted, NoMemory, Told, end_text, fault_line, item_line, result_text, text_line}
+use Rattle.plain_graph.specs.Reply.{DamagedRecord, DiskFailed, Fault, Faulted, NoMemory, Told, end_text, fault_line, text_line}
 use Rattle.plain_graph.specs.declared.command.Command.TheVariants as commands
 use Rattle.plain_graph.specs.declared.item.Item.{Item}
 use Rattle.plain_graph.specs.declared.query.Query.{Query}
 use Rattle.rec_bytes.specs.Space.{SameButReads, State}
+use Rattle.rec_bytes.specs.declared.damage.Damage.{Damage}
+use Rattle.rec_bytes.specs.declared.fault.Fault.{Fault as StopFault}
+use Rattle.rec_bytes.specs.declared.fault.Fault.TheVariants as faults
 use Rattle.rec_bytes.specs.declared.shape.Shape.{Shape}
 use Rattle.rec_bytes.specs.declared.space.Reads.{Ghosts as SpaceGhosts}
 use Rattle.store_rules.specs.Graph.{graph_of}
@@ -20,12 +25,15 @@ use Rattle.traversal_run.specs.Run.{meant, stopped_by, to_come}
 use Rattle.traversal_run.specs.declared.run.Run.{Run}
 use Rattle.graph_session.specs.Answer.{Gives}
 use Rattle.graph_session.specs.Exchange.{ShowsPast, ShowsSome, told_in}
-use Rattle.graph_session.specs.LineBuffer.{AddsLine, MarkedLines, no_lines}
+use Rattle.graph_session.specs.LineBuffer.{AddsLine, MarkedLines, no_lines, stop_of}
 use Rattle.graph_session.specs.Questions.{GivesReading, MeansFault}
+use Rattle.graph_session.specs.QueryResults.{AddsNone, AddsShown}
 use Rattle.graph_session.specs.declared.turn.Turn.{Turn}
 use Rattle.graph_session.specs.declared.turn.Turn.TheVariants.{Go}
-use Rattle.graph_session.proofs.ListedLines.{HasLines, bytes_of, lines-add, lines-last, lines-none, lines-stop}
-use Rattle.graph_session.proofs.WholeReplies.{BeginResults, lines-first, query-all, query-spared, query-stop, query-tell, reading_of, rest_of, whole-form, whole-means, whole-text, whole-told, whole_of}
+use Rattle.graph_session.proofs.ListedLines.{HasLines, lines-add, lines-last, lines-none, lines-stop}
+use Rattle.graph_session.proofs.Questioned.{OfStore}
+use Rattle.graph_session.proofs.Reasons.{HasAsked}
+use Rattle.graph_session.proofs.WholeReplies.{BeginResults, all_lines, asks-query, lines-first, more_lines, query-all, query-stop, query-tell, reading_of, rest_of, results-more, results-none, whole-form, whole-means, whole-text, whole-told, whole_of}
 use Rattle.graph_session.proofs.Streams.{Rose-from}
 
 -- ---- spaces that were only read
@@ -60,38 +68,32 @@ module _ {R : Type 0} (space : SpaceGhosts R) where
 first-first : (found : List Item) (item : Item) (coming : Stream) → with_first found (with_first (item ∷ []) coming) ≡ with_first (found ++ item ∷ []) coming
 first-first found item coming = λ i. record { items = sym (append_assoc found (item ∷ []) coming.items) i; past = coming.past }
 
--- Some results of a query were found, and the run has the others.
+-- Some results of a query were found, and the run has the others. Each that was found has a line.
 pub record IsRunning {R K : Type 0} (space : SpaceGhosts R) (sink : SinkGhosts K) (names : List (List ℕ)) (query : Query) (mark : List ℕ) (old now : R) (before after : K) (held : MarkedLines) (run : Run) : Type 0 where
   pub found : List Item
-  pub coming : space.tells → IsNamedStore (space.state old).records (space.state old).shape names
-      → meant (graph_of (space.state old).records) query ≡ with_first found (to_come (graph_of (space.state old).records) run)
+  pub lines : List (List ℕ)
+  pub formed : AreResults query.maps lines
+  pub shown : OfStore space names old (λ graph. lines ≡ map (shown_line graph query.maps) found)
+  pub there : OfStore space names old (λ graph. HasAsked graph (commands.Query query))
+  pub coming : OfStore space names old (λ graph. meant graph query ≡ with_first found (to_come graph run))
   pub goes : stopped_by run ≡ None
   pub read : IsRead space old now
-  pub has : HasLines sink mark before after held (map item_line found)
+  pub has : HasLines sink mark before after held lines
 
 -- nothing was found yet
-pub running-first : {R K : Type 0} {space : SpaceGhosts R} {sink : SinkGhosts K} (names : List (List ℕ)) (query : Query) (mark : List ℕ) → ((a : R) → space.onward a a) → (r : R) (k : K) (run : Run)
-    → ((graph : Graph) → to_come graph run ≡ meant graph query) → stopped_by run ≡ None → IsRunning space sink names query mark r r k k (no_lines mark) run
-running-first {space = space} names query mark stays r k run begins goes = record {
+pub running-first : {R K : Type 0} {space : SpaceGhosts R} {sink : SinkGhosts K} (names : List (List ℕ)) (query : Query) (mark : List ℕ) {old now : R} → IsRead space old now → (k : K) (run : Run)
+    → OfStore space names old (λ graph. to_come graph run ≡ meant graph query) → OfStore space names old (λ graph. HasAsked graph (commands.Query query)) → stopped_by run ≡ None
+    → IsRunning space sink names query mark old now k k (no_lines mark) run
+running-first names query mark read k run begins there goes = record {
   found = [];
-  coming = λ told store. sym (begins (graph_of (space.state r).records));
+  lines = [];
+  formed = results-none query.maps;
+  shown = λ told store. refl;
+  there = there;
+  coming = λ told store. sym (begins told store);
   goes = goes;
-  read = is_read-none space stays r;
+  read = read;
   has = lines-none mark k;
-}
-
--- there was no memory for a run
-pub running-none : {R K : Type 0} {space : SpaceGhosts R} {sink : SinkGhosts K} (names : List (List ℕ)) (query : Query) (mark : List ℕ) → ((a : R) → space.onward a a) → (r : R) (k then : K) (turn : Turn)
-    → Gives sink (mark ++ fault_line NoMemory) k then turn → GivesReading space sink names (commands.Query query) mark r r k then turn
-running-none {space = space} names query mark stays r k then turn gives = record {
-  reply = Faulted [] NoMemory;
-  form = query-stop query [] NoMemory;
-  gives = gives;
-  means = λ told store. inl refl;
-  verdict = λ told is. cc;
-  told = λ blames. absurd (blames refl);
-  read = is_read-none space stays r;
-  idle = λ spared. absurd (query-spared query spared);
 }
 
 module _ {R K : Type 0} {space : SpaceGhosts R} {sink : SinkGhosts K} {names : List (List ℕ)} {query : Query} {mark : List ℕ} (further : (a b c : R) → space.onward a b → space.onward b c → space.onward a c) {old now : R} {before after : K}
@@ -99,102 +101,148 @@ module _ {R K : Type 0} {space : SpaceGhosts R} {sink : SinkGhosts K} {names : L
   abbrev graph : Graph
   graph = graph_of (space.state old).records
 
-  abbrev graph_now : Graph
-  graph_now = graph_of (space.state now).records
+  abbrev line_of : Item → List ℕ
+  line_of = shown_line graph query.maps
+
+  -- the store is as it was at the start
+  pub named-now : IsNamedStore (space.state old).records (space.state old).shape names → IsNamedStore (space.state now).records (space.state now).shape names
+  named-now store = named-same (space.state old) (space.state now) names running.read.same store
 
   -- what the run says of the records as they are now, it says of those at the start
-  pub at_start : (P : Graph → Type 0) → (space.tells → IsNamedStore (space.state now).records (space.state now).shape names → P graph_now) → space.tells → IsNamedStore (space.state old).records (space.state old).shape names → P graph
-  at_start P says told store =
-      subst (λ (records : Records). P (graph_of records)) (records-same (space.state old) (space.state now) running.read.same)
-      (says told (named-same (space.state old) (space.state now) names running.read.same store))
+  pub at_start : (P : Graph → Type 0) → OfStore space names now P → OfStore space names old P
+  at_start P says told store = subst (λ (records : Records). P (graph_of records)) (records-same (space.state old) (space.state now) running.read.same) (says told (named-now store))
 
   -- the results so far, with what is still to come
-  first-found : (coming : Stream) → to_come graph run ≡ coming → space.tells → IsNamedStore (space.state old).records (space.state old).shape names → meant graph query ≡ with_first running.found coming
+  first-found : (coming : Stream) → to_come graph run ≡ coming → OfStore space names old (λ graph. meant graph query ≡ with_first running.found coming)
   first-found coming is told store = running.coming told store ∙ ap (with_first running.found) is
 
-  are-first : space.tells → IsNamedStore (space.state old).records (space.state old).shape names → BeginResults running.found (meaning graph query)
+  are-first : OfStore space names old (λ graph. BeginResults running.found (meaning graph query))
   are-first told store = ((to_come graph run).items, sym (ap (λ (s : Stream). s.items) (running.coming told store)))
+
+  -- the lines so far are the first of those that the query asks for
+  begin-lines : OfStore space names old (λ graph. (more : List (List ℕ)) × (running.lines ++ more ≡ all_lines graph query))
+  begin-lines told store =
+      let all = lines-first line_of running.found (meaning graph query) (are-first told store) in
+      (all.0, ap (λ (lines : List (List ℕ)). lines ++ all.0) (running.shown told store) ∙ all.1)
 
   module _ {next : R} (reads : IsRead space now next) where
     read-on : IsRead space old next
     read-on = is_read-on space further old now next running.read reads
 
-    module _ (later : Run) (item : Item)
-        (comes : space.tells → IsNamedStore (space.state now).records (space.state now).shape names → to_come graph_now run ≡ with_first (item ∷ []) (to_come graph_now later)) where
-      found_more : space.tells → IsNamedStore (space.state old).records (space.state old).shape names → meant graph query ≡ with_first (running.found ++ item ∷ []) (to_come graph later)
-      found_more told store =
-          first-found (with_first (item ∷ []) (to_come graph later)) (at_start (λ g. to_come g run ≡ with_first (item ∷ []) (to_come g later)) comes told store) told store
-          ∙ first-first running.found item (to_come graph later)
-
-      -- a result was found, and its line gathered
-      pub running-on : stopped_by later ≡ None → (new : MarkedLines) (then : K) → AddsLine sink (result_text item) held new after then Go → IsRunning space sink names query mark old next before then new later
-      running-on goes new then adds = record {
-        found = running.found ++ item ∷ [];
-        coming = found_more;
-        goes = goes;
-        read = read-on;
-        has = subst (λ (lines : List (List ℕ)). HasLines sink mark before then new lines) (sym (map-append item_line running.found (item ∷ []))) (lines-add running.has (item_line item) new then adds);
-      }
-
-      -- the sink failed
-      pub running-stop : (new : MarkedLines) (then : K) (turn : Turn) → AddsLine sink (result_text item) held new after then turn → turn ≢ Go → GivesReading space sink names (commands.Query query) mark old next before then turn
-      running-stop new then turn adds stops =
-          let first = running.found ++ item ∷ [] in
-          let all = meaning graph query in
-          let past = has_past_count graph query in
-          record {
-            reply = whole_of past first all;
-            form = whole-form query past first all;
-            gives = subst (λ (text : List ℕ). Gives sink text before then turn) (whole-text mark past first all)
-                (subst (λ (lines : List (List ℕ)). Gives sink (bytes_of mark lines ++ rest_of mark past first all) before then turn) (sym (map-append item_line running.found (item ∷ [])))
-                (lines-stop running.has (item_line item) new then turn adds stops (rest_of mark past first all)));
-            means = λ told store. whole-means graph query past refl first ((to_come graph later).items, sym (ap (λ (s : Stream). s.items) (found_more told store)));
-            verdict = λ told is. cc;
-            told = λ blames. absurd (blames (whole-told past first all));
-            read = read-on;
-            idle = λ spared. absurd (query-spared query spared);
-          }
-
     -- all results were found
-    pub running-end : (space.tells → IsNamedStore (space.state now).records (space.state now).shape names → to_come graph_now run ≡ stream []) → (then : K) (turn : Turn)
-        → Gives sink (held.bytes ++ (held.mark ++ text_line end_text)) after then turn → GivesReading space sink names (commands.Query query) mark old next before then turn
+    pub running-end : OfStore space names now (λ graph. to_come graph run ≡ stream []) → (then : K) (turn : Turn) → Gives sink (held.bytes ++ (held.mark ++ text_line end_text)) after then turn
+        → GivesReading space sink names (commands.Query query) mark old next before then turn
     running-end ends then turn gives = record {
-      reply = Told (map item_line running.found) end_text;
-      form = query-tell query running.found;
+      reply = Told running.lines end_text;
+      form = query-tell query running.lines running.formed;
       gives = lines-last running.has (text_line end_text) then turn gives;
       means = λ told store.
           let all = first-found (stream []) (at_start (λ g. to_come g run ≡ stream []) ends told store) told store in
-          query-all graph query running.found (sym (ap (λ (s : Stream). s.items) all ∙ append-nil running.found)) (ap (λ (s : Stream). s.past) all);
+          query-all graph query (running.there told store) running.lines
+          (running.shown told store ∙ ap (map line_of) (sym (ap (λ (s : Stream). s.items) all ∙ append-nil running.found))) (ap (λ (s : Stream). s.past) all);
       verdict = λ told is. cc;
       told = λ blames. absurd (blames refl);
       read = read-on;
-      idle = λ spared. absurd (query-spared query spared);
+      idle = λ spared. absurd ((asks-query query).unspared spared);
     }
 
     -- the run stopped with a fault
-    pub running-fault : (fault : Fault) → (space.tells → IsNamedStore (space.state old).records (space.state old).shape names → MeansFault graph (commands.Query query) (map item_line running.found) fault)
-        → (told_in fault ≢ 0 → Rose (space.faults now) (space.faults next)) → (then : K) (turn : Turn) → Gives sink (held.bytes ++ (held.mark ++ fault_line fault)) after then turn → GivesReading space sink names (commands.Query query) mark old next before then turn
+    pub running-fault : (fault : Fault) → OfStore space names old (λ graph. MeansFault graph (commands.Query query) running.lines fault) → (told_in fault ≢ 0 → Rose (space.faults now) (space.faults next)) → (then : K) (turn : Turn)
+        → Gives sink (held.bytes ++ (held.mark ++ fault_line fault)) after then turn → GivesReading space sink names (commands.Query query) mark old next before then turn
     running-fault fault means rose then turn gives = record {
-      reply = Faulted (map item_line running.found) fault;
-      form = query-stop query running.found fault;
+      reply = Faulted running.lines fault;
+      form = query-stop query running.lines running.formed fault;
       gives = lines-last running.has (fault_line fault) then turn gives;
       means = λ told store. means told store;
       verdict = λ told is. cc;
       told = λ blames. Rose-from (space.faults old) (space.faults now) (space.faults next) running.read.later (rose blames);
       read = read-on;
-      idle = λ spared. absurd (query-spared query spared);
+      idle = λ spared. absurd ((asks-query query).unspared spared);
     }
 
-  -- the lines so far are the first of those that the query asks for
-  pub shows-some : space.tells → IsNamedStore (space.state old).records (space.state old).shape names → ShowsSome graph (commands.Query query) (map item_line running.found)
-  shows-some told store = inr (reading_of graph query, refl, lines-first running.found (meaning graph query) (are-first told store))
+  -- so they may stand before a fault
+  pub shows-some : OfStore space names old (λ graph. ShowsSome graph (commands.Query query) running.lines)
+  shows-some told store = inr (reading_of graph query, refl, begin-lines told store)
 
   -- where a count passes of what is to come, the query's passes
-  past-found : (space.tells → IsNamedStore (space.state now).records (space.state now).shape names → (to_come graph_now run).past ≡ true) → space.tells → IsNamedStore (space.state old).records (space.state old).shape names
-      → has_past_count graph query ≡ true
+  past-found : OfStore space names now (λ graph. (to_come graph run).past ≡ true) → OfStore space names old (λ graph. has_past_count graph query ≡ true)
   past-found passes told store = ap (λ (s : Stream). s.past) (running.coming told store) ∙ at_start (λ g. (to_come g run).past ≡ true) passes told store
 
   -- so a count passes in what the query asks for
-  pub shows-past : (space.tells → IsNamedStore (space.state now).records (space.state now).shape names → (to_come graph_now run).past ≡ true) → space.tells → IsNamedStore (space.state old).records (space.state old).shape names
-      → ShowsPast graph (commands.Query query) (map item_line running.found)
-  shows-past passes told store = (reading_of graph query, refl, past-found passes told store, lines-first running.found (meaning graph query) (are-first told store))
+  pub shows-past : OfStore space names now (λ graph. (to_come graph run).past ≡ true) → OfStore space names old (λ graph. ShowsPast graph (commands.Query query) running.lines)
+  shows-past passes told store = (reading_of graph query, refl, past-found passes told store, begin-lines told store)
+
+  -- records were not read to their end
+  pub running-stopped : {next : R} → IsRead space now next → (fault : StopFault) → (fault ≡ faults.Disk → Rose (space.faults now) (space.faults next)) → OfStore space names now (λ graph. (damage : Damage) → fault ≢ faults.Damaged damage)
+      → (then : K) (turn : Turn) → Gives sink (held.bytes ++ (held.mark ++ fault_line (stop_of fault))) after then turn → GivesReading space sink names (commands.Query query) mark old next before then turn
+  running-stopped reads faults.Memory rose sound then turn gives = running-fault reads NoMemory shows-some (λ blames. absurd (blames refl)) then turn gives
+  running-stopped reads faults.Disk rose sound then turn gives = running-fault reads DiskFailed shows-some (λ blames. rose refl) then turn gives
+  running-stopped reads (faults.Damaged damage) rose sound then turn gives =
+      running-fault reads (DamagedRecord damage.file damage.id) (λ told store. absurd (sound told (named-now store) damage refl)) (λ blames. absurd (blames refl)) then turn gives
+
+  -- ---- one more result
+
+  module _ {mid : R} (comes-read : IsRead space now mid) (later : Run) (item : Item) (comes : OfStore space names now (λ graph. to_come graph run ≡ with_first (item ∷ []) (to_come graph later))) where
+    found_more : OfStore space names old (λ graph. meant graph query ≡ with_first (running.found ++ item ∷ []) (to_come graph later))
+    found_more told store =
+        first-found (with_first (item ∷ []) (to_come graph later)) (at_start (λ g. to_come g run ≡ with_first (item ∷ []) (to_come g later)) comes told store) told store
+        ∙ first-first running.found item (to_come graph later)
+
+    -- what is read until its line is gathered
+    read-to : {next : R} → IsRead space mid next → IsRead space old next
+    read-to {next = next} reads = is_read-on space further old mid next (is_read-on space further old now mid running.read comes-read) reads
+
+    module _ {new : MarkedLines} {then : K} {turn : Turn} (adds : AddsShown space sink names query.maps item mid held new after then turn) where
+      -- the lines with its own
+      formed-more : AreResults query.maps (running.lines ++ adds.line ∷ [])
+      formed-more = results-more query.maps running.lines running.formed item adds.line adds.form
+
+      shown-more : OfStore space names old (λ graph. running.lines ++ adds.line ∷ [] ≡ map (shown_line graph query.maps) (running.found ++ item ∷ []))
+      shown-more told store =
+          let same = is_read-on space further old now mid running.read comes-read in
+          let line : adds.line ≡ line_of item
+          = subst (λ (records : Records). adds.line ≡ shown_line (graph_of records) query.maps item) (records-same (space.state old) (space.state mid) same.same)
+          (adds.shown told (named-same (space.state old) (space.state mid) names same.same store)) in
+          (λ i. running.shown told store i ++ line i ∷ []) ∙ sym (map-append line_of running.found (item ∷ []))
+
+      -- a result was found, and its line gathered
+      pub running-on : {next : R} → IsRead space mid next → turn ≡ Go → stopped_by later ≡ None → IsRunning space sink names query mark old next before then new later
+      running-on reads is goes = record {
+        found = running.found ++ item ∷ [];
+        lines = running.lines ++ adds.line ∷ [];
+        formed = formed-more;
+        shown = shown-more;
+        there = running.there;
+        coming = found_more;
+        goes = goes;
+        read = read-to reads;
+        has = lines-add running.has adds.line new then (subst (λ (t : Turn). AddsLine sink (text_line adds.line) held new after then t) is adds.adds);
+      }
+
+      -- the sink failed
+      pub running-stop : {next : R} → IsRead space mid next → turn ≢ Go → GivesReading space sink names (commands.Query query) mark old next before then turn
+      running-stop reads stops =
+          let lines = running.lines ++ adds.line ∷ [] in
+          let found = running.found ++ item ∷ [] in
+          let more = more_lines graph query found in
+          let past = has_past_count graph query in
+          record {
+            reply = whole_of past lines more;
+            form = whole-form graph query lines found formed-more past;
+            gives = subst (λ (text : List ℕ). Gives sink text before then turn) (whole-text mark past lines more) (lines-stop running.has adds.line new then turn adds.adds stops (rest_of mark past more));
+            means = λ told store. whole-means graph query lines found (running.there told store) (shown-more told store) ((to_come graph later).items, sym (ap (λ (s : Stream). s.items) (found_more told store))) past refl;
+            verdict = λ told is. cc;
+            told = λ blames. absurd (blames (whole-told past lines more));
+            read = read-to reads;
+            idle = λ spared. absurd ((asks-query query).unspared spared);
+          }
+
+    -- its line was not known
+    pub running-unshown : {new : MarkedLines} {between then : K} {next : R} (fault : StopFault) → IsRead space mid next → AddsNone space names mid next held new after between fault → (turn : Turn)
+        → Gives sink (new.bytes ++ (new.mark ++ fault_line (stop_of fault))) between then turn → GivesReading space sink names (commands.Query query) mark old next before then turn
+    running-unshown {new = new} {between = between} {then = then} {next = next} fault reads none turn gives =
+        running-stopped (is_read-on space further now mid next comes-read reads) fault
+        (λ is. Rose-from (space.faults now) (space.faults mid) (space.faults next) comes-read.later (none.disk is))
+        (λ told store. none.sound told (named-same (space.state now) (space.state mid) names comes-read.same store)) then turn
+        (subst (λ (k : K). Gives sink (held.bytes ++ (held.mark ++ fault_line (stop_of fault))) k then turn) none.output
+        (subst (λ (lines : MarkedLines). Gives sink (lines.bytes ++ (lines.mark ++ fault_line (stop_of fault))) between then turn) none.held gives))

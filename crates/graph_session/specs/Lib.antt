@@ -6,13 +6,16 @@ pub mod Drafting
 pub mod EdgeResults
 pub mod Effects
 pub mod Exchange
+pub mod IndexLists
 pub mod IndexResults
 pub mod Known
 pub mod LineBuffer
 pub mod MayStep
 pub mod Moments
+pub mod NameLists
 pub mod Naming
 pub mod Opening
+pub mod QueryResults
 pub mod Questions
 pub mod ReaderAnswers
 pub mod ReaderStep
@@ -35,3 +38,4 @@ pub mod TapEnds
 pub mod Tapping
 pub mod Verdicts
 pub mod Versions
+pub mod Views

@@ -3,6 +3,9 @@ use Rattle.std.specs.Prelude.{◌≡◌, ◌≢◌, ◌≤◌, ℕ, List, [], �
 use Rattle.fault_count.specs.Cause.{Rose}
 use Rattle.stream_io.specs.Streams.{TakesFront}
 use Rattle.stream_io.specs.declared.streams.Sink.{Ghosts}
+use Rattle.plain_graph.specs.Reply.{DamagedRecord, DiskFailed, Fault, NoMemory}
+use Rattle.rec_bytes.specs.declared.fault.Fault.{Fault as StopFault}
+use Rattle.rec_bytes.specs.declared.fault.Fault.TheVariants as faults
 use Rattle.graph_session.specs.declared.turn.Turn.{Turn}
 use Rattle.graph_session.specs.declared.turn.Turn.TheVariants.{Go, Quit, SinkFault}
 
@@ -36,3 +39,9 @@ pub record AddsLine {K : Type 0} (sink : Ghosts K) (line : List ℕ) (old new : 
     (before after : K) (turn : Turn) : Type 0 where
   pub adds : Adds sink (old.mark ++ line) old.bytes new.bytes before after turn
   pub mark : new.mark ≡ old.mark
+
+-- the fault that a reply ends with where records were not read to their end
+abbrev pub stop_of : StopFault → Fault
+stop_of faults.Memory = NoMemory
+stop_of faults.Disk = DiskFailed
+stop_of (faults.Damaged damage) = DamagedRecord damage.file damage.id

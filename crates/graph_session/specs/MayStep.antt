@@ -1,13 +1,14 @@
 -- What a line may do over any disk, whatever is in it: by its command and the reply, what becomes
 -- of the session, of its records and of the disk.
-use Rattle.std.specs.Prelude.{◌≡◌, ◌≢◌, ◌⊎◌, ◌≤◌, ℕ, true, false, Some, List, []}
+use Rattle.std.specs.Prelude.{◌≡◌, ◌≢◌, ◌⊎◌, ◌≤◌, ℕ, true, false, Option, None, Some, List, []}
 use Rattle.fault_count.specs.Cause.{Rose}
 use Rattle.disk_model.specs.declared.disk.Disk.{Ghosts}
 use Rattle.stream_io.specs.Lines.{InputLine, Whole, Long}
 use Rattle.plain_graph.specs.Changes.{most_weight}
-use Rattle.plain_graph.specs.Graph.{Graph}
+use Rattle.plain_graph.specs.Graph.{Graph, Index}
 use Rattle.plain_graph.specs.Kinds.{Blanks, Bound, Change, Ending, Kind, Question, Sight, Upkeep}
-use Rattle.plain_graph.specs.Lines.{IsFormed, Reading, kind_of}
+use Rattle.plain_graph.specs.Lines.{Asked, AtEdge, IsFormed, Nowhere, Reading, asked_of, index_of}
+use Rattle.plain_graph.specs.Lines.{kind_of}
 use Rattle.plain_graph.specs.LineChanges.{line_reasons, mutated_reply}
 use Rattle.plain_graph.specs.Refusals.{FirstReason}
 use Rattle.plain_graph.specs.Reply.{DamagedRecord, DiskFailed, Done, EdgeMade, Fault, Faulted}
@@ -65,10 +66,21 @@ IsRefusable command =
     (limit : ℕ) × (graph : Graph) × (why : Refusal)
     × FirstReason line_reasons limit graph command why
 
--- What a line that reads may be refused for: the index that it asks of is missing, or a node is.
+-- An element that is asked of is said to be missing.
+abbrev pub TellsMissing : Asked → Refusal → Type 0
+TellsMissing Nowhere why = ⊥
+TellsMissing (AtEdge id) why = why ≡ refusals.NoEdge id
+TellsMissing asked why = (id : ℕ) × (why ≡ refusals.NoNode id)
+
+-- An index that is asked of is said to be missing.
+abbrev pub TellsUnindexed : Option Index → Refusal → Type 0
+TellsUnindexed None why = ⊥
+TellsUnindexed (Some index) why = why ≡ refusals.NoIndex
+
+-- What a line that reads may be refused for: an element that it asks of is missing, or the index.
 abbrev pub LacksAsked : Command → Refusal → Type 0
-LacksAsked (commands.Find label key value) why = why ≡ refusals.NoIndex
-LacksAsked command why = (id : ℕ) × (why ≡ refusals.NoNode id)
+LacksAsked command why =
+    TellsMissing (asked_of command) why ⊎ TellsUnindexed (index_of command) why
 
 -- The reply to a line that reads: an answer of its form, or the first lines of one and a fault, or
 -- that what it asks of is missing. What never lacks memory has no fault.

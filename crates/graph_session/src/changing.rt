@@ -6,6 +6,7 @@ ghost use Rattle.plain_graph.specs.Lines.{HasForm};
 ghost use Rattle.plain_graph.specs.declared.command.Command.TheVariants as commands;
 ghost use Rattle.plain_graph.specs.declared.command.Target.TheVariants as targets;
 ghost use Rattle.plain_graph.specs.declared.mutation.Mutation.{Mutation as AMutation};
+ghost use Rattle.plain_graph.proofs.LineLaws.{HasIndexOf};
 ghost use Rattle.rec_bytes.specs.Pairs.{merged};
 ghost use Rattle.rec_bytes.specs.Space.{SameButReads};
 ghost use Rattle.txn_core.specs.Base.{SameBeneath};
@@ -14,7 +15,7 @@ ghost use Rattle.txn_core.specs.Store.{drafted, working};
 ghost use Rattle.graph_ops.specs.Change.{full_of};
 ghost use Rattle.graph_ops.specs.Store.{graph_in};
 ghost use Rattle.graph_session.specs.Answering.{reply_of};
-ghost use Rattle.graph_session.specs.Drafting.{answer_for, answer_for_read};
+ghost use Rattle.graph_session.specs.Drafting.{answer_for};
 ghost use Rattle.graph_session.specs.Settling.{SettlesCommand};
 ghost use Rattle.graph_session.specs.SnapshotEffects.{KeepsOlds};
 ghost use Rattle.graph_session.specs.Tapping.{HasRoom, Takes, TapsCommand};
@@ -23,6 +24,7 @@ ghost use Rattle.graph_session.specs.declared.health.Health.TheVariants as healt
 use crate::answer::Answer;
 use crate::results::Results;
 use crate::tapping::forget;
+use crate::unknown::answer_of_lookup;
 use crate::{Health, Session};
 use disk_model::Disk;
 use fault_count::Failed;
@@ -427,6 +429,8 @@ impl<'d, D: Disk> Session<'d, D> {
             → IfOk result (λ items. items.items
             ≡ read_items (graph_in (state_of self.old.store)) reading.now) }
         ensures shown { IfOk result (λ items. AllByRecursion IsShown items.items) }
+        ensures there { D.tells_reads → HasStore self.old
+            → OnOk result (HasIndexOf (graph_in (state_of self.old.store)) reading.now) }
         ensures stopped { IfErr result (λ why. (mutation : AMutation)
             → IsStopped (commands.Mutate reading.now mutation) self.old
             self.new.store.base.disk.now why) }
@@ -435,7 +439,7 @@ impl<'d, D: Disk> Session<'d, D> {
             None => Ok(Vec::new(self.alloc)),
             Some(query) => match items_of(self.alloc, &mut self.store, &self.names, query) {
                 Ok(items) => Ok(items),
-                Err(fault) => Err(answer_of_read(fault)),
+                Err(fault) => Err(answer_of_lookup(fault)),
             },
         }
     }
@@ -593,17 +597,6 @@ fn answer_of(fault: ChangeFault) -> Answer
             Answer::Refused(Refusal::HasRelationships { id })
         }
         ChangeFault::Damaged(damage) => Answer::Damaged(damage),
-    }
-}
-
-// The answer of a change whose reading part was not read to its end.
-fn answer_of_read(fault: Fault) -> Answer
-    ensures { result ≡ answer_for_read fault }
-{
-    match fault {
-        Fault::Memory => Answer::NoMemory,
-        Fault::Disk => Answer::DiskFailed,
-        Fault::Damaged(damage) => Answer::Damaged(damage),
     }
 }
 

@@ -1,12 +1,17 @@
-ghost use Rattle.std.specs.Prelude.{◌≡◌, ◌++◌, []};
+ghost use Rattle.std.specs.Prelude.{◌≡◌, ◌≤◌, ◌++◌, [], length};
 ghost use Rattle.plain_graph.specs.Forms.{IsShown};
-ghost use Rattle.plain_graph.specs.Reply.{result_text};
+ghost use Rattle.plain_graph.specs.Reply.{fault_line, index_line, result_text, text_line};
 ghost use Rattle.graph_session.specs.Answer.{Gives};
-ghost use Rattle.graph_session.specs.LineBuffer.{Adds, AddsLine, no_lines};
+ghost use Rattle.graph_session.specs.LineBuffer.{Adds, AddsLine, no_lines, stop_of};
+ghost use Rattle.graph_session.specs.NameLists.{name_text};
 
 use crate::Turn;
 use crate::giving::give;
-use plain_graph::{ByteBuffer, Item, ResultLine, result_line};
+use plain_graph::{
+    ByteBuffer, Item, ResultLine, damaged, disk_fault, index_line, name_line, no_memory,
+    result_line,
+};
+use rec_bytes::Fault;
 use std::marker::Model;
 use stream_io::Sink;
 
@@ -54,6 +59,26 @@ impl<'a> LineBuffer<'a> {
         gather_marked(&mut self.bytes, output, self.mark, self.line.as_bytes())
     }
 
+    /// Puts the line of a name at the end, as `add` does.
+    pub(crate) fn add_name<K: Sink>(&mut self, output: &mut K, name: &[u8]) -> Turn
+        requires { length name.now ≤ 48 }
+        ensures { AddsLine K.Sink (text_line (name_text name.now))
+            self.old self.new output.old output.new result }
+    {
+        name_line(name, &mut self.line);
+        gather_marked(&mut self.bytes, output, self.mark, self.line.as_bytes())
+    }
+
+    /// Puts the line of an index at the end, as `add` does.
+    pub(crate) fn add_index<K: Sink>(&mut self, output: &mut K, label: &[u8], key: &[u8]) -> Turn
+        requires { length label.now ≤ 48 × length key.now ≤ 48 }
+        ensures { AddsLine K.Sink (text_line (index_line label.now key.now))
+            self.old self.new output.old output.new result }
+    {
+        index_line(label, key, &mut self.line);
+        gather_marked(&mut self.bytes, output, self.mark, self.line.as_bytes())
+    }
+
     /// Puts the mark and a line at the end. Where they have no room, what was gathered goes to the
     /// sink first; a line that is longer than the buffer then follows it.
     pub(crate) fn add<K: Sink>(&mut self, output: &mut K, line: &[u8]) -> Turn
@@ -70,6 +95,20 @@ impl<'a> LineBuffer<'a> {
         match self.add(output, line) {
             Turn::Go => self.flush(output),
             turn => turn,
+        }
+    }
+
+    /// Puts the mark and the line of a fault at the end, and gives all to the sink.
+    pub(crate) fn stop<K: Sink>(&mut self, output: &mut K, fault: Fault) -> Turn
+        ensures { Gives K.Sink (self.old.bytes ++ (self.old.mark ++ fault_line (stop_of fault)))
+            output.old output.new result }
+    {
+        match fault {
+            Fault::Memory => self.finish(output, no_memory()),
+            Fault::Disk => self.finish(output, disk_fault()),
+            Fault::Damaged(damage) => {
+                self.finish(output, damaged(damage.file, damage.id).as_bytes())
+            }
         }
     }
 

@@ -5,9 +5,12 @@ use crate::Turn;
 use crate::questions::counts::give_counts;
 use crate::questions::degrees::give_degree;
 use crate::questions::edge_results::give_edges;
+use crate::questions::index_lists::give_indexes;
 use crate::questions::index_results::give_found;
+use crate::questions::name_lists::give_names;
 use crate::questions::query_results::give_query;
 use crate::questions::verdicts::give_verdict;
+use crate::questions::views::give_view;
 use crate::questions::walks::{give_levels, give_walk};
 use name_store::Names;
 use plain_graph::Command;
@@ -18,9 +21,12 @@ use stream_io::Sink;
 mod counts;
 mod degrees;
 mod edge_results;
+mod index_lists;
 mod index_results;
+mod name_lists;
 mod query_results;
 mod verdicts;
+mod views;
 mod walks;
 
 /// Answers a line that reads the graph of a space, whose names these are. The mark stands before
@@ -69,6 +75,9 @@ pub(crate) fn answer_question<R: Reads, K: Sink>(
         Command::Find { label, key, value } => {
             give_found(alloc, space, names, label, key, value, mark, output)
         }
+        Command::View(target) => give_view(alloc, space, names, target, mark, output),
+        Command::ViewNames => give_names(space, names, mark, output),
+        Command::ViewIndexes => give_indexes(alloc, space, names, mark, output),
         Command::Query(query) => give_query(alloc, space, names, query, mark, output),
         _ => Turn::Go,
     }

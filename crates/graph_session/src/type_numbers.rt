@@ -1,28 +1,25 @@
-ghost use Rattle.std.specs.Prelude.{IfSome, ◌<◌, ◌∷◌, []};
+ghost use Rattle.std.specs.Prelude.{◌≡◌, ◌≤◌, ◌∷◌, [], length};
 ghost use Rattle.plain_graph.specs.Lines.{types_of};
+ghost use Rattle.rec_bytes.specs.Format.{most_names};
 ghost use Rattle.rec_bytes.specs.declared.shape.Shape.{Shape as AShape};
 ghost use Rattle.store_rules.specs.Rows.{option_list};
 ghost use Rattle.store_rules.specs.Views.{Records};
 ghost use Rattle.expand.proofs.ModelEdges.{StandFor};
-ghost use Rattle.traversal_run.specs.Naming.{FindsName, name_count};
+ghost use Rattle.traversal_run.specs.Naming.{name_count};
 ghost use Rattle.traversal_run.specs.Reading.{IsNamedStore};
 
 use name_store::Names;
 use plain_graph::Text;
 use rec_bytes::{NAMES, Reads};
 
-/// The number of a text among the names of the space, which are the first of those in memory.
-pub(crate) fn name_number<R: Reads>(space: &R, names: &Names, text: &Text) -> Option<u32>
-    ensures finds { IsNamedStore (R.state space.now).records (R.state space.now).shape
-        names.now.names → FindsName (R.state space.now).records result text.now }
-    ensures below { IfSome result (λ number. number < name_count (R.state space.now).records) }
+/// How many names the space has, which are the first of those in memory.
+pub(crate) fn name_count<R: Reads>(space: &R, names: &Names) -> u32
+    ensures is { IsNamedStore (R.state space.now).records (R.state space.now).shape
+        names.now.names → result ≡ name_count (R.state space.now).records }
+    ensures among { result ≤ length names.now.names }
+    ensures few { result ≤ most_names }
 {
-    let number = names.find(text.as_bytes())?;
-    if number < space.meta(NAMES).high.min(names.count()) {
-        Some(number)
-    } else {
-        None
-    }
+    space.meta(NAMES).high.min(names.count())
 }
 
 /// The number of a type. Of a type that is no name of the store it is one that no edge has.

@@ -1,49 +1,65 @@
-use Rattle.std.proofs.Common.{refl}
-use Rattle.plain_graph.specs.Reply.{DamagedRecord, DiskFailed, NoMemory, PastCount}
-use Rattle.store_rules.proofs.Breaches.{none_broken}
-use Rattle.graph_session.proofs.Running.{is_read-none, named-same, running-end, running-fault, running-first, running-none, running-on, running-stop, shows-past, shows-some}
+use Rattle.std.proofs.Common.{◌∙◌, Err, ap, refl, subst, sym}
+use Rattle.plain_graph.specs.Lines.{index_of_source}
+use Rattle.plain_graph.specs.Reply.{PastCount}
+use Rattle.prop_index.specs.Looking.{BlamesBroken}
+use Rattle.rec_bytes.specs.declared.fault.Fault.TheVariants as faults
+use Rattle.store_rules.specs.Graph.{graph_of}
+use Rattle.store_rules.proofs.Breaches.{none_at_all, none_broken}
+use Rattle.traversal_run.specs.FoundNodes.{IsSourceRefusal}
+use Rattle.graph_session.proofs.IndexQuestions.{asks-unfound}
+use Rattle.graph_session.proofs.Reasons.{index-there}
+use Rattle.graph_session.proofs.Running.{is_read-none, running-end, running-fault, running-first, running-on, running-stop, running-stopped, running-unshown, shows-past}
+use Rattle.graph_session.proofs.WholeReplies.{asks-query}
 use Rattle.graph_session.proofs.questions.query_results.give_query.Goals as goal
 
 pub loop-init : goal.loop-init
 loop-init g c =
-    rw c.new-lines.ensures (running-first c.args.names.now.names c.args.query.now c.args.mark.now g.met.R.Reads.stays_onward c.args.space.now c.args.output.now c.in-Ok.run' c.in-Ok.ensures.begins c.in-Ok.ensures.stopped)
+    let s = g.R.Reads.state c.args.space.now in
+    let met = c.in-Ok.ensures in
+    let query = c.args.query.now in
+    rw c.new-lines.ensures
+    (running-first c.args.names.now.names query c.args.mark.now met.read c.args.output.now _ (λ told store. met.found told store)
+    (λ told store. index-there (graph_of s.records) (index_of_source query.source) (met.there told store)) met.stopped)
 
-pub returns-in_default : goal.returns-in_default
-returns-in_default g c =
-    running-none c.args.names.now.names c.args.query.now c.args.mark.now g.met.R.Reads.stays_onward c.args.space.now c.args.output.now c.finish.new.output c.finish.result (rw (c.new-lines.ensures, c.no_memory.ensures) at c.finish.ensures)
+pub returns-in-Err : goal.returns-in-Err
+returns-in-Err g c =
+    let s = g.R.Reads.state c.args.space.now in
+    let met = c.in-Err.ensures in
+    let fault = c.in-Err.fault in
+    let query = c.args.query.now in
+    asks-unfound (asks-query query) (λ graph. tt) met.read fault (λ is none. let memory = met.memory none in absurd (let e = sym is ∙ memory in cc)) (λ disk. met.cause.disk (ap Err disk))
+    (λ told store is. subst (IsSourceRefusal (graph_of s.records) query.source) is (met.refused told store))
+    (λ told store damage is. none_at_all s.records s.shape (record { store = store.store; indexes = store.indexes }) damage (subst (BlamesBroken s.records s.shape) is (met.damaged told)))
+    (rw c.answer_of_lookup.ensures at c.give_answer.ensures)
 
 pub loop-preserved : goal.loop-preserved
 loop-preserved g c =
-    running-on g.met.R.Reads.further_onward c.loop.invariant c.next.ensures.read c.next.new.self c.in-Item.item c.in-Item.ensures.item c.in-Item.ensures.stops c.add_result.new.self c.add_result.new.output (rw c.in-Go.is at c.add_result.ensures)
+    running-on g.met.R.Reads.further_onward c.loop.invariant c.next.ensures.read c.next.new.self c.in-Item.item c.in-Item.ensures.item c.in-Ok-add_shown.ensures.added c.in-Ok-add_shown.ensures.read c.in-Go.is c.in-Item.ensures.stops
 
-pub returns-in_default-add_result : goal.returns-in_default-add_result
-returns-in_default-add_result g c =
-    running-stop g.met.R.Reads.further_onward c.loop.invariant c.next.ensures.read c.next.new.self c.in-Item.item c.in-Item.ensures.item c.add_result.new.self c.add_result.new.output c.add_result.result c.add_result.ensures c.in_default-add_result.not-Go
+pub returns-in_default : goal.returns-in_default
+returns-in_default g c =
+    running-stop g.met.R.Reads.further_onward c.loop.invariant c.next.ensures.read c.next.new.self c.in-Item.item c.in-Item.ensures.item c.in-Ok-add_shown.ensures.added c.in-Ok-add_shown.ensures.read c.in_default.not-Go
+
+pub returns-in-Err-add_shown : goal.returns-in-Err-add_shown
+returns-in-Err-add_shown g c =
+    running-unshown g.met.R.Reads.further_onward c.loop.invariant c.next.ensures.read c.next.new.self c.in-Item.item c.in-Item.ensures.item c.in-Err-add_shown.fault c.in-Err-add_shown.ensures.read c.in-Err-add_shown.ensures.stopped c.stop.result c.stop.ensures
 
 pub returns-in-End : goal.returns-in-End
 returns-in-End g c =
-    running-end g.met.R.Reads.further_onward c.loop.invariant c.next.ensures.read (λ told store. c.in-End.ensures.end told store c.loop.invariant.goes refl) c.finish-in-End.new.output c.finish-in-End.result
-    (rw c.end_of_results.ensures at c.finish-in-End.ensures)
+    running-end g.met.R.Reads.further_onward c.loop.invariant c.next.ensures.read (λ told store. c.in-End.ensures.end told store c.loop.invariant.goes refl) c.finish.new.output c.finish.result (rw c.end_of_results.ensures at c.finish.ensures)
 
 pub returns-in-Memory : goal.returns-in-Memory
-returns-in-Memory g c =
-    running-fault g.met.R.Reads.further_onward c.loop.invariant c.next.ensures.read NoMemory (shows-some g.met.R.Reads.further_onward c.loop.invariant) (λ blames. absurd (blames refl)) c.finish-in-Memory.new.output c.finish-in-Memory.result
-    (rw c.no_memory-in-Memory.ensures at c.finish-in-Memory.ensures)
+returns-in-Memory g c = running-stopped g.met.R.Reads.further_onward c.loop.invariant c.next.ensures.read faults.Memory (λ e. cc) (λ told store damage e. cc) c.stop-in-Memory.new.output c.stop-in-Memory.result c.stop-in-Memory.ensures
 
 pub returns-in-Disk : goal.returns-in-Disk
 returns-in-Disk g c =
-    running-fault g.met.R.Reads.further_onward c.loop.invariant c.next.ensures.read DiskFailed (shows-some g.met.R.Reads.further_onward c.loop.invariant) (λ blames. c.in-Disk.ensures.cause c.loop.invariant.goes refl) c.finish-in-Disk.new.output
-    c.finish-in-Disk.result (rw c.disk_fault.ensures at c.finish-in-Disk.ensures)
+    running-stopped g.met.R.Reads.further_onward c.loop.invariant c.next.ensures.read faults.Disk (λ e. c.in-Disk.ensures.cause c.loop.invariant.goes refl) (λ told store damage e. cc) c.stop-in-Disk.new.output c.stop-in-Disk.result c.stop-in-Disk.ensures
 
 pub returns-in-Damaged : goal.returns-in-Damaged
 returns-in-Damaged g c =
-    let damage = c.in-Damaged.damage in
-    running-fault g.met.R.Reads.further_onward c.loop.invariant c.next.ensures.read (DamagedRecord damage.file damage.id)
-    (λ told store.
     let s = g.R.Reads.state c.loop.space in
-    let there = named-same (g.R.Reads.state c.args.space.now) s c.args.names.now.names c.loop.invariant.read.same store in
-    absurd (none_broken s.records s.shape there.store damage (c.in-Damaged.ensures.damaged told c.loop.invariant.goes)))
-    (λ blames. absurd (blames refl)) c.finish-in-Damaged.new.output c.finish-in-Damaged.result (rw (c.as_bytes.ensures, c.damaged.ensures.fault) at c.finish-in-Damaged.ensures)
+    running-stopped g.met.R.Reads.further_onward c.loop.invariant c.next.ensures.read (faults.Damaged c.in-Damaged.damage) (λ e. cc)
+    (λ told store damage e. none_broken s.records s.shape store.store c.in-Damaged.damage (c.in-Damaged.ensures.damaged told c.loop.invariant.goes)) c.stop-in-Damaged.new.output c.stop-in-Damaged.result c.stop-in-Damaged.ensures
 
 pub returns-in-PastCount : goal.returns-in-PastCount
 returns-in-PastCount g c =
@@ -53,5 +69,4 @@ returns-in-PastCount g c =
 
 pub returns : goal.returns
 returns g c =
-    running-fault g.met.R.Reads.further_onward c.loop.invariant (is_read-none g.R.Reads g.met.R.Reads.stays_onward c.loop.space) NoMemory (shows-some g.met.R.Reads.further_onward c.loop.invariant) (λ blames. absurd (blames refl))
-    c.finish-2.new.output c.finish-2.result (rw c.no_memory-2.ensures at c.finish-2.ensures)
+    running-stopped g.met.R.Reads.further_onward c.loop.invariant (is_read-none g.R.Reads g.met.R.Reads.stays_onward c.loop.space) faults.Memory (λ e. cc) (λ told store damage e. cc) c.stop-2.new.output c.stop-2.result c.stop-2.ensures

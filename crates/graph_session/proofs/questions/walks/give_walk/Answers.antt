@@ -4,11 +4,11 @@ use Rattle.plain_graph.specs.declared.command.Command.TheVariants as commands
 use Rattle.plain_graph.specs.declared.direction.Direction.{Direction}
 use Rattle.store_rules.specs.Graph.{graph_of}
 use Rattle.path_find.proofs.Unblamed.{unblamed}
-use Rattle.graph_session.proofs.NodeQuestions.{AsksNodes, end-missing, gives-told, gives-unknown, undamaged}
+use Rattle.graph_session.proofs.NodeQuestions.{AsksElements, end-missing, gives-told, gives-unknown, undamaged}
 use Rattle.graph_session.proofs.WalkReplies.{walk-counted}
 use Rattle.graph_session.proofs.questions.walks.give_walk.Goals as goal
 
-asks : (from to : ℕ) (direction : Direction) (label : Option (List ℕ)) → AsksNodes (commands.Path from to direction label)
+asks : (from to : ℕ) (direction : Direction) (label : Option (List ℕ)) → AsksElements (commands.Path from to direction label)
 asks from to direction label = record { question = tt; some = tt; reading = one_line no_path_text; formed = ([], refl) }
 
 pub returns-in-Ok : goal.returns-in-Ok
@@ -24,6 +24,6 @@ returns-in-Err g c =
     let met = c.in-Err.ensures in
     let fault = c.in-Err.fault in
     let a = c.args in
-    gives-unknown (asks a.from a.to a.direction a.label.now) met.read fault (λ disk. met.cause.disk (ap Err disk))
+    gives-unknown (asks a.from a.to a.direction a.label.now) met.read tt fault (λ disk. met.cause.disk (ap Err disk))
     (λ told store. end-missing (List ℕ) fault a.from a.to (graph_of (g.R.Reads.state c.args.space.now).records) (met.missing told store))
     (λ told store. undamaged (List ℕ) fault (unblamed {T = List ℕ} (g.R.Reads.state c.args.space.now) c.args.from c.args.to (Err fault) store.store (met.damaged told))) (rw c.answer_of.ensures at c.give_answer.ensures)

@@ -1,0 +1,45 @@
+use Rattle.std.proofs.Common.{Err, List, ℕ, Option, ap, refl, subst, sym}
+use Rattle.std.proofs.lemmas.Result.{err_from_is_err_and}
+use Rattle.plain_graph.specs.ElementMaps.{map_line}
+use Rattle.plain_graph.specs.Reply.{item_line}
+use Rattle.plain_graph.specs.declared.element_map.ElementMap.{ElementMap}
+use Rattle.prop_store.specs.Fault.{BlamesBroken}
+use Rattle.prop_store.specs.Reading.{ReadsAtMost}
+use Rattle.prop_store.proofs.ReadCounts.{reads_none}
+use Rattle.store_rules.specs.Graph.{graph_of}
+use Rattle.store_rules.proofs.Breaches.{none_broken}
+use Rattle.graph_session.specs.QueryResults.{AddsShown, reads_to_show}
+use Rattle.graph_session.proofs.questions.query_results.add_shown.Goals as goal
+
+pub returns-in_default-clause-added : goal.returns-in_default-clause-added
+returns-in_default-clause-added g c =
+    subst (λ (maps : Option (List (List ℕ))). AddsShown g.R.Reads g.K.Sink c.args.names.now.names maps c.args.item.now c.args.space.now c.args.lines.now c.add_result.new.self c.args.output.now c.add_result.new.output c.add_result.result) (sym c.in_default.is)
+    (record { line = item_line c.args.item.now; form = refl; shown = λ told store. refl; adds = c.add_result.ensures })
+
+pub returns-in_default-clause-cost : goal.returns-in_default-clause-cost
+returns-in_default-clause-cost g c = λ told store.
+    let s = g.R.Reads.state c.args.space.now in
+    subst (λ (maps : Option (List (List ℕ))). ReadsAtMost (reads_to_show (graph_of s.records) maps c.args.item.now) s s) (sym c.in_default.is) (reads_none 0 s)
+
+pub returns-in_err-map-clause-stopped : goal.returns-in_err-map-clause-stopped
+returns-in_err-map-clause-stopped g c =
+    let s = g.R.Reads.state c.args.space.now in
+    let met = c.in_err-map.ensures in
+    let p = err_from_is_err_and c.from_residual.result c.from_residual.ensures.1 in
+    rw (p.1, p.2) (record {
+      held = refl;
+      output = refl;
+      disk = λ is. met.cause.disk (ap Err is);
+      sound = λ told store damage is. none_broken s.records s.shape store.store damage (subst (BlamesBroken s.records s.shape) is (met.damaged told));
+    })
+
+pub returns-clause-added : goal.returns-clause-added
+returns-clause-added g c =
+    let map = c.in_ok-map.map in
+    subst (λ (maps : Option (List (List ℕ))). AddsShown g.R.Reads g.K.Sink c.args.names.now.names maps c.args.item.now c.args.space.now c.args.lines.now c.add.new.self c.args.output.now c.add.new.output c.add.result) (sym c.in-Some.is)
+    (record {
+      line = map_line (c.args.item.now, map);
+      form = (map, refl);
+      shown = λ told store. ap (λ (element : ElementMap). map_line (c.args.item.now, element)) (rw c.as_slice.ensures at c.in_ok-map.ensures.found told store);
+      adds = rw (c.deref.ensures.value, c.in_ok-line.ensures) at c.add.ensures;
+    })
