@@ -139,6 +139,15 @@ def what_is_answered(folder):
         assert found["columns"] == ["name", "age"] and found["rows"][2] == {"name": MARKUP}, f"{found}"
         for line in ('g.V().values("name","age")', "g.V() . values( 'name' ,\"age\" )"):
             assert {**asks(address, "ask", line=line)[1], "seconds": 0} == {**found, "seconds": 0}, line
+        found = asks(address, "ask", line="g.V().elementMap('age').limit(2)")[1]
+        assert found["rows"][0] == {"node": 0, "label": "person", "age": 29, "name": "marko"} and found["count"] == 2, f"{found}"
+        assert [it["node"] for it in found["graph"]["nodes"]] == [0, 1] and found["columns"][:3] == ["node", "label", "age"], f"{found}"
+        found = asks(address, "ask", line="g.V(0).outE().elementMap()")[1]
+        assert found["rows"][0] | {"to name": ""} == {
+            "edge": 0, "from": 0, "type": "knows", "to": 1, "since": 2009, "from name": "marko", "to name": "",
+        }, f"{found}"
+        assert [it["value"] for it in asks(address, "ask", line="view names")[1]["rows"]][:2] == ["person", "name"]
+        assert asks(address, "ask", line="view edge 0")[1]["reply"] == "edge 0 knows 1 since=2009"
         found = asks(address, "ask", line="path 0 2 out")[1]
         assert found["rows"] == [{"node": 0, "label": "person", "name": "marko"}, {"node": 2, "label": "software", "name": MARKUP}], f"{found}"
         assert found["graph"]["chain"] == [0, 2] and [it["edge"] for it in found["graph"]["edges"]] == [1], f"{found}"
@@ -178,7 +187,11 @@ def what_is_written(folder):
         assert asks(address, "ask", line="find person nick 'Z'")[1]["rows"][0]["node"] == 3
         asks(address, "ask", line="begin")
         assert asks(address, "ask", line="set node 3 fresh 1")[1]["reply"] == "ok"
-        assert asks(address, "ask", line="g.V(3)")[1]["graph"]["nodes"][0]["properties"] == {"nick": "Z"}
+        assert asks(address, "ask", line="g.V(3)")[1]["graph"]["nodes"][0]["properties"] == {"fresh": 1, "nick": "Z"}
+        assert asks(address, "ask", line="view node 3")[1]["reply"] == "node person fresh=1 nick='Z'"
+        found = asks(address, "ask", line="g.find('person','nick','Z').elementMap()")[1]
+        assert found["rows"] == [{"node": 3, "label": "person", "fresh": 1, "nick": "Z", "name": "Z"}], f"{found}"
+        assert asks(address, "ask", line="view indexes")[1]["rows"] == [{"label": "person", "key": "nick"}]
         assert asks(address, "ask", line="commit")[1]["reply"] == "ok"
     assert b"==>4" in call(folder, b"g.V().count()\n").out
 
@@ -236,7 +249,7 @@ def page(folder):
             it.until("document.querySelector('#reply').textContent.includes('--write')")
             it.value("document.querySelector('#line').value = 'g.V().valueMap()'")
             it.value("document.querySelector('#asking button').click()")
-            it.until("document.querySelector('#reply').textContent.includes('valueMap isn\\'t known here; try g.V().values(')")
+            it.until("document.querySelector('#reply').textContent.includes('valueMap isn\\'t known here; try g.V().elementMap(')")
             assert it.value("getSelection().toString()") == "Map()" or it.value("document.querySelector('#line').selectionStart") == 11
         finally:
             it.close()

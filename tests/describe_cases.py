@@ -11,6 +11,7 @@ sys.dont_write_bytecode = True
 from driver import ROOT, SECONDS, call
 
 from export_cases import EXPORT, OWN_KEYS, drawn, graph, refuses
+import nipakeel
 
 DESCRIBE, SHELL = ROOT / "tools/describe", ROOT / "tools/shell"
 REFUSED, WRONG_WORDS, BAD_FILES, PROGRAM_FAILED = 1, 2, 3, 4
@@ -92,13 +93,14 @@ def small(folder):
 
 
 def of_a_session(folder):
-    """A session's schema is that of its snapshot, and an open transaction has none."""
+    """A session's schema is that of its snapshot, or of its open transaction."""
     graph(folder, SMALL)
-    lines = ".session 1", "snapshot", "@0 g.E().drop()", "@0 node new k=1", ".schema", ".session 0", ".schema", "begin", ".schema"
+    lines = ".session 1", "snapshot", "@0 g.E().drop()", "@0 node new k=1", ".schema", ".session 0", ".schema", "begin", "index a b", "node new", ".schema"
     ran = call(folder, words=[it for line in lines for it in ("-c", line)], program=SHELL)
     said = ran.out.decode()
     assert said.startswith("ok\n@0 end\n@0 node 5\n5 nodes and 5 edges\n") and "6 nodes and 0 edges\n" in said, said
-    assert said.endswith("ok\nerror transaction open\n") and ran.status == REFUSED, said
+    last = said.partition("\nok\nok\nnode 6\n")[2]
+    assert last.startswith("7 nodes and 0 edges\n") and "\nindexes: person name, a b\n" in last and not ran.status, said
 
 
 def counted(folder):
@@ -143,21 +145,22 @@ def endings(folder):
     refuses(DESCRIBE, folder, ["--folder", "none"], BAD_FILES, "none")
     refuses(DESCRIBE, folder, ["--unique", "person"], WRONG_WORDS, "a label and a key with a colon between them")
     refuses(DESCRIBE, folder, ["--json", "--dot"], WRONG_WORDS, "not allowed with")
-    refuses(DESCRIBE, folder, ["--keys", "name"], WRONG_WORDS, "--keys goes with --socket, and --socket with --keys")
-    refuses(DESCRIBE, folder, ["--socket", "none", "--keys", "name"], BAD_FILES, "none: no server listens there")
+    refuses(DESCRIBE, folder, ["--socket", "none"], BAD_FILES, "none: no server listens there")
 
 
 def of_a_server(folder):
-    """What a client of a server sees, whose keys are named, and whose indexes aren't told."""
+    """What a client of a server sees, beside another one whose transaction is open."""
     graph(folder, SMALL)
     started = subprocess.Popen([ROOT / "tools/serve", "--folder", ".", "--socket", "s"], cwd=folder, stdout=subprocess.PIPE, stderr=subprocess.PIPE)
     try:
         until = time.monotonic() + SECONDS
         while not (folder / "s").exists() and time.monotonic() < until:
             time.sleep(0.05)
-        found = describes(folder, "--socket", "s", "--keys", "name,email,age,since")
-        assert found == TEXT.replace("person name", "none").replace("age    int 1, text 1", "age    int 1, text 1"), found
-        refuses(DESCRIBE, folder, ["--socket", "s", "--keys", "name,age"], REFUSED, "has a key that isn't given")
+        with nipakeel.connect(folder / "s") as db, db.transaction() as transaction:
+            transaction.index("city", "name")
+            transaction.node("village", age=800)
+            found = describes(folder, "--socket", "s")
+        assert found == TEXT, found
     finally:
         started.terminate()
         started.communicate(timeout=SECONDS)

@@ -20,6 +20,10 @@ unset edge 0 name
 delete node 0
 index person name
 find person name 'Ada'
+view node 0
+view edge 12
+view names
+ view  indexes 
 begin
 rollback
 checkpoint
@@ -38,6 +42,9 @@ g.V()
 g.E(0,1,2)
 g.V(0).out('knows',"likes").in().both().outE('a').inV()
 g.E().outV().bothE().inV().inE().label()
+g.find('person','name','Ada').out().elementMap('name',"age").limit(1).count().dedup()
+ g . find ( "person" , 'age' , 36 ) . elementMap ( ) . count ( )
+g.find('person','ok',true).bothE('knows').drop()
 g.V().hasLabel('person','city').has('name').has('name','Ada').has('age',36).has('ok',true)
 g.V().has('age',gt(30)).has('age',P.lte(40)).has('a',neq('x')).has('b',eq(false)).has('c',gte(1)).has('c',lt(2))
 g.V().values('name','age').order().by(desc).limit(3).dedup().count()
@@ -93,7 +100,7 @@ def words_of_others(folder):
     parser.program.end()
     assert count > 250, f"{count}"
     # The steps of the completer are those that may stand somewhere.
-    may = {it for steps in hints.STEPS.values() for it in steps} | {"by", "times", "to", "addV"}
+    may = {it for steps in hints.STEPS.values() for it in steps} | {"by", "times", "to", "addV", "find"}
     assert {it for it in COMPLETED if it.isalpha()} <= may, f"{set(COMPLETED) - may}"
 
 
@@ -125,7 +132,11 @@ HINTED = (
     ("MATCH (n:Person) RETURN n", "MATCH isn't known here; try g.V().hasLabel('person')", "here may stand: node, edge, "),
     ("select * from person", "select isn't known here; try g.V()", "here may stand: "),
     ("Begin", "words are in small letters: begin", "here may stand: "),
-    ("g.V().valueMap()", "valueMap isn't known here; try g.V().values('name','age'), or g.V(0).values() (", "here may stand: out(, in(, "),
+    ("g.V().valueMap()", "valueMap isn't known here; try g.V().elementMap('name','age'), or g.V(0).elementMap(), or g.V().values('name','age') (", "here may stand: out(, in(, "),
+    ("g.V().elementMap().out()", "here may stand: count(, limit("),
+    ("show indexes", "show isn't known here; try stats, or view names, or view indexes (", "here may stand: node, edge, "),
+    ("view stats", "here may stand: node, edge, names, indexes"),
+    ("g.find('person','name','Ada')", "index person name: makes an index of a label and a key, which find asks"),
     ("g.V().not(out())", "not isn't known here; try ", "here may stand: out("),
     ("g.V().where(out('knows'))", "where isn't known here; try g.V().has('name','Ada')", "here may stand: "),
     ("g.V().has('name',within('a','b'))", "within isn't known here; try ", "here may stand: a value such as 36, true or 'Ada', eq("),

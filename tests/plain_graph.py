@@ -21,7 +21,7 @@ RELATIONS = {"gt": operator.gt, "gte": operator.ge, "lt": operator.lt, "lte": op
 KINDS = {"node": 0, "edge": 1}
 # What names the session of a line, the first words of lines that only read, and those about a snapshot.
 TAG = re.compile(r"[ \t]*@([0-7])[ \t](.*)", re.S)
-QUESTIONS = ("stats", "check", "expand", "degree", "path", "levels", "find", "g")
+QUESTIONS = ("stats", "check", "view", "expand", "degree", "path", "levels", "find", "g")
 OF_SNAPSHOTS = ("snapshot", "release")
 # The steps with which a query changes the graph.
 MUTATING = ("addV", "addE", "property", "drop")
@@ -72,6 +72,20 @@ def item_text(item):
     if not isinstance(item, Element):
         return value_text(item)
     return f"e[{item.id}][{item.ends[0]}-{item.label}->{item.ends[1]}]" if item.ends else f"v[{item.id}]"
+
+
+def map_text(item, keys):
+    """What `elementMap` with these keys, or with none for all, shows of an element."""
+    shown = {"id": item.id, "label": item.label, **dict(zip(("OUT", "IN"), item.ends))}
+    pairs = [f"{key}:{it}" for key, it in shown.items()]
+    pairs += [f"{key}:{value_text(value)}" for key, value in pairs_of(item, keys)]
+    return f"[{','.join(pairs)}]"
+
+
+def line_text(item):
+    """The line that makes the element again."""
+    begins = f"edge {item.ends[0]} {item.label} {item.ends[1]}" if item.ends else f"node {item.label}"
+    return " ".join([begins, *(f"{key}={value_text(value)}" for key, value in pairs_of(item, []))])
 
 
 def listed(results):
@@ -184,7 +198,8 @@ class PlainGraph:
     def __init__(self):
         self.elements = [{}, {}]
         self.free, self.next = [[], []], [0, 0]
-        self.names, self.indexes = set(), set()
+        # The names in the order of their first use.
+        self.names, self.indexes = {}, set()
         self.before = self.leaving = self.entering = None
 
     def answer(self, line):
@@ -195,7 +210,7 @@ class PlainGraph:
         try:
             word = tokens.take("word")
             if word == "g":
-                return listed(map(item_text, self.query(tokens)))
+                return listed(self.query(tokens))
             if not hasattr(self, f"line_{word}"):
                 raise Syntax
             return getattr(self, f"line_{word}")(tokens) or "ok"
@@ -258,12 +273,28 @@ class PlainGraph:
     def line_find(self, tokens):
         index, value = (tokens.take("word"), tokens.take("word")), tokens.value()
         tokens.end()
+        return listed(map(item_text, self.found(index, value)))
+
+    def found(self, index, value):
+        """The nodes of the label whose key has the value."""
         if index not in self.indexes:
             raise Refused("error no index")
         label, key = index
         nodes = sorted(self.elements[0].values(), key=lambda it: it.id)
         there = [it for it in nodes if it.label == label and key in it.properties]
-        return listed(item_text(it) for it in there if rank(it.properties[key]) == rank(value))
+        return [it for it in there if rank(it.properties[key]) == rank(value)]
+
+    def line_view(self, tokens):
+        word = tokens.take(*KINDS, "names", "indexes")
+        id = int(tokens.take("number")) if word in KINDS else None
+        tokens.end()
+        if word == "names":
+            return listed(map(value_text, self.names))
+        if word == "indexes":
+            places = {name: place for place, name in enumerate(self.names)}
+            indexes = sorted(self.indexes, key=lambda it: [places[name] for name in it])
+            return listed(" ".join(map(value_text, it)) for it in indexes)
+        return line_text(self.find(word, id))
 
     # --- changes
 
@@ -273,13 +304,13 @@ class PlainGraph:
         id = self.free[kind].pop() if self.free[kind] else self.next[kind]
         self.next[kind] = max(self.next[kind], id + 1)
         made = self.elements[kind][id] = Element(id, label, dict(properties), ends)
-        self.names |= {label, *properties}
+        self.names |= dict.fromkeys([label, *properties])
         self.leaving = None
         return made
 
     def set(self, it, properties):
         it.properties |= properties
-        self.names |= set(properties)
+        self.names |= dict.fromkeys(properties)
 
     def delete(self, it):
         if not it.ends and any(it.id in edge.ends for edge in self.elements[1].values()):
@@ -300,7 +331,7 @@ class PlainGraph:
         if index in self.indexes:
             raise Refused("error index there")
         self.indexes.add(index)
-        self.names |= set(index)
+        self.names |= dict.fromkeys(index)
 
     def line_node(self, tokens):
         return f"node {self.make(0, tokens.take('word'), tokens.pairs()).id}"
@@ -368,29 +399,51 @@ class PlainGraph:
     # --- queries
 
     def query(self, tokens):
+        """The results, as they are shown."""
         tokens.take(".")
         if tokens.has("addV"):
-            return self.mutated(tokens, "addV", [])
-        kind = "VE".index(tokens.take("V", "E"))
-        tokens.take("(")
-        ids = tokens.numbers()
-        elements = self.elements[kind]
-        items = [elements[it] for it in sorted({it for it in ids if it in elements} if ids else elements)]
+            return map(item_text, self.mutated(tokens, "addV", list))
+        source, steps = self.source(tokens), []
         while tokens.has("."):
             word = tokens.take("word")
             if word in MUTATING:
-                return self.mutated(tokens, word, items)
-            items = self.step(tokens, word)(items)
+                return map(item_text, self.mutated(tokens, word, lambda: after(source, steps)))
+            if word == "elementMap":
+                return self.mapped(tokens, source, steps)
+            steps.append(self.step(tokens, word))
         tokens.end()
-        return items
+        return map(item_text, after(source, steps))
 
-    def mutated(self, tokens, word, items):
+    def mapped(self, tokens, source, steps):
+        """The results, of which `elementMap` shows each as a map, up to a count of them. Its parentheses come next."""
+        tokens.take("(")
+        keys, counted = tokens.names(), False
+        while tokens.has("."):
+            word = tokens.take("word") if counted else tokens.take("limit", "count")
+            counted |= word == "count"
+            steps.append(self.step(tokens, word))
+        tokens.end()
+        items = after(source, steps)
+        return map(item_text, items) if counted else [map_text(it, keys) for it in items]
+
+    def source(self, tokens):
+        """What gives the elements that a query begins with."""
+        word = tokens.take("V", "E", "find")
+        tokens.take("(")
+        if word == "find":
+            label, _, key, _, value = tokens.name(), tokens.take(","), tokens.name(), tokens.take(","), tokens.value()
+            tokens.take(")")
+            return lambda: self.found((label, key), value)
+        ids, elements = tokens.numbers(), self.elements["VE".index(word)]
+        return lambda: [elements[it] for it in sorted({it for it in ids if it in elements} if ids else elements)]
+
+    def mutated(self, tokens, word, reading):
         """The results after this step and the rest of the line, whose changes are all made or none."""
         change = self.mutation(tokens, word)
         tokens.end()
-        before = self.state()
+        items, before = elements(reading()), self.state()
         try:
-            return change(elements(items))
+            return change(items)
         except Refused:
             self.restore(before)
             raise
@@ -570,11 +623,22 @@ def elements(items):
     return [it for it in items if isinstance(it, Element)]
 
 
-def values_of(item, keys):
-    if not isinstance(item, Element):
-        return []
+def after(source, steps):
+    """What the steps make of the elements that a query begins with."""
+    items = source()
+    for step in steps:
+        items = step(items)
+    return items
+
+
+def pairs_of(item, keys):
+    """The keys of an element with their values: these keys, each once, or all where there are none."""
     found = dict.fromkeys(keys) if keys else sorted(item.properties)
-    return [item.properties[key] for key in found if key in item.properties]
+    return [(key, item.properties[key]) for key in found if key in item.properties]
+
+
+def values_of(item, keys):
+    return [value for _, value in pairs_of(item, keys)] if isinstance(item, Element) else []
 
 
 def compares(relation, value, written):

@@ -86,64 +86,65 @@ def modes(folder):
     assert says(folder, ".mode table", "g.V(", "node a", status=REFUSED) == "error syntax 4\nnode 3\n"
 
 
-NAMES = """name      used as
---------  -------
-age       key
-created   type
-free      key
-knows     type
-lang      key
-likes     type
-marko     none
-name      key
-person    label
-since     key
-software  label
+NAMES = """name
+--------
+person
+name
+age
+software
+lang
+free
+knows
+since
+created
+likes
+marko
 """
 
 
 def names(folder):
-    """Names stand in the files after a checkpoint, with what they are in use for."""
+    """The names that the session sees, in the order of their first use, also in an open transaction and in a snapshot."""
     graph(folder, MODERN + "node marko\ndelete node 3\n")
     assert says(folder, ".names") == NAMES
-    assert says(folder, "begin", ".names", status=REFUSED) == "ok\nerror transaction open\n"
+    assert says(folder, "begin", "node zoo", ".names", "rollback", ".names") == f"ok\nnode 3\n{NAMES}zoo\nok\n{NAMES}"
+    seen = says(folder, "@1 snapshot", "node zoo", ".session 1", ".names", ".session 2", ".names", status=REFUSED)
+    assert seen == f"@1 ok\nnode 3\n{NAMES}error no snapshot\n", seen
     (folder / "new").mkdir()
-    assert says(folder / "new", ".names", "node a", ".names") == "no names\nnode 0\nname  used as\n----  -------\na     label\n"
-    # A record of node 0 has the number of a name that the store lacks. The shell serves such a store, too.
-    with open(folder / "graph.1", "r+b") as file:
-        file.seek(4)
-        file.write(b"\x63")
-    said = says(folder, ".names", "stats", status=REFUSED)
-    assert said.startswith("graph.1: a record has a name that isn't there; is the store damaged?\nnodes 3 "), said
+    assert says(folder / "new", ".names", "node a", ".names") == "no names\nnode 0\nname\n----\na\n"
+    assert says(folder / "new", ".mode json", "view names", "view node 0") == '{"value": "a"}\nnode a\n'
 
 
 INDEXES = """label   key
 ------  ----
-city    area
 person  name
+city    area
 """
 
 
 def indexes(folder):
-    """Indexes stand in the files after a checkpoint, and a dump makes those that the session sees."""
+    """The indexes that the session sees, also in an open transaction, and a dump makes them."""
     (folder / "new").mkdir()
     assert says(folder / "new", ".indexes", "index a b", ".indexes") == "no indexes\nok\nlabel  key\n-----  ---\na      b\n"
     graph(folder / "one", MODERN + "index person name\nindex city area\n")
     assert says(folder / "one", ".indexes") == INDEXES
-    refused = says(folder / "one", "begin", "index a b", ".indexes", "rollback", ".indexes", status=REFUSED)
-    assert refused == "ok\nok\nerror transaction open\nok\n" + INDEXES, refused
+    open_one = says(folder / "one", "begin", "index a b", ".indexes", "rollback", ".indexes")
+    assert open_one == "ok\nok\n" + INDEXES + "a       b\nok\n" + INDEXES, open_one
     found = says(folder / "one", ".mode table", "find person name 'vadas'", "find person name 1", "find person age 29", status=REFUSED)
     assert found == "node\n----\n   1\nerror no index\n", found
+    found = says(folder / "one", ".mode table", "view indexes", "g.find('person','name','vadas').elementMap()", "view node 1")
+    assert found == INDEXES + "node  label   name\n----  ------  -----\n   1  person  vadas\nnode person name='vadas'\n", found
     before = says(folder / "one", ".dump")
-    assert before.startswith("index city area\nindex person name\nbegin\nnode person "), before
+    assert before.startswith("index person name\nindex city area\nbegin\nnode person "), before
     taken = ".session 1", "snapshot", "@0 index software name", ".indexes", ".dump"
     shown = says(folder / "one", *taken)
-    assert "software  name\n" in shown and shown.endswith("name\n" + before), shown
+    assert shown == "ok\n@0 ok\n" + INDEXES + before, shown
     ran = call(folder / "one", words=["--quiet", "--lines", "-"], program=EXPORT)
     lines = says(folder / "one", ".dump lines", ".dump")
     assert ran.out.decode() == lines == before.replace("person name\n", "person name\nindex software name\n", 1), f"{ran}"
     (folder / "two").mkdir()
-    assert says(folder / "two", ".read ../one/lines", ".indexes", ".dump").endswith(lines)
+    # In the new store the names come in the order of these lines.
+    again = says(folder / "two", ".read ../one/lines", ".dump")
+    assert again.endswith(lines), again
     part = call(folder / "one", words=["--quiet", "--lines", "-", "--from", "g.V(0)"], program=EXPORT)
     assert part.out.startswith(b"begin\nnode person "), f"{part}"
 
@@ -231,7 +232,8 @@ def sessions(folder):
 
 
 def tools_of_a_session(folder):
-    """A dump has the graph that the session sees. Names and a backup are those of the store, and a reader drops nothing."""
+    """A dump and the names are those of the graph that the session sees. A backup is that of the store, and a reader drops
+    nothing."""
     graph(folder / "one")
     before = says(folder / "one", ".dump")
     read = ".session 1", "snapshot", "@0 delete edge 0", "@0 set node 1 fresh 'new'"
@@ -239,8 +241,8 @@ def tools_of_a_session(folder):
     said = says(folder / "one", ".session 1", ".dump", ".drop 0", "snapshot", ".drop 0", status=REFUSED).splitlines()
     refused = "begin is answered: error read only; nothing is changed"
     assert said == ["error no snapshot", "error no snapshot", "ok", refused], f"{said}"
-    said = says(folder / "one", ".session 1", ".names", ".backup ../two", "stats", status=REFUSED)
-    assert "fresh     key\n" in said and said.endswith("names 11\nerror no snapshot\n"), said
+    said = says(folder / "one", ".names", ".session 1", ".names", ".backup ../two", "stats", status=REFUSED)
+    assert "fresh\nerror no snapshot\n" in said and said.endswith("names 11\nerror no snapshot\n"), said
     assert says(folder / "two", ".dump") == says(folder / "one", ".dump") != before
 
 
@@ -269,7 +271,7 @@ def backup(folder):
 
 COMPLETED = (
     ("", "no", ["node"]),
-    ("", "g", ["g.V()", "g.E()", "g.addV("]),
+    ("", "g", ["g.V()", "g.E()", "g.find(", "g.addV("]),
     ("g.V().", "ad", ["addE(", "addV("]),
     ("g.V(0).", "dr", ["drop("]),
     (".", "ti", ["timer"]),
@@ -286,9 +288,14 @@ COMPLETED = (
     ("", "in", ["index"]),
     ("", "fi", ["find"]),
     ("find ", "k", ["knows"]),
+    ("", "vi", ["view"]),
+    ("view ", "", ["node", "edge", "names", "indexes", "knows", "name"]),
+    ("@2 view ", "ind", ["indexes"]),
+    ("g.V().", "el", ["elementMap("]),
+    ("g.find('", "na", ["name"]),
     ("degree ", "i", ["in"]),
     ("", "sn", ["snapshot"]),
-    ("@1 ", "g", ["g.V()", "g.E()", "g.addV("]),
+    ("@1 ", "g", ["g.V()", "g.E()", "g.find(", "g.addV("]),
     (" @1 g.V().", "ha", ["has(", "hasLabel("]),
 )
 

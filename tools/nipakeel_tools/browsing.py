@@ -7,7 +7,6 @@ the header Host has to be that of the address, so no other page that a browser s
 from __future__ import annotations
 
 import collections
-import contextlib
 import http.server
 import itertools
 import json
@@ -22,9 +21,8 @@ from typing import Any, Dict, List, Optional, Sequence, Tuple
 
 from nipakeel_tools.client import Ended, NotAnswered
 from nipakeel_tools.limits import MOST_LINE
-from nipakeel_tools.lines import LISTS, State, mutates, place_of
-from nipakeel_tools.names import keys_of_store, names_in
-from nipakeel_tools.query import Asking, Element, Unfit, pages, source
+from nipakeel_tools.lines import LISTS, State, lists, mutates, place_of
+from nipakeel_tools.query import Asking, Element, Unfit, source
 from nipakeel_tools.showing import Shown, header_of, keyed, keyed_rows, rows_of
 from nipakeel_tools.values import plain, to_bytes, value_of
 from nipakeel.hints import hints
@@ -39,7 +37,7 @@ MOST_ASKED = 65_536
 # How long one who asks may take to say it, in seconds, and how many may wait until they are heard.
 MOST_SECONDS, MOST_WAITING = 30, 128
 LENGTH = re.compile("[0-9]{1,6}")
-QUESTIONS = ("g", *LISTS, "degree", "stats", "check")
+QUESTIONS = ("g", *LISTS, "view", "degree", "stats", "check")
 HEADERS = {
     "Content-Security-Policy": "default-src 'none'; script-src 'self'; style-src 'self'; connect-src 'self'",
     "X-Content-Type-Options": "nosniff",
@@ -56,16 +54,11 @@ class Wrong(Exception):
 class Browsing:
     """Answers what the page asks, one question at a time."""
 
-    def __init__(self, asked: Asking, folder: Optional[pathlib.Path], writes: bool) -> None:
-        """The files of the folder tell the keys. Where there is none, they are those that are asked for already."""
-        self.asked, self.folder, self.writes = asked, folder, writes
+    def __init__(self, asked: Asking, writes: bool) -> None:
+        self.asked, self.writes = asked, writes
         self.lock, self.state = threading.Lock(), State()
         # How the program ended, when it has.
         self.ended: Optional[Ended] = None
-        # Keys that the store had when it was opened are in its files. Later ones need a checkpoint.
-        with contextlib.suppress(OSError, Unfit):
-            if folder:
-                asked.knows(names_in(folder).keys)
 
     def answer(self, what: str, words: Dict[str, Any]) -> Dict[str, Any]:
         with self.lock:
@@ -97,7 +90,7 @@ class Browsing:
             raise Wrong("the page was begun without --write, and takes no line that may change something")
         begun = time.monotonic()
         try:
-            found = self.results(line) if word.startswith("g") or word in LISTS else self.reply(given)
+            found = self.results(line) if lists(line) else self.reply(given)
         except NotAnswered as error:
             self.state.follows(given, error.reply)
             found = told(given, error.reply)
@@ -113,8 +106,7 @@ class Browsing:
         columns = keyed(line)
         found = keyed_rows(self.asked.program, *columns, MOST_ROWS) if columns and len(columns[1]) > 1 else None
         if columns and found is not None:
-            (rows, count, elements), keys = found, columns[1]
-            held = list(rows_of(elements))
+            (rows, count, held), keys = found, columns[1]
         else:
             (rows, count), keys = self.first_rows(line), []
             held = rows
@@ -160,7 +152,7 @@ class Browsing:
 
     def first_rows(self, line: str) -> Tuple[List[Shown], int]:
         """The first results of a line, and how many there are in all."""
-        results = rows_of(self.asked.ask(line))
+        results = rows_of(self.asked.ask(line), to_bytes(line))
         rows = list(itertools.islice(results, MOST_ROWS))
         return rows, len(rows) + sum(1 for _ in results)
 
@@ -168,18 +160,8 @@ class Browsing:
         return [shown(it) for it in self.elements("V", ids)]
 
     def elements(self, kind: str, ids: Sequence[int]) -> List[Element]:
-        """The elements with all properties, also those of keys that are new."""
-        try:
-            return [it for page in pages(ids) for it in self.asked.elements(kind, page)]
-        except Unfit:
-            if self.folder and self.state.now == "live":
-                self.asked.knows(keys_of_store(self.asked, self.folder))
-            else:
-                self.asked.leaves_out = True
-            try:
-                return [it for page in pages(ids) for it in self.asked.elements(kind, page)]
-            finally:
-                self.asked.leaves_out = False
+        """The elements with all properties."""
+        return [it for page in self.asked.some(kind, ids) for it in page]
 
 
 def told(line: bytes, reply: bytes) -> Dict[str, Any]:

@@ -163,7 +163,7 @@ def keys_in(path: str) -> List[str]:
 
 @contextlib.contextmanager
 def asking(
-    options: Options, keys: Iterable[str] = (), leaves_out: bool = False, is_still: bool = False
+    options: Options, keys: Optional[Iterable[str]] = None, leaves_out: bool = False, is_still: bool = False
 ) -> Iterator[Asking]:
     """Questions to the program, which ends after them. Where others may change the store meanwhile, all answers are of one
     moment if that is asked for."""

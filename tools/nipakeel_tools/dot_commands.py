@@ -13,7 +13,7 @@ from nipakeel_tools.client import NotAnswered, Program
 from nipakeel_tools.describing import schema_lines
 from nipakeel_tools.limits import SESSIONS
 from nipakeel_tools.lines import help_lines
-from nipakeel_tools.names import has_index, indexes_in, indexes_of_store, names_of_store
+from nipakeel_tools.names import all_indexes, all_names
 from nipakeel_tools.query import Asking
 from nipakeel_tools.showing import MODES, as_table
 from nipakeel_tools.writers import WRITTEN, Kept, write_lines
@@ -45,26 +45,24 @@ def tell_help(shell: Any, *words: str) -> None:
 
 
 def names(shell: Any) -> None:
-    """All names by what they are used as. It takes a checkpoint, as no line lists them."""
-    found = names_of_store(shell.program, shell.folder)
-    shell.names = found.all
-    rows: List[Dict[str, Any]] = [{"name": it, "used as": ", ".join(found.uses(it)) or "none"} for it in sorted(found.all)]
+    """All names that the session sees."""
+    found = all_names(shell.program)
+    shell.names = list(dict.fromkeys([*found, *shell.names]))
+    rows: List[Dict[str, Any]] = [{"name": it} for it in found]
     shell.shows_lines(as_table(rows, []) if rows else ["no names"])
 
 
 def indexes(shell: Any) -> None:
-    """All indexes of the store. It takes a checkpoint, as no line lists them."""
-    found = indexes_of_store(shell.program, shell.folder)
-    rows: List[Dict[str, Any]] = [{"label": label, "key": key} for label, key in found]
+    """All indexes that the session sees."""
+    rows: List[Dict[str, Any]] = [{"label": label, "key": key} for label, key in all_indexes(shell.program)]
     shell.shows_lines(as_table(rows, []) if rows else ["no indexes"])
 
 
 def schema(shell: Any) -> None:
-    """What the graph that the session sees has. The keys need a checkpoint, as no line lists them."""
-    asked = Asking(lambda: shell.program, names_of_store(shell.program, shell.folder).all)
+    """What the graph that the session sees has."""
+    asked = Asking(lambda: shell.program)
     asked.begin()
-    indexes = [it for it in indexes_in(shell.folder) if has_index(shell.program, it)]
-    shell.shows_lines(schema_lines(asked, indexes))
+    shell.shows_lines(schema_lines(asked, all_indexes(shell.program)))
 
 
 def mode(shell: Any, *words: str) -> None:
@@ -113,14 +111,11 @@ def read(shell: Any, path: str) -> None:
 
 def dump(shell: Any, *path: str) -> None:
     """Lines that make the graph that the session sees in a new store."""
-    found = names_of_store(shell.program, shell.folder)
-    # A key of a snapshot may be in use nowhere else.
-    keys = found.all if shell.program.session else found.keys
     with tempfile.TemporaryFile() as node_file, tempfile.TemporaryFile() as edge_file:
         nodes, edges = Kept("nodes", node_file), Kept("edges", edge_file)
-        asked = Asking(lambda: shell.program, keys)
+        asked = Asking(lambda: shell.program)
         asked.begin()
-        nodes.indexes = [it for it in indexes_in(shell.folder) if has_index(shell.program, it)]
+        nodes.indexes = all_indexes(shell.program)
         for kept, kind, count in ((nodes, "V", asked.counts[0]), (edges, "E", asked.counts[1])):
             for page in asked.every(kind, count):
                 kept.add(page)

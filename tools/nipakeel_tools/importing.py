@@ -14,7 +14,7 @@ from nipakeel_tools.client import SERVER_FAILURES, Connection, Ended, NotAnswere
 from nipakeel_tools.command import DiskFailed, Options, connection_of
 from nipakeel_tools.journal import Again, BadJournal, Entry, Journal, Transaction, packed
 from nipakeel_tools.limits import DEFAULT_THRESHOLD, MOST_INDEXED, MOST_INDEXES, MOST_LINE, MOST_WEIGHT
-from nipakeel_tools.names import indexes_in
+from nipakeel_tools.names import all_indexes
 from nipakeel_tools.query import Unfit
 from nipakeel_tools.readers import Table
 from nipakeel_tools.rows import Builder, Node, Refused
@@ -120,7 +120,7 @@ class Import:
     def indexes(self) -> None:
         """Makes the indexes that are asked for, while the store has the fewest nodes. The entries of all of them weigh. None
         is made where there would be too many, since an index stays."""
-        there = [] if self.options.server else indexes_in(self.options.folder)
+        there = all_indexes(self.program)
         count = len({*there, *self.options.index})
         if count > MOST_INDEXES:
             raise Unfit(f"with these indexes the store would have {count}, and it has at most {MOST_INDEXES}; none is made")

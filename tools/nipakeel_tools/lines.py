@@ -8,7 +8,7 @@ from typing import List, Sequence
 
 from nipakeel.replies import CHANGES, moved, mutates, place_of
 
-__all__ = ["CHANGES", "DOTS", "HELP", "LISTS", "State", "columns", "completions", "help_lines", "moved", "mutates", "place_of", "under"]
+__all__ = ["CHANGES", "DOTS", "HELP", "LISTS", "State", "columns", "completions", "help_lines", "lists", "moved", "mutates", "place_of", "under"]
 
 SHOWN_STATES = {"live": "", "open": " (open)", "failed": " (failed)"}
 # How a typed line begins that names its session.
@@ -22,6 +22,9 @@ HELP = [
     ("delete edge ID", "deletes an edge"),
     ("index LABEL KEY", "makes an index of the nodes of a label by the values of a key; none is taken away"),
     ("find LABEL KEY VALUE", "the nodes of the label whose key has the value, by their index"),
+    ("view node ID", "a node with its label and all keys, as the line that makes it; view edge does so for an edge"),
+    ("view names", "the labels, types and keys that are in use or once were, in the order of their first use"),
+    ("view indexes", "the label and the key of each index"),
     ("begin", "opens a transaction"),
     ("commit", "stores all changes of the transaction"),
     ("rollback", "drops them"),
@@ -31,6 +34,7 @@ HELP = [
     ("levels A B out TYPE", "how many edges each node is away from A, of those not farther than B"),
     ("g.V()", "a query: all nodes; g.V(3,1) has those of these identifiers"),
     ("g.E()", "all edges; steps may follow, and docs/QUERIES.md has them all"),
+    ("g.find('LABEL','KEY',VALUE)", "those that find gives; steps may follow, also steps that change the graph"),
     (".out('TYPE')", "to where edges lead; .in goes back; .both; of any type: .out()"),
     (".outE('TYPE')", "to the edges themselves; .inE; .bothE"),
     (".outV()", "to the node that an edge leaves; .inV() to the one it enters"),
@@ -38,6 +42,7 @@ HELP = [
     (".has('KEY')", "those that have the key; .has('KEY',VALUE) with this value"),
     (".has('KEY',gt(VALUE))", "with a greater one; gte, lt, lte, eq, neq"),
     (".values('KEY')", "the values of these keys; of all: .values()"),
+    (".elementMap('KEY')", "each with its identifier, its label and these keys; with all: .elementMap()"),
     (".id()", "their identifiers"),
     (".label()", "their labels or types"),
     (".dedup()", "each once"),
@@ -60,8 +65,8 @@ HELP = [
 ]
 DOTS = [
     (".help WORD", "this list, or its lines with the word"),
-    (".names", "the labels, types and keys of the store"),
-    (".indexes", "the label and the key of each index; it makes a checkpoint, so no transaction may be open"),
+    (".names", "the labels, types and keys that the session sees, also those that nothing uses any more"),
+    (".indexes", "the label and the key of each index that the session sees"),
     (".schema", "the labels, types and keys with their counts, indexes, and the nodes with most edges"),
     (".mode table", "how results are shown: table, csv, json, or lines as the program has them"),
     (".session 1", "later lines are of session 1; .session 0 writes again; .session tells it"),
@@ -79,10 +84,18 @@ STEP = re.compile(r"\.([A-Za-z]+)\(")
 STEPS = sorted({*STEP.findall(" ".join(line for line, _ in HELP)), "in", "both", "inE", "bothE", "inV"} - {"V", "E"})
 # Lines that are answered with results, as a query is, and those with a direction after their identifiers.
 LISTS = ("expand", "path", "levels", "find")
+LISTED = ("names", "indexes")
 DIRECTED = ("expand", "path", "levels", "degree")
 WORDS_AFTER = {
     **dict.fromkeys(("set", "unset", "delete"), ["node", "edge"]), **dict.fromkeys(DIRECTED, ["out", "in", "both"]),
+    "view": ["node", "edge", *LISTED],
 }
+
+
+def lists(line: str) -> bool:
+    """Whether the line is answered with results."""
+    words = line.split()
+    return line.lstrip().startswith(("g", *LISTS)) or words[:1] == ["view"] and words[1:2] in ([it] for it in LISTED)
 
 
 class State:
@@ -116,7 +129,7 @@ class State:
 def help_lines(word: str) -> List[str]:
     """The help, its lines with the word alone where one is given."""
     found = [(line, does) for line, does in HELP + DOTS if word in line or word in does]
-    told = [f"  {line:<28}{does}" for line, does in found]
+    told = [f"  {line:<29}{does}" for line, does in found]
     return [*told, VALUES] if found else [f"  no line has {word!r}; .help alone tells all"]
 
 

@@ -1,16 +1,12 @@
-"""Asks a store for its nodes and edges with their properties, by lines of the program alone, a page at a time.
-
-No line tells the keys that a store has. `values()` gives an element's values by ascending keys, without the keys, and
-`has('KEY')` tells who has a key. So the keys are given by the user. For a page of elements one question brings all
-values, and one for each key brings those who have it. When as many values are accounted for as there are, the page is
-whole, and no more keys are asked for. Where some are left after the last key, an element has a key that isn't given.
-"""
+"""Asks a store for its nodes and edges with their properties, by lines of the program alone, one for a page of elements."""
 
 from __future__ import annotations
 
 import array
 import re
-from typing import Callable, Dict, Iterable, Iterator, List, Sequence, Tuple, TypeVar, Union
+from typing import Callable, Dict, FrozenSet, Iterable, Iterator, List, Optional, Sequence, Union
+
+from nipakeel.elements import map_parts
 
 from nipakeel_tools import limits
 from nipakeel_tools.client import Connection, Ended, Program, leave
@@ -25,7 +21,10 @@ MOST_INPUT = limits.MOST_INPUT - MOST_LINE - 1
 ROOM = 60 + MOST_NAME
 VERTEX = re.compile(rb"v\[([0-9]+)\]")
 EDGE = re.compile(rb"e\[([0-9]+)\]\[([0-9]+)-([A-Za-z0-9_]+)->([0-9]+)\]")
-HAVING = re.compile(rb"[ve]\[([0-9]+)\].*")
+# Longer lists of keys than this are compared here, and not asked for.
+MOST_KEYS = 1_000
+# A key that is asked for where none is wanted.
+NO_KEY = "_"
 DIRECTIONS = ("out", "in", "both")
 
 
@@ -61,9 +60,8 @@ class Node:
     __slots__ = "id", "label", "properties"
     said = "node"
 
-    def __init__(self, result: bytes) -> None:
-        self.id, self.label = number_of(VERTEX, result), ""
-        self.properties: Dict[str, Value] = {}
+    def __init__(self, id: int, label: str, properties: Dict[str, Value]) -> None:
+        self.id, self.label, self.properties = id, label, properties
 
 
 class Edge:
@@ -72,17 +70,21 @@ class Edge:
     __slots__ = "id", "source", "label", "target", "properties"
     said = "edge"
 
-    def __init__(self, result: bytes) -> None:
-        found = EDGE.fullmatch(result)
-        if not found:
-            raise Unfit(f"{text_of(result)} is no edge")
-        self.id, self.source, self.target = int(found[1]), int(found[2]), int(found[4])
-        self.label = found[3].decode()
-        self.properties: Dict[str, Value] = {}
+    def __init__(self, id: int, source: int, label: str, target: int, properties: Dict[str, Value]) -> None:
+        self.id, self.source, self.label, self.target = id, source, label, target
+        self.properties = properties
 
 
 Element = Union[Node, Edge]
-T = TypeVar("T")
+
+
+def element_of(kind: str, result: bytes) -> Element:
+    """The element that a map shows."""
+    it = map_parts(result, kind == "E")
+    properties = {key.decode(): value_of(value) for key, value in it.pairs}
+    if it.source is None or it.target is None:
+        return Node(it.id, it.label, properties)
+    return Edge(it.id, it.source, it.label, it.target, properties)
 
 
 def number_of(form: re.Pattern[bytes], result: bytes) -> int:
@@ -93,15 +95,20 @@ def number_of(form: re.Pattern[bytes], result: bytes) -> int:
 
 
 class Asking:
-    """Questions to runs of the program. Where it leaves out, it asks for no value of a key that isn't given."""
+    """Questions to runs of the program. With keys, elements are to have no others, or others are left out."""
 
-    def __init__(self, start: Callable[[], Connection], keys: Iterable[str] = (), leaves_out: bool = False) -> None:
+    def __init__(
+        self, start: Callable[[], Connection], keys: Optional[Iterable[str]] = None, leaves_out: bool = False
+    ) -> None:
         """`start` begins a run."""
         self.start, self.leaves_out = start, leaves_out
         self.program = start()
         self.counts = 0, 0
-        # By kind how many elements of a page had a key when it was last asked for. Frequent ones are asked first.
-        self.knows(keys)
+        self.keys = None if keys is None else frozenset(keys)
+        asked = sorted(self.keys or [NO_KEY]) if leaves_out and self.keys is not None else []
+        named = quoted(asked)
+        # The step that shows a page of elements.
+        self.shows = f".elementMap({named if len(named) <= MOST_KEYS else ''})"
 
     def begin(self) -> None:
         """Takes note of how many nodes and edges there are. Fails where no store is served."""
@@ -109,10 +116,6 @@ class Asking:
 
     def end(self) -> None:
         leave(self.program)
-
-    def knows(self, keys: Iterable[str]) -> None:
-        """From now on these are the keys that elements may have."""
-        self.uses = {"V": dict.fromkeys(keys, 0), "E": dict.fromkeys(keys, 0)}
 
     def ask(self, query: str) -> Iterator[bytes]:
         """The results of a query, which are to be taken to the end before the next one is asked."""
@@ -139,78 +142,25 @@ class Asking:
 
     def some(self, kind: str, ids: Iterable[int]) -> Iterator[List[Element]]:
         """The elements with these identifiers, in pages."""
-        for page in pages(ids):
+        for page in pages(ids, len(self.shows)):
             yield self.elements(kind, page)
 
     def elements(self, kind: str, ids: Iterable[int]) -> List[Element]:
         """The elements that have one of these identifiers."""
-        results = self.ask(source(kind, ids))
-        found: List[Element] = [Edge(it) if kind == "E" else Node(it) for it in results]
-        if found:
-            ids = [it.id for it in found]
-            if kind == "V":
-                for it, label in self.matched(found, source(kind, ids) + ".label()"):
-                    it.label = str(value_of(label))
-            self.add_properties(kind, found, ids)
+        found = [element_of(kind, it) for it in self.ask(source(kind, ids) + self.shows)]
+        if self.keys is not None:
+            for it in found:
+                self.fits(it, self.keys)
         return found
 
-    def matched(self, things: Sequence[T], query: str) -> Iterator[Tuple[T, bytes]]:
-        """Each of these things with its result of a query that gives one for each."""
-        results = list(self.ask(query))
-        if len(results) != len(things):
-            raise Unfit(f"{query[:60]}.. has {len(results)} results, and {len(things)} are wanted")
-        return iter(zip(things, results))
-
-    # --- properties
-
-    def add_properties(self, kind: str, elements: List[Element], ids: List[int]) -> None:
-        asked, places = source(kind, ids), {it: at for at, it in enumerate(ids)}
-        if self.leaves_out:
-            self.add_named(kind, elements, asked, places)
-        else:
-            self.add_all(kind, elements, asked, places)
-
-    def add_named(self, kind: str, elements: List[Element], asked: str, places: Dict[int, int]) -> None:
-        """Adds the properties of the keys that are given."""
-        for key in sorted(self.uses[kind]):
-            having = self.having(kind, asked, key, places)
-            if having:
-                for at, value in self.matched(having, f"{asked}.values('{key}')"):
-                    elements[at].properties[key] = value_of(value)
-
-    def add_all(self, kind: str, elements: List[Element], asked: str, places: Dict[int, int]) -> None:
-        """Adds all properties, which need all keys."""
-        values = [value_of(it) for it in self.ask(asked + ".values()")]
-        keys: List[List[str]] = [[] for _ in elements]
-        left = len(values)
-        for key in sorted(self.uses[kind], key=lambda it: -self.uses[kind][it]):
-            if not left:
-                break
-            for at in self.having(kind, asked, key, places):
-                keys[at].append(key)
-                left -= 1
-        if left:
-            self.tell_missing(kind, elements, keys)
-        # The values of an element come by ascending keys.
-        rest = iter(values)
-        for it, its_keys in zip(elements, keys):
-            it.properties = {key: next(rest) for key in sorted(its_keys)}
-
-    def having(self, kind: str, asked: str, key: str, places: Dict[int, int]) -> List[int]:
-        """The places of the elements that have a key, in order."""
-        found = [places[number_of(HAVING, it)] for it in self.ask(f"{asked}.has('{key}')")]
-        self.uses[kind][key] = len(found)
-        return found
-
-    def tell_missing(self, kind: str, elements: List[Element], keys: List[List[str]]) -> None:
-        """Tells the first element that has more values than keys."""
-        for it, its_keys in zip(elements, keys):
-            values = list(self.ask(f"g.{kind}({it.id}).values()"))
-            if len(values) > len(its_keys):
-                has = f"it has {', '.join(sorted(its_keys)) or 'none of those given'}"
-                shown = ", ".join(text_of(value if len(value) <= 40 else value[:37] + b"..") for value in values)
-                told = f"{it.said} {it.id} has a key that isn't given: {has}, and the values {shown}"
-                raise Unfit(f"{told}; --keys names more, and --leave-out does without")
+    def fits(self, it: Element, keys: FrozenSet[str]) -> None:
+        """Leaves out the properties of other keys, or fails where there is one."""
+        others = [key for key in it.properties if key not in keys]
+        if others and not self.leaves_out:
+            told = f"{it.said} {it.id} has a key that isn't given: {', '.join(others)}"
+            raise Unfit(f"{told}; --keys names more, and --leave-out does without")
+        for key in others:
+            del it.properties[key]
 
     # --- parts of a graph
 
@@ -239,9 +189,10 @@ class Asking:
         """The identifiers of the edges of these types that lead from one of these vertices to another."""
         found, hop = Ids(), f".outE({quoted(types)})"
         for page in pages(vertices, len(hop)):
-            for it in map(Edge, self.ask(source("V", page) + hop)):
-                if it.target in vertices:
-                    found.add(it.id)
+            for it in self.ask(source("V", page) + hop):
+                at = EDGE.fullmatch(it)
+                if at and int(at[4]) in vertices:
+                    found.add(int(at[1]))
         return found
 
 

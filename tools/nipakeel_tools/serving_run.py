@@ -5,6 +5,7 @@ from __future__ import annotations
 import asyncio
 import collections
 import contextlib
+import ctypes
 import os
 import signal
 import subprocess
@@ -17,6 +18,8 @@ CHUNK = 2**18
 # Of the others this isn't known.
 UNREAD, LOST, TIMED_OUT = b"", b"error answer lost", b"error line timeout"
 Takes = Callable[[bytes], None]
+# The call of Linux by which a process gets a signal when the one that began it ends, and its number.
+PRCTL, WITH_PARENT = ctypes.CDLL(None).prctl, 1
 
 
 class Asked:
@@ -38,11 +41,19 @@ class Asked:
             self.last.set_result(last)
 
 
+def ends_with(server: int) -> None:
+    """Lets a kill of the server be one of this process, which becomes the program, also in the middle of a line."""
+    PRCTL(WITH_PARENT, signal.SIGKILL)
+    if os.getppid() != server:
+        os._exit(1)
+
+
 class Run:
     """A run of the program. When it is over, `ends` is called, and what it hasn't answered is told who waits for it."""
 
     def __init__(self, folder: str, words: Sequence[str], program: str) -> None:
         self.loop = asyncio.get_running_loop()
+        server = os.getpid()
         # A group of its own, so that Ctrl-C at a terminal is for the server alone.
         self.started = subprocess.Popen(
             [program, "run", *words],
@@ -51,6 +62,7 @@ class Run:
             stdout=subprocess.PIPE,
             bufsize=0,
             start_new_session=True,
+            preexec_fn=lambda: ends_with(server),
             env={key: value for key, value in os.environ.items() if key != "NOTIFY_SOCKET"},
         )
         assert self.started.stdin and self.started.stdout

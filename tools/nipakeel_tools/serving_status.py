@@ -15,7 +15,7 @@ from nipakeel_tools.lines import State
 TOOL = "tools/serve"
 FIRST_WORD = re.compile(rb"[a-z]+")
 WORDS = frozenset(
-    b"node edge set unset delete index find expand degree path levels g begin commit rollback checkpoint reopen snapshot"
+    b"node edge set unset delete index find view expand degree path levels g begin commit rollback checkpoint reopen snapshot"
     b" release stats check status backup".split()
 )
 # How replies begin that are faults of the store, and no refusals of a line.

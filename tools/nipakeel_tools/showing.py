@@ -11,9 +11,12 @@ import subprocess
 import sys
 from typing import Any, Dict, Iterable, Iterator, List, Optional, Sequence, Tuple
 
-from nipakeel_tools.client import Connection
+from nipakeel.elements import Parts, map_parts, maps_edges
+
+from nipakeel_tools.client import Connection, NotAnswered
 from nipakeel_tools.lines import columns, mutates
-from nipakeel_tools.query import EDGE, VERTEX, Asking, pages
+from nipakeel_tools.names import INDEX
+from nipakeel_tools.query import EDGE, VERTEX, quoted
 from nipakeel_tools.terminal import REPLACED, printable
 from nipakeel_tools.values import Value, plain, to_bytes, value_of
 from nipakeel_tools.writers import field
@@ -77,40 +80,59 @@ class Output:
 # --- rows
 
 
-def rows_of(results: Iterable[bytes]) -> Iterator[Shown]:
-    """The results of any line: vertices, with their levels where it gives these, edges or values."""
+def rows_of(results: Iterable[bytes], line: bytes = b"") -> Iterator[Shown]:
+    """The results of any line: vertices, with their levels where it gives these, edges, maps of them, indexes or values."""
+    is_edge = maps_edges(line)
     for it in results:
-        vertex, edge, level = VERTEX.fullmatch(it), EDGE.fullmatch(it), LEVEL.fullmatch(it)
-        if vertex:
+        vertex, edge, level, index = VERTEX.fullmatch(it), EDGE.fullmatch(it), LEVEL.fullmatch(it), INDEX.fullmatch(it)
+        if is_edge is not None:
+            yield map_row(it, is_edge)
+        elif vertex:
             yield {"node": int(vertex[1])}
         elif level:
             yield {"node": int(level[1]), "level": int(level[2])}
         elif edge:
             yield {"edge": int(edge[1]), "from": int(edge[2]), "type": edge[3].decode(), "to": int(edge[4])}
+        elif index:
+            yield {"label": index[1].decode(), "key": index[2].decode()}
         else:
             yield {"value": value_of(it)}
 
 
+def map_row(result: bytes, is_edge: bool) -> Shown:
+    """What the map of an element shows. A key that is called as another column has a column of its own."""
+    it = map_parts(result, is_edge)
+    row = element_row(it)
+    return row | {f"{key} (key)" if key in row else key: value_of(value) for key, value in own_pairs(it)}
+
+
+def element_row(it: Parts) -> Shown:
+    """The columns of an element without its keys."""
+    if it.source is None or it.target is None:
+        return {"node": it.id, "label": it.label}
+    return {"edge": it.id, "from": it.source, "type": it.label, "to": it.target}
+
+
+def own_pairs(it: Parts) -> List[Tuple[str, bytes]]:
+    return [(key.decode(), value) for key, value in it.pairs]
+
+
 def keyed_rows(
     program: Connection, elements: str, keys: Sequence[str], most: Optional[int] = None
-) -> Optional[Tuple[List[Shown], int, List[bytes]]]:
+) -> Optional[Tuple[List[Shown], int, List[Shown]]]:
     """For each element that a query gives, its values of these keys, each in its column, how many there are, and the elements:
     those that have one of the keys. With `most` it is of so many elements, and the count is that of all. None where the query
-    gives something else, which has no values: then the line is refused."""
-    answer = program.results(to_bytes(elements))
-    results = list(itertools.islice(answer, most))
-    left = sum(1 for _ in answer)
-    asked = Asking(lambda: program, keys, leaves_out=True)
-    found: Dict[bytes, Shown] = {}
-    for kind, form in (("V", VERTEX), ("E", EDGE)):
-        named = {int(at[1]): it for it in results if (at := form.fullmatch(it))}
-        for page in pages(named):
-            for it in asked.elements(kind, page):
-                found[named[it.id]] = it.properties
-    if not found.keys() >= set(results):
+    is refused: then so is the line."""
+    line = to_bytes(f"{elements}.elementMap({quoted(keys)})")
+    is_edge = bool(maps_edges(line))
+    try:
+        answer = (map_parts(it, is_edge) for it in program.results(line))
+        having = [it for it in itertools.islice(answer, most) if it.pairs]
+        left = sum(1 for it in answer if it.pairs)
+    except NotAnswered:
         return None
-    having = [it for it in results if any(key in found[it] for key in keys)]
-    return [{key: found[it][key] for key in keys if key in found[it]} for it in having], len(having) + left, having
+    rows: List[Shown] = [{key: value_of(value) for key, value in own_pairs(it)} for it in having]
+    return rows, len(having) + left, [element_row(it) for it in having]
 
 
 def keyed(line: str) -> Optional[Tuple[str, List[str]]]:

@@ -58,6 +58,8 @@ def all_texts(folder):
             assert db.query("g.V().has('k',?).has('k',gt(?))", given, b"\xff" * 1_024).to_list() == [], text
         found = db.g.V(*ids[:600]).values("k").to_list()
         assert found == [text_of(it) for it in texts[:600]]
+        assert [it["k"] for it in db.g.V(*ids[:600]).elementMap()] == found
+        assert [db.view(it).properties["k"] for it in ids] == [text_of(it) for it in texts]
         assert [type(it) for it in found] == [type(text_of(it)) for it in texts[:600]]
         for text in INJECTIONS:
             db.set(ids[0], k=text)
@@ -67,6 +69,10 @@ def all_texts(folder):
             db.unset(ids[0], "more")
             edge = db.edge(ids[0], "t", ids[1], k=text)
             assert db.g.E(edge).has("k", text).values().to_list() == [text]
+            assert db.view_edge(edge) == (edge, ids[0], "t", ids[1], {"k": text})
+            assert Vertex(ids[0]) in db.g.find("t", "k", text) and ids[0] in db.query("g.find('t',?,?).id()", "k", text)
+            (found,) = db.query("g.E(?).elementMap('k')", edge)
+            assert found == {"id": edge, "label": "t", "OUT": ids[0], "IN": ids[1], "k": text} and found.properties == {"k": text}
             assert db.query("g.V(?).property(?,?)", ids[0], "k", text).to_list() == [Vertex(ids[0])]
             assert db.query("g.V(?).values('k')", ids[0]).first() == text
         stats = db.stats()
@@ -103,7 +109,8 @@ def other_values(folder):
                 lambda: db.node(name), lambda: db.node("v", **{name: 1}), lambda: db.edge(0, name, 0), lambda: db.index(name, "k"),
                 lambda: db.unset(0, name), lambda: db.find("v", name, 1), lambda: db.degree(0, "out", name),
                 lambda: db.g.V().out(name), lambda: db.g.V().has(name), lambda: db.query("g.V().out(?)", name),
-                lambda: db.view(0, [name]), lambda: nipakeel.open(folder, keys=[name]),
+                lambda: db.g.V().elementMap(name), lambda: db.query("g.E().elementMap('k',?)", name),
+                lambda: db.g.find("v", name, 1), lambda: db.g.find(name, "k", 1), lambda: db.query("g.find('v',?,1)", name),
             )
             for wrong in calls:
                 with raises(nipakeel.BadValue):
@@ -317,8 +324,12 @@ CALLS = {
     "levels 0 0 in t": lambda db: db.levels(0, 0, "in", "t"),
     "stats": lambda db: db.stats(),
     "check": lambda db: db.check(),
-    "g.V(0).label()": lambda db: db.view(0),
-    "g.E(0).label()": lambda db: db.view_edge(0),
+    "view node 0": lambda db: db.view(0),
+    "view edge 0": lambda db: db.view_edge(0),
+    "view names": lambda db: db.names(),
+    "view indexes": lambda db: db.indexes(),
+    "g.find('a','k',1).elementMap('k')": lambda db: db.g.find("a", "k", 1).elementMap("k").to_list(),
+    "g.find('a','k','x').property('k',2)": lambda db: db.query("g.find(?,?,?).property('k',2)", "a", "k", "x"),
     "g.V()": lambda db: db.query("g.V()").to_list(),
     "g.V().out()": lambda db: list(db.g.V().out()),
     "checkpoint": lambda db: db.checkpoint(),
@@ -326,7 +337,7 @@ CALLS = {
 }
 # The calls that change something, each a transaction of its own.
 CHANGES = [line for line in CALLS if line.split()[0] in ("node", "edge", "set", "unset", "delete", "index")] + [
-    "g.addV('b')", "g.V(0).property('k',2)", "g.V(0).property('k',1).property('l',2)"
+    "g.addV('b')", "g.V(0).property('k',2)", "g.V(0).property('k',1).property('l',2)", "g.find('a','k','x').property('k',2)"
 ]
 
 
@@ -345,10 +356,12 @@ def begun(folder):
 def refusals(folder):
     """Each reply that tells a fault, to several calls: its class, what it has, and that the next call gets its own reply."""
     program = begun(folder)
-    single = [line for line in CALLS if not line.endswith(".label()")]
+    lines_of_calls = list(CALLS)
     for number, (reply, kind) in enumerate(REPLIES.items()):
         # The reply to any call and that to a change.
-        lines = [single[number % len(single)], CHANGES[number % len(CHANGES)]]
+        lines = [lines_of_calls[number % len(CALLS)], CHANGES[number % len(CHANGES)]]
+        if reply.startswith("broken "):
+            lines = ["check"] * 2
         path = folder / "replier"
         path.write_text(f"#!/bin/sh\nexec {PYTHON} {STAND_IN} \"$@\" --answer '2={reply}' --answer '3={reply}'\n")
         path.chmod(0o755)
@@ -378,14 +391,6 @@ def cut_results(folder):
             with raises(kind):
                 next(results)
             assert list(results) == [] and db.stats().nodes == 2
-    # Of lines that are sent at once, the first refusal is told, and the other replies are read.
-    program = folder / "replier"
-    program.write_text(f"#!/bin/sh\nexec {PYTHON} {STAND_IN} \"$@\" --answer '3=error memory' --answer '4=fault disk'\n")
-    with nipakeel.open(folder, program=program, keys=["k", "l"]) as db:
-        with raises(nipakeel.Refused) as found:
-            db.view(0)
-        assert found[0].reply == "error memory" and found[0].line == "g.V(0).values()", found[0]
-        assert db.view(0).properties == {"k": 1}
 
 
 def ends_of_opening(folder):
@@ -483,7 +488,7 @@ def killed_while_it_works(folder):
                 seen = len(made)
                 os.kill(connection.started.pid, signal.SIGKILL)
 
-    with nipakeel.open(folder, keys=["k"]) as db:
+    with nipakeel.open(folder) as db:
         thread = threading.Thread(target=kills, args=(db,))
         thread.start()
         maybe = 0
@@ -775,11 +780,10 @@ def mistakes(folder):
         assert db.stats().nodes == 0
         with raises(TypeError):
             db.set(0)
-        with raises(nipakeel.Error):
-            id = db.node("a", known=1)
-            db.query("g.V(?).property('unknown',1)", id)
-            db.view(id)
-        assert db.view(id, ["unknown"]).properties == {"known": 1, "unknown": 1}
+        id = db.node("a", known=1)
+        db.query("g.V(?).property('unknown',1)", id)
+        other = db.node("b")
+        assert db.view(id) == (id, "a", {"known": 1, "unknown": 1}) and db.view(other) == (other, "b", {})
         db.index("a", "k")
         db.index("a", "k", exist_ok=True)
         with raises(nipakeel.Refused):

@@ -4,7 +4,7 @@ import contextlib
 import random
 
 import nipakeel
-from nipakeel import Edge, Vertex, __
+from nipakeel import Edge, ElementMap, Vertex, __
 from plain_graph import PlainGraph
 
 LABELS, TYPES, KEYS = ("person", "city"), ("knows", "likes"), ("name", "age", "k_3")
@@ -30,6 +30,11 @@ def shown(result):
         return f"v[{result.id}]"
     if isinstance(result, Edge):
         return f"e[{result.id}][{result.source}-{result.type}->{result.target}]"
+    if isinstance(result, ElementMap):
+        ends = [] if result.source is None else [f"OUT:{result.source}", f"IN:{result.target}"]
+        assert all(result[key] == it for key, it in result.properties.items() if key not in ("id", "label", "OUT", "IN"))
+        pairs = [f"{key}:{shown(it)}" for key, it in result.properties.items()]
+        return f"[{','.join([f'id:{result.id}', f'label:{result.label}', *ends, *pairs])}]"
     if isinstance(result, (bool, int)):
         return str(result).lower()
     text = (result if isinstance(result, bytes) else result.encode()).decode("latin-1")
@@ -74,7 +79,7 @@ class Both:
         reads, id, other = self.reads, self.id(0), self.id(0)
         way, type, label, key, value = draw.choice(WORDS), draw.choice(TYPES), draw.choice(LABELS), draw.choice(KEYS), self.value()
         text, g = spelled(value), reads.g
-        which = draw.randrange(14)
+        which = draw.randrange(19)
         if which == 0:
             self.listed(f"g.V().has('{key}',{text}).{way}('{type}')", lambda: reads.query(f"g.V().has(?,?).{way}(?)", key, value, type))
         elif which == 1:
@@ -105,6 +110,20 @@ class Both:
         elif which == 12:
             self.same("stats", reads.stats, told_stats)
             reads.check()
+        elif which == 13:
+            keys = draw.sample(KEYS, draw.randrange(3))
+            named = ",".join(f"'{it}'" for it in keys)
+            self.listed(f"g.V({id}).{way}E().elementMap({named})", lambda: getattr(g.V(id), f"{way}E")().elementMap(*keys))
+        elif which == 14:
+            self.listed(f"g.find('{label}','{key}',{text}).elementMap('{key}')", lambda: reads.query("g.find(?,?,?).elementMap(?)", label, key, value, key))
+        elif which == 15:
+            self.listed(f"g.find('{label}','{key}',{text}).out('{type}')", lambda: g.find(label, key, value).out(type))
+        elif which == 16:
+            self.listed("g.V().elementMap().limit(5)", lambda: g.V().elementMap().limit(5))
+            self.listed("g.E().elementMap().count()", lambda: g.E().elementMap().count())
+        elif which == 17:
+            self.listed("view names", lambda: reads.names())
+            self.same("view indexes", reads.indexes, lambda it: "\n".join([*(f"==>'{one}' '{key}'" for one, key in it), "end"]))
         else:
             self.views(draw.randrange(2))
 
@@ -113,16 +132,16 @@ class Both:
         view = (self.reads.view, self.reads.view_edge)[kind]
         if id not in self.model.elements[kind]:
             with raises(nipakeel.NotFound):
-                view(id, KEYS)
+                view(id)
             return
-        wanted, found = self.model.elements[kind][id], view(id, KEYS)
-        assert (found.id, found.label) == (id, wanted.label)
+        wanted, found = self.model.elements[kind][id], view(id)
+        assert found[:-1] == ((id, wanted.ends[0], wanted.label, wanted.ends[1]) if kind else (id, wanted.label))
         told = {key: shown(it) for key, it in found.properties.items()}
         assert told == {key: shown(it.encode("latin-1") if isinstance(it, str) else it) for key, it in wanted.properties.items()}
 
     def change(self):
         draw, writes = self.draw, self.reads
-        which, id, edge, other = draw.randrange(12), self.id(0), self.id(1), self.id(0)
+        which, id, edge, other = draw.randrange(13), self.id(0), self.id(1), self.id(0)
         label, type, key, value, properties = draw.choice(LABELS), draw.choice(TYPES), draw.choice(KEYS), self.value(), self.properties()
         pairs = "".join(f" {name}={spelled(it)}" for name, it in properties.items())
         steps = "".join(f".property('{name}',{spelled(it)})" for name, it in properties.items())
@@ -149,6 +168,9 @@ class Both:
             self.same(f"delete edge {edge}", lambda: writes.delete_edge(edge), ok)
         elif which == 10:
             self.same(f"delete node {id}", lambda: writes.delete(id), ok)
+        elif which == 11:
+            line = f"g.find('{label}','name',{spelled(value)}).limit(3).property('{key}',7)"
+            self.listed(line, lambda: writes.g.find(label, "name", value).limit(3).property(key, 7))
         else:
             line = f"g.V({id}).addE('{type}').to(__.V({other})){steps}"
             self.listed(line, lambda: self.with_properties(writes.g.V(id).addE(type).to(other), properties))

@@ -238,7 +238,7 @@ def by_sockets(folder):
 
 def what_a_server_adds(folder):
     with served(folder, "--wait", "0.5", "--line-timeout", "2") as socket:
-        with nipakeel.connect(socket) as one, nipakeel.connect(socket, keys=["k"], timeout=20) as two:
+        with nipakeel.connect(socket) as one, nipakeel.connect(socket, timeout=20) as two:
             ada = one.node("person", k="it's")
             assert two.view(ada).properties == {"k": "it's"}
             with one.transaction():

@@ -15,7 +15,7 @@ package tells all calls, and docs/APPLICATIONS.md what a program has to know of 
 """
 
 from nipakeel.database import Bulk, Database, Reader, ServedDatabase, Snapshot, Transaction, Writer, connect, open
-from nipakeel.elements import Edge, Element, Stats, Vertex
+from nipakeel.elements import Edge, EdgeElement, Element, ElementMap, Stats, Vertex
 from nipakeel.errors import (
     Busy, Damaged, DiskFault, Ended, Error, InUse, Misuse, NotFound, ReadOnly, Refused, SnapshotEnded, TimedOut,
     TransactionFull, TransactionLost,
@@ -25,8 +25,8 @@ from nipakeel.values import BadValue, Value
 from nipakeel.wire import Results
 
 __all__ = [
-    "BadValue", "Bulk", "Busy", "Damaged", "Database", "DiskFault", "Edge", "Element", "Ended", "Error", "InUse", "Misuse",
-    "NotFound", "Order", "P", "ReadOnly", "Reader", "Refused", "Results", "ServedDatabase", "Snapshot", "SnapshotEnded",
-    "Stats", "TimedOut", "Transaction", "TransactionFull", "TransactionLost", "Value", "Vertex", "Writer", "__", "asc",
-    "connect", "desc", "eq", "gt", "gte", "lt", "lte", "neq", "open",
+    "BadValue", "Bulk", "Busy", "Damaged", "Database", "DiskFault", "Edge", "EdgeElement", "Element", "ElementMap", "Ended", "Error",
+    "InUse", "Misuse", "NotFound", "Order", "P", "ReadOnly", "Reader", "Refused", "Results", "ServedDatabase", "Snapshot",
+    "SnapshotEnded", "Stats", "TimedOut", "Transaction", "TransactionFull", "TransactionLost", "Value", "Vertex", "Writer", "__",
+    "asc", "connect", "desc", "eq", "gt", "gte", "lt", "lte", "neq", "open",
 ]

@@ -19,8 +19,9 @@ TOKEN = re.compile(
     re.S | re.X,
 )
 # The words whose parentheses have names, those where a name is followed by a value, and so on.
-NAMES = ("out", "in", "both", "outE", "inE", "bothE", "values", "hasLabel", "addV", "addE", "by")
-PAIRS = ("has", "property")
+NAMES = ("out", "in", "both", "outE", "inE", "bothE", "values", "elementMap", "hasLabel", "addV", "addE", "by")
+# Of these the last argument is a value, and how many names stand before it.
+PAIRS = {"has": 1, "property": 1, "find": 2}
 VALUES = ("eq", "neq", "gt", "gte", "lt", "lte")
 IDENTIFIERS = ("V", "E")
 NUMBERS = ("limit", "times")
@@ -75,13 +76,13 @@ def places(text: str) -> Iterator[Union[str, Place]]:
 
 def spelled(value: Bound, step: str, before: int) -> bytes:
     """A value, spelled for this place."""
-    if step in NAMES or step in PAIRS and not before:
+    if step in NAMES or before < PAIRS.get(step, 0):
         return b"'%s'" % name_of(value)
     if step in IDENTIFIERS:
         return b"%d" % id_of(step, value)
     if isinstance(value, (Vertex, Edge)):
         raise TypeError(f"{value} stands where a value is wanted")
-    if step in VALUES or step in PAIRS and before == 1:
+    if step in VALUES or step in PAIRS and before == PAIRS[step]:
         return spell(value)
     if step in NUMBERS:
         return b"%d" % number_of(value)

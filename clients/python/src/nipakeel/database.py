@@ -8,16 +8,18 @@ import math
 import os
 import tempfile
 import threading
-from typing import Any, Callable, Dict, Iterable, List, Mapping, NoReturn, Optional, Sequence, Set, Tuple, Type, TypeVar, Union
+from typing import Any, Callable, Dict, Iterable, List, Mapping, NoReturn, Optional, Sequence, Tuple, Type, TypeVar, Union
 
 from nipakeel.binding import Bound, bound
 from nipakeel.connection import NIPAKEEL, Connection, Path, Program, Served
-from nipakeel.elements import Edge, Element, Link, Node, Result, Stats, edge_id, edge_of, level_of, node_id, result_of
+from nipakeel.elements import (
+    Edge, EdgeElement, Element, Link, Node, Result, Stats, edge_id, edge_of, level_of, node_id, properties_in, reads,
+)
 from nipakeel.errors import Busy, Error, Misuse, Refused, SnapshotEnded, TimedOut, TransactionFull, refusal, told
 from nipakeel.limits import BLOCK, EDGE_WEIGHT, LEAST_WEIGHT, MOST_WEIGHT, NODE_WEIGHT, SESSIONS
 from nipakeel.replies import mutates
 from nipakeel.traversal import Source
-from nipakeel.values import BadValue, Value, name, spell, value_of
+from nipakeel.values import BadValue, Value, name, spell
 from nipakeel.wire import Holder, Reply, Results, Wire
 
 T = TypeVar("T")
@@ -33,8 +35,8 @@ Row = Union[Tuple[Node, Node], Tuple[Node, Node, Mapping[str, Value]]]
 class Reader:
     """What reads a graph."""
 
-    def __init__(self, wire: Wire, keys: Set[str], holder: Optional[Holder] = None, session: int = 0, is_apart: bool = False):
-        self._wire, self._keys, self._holder = wire, keys, holder
+    def __init__(self, wire: Wire, holder: Optional[Holder] = None, session: int = 0, is_apart: bool = False):
+        self._wire, self._holder = wire, holder
         self._mark, self._is_apart = b"@%d " % session if session else b"", is_apart
 
     # --- lines
@@ -63,7 +65,7 @@ class Reader:
         changes = mutates(line)
         stored = None if changes and self._commits() else False
         results = Results(
-            self._wire, self._mark + line, result_of, self._holder, self._is_apart, stored=stored, timeout=timeout
+            self._wire, self._mark + line, reads(line), self._holder, self._is_apart, stored=stored, timeout=timeout
         )
         if changes:
             results.read_all()
@@ -124,30 +126,25 @@ class Reader:
         """Tests the whole store against its rules. Raises `Damaged` where a record breaks one."""
         self._ask(b"check", b"sound", timeout=timeout)
 
-    def view(self, node: Node, keys: Iterable[str] = ()) -> Element:
-        """A node with its label and all properties.
+    def view(self, node: Node) -> Element:
+        """A node with its label and all properties."""
+        id = node_id(node)
+        label, _, pairs = self._ask(b"view node %d" % id, b"node ").partition(b" ")
+        return Element(id, label.decode(), properties_in(b" " + pairs))
 
-        The program tells the values of a node, and not their keys. So the keys have to be known: those that this object
-        was opened with, those of its own changes, and these. It sends one line for each, all at once. Raises `Error`
-        where the node has a key besides.
-        """
-        return self._view(b"V", "node", node_id(node), keys)
+    def view_edge(self, edge: Link) -> EdgeElement:
+        """An edge with its ends, its type and all properties."""
+        id = edge_id(edge)
+        source, type, target, *pairs = self._ask(b"view edge %d" % id, b"edge ").split(b" ", 3)
+        return EdgeElement(id, int(source), type.decode(), int(target), properties_in(b" " + b"".join(pairs)))
 
-    def view_edge(self, edge: Link, keys: Iterable[str] = ()) -> Element:
-        """An edge with its type and all properties, as `view`."""
-        return self._view(b"E", "edge", edge_id(edge), keys)
+    def names(self) -> List[str]:
+        """The labels, types and keys that are in use or once were, in the order of their first use."""
+        return self._list(b"view names", lambda it: it[1:-1].decode())
 
-    def _view(self, source: bytes, what: str, id: int, keys: Iterable[str]) -> Element:
-        known = sorted({*self._keys, *(name(it, "key") for it in keys)})
-        steps = [b"label()", b"values()", *(b"values('%s')" % it.encode() for it in known)]
-        lines = [b"g.%s(%d).%s" % (source, id, it) for it in steps]
-        labels, values, *found = (it.results for it in self._ask_all(lines))
-        if not labels:
-            raise refusal(lines[0], b"error no %s %d" % (what.encode(), id))
-        properties = {key: value_of(its[0]) for key, its in zip(known, found) if its}
-        if len(properties) < len(values):
-            raise Error(f"{what} {id} has {len(values)} properties, and of {len(properties)} the keys are known: name them all")
-        return Element(id, str(value_of(labels[0])), properties)
+    def indexes(self) -> List[Tuple[str, str]]:
+        """The label and the key of each index."""
+        return self._list(b"view indexes", index_of)
 
 
 class Writer(Reader):
@@ -179,7 +176,6 @@ class Writer(Reader):
         if not properties:
             raise TypeError("there is no property to set")
         pairs = [(word(key, "key"), spell(value)) for key, value in properties.items()]
-        self._keys.update(properties)
         if len(pairs) == 1:
             self._change(b"set %s %d %s %s" % (what, id, *pairs[0]), b"ok")
             return
@@ -216,16 +212,14 @@ class Writer(Reader):
                 raise
 
     def _pairs(self, properties: Mapping[str, Value]) -> bytes:
-        pairs = b"".join(b" %s=%s" % (word(key, "key"), spell(value)) for key, value in properties.items())
-        self._keys.update(properties)
-        return pairs
+        return b"".join(b" %s=%s" % (word(key, "key"), spell(value)) for key, value in properties.items())
 
 
 class Database(Writer):
     """A store that is open. Each change is stored when its call returns, or part of the transaction of its thread."""
 
-    def __init__(self, wire: Wire, keys: Iterable[str], begin_apart: Optional[Callable[[], Wire]] = None) -> None:
-        super().__init__(wire, {name(it, "key") for it in keys})
+    def __init__(self, wire: Wire, begin_apart: Optional[Callable[[], Wire]] = None) -> None:
+        super().__init__(wire)
         # Over a socket a snapshot is of its connection, so it has one of its own.
         self._begin_apart = begin_apart
 
@@ -236,17 +230,17 @@ class Database(Writer):
     def transaction(self) -> Transaction:
         """What is changed in it is stored as a whole at its end, or not at all if an exception leaves it. Lines of other
         threads wait, but those of snapshots and those by the transaction itself, which `with` gives."""
-        return Transaction(self._wire, self._keys)
+        return Transaction(self._wire)
 
     def bulk(self) -> Bulk:
         """Many changes in as many transactions as they need. What an exception leaves of the last one isn't stored."""
-        return Bulk(self._wire, self._keys)
+        return Bulk(self._wire)
 
     def snapshot(self) -> Snapshot:
         """What is committed now, until its end, whatever is changed meanwhile."""
         if self._begin_apart is not None:
-            return Snapshot(self._begin_apart(), self._keys, owns=True)
-        return Snapshot(self._wire, self._keys)
+            return Snapshot(self._begin_apart(), owns=True)
+        return Snapshot(self._wire)
 
     def checkpoint(self) -> None:
         """Brings all records into their files. The program does so by itself, too."""
@@ -287,9 +281,9 @@ class ServedDatabase(Database):
 class Transaction(Writer, Holder):
     """A transaction, which is open in its `with`."""
 
-    def __init__(self, wire: Wire, keys: Set[str]) -> None:
+    def __init__(self, wire: Wire) -> None:
         Holder.__init__(self)
-        Writer.__init__(self, wire, keys, self)
+        Writer.__init__(self, wire, self)
         self.is_open = False
 
     def __enter__(self: S) -> S:
@@ -356,8 +350,8 @@ class Transaction(Writer, Holder):
 class Bulk(Transaction):
     """Changes in as many transactions as they need, each as full as it may be. `stored` counts those that are stored."""
 
-    def __init__(self, wire: Wire, keys: Set[str]) -> None:
-        super().__init__(wire, keys)
+    def __init__(self, wire: Wire) -> None:
+        super().__init__(wire)
         self.stored, self.made, self.weight = 0, 0, LEAST_WEIGHT
         self._lock = threading.RLock()
 
@@ -457,9 +451,9 @@ class Snapshot(Reader, Holder):
 
     said, gone = "snapshot", SnapshotEnded
 
-    def __init__(self, wire: Wire, keys: Set[str], owns: bool = False) -> None:
+    def __init__(self, wire: Wire, owns: bool = False) -> None:
         Holder.__init__(self)
-        Reader.__init__(self, wire, keys, self, is_apart=True)
+        Reader.__init__(self, wire, self, is_apart=True)
         # Over a socket it has a connection of its own, whose lines name no session.
         self.owns, self.session = owns, 0
 
@@ -511,13 +505,12 @@ class Snapshot(Reader, Holder):
 
 
 def open(
-    folder: Path, *, timeout: Optional[float] = None, keys: Iterable[str] = (), threshold: Optional[int] = None,
-    limit: Optional[int] = None, program: Path = NIPAKEEL,
+    folder: Path, *, timeout: Optional[float] = None, threshold: Optional[int] = None, limit: Optional[int] = None,
+    program: Path = NIPAKEEL,
 ) -> Database:
     """Opens the store of a folder, which is made if there is none. No other program may use it meanwhile.
 
     timeout    for so many seconds a call waits for an answer, or a result of a query for the one before it; None waits on
-    keys       those that `view` looks for besides those of this object's own changes
     threshold, limit    the shape of a new store (docs/CONSOLE.md)
     """
     words = [f"--{what}={value}" for what, value in (("threshold", threshold), ("limit", limit)) if value is not None]
@@ -532,16 +525,16 @@ def open(
         errors.seek(0)
         return b" ".join(it.removeprefix(b"nipakeel: ") for it in errors.read().splitlines())
 
-    return begun(Database(Wire(start, timeout, last_words), keys))
+    return begun(Database(Wire(start, timeout, last_words)))
 
 
-def connect(socket: Path, *, timeout: Optional[float] = None, keys: Iterable[str] = ()) -> ServedDatabase:
-    """Connects to the store that `tools/serve` has open under this socket. `timeout` and `keys` are as for `open`."""
+def connect(socket: Path, *, timeout: Optional[float] = None) -> ServedDatabase:
+    """Connects to the store that `tools/serve` has open under this socket. `timeout` is as for `open`."""
 
     def wire() -> Wire:
         return Wire(lambda: Served(socket, timeout), timeout, lambda: b"the server has closed the connection")
 
-    return begun(ServedDatabase(wire(), keys, wire))
+    return begun(ServedDatabase(wire(), wire))
 
 
 def begun(database: D) -> D:
@@ -572,3 +565,9 @@ def way(direction: str, type: Optional[str]) -> bytes:
 def vertex_id(result: bytes) -> int:
     """The identifier of a node that a result shows."""
     return int(result[2:-1])
+
+
+def index_of(result: bytes) -> Tuple[str, str]:
+    """The label and the key of an index that a result shows."""
+    label, key = result.decode().split(" ")
+    return label[1:-1], key[1:-1]

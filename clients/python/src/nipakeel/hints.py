@@ -25,33 +25,36 @@ ID, VALUE = Part("0", "an identifier such as 0"), Part("'Ada'", "a value such as
 PAIR = Part("name='Ada'", "a pair such as name='Ada'")
 ENDS = Part("", "the line's end")
 ELEMENT = (Part("node"), Part("edge"))
-WAY = (Part("out"), Part("in"), Part("both"))
+WAY, VIEWED = (Part("out"), Part("in"), Part("both")), (*ELEMENT, Part("names"), Part("indexes"))
 Parts = Tuple[Tuple[Part, ...], ...]
 # By the first word what follows it. The last part of a line with pairs may come again, and the marked ones may be missing.
 FORMS: Dict[str, Parts] = {
     "node": ((LABEL,),), "edge": ((ID,), (TYPE,), (ID,)),
     "set": (ELEMENT, (ID,), (KEY,), (VALUE,)), "unset": (ELEMENT, (ID,), (KEY,)), "delete": (ELEMENT, (ID,)),
-    "index": ((LABEL,), (KEY,)), "find": ((LABEL,), (KEY,), (VALUE,)),
+    "index": ((LABEL,), (KEY,)), "find": ((LABEL,), (KEY,), (VALUE,)), "view": (VIEWED,),
     "expand": ((ID,), WAY, (TYPE,)), "degree": ((ID,), WAY), "path": ((ID,), (ID,), WAY), "levels": ((ID,), (ID,), WAY),
     **dict.fromkeys(("begin", "commit", "rollback", "checkpoint", "reopen", "stats", "check", "quit"), ()),
     "snapshot": (), "release": (),
 }
 WITH_PAIRS, WITH_TYPE, OF_READERS = ("node", "edge"), ("degree", "path", "levels"), ("snapshot", "release")
+# The words after `view` that an identifier follows.
+OF_ELEMENTS = ("node", "edge")
 
 # --- steps of queries, by what they take and give
 
-NODES, EDGES, VALUES, NOTHING = "nodes", "edges", "values", "nothing"
+NODES, EDGES, VALUES, MAPS, NOTHING = "nodes", "edges", "values", "maps", "nothing"
 ANY = ("dedup", "count", "limit", "order")
-OF_BOTH = ("values", "hasLabel", "has", "id", "label", "property", "drop")
+OF_BOTH = ("values", "elementMap", "hasLabel", "has", "id", "label", "property", "drop")
 STEPS: Dict[str, Tuple[str, ...]] = {
     NODES: ("out", "in", "both", "outE", "inE", "bothE", *OF_BOTH, "repeat", "addE", *ANY),
     EDGES: ("outV", "inV", *OF_BOTH, *ANY),
     VALUES: ANY,
+    MAPS: ("count", "limit"),
     NOTHING: (),
 }
 GIVES = {
     **dict.fromkeys(("out", "in", "both", "outV", "inV", "repeat"), NODES), **dict.fromkeys(("outE", "inE", "bothE"), EDGES),
-    **dict.fromkeys(("values", "id", "label", "count"), VALUES), "drop": NOTHING,
+    **dict.fromkeys(("values", "id", "label", "count"), VALUES), "elementMap": MAPS, "drop": NOTHING,
 }
 BODY = ("out", "in", "both", "hasLabel", "has")
 COMPARED = ("eq", "neq", "gt", "gte", "lt", "lte")
@@ -125,23 +128,33 @@ class Query:
     def read(self) -> NoReturn:
         self.take("g")
         self.take(".")
-        source = self.take("V(", "E(", "addV(") if self.joined() else self.source()
+        source = self.take("V(", "E(", "find(", "addV(") if self.joined() else self.source()
         if source == "addV(":
             self.name()
             self.take(")")
             self.properties()
-        if not self.take(")", more=[ID]):
+        if source == "find(":
+            self.found()
+        elif not self.take(")", more=[ID]):
             self.matched(DIGITS, ID)
             while self.take(",", ")") == ",":
                 self.matched(DIGITS, ID)
-        self.steps(NODES if source == "V(" else EDGES)
+        self.steps(EDGES if source == "E(" else NODES)
+
+    def found(self) -> None:
+        """A label, a key and a value."""
+        for _ in range(2):
+            self.name()
+            self.take(",")
+        self.value()
+        self.take(")")
 
     def joined(self) -> bool:
         """Whether no blank stands between the word of a source and its parenthesis."""
-        return not re.match(r"[ \t]*(?:V|E|addV)[ \t]", self.text[self.at :])
+        return not re.match(r"[ \t]*(?:V|E|find|addV)[ \t]", self.text[self.at :])
 
     def source(self) -> str:
-        word = self.take("V", "E", "addV")
+        word = self.take("V", "E", "find", "addV")
         self.take("(")
         return word + "("
 
@@ -155,7 +168,7 @@ class Query:
     def step(self, kind: str) -> str:
         """Reads a step, and returns what it gives."""
         word = self.word_of(STEPS[kind])
-        if word in ("out", "in", "both", "outE", "inE", "bothE", "values"):
+        if word in ("out", "in", "both", "outE", "inE", "bothE", "values", "elementMap"):
             self.names(0)
         elif word == "hasLabel":
             self.names(1)
@@ -305,7 +318,7 @@ def of_line(first: str, has_session: bool) -> May:
         words = [Part(it) for it in FORMS if has_session or it not in OF_READERS]
         if begun not in FORMS or any(it.text != begun and it.text.startswith(begun) for it in words):
             return May([*words, Part("g.V()", "a query such as g.V()")], begun)
-    parts = places(given[0] if given else begun)
+    parts = places([*given, begun])
     if begun and given and "=" in begun and not is_pair(begun):
         key, _, value = begun.partition("=")
         return May([VALUE], value)
@@ -317,8 +330,11 @@ def of_line(first: str, has_session: bool) -> May:
     return May([it for it in parts[min(at, len(parts) - 1)] if it.text or not begun], begun)
 
 
-def places(word: str) -> Parts:
+def places(words: Sequence[str]) -> Parts:
     """What may stand in each place after the first word of a line. The last one is that of all after it."""
+    word = words[0]
+    if word == "view":
+        return (*FORMS[word], *[(ID,)] * (words[1] in OF_ELEMENTS), (ENDS,)) if len(words) > 1 else FORMS[word]
     if word in WITH_PAIRS:
         return (*FORMS[word], (PAIR, ENDS))
     if word in WITH_TYPE:
@@ -376,11 +392,11 @@ known(LINES, "group order sort limit skip", "puts results in order, and takes th
 known(LINES, "start transaction savepoint", "opens a transaction; commit stores it, and rollback drops it", "begin")
 known(LINES, "end save", "stores the open transaction", "commit")
 known(LINES, "abort undo cancel", "drops the open transaction", "rollback")
-known(LINES, "show describe desc explain use call list tables labels schema info pragma analyze profile", "counts what is there; in the shell .schema and .names tell more", "stats")
+known(LINES, "show describe desc explain use call list tables labels schema info pragma analyze profile", "tell what is there, its labels, types and keys, and its indexes; in the shell .schema tells more", "stats", "view names", "view indexes")
 known(LINES, "vacuum optimize flush sync", "empties the redo log into the files", "checkpoint")
 known(LINES, "verify validate fsck", "tests the whole store", "check")
 known(LINES, "constraint unique key", "makes an index of a label by a key, which find asks", "index person name")
-known(LINES, "get lookup search", "finds the nodes with a value, by an index", "find person name 'Ada'")
+known(LINES, "get lookup search", "find the nodes with a value, by an index, and tell all that one has", "find person name 'Ada'", "g.find('person','name','Ada').elementMap()", "view node 0")
 known(LINES, "neighbors neighbours hop traverse walk", "follow the edges of a node", "g.V(0).both()", "expand 0 both knows")
 known(LINES, "shortest shortestpath distance bfs", "a shortest walk, and how far nodes are", "path 0 1 both", "levels 0 1 both")
 known(LINES, "vertex v vertices n nodes", "makes a node; all of them are", "node person name='Ada'", "g.V()")
@@ -391,7 +407,7 @@ known(LINES, "export backup", "tools/export and tools/backup write files; all no
 known(LINES, "help man usage version", "docs/CONSOLE.md has all lines; in the shell .help", "stats")
 known(LINES, "grant revoke attach password user", "there are no users: who may open the folder may do all", "stats")
 
-known(OTHER_STEPS, "valueMap elementMap properties propertyMap project map", "gives values of keys, in the order in which they are named", "g.V().values('name','age')", "g.V(0).values()")
+known(OTHER_STEPS, "valueMap properties propertyMap project map", "gives each with its keys and values; values gives the values alone", "g.V().elementMap('name','age')", "g.V(0).elementMap()", "g.V().values('name','age')")
 known(OTHER_STEPS, "where filter is and match", "has keeps what has a key with a value; several one after the other are all asked for", "g.V().has('name','Ada').has('age',gt(30))")
 known(OTHER_STEPS, "not hasNot", "neq keeps other values; what lacks a key takes two queries, of which the client leaves the one's results out of the other's", "g.V().has('name',neq('Ada'))", "g.V().has('email').id()")
 known(OTHER_STEPS, "or union coalesce choose optional branch", "takes two queries; several labels or types may stand in one", "g.V().hasLabel('person','city')", "g.V(0).out('knows','likes')")
@@ -416,7 +432,7 @@ known(OTHER_STEPS, "distinct", "gives each result once", "g.V().out().dedup()")
 known(OTHER_STEPS, "size length len", "counts the results", "g.V().out().count()")
 known(OTHER_STEPS, "sort orderBy", "puts results in order", "g.V().order().by('name')")
 known(OTHER_STEPS, "first head top take", "takes the first ones", "g.V().limit(1)")
-known(OTHER_STEPS, "get getProperty", "gives the value of a key", "g.V(0).values('name')")
+known(OTHER_STEPS, "get getProperty", "gives the value of a key, and all that it has", "g.V(0).values('name')", "g.V(0).elementMap()")
 known(OTHER_STEPS, "neighbors neighbours", "follow the edges of a node either way", "g.V(0).both()")
 known(OTHER_STEPS, "tx io with withSack withSideEffect withPath withStrategies", "lines open and store transactions; tools/import and tools/export read and write files", "begin", "commit")
 known(OTHER_STEPS, "vertices nodes edges", "begins a query", "g.V()", "g.E()")

@@ -17,9 +17,8 @@ NAMED = re.compile(rb"^[ \t]*@([0-7])[ \t]")
 WORD = re.compile(rb"[ \t]*([^ \t.\r]*)")
 # Faults that have a place, which is the last word of the reply.
 PLACED = re.compile(rb"error (?:syntax|name length|text length|number range|step kind|too many steps|times range) ([0-9]+)")
-# The first words of lines that change the graph, and of those that are answered with results, as a query is.
+# The first words of lines that change the graph.
 CHANGES = (b"node", b"edge", b"set", b"unset", b"delete", b"index")
-LISTS = (b"expand", b"path", b"levels", b"find")
 # A text between quotes, and what makes a query one that changes the graph, once there are no such texts in it.
 QUOTED = re.compile(rb"""'(?:[^'\\]|\\.)*'|"(?:[^"\\]|\\.)*\"""", re.S)
 MUTATES = re.compile(rb"\.[ \t]*(?:addV|addE|property|drop)\b")

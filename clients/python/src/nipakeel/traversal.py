@@ -9,7 +9,7 @@ from __future__ import annotations
 from typing import Any, Callable, Generic, Iterator, List, NamedTuple, Optional, Tuple, TypeVar, Union
 
 from nipakeel.binding import number_of
-from nipakeel.elements import Edge, Link, Node, Vertex, edge_id, node_id
+from nipakeel.elements import Edge, ElementMap, Link, Node, Vertex, edge_id, node_id
 from nipakeel.values import Value, name, spell
 
 T = TypeVar("T")
@@ -216,6 +216,18 @@ class Traversal(Run[T]):
         return Traversal(self.text + step("count"), self.send)
 
 
+class Maps(Run[ElementMap]):
+    """After `elementMap`, where `limit` and `count` may follow."""
+
+    def limit(self, number: int) -> Maps:
+        """The first so many of them."""
+        return self.then(step("limit", b"%d" % number_of(number)))
+
+    def count(self) -> Traversal[int]:
+        """One number: how many there are."""
+        return Traversal(self.text + step("count"), self.send)
+
+
 class Elements(Traversal[E]):
     """Vertices or edges."""
 
@@ -230,6 +242,10 @@ class Elements(Traversal[E]):
     def values(self, *keys: str) -> Traversal[Value]:
         """The values of these keys; of all by ascending keys where none is given."""
         return Traversal(self.text + step("values", names(keys)), self.send)
+
+    def elementMap(self, *keys: str) -> Maps:
+        """Each with its identifier, its label and these keys; with all where none is given."""
+        return Maps(self.text + step("elementMap", names(keys)), self.send)
 
     def id(self) -> Traversal[int]:
         """Their identifiers."""
@@ -332,6 +348,10 @@ class Source:
     def E(self, *edges: Link) -> Edges:
         """These edges, or all."""
         return Edges(b"g.E(%s)" % b",".join(b"%d" % edge_id(it) for it in edges), self.send)
+
+    def find(self, label: str, key: str, value: Value) -> Vertices:
+        """The nodes of the label whose key has the value, by their index."""
+        return Vertices(b"g.find(%s,%s)" % (names((label, key)), spell(value)), self.send)
 
     def addV(self, label: str) -> Changed[Vertex]:
         """A new node."""
