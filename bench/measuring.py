@@ -89,7 +89,9 @@ class Lines:
         return row
 
     def edge(self, source, kind, target):
-        return self.builder.edge(0, (str(source), str(target)), kind, [], self.nodes, self.nodes)
+        row = self.builder.edge(0, (str(source), str(target)), kind, [], self.nodes, self.nodes)
+        row.weight += self.builder.degrees.weighs(row.ends)
+        return row
 
 
 def spelled(value):
