@@ -13,15 +13,15 @@ pub(crate) fn command<'a>(alloc: Global) -> Result<Command<'a>, AllocError>
     ensures { IfOk result (λ c. app_of c ≡ program_app) }
 {
     let run = run_command(alloc)?;
-    let sample = lines_command(alloc, "sample", value_parser!(u32).range(1..=20_000))?;
-    let follow = lines_command(alloc, "follow", value_parser!(u32).range(1..=2_000))?;
-    Command::new(alloc, "graph")
+    let with_run = Command::new(alloc, "graph")
         .disable_help_flag(true)
         .disable_help_subcommand(true)
         .subcommand_required(true)
-        .subcommand(run)?
-        .subcommand(sample)?
-        .subcommand(follow)
+        .subcommand(run)?;
+    let sample = lines_command(alloc, "sample", value_parser!(u32).range(1..=20_000))?;
+    let with_sample = with_run.subcommand(sample)?;
+    let follow = lines_command(alloc, "follow", value_parser!(u32).range(1..=2_000))?;
+    with_sample.subcommand(follow)
 }
 
 /// `run`, with its two options.

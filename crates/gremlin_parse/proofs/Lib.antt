@@ -1,3 +1,4 @@
+pub mod Exits
 pub mod Runs
 pub mod Stops
 pub mod Differing

@@ -1,9 +1,11 @@
 -- A word that a table was asked for, as a symbol of the grammar.
-use Rattle.std.proofs.Common.{◌≡◌, inl, inr, ℕ, nat_eq, true, List, [], ◌∷◌, map, refl, sym, ap, ◌∙◌, subst}
+use Rattle.std.proofs.Common.{◌≡◌, inl, inr, ℕ, nat_eq, Bool, true, List, [], ◌∷◌, map, refl, sym, ap, ◌∙◌, subst}
 use Rattle.std.specs.List.{AllByRecursion}
 use Rattle.std.specs.Cmp.Lexicographic.{pointwise, same_text}
+use Rattle.plain_graph.specs.declared.value.Value.TheVariants as values
 use Rattle.gremlin_parse.specs.Keywords.{Entry, InTable, plain, TakesWord, LeavesTable}
-use Rattle.gremlin_parse.specs.Symbols.{OneWord, Reads, Leaves}
+use Rattle.gremlin_parse.specs.Symbols.{OneWord, AnyValue, Reads, Leaves, truth_words}
+use Rattle.gremlin_parse.specs.Values.{truth_word}
 use Rattle.gremlin_parse.specs.Stopping.{StopsWith}
 use Rattle.gremlin_parse.specs.declared.stop.Stop.{Stop}
 use Rattle.gremlin_parse.specs.declared.stop.Stop.TheVariants as stops
@@ -45,3 +47,13 @@ pub word_leaves : {K : Type 0} (table : List (Entry K)) (bytes : List ℕ) (stop
 word_leaves table bytes stops.Memory leaves = leaves
 word_leaves table bytes (stops.Syntax left) leaves = subst (λ t. LeavesTable t bytes left) (sym (forget-plain table)) (leaves_plain table bytes left leaves)
 word_leaves table bytes (stops.Bad kind left) leaves = absurd leaves
+
+-- a word for true or false, as a value
+pub truth_read : (bytes rest : List ℕ) (truth : Bool) → TakesWord truth_words bytes truth rest → Reads AnyValue (values.Bool truth) bytes rest
+truth_read bytes rest truth reads =
+    let word = word_read truth_word truth_words (refl, (refl, tt)) bytes rest truth reads in
+    record {
+      takes = record { prefix = word.takes.prefix; bytes_are = word.takes.bytes_are; is = word.takes.is; ends = word.takes.ends.1 };
+      allowed = tt;
+      bounded = tt;
+    }

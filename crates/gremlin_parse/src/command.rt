@@ -26,11 +26,9 @@ pub(crate) fn parse_tail(alloc: Global, bytes: &[u8]) -> Result<Command, Stop>
     }
     let (head, rest) = read_head(bytes)?;
     if is_plain(head) {
-        let command = parse_command(alloc, head, rest)?;
-        return Ok(command);
+        return parse_command(alloc, head, rest);
     }
-    let asked = read_query(alloc, rest)?;
-    Ok(asked)
+    read_query(alloc, rest)
 }
 
 /// The command of the first word, whose arguments and last part follow.

@@ -22,6 +22,5 @@ pub(crate) fn read_direction(bytes: &[u8]) -> Result<(Direction, &[u8]), Stop>
         Reads (OneWord direction_names) (direction_name r.0) bytes.now r.1.now) }
     ensures err { IfErr result (Leaves (OneWord direction_names) bytes.now) }
 {
-    let read = read_keyword(bytes, &DIRECTIONS)?;
-    Ok(read)
+    read_keyword(bytes, &DIRECTIONS)
 }

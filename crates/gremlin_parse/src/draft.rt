@@ -112,7 +112,8 @@ impl Draft {
         if is_by(word) {
             self.steps.pop();
         }
-        self.steps.push(step).map_err(|_| Stop::Memory)
+        self.steps.push(step)?;
+        Ok(())
     }
 
     /// The query of the steps: maps are shown of elements, and of values none.

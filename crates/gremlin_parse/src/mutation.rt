@@ -67,18 +67,9 @@ pub(crate) fn read_change(
         StopsFrom (opened query (words.Change change)) bytes.now stop) }
 {
     match change {
-        ChangeWord::AddE => {
-            let mutation = read_new_edges(alloc, before, bytes)?;
-            Ok(mutation)
-        }
-        ChangeWord::Property => {
-            let mutation = read_values(alloc, before, bytes)?;
-            Ok(mutation)
-        }
-        ChangeWord::Drop => {
-            let mutation = read_drop(bytes)?;
-            Ok(mutation)
-        }
+        ChangeWord::AddE => read_new_edges(alloc, before, bytes),
+        ChangeWord::Property => read_values(alloc, before, bytes),
+        ChangeWord::Drop => read_drop(bytes),
     }
 }
 
@@ -141,8 +132,7 @@ fn read_to(bytes: &[u8]) -> Result<(u32, &[u8]), Stop>
     let at_open = read_token(at_word, b"to")?;
     let at_vertex = read_token(at_open, b"(")?;
     let at_id = read_vertex(at_vertex)?;
-    let (to, rest) = read_vertex_id(at_id)?;
-    Ok((to, rest))
+    read_vertex_id(at_id)
 }
 
 /// The bytes after `V` and any blanks; before it may stand `__` and a dot.
@@ -158,8 +148,7 @@ fn read_vertex(bytes: &[u8]) -> Result<&[u8], Stop>
     }
     let at_dot = read_token(after, b"_")?;
     let at_vertex = read_token(at_dot, b".")?;
-    let rest = read_token(at_vertex, b"V")?;
-    Ok(rest)
+    read_token(at_vertex, b"V")
 }
 
 /// The identifier between parentheses, and the bytes after the closing one of `to`.
@@ -222,8 +211,7 @@ fn read_property_name(before: usize, bytes: &[u8]) -> Result<&[u8], Stop>
     let at_name = read_token(bytes, b".")?;
     let named = read_property_word(before, at_name)?;
     let at_open = skip_blanks(named.1);
-    let rest = read_token(at_open, b"(")?;
-    Ok(rest)
+    read_token(at_open, b"(")
 }
 
 /// The word `property`, with so many steps before it, and the bytes after it.

@@ -126,10 +126,7 @@ fn read_sort(bytes: &[u8]) -> Result<(bool, &[u8]), Stop>
 {
     match read_sort_name(bytes) {
         Ok(read) => Ok(read),
-        Err(no_name) => {
-            let read = read_qualified(no_name, bytes)?;
-            Ok(read)
-        }
+        Err(no_name) => read_qualified(no_name, bytes),
     }
 }
 
@@ -146,8 +143,7 @@ fn read_qualified(no_name: Stop, bytes: &[u8]) -> Result<(bool, &[u8]), Stop>
     match read_token(bytes, b"Order") {
         Ok(at_dot) => {
             let at_name = read_token(at_dot, b".")?;
-            let read = read_sort_name(at_name)?;
-            Ok(read)
+            read_sort_name(at_name)
         }
         Err(no_order) => Err(later(no_name, no_order)),
     }

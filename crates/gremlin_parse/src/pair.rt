@@ -62,5 +62,6 @@ pub(crate) fn push_pair(
 {
     let key = copy_name(alloc, key)?;
     let value = value_of(alloc, value)?;
-    pairs.push(Pair { key, value }).map_err(|_| Stop::Memory)
+    pairs.push(Pair { key, value })?;
+    Ok(())
 }

@@ -109,7 +109,7 @@ pub(crate) fn copy_name(alloc: Global, name: &[u8]) -> Result<Text, Stop>
     ensures ok { IfOk result (λ text. text ≡ name.now) }
     ensures err { IfErr result (λ stop. stop ≡ Stop.Memory) }
 {
-    let bytes = Vec::from_slice(alloc, name).map_err(|_| Stop::Memory)?;
+    let bytes = Vec::from_slice(alloc, name)?;
     Ok(Text::new(bytes))
 }
 

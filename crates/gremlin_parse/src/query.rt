@@ -24,8 +24,7 @@ pub(crate) fn read_query(alloc: Global, bytes: &[u8]) -> Result<Command, Stop>
 {
     let at_source = skip_blanks(bytes);
     let (kind, rest) = read_source(at_source)?;
-    let command = read_from(alloc, kind, rest)?;
-    Ok(command)
+    read_from(alloc, kind, rest)
 }
 
 /// What is asked of what a query begins with, from its parenthesis to the line's end.
@@ -35,14 +34,8 @@ fn read_from(alloc: Global, kind: SourceKind, bytes: &[u8]) -> Result<Command, S
     ensures err { IfErr result (StopsFrom (opened_source kind) bytes.now) }
 {
     match kind {
-        SourceKind::Vertices => {
-            let command = read_elements(alloc, false, bytes)?;
-            Ok(command)
-        }
-        SourceKind::Edges => {
-            let command = read_elements(alloc, true, bytes)?;
-            Ok(command)
-        }
+        SourceKind::Vertices => read_elements(alloc, false, bytes),
+        SourceKind::Edges => read_elements(alloc, true, bytes),
         SourceKind::NewVertex => {
             let mutation = read_new_vertex(alloc, bytes)?;
             Ok(Command::Mutate {
@@ -50,10 +43,7 @@ fn read_from(alloc: Global, kind: SourceKind, bytes: &[u8]) -> Result<Command, S
                 mutation,
             })
         }
-        SourceKind::Found => {
-            let command = read_found_nodes(alloc, bytes)?;
-            Ok(command)
-        }
+        SourceKind::Found => read_found_nodes(alloc, bytes),
     }
 }
 
@@ -63,8 +53,7 @@ fn read_elements(alloc: Global, edges: bool, bytes: &[u8]) -> Result<Command, St
     ensures err { IfErr result (StopsFrom (FirstId edges) bytes.now) }
 {
     let (ids, at_steps) = read_ids(alloc, bytes)?;
-    let command = read_steps(alloc, elements_of(edges, ids), at_steps)?;
-    Ok(command)
+    read_steps(alloc, elements_of(edges, ids), at_steps)
 }
 
 /// The vertices or edges of these identifiers.
@@ -85,8 +74,7 @@ fn read_found_nodes(alloc: Global, bytes: &[u8]) -> Result<Command, Stop>
     ensures err { IfErr result (StopsFrom (Quote FoundLabel) bytes.now) }
 {
     let (source, at_steps) = read_found(alloc, bytes)?;
-    let command = read_steps(alloc, source, at_steps)?;
-    Ok(command)
+    read_steps(alloc, source, at_steps)
 }
 
 /// The steps to the line's end. The first one that changes the graph has a reader of its own, which

@@ -91,8 +91,7 @@ fn skip_anonymous(bytes: &[u8]) -> Result<&[u8], Stop>
         return Ok(bytes);
     }
     let at_dot = read_token(after, b"_")?;
-    let rest = read_token(at_dot, b".")?;
-    Ok(rest)
+    read_token(at_dot, b".")
 }
 
 /// A step of a body, with so many steps before it, and the bytes after it.
@@ -146,7 +145,8 @@ fn push_body_step(steps: &mut Vec<BodyStep>, step: BodyStep) -> Result<(), Stop>
     ensures ok { OnOk result (steps.new.items ≡ steps.old.items ++ step ∷ []) }
     ensures err { IfErr result (λ stop. stop ≡ Stop.Memory) }
 {
-    steps.push(step).map_err(|_| Stop::Memory)
+    steps.push(step)?;
+    Ok(())
 }
 
 /// Whether a dot stands at the head, and the bytes after it or a closing parenthesis, and after

@@ -135,5 +135,6 @@ fn push_id(ids: &mut Vec<u32>, id: u32) -> Result<(), Stop>
     ensures ok { OnOk result (ids.new.items ≡ ids.old.items ++ id ∷ []) }
     ensures err { IfErr result (λ stop. stop ≡ Stop.Memory) }
 {
-    ids.push(id).map_err(|_| Stop::Memory)
+    ids.push(id)?;
+    Ok(())
 }

@@ -196,15 +196,11 @@ pub(crate) fn read_names(
         StopsFrom (opened_names purpose) bytes.now stop) }
 {
     if is_needed {
-        let read = read_some_names(alloc, bytes)?;
-        return Ok(read);
+        return read_some_names(alloc, bytes);
     }
     match read_close(bytes) {
         Some(rest) => Ok((Texts::new(Vec::new(alloc)), rest)),
-        None => {
-            let read = read_some_names(alloc, bytes)?;
-            Ok(read)
-        }
+        None => read_some_names(alloc, bytes),
     }
 }
 
@@ -237,7 +233,8 @@ fn push_name(alloc: Global, names: &mut Vec<Text>, name: &[u8]) -> Result<(), St
     ensures err { IfErr result (λ stop. stop ≡ Stop.Memory) }
 {
     let name = copy_name(alloc, name)?;
-    names.push(name).map_err(|_| Stop::Memory)
+    names.push(name)?;
+    Ok(())
 }
 
 /// The key and the value of `has` up to the closing parenthesis, and the bytes after it.

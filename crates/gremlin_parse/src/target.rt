@@ -27,8 +27,7 @@ pub(crate) fn read_target(bytes: &[u8]) -> Result<(TargetWord, &[u8]), Stop>
         Reads (OneWord target_names) (target_word r.0) bytes.now r.1.now) }
     ensures err { IfErr result (Leaves (OneWord target_names) bytes.now) }
 {
-    let read = read_keyword(bytes, &TARGETS)?;
-    Ok(read)
+    read_keyword(bytes, &TARGETS)
 }
 
 /// The element of this identifier.

@@ -32,8 +32,7 @@ pub(crate) fn read_value(bytes: &[u8]) -> Result<(WrittenValue<'_>, &[u8]), Stop
         return Err(Stop::Syntax { left: 0 });
     };
     if is_quote(*first) {
-        let read = read_text(*first, after)?;
-        return Ok(read);
+        return read_text(*first, after);
     }
     if is_integer_start(*first) {
         let (number, rest) = read_integer(bytes)?;
@@ -68,7 +67,7 @@ pub(crate) fn value_of(alloc: Global, written: WrittenValue) -> Result<Value, St
         WrittenValue::Int(number) => Ok(Value::Int(number)),
         WrittenValue::Bool(truth) => Ok(Value::Bool(truth)),
         WrittenValue::Text(quoted) => {
-            let bytes = unescape(alloc, quoted).map_err(|_| Stop::Memory)?;
+            let bytes = unescape(alloc, quoted)?;
             Ok(Value::Text(Text::new(bytes)))
         }
     }

@@ -1,7 +1,7 @@
 use crate::{Direction, Mutation, Pairs, Query, Text, Value};
 
 /// An element of the graph that a line names.
-#[derive(Clone, Copy, Debug, PartialEq, Eq)]
+#[derive(Clone, Copy)]
 pub enum Target {
     /// The node of this identifier.
     Node(u32),

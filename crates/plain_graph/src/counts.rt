@@ -1,6 +1,6 @@
 /// How many there are of each part of a graph. Blocks hold the texts of more than 40 bytes, 48
 /// bytes each.
-#[derive(Clone, Copy, Debug, PartialEq, Eq)]
+#[derive(Clone, Copy)]
 pub struct Counts {
     pub nodes: u32,
     pub edges: u32,

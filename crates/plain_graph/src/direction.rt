@@ -1,5 +1,5 @@
 /// Which of the edges at a vertex are meant.
-#[derive(Clone, Copy, Debug, PartialEq, Eq)]
+#[derive(Clone, Copy)]
 pub enum Direction {
     /// Those that leave it.
     Outgoing,

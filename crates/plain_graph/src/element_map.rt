@@ -1,5 +1,5 @@
 ghost use Rattle.std.specs.Prelude.{◌≡◌, ◌++◌, ◌∷◌, [], All, IfOk, OnOk, codes, decimal, flat_map};
-ghost use Rattle.plain_graph.specs.ElementMaps.{label_after, making_text, map_line, paired};
+ghost use Rattle.plain_graph.specs.ElementMaps.{label_after, making_text, map_line, map_text, paired};
 ghost use Rattle.plain_graph.specs.Forms.{HasKept, IsKept};
 ghost use Rattle.plain_graph.specs.Reply.{text_line};
 ghost use Rattle.plain_graph.specs.declared.pairs.Pair.{Pair as PairRow};
@@ -24,12 +24,20 @@ pub fn map_line(alloc: Global, item: &Item, map: &ElementMap) -> Result<Vec<u8>,
     ensures { IfOk result (λ line. line.items ≡ text_line (map_line (item.now, map.now))) }
 {
     let mut line = Vec::from_slice(alloc, b"==>")?;
+    push_map(&mut line, item, map)?;
+    line.extend_from_slice(b"\n")?;
+    Ok(line)
+}
+
+/// Puts an element as a map at the end, or a value as it is.
+fn push_map(line: &mut Vec<u8>, item: &Item, map: &ElementMap) -> Result<(), AllocError>
+    requires { HasKept item.now map.now.pairs }
+    ensures { OnOk result (line.new.items ≡ line.old.items ++ map_text item.now map.now) }
+{
     match item {
         Item::Vertex(id) => {
-            push_number(&mut line, b"[id:", *id)?;
-            push_label(&mut line, b",label:", &map.label)?;
-            push_pairs(&mut line, b",", b":", map.pairs.as_slice())?;
-            line.extend_from_slice(b"]")?;
+            push_number(line, b"[id:", *id)?;
+            push_label(line, b",label:", &map.label)?;
         }
         Item::Edge {
             id,
@@ -37,17 +45,15 @@ pub fn map_line(alloc: Global, item: &Item, map: &ElementMap) -> Result<Vec<u8>,
             from,
             to,
         } => {
-            push_number(&mut line, b"[id:", *id)?;
-            push_text(&mut line, b",label:", label)?;
-            push_number(&mut line, b",OUT:", *from)?;
-            push_number(&mut line, b",IN:", *to)?;
-            push_pairs(&mut line, b",", b":", map.pairs.as_slice())?;
-            line.extend_from_slice(b"]")?;
+            push_number(line, b"[id:", *id)?;
+            push_text(line, b",label:", label)?;
+            push_number(line, b",OUT:", *from)?;
+            push_number(line, b",IN:", *to)?;
         }
-        Item::Value(value) => line.extend_from_slice(value_piece(value).as_bytes())?,
+        Item::Value(value) => return line.extend_from_slice(value_piece(value).as_bytes()),
     }
-    line.extend_from_slice(b"\n")?;
-    Ok(line)
+    push_pairs(line, b",", b":", map.pairs.as_slice())?;
+    line.extend_from_slice(b"]")
 }
 
 /// The reply to `view`: the line that makes the element again, `node LABEL KEY=VALUE ..` or
@@ -57,11 +63,20 @@ pub fn making_line(alloc: Global, item: &Item, map: &ElementMap) -> Result<Vec<u
     ensures { IfOk result (λ line. line.items ≡ text_line (making_text item.now map.now)) }
 {
     let mut line = Vec::new(alloc);
+    push_making(&mut line, item, map)?;
+    line.extend_from_slice(b"\n")?;
+    Ok(line)
+}
+
+/// Puts the line that makes an element again at the end, or a value as it is.
+fn push_making(line: &mut Vec<u8>, item: &Item, map: &ElementMap) -> Result<(), AllocError>
+    requires { HasKept item.now map.now.pairs }
+    ensures { OnOk result (line.new.items ≡ line.old.items ++ making_text item.now map.now) }
+{
     match item {
         Item::Vertex(_) => {
             line.extend_from_slice(b"node")?;
-            push_label(&mut line, b" ", &map.label)?;
-            push_pairs(&mut line, b" ", b"=", map.pairs.as_slice())?;
+            push_label(line, b" ", &map.label)?;
         }
         Item::Edge {
             label,
@@ -69,15 +84,13 @@ pub fn making_line(alloc: Global, item: &Item, map: &ElementMap) -> Result<Vec<u
             to,
             ..
         } => {
-            push_number(&mut line, b"edge ", *from)?;
-            push_text(&mut line, b" ", label)?;
-            push_number(&mut line, b" ", *to)?;
-            push_pairs(&mut line, b" ", b"=", map.pairs.as_slice())?;
+            push_number(line, b"edge ", *from)?;
+            push_text(line, b" ", label)?;
+            push_number(line, b" ", *to)?;
         }
-        Item::Value(value) => line.extend_from_slice(value_piece(value).as_bytes())?,
+        Item::Value(value) => return line.extend_from_slice(value_piece(value).as_bytes()),
     }
-    line.extend_from_slice(b"\n")?;
-    Ok(line)
+    push_pairs(line, b" ", b"=", map.pairs.as_slice())
 }
 
 /// Puts a word and a number at the end.

@@ -4,7 +4,7 @@ use crate::{Text, Texts, Value};
 use std::alloc::{AllocError, Global};
 
 /// How a value of an element compares with the one that is written.
-#[derive(Clone, Copy, Debug, PartialEq, Eq)]
+#[derive(Clone, Copy)]
 pub enum Relation {
     /// Of the same type, and equal.
     Eq,

@@ -1,5 +1,5 @@
 /// A node by its identifier, and the least number of edges on a walk to it.
-#[derive(Clone, Copy, Debug, PartialEq, Eq)]
+#[derive(Clone, Copy)]
 pub struct NodeLevel {
     pub node: u32,
     pub level: u32,

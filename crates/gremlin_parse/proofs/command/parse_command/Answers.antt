@@ -12,6 +12,7 @@ use Rattle.gremlin_parse.specs.declared.argument.Argument.{Argument}
 use Rattle.gremlin_parse.specs.declared.last.LastPart.{LastPart}
 use Rattle.gremlin_parse.proofs.Heads.{stop_in_head, stop_after_head, stop_lacks}
 use Rattle.gremlin_parse.proofs.Commands.{last_asks, spells_read, read_keeps}
+use Rattle.gremlin_parse.proofs.Exits.{never_ok}
 use Rattle.gremlin_parse.proofs.command.parse_command.Goals as goal
 
 pub returns-in_err-givens-clause-err : goal.returns-in_err-givens-clause-err
@@ -56,3 +57,21 @@ returns-clause-bounds c =
     let reads = subst (λ (list : List Argument). ReadsAll (spaced list) (contents_in list givens) bytes rest) c.arguments_of.ensures.are c.in_ok-givens.ensures.ok in
     let within = subst (λ (kind : LastPart). AllByRecursion IsBounded (last_parts kind (last_content kind last))) c.last_part.ensures c.in_ok-last.ensures.bounds in
     subst KeepsBounds (sym c.in_ok-command.ensures.ok) (read_keeps head c.requires (contents_in (arguments_of head) givens) (last_content (last_part head) last) bytes rest reads within)
+
+pub returns-in_err-givens-clause-ok : goal.returns-in_err-givens-clause-ok
+returns-in_err-givens-clause-ok c = never_ok c.from_residual.result _ _ c.from_residual.ensures.1
+
+pub returns-in_err-givens-clause-bounds : goal.returns-in_err-givens-clause-bounds
+returns-in_err-givens-clause-bounds c = never_ok c.from_residual.result _ _ c.from_residual.ensures.1
+
+pub returns-in_err-last-clause-ok : goal.returns-in_err-last-clause-ok
+returns-in_err-last-clause-ok c = never_ok c.from_residual-in_err-last.result _ _ c.from_residual-in_err-last.ensures.1
+
+pub returns-in_err-last-clause-bounds : goal.returns-in_err-last-clause-bounds
+returns-in_err-last-clause-bounds c = never_ok c.from_residual-in_err-last.result _ _ c.from_residual-in_err-last.ensures.1
+
+pub returns-in_err-command-clause-ok : goal.returns-in_err-command-clause-ok
+returns-in_err-command-clause-ok c = never_ok c.from_residual-in_err-command.result _ _ c.from_residual-in_err-command.ensures.1
+
+pub returns-in_err-command-clause-bounds : goal.returns-in_err-command-clause-bounds
+returns-in_err-command-clause-bounds c = never_ok c.from_residual-in_err-command.result _ _ c.from_residual-in_err-command.ensures.1

@@ -1,6 +1,7 @@
 use Rattle.std.proofs.lemmas.Result.{err_from_is_err_and}
 use Rattle.gremlin_parse.specs.Values.{value_of}
 use Rattle.gremlin_parse.proofs.QueryReads.{stop_at_open, stop_in_compared, stop_at_inner, stop_at_outer, compared_read}
+use Rattle.gremlin_parse.proofs.Exits.{never_ok}
 use Rattle.gremlin_parse.proofs.comparison.read_compared.Goals as goal
 
 pub returns-in_err-at_value-clause-err : goal.returns-in_err-at_value-clause-err
@@ -25,3 +26,27 @@ returns-in_err-rest-clause-err c =
 
 pub returns-clause-ok : goal.returns-clause-ok
 returns-clause-ok c = compared_read c.args.bytes.now c.in_ok-at_value.at_value.now c.in_ok-written.after.now c.skip_blanks-at_close.result.now c.in_ok-at_end.at_end.now c.in_ok-rest.rest.now (value_of c.in_ok-written.written) c.in_ok-at_value.ensures.ok c.in_ok-written.ensures.ok c.skip_blanks-at_close.ensures c.in_ok-at_end.ensures.ok c.in_ok-rest.ensures.ok
+
+pub returns-in_err-at_value-clause-ok : goal.returns-in_err-at_value-clause-ok
+returns-in_err-at_value-clause-ok c = never_ok c.from_residual.result _ _ c.from_residual.ensures.1
+
+pub returns-in_err-at_value-clause-within : goal.returns-in_err-at_value-clause-within
+returns-in_err-at_value-clause-within c = never_ok c.from_residual.result _ _ c.from_residual.ensures.1
+
+pub returns-in_err-written-clause-ok : goal.returns-in_err-written-clause-ok
+returns-in_err-written-clause-ok c = never_ok c.from_residual-in_err-written.result _ _ c.from_residual-in_err-written.ensures.1
+
+pub returns-in_err-written-clause-within : goal.returns-in_err-written-clause-within
+returns-in_err-written-clause-within c = never_ok c.from_residual-in_err-written.result _ _ c.from_residual-in_err-written.ensures.1
+
+pub returns-in_err-at_end-clause-ok : goal.returns-in_err-at_end-clause-ok
+returns-in_err-at_end-clause-ok c = never_ok c.from_residual-in_err-at_end.result _ _ c.from_residual-in_err-at_end.ensures.1
+
+pub returns-in_err-at_end-clause-within : goal.returns-in_err-at_end-clause-within
+returns-in_err-at_end-clause-within c = never_ok c.from_residual-in_err-at_end.result _ _ c.from_residual-in_err-at_end.ensures.1
+
+pub returns-in_err-rest-clause-ok : goal.returns-in_err-rest-clause-ok
+returns-in_err-rest-clause-ok c = never_ok c.from_residual-in_err-rest.result _ _ c.from_residual-in_err-rest.ensures.1
+
+pub returns-in_err-rest-clause-within : goal.returns-in_err-rest-clause-within
+returns-in_err-rest-clause-within c = never_ok c.from_residual-in_err-rest.result _ _ c.from_residual-in_err-rest.ensures.1

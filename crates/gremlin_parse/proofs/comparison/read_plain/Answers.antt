@@ -4,6 +4,7 @@ use Rattle.gremlin_parse.specs.Queries.{ValueOf, StopsFrom}
 use Rattle.gremlin_parse.specs.Values.{value_of}
 use Rattle.gremlin_parse.specs.declared.stop.Stop.{Stop}
 use Rattle.gremlin_parse.proofs.QueryReads.{stop_after_plain, plain_read, stop_at_argument}
+use Rattle.gremlin_parse.proofs.Exits.{never_ok}
 use Rattle.gremlin_parse.proofs.comparison.read_plain.Goals as goal
 
 pub returns-in_err-rest-in-Ok-clause-err : goal.returns-in_err-rest-in-Ok-clause-err
@@ -17,3 +18,9 @@ returns-in_ok-rest-in-Ok-clause-ok c = plain_read c.args.bytes.now c.in-Ok.after
 pub returns-in-Err-clause-err : goal.returns-in-Err-clause-err
 returns-in-Err-clause-err c = λ into key.
     subst (λ (stop : Stop). StopsFrom (ValueOf into key) c.args.bytes.now stop) (sym c.later.ensures) (stop_at_argument c.args.bytes.now c.args.no_relation c.in-Err.no_value c.requires.no_p c.requires.no_relation c.in-Err.ensures.err into key)
+
+pub returns-in_err-rest-in-Ok-clause-ok : goal.returns-in_err-rest-in-Ok-clause-ok
+returns-in_err-rest-in-Ok-clause-ok c = never_ok c.from_residual.result _ _ c.from_residual.ensures.1
+
+pub returns-in_err-rest-in-Ok-clause-within : goal.returns-in_err-rest-in-Ok-clause-within
+returns-in_err-rest-in-Ok-clause-within c = never_ok c.from_residual.result _ _ c.from_residual.ensures.1

@@ -2,6 +2,7 @@ use Rattle.std.proofs.Common.{refl}
 use Rattle.std.proofs.lemmas.Result.{err_from_is_err_and}
 use Rattle.gremlin_parse.specs.Queries.{relation_name, relation_words}
 use Rattle.gremlin_parse.proofs.Words.{word_read, word_leaves}
+use Rattle.gremlin_parse.proofs.Exits.{never_ok}
 use Rattle.gremlin_parse.proofs.comparison.read_relation.Goals as goal
 
 pub returns-in_err-relation-clause-err : goal.returns-in_err-relation-clause-err
@@ -11,3 +12,6 @@ returns-in_err-relation-clause-err c =
 
 pub returns-clause-ok : goal.returns-clause-ok
 returns-clause-ok c = (c.in_ok-relation.after.now, word_read relation_name relation_words (refl, (refl, (refl, (refl, (refl, (refl, tt)))))) c.args.bytes.now c.in_ok-relation.after.now c.in_ok-relation.relation c.in_ok-relation.ensures.ok, c.skip_blanks.ensures)
+
+pub returns-in_err-relation-clause-ok : goal.returns-in_err-relation-clause-ok
+returns-in_err-relation-clause-ok c = never_ok c.from_residual.result _ _ c.from_residual.ensures.1

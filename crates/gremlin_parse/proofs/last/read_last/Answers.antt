@@ -6,6 +6,7 @@ use Rattle.gremlin_parse.specs.Stopping.{IsStop}
 use Rattle.gremlin_parse.specs.Lasts.{last_content, last_parts, LastIs, SomeLast, BadInLast, Lacks}
 use Rattle.gremlin_parse.specs.declared.last.LastPart.{LastPart}
 use Rattle.gremlin_parse.proofs.Lasts.{stop_at_nothing}
+use Rattle.gremlin_parse.proofs.Exits.{never_ok}
 use Rattle.gremlin_parse.proofs.last.read_last.Goals as goal
 
 pub returns-in_err-read_end-in-End-clause-err : goal.returns-in_err-read_end-in-End-clause-err
@@ -46,3 +47,27 @@ returns-in_ok-viewed-in-Viewed-clause-ok c = subst (λ (k : LastPart). LastIs k 
 
 pub returns-in_ok-viewed-in-Viewed-clause-bounds : goal.returns-in_ok-viewed-in-Viewed-clause-bounds
 returns-in_ok-viewed-in-Viewed-clause-bounds c = subst (λ (k : LastPart). AllByRecursion IsBounded (last_parts k (last_content k (record c.nothing-none-in-Viewed.result { viewed = c.in_ok-viewed-in-Viewed.viewed })))) (sym c.in-Viewed.is) c.in_ok-viewed-in-Viewed.ensures.bounds
+
+pub returns-in_err-read_end-in-End-clause-ok : goal.returns-in_err-read_end-in-End-clause-ok
+returns-in_err-read_end-in-End-clause-ok c = never_ok c.from_residual.result _ _ c.from_residual.ensures.1
+
+pub returns-in_err-read_end-in-End-clause-bounds : goal.returns-in_err-read_end-in-End-clause-bounds
+returns-in_err-read_end-in-End-clause-bounds c = never_ok c.from_residual.result _ _ c.from_residual.ensures.1
+
+pub returns-in_err-pairs-in-Pairs-clause-ok : goal.returns-in_err-pairs-in-Pairs-clause-ok
+returns-in_err-pairs-in-Pairs-clause-ok c = never_ok c.from_residual-in_err-pairs-in-Pairs.result _ _ c.from_residual-in_err-pairs-in-Pairs.ensures.1
+
+pub returns-in_err-pairs-in-Pairs-clause-bounds : goal.returns-in_err-pairs-in-Pairs-clause-bounds
+returns-in_err-pairs-in-Pairs-clause-bounds c = never_ok c.from_residual-in_err-pairs-in-Pairs.result _ _ c.from_residual-in_err-pairs-in-Pairs.ensures.1
+
+pub returns-in_err-name-in-MaybeName-clause-ok : goal.returns-in_err-name-in-MaybeName-clause-ok
+returns-in_err-name-in-MaybeName-clause-ok c = never_ok c.from_residual-in_err-name-in-MaybeName.result _ _ c.from_residual-in_err-name-in-MaybeName.ensures.1
+
+pub returns-in_err-name-in-MaybeName-clause-bounds : goal.returns-in_err-name-in-MaybeName-clause-bounds
+returns-in_err-name-in-MaybeName-clause-bounds c = never_ok c.from_residual-in_err-name-in-MaybeName.result _ _ c.from_residual-in_err-name-in-MaybeName.ensures.1
+
+pub returns-in_err-viewed-in-Viewed-clause-ok : goal.returns-in_err-viewed-in-Viewed-clause-ok
+returns-in_err-viewed-in-Viewed-clause-ok c = never_ok c.from_residual-in_err-viewed-in-Viewed.result _ _ c.from_residual-in_err-viewed-in-Viewed.ensures.1
+
+pub returns-in_err-viewed-in-Viewed-clause-bounds : goal.returns-in_err-viewed-in-Viewed-clause-bounds
+returns-in_err-viewed-in-Viewed-clause-bounds c = never_ok c.from_residual-in_err-viewed-in-Viewed.result _ _ c.from_residual-in_err-viewed-in-Viewed.ensures.1

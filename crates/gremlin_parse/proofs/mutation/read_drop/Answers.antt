@@ -1,5 +1,6 @@
 use Rattle.std.proofs.lemmas.Result.{err_from_is_err_and}
 use Rattle.gremlin_parse.proofs.MutationReads.{stop_in_drop, stop_after_drop, drop_kept}
+use Rattle.gremlin_parse.proofs.Exits.{never_ok}
 use Rattle.gremlin_parse.proofs.mutation.read_drop.Goals as goal
 
 pub returns-in_err-rest-clause-err : goal.returns-in_err-rest-clause-err
@@ -14,3 +15,9 @@ returns-in_err-read_end-clause-err c =
 
 pub returns-clause-ok : goal.returns-clause-ok
 returns-clause-ok c = drop_kept c.args.bytes.now c.in_ok-rest.rest.now c.in_ok-rest.ensures.ok c.in_ok-read_end.ensures.ok
+
+pub returns-in_err-rest-clause-ok : goal.returns-in_err-rest-clause-ok
+returns-in_err-rest-clause-ok c = never_ok c.from_residual.result _ _ c.from_residual.ensures.1
+
+pub returns-in_err-read_end-clause-ok : goal.returns-in_err-read_end-clause-ok
+returns-in_err-read_end-clause-ok c = never_ok c.from_residual-in_err-read_end.result _ _ c.from_residual-in_err-read_end.ensures.1

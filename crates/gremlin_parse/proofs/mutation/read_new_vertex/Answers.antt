@@ -7,6 +7,7 @@ use Rattle.gremlin_parse.specs.Queries.{Quote, VertexLabel, is_loose, turn}
 use Rattle.gremlin_parse.specs.Turns.{KeptFrom}
 use Rattle.gremlin_parse.proofs.QueryReads.{stop_of_memory}
 use Rattle.gremlin_parse.proofs.MutationReads.{PropertiesKept, PropertiesStop, stop_in_vertex_label, stop_after_vertex_label, stop_in_vertex_properties, vertex_kept}
+use Rattle.gremlin_parse.proofs.Exits.{never_ok}
 use Rattle.gremlin_parse.proofs.mutation.read_new_vertex.Goals as goal
 
 pub returns-in_err-name-clause-err : goal.returns-in_err-name-clause-err
@@ -34,3 +35,15 @@ returns-clause-ok c =
     let pairs = c.in_ok-pairs.pairs in
     let kept = subst (λ (first : List Pair). PropertiesKept 0 first pairs c.in_ok-rest.rest.now) c.new.ensures.items c.in_ok-pairs.ensures.ok in
     subst (λ (label : List ℕ). KeptFrom turn is_loose (commands.Mutate None (mutations.AddV label pairs)) (Quote VertexLabel) c.args.bytes.now) (sym c.in_ok-label.ensures.ok) (vertex_kept c.in_ok-name.name.now c.args.bytes.now c.in_ok-name.at_close.now c.in_ok-rest.rest.now pairs c.in_ok-name.ensures.ok c.in_ok-rest.ensures.ok kept)
+
+pub returns-in_err-name-clause-ok : goal.returns-in_err-name-clause-ok
+returns-in_err-name-clause-ok c = never_ok c.from_residual.result _ _ c.from_residual.ensures.1
+
+pub returns-in_err-rest-clause-ok : goal.returns-in_err-rest-clause-ok
+returns-in_err-rest-clause-ok c = never_ok c.from_residual-in_err-rest.result _ _ c.from_residual-in_err-rest.ensures.1
+
+pub returns-in_err-label-clause-ok : goal.returns-in_err-label-clause-ok
+returns-in_err-label-clause-ok c = never_ok c.from_residual-in_err-label.result _ _ c.from_residual-in_err-label.ensures.1
+
+pub returns-in_err-pairs-clause-ok : goal.returns-in_err-pairs-clause-ok
+returns-in_err-pairs-clause-ok c = never_ok c.from_residual-in_err-pairs.result _ _ c.from_residual-in_err-pairs.ensures.1

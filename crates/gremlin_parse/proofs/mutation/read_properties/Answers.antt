@@ -6,6 +6,7 @@ use Rattle.gremlin_parse.specs.Values.{value_of}
 use Rattle.gremlin_parse.proofs.Runs.{is_nothing}
 use Rattle.gremlin_parse.proofs.QueryReads.{stop_of_memory}
 use Rattle.gremlin_parse.proofs.MutationReads.{PropertiesSoFar, PropertiesKept, no_properties, one_property_more, stop_in_names_of_properties, stop_in_property, properties_kept}
+use Rattle.gremlin_parse.proofs.Exits.{never_ok}
 use Rattle.gremlin_parse.proofs.mutation.read_properties.Goals as goal
 
 pub loop-rest-init : goal.loop-rest-init
@@ -34,3 +35,12 @@ loop-rest-preserved c =
 pub returns-clause-ok : goal.returns-clause-ok
 returns-clause-ok c =
     subst (λ (list : List Pair). PropertiesKept c.args.before c.args.first.items list c.args.bytes.now) (sym c.new.ensures) (properties_kept c.args.before c.args.first.items c.args.bytes.now c.loop-rest.pairs.items c.loop-rest.count c.loop-rest.rest.now c.loop-rest.invariant (is_nothing c.loop-rest.rest.now c.is_empty.result c.is_empty.ensures c.loop-rest-test.false))
+
+pub returns-in_err-at_key-clause-ok : goal.returns-in_err-at_key-clause-ok
+returns-in_err-at_key-clause-ok c = never_ok c.from_residual.result _ _ c.from_residual.ensures.1
+
+pub returns-in_err-key-clause-ok : goal.returns-in_err-key-clause-ok
+returns-in_err-key-clause-ok c = never_ok c.from_residual-in_err-key.result _ _ c.from_residual-in_err-key.ensures.1
+
+pub returns-in_err-push_pair-clause-ok : goal.returns-in_err-push_pair-clause-ok
+returns-in_err-push_pair-clause-ok c = never_ok c.from_residual-in_err-push_pair.result _ _ c.from_residual-in_err-push_pair.ensures.1

@@ -1,5 +1,6 @@
 use Rattle.std.proofs.lemmas.Result.{err_from_is_err_and}
 use Rattle.gremlin_parse.proofs.MutationReads.{vertex_id_read, stop_before_id, stop_in_id, stop_at_id_close, stop_at_to_close}
+use Rattle.gremlin_parse.proofs.Exits.{never_ok}
 use Rattle.gremlin_parse.proofs.mutation.read_vertex_id.Goals as goal
 
 pub returns-in_err-at_id-clause-err : goal.returns-in_err-at_id-clause-err
@@ -24,3 +25,15 @@ returns-in_err-rest-clause-err c =
 
 pub returns-clause-ok : goal.returns-clause-ok
 returns-clause-ok c = vertex_id_read c.args.bytes.now c.in_ok-at_id.at_id.now c.in_ok-to.at_close.now c.in_ok-at_end.at_end.now c.in_ok-rest.rest.now c.in_ok-to.to c.in_ok-at_id.ensures.ok c.in_ok-to.ensures.ok c.in_ok-at_end.ensures.ok c.in_ok-rest.ensures.ok
+
+pub returns-in_err-at_id-clause-ok : goal.returns-in_err-at_id-clause-ok
+returns-in_err-at_id-clause-ok c = never_ok c.from_residual.result _ _ c.from_residual.ensures.1
+
+pub returns-in_err-to-clause-ok : goal.returns-in_err-to-clause-ok
+returns-in_err-to-clause-ok c = never_ok c.from_residual-in_err-to.result _ _ c.from_residual-in_err-to.ensures.1
+
+pub returns-in_err-at_end-clause-ok : goal.returns-in_err-at_end-clause-ok
+returns-in_err-at_end-clause-ok c = never_ok c.from_residual-in_err-at_end.result _ _ c.from_residual-in_err-at_end.ensures.1
+
+pub returns-in_err-rest-clause-ok : goal.returns-in_err-rest-clause-ok
+returns-in_err-rest-clause-ok c = never_ok c.from_residual-in_err-rest.result _ _ c.from_residual-in_err-rest.ensures.1

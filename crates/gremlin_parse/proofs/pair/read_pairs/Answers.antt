@@ -6,6 +6,7 @@ use Rattle.gremlin_parse.specs.Grammar.{pairs_to_end, IsMadeOf, IsBounded}
 use Rattle.gremlin_parse.specs.Values.{value_of}
 use Rattle.gremlin_parse.proofs.Runs.{not_empty, is_nothing}
 use Rattle.gremlin_parse.proofs.Pairs.{PairsSoFar, pair_more, pairs_stop, pairs_read, pairs_bounded, not_at_end, at_end}
+use Rattle.gremlin_parse.proofs.Exits.{never_ok}
 use Rattle.gremlin_parse.proofs.pair.read_pairs.Goals as goal
 
 pub returns-in_err-key-clause-err : goal.returns-in_err-key-clause-err
@@ -31,3 +32,15 @@ returns-clause-ok c =
 
 pub returns-clause-bounds : goal.returns-clause-bounds
 returns-clause-bounds c = subst (λ (list : List Pair). AllByRecursion IsBounded (pairs_to_end list)) (sym c.new.ensures) (pairs_bounded c.args.bytes.now c.loop-rest.rest.now c.loop-rest.pairs.items c.loop-rest.invariant)
+
+pub returns-in_err-key-clause-ok : goal.returns-in_err-key-clause-ok
+returns-in_err-key-clause-ok c = never_ok c.from_residual.result _ _ c.from_residual.ensures.1
+
+pub returns-in_err-key-clause-bounds : goal.returns-in_err-key-clause-bounds
+returns-in_err-key-clause-bounds c = never_ok c.from_residual.result _ _ c.from_residual.ensures.1
+
+pub returns-in_err-push_pair-clause-ok : goal.returns-in_err-push_pair-clause-ok
+returns-in_err-push_pair-clause-ok c = never_ok c.from_residual-in_err-push_pair.result _ _ c.from_residual-in_err-push_pair.ensures.1
+
+pub returns-in_err-push_pair-clause-bounds : goal.returns-in_err-push_pair-clause-bounds
+returns-in_err-push_pair-clause-bounds c = never_ok c.from_residual-in_err-push_pair.result _ _ c.from_residual-in_err-push_pair.ensures.1

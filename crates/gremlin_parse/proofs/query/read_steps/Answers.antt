@@ -11,6 +11,7 @@ use Rattle.gremlin_parse.proofs.QueryPlaces.{are, some}
 use Rattle.gremlin_parse.proofs.QueryReads.{change_kept, query_kept, stop_in_change}
 use Rattle.gremlin_parse.proofs.Runs.{is_nothing}
 use Rattle.gremlin_parse.proofs.Walks.{reaches_here}
+use Rattle.gremlin_parse.proofs.Exits.{never_ok}
 use Rattle.gremlin_parse.proofs.query.read_steps.Goals as goal
 
 pub loop-rest-init : goal.loop-rest-init
@@ -56,3 +57,12 @@ returns-clause-ok c =
     let kept = query_kept (Steps (query_from c.args.source)) (drafted c.args.source draft) c.args.bytes.now c.loop-rest.rest.now draft.is_ordered c.loop-rest.invariant.leads (is_nothing c.loop-rest.rest.now c.is_empty.result c.is_empty.ensures c.loop-rest-test.false) in
     let is = c.query.ensures ∙ ap (λ (source : Source). shown (drafted source draft)) c.loop-rest.invariant.source_is in
     subst (λ (query : Query). KeptFrom turn is_loose (commands.Query query) (Steps (query_from c.args.source)) c.args.bytes.now) (sym is) kept
+
+pub returns-in_err-word-clause-ok : goal.returns-in_err-word-clause-ok
+returns-in_err-word-clause-ok c = never_ok c.from_residual.result _ _ c.from_residual.ensures.1
+
+pub returns-in_err-mutation-clause-ok : goal.returns-in_err-mutation-clause-ok
+returns-in_err-mutation-clause-ok c = never_ok c.from_residual-in_err-mutation.result _ _ c.from_residual-in_err-mutation.ensures.1
+
+pub returns-in_err-rest-clause-ok : goal.returns-in_err-rest-clause-ok
+returns-in_err-rest-clause-ok c = never_ok c.from_residual-in_err-rest.result _ _ c.from_residual-in_err-rest.ensures.1

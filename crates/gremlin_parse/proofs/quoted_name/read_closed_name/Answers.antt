@@ -3,6 +3,7 @@ use Rattle.std.proofs.lemmas.Result.{err_from_is_err_and}
 use Rattle.gremlin_parse.specs.Symbols.{Sign, Reads, Leaves}
 use Rattle.gremlin_parse.proofs.Names.{takes_name}
 use Rattle.gremlin_parse.proofs.Closed.{closed_takes, leaves_closed}
+use Rattle.gremlin_parse.proofs.Exits.{never_ok}
 use Rattle.gremlin_parse.proofs.quoted_name.read_closed_name.Goals as goal
 
 pub returns-in_err-rest-clause-err : goal.returns-in_err-rest-clause-err
@@ -38,3 +39,6 @@ returns-clause-ok c =
     let takes = takes_name bytes name at_quote n c.in-len1-up.len_at_least (sym c.is_name_start.ensures ∙ c.if-is_name_start.true) c.word_len-len.ensures.count c.split_at.ensures.front c.split_at.ensures.back in
     let sign = subst (λ (sign : List ℕ). Reads (Sign sign) tt at_quote rest) c.quote.ensures c.in_ok-rest.ensures.ok in
     record { takes = closed_takes c.args.double name bytes at_quote rest takes sign; allowed = tt; bounded = omega (arith, len) }
+
+pub returns-in_err-rest-clause-ok : goal.returns-in_err-rest-clause-ok
+returns-in_err-rest-clause-ok c = never_ok c.from_residual.result _ _ c.from_residual.ensures.1

@@ -4,6 +4,7 @@ use Rattle.gremlin_parse.specs.Lines.{NeedsMemory}
 use Rattle.gremlin_parse.proofs.Lines.{spells_of_tail, stop_in_tag, stop_of_line}
 use Rattle.gremlin_parse.proofs.Leftmost.{no_fault_of, only_command}
 use Rattle.gremlin_parse.proofs.Tags.{named_is, rest_is}
+use Rattle.gremlin_parse.proofs.Exits.{never_ok}
 use Rattle.gremlin_parse.proofs.reader.read_line.Goals as goal
 
 pub returns-in_err-session-clause-err : goal.returns-in_err-session-clause-err
@@ -39,3 +40,27 @@ returns-clause-no_fault c =
 pub returns-clause-session : goal.returns-clause-session
 returns-clause-session c =
     c.unwrap_or.ensures ∙ ap (λ (s : Option ℕ). unwrap_or s 0) (named_is c.args.line.now c.in_ok-session.session c.in_ok-session.rest.now c.in_ok-session.ensures.ok)
+
+pub returns-in_err-session-clause-spelled : goal.returns-in_err-session-clause-spelled
+returns-in_err-session-clause-spelled c = never_ok c.from_residual.result _ _ c.from_residual.ensures.1
+
+pub returns-in_err-session-clause-only : goal.returns-in_err-session-clause-only
+returns-in_err-session-clause-only c = never_ok c.from_residual.result _ _ c.from_residual.ensures.1
+
+pub returns-in_err-session-clause-no_fault : goal.returns-in_err-session-clause-no_fault
+returns-in_err-session-clause-no_fault c = never_ok c.from_residual.result _ _ c.from_residual.ensures.1
+
+pub returns-in_err-session-clause-session : goal.returns-in_err-session-clause-session
+returns-in_err-session-clause-session c = never_ok c.from_residual.result _ _ c.from_residual.ensures.1
+
+pub returns-in_err-command-clause-spelled : goal.returns-in_err-command-clause-spelled
+returns-in_err-command-clause-spelled c = never_ok c.from_residual-in_err-command.result _ _ c.from_residual-in_err-command.ensures.1
+
+pub returns-in_err-command-clause-only : goal.returns-in_err-command-clause-only
+returns-in_err-command-clause-only c = never_ok c.from_residual-in_err-command.result _ _ c.from_residual-in_err-command.ensures.1
+
+pub returns-in_err-command-clause-no_fault : goal.returns-in_err-command-clause-no_fault
+returns-in_err-command-clause-no_fault c = never_ok c.from_residual-in_err-command.result _ _ c.from_residual-in_err-command.ensures.1
+
+pub returns-in_err-command-clause-session : goal.returns-in_err-command-clause-session
+returns-in_err-command-clause-session c = never_ok c.from_residual-in_err-command.result _ _ c.from_residual-in_err-command.ensures.1

@@ -4,6 +4,7 @@ use Rattle.plain_graph.specs.declared.query.BodyStep.{BodyStep}
 use Rattle.gremlin_parse.specs.Queries.{BodyFirst, AfterBody, LeadsTo}
 use Rattle.gremlin_parse.proofs.QueryReads.{stop_of_memory}
 use Rattle.gremlin_parse.proofs.RepeatReads.{BodySoFar, no_body_steps, stop_in_body_step, stop_after_body_step, body_steps_more, body_done}
+use Rattle.gremlin_parse.proofs.Exits.{never_ok}
 use Rattle.gremlin_parse.proofs.repeat.read_body.Goals as goal
 
 pub returns-in_err-rest-clause-err : goal.returns-in_err-rest-clause-err
@@ -58,3 +59,39 @@ returns-clause-few c =
 
 pub returns-clause-within : goal.returns-clause-within
 returns-clause-within c = c.loop-more.invariant.within
+
+pub returns-in_err-rest-clause-ok : goal.returns-in_err-rest-clause-ok
+returns-in_err-rest-clause-ok c = never_ok c.from_residual.result _ _ c.from_residual.ensures.1
+
+pub returns-in_err-rest-clause-few : goal.returns-in_err-rest-clause-few
+returns-in_err-rest-clause-few c = never_ok c.from_residual.result _ _ c.from_residual.ensures.1
+
+pub returns-in_err-rest-clause-within : goal.returns-in_err-rest-clause-within
+returns-in_err-rest-clause-within c = never_ok c.from_residual.result _ _ c.from_residual.ensures.1
+
+pub returns-in_err-step-clause-ok : goal.returns-in_err-step-clause-ok
+returns-in_err-step-clause-ok c = never_ok c.from_residual-in_err-step.result _ _ c.from_residual-in_err-step.ensures.1
+
+pub returns-in_err-step-clause-few : goal.returns-in_err-step-clause-few
+returns-in_err-step-clause-few c = never_ok c.from_residual-in_err-step.result _ _ c.from_residual-in_err-step.ensures.1
+
+pub returns-in_err-step-clause-within : goal.returns-in_err-step-clause-within
+returns-in_err-step-clause-within c = never_ok c.from_residual-in_err-step.result _ _ c.from_residual-in_err-step.ensures.1
+
+pub returns-in_err-push_body_step-clause-ok : goal.returns-in_err-push_body_step-clause-ok
+returns-in_err-push_body_step-clause-ok c = never_ok c.from_residual-in_err-push_body_step.result _ _ c.from_residual-in_err-push_body_step.ensures.1
+
+pub returns-in_err-push_body_step-clause-few : goal.returns-in_err-push_body_step-clause-few
+returns-in_err-push_body_step-clause-few c = never_ok c.from_residual-in_err-push_body_step.result _ _ c.from_residual-in_err-push_body_step.ensures.1
+
+pub returns-in_err-push_body_step-clause-within : goal.returns-in_err-push_body_step-clause-within
+returns-in_err-push_body_step-clause-within c = never_ok c.from_residual-in_err-push_body_step.result _ _ c.from_residual-in_err-push_body_step.ensures.1
+
+pub returns-in_err-again-clause-ok : goal.returns-in_err-again-clause-ok
+returns-in_err-again-clause-ok c = never_ok c.from_residual-in_err-again.result _ _ c.from_residual-in_err-again.ensures.1
+
+pub returns-in_err-again-clause-few : goal.returns-in_err-again-clause-few
+returns-in_err-again-clause-few c = never_ok c.from_residual-in_err-again.result _ _ c.from_residual-in_err-again.ensures.1
+
+pub returns-in_err-again-clause-within : goal.returns-in_err-again-clause-within
+returns-in_err-again-clause-within c = never_ok c.from_residual-in_err-again.result _ _ c.from_residual-in_err-again.ensures.1

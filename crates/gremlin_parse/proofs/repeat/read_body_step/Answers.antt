@@ -3,6 +3,7 @@ use Rattle.std.proofs.Common.{◌++◌, ◌∷◌, []}
 use Rattle.gremlin_parse.specs.Queries.{OfBody, BodyName, InBody, opened_body}
 use Rattle.gremlin_parse.proofs.QueryReads.{on}
 use Rattle.gremlin_parse.proofs.RepeatReads.{stop_at_body_name, stop_at_body_opening, body_opening_read}
+use Rattle.gremlin_parse.proofs.Exits.{never_ok}
 use Rattle.gremlin_parse.proofs.repeat.read_body_step.Goals as goal
 
 pub returns-in_err-word-clause-err : goal.returns-in_err-word-clause-err
@@ -23,3 +24,30 @@ returns-in_err-step-clause-err c =
 pub returns-clause-ok : goal.returns-clause-ok
 returns-clause-ok c = λ query body same.
     on (BodyName query body) c.args.bytes.now (opened_body (OfBody query body) c.in_ok-word.word) c.in_ok-at_arguments.at_arguments.now (InBody query (body ++ c.in_ok-step.step ∷ [])) c.in_ok-step.rest.now (body_opening_read c.args.before c.args.bytes.now c.in_ok-word.after_name.now c.skip_blanks-at_open.result.now c.in_ok-at_arguments.at_arguments.now c.in_ok-word.word c.in_ok-word.ensures.no_fault c.in_ok-word.ensures.ok c.skip_blanks-at_open.ensures c.in_ok-at_arguments.ensures.ok query body same) (c.in_ok-step.ensures.ok (OfBody query body))
+
+pub returns-in_err-word-clause-ok : goal.returns-in_err-word-clause-ok
+returns-in_err-word-clause-ok c = never_ok c.from_residual.result _ _ c.from_residual.ensures.1
+
+pub returns-in_err-word-clause-early : goal.returns-in_err-word-clause-early
+returns-in_err-word-clause-early c = never_ok c.from_residual.result _ _ c.from_residual.ensures.1
+
+pub returns-in_err-word-clause-within : goal.returns-in_err-word-clause-within
+returns-in_err-word-clause-within c = never_ok c.from_residual.result _ _ c.from_residual.ensures.1
+
+pub returns-in_err-at_arguments-clause-ok : goal.returns-in_err-at_arguments-clause-ok
+returns-in_err-at_arguments-clause-ok c = never_ok c.from_residual-in_err-at_arguments.result _ _ c.from_residual-in_err-at_arguments.ensures.1
+
+pub returns-in_err-at_arguments-clause-early : goal.returns-in_err-at_arguments-clause-early
+returns-in_err-at_arguments-clause-early c = never_ok c.from_residual-in_err-at_arguments.result _ _ c.from_residual-in_err-at_arguments.ensures.1
+
+pub returns-in_err-at_arguments-clause-within : goal.returns-in_err-at_arguments-clause-within
+returns-in_err-at_arguments-clause-within c = never_ok c.from_residual-in_err-at_arguments.result _ _ c.from_residual-in_err-at_arguments.ensures.1
+
+pub returns-in_err-step-clause-ok : goal.returns-in_err-step-clause-ok
+returns-in_err-step-clause-ok c = never_ok c.from_residual-in_err-step.result _ _ c.from_residual-in_err-step.ensures.1
+
+pub returns-in_err-step-clause-early : goal.returns-in_err-step-clause-early
+returns-in_err-step-clause-early c = never_ok c.from_residual-in_err-step.result _ _ c.from_residual-in_err-step.ensures.1
+
+pub returns-in_err-step-clause-within : goal.returns-in_err-step-clause-within
+returns-in_err-step-clause-within c = never_ok c.from_residual-in_err-step.result _ _ c.from_residual-in_err-step.ensures.1

@@ -2,6 +2,7 @@ use Rattle.std.proofs.Common.{List, ℕ, ◌++◌, ◌∷◌, [], sym, ◌∙◌
 use Rattle.std.proofs.lemmas.Result.{err_from_is_err_and}
 use Rattle.gremlin_parse.specs.Queries.{FirstId, Steps, elements_of, query_from, LeadsTo}
 use Rattle.gremlin_parse.proofs.QueryReads.{IdsSoFar, stop_at_first_id, stop_after_first_id, stop_in_ids, stop_after_id, first_ids, ids_more, ids_done}
+use Rattle.gremlin_parse.proofs.Exits.{never_ok}
 use Rattle.gremlin_parse.proofs.source.read_some_ids.Goals as goal
 
 pub returns-in_err-first-clause-err : goal.returns-in_err-first-clause-err
@@ -36,3 +37,15 @@ loop-more-preserved c =
 pub returns-clause-ok : goal.returns-clause-ok
 returns-clause-ok c = λ edges.
     subst (λ (ids : List ℕ). LeadsTo (FirstId edges) c.args.bytes.now (Steps (query_from (elements_of edges ids))) c.loop-more.rest.now) (sym c.new.ensures) (ids_done c.args.bytes.now c.loop-more.rest.now c.loop-more.ids.items c.loop-more.more c.loop-more-test.false c.loop-more.invariant edges)
+
+pub returns-in_err-first-clause-ok : goal.returns-in_err-first-clause-ok
+returns-in_err-first-clause-ok c = never_ok c.from_residual.result _ _ c.from_residual.ensures.1
+
+pub returns-in_err-more-clause-ok : goal.returns-in_err-more-clause-ok
+returns-in_err-more-clause-ok c = never_ok c.from_residual-in_err-more.result _ _ c.from_residual-in_err-more.ensures.1
+
+pub returns-in_err-id-clause-ok : goal.returns-in_err-id-clause-ok
+returns-in_err-id-clause-ok c = never_ok c.from_residual-in_err-id.result _ _ c.from_residual-in_err-id.ensures.1
+
+pub returns-in_err-again-clause-ok : goal.returns-in_err-again-clause-ok
+returns-in_err-again-clause-ok c = never_ok c.from_residual-in_err-again.result _ _ c.from_residual-in_err-again.ensures.1

@@ -2,6 +2,7 @@ use Rattle.std.proofs.Common.{refl}
 use Rattle.std.proofs.lemmas.Result.{err_from_is_err_and}
 use Rattle.gremlin_parse.specs.Queries.{Start, SourceName}
 use Rattle.gremlin_parse.proofs.QueryReads.{source_read, stop_at_sign, stop_in_kind, stop_in_opening}
+use Rattle.gremlin_parse.proofs.Exits.{never_ok}
 use Rattle.gremlin_parse.proofs.source.read_source.Goals as goal
 
 pub returns-in_err-at_kind-clause-err : goal.returns-in_err-at_kind-clause-err
@@ -21,3 +22,12 @@ returns-in_err-rest-clause-err c =
 
 pub returns-clause-ok : goal.returns-clause-ok
 returns-clause-ok c = source_read c.args.bytes.now c.in_ok-at_kind.at_kind.now c.in_ok-kind.at_open.now c.in_ok-rest.rest.now c.in_ok-kind.kind c.in_ok-at_kind.ensures.ok c.in_ok-kind.ensures.ok c.in_ok-rest.ensures.ok
+
+pub returns-in_err-at_kind-clause-ok : goal.returns-in_err-at_kind-clause-ok
+returns-in_err-at_kind-clause-ok c = never_ok c.from_residual.result _ _ c.from_residual.ensures.1
+
+pub returns-in_err-kind-clause-ok : goal.returns-in_err-kind-clause-ok
+returns-in_err-kind-clause-ok c = never_ok c.from_residual-in_err-kind.result _ _ c.from_residual-in_err-kind.ensures.1
+
+pub returns-in_err-rest-clause-ok : goal.returns-in_err-rest-clause-ok
+returns-in_err-rest-clause-ok c = never_ok c.from_residual-in_err-rest.result _ _ c.from_residual-in_err-rest.ensures.1

@@ -9,6 +9,7 @@ use Rattle.gremlin_parse.specs.declared.step_word.StepWord.TheVariants as words
 use Rattle.gremlin_parse.proofs.QueryReads.{bare_read, stop_in_bare}
 use Rattle.gremlin_parse.proofs.OrderReads.{stop_in_order, order_read}
 use Rattle.gremlin_parse.proofs.RepeatReads.{one_more, repeat_few, one_bare, one_with_names, one_of_body}
+use Rattle.gremlin_parse.proofs.Exits.{never_ok}
 use Rattle.gremlin_parse.proofs.step.read_arguments.Goals as goal
 
 pub returns-in_err-rest-in-Bare-clause-err : goal.returns-in_err-rest-in-Bare-clause-err
@@ -88,3 +89,87 @@ returns-in_ok-rest-in-Order-clause-few c = one_more c.args.stage.steps c.args.wo
 
 pub returns-in_ok-step-in-Repeat-clause-few : goal.returns-in_ok-step-in-Repeat-clause-few
 returns-in_ok-step-in-Repeat-clause-few c = repeat_few c.args.stage.steps c.args.word c.in_ok-step-in-Repeat.step c.in-Repeat.is c.in_ok-step-in-Repeat.ensures.few
+
+pub returns-in_err-rest-in-Bare-clause-ok : goal.returns-in_err-rest-in-Bare-clause-ok
+returns-in_err-rest-in-Bare-clause-ok c = never_ok c.from_residual.result _ _ c.from_residual.ensures.1
+
+pub returns-in_err-rest-in-Bare-clause-order : goal.returns-in_err-rest-in-Bare-clause-order
+returns-in_err-rest-in-Bare-clause-order c = never_ok c.from_residual.result _ _ c.from_residual.ensures.1
+
+pub returns-in_err-rest-in-Bare-clause-few : goal.returns-in_err-rest-in-Bare-clause-few
+returns-in_err-rest-in-Bare-clause-few c = never_ok c.from_residual.result _ _ c.from_residual.ensures.1
+
+pub returns-in_err-rest-in-Bare-clause-within : goal.returns-in_err-rest-in-Bare-clause-within
+returns-in_err-rest-in-Bare-clause-within c = never_ok c.from_residual.result _ _ c.from_residual.ensures.1
+
+pub returns-in_err-names-in-Names-clause-ok : goal.returns-in_err-names-in-Names-clause-ok
+returns-in_err-names-in-Names-clause-ok c = never_ok c.from_residual-in_err-names-in-Names.result _ _ c.from_residual-in_err-names-in-Names.ensures.1
+
+pub returns-in_err-names-in-Names-clause-order : goal.returns-in_err-names-in-Names-clause-order
+returns-in_err-names-in-Names-clause-order c = never_ok c.from_residual-in_err-names-in-Names.result _ _ c.from_residual-in_err-names-in-Names.ensures.1
+
+pub returns-in_err-names-in-Names-clause-few : goal.returns-in_err-names-in-Names-clause-few
+returns-in_err-names-in-Names-clause-few c = never_ok c.from_residual-in_err-names-in-Names.result _ _ c.from_residual-in_err-names-in-Names.ensures.1
+
+pub returns-in_err-names-in-Names-clause-within : goal.returns-in_err-names-in-Names-clause-within
+returns-in_err-names-in-Names-clause-within c = never_ok c.from_residual-in_err-names-in-Names.result _ _ c.from_residual-in_err-names-in-Names.ensures.1
+
+pub returns-in_err-step-in-Body-clause-ok : goal.returns-in_err-step-in-Body-clause-ok
+returns-in_err-step-in-Body-clause-ok c = never_ok c.from_residual-in_err-step-in-Body.result _ _ c.from_residual-in_err-step-in-Body.ensures.1
+
+pub returns-in_err-step-in-Body-clause-order : goal.returns-in_err-step-in-Body-clause-order
+returns-in_err-step-in-Body-clause-order c = never_ok c.from_residual-in_err-step-in-Body.result _ _ c.from_residual-in_err-step-in-Body.ensures.1
+
+pub returns-in_err-step-in-Body-clause-few : goal.returns-in_err-step-in-Body-clause-few
+returns-in_err-step-in-Body-clause-few c = never_ok c.from_residual-in_err-step-in-Body.result _ _ c.from_residual-in_err-step-in-Body.ensures.1
+
+pub returns-in_err-step-in-Body-clause-within : goal.returns-in_err-step-in-Body-clause-within
+returns-in_err-step-in-Body-clause-within c = never_ok c.from_residual-in_err-step-in-Body.result _ _ c.from_residual-in_err-step-in-Body.ensures.1
+
+pub returns-in_err-most-in-Limit-clause-ok : goal.returns-in_err-most-in-Limit-clause-ok
+returns-in_err-most-in-Limit-clause-ok c = never_ok c.from_residual-in_err-most-in-Limit.result _ _ c.from_residual-in_err-most-in-Limit.ensures.1
+
+pub returns-in_err-most-in-Limit-clause-order : goal.returns-in_err-most-in-Limit-clause-order
+returns-in_err-most-in-Limit-clause-order c = never_ok c.from_residual-in_err-most-in-Limit.result _ _ c.from_residual-in_err-most-in-Limit.ensures.1
+
+pub returns-in_err-most-in-Limit-clause-few : goal.returns-in_err-most-in-Limit-clause-few
+returns-in_err-most-in-Limit-clause-few c = never_ok c.from_residual-in_err-most-in-Limit.result _ _ c.from_residual-in_err-most-in-Limit.ensures.1
+
+pub returns-in_err-most-in-Limit-clause-within : goal.returns-in_err-most-in-Limit-clause-within
+returns-in_err-most-in-Limit-clause-within c = never_ok c.from_residual-in_err-most-in-Limit.result _ _ c.from_residual-in_err-most-in-Limit.ensures.1
+
+pub returns-in_err-step-in-Repeat-clause-ok : goal.returns-in_err-step-in-Repeat-clause-ok
+returns-in_err-step-in-Repeat-clause-ok c = never_ok c.from_residual-in_err-step-in-Repeat.result _ _ c.from_residual-in_err-step-in-Repeat.ensures.1
+
+pub returns-in_err-step-in-Repeat-clause-order : goal.returns-in_err-step-in-Repeat-clause-order
+returns-in_err-step-in-Repeat-clause-order c = never_ok c.from_residual-in_err-step-in-Repeat.result _ _ c.from_residual-in_err-step-in-Repeat.ensures.1
+
+pub returns-in_err-step-in-Repeat-clause-few : goal.returns-in_err-step-in-Repeat-clause-few
+returns-in_err-step-in-Repeat-clause-few c = never_ok c.from_residual-in_err-step-in-Repeat.result _ _ c.from_residual-in_err-step-in-Repeat.ensures.1
+
+pub returns-in_err-step-in-Repeat-clause-within : goal.returns-in_err-step-in-Repeat-clause-within
+returns-in_err-step-in-Repeat-clause-within c = never_ok c.from_residual-in_err-step-in-Repeat.result _ _ c.from_residual-in_err-step-in-Repeat.ensures.1
+
+pub returns-in_err-rest-in-Order-clause-ok : goal.returns-in_err-rest-in-Order-clause-ok
+returns-in_err-rest-in-Order-clause-ok c = never_ok c.from_residual-in_err-rest-in-Order.result _ _ c.from_residual-in_err-rest-in-Order.ensures.1
+
+pub returns-in_err-rest-in-Order-clause-order : goal.returns-in_err-rest-in-Order-clause-order
+returns-in_err-rest-in-Order-clause-order c = never_ok c.from_residual-in_err-rest-in-Order.result _ _ c.from_residual-in_err-rest-in-Order.ensures.1
+
+pub returns-in_err-rest-in-Order-clause-few : goal.returns-in_err-rest-in-Order-clause-few
+returns-in_err-rest-in-Order-clause-few c = never_ok c.from_residual-in_err-rest-in-Order.result _ _ c.from_residual-in_err-rest-in-Order.ensures.1
+
+pub returns-in_err-rest-in-Order-clause-within : goal.returns-in_err-rest-in-Order-clause-within
+returns-in_err-rest-in-Order-clause-within c = never_ok c.from_residual-in_err-rest-in-Order.result _ _ c.from_residual-in_err-rest-in-Order.ensures.1
+
+pub returns-in_err-key-in-By-clause-ok : goal.returns-in_err-key-in-By-clause-ok
+returns-in_err-key-in-By-clause-ok c = never_ok c.from_residual-in_err-key-in-By.result _ _ c.from_residual-in_err-key-in-By.ensures.1
+
+pub returns-in_err-key-in-By-clause-order : goal.returns-in_err-key-in-By-clause-order
+returns-in_err-key-in-By-clause-order c = never_ok c.from_residual-in_err-key-in-By.result _ _ c.from_residual-in_err-key-in-By.ensures.1
+
+pub returns-in_err-key-in-By-clause-few : goal.returns-in_err-key-in-By-clause-few
+returns-in_err-key-in-By-clause-few c = never_ok c.from_residual-in_err-key-in-By.result _ _ c.from_residual-in_err-key-in-By.ensures.1
+
+pub returns-in_err-key-in-By-clause-within : goal.returns-in_err-key-in-By-clause-within
+returns-in_err-key-in-By-clause-within c = never_ok c.from_residual-in_err-key-in-By.result _ _ c.from_residual-in_err-key-in-By.ensures.1

@@ -5,6 +5,7 @@ use Rattle.plain_graph.specs.declared.value.Value.{Value}
 use Rattle.gremlin_parse.specs.Values.{value_of}
 use Rattle.gremlin_parse.specs.Queries.{Quote, Key, after_filter, LeadsTo}
 use Rattle.gremlin_parse.proofs.QueryReads.{stop_in_key, stop_after_key, stop_in_comparison, has_read, comparison_read, stop_of_memory}
+use Rattle.gremlin_parse.proofs.Exits.{never_ok}
 use Rattle.gremlin_parse.proofs.step.read_has.Goals as goal
 
 pub returns-in_err-name-clause-err : goal.returns-in_err-name-clause-err
@@ -44,3 +45,33 @@ returns-clause-ok c = λ into.
     let read = comparison_read c.in_ok-name.name.now c.args.bytes.now c.in_ok-name.after_name.now c.in_ok-more.at_value.now rest relation written c.in_ok-more.more c.if-not-more.false c.in_ok-name.ensures.ok c.in_ok-more.ensures.ok c.in_ok-relation.ensures.ok into in
     let keyed = subst (λ (key : List ℕ). LeadsTo (Quote (Key into)) c.args.bytes.now (after_filter into (filters.HasValue key relation written)) rest) (sym c.in_ok-key.ensures.ok) read in
     subst (λ (value : Value). LeadsTo (Quote (Key into)) c.args.bytes.now (after_filter into (filters.HasValue c.in_ok-key.key relation value)) rest) (sym c.in_ok-value.ensures.ok) keyed
+
+pub returns-in_err-name-clause-ok : goal.returns-in_err-name-clause-ok
+returns-in_err-name-clause-ok c = never_ok c.from_residual.result _ _ c.from_residual.ensures.1
+
+pub returns-in_err-name-clause-within : goal.returns-in_err-name-clause-within
+returns-in_err-name-clause-within c = never_ok c.from_residual.result _ _ c.from_residual.ensures.1
+
+pub returns-in_err-key-clause-ok : goal.returns-in_err-key-clause-ok
+returns-in_err-key-clause-ok c = never_ok c.from_residual-in_err-key.result _ _ c.from_residual-in_err-key.ensures.1
+
+pub returns-in_err-key-clause-within : goal.returns-in_err-key-clause-within
+returns-in_err-key-clause-within c = never_ok c.from_residual-in_err-key.result _ _ c.from_residual-in_err-key.ensures.1
+
+pub returns-in_err-more-clause-ok : goal.returns-in_err-more-clause-ok
+returns-in_err-more-clause-ok c = never_ok c.from_residual-in_err-more.result _ _ c.from_residual-in_err-more.ensures.1
+
+pub returns-in_err-more-clause-within : goal.returns-in_err-more-clause-within
+returns-in_err-more-clause-within c = never_ok c.from_residual-in_err-more.result _ _ c.from_residual-in_err-more.ensures.1
+
+pub returns-in_err-relation-clause-ok : goal.returns-in_err-relation-clause-ok
+returns-in_err-relation-clause-ok c = never_ok c.from_residual-in_err-relation.result _ _ c.from_residual-in_err-relation.ensures.1
+
+pub returns-in_err-relation-clause-within : goal.returns-in_err-relation-clause-within
+returns-in_err-relation-clause-within c = never_ok c.from_residual-in_err-relation.result _ _ c.from_residual-in_err-relation.ensures.1
+
+pub returns-in_err-value-clause-ok : goal.returns-in_err-value-clause-ok
+returns-in_err-value-clause-ok c = never_ok c.from_residual-in_err-value.result _ _ c.from_residual-in_err-value.ensures.1
+
+pub returns-in_err-value-clause-within : goal.returns-in_err-value-clause-within
+returns-in_err-value-clause-within c = never_ok c.from_residual-in_err-value.result _ _ c.from_residual-in_err-value.ensures.1

@@ -2,6 +2,7 @@ use Rattle.std.proofs.lemmas.Result.{err_from_is_err_and}
 use Rattle.gremlin_parse.specs.Queries.{words_after}
 use Rattle.gremlin_parse.proofs.QueryReads.{stop_at_dot, stop_at_step_name, stop_at_opening, opening_read, opening_shorter, by_is_ordered}
 use Rattle.gremlin_parse.proofs.RepeatReads.{early_step}
+use Rattle.gremlin_parse.proofs.Exits.{never_ok}
 use Rattle.gremlin_parse.proofs.step.read_opening.Goals as goal
 
 pub returns-in_err-at_name-clause-err : goal.returns-in_err-at_name-clause-err
@@ -30,3 +31,39 @@ returns-clause-by c = by_is_ordered c.args.is_ordered c.in_ok-at_name.at_name.no
 
 pub returns-clause-few : goal.returns-clause-few
 returns-clause-few c = early_step c.args.stage c.in_ok-word.word c.in_ok-at_name.at_name.now c.requires.early c.in_ok-word.ensures.no_fault
+
+pub returns-in_err-at_name-clause-ok : goal.returns-in_err-at_name-clause-ok
+returns-in_err-at_name-clause-ok c = never_ok c.from_residual.result _ _ c.from_residual.ensures.1
+
+pub returns-in_err-at_name-clause-by : goal.returns-in_err-at_name-clause-by
+returns-in_err-at_name-clause-by c = never_ok c.from_residual.result _ _ c.from_residual.ensures.1
+
+pub returns-in_err-at_name-clause-few : goal.returns-in_err-at_name-clause-few
+returns-in_err-at_name-clause-few c = never_ok c.from_residual.result _ _ c.from_residual.ensures.1
+
+pub returns-in_err-at_name-clause-less : goal.returns-in_err-at_name-clause-less
+returns-in_err-at_name-clause-less c = never_ok c.from_residual.result _ _ c.from_residual.ensures.1
+
+pub returns-in_err-word-clause-ok : goal.returns-in_err-word-clause-ok
+returns-in_err-word-clause-ok c = never_ok c.from_residual-in_err-word.result _ _ c.from_residual-in_err-word.ensures.1
+
+pub returns-in_err-word-clause-by : goal.returns-in_err-word-clause-by
+returns-in_err-word-clause-by c = never_ok c.from_residual-in_err-word.result _ _ c.from_residual-in_err-word.ensures.1
+
+pub returns-in_err-word-clause-few : goal.returns-in_err-word-clause-few
+returns-in_err-word-clause-few c = never_ok c.from_residual-in_err-word.result _ _ c.from_residual-in_err-word.ensures.1
+
+pub returns-in_err-word-clause-less : goal.returns-in_err-word-clause-less
+returns-in_err-word-clause-less c = never_ok c.from_residual-in_err-word.result _ _ c.from_residual-in_err-word.ensures.1
+
+pub returns-in_err-rest-clause-ok : goal.returns-in_err-rest-clause-ok
+returns-in_err-rest-clause-ok c = never_ok c.from_residual-in_err-rest.result _ _ c.from_residual-in_err-rest.ensures.1
+
+pub returns-in_err-rest-clause-by : goal.returns-in_err-rest-clause-by
+returns-in_err-rest-clause-by c = never_ok c.from_residual-in_err-rest.result _ _ c.from_residual-in_err-rest.ensures.1
+
+pub returns-in_err-rest-clause-few : goal.returns-in_err-rest-clause-few
+returns-in_err-rest-clause-few c = never_ok c.from_residual-in_err-rest.result _ _ c.from_residual-in_err-rest.ensures.1
+
+pub returns-in_err-rest-clause-less : goal.returns-in_err-rest-clause-less
+returns-in_err-rest-clause-less c = never_ok c.from_residual-in_err-rest.result _ _ c.from_residual-in_err-rest.ensures.1

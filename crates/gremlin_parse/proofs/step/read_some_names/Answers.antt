@@ -2,6 +2,7 @@ use Rattle.std.proofs.Common.{List, ℕ, ◌++◌, ◌∷◌, [], sym, ◌∙◌
 use Rattle.std.proofs.lemmas.Result.{err_from_is_err_and}
 use Rattle.gremlin_parse.specs.Queries.{after_names, LeadsTo, OneName}
 use Rattle.gremlin_parse.proofs.QueryReads.{NamesSoFar, stop_after_first_name, stop_in_names, stop_after_name, first_names, names_more, names_done, stop_of_memory}
+use Rattle.gremlin_parse.proofs.Exits.{never_ok}
 use Rattle.gremlin_parse.proofs.step.read_some_names.Goals as goal
 
 pub returns-in_err-first-clause-err : goal.returns-in_err-first-clause-err
@@ -54,3 +55,39 @@ returns-clause-ok c = λ purpose place quotes.
 
 pub returns-clause-within : goal.returns-clause-within
 returns-clause-within c = c.loop-more.invariant.1
+
+pub returns-in_err-first-clause-ok : goal.returns-in_err-first-clause-ok
+returns-in_err-first-clause-ok c = never_ok c.from_residual.result _ _ c.from_residual.ensures.1
+
+pub returns-in_err-first-clause-within : goal.returns-in_err-first-clause-within
+returns-in_err-first-clause-within c = never_ok c.from_residual.result _ _ c.from_residual.ensures.1
+
+pub returns-in_err-push_name-clause-ok : goal.returns-in_err-push_name-clause-ok
+returns-in_err-push_name-clause-ok c = never_ok c.from_residual-in_err-push_name.result _ _ c.from_residual-in_err-push_name.ensures.1
+
+pub returns-in_err-push_name-clause-within : goal.returns-in_err-push_name-clause-within
+returns-in_err-push_name-clause-within c = never_ok c.from_residual-in_err-push_name.result _ _ c.from_residual-in_err-push_name.ensures.1
+
+pub returns-in_err-more-clause-ok : goal.returns-in_err-more-clause-ok
+returns-in_err-more-clause-ok c = never_ok c.from_residual-in_err-more.result _ _ c.from_residual-in_err-more.ensures.1
+
+pub returns-in_err-more-clause-within : goal.returns-in_err-more-clause-within
+returns-in_err-more-clause-within c = never_ok c.from_residual-in_err-more.result _ _ c.from_residual-in_err-more.ensures.1
+
+pub returns-in_err-name-clause-ok : goal.returns-in_err-name-clause-ok
+returns-in_err-name-clause-ok c = never_ok c.from_residual-in_err-name.result _ _ c.from_residual-in_err-name.ensures.1
+
+pub returns-in_err-name-clause-within : goal.returns-in_err-name-clause-within
+returns-in_err-name-clause-within c = never_ok c.from_residual-in_err-name.result _ _ c.from_residual-in_err-name.ensures.1
+
+pub returns-in_err-push_name-2-clause-ok : goal.returns-in_err-push_name-2-clause-ok
+returns-in_err-push_name-2-clause-ok c = never_ok c.from_residual-in_err-push_name-2.result _ _ c.from_residual-in_err-push_name-2.ensures.1
+
+pub returns-in_err-push_name-2-clause-within : goal.returns-in_err-push_name-2-clause-within
+returns-in_err-push_name-2-clause-within c = never_ok c.from_residual-in_err-push_name-2.result _ _ c.from_residual-in_err-push_name-2.ensures.1
+
+pub returns-in_err-again-clause-ok : goal.returns-in_err-again-clause-ok
+returns-in_err-again-clause-ok c = never_ok c.from_residual-in_err-again.result _ _ c.from_residual-in_err-again.ensures.1
+
+pub returns-in_err-again-clause-within : goal.returns-in_err-again-clause-within
+returns-in_err-again-clause-within c = never_ok c.from_residual-in_err-again.result _ _ c.from_residual-in_err-again.ensures.1

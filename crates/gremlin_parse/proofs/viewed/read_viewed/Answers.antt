@@ -9,6 +9,7 @@ use Rattle.gremlin_parse.specs.declared.argument.Argument.{Argument}
 use Rattle.gremlin_parse.specs.declared.argument.Givens.{Givens}
 use Rattle.gremlin_parse.specs.declared.viewed.Viewed.{Viewed}
 use Rattle.gremlin_parse.proofs.Views.{stop_at_gap, stop_at_view_end, stop_at_view_word, stop_in_number, view_bounded, view_read}
+use Rattle.gremlin_parse.proofs.Exits.{never_ok}
 use Rattle.gremlin_parse.proofs.viewed.read_viewed.Goals as goal
 
 pub returns-in_err-at_word-clause-err : goal.returns-in_err-at_word-clause-err
@@ -49,3 +50,27 @@ returns-clause-bounds c =
     let reads = subst (λ (list : List Argument). Given list c.in_ok-givens.givens c.in_ok-word.after.now c.in_ok-givens.rest.now) c.view_arguments.ensures.are c.in_ok-givens.ensures.ok in
     let is = c.viewed_of.ensures ∙ ap (viewed_of c.in_ok-word.word) c.number.ensures in
     subst (λ (viewed : Viewed). AllByRecursion IsBounded (viewed_to_end viewed)) (sym is) (view_bounded c.in_ok-word.after.now c.in_ok-givens.rest.now c.skip_blanks.result.now c.in_ok-word.word c.in_ok-givens.givens reads c.skip_blanks.ensures)
+
+pub returns-in_err-at_word-clause-ok : goal.returns-in_err-at_word-clause-ok
+returns-in_err-at_word-clause-ok c = never_ok c.from_residual.result _ _ c.from_residual.ensures.1
+
+pub returns-in_err-at_word-clause-bounds : goal.returns-in_err-at_word-clause-bounds
+returns-in_err-at_word-clause-bounds c = never_ok c.from_residual.result _ _ c.from_residual.ensures.1
+
+pub returns-in_err-word-clause-ok : goal.returns-in_err-word-clause-ok
+returns-in_err-word-clause-ok c = never_ok c.from_residual-in_err-word.result _ _ c.from_residual-in_err-word.ensures.1
+
+pub returns-in_err-word-clause-bounds : goal.returns-in_err-word-clause-bounds
+returns-in_err-word-clause-bounds c = never_ok c.from_residual-in_err-word.result _ _ c.from_residual-in_err-word.ensures.1
+
+pub returns-in_err-givens-clause-ok : goal.returns-in_err-givens-clause-ok
+returns-in_err-givens-clause-ok c = never_ok c.from_residual-in_err-givens.result _ _ c.from_residual-in_err-givens.ensures.1
+
+pub returns-in_err-givens-clause-bounds : goal.returns-in_err-givens-clause-bounds
+returns-in_err-givens-clause-bounds c = never_ok c.from_residual-in_err-givens.result _ _ c.from_residual-in_err-givens.ensures.1
+
+pub returns-in_err-read_end-clause-ok : goal.returns-in_err-read_end-clause-ok
+returns-in_err-read_end-clause-ok c = never_ok c.from_residual-in_err-read_end.result _ _ c.from_residual-in_err-read_end.ensures.1
+
+pub returns-in_err-read_end-clause-bounds : goal.returns-in_err-read_end-clause-bounds
+returns-in_err-read_end-clause-bounds c = never_ok c.from_residual-in_err-read_end.result _ _ c.from_residual-in_err-read_end.ensures.1

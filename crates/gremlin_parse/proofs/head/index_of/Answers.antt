@@ -1,0 +1,8 @@
+use Rattle.gremlin_parse.proofs.Exits.{never_ok}
+use Rattle.gremlin_parse.proofs.head.index_of.Goals as goal
+
+pub returns-in_err-label-clause-ok : goal.returns-in_err-label-clause-ok
+returns-in_err-label-clause-ok c = never_ok c.from_residual.result _ _ c.from_residual.ensures.1
+
+pub returns-in_err-key-clause-ok : goal.returns-in_err-key-clause-ok
+returns-in_err-key-clause-ok c = never_ok c.from_residual-in_err-key.result _ _ c.from_residual-in_err-key.ensures.1

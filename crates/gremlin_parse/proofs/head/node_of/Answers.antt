@@ -1,0 +1,5 @@
+use Rattle.gremlin_parse.proofs.Exits.{never_ok}
+use Rattle.gremlin_parse.proofs.head.node_of.Goals as goal
+
+pub returns-in_err-label-clause-ok : goal.returns-in_err-label-clause-ok
+returns-in_err-label-clause-ok c = never_ok c.from_residual.result _ _ c.from_residual.ensures.1

@@ -1,0 +1,5 @@
+use Rattle.gremlin_parse.proofs.Exits.{never_ok}
+use Rattle.gremlin_parse.proofs.parts.copy_name.Goals as goal
+
+pub returns-in_err-bytes-clause-ok : goal.returns-in_err-bytes-clause-ok
+returns-in_err-bytes-clause-ok c = never_ok c.from_residual.result _ _ c.from_residual.ensures.1
