@@ -11,7 +11,7 @@ use Rattle.rec_bytes.specs.Format.{nil}
 use Rattle.rec_bytes.specs.Key.{IsKey}
 use Rattle.rec_bytes.specs.Record.{with_field}
 use Rattle.rec_bytes.specs.Space.{State, WritesOnly, after_get, after_gets, after_put}
-use Rattle.rec_bytes.proofs.Spaces.{after_gets-zero, put_other, writes_none}
+use Rattle.rec_bytes.proofs.Spaces.{after_gets-zero, put_other, writes_none, writes_then}
 use Rattle.rel_store.specs.RelRecord.{rel_key}
 use Rattle.store_rules.specs.Breaking.{Breaks, EndKeeps, IsInChain}
 use Rattle.store_rules.specs.Breaking.Breaks.{RelEnds}
@@ -189,6 +189,13 @@ wrote s s3 s4 s5 s6 before rel after head same one two three = record {
 
 pub wrote_none : (s t : State) (keys : List Key) → t ≡ s → WritesOnly s t keys
 wrote_none s t keys is = writes_none s t keys (ap (λ (z : State). z.written) is)
+
+-- what comes to the front writes what stood first, itself and the head
+pub wrote_front : (s s1 s2 s3 s4 : State) (first rel : ℕ) (head : Key) → s1.written ≡ s.written → WritesOnly s1 s2 (rel_key first ∷ []) → WritesOnly s2 s3 (rel_key rel ∷ [])
+    → WritesOnly s3 s4 (head ∷ []) → WritesOnly s s4 (rel_key first ∷ rel_key rel ∷ head ∷ [])
+wrote_front s s1 s2 s3 s4 first rel head same one two three =
+    writes_then s s3 s4 (rel_key first ∷ rel_key rel ∷ []) (head ∷ [])
+    (writes_then s s2 s3 (rel_key first ∷ []) (rel_key rel ∷ []) (writes_then s s1 s2 [] (rel_key first ∷ []) (writes_none s s1 [] same) one) two) three
 
 -- ---- the state
 

@@ -1,5 +1,5 @@
 -- A fault that is passed on has its cause.
-use Rattle.std.specs.Prelude.{Result, Err}
+use Rattle.std.specs.Prelude.{Result, Err, IfErr}
 use Rattle.std.specs.Result.{IsErrAnd}
 use Rattle.std.proofs.Common.{◌≡◌, ◌≤◌, ℕ, sym, subst, refl}
 use Rattle.std.proofs.lemmas.Result.{err_from_is_err_and}
@@ -35,3 +35,12 @@ damage_cause {T} before now r damage early is =
     let p = err_from_is_err_and r is in
     let here : HasFaultCause {T = T} before now (Err (faults.Damaged damage)) = record { later = early; disk = λ blamed. absurd cc } in
     subst (HasFaultCause before now) (sym p.1) (subst (λ f. HasFaultCause {T = T} before now (Err f)) (sym p.2) here)
+
+-- a fault that is passed on has what it had
+pub same_has : {T E : Type 0} (P : E → Type 0) (r : Result T E) (fault : E) → IsErrAnd r (λ f. f ≡ fault) → P fault → IfErr r P
+same_has P r fault is has = let p = err_from_is_err_and r is in rw (p.1, p.2) has
+
+-- and a fault of a space has what both of its causes have
+pub space_has : {T : Type 0} (P : Fault → Type 0) → P faults.Memory → P faults.Disk → (r : Result T Fault) (fault : SpaceFault) → IsErrAnd r (λ f. f ≡ of_space fault) → IfErr r P
+space_has P memory disk r spaces.Memory is = same_has P r faults.Memory is memory
+space_has P memory disk r spaces.Disk is = same_has P r faults.Disk is disk

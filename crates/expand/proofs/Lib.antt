@@ -1,5 +1,6 @@
 pub mod Ascending
 pub mod BrokenChains
+pub mod Causes
 pub mod ChainRows
 pub mod ChainWalks
 pub mod DenseDegrees

@@ -1,16 +1,20 @@
 -- A fault that is passed on has its cause.
-use Rattle.std.specs.Prelude.{Result, Err}
+use Rattle.std.specs.Prelude.{Result, Err, IfErr}
 use Rattle.std.specs.Result.{IsErrAnd}
 use Rattle.std.proofs.Common.{◌≡◌, ◌≤◌, ℕ, sym, subst, refl, arith}
 use Rattle.std.proofs.lemmas.Result.{err_from_is_err_and}
 use Rattle.rec_bytes.specs.Cause.{HasDiskCause}
 use Rattle.rec_bytes.specs.Fault.{HasFaultCause, of_row}
+use Rattle.rec_bytes.specs.declared.damage.Damage.{Damage}
 use Rattle.rec_bytes.specs.declared.fault.Fault.{Fault}
 use Rattle.rec_bytes.specs.declared.fault.Fault.TheVariants as faults
 use Rattle.rec_bytes.specs.declared.row_fault.RowFault.{RowFault}
 use Rattle.rec_bytes.specs.declared.row_fault.RowFault.TheVariants as rows
+use Rattle.rec_bytes.specs.declared.shape.Shape.{Shape}
 use Rattle.rec_bytes.proofs.Causes.{passed}
-use Rattle.traversal_run.specs.Stop.{HasStopCause, of_fault, of_memory}
+use Rattle.store_rules.specs.Views.{Records}
+use Rattle.prop_store.specs.Fault.{BlamesBroken}
+use Rattle.traversal_run.specs.Stop.{HasStopCause, StopsAtBroken, of_fault, of_memory}
 use Rattle.traversal_run.specs.declared.stop.Stop.{Stop}
 use Rattle.traversal_run.specs.declared.stop.Stop.TheVariants as stops
 
@@ -51,3 +55,19 @@ memory_stop_cause {T} before now r early is =
     let p = err_from_is_err_and r is in
     let here : HasStopCause {T = T} before now (Err of_memory) = record { later = early; disk = λ blamed. absurd cc } in
     subst (HasStopCause before now) (sym p.1) (subst (λ f. HasStopCause {T = T} before now (Err f)) (sym p.2) here)
+
+-- a stop that is passed on has what it had
+pub stop_has : {T : Type 0} (P : Stop → Type 0) (r : Result T Stop) (stop : Stop) → IsErrAnd r (λ s. s ≡ stop) → P stop → IfErr r P
+stop_has P r stop is has = let p = err_from_is_err_and r is in rw (p.1, p.2) has
+
+-- one for a fault has what all that come of faults have
+pub fault_stop_has : {T : Type 0} (P : Stop → Type 0) → P stops.Memory → P stops.Disk → ((damage : Damage) → P (stops.Damaged damage)) → (r : Result T Stop) (fault : Fault) → IsErrAnd r (λ s. s ≡ of_fault fault) → IfErr r P
+fault_stop_has P memory disk damaged r faults.Memory is = stop_has P r stops.Memory is memory
+fault_stop_has P memory disk damaged r faults.Disk is = stop_has P r stops.Disk is disk
+fault_stop_has P memory disk damaged r (faults.Damaged damage) is = stop_has P r (stops.Damaged damage) is (damaged damage)
+
+-- and names a record that breaks a rule where the fault does
+pub fault_stops : {T : Type 0} (records : Records) (shape : Shape) (r : Result T Stop) (fault : Fault) → IsErrAnd r (λ s. s ≡ of_fault fault) → BlamesBroken records shape fault → IfErr r (StopsAtBroken records shape)
+fault_stops records shape r faults.Memory is broken = stop_has (StopsAtBroken records shape) r stops.Memory is tt
+fault_stops records shape r faults.Disk is broken = stop_has (StopsAtBroken records shape) r stops.Disk is tt
+fault_stops records shape r (faults.Damaged damage) is broken = stop_has (StopsAtBroken records shape) r (stops.Damaged damage) is broken

@@ -14,7 +14,7 @@ use Rattle.chain_edit.proofs.Broken.{next_breaks, prev_breaks}
 use Rattle.chain_edit.proofs.Damages.{damage_read}
 use Rattle.chain_edit.proofs.Removals.{has_unlinked}
 use Rattle.chain_edit.proofs.Unhidden.{hides_nothing, loses_no_other}
-use Rattle.chain_edit.proofs.Causes.{cause_passed, damage_cause, space_cause_passed}
+use Rattle.chain_edit.proofs.Causes.{cause_passed, damage_cause, space_cause_passed, space_has}
 use Rattle.chain_edit.proofs.Walks.{reads_next}
 use Rattle.rec_bytes.proofs.Causes.{never_ok}
 use Rattle.chain_edit.proofs.unlinking.unlink.Goals as goal
@@ -600,3 +600,90 @@ returns-in_err-write_lead-clause-known_before g c _ = never_ok c.from_residual-i
 
 pub returns-in_err-write_lead-clause-known_after : goal.returns-in_err-write_lead-clause-known_after
 returns-in_err-write_lead-clause-known_after g c _ = never_ok c.from_residual-in_err-write_lead.result _ _ c.from_residual-in_err-write_lead.ensures.1
+
+-- ---- faults that name no record, and how far each exit has come
+
+pub returns-in_err-rec-clause-damaged : goal.returns-in_err-rec-clause-damaged
+returns-in_err-rec-clause-damaged g c _ = space_has _ tt tt c.from_residual.result c.in_err-rec.field-0.0 c.from_residual.ensures.1
+
+pub returns-in_err-rec-clause-breaks : goal.returns-in_err-rec-clause-breaks
+returns-in_err-rec-clause-breaks g c _ _ _ _ = space_has _ tt tt c.from_residual.result c.in_err-rec.field-0.0 c.from_residual.ensures.1
+
+pub returns-in_err-rec-clause-sound : goal.returns-in_err-rec-clause-sound
+returns-in_err-rec-clause-sound g c _ _ _ _ _ = space_has _ tt tt c.from_residual.result c.in_err-rec.field-0.0 c.from_residual.ensures.1
+
+pub returns-in_err-rec-clause-unwritten : goal.returns-in_err-rec-clause-unwritten
+returns-in_err-rec-clause-unwritten g c = space_has _ tt tt c.from_residual.result c.in_err-rec.field-0.0 c.from_residual.ensures.1
+
+pub returns-in_err-put-clause-damaged : goal.returns-in_err-put-clause-damaged
+returns-in_err-put-clause-damaged g c _ = space_has _ tt tt c.from_residual-in_err-put.result c.in_err-put.field-0.0 c.from_residual-in_err-put.ensures.1
+
+pub returns-in_err-put-clause-breaks : goal.returns-in_err-put-clause-breaks
+returns-in_err-put-clause-breaks g c _ _ _ _ = space_has _ tt tt c.from_residual-in_err-put.result c.in_err-put.field-0.0 c.from_residual-in_err-put.ensures.1
+
+pub returns-in_err-put-clause-sound : goal.returns-in_err-put-clause-sound
+returns-in_err-put-clause-sound g c _ _ _ _ _ = space_has _ tt tt c.from_residual-in_err-put.result c.in_err-put.field-0.0 c.from_residual-in_err-put.ensures.1
+
+pub returns-in_err-put-clause-unwritten : goal.returns-in_err-put-clause-unwritten
+returns-in_err-put-clause-unwritten g c = space_has _ tt tt c.from_residual-in_err-put.result c.in_err-put.field-0.0 c.from_residual-in_err-put.ensures.1
+
+pub returns-in_err-write_behind-clause-damaged : goal.returns-in_err-write_behind-clause-damaged
+returns-in_err-write_behind-clause-damaged g c _ = space_has _ tt tt c.from_residual-in_err-write_behind.result c.in_err-write_behind.field-0.0 c.from_residual-in_err-write_behind.ensures.1
+
+pub returns-in_err-write_behind-clause-breaks : goal.returns-in_err-write_behind-clause-breaks
+returns-in_err-write_behind-clause-breaks g c _ _ _ _ = space_has _ tt tt c.from_residual-in_err-write_behind.result c.in_err-write_behind.field-0.0 c.from_residual-in_err-write_behind.ensures.1
+
+pub returns-in_err-write_behind-clause-sound : goal.returns-in_err-write_behind-clause-sound
+returns-in_err-write_behind-clause-sound g c _ _ _ _ _ = space_has _ tt tt c.from_residual-in_err-write_behind.result c.in_err-write_behind.field-0.0 c.from_residual-in_err-write_behind.ensures.1
+
+pub returns-in_err-write_behind-clause-unwritten : goal.returns-in_err-write_behind-clause-unwritten
+returns-in_err-write_behind-clause-unwritten g c = space_has _ tt tt c.from_residual-in_err-write_behind.result c.in_err-write_behind.field-0.0 c.from_residual-in_err-write_behind.ensures.1
+
+pub returns-in_err-write_lead-clause-damaged : goal.returns-in_err-write_lead-clause-damaged
+returns-in_err-write_lead-clause-damaged g c _ = space_has _ tt tt c.from_residual-in_err-write_lead.result c.in_err-write_lead.field-0.0 c.from_residual-in_err-write_lead.ensures.1
+
+pub returns-in_err-write_lead-clause-breaks : goal.returns-in_err-write_lead-clause-breaks
+returns-in_err-write_lead-clause-breaks g c _ _ _ _ = space_has _ tt tt c.from_residual-in_err-write_lead.result c.in_err-write_lead.field-0.0 c.from_residual-in_err-write_lead.ensures.1
+
+pub returns-in_err-write_lead-clause-sound : goal.returns-in_err-write_lead-clause-sound
+returns-in_err-write_lead-clause-sound g c _ _ _ _ _ = space_has _ tt tt c.from_residual-in_err-write_lead.result c.in_err-write_lead.field-0.0 c.from_residual-in_err-write_lead.ensures.1
+
+pub returns-in_err-write_lead-clause-unwritten : goal.returns-in_err-write_lead-clause-unwritten
+returns-in_err-write_lead-clause-unwritten g c = space_has _ tt tt c.from_residual-in_err-write_lead.result c.in_err-write_lead.field-0.0 c.from_residual-in_err-write_lead.ensures.1
+
+pub returns-in_err-rec-clause-neighbours : goal.returns-in_err-rec-clause-neighbours
+returns-in_err-rec-clause-neighbours g c _ = writes_none (g.S.Reads.state c.args.space.now) (g.S.Reads.state c.get.new.self) _ (ap (λ (t : State). t.written) c.in_err-rec.ensures.state)
+
+pub returns-in_err-rec-clause-cause : goal.returns-in_err-rec-clause-cause
+returns-in_err-rec-clause-cause g c =
+    space_cause_passed _ _ _ c.from_residual.result c.in_err-rec.field-0.0 (omega arith) c.in_err-rec.ensures.cause c.from_residual.ensures.1
+
+pub returns-in_err-test_link-clause-neighbours : goal.returns-in_err-test_link-clause-neighbours
+returns-in_err-test_link-clause-neighbours g c _ = writes_none (g.S.Reads.state c.args.space.now) (g.S.Reads.state c.get.new.self) _ (ap (λ (t : State). t.written) c.in_ok-rec.ensures.state)
+
+pub returns-in_err-test_link-clause-writes : goal.returns-in_err-test_link-clause-writes
+returns-in_err-test_link-clause-writes g c = (0, 0, writes_none (g.S.Reads.state c.args.space.now) (g.S.Reads.state c.get.new.self) _ (ap (λ (t : State). t.written) c.in_ok-rec.ensures.state))
+
+pub returns-in_err-test_link-clause-onward : goal.returns-in_err-test_link-clause-onward
+returns-in_err-test_link-clause-onward g c = c.in_ok-rec.ensures.onward
+
+pub returns-in_err-test_link-2-clause-neighbours : goal.returns-in_err-test_link-2-clause-neighbours
+returns-in_err-test_link-2-clause-neighbours g c _ = writes_none (g.S.Reads.state c.args.space.now) (g.S.Reads.state c.get.new.self) _ (ap (λ (t : State). t.written) c.in_ok-rec.ensures.state)
+
+pub returns-in_err-test_link-2-clause-writes : goal.returns-in_err-test_link-2-clause-writes
+returns-in_err-test_link-2-clause-writes g c = (0, 0, writes_none (g.S.Reads.state c.args.space.now) (g.S.Reads.state c.get.new.self) _ (ap (λ (t : State). t.written) c.in_ok-rec.ensures.state))
+
+pub returns-in_err-test_link-2-clause-onward : goal.returns-in_err-test_link-2-clause-onward
+returns-in_err-test_link-2-clause-onward g c = c.in_ok-rec.ensures.onward
+
+pub returns-in_err-behind-clause-onward : goal.returns-in_err-behind-clause-onward
+returns-in_err-behind-clause-onward g c = g.met.S.Reads.further_onward _ _ _ c.in_ok-rec.ensures.onward c.in_err-behind.ensures.onward
+
+pub returns-in_err-lead-clause-onward : goal.returns-in_err-lead-clause-onward
+returns-in_err-lead-clause-onward g c = g.met.S.Reads.further_onward _ _ _ (g.met.S.Reads.further_onward _ _ _ c.in_ok-rec.ensures.onward c.in_ok-behind.ensures.onward) c.in_err-lead.ensures.onward
+
+pub returns-in_err-put-clause-onward : goal.returns-in_err-put-clause-onward
+returns-in_err-put-clause-onward g c = g.met.S.Reads.further_onward _ _ _ (g.met.S.Reads.further_onward _ _ _ (g.met.S.Reads.further_onward _ _ _ c.in_ok-rec.ensures.onward c.in_ok-behind.ensures.onward) c.in_ok-lead.ensures.onward) c.in_err-put.ensures.onward
+
+pub returns-in_err-write_behind-clause-onward : goal.returns-in_err-write_behind-clause-onward
+returns-in_err-write_behind-clause-onward g c = g.met.S.Reads.further_onward _ _ _ (g.met.S.Reads.further_onward _ _ _ (g.met.S.Reads.further_onward _ _ _ (g.met.S.Reads.further_onward _ _ _ c.in_ok-rec.ensures.onward c.in_ok-behind.ensures.onward) c.in_ok-lead.ensures.onward) c.in_ok-put.ensures.onward) c.in_err-write_behind.ensures.onward

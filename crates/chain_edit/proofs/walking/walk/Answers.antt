@@ -9,7 +9,7 @@ use Rattle.chain_edit.specs.Walking.{IsSoundWalk, IsWalkDamage, chain_damage}
 use Rattle.chain_edit.specs.Walking.IsWalkDamage.{NoWalk}
 use Rattle.chain_edit.proofs.Broken.{walk_breaks, walk_fault_breaks}
 use Rattle.chain_edit.proofs.Walks.{few_next, few_then, left_more, left_none, link_is, mark_then, next_read, one_longer, read_next as reads_more, reads_next, reads_within, rec_then, rows_all, rows_more, rows_none, step_then, undamaged, walk_fault}
-use Rattle.chain_edit.proofs.Causes.{cause_passed, memory_cause}
+use Rattle.chain_edit.proofs.Causes.{cause_passed, memory_cause, same_has}
 use Rattle.rec_bytes.proofs.Causes.{never_ok}
 use Rattle.chain_edit.proofs.walking.walk.Goals as goal
 
@@ -153,3 +153,18 @@ returns-in_err-push-clause-rows g c _ = never_ok c.from_residual-in_err-push.res
 
 pub returns-in_err-push-clause-reads : goal.returns-in_err-push-clause-reads
 returns-in_err-push-clause-reads g c = never_ok c.from_residual-in_err-push.result _ _ c.from_residual-in_err-push.ensures.1
+
+pub returns-in_err-push-clause-damaged : goal.returns-in_err-push-clause-damaged
+returns-in_err-push-clause-damaged g c _ = same_has _ c.from_residual-in_err-push.result _ c.from_residual-in_err-push.ensures.1 tt
+
+pub returns-in_err-push-clause-breaks : goal.returns-in_err-push-clause-breaks
+returns-in_err-push-clause-breaks g c _ _ _ _ _ _ = same_has _ c.from_residual-in_err-push.result _ c.from_residual-in_err-push.ensures.1 tt
+
+pub returns-in_err-push-clause-sound : goal.returns-in_err-push-clause-sound
+returns-in_err-push-clause-sound g c _ _ _ _ = same_has _ c.from_residual-in_err-push.result _ c.from_residual-in_err-push.ensures.1 tt
+
+pub returns-in_err-read_next-clause-onward : goal.returns-in_err-read_next-clause-onward
+returns-in_err-read_next-clause-onward g c = g.met.R.Reads.further_onward _ _ _ c.loop.invariant.onward c.in_err-read_next.ensures.onward
+
+pub returns-in_err-push-clause-onward : goal.returns-in_err-push-clause-onward
+returns-in_err-push-clause-onward g c = g.met.R.Reads.further_onward _ _ _ c.loop.invariant.onward c.in_ok-read_next.ensures.onward

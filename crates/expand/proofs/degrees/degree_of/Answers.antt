@@ -15,6 +15,7 @@ use Rattle.expand.proofs.LoadedRows.{can_walk, chain_fault, chain_tells, dense_a
 use Rattle.expand.proofs.ReadCounts.{load_reads}
 use Rattle.expand.proofs.RowCounts.{part_count}
 use Rattle.rec_bytes.proofs.Causes.{never_ok, ok_cause}
+use Rattle.expand.proofs.Causes.{expand_cause_passed, row_cause_passed}
 use Rattle.expand.proofs.degrees.degree_of.Goals as goal
 
 pub returns-in_err-row-clause-damaged : goal.returns-in_err-row-clause-damaged
@@ -191,3 +192,15 @@ returns-in_err-rows-clause-rows g c _ = never_ok c.from_residual-in_err-rows.res
 
 pub returns-clause-cause : goal.returns-clause-cause
 returns-clause-cause g c = ok_cause _ _ _ _ (omega arith)
+
+pub returns-in_err-row-clause-cause : goal.returns-in_err-row-clause-cause
+returns-in_err-row-clause-cause g c =
+    row_cause_passed _ _ _ c.from_residual.result c.in_err-row.field-0.0 (omega arith) c.in_err-row.ensures.cause c.from_residual.ensures.1
+
+pub returns-in_err-rows-clause-cause : goal.returns-in_err-rows-clause-cause
+returns-in_err-rows-clause-cause g c =
+    expand_cause_passed _ _ _ c.from_residual-in_err-rows.result c.in_err-rows.field-0.0 c.in_ok-row.ensures.cause.later c.in_err-rows.ensures.cause c.from_residual-in_err-rows.ensures.1
+
+pub returns-in_err-rows-clause-onward : goal.returns-in_err-rows-clause-onward
+returns-in_err-rows-clause-onward g c =
+    g.met.R.Reads.further_onward _ _ _ c.in_ok-row.ensures.onward c.in_err-rows.ensures.onward

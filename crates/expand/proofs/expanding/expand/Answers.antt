@@ -7,6 +7,8 @@ use Rattle.expand.specs.Matching.{IsPart, is_met}
 use Rattle.expand.proofs.ManyEdges.{most_is_dense}
 use Rattle.expand.proofs.ModelEdges.{names_stand, rows_at_are}
 use Rattle.rec_bytes.proofs.Causes.{never_ok, ok_cause}
+use Rattle.chain_edit.proofs.Causes.{same_has}
+use Rattle.expand.proofs.Causes.{expand_memory_cause, same_cause_passed}
 use Rattle.expand.proofs.expanding.expand.Goals as goal
 
 pub returns-clause-rows : goal.returns-clause-rows
@@ -58,3 +60,26 @@ returns-in_err-found-clause-rows g c _ = never_ok c.from_residual-in_err-found.r
 
 pub returns-clause-cause : goal.returns-clause-cause
 returns-clause-cause g c = ok_cause _ _ _ _ (omega arith)
+
+pub returns-in_err-rows-clause-cause : goal.returns-in_err-rows-clause-cause
+returns-in_err-rows-clause-cause g c =
+    same_cause_passed _ _ _ c.from_residual.result c.in_err-rows.field-0.0 (omega arith) c.in_err-rows.ensures.cause c.from_residual.ensures.1
+
+pub returns-in_err-found-clause-cause : goal.returns-in_err-found-clause-cause
+returns-in_err-found-clause-cause g c =
+    expand_memory_cause _ _ c.from_residual-in_err-found.result c.in_ok-rows.ensures.cause.later c.from_residual-in_err-found.ensures.1
+
+pub returns-in_err-rows-clause-damaged : goal.returns-in_err-rows-clause-damaged
+returns-in_err-rows-clause-damaged g c tells = same_has _ c.from_residual.result _ c.from_residual.ensures.1 (c.in_err-rows.ensures.damaged tells)
+
+pub returns-in_err-found-clause-damaged : goal.returns-in_err-found-clause-damaged
+returns-in_err-found-clause-damaged g c _ = same_has _ c.from_residual-in_err-found.result _ c.from_residual-in_err-found.ensures.1 tt
+
+pub returns-in_err-rows-clause-at_most : goal.returns-in_err-rows-clause-at_most
+returns-in_err-rows-clause-at_most g c = c.in_err-rows.ensures.at_most
+
+pub returns-in_err-found-clause-at_most : goal.returns-in_err-found-clause-at_most
+returns-in_err-found-clause-at_most g c = c.in_ok-rows.ensures.at_most
+
+pub returns-in_err-found-clause-onward : goal.returns-in_err-found-clause-onward
+returns-in_err-found-clause-onward g c = c.in_ok-rows.ensures.onward

@@ -5,6 +5,8 @@ use Rattle.expand.specs.FirstLinks.{first_links}
 use Rattle.expand.proofs.DenseWalks.{blamed_then, can_walk, group_fault, has_dense_rows, of_groups}
 use Rattle.expand.proofs.ReadCounts.{reads_both, reads_marks, reads_wider}
 use Rattle.rec_bytes.proofs.Causes.{never_ok, ok_cause}
+use Rattle.chain_edit.proofs.Causes.{same_has}
+use Rattle.expand.proofs.Causes.{expand_cause_passed, expand_memory_cause, same_cause_passed}
 use Rattle.expand.proofs.loading.dense_rows.Goals as goal
 
 pub returns-in_err-groups-clause-damaged : goal.returns-in_err-groups-clause-damaged
@@ -74,3 +76,25 @@ returns-in_err-rows-clause-rows g c _ = never_ok c.from_residual-in_err-rows.res
 
 pub returns-clause-cause : goal.returns-clause-cause
 returns-clause-cause g c = ok_cause _ _ _ _ (omega arith)
+
+pub returns-in_err-groups-clause-cause : goal.returns-in_err-groups-clause-cause
+returns-in_err-groups-clause-cause g c =
+    expand_cause_passed _ _ _ c.from_residual.result c.in_err-groups.field-0.0 (omega arith) c.in_err-groups.ensures.cause c.from_residual.ensures.1
+
+pub returns-in_err-links-clause-damaged : goal.returns-in_err-links-clause-damaged
+returns-in_err-links-clause-damaged g c _ _ = same_has _ c.from_residual-in_err-links.result _ c.from_residual-in_err-links.ensures.1 tt
+
+pub returns-in_err-links-clause-onward : goal.returns-in_err-links-clause-onward
+returns-in_err-links-clause-onward g c = c.in_ok-groups.ensures.onward
+
+pub returns-in_err-links-clause-cause : goal.returns-in_err-links-clause-cause
+returns-in_err-links-clause-cause g c =
+    expand_memory_cause _ _ c.from_residual-in_err-links.result c.in_ok-groups.ensures.cause.later c.from_residual-in_err-links.ensures.1
+
+pub returns-in_err-rows-clause-onward : goal.returns-in_err-rows-clause-onward
+returns-in_err-rows-clause-onward g c =
+    g.met.R.Reads.further_onward _ _ _ c.in_ok-groups.ensures.onward c.in_err-rows.ensures.onward
+
+pub returns-in_err-rows-clause-cause : goal.returns-in_err-rows-clause-cause
+returns-in_err-rows-clause-cause g c =
+    same_cause_passed _ _ _ c.from_residual-in_err-rows.result c.in_err-rows.field-0.0 c.in_ok-groups.ensures.cause.later c.in_err-rows.ensures.cause c.from_residual-in_err-rows.ensures.1

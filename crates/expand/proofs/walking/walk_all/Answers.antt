@@ -18,6 +18,8 @@ use Rattle.expand.proofs.BrokenChains.{more_stood, no_link, none_stood, stray_br
 use Rattle.expand.proofs.ChainWalks.{AreLeft, HaveMet, Rows, all_met, chain_left, chain_met, few_met, few_more, mark_bounds, none_met, reads_more, rest_left, room_then}
 use Rattle.group_store.proofs.GroupWalks.{reads_none}
 use Rattle.rec_bytes.proofs.Causes.{never_ok, ok_cause}
+use Rattle.chain_edit.proofs.Causes.{same_has}
+use Rattle.expand.proofs.Causes.{expand_memory_cause}
 use Rattle.expand.proofs.walking.walk_all.Goals as goal
 
 -- the first link at a place
@@ -234,3 +236,14 @@ returns-in_err-extend_from_slice-clause-reads g c = never_ok c.from_residual.res
 
 pub returns-clause-cause : goal.returns-clause-cause
 returns-clause-cause g c = ok_cause _ _ _ _ (omega arith)
+
+pub returns-in_err-extend_from_slice-clause-damaged : goal.returns-in_err-extend_from_slice-clause-damaged
+returns-in_err-extend_from_slice-clause-damaged g c _ _ = same_has _ c.from_residual.result _ c.from_residual.ensures.1 tt
+
+pub returns-in_err-extend_from_slice-clause-onward : goal.returns-in_err-extend_from_slice-clause-onward
+returns-in_err-extend_from_slice-clause-onward g c = g.met.R.Reads.further_onward _ _ _ c.loop-link.invariant.onward c.walk.ensures.onward
+
+pub returns-in_err-extend_from_slice-clause-cause : goal.returns-in_err-extend_from_slice-clause-cause
+returns-in_err-extend_from_slice-clause-cause g c =
+    let later = c.walk.ensures.cause.later in
+    expand_memory_cause _ _ c.from_residual.result (omega (arith, c.loop-link.invariant.later, later)) c.from_residual.ensures.1

@@ -36,6 +36,7 @@ use Rattle.group_store.proofs.MakeSteps.{on_damage}
 use Rattle.group_store.proofs.KeptHeads.{heads_same}
 use Rattle.group_store.proofs.MadeHeads.{heads_cleared, others_then}
 use Rattle.rec_bytes.proofs.Causes.{never_ok}
+use Rattle.chain_edit.proofs.Causes.{space_has}
 use Rattle.group_store.proofs.densing.make_dense.Goals as goal
 
 pub loop-init : goal.loop-init
@@ -629,3 +630,32 @@ returns-in_err-turn-clause-beside g c _ = never_ok c.from_residual-in_err-turn.r
 
 pub returns-in_err-turn-clause-wrote : goal.returns-in_err-turn-clause-wrote
 returns-in_err-turn-clause-wrote g c = never_ok c.from_residual-in_err-turn.result _ _ c.from_residual-in_err-turn.ensures.1
+
+pub returns-in_err-clear-clause-sound : goal.returns-in_err-clear-clause-sound
+returns-in_err-clear-clause-sound g c _ _ _ _ _ = space_has _ tt tt c.from_residual-in_err-clear.result c.in_err-clear.field-0.0 c.from_residual-in_err-clear.ensures.1
+
+pub returns-in_err-clear-clause-never : goal.returns-in_err-clear-clause-never
+returns-in_err-clear-clause-never g c _ _ _ _ _ = space_has _ tt tt c.from_residual-in_err-clear.result c.in_err-clear.field-0.0 c.from_residual-in_err-clear.ensures.1
+
+pub returns-in_err-clear-clause-damaged : goal.returns-in_err-clear-clause-damaged
+returns-in_err-clear-clause-damaged g c _ _ _ = space_has _ tt tt c.from_residual-in_err-clear.result c.in_err-clear.field-0.0 c.from_residual-in_err-clear.ensures.1
+
+pub returns-in_err-clear-clause-told : goal.returns-in_err-clear-clause-told
+returns-in_err-clear-clause-told g c _ _ _ = space_has _ tt tt c.from_residual-in_err-clear.result c.in_err-clear.field-0.0 c.from_residual-in_err-clear.ensures.1
+
+pub returns-in_err-clear-clause-stays : goal.returns-in_err-clear-clause-stays
+returns-in_err-clear-clause-stays g c _ = space_has _ tt tt c.from_residual-in_err-clear.result c.in_err-clear.field-0.0 c.from_residual-in_err-clear.ensures.1
+
+pub returns-in_err-row-clause-onward : goal.returns-in_err-row-clause-onward
+returns-in_err-row-clause-onward g c = c.in_err-row.ensures.onward
+
+pub returns-in_err-test_chain-clause-onward : goal.returns-in_err-test_chain-clause-onward
+returns-in_err-test_chain-clause-onward g c =
+    g.met.S.Reads.further_onward _ _ _ c.in_ok-row.ensures.onward c.in_err-test_chain.ensures.onward
+
+pub returns-in_err-clear-clause-onward : goal.returns-in_err-clear-clause-onward
+returns-in_err-clear-clause-onward g c =
+    g.met.S.Reads.further_onward _ _ _ (g.met.S.Reads.further_onward _ _ _ c.in_ok-row.ensures.onward c.in_ok-test_chain.ensures.onward) c.in_err-clear.ensures.onward
+
+pub returns-in_err-turn-clause-onward : goal.returns-in_err-turn-clause-onward
+returns-in_err-turn-clause-onward g c = g.met.S.Reads.further_onward _ _ _ c.loop.invariant.onward c.in_err-turn.ensures.onward

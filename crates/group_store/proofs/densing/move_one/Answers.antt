@@ -39,6 +39,7 @@ use Rattle.group_store.specs.declared.side.Side.TheVariants.{Out, In as Into, Lo
 use Rattle.group_store.proofs.KeptHeads.{heads_same, heads_then}
 use Rattle.group_store.proofs.MadeHeads.{heads_freed, heads_pushed, owned_head}
 use Rattle.rec_bytes.proofs.Causes.{never_ok}
+use Rattle.chain_edit.proofs.Causes.{space_has}
 use Rattle.group_store.proofs.densing.move_one.Goals as goal
 use Rattle.group_store.proofs.densing.move_one.Goals.{After-push_counted}
 use Rattle.group_store.proofs.densing.move_one.Given.{Over}
@@ -462,3 +463,26 @@ returns-in_err-first-clause-beside g c _ = never_ok c.from_residual-in_err-first
 
 pub returns-in_err-first-clause-wrote : goal.returns-in_err-first-clause-wrote
 returns-in_err-first-clause-wrote g c = never_ok c.from_residual-in_err-first.result _ _ c.from_residual-in_err-first.ensures.1
+
+pub returns-in_err-free_previous-clause-sound : goal.returns-in_err-free_previous-clause-sound
+returns-in_err-free_previous-clause-sound g c _ _ _ _ _ _ = space_has _ tt tt c.from_residual-in_err-free_previous.result c.in_err-free_previous.field-0.0 c.from_residual-in_err-free_previous.ensures.1
+
+pub returns-in_err-free_previous-clause-never : goal.returns-in_err-free_previous-clause-never
+returns-in_err-free_previous-clause-never g c _ _ _ _ _ _ _ _ _ = space_has _ tt tt c.from_residual-in_err-free_previous.result c.in_err-free_previous.field-0.0 c.from_residual-in_err-free_previous.ensures.1
+
+pub returns-in_err-free_previous-clause-damaged : goal.returns-in_err-free_previous-clause-damaged
+returns-in_err-free_previous-clause-damaged g c _ _ = space_has _ tt tt c.from_residual-in_err-free_previous.result c.in_err-free_previous.field-0.0 c.from_residual-in_err-free_previous.ensures.1
+
+pub returns-in_err-free_previous-clause-stays : goal.returns-in_err-free_previous-clause-stays
+returns-in_err-free_previous-clause-stays g c _ = space_has _ tt tt c.from_residual-in_err-free_previous.result c.in_err-free_previous.field-0.0 c.from_residual-in_err-free_previous.ensures.1
+
+pub returns-in_err-own-clause-onward : goal.returns-in_err-own-clause-onward
+returns-in_err-own-clause-onward g c = g.met.S.Reads.further_onward _ _ _ c.in_ok-row.ensures.onward c.in_err-own.ensures.onward
+
+pub returns-in_err-free_previous-clause-onward : goal.returns-in_err-free_previous-clause-onward
+returns-in_err-free_previous-clause-onward g c =
+    g.met.S.Reads.further_onward _ _ _ (g.met.S.Reads.further_onward _ _ _ c.in_ok-row.ensures.onward c.in_ok-own.ensures.onward) c.in_err-free_previous.ensures.onward
+
+pub returns-in_err-first-clause-onward : goal.returns-in_err-first-clause-onward
+returns-in_err-first-clause-onward g c =
+    g.met.S.Reads.further_onward _ _ _ (g.met.S.Reads.further_onward _ _ _ (g.met.S.Reads.further_onward _ _ _ c.in_ok-row.ensures.onward c.in_ok-own.ensures.onward) c.in_ok-free_previous.ensures.onward) c.in_err-first.ensures.onward

@@ -18,6 +18,7 @@ use Rattle.group_store.proofs.GroupWalks.{not_damaged_at}
 use Rattle.group_store.proofs.MakeSteps.{on_damage, same_read, same_then, same_writes}
 use Rattle.group_store.proofs.Causes.{cause_passed, damage_cause, later_on, space_cause_passed}
 use Rattle.rec_bytes.proofs.Causes.{never_ok}
+use Rattle.chain_edit.proofs.Causes.{space_has}
 use Rattle.group_store.proofs.dropping.drop_if_empty.Goals as goal
 
 pub returns-in_err-rec-clause-damaged : goal.returns-in_err-rec-clause-damaged
@@ -480,3 +481,57 @@ returns-in_err-give-clause-ok g c _ = never_ok c.from_residual-in_err-give.resul
 
 pub returns-in_err-give-clause-linked : goal.returns-in_err-give-clause-linked
 returns-in_err-give-clause-linked g c _ = never_ok c.from_residual-in_err-give.result _ _ c.from_residual-in_err-give.ensures.1
+
+pub returns-in_err-write_behind-clause-damaged : goal.returns-in_err-write_behind-clause-damaged
+returns-in_err-write_behind-clause-damaged g c _ = space_has _ tt tt c.from_residual-in_err-write_behind.result c.in_err-write_behind.field-0.0 c.from_residual-in_err-write_behind.ensures.1
+
+pub returns-in_err-write_behind-clause-breaks : goal.returns-in_err-write_behind-clause-breaks
+returns-in_err-write_behind-clause-breaks g c _ _ _ _ = space_has _ tt tt c.from_residual-in_err-write_behind.result c.in_err-write_behind.field-0.0 c.from_residual-in_err-write_behind.ensures.1
+
+pub returns-in_err-write_behind-clause-sound : goal.returns-in_err-write_behind-clause-sound
+returns-in_err-write_behind-clause-sound g c _ _ _ = space_has _ tt tt c.from_residual-in_err-write_behind.result c.in_err-write_behind.field-0.0 c.from_residual-in_err-write_behind.ensures.1
+
+pub returns-in_err-write_behind-clause-unwritten : goal.returns-in_err-write_behind-clause-unwritten
+returns-in_err-write_behind-clause-unwritten g c = space_has _ tt tt c.from_residual-in_err-write_behind.result c.in_err-write_behind.field-0.0 c.from_residual-in_err-write_behind.ensures.1
+
+pub returns-in_err-write_lead-clause-damaged : goal.returns-in_err-write_lead-clause-damaged
+returns-in_err-write_lead-clause-damaged g c _ = space_has _ tt tt c.from_residual-in_err-write_lead.result c.in_err-write_lead.field-0.0 c.from_residual-in_err-write_lead.ensures.1
+
+pub returns-in_err-write_lead-clause-breaks : goal.returns-in_err-write_lead-clause-breaks
+returns-in_err-write_lead-clause-breaks g c _ _ _ _ = space_has _ tt tt c.from_residual-in_err-write_lead.result c.in_err-write_lead.field-0.0 c.from_residual-in_err-write_lead.ensures.1
+
+pub returns-in_err-write_lead-clause-sound : goal.returns-in_err-write_lead-clause-sound
+returns-in_err-write_lead-clause-sound g c _ _ _ = space_has _ tt tt c.from_residual-in_err-write_lead.result c.in_err-write_lead.field-0.0 c.from_residual-in_err-write_lead.ensures.1
+
+pub returns-in_err-write_lead-clause-unwritten : goal.returns-in_err-write_lead-clause-unwritten
+returns-in_err-write_lead-clause-unwritten g c = space_has _ tt tt c.from_residual-in_err-write_lead.result c.in_err-write_lead.field-0.0 c.from_residual-in_err-write_lead.ensures.1
+
+pub returns-in_err-give-clause-damaged : goal.returns-in_err-give-clause-damaged
+returns-in_err-give-clause-damaged g c _ = space_has _ tt tt c.from_residual-in_err-give.result c.in_err-give.field-0.0 c.from_residual-in_err-give.ensures.1
+
+pub returns-in_err-give-clause-breaks : goal.returns-in_err-give-clause-breaks
+returns-in_err-give-clause-breaks g c _ _ _ _ = space_has _ tt tt c.from_residual-in_err-give.result c.in_err-give.field-0.0 c.from_residual-in_err-give.ensures.1
+
+pub returns-in_err-give-clause-sound : goal.returns-in_err-give-clause-sound
+returns-in_err-give-clause-sound g c _ _ _ = space_has _ tt tt c.from_residual-in_err-give.result c.in_err-give.field-0.0 c.from_residual-in_err-give.ensures.1
+
+pub returns-in_err-give-clause-unwritten : goal.returns-in_err-give-clause-unwritten
+returns-in_err-give-clause-unwritten g c = space_has _ tt tt c.from_residual-in_err-give.result c.in_err-give.field-0.0 c.from_residual-in_err-give.ensures.1
+
+pub returns-in_err-test_link-clause-onward : goal.returns-in_err-test_link-clause-onward
+returns-in_err-test_link-clause-onward g c = c.in_ok-rec.ensures.onward
+
+pub returns-in_err-test_link-2-clause-onward : goal.returns-in_err-test_link-2-clause-onward
+returns-in_err-test_link-2-clause-onward g c = c.in_ok-rec.ensures.onward
+
+pub returns-in_err-behind-clause-onward : goal.returns-in_err-behind-clause-onward
+returns-in_err-behind-clause-onward g c =
+    g.met.S.Reads.further_onward _ _ _ c.in_ok-rec.ensures.onward c.in_err-behind.ensures.onward
+
+pub returns-in_err-lead-clause-onward : goal.returns-in_err-lead-clause-onward
+returns-in_err-lead-clause-onward g c =
+    g.met.S.Reads.further_onward _ _ _ (g.met.S.Reads.further_onward _ _ _ c.in_ok-rec.ensures.onward c.in_ok-behind.ensures.onward) c.in_err-lead.ensures.onward
+
+pub returns-in_err-write_behind-clause-onward : goal.returns-in_err-write_behind-clause-onward
+returns-in_err-write_behind-clause-onward g c =
+    g.met.S.Reads.further_onward _ _ _ (g.met.S.Reads.further_onward _ _ _ (g.met.S.Reads.further_onward _ _ _ c.in_ok-rec.ensures.onward c.in_ok-behind.ensures.onward) c.in_ok-lead.ensures.onward) c.in_err-write_behind.ensures.onward

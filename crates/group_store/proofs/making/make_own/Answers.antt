@@ -23,6 +23,7 @@ use Rattle.id_freelist.specs.Taking.{room}
 use Rattle.rec_bytes.specs.Space.{State, WritesOnly, after_get, meta_of}
 use Rattle.group_store.proofs.Causes.{cause_passed, damage_cause}
 use Rattle.rec_bytes.proofs.Causes.{never_ok}
+use Rattle.chain_edit.proofs.Causes.{space_has}
 use Rattle.group_store.proofs.making.make_own.Goals as goal
 
 pub returns-in_err-first-clause-damaged : goal.returns-in_err-first-clause-damaged
@@ -309,3 +310,29 @@ returns-in_err-lead-clause-leads g c _ = never_ok c.from_residual-in_err-lead.re
 
 pub returns-in_err-lead-clause-wrote : goal.returns-in_err-lead-clause-wrote
 returns-in_err-lead-clause-wrote g c = never_ok c.from_residual-in_err-lead.result _ _ c.from_residual-in_err-lead.ensures.1
+
+pub returns-in_err-lead-clause-damaged : goal.returns-in_err-lead-clause-damaged
+returns-in_err-lead-clause-damaged g c _ = space_has _ tt tt c.from_residual-in_err-lead.result c.in_err-lead.field-0.0 c.from_residual-in_err-lead.ensures.1
+
+pub returns-in_err-lead-clause-sound : goal.returns-in_err-lead-clause-sound
+returns-in_err-lead-clause-sound g c _ _ _ _ _ _ _ = space_has _ tt tt c.from_residual-in_err-lead.result c.in_err-lead.field-0.0 c.from_residual-in_err-lead.ensures.1
+
+pub returns-in_err-lead-clause-unwritten : goal.returns-in_err-lead-clause-unwritten
+returns-in_err-lead-clause-unwritten g c = space_has _ tt tt c.from_residual-in_err-lead.result c.in_err-lead.field-0.0 c.from_residual-in_err-lead.ensures.1
+
+pub returns-in_err-first-clause-shape : goal.returns-in_err-first-clause-shape
+returns-in_err-first-clause-shape g c _ = g.met.S.Reads.onward_shape _ _ c.in_err-first.ensures.onward
+
+pub returns-in_err-test_link-clause-shape : goal.returns-in_err-test_link-clause-shape
+returns-in_err-test_link-clause-shape g c _ = g.met.S.Reads.onward_shape _ _ c.in_ok-first.ensures.onward
+
+pub returns-in_err-test_link-clause-onward : goal.returns-in_err-test_link-clause-onward
+returns-in_err-test_link-clause-onward g c = c.in_ok-first.ensures.onward
+
+pub returns-in_err-lead-clause-onward : goal.returns-in_err-lead-clause-onward
+returns-in_err-lead-clause-onward g c =
+    g.met.S.Reads.further_onward _ _ _ (g.met.S.Reads.further_onward _ _ _ c.in_ok-first.ensures.onward c.in-Ok.ensures.onward) c.in_err-lead.ensures.onward
+
+pub returns-in_err-lead-clause-shape : goal.returns-in_err-lead-clause-shape
+returns-in_err-lead-clause-shape g c _ =
+    g.met.S.Reads.onward_shape _ _ (g.met.S.Reads.further_onward _ _ _ (g.met.S.Reads.further_onward _ _ _ c.in_ok-first.ensures.onward c.in-Ok.ensures.onward) c.in_err-lead.ensures.onward)

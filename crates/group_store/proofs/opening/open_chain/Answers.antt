@@ -389,3 +389,7 @@ returns-in_err-make_dense-clause-own g c = never_ok c.from_residual-in_err-make_
 
 pub returns-in_err-make_dense-clause-wrote : goal.returns-in_err-make_dense-clause-wrote
 returns-in_err-make_dense-clause-wrote g c = never_ok c.from_residual-in_err-make_dense.result _ _ c.from_residual-in_err-make_dense.ensures.1
+
+pub returns-in_err-make_dense-clause-onward : goal.returns-in_err-make_dense-clause-onward
+returns-in_err-make_dense-clause-onward g c =
+    g.met.S.Reads.further_onward _ _ _ c.in_ok-is_dense.ensures.onward c.in_err-make_dense.ensures.onward

@@ -187,3 +187,7 @@ returns-in_err-count_group-clause-own g c = never_ok c.from_residual-in_err-coun
 
 pub returns-in_err-count_group-clause-wrote : goal.returns-in_err-count_group-clause-wrote
 returns-in_err-count_group-clause-wrote g c = never_ok c.from_residual-in_err-count_group.result _ _ c.from_residual-in_err-count_group.ensures.1
+
+pub returns-in_err-count_group-clause-onward : goal.returns-in_err-count_group-clause-onward
+returns-in_err-count_group-clause-onward g c =
+    g.met.S.Reads.further_onward _ _ _ c.in_ok-own.ensures.onward c.in_err-count_group.ensures.onward

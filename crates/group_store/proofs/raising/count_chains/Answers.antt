@@ -10,6 +10,7 @@ use Rattle.group_store.proofs.Openings.{handed}
 use Rattle.group_store.proofs.Raises.{can_read, counted_read, degree_breaks, degree_right, side_chain}
 use Rattle.group_store.proofs.Causes.{cause_passed, later_on}
 use Rattle.rec_bytes.proofs.Causes.{never_ok}
+use Rattle.chain_edit.proofs.Causes.{same_has}
 use Rattle.group_store.proofs.raising.count_chains.Goals as goal
 
 pub returns-in_err-out-clause-sound : goal.returns-in_err-out-clause-sound
@@ -114,3 +115,26 @@ returns-in_err-into-clause-counts g c _ = never_ok c.from_residual-in_err-into.r
 
 pub returns-in_err-loops-clause-counts : goal.returns-in_err-loops-clause-counts
 returns-in_err-loops-clause-counts g c _ = never_ok c.from_residual-in_err-loops.result _ _ c.from_residual-in_err-loops.ensures.1
+
+pub returns-in_err-out-clause-breaks : goal.returns-in_err-out-clause-breaks
+returns-in_err-out-clause-breaks g c tells is at = same_has _ c.from_residual.result _ c.from_residual.ensures.1 (c.in_err-out.ensures.breaks tells at)
+
+pub returns-in_err-out-clause-names : goal.returns-in_err-out-clause-names
+returns-in_err-out-clause-names g c tells = same_has _ c.from_residual.result _ c.from_residual.ensures.1 (c.in_err-out.ensures.names tells)
+
+pub returns-in_err-into-clause-names : goal.returns-in_err-into-clause-names
+returns-in_err-into-clause-names g c tells = same_has _ c.from_residual-in_err-into.result _ c.from_residual-in_err-into.ensures.1 (c.in_err-into.ensures.names tells)
+
+pub returns-in_err-loops-clause-names : goal.returns-in_err-loops-clause-names
+returns-in_err-loops-clause-names g c tells = same_has _ c.from_residual-in_err-loops.result _ c.from_residual-in_err-loops.ensures.1 (c.in_err-loops.ensures.names tells)
+
+pub returns-in_err-out-clause-state : goal.returns-in_err-out-clause-state
+returns-in_err-out-clause-state g c = c.in_err-out.ensures.state
+
+pub returns-in_err-into-clause-onward : goal.returns-in_err-into-clause-onward
+returns-in_err-into-clause-onward g c =
+    g.met.R.Reads.further_onward _ _ _ c.in_ok-out.ensures.onward c.in_err-into.ensures.onward
+
+pub returns-in_err-loops-clause-onward : goal.returns-in_err-loops-clause-onward
+returns-in_err-loops-clause-onward g c =
+    g.met.R.Reads.further_onward _ _ _ (g.met.R.Reads.further_onward _ _ _ c.in_ok-out.ensures.onward c.in_ok-into.ensures.onward) c.in_err-loops.ensures.onward

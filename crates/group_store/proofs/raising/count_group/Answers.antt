@@ -7,6 +7,7 @@ use Rattle.group_store.proofs.KeptHeads.{heads_raised}
 use Rattle.group_store.proofs.Causes.{cause_passed, later_on, space_cause_passed}
 use Rattle.group_store.proofs.LeftBeside.{beside_none, beside_raised, counted_none, counted_raised}
 use Rattle.rec_bytes.proofs.Causes.{never_ok}
+use Rattle.chain_edit.proofs.Causes.{same_has, space_has}
 use Rattle.group_store.proofs.raising.count_group.Goals as goal
 
 pub returns-then-row-clause-raised : goal.returns-then-row-clause-raised
@@ -109,3 +110,38 @@ returns-in_err-set_counts-clause-beside g c _ = never_ok c.from_residual-in_err-
 
 pub returns-in_err-set_counts-clause-counts : goal.returns-in_err-set_counts-clause-counts
 returns-in_err-set_counts-clause-counts g c _ _ = never_ok c.from_residual-in_err-set_counts.result _ _ c.from_residual-in_err-set_counts.ensures.1
+
+pub returns-in_err-rec-clause-sound : goal.returns-in_err-rec-clause-sound
+returns-in_err-rec-clause-sound g c _ _ _ _ = space_has _ tt tt c.from_residual.result c.in_err-rec.field-0.0 c.from_residual.ensures.1
+
+pub returns-in_err-rec-clause-breaks : goal.returns-in_err-rec-clause-breaks
+returns-in_err-rec-clause-breaks g c _ _ = space_has _ tt tt c.from_residual.result c.in_err-rec.field-0.0 c.from_residual.ensures.1
+
+pub returns-in_err-rec-clause-names : goal.returns-in_err-rec-clause-names
+returns-in_err-rec-clause-names g c _ = space_has _ tt tt c.from_residual.result c.in_err-rec.field-0.0 c.from_residual.ensures.1
+
+pub returns-in_err-rec-clause-unwritten : goal.returns-in_err-rec-clause-unwritten
+returns-in_err-rec-clause-unwritten g c = space_has _ tt tt c.from_residual.result c.in_err-rec.field-0.0 c.from_residual.ensures.1
+
+pub returns-in_err-set_counts-clause-sound : goal.returns-in_err-set_counts-clause-sound
+returns-in_err-set_counts-clause-sound g c _ _ _ _ = space_has _ tt tt c.from_residual-in_err-set_counts.result c.in_err-set_counts.field-0.0 c.from_residual-in_err-set_counts.ensures.1
+
+pub returns-in_err-set_counts-clause-breaks : goal.returns-in_err-set_counts-clause-breaks
+returns-in_err-set_counts-clause-breaks g c _ _ = space_has _ tt tt c.from_residual-in_err-set_counts.result c.in_err-set_counts.field-0.0 c.from_residual-in_err-set_counts.ensures.1
+
+pub returns-in_err-set_counts-clause-names : goal.returns-in_err-set_counts-clause-names
+returns-in_err-set_counts-clause-names g c _ = space_has _ tt tt c.from_residual-in_err-set_counts.result c.in_err-set_counts.field-0.0 c.from_residual-in_err-set_counts.ensures.1
+
+pub returns-in_err-set_counts-clause-unwritten : goal.returns-in_err-set_counts-clause-unwritten
+returns-in_err-set_counts-clause-unwritten g c = space_has _ tt tt c.from_residual-in_err-set_counts.result c.in_err-set_counts.field-0.0 c.from_residual-in_err-set_counts.ensures.1
+
+pub returns-in_err-counts-clause-names : goal.returns-in_err-counts-clause-names
+returns-in_err-counts-clause-names g c tells = same_has _ c.from_residual-in_err-counts.result _ c.from_residual-in_err-counts.ensures.1 (c.in_err-counts.ensures.names tells)
+
+pub returns-in_err-counts-clause-onward : goal.returns-in_err-counts-clause-onward
+returns-in_err-counts-clause-onward g c =
+    g.met.S.Reads.further_onward _ _ _ c.in_ok-rec.ensures.onward c.in_err-counts.ensures.onward
+
+pub returns-in_err-set_counts-clause-onward : goal.returns-in_err-set_counts-clause-onward
+returns-in_err-set_counts-clause-onward g c =
+    g.met.S.Reads.further_onward _ _ _ (g.met.S.Reads.further_onward _ _ _ c.in_ok-rec.ensures.onward c.in_ok-counts.ensures.onward) c.in_err-set_counts.ensures.onward

@@ -10,6 +10,7 @@ use Rattle.group_store.specs.Walking.IsWalkDamage.{NoList}
 use Rattle.group_store.proofs.GroupWalks.{few_groups, few_owned, few_next, few_then, left_more, left_none, link_then, member_then, passed_all, passed_more, passed_none, read_next, reads_more, reads_so_far, rec_then, rows_more, not_damaged_at, undamaged, walk_fault}
 use Rattle.group_store.proofs.Causes.{cause_passed, later_on, memory_cause}
 use Rattle.rec_bytes.proofs.Causes.{never_ok}
+use Rattle.chain_edit.proofs.Causes.{same_has}
 use Rattle.group_store.proofs.walking.groups.Goals as goal
 
 pub loop-init : goal.loop-init
@@ -168,3 +169,15 @@ returns-in_err-push-clause-rows g c _ = never_ok c.from_residual-in_err-push.res
 
 pub returns-in_err-push-clause-reads : goal.returns-in_err-push-clause-reads
 returns-in_err-push-clause-reads g c = never_ok c.from_residual-in_err-push.result _ _ c.from_residual-in_err-push.ensures.1
+
+pub returns-in_err-push-clause-damaged : goal.returns-in_err-push-clause-damaged
+returns-in_err-push-clause-damaged g c _ = same_has _ c.from_residual-in_err-push.result _ c.from_residual-in_err-push.ensures.1 tt
+
+pub returns-in_err-push-clause-sound : goal.returns-in_err-push-clause-sound
+returns-in_err-push-clause-sound g c _ _ _ = same_has _ c.from_residual-in_err-push.result _ c.from_residual-in_err-push.ensures.1 tt
+
+pub returns-in_err-rec-clause-onward : goal.returns-in_err-rec-clause-onward
+returns-in_err-rec-clause-onward g c = g.met.R.Reads.further_onward _ _ _ c.loop.invariant.onward c.in_err-rec.ensures.onward
+
+pub returns-in_err-push-clause-onward : goal.returns-in_err-push-clause-onward
+returns-in_err-push-clause-onward g c = g.met.R.Reads.further_onward _ _ _ c.loop.invariant.onward c.in_ok-rec.ensures.onward

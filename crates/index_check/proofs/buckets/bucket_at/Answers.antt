@@ -94,3 +94,7 @@ returns-in_err-ids-clause-same g c = search rules
 
 pub returns-in_err-ids-clause-written : goal.returns-in_err-ids-clause-written
 returns-in_err-ids-clause-written g c = search rules
+
+pub returns-in_err-ids-clause-onward : goal.returns-in_err-ids-clause-onward
+returns-in_err-ids-clause-onward g c =
+    g.met.R.Reads.further_onward _ _ _ c.in_ok-head.ensures.onward c.in_err-ids.ensures.onward

@@ -1,4 +1,4 @@
-use Rattle.std.proofs.Common.{rules, ◌≡◌, ◌∙◌, ℕ, map, None, Some, IfNone, sym, subst, refl}
+use Rattle.std.proofs.Common.{rules, ◌≡◌, ◌∙◌, ℕ, map, None, Some, IfNone, sym, subst, refl, arith}
 use Rattle.std.specs.List.{All}
 use Rattle.rec_bytes.specs.Format as format
 use Rattle.store_rules.specs.Chains.{In}
@@ -10,8 +10,11 @@ use Rattle.index_check.specs.declared.definitions.Definition.{Definition}
 use Rattle.index_check.proofs.DefinitionLaws.{all_given, all_low, twin_breaks, twin_none}
 use Rattle.index_check.proofs.IndexLaws.{breaks_by}
 use Rattle.index_check.proofs.ListedLaws.{each_keeps}
-use Rattle.prop_store.proofs.Causes.{cause_passed}
+use Rattle.prop_store.proofs.Causes.{cause_passed, space_cause_passed}
 use Rattle.rec_bytes.proofs.Causes.{never_ok}
+use Rattle.prop_store.proofs.Exits.{space_exit}
+use Rattle.index_check.proofs.SoundExits.{sound_exit}
+use Rattle.index_check.specs.Values.{AreReadable}
 use Rattle.index_check.proofs.checking.check_definitions.Goals as goal
 
 pub returns-in-Some-clause-decided : goal.returns-in-Some-clause-decided
@@ -75,3 +78,26 @@ returns-in_err-damage-clause-onward g c = search rules
 
 pub returns-in_err-damage-2-clause-decided : goal.returns-in_err-damage-2-clause-decided
 returns-in_err-damage-2-clause-decided g c _ = never_ok c.from_residual-in_err-damage-2.result _ _ c.from_residual-in_err-damage-2.ensures.1
+
+pub returns-in_err-damage-clause-sound : goal.returns-in_err-damage-clause-sound
+returns-in_err-damage-clause-sound g c _ _ = space_exit c.from_residual.result c.in_err-damage.field-0.0 c.from_residual.ensures.1
+
+pub returns-in_err-damage-clause-same : goal.returns-in_err-damage-clause-same
+returns-in_err-damage-clause-same g c = c.in_err-damage.ensures.same
+
+pub returns-in_err-damage-clause-written : goal.returns-in_err-damage-clause-written
+returns-in_err-damage-clause-written g c = c.in_err-damage.ensures.written
+
+pub returns-in_err-damage-clause-cause : goal.returns-in_err-damage-clause-cause
+returns-in_err-damage-clause-cause g c =
+    space_cause_passed _ _ _ c.from_residual.result c.in_err-damage.field-0.0 (omega arith) c.in_err-damage.ensures.cause c.from_residual.ensures.1
+
+pub returns-in_err-damage-2-clause-sound : goal.returns-in_err-damage-2-clause-sound
+returns-in_err-damage-2-clause-sound g c tells readable =
+    sound_exit c.from_residual-in_err-damage-2.result c.in_err-damage-2.field-0.0 c.from_residual-in_err-damage-2.ensures.1 (c.in_err-damage-2.ensures.sound tells (subst AreReadable (sym (c.in_ok-damage.ensures.same)) readable))
+
+pub returns-in_err-damage-2-clause-same : goal.returns-in_err-damage-2-clause-same
+returns-in_err-damage-2-clause-same g c = c.in_err-damage-2.ensures.same ∙ c.in_ok-damage.ensures.same
+
+pub returns-in_err-damage-2-clause-written : goal.returns-in_err-damage-2-clause-written
+returns-in_err-damage-2-clause-written g c = c.in_err-damage-2.ensures.written ∙ c.in_ok-damage.ensures.written

@@ -1,4 +1,4 @@
-use Rattle.std.proofs.Common.{rules, arith, ◌≡◌, ◌<◌, ℕ, true, IfNone, IfSome, subst}
+use Rattle.std.proofs.Common.{rules, arith, ◌≡◌, ◌<◌, ℕ, true, IfNone, IfSome, subst, ◌∙◌}
 use Rattle.rec_bytes.specs.Format as format
 use Rattle.record_lists.specs.Marks.{marked}
 use Rattle.record_lists.proofs.Causes.{cause_passed}
@@ -63,3 +63,15 @@ returns-in_err-id-clause-right g c _ = never_ok c.from_residual-in_err-id.result
 
 pub returns-in_err-id-clause-broken : goal.returns-in_err-id-clause-broken
 returns-in_err-id-clause-broken g c _ = never_ok c.from_residual-in_err-id.result _ _ c.from_residual-in_err-id.ensures.1
+
+pub returns-in_err-damage-clause-same : goal.returns-in_err-damage-clause-same
+returns-in_err-damage-clause-same g c = c.in_err-damage.ensures.same
+
+pub returns-in_err-damage-clause-written : goal.returns-in_err-damage-clause-written
+returns-in_err-damage-clause-written g c = c.in_err-damage.ensures.written
+
+pub returns-in_err-id-clause-same : goal.returns-in_err-id-clause-same
+returns-in_err-id-clause-same g c = c.in_err-id.ensures.same ∙ c.in_ok-damage.ensures.same
+
+pub returns-in_err-id-clause-written : goal.returns-in_err-id-clause-written
+returns-in_err-id-clause-written g c = c.in_err-id.ensures.written ∙ c.in_ok-damage.ensures.written

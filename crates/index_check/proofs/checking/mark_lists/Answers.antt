@@ -139,3 +139,21 @@ returns-in_err-id-2-clause-right g c _ = never_ok c.from_residual-in_err-id-2.re
 
 pub returns-in_err-id-2-clause-broken : goal.returns-in_err-id-2-clause-broken
 returns-in_err-id-2-clause-broken g c _ = never_ok c.from_residual-in_err-id-2.result _ _ c.from_residual-in_err-id-2.ensures.1
+
+pub returns-in_err-id-clause-len : goal.returns-in_err-id-clause-len
+returns-in_err-id-clause-len g c = c.in_err-id.ensures.len
+
+pub returns-in_err-id-clause-same : goal.returns-in_err-id-clause-same
+returns-in_err-id-clause-same g c = c.in_err-id.ensures.same
+
+pub returns-in_err-id-clause-written : goal.returns-in_err-id-clause-written
+returns-in_err-id-clause-written g c = c.in_err-id.ensures.written
+
+pub returns-in_err-id-2-clause-len : goal.returns-in_err-id-2-clause-len
+returns-in_err-id-2-clause-len g c = c.in_err-id-2.ensures.len ∙ c.in_ok-id.ensures.len
+
+pub returns-in_err-id-2-clause-same : goal.returns-in_err-id-2-clause-same
+returns-in_err-id-2-clause-same g c = c.in_err-id-2.ensures.same ∙ c.in_ok-id.ensures.same
+
+pub returns-in_err-id-2-clause-written : goal.returns-in_err-id-2-clause-written
+returns-in_err-id-2-clause-written g c = c.in_err-id-2.ensures.written ∙ c.in_ok-id.ensures.written

@@ -1,4 +1,4 @@
-use Rattle.std.proofs.Common.{rules, ◌≡◌, ◌∙◌, ℕ, List, subst}
+use Rattle.std.proofs.Common.{rules, ◌≡◌, ◌∙◌, ℕ, List, subst, arith, sym}
 use Rattle.rec_bytes.specs.Format as format
 use Rattle.store_rules.specs.Views.{Records}
 use Rattle.index_check.specs.Entries.{AreEntriesTo, LacksBucket}
@@ -7,8 +7,11 @@ use Rattle.index_check.specs.declared.definitions.Definition.{Definition}
 use Rattle.index_check.specs.declared.nodes.Entered.{Entered}
 use Rattle.index_check.specs.declared.nodes.Entered.TheVariants.{Nodes, Unwanted}
 use Rattle.index_check.proofs.IndexLaws.{breaks_by, lacks_breaks, right_of, unwanted_breaks, wrong_breaks}
-use Rattle.prop_store.proofs.Causes.{cause_passed, later_on}
+use Rattle.prop_store.proofs.Causes.{cause_passed, later_on, space_cause_passed}
 use Rattle.rec_bytes.proofs.Causes.{never_ok}
+use Rattle.prop_store.proofs.Exits.{space_exit}
+use Rattle.index_check.proofs.SoundExits.{sound_exit}
+use Rattle.index_check.specs.Values.{AreReadable}
 use Rattle.index_check.proofs.index.check_index.Goals as goal
 
 pub returns-in_default-clause-broken : goal.returns-in_default-clause-broken
@@ -121,3 +124,36 @@ returns-in_err-node-in-Nodes-clause-right g c _ = never_ok c.from_residual-in_er
 
 pub returns-in_err-node-in-Nodes-clause-broken : goal.returns-in_err-node-in-Nodes-clause-broken
 returns-in_err-node-in-Nodes-clause-broken g c _ = never_ok c.from_residual-in_err-node-in-Nodes.result _ _ c.from_residual-in_err-node-in-Nodes.ensures.1
+
+pub returns-in_err-entries-clause-sound : goal.returns-in_err-entries-clause-sound
+returns-in_err-entries-clause-sound g c _ _ = space_exit c.from_residual.result c.in_err-entries.field-0.0 c.from_residual.ensures.1
+
+pub returns-in_err-entries-clause-same : goal.returns-in_err-entries-clause-same
+returns-in_err-entries-clause-same g c = c.in_err-entries.ensures.same
+
+pub returns-in_err-entries-clause-written : goal.returns-in_err-entries-clause-written
+returns-in_err-entries-clause-written g c = c.in_err-entries.ensures.written
+
+pub returns-in_err-entries-clause-cause : goal.returns-in_err-entries-clause-cause
+returns-in_err-entries-clause-cause g c =
+    space_cause_passed _ _ _ c.from_residual.result c.in_err-entries.field-0.0 (omega arith) c.in_err-entries.ensures.cause c.from_residual.ensures.1
+
+pub returns-in_err-id-clause-sound : goal.returns-in_err-id-clause-sound
+returns-in_err-id-clause-sound g c tells readable =
+    sound_exit c.from_residual-in_err-id.result c.in_err-id.field-0.0 c.from_residual-in_err-id.ensures.1 (c.in_err-id.ensures.sound tells (subst AreReadable (sym (c.in_ok-entries.ensures.same)) readable))
+
+pub returns-in_err-id-clause-same : goal.returns-in_err-id-clause-same
+returns-in_err-id-clause-same g c = c.in_err-id.ensures.same ∙ c.in_ok-entries.ensures.same
+
+pub returns-in_err-id-clause-written : goal.returns-in_err-id-clause-written
+returns-in_err-id-clause-written g c = c.in_err-id.ensures.written ∙ c.in_ok-entries.ensures.written
+
+pub returns-in_err-node-in-Nodes-clause-sound : goal.returns-in_err-node-in-Nodes-clause-sound
+returns-in_err-node-in-Nodes-clause-sound g c tells readable =
+    sound_exit c.from_residual-in_err-node-in-Nodes.result c.in_err-node-in-Nodes.field-0.0 c.from_residual-in_err-node-in-Nodes.ensures.1 (c.in_err-node-in-Nodes.ensures.sound tells (subst AreReadable (sym (c.in_ok-id.ensures.same ∙ c.in_ok-entries.ensures.same)) readable))
+
+pub returns-in_err-node-in-Nodes-clause-same : goal.returns-in_err-node-in-Nodes-clause-same
+returns-in_err-node-in-Nodes-clause-same g c = c.in_err-node-in-Nodes.ensures.same ∙ c.in_ok-id.ensures.same ∙ c.in_ok-entries.ensures.same
+
+pub returns-in_err-node-in-Nodes-clause-written : goal.returns-in_err-node-in-Nodes-clause-written
+returns-in_err-node-in-Nodes-clause-written g c = c.in_err-node-in-Nodes.ensures.written ∙ c.in_ok-id.ensures.written ∙ c.in_ok-entries.ensures.written

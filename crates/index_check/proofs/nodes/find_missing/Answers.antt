@@ -12,6 +12,7 @@ use Rattle.index_check.specs.Values.{AreReadable}
 use Rattle.index_check.specs.declared.definitions.Definition.{Definition}
 use Rattle.index_check.proofs.SoundExits.{sound_exit}
 use Rattle.index_check.proofs.ValueLaws.{value_low}
+use Rattle.rec_bytes.proofs.Causes.{never_ok}
 use Rattle.index_check.proofs.nodes.find_missing.Goals as goal
 
 -- a node that isn't missing is met, if it has a value
@@ -79,3 +80,9 @@ returns-in_err-is_missing-clause-same g c = c.in_err-is_missing.ensures.same ∙
 
 pub returns-in_err-is_missing-clause-written : goal.returns-in_err-is_missing-clause-written
 returns-in_err-is_missing-clause-written g c = c.in_err-is_missing.ensures.written ∙ c.loop-node.invariant.written
+
+pub returns-in_err-is_missing-clause-none : goal.returns-in_err-is_missing-clause-none
+returns-in_err-is_missing-clause-none g c _ = never_ok c.from_residual.result _ _ c.from_residual.ensures.1
+
+pub returns-in_err-is_missing-clause-found : goal.returns-in_err-is_missing-clause-found
+returns-in_err-is_missing-clause-found g c _ = never_ok c.from_residual.result _ _ c.from_residual.ensures.1

@@ -1,4 +1,4 @@
-use Rattle.std.proofs.Common.{◌≡◌, ◌∙◌, ℕ, Option, None, Some, false, Bool, sym, subst, refl, rules}
+use Rattle.std.proofs.Common.{◌≡◌, ◌∙◌, ℕ, Option, None, Some, false, Bool, sym, subst, refl, rules, arith}
 use Rattle.std.specs.Prelude.{is_some}
 use Rattle.std.specs.Bool.{Decides}
 use Rattle.std.proofs.lemmas.Bool.{true≢false}
@@ -8,6 +8,8 @@ use Rattle.store_rules.specs.Views.{Records}
 use Rattle.index_check.specs.Nodes.{IsMissing}
 use Rattle.index_check.specs.declared.definitions.Definition.{Definition}
 use Rattle.rec_bytes.proofs.Causes.{never_ok}
+use Rattle.prop_store.proofs.Causes.{cause_passed}
+use Rattle.index_check.proofs.SoundExits.{sound_exit}
 use Rattle.index_check.proofs.nodes.is_missing.Goals as goal
 
 -- a value that was read, or none
@@ -29,3 +31,17 @@ returns-in_err-value-clause-told g c _ = never_ok c.from_residual.result _ _ c.f
 
 pub returns-in_err-value-clause-onward : goal.returns-in_err-value-clause-onward
 returns-in_err-value-clause-onward g c = search rules
+
+pub returns-in_err-value-clause-sound : goal.returns-in_err-value-clause-sound
+returns-in_err-value-clause-sound g c tells readable =
+    sound_exit c.from_residual.result c.in_err-value.field-0.0 c.from_residual.ensures.1 (c.in_err-value.ensures.sound tells readable)
+
+pub returns-in_err-value-clause-same : goal.returns-in_err-value-clause-same
+returns-in_err-value-clause-same g c = c.in_err-value.ensures.same
+
+pub returns-in_err-value-clause-written : goal.returns-in_err-value-clause-written
+returns-in_err-value-clause-written g c = c.in_err-value.ensures.written
+
+pub returns-in_err-value-clause-cause : goal.returns-in_err-value-clause-cause
+returns-in_err-value-clause-cause g c =
+    cause_passed _ _ _ c.from_residual.result c.in_err-value.field-0.0 (omega arith) c.in_err-value.ensures.cause c.from_residual.ensures.1

@@ -1,4 +1,4 @@
-use Rattle.std.proofs.Common.{arith, ◌≡◌, ◌∙◌, ℕ, Option, ap, sym, rules}
+use Rattle.std.proofs.Common.{arith, ◌≡◌, ◌∙◌, ℕ, Option, ap, sym, rules, subst}
 use Rattle.plain_graph.specs.declared.value.Value.{Value}
 use Rattle.rec_bytes.specs.Format as format
 use Rattle.rec_bytes.specs.Record.{field}
@@ -10,6 +10,9 @@ use Rattle.store_rules.specs.Views.{Records}
 use Rattle.index_check.specs.Nodes.{said_by}
 use Rattle.index_check.specs.declared.definitions.Definition.{Definition}
 use Rattle.rec_bytes.proofs.Causes.{never_ok}
+use Rattle.prop_store.proofs.Exits.{space_exit}
+use Rattle.index_check.proofs.SoundExits.{sound_exit}
+use Rattle.index_check.specs.Values.{AreReadable}
 use Rattle.index_check.proofs.nodes.node_of.Goals as goal
 
 -- what was tested is whether the entry is wanted
@@ -77,3 +80,22 @@ returns-in_err-value-clause-unwanted g c _ = never_ok c.from_residual-in_err-val
 
 pub returns-in_err-value-clause-low : goal.returns-in_err-value-clause-low
 returns-in_err-value-clause-low g c = never_ok c.from_residual-in_err-value.result _ _ c.from_residual-in_err-value.ensures.1
+
+pub returns-in_err-rec-clause-sound : goal.returns-in_err-rec-clause-sound
+returns-in_err-rec-clause-sound g c _ _ = space_exit c.from_residual.result c.in_err-rec.field-0.0 c.from_residual.ensures.1
+
+pub returns-in_err-rec-clause-same : goal.returns-in_err-rec-clause-same
+returns-in_err-rec-clause-same g c = ap (λ (s : State). s.records) c.in_err-rec.ensures.state
+
+pub returns-in_err-rec-clause-written : goal.returns-in_err-rec-clause-written
+returns-in_err-rec-clause-written g c = ap (λ (s : State). s.written) c.in_err-rec.ensures.state
+
+pub returns-in_err-value-clause-sound : goal.returns-in_err-value-clause-sound
+returns-in_err-value-clause-sound g c tells readable =
+    sound_exit c.from_residual-in_err-value.result c.in_err-value.field-0.0 c.from_residual-in_err-value.ensures.1 (c.in_err-value.ensures.sound tells (subst AreReadable (sym (ap (λ (s : State). s.records) c.in_ok-rec.ensures.state)) readable))
+
+pub returns-in_err-value-clause-same : goal.returns-in_err-value-clause-same
+returns-in_err-value-clause-same g c = c.in_err-value.ensures.same ∙ ap (λ (s : State). s.records) c.in_ok-rec.ensures.state
+
+pub returns-in_err-value-clause-written : goal.returns-in_err-value-clause-written
+returns-in_err-value-clause-written g c = c.in_err-value.ensures.written ∙ ap (λ (s : State). s.written) c.in_ok-rec.ensures.state

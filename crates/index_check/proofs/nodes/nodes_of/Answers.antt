@@ -13,6 +13,7 @@ use Rattle.index_check.specs.Values.{AreReadable}
 use Rattle.index_check.proofs.PlaceLaws.{in_place}
 use Rattle.index_check.proofs.SoundExits.{sound_exit}
 use Rattle.rec_bytes.proofs.Causes.{never_ok}
+use Rattle.prop_store.proofs.Exits.{same_has}
 use Rattle.index_check.proofs.nodes.nodes_of.Goals as goal
 
 -- what holds of the first ones, and of the next
@@ -126,3 +127,12 @@ returns-in_err-push-in-Some-clause-told g c _ = never_ok c.from_residual-in_err-
 
 pub returns-in_err-push-in-Some-clause-low : goal.returns-in_err-push-in-Some-clause-low
 returns-in_err-push-in-Some-clause-low g c = never_ok c.from_residual-in_err-push-in-Some.result _ _ c.from_residual-in_err-push-in-Some.ensures.1
+
+pub returns-in_err-push-in-Some-clause-sound : goal.returns-in_err-push-in-Some-clause-sound
+returns-in_err-push-in-Some-clause-sound g c _ _ = same_has _ c.from_residual-in_err-push-in-Some.result _ c.from_residual-in_err-push-in-Some.ensures.1 tt
+
+pub returns-in_err-push-in-Some-clause-same : goal.returns-in_err-push-in-Some-clause-same
+returns-in_err-push-in-Some-clause-same g c = c.in_ok-node.ensures.same ∙ c.loop-id.invariant.same
+
+pub returns-in_err-push-in-Some-clause-written : goal.returns-in_err-push-in-Some-clause-written
+returns-in_err-push-in-Some-clause-written g c = c.in_ok-node.ensures.written ∙ c.loop-id.invariant.written

@@ -16,6 +16,7 @@ use Rattle.store_rules.proofs.ViewLaws.{kind_high}
 use Rattle.index_check.proofs.SoundExits.{sound_exit}
 use Rattle.index_check.proofs.ValueLaws.{value_free, value_met, value_other}
 use Rattle.rec_bytes.proofs.Causes.{never_ok}
+use Rattle.prop_store.proofs.Exits.{space_exit}
 use Rattle.index_check.proofs.values.value_at.Goals as goal
 
 pub returns-then-node-meta-clause-is : goal.returns-then-node-meta-clause-is
@@ -106,3 +107,12 @@ returns-in_err-value-clause-is g c _ = never_ok c.from_residual-in_err-value.res
 
 pub returns-in_err-value-clause-low : goal.returns-in_err-value-clause-low
 returns-in_err-value-clause-low g c = never_ok c.from_residual-in_err-value.result _ _ c.from_residual-in_err-value.ensures.1
+
+pub returns-in_err-rec-clause-sound : goal.returns-in_err-rec-clause-sound
+returns-in_err-rec-clause-sound g c _ _ = space_exit c.from_residual.result c.in_err-rec.field-0.0 c.from_residual.ensures.1
+
+pub returns-in_err-rec-clause-same : goal.returns-in_err-rec-clause-same
+returns-in_err-rec-clause-same g c = ap (λ (s : State). s.records) c.in_err-rec.ensures.state
+
+pub returns-in_err-rec-clause-written : goal.returns-in_err-rec-clause-written
+returns-in_err-rec-clause-written g c = ap (λ (s : State). s.written) c.in_err-rec.ensures.state

@@ -1,4 +1,4 @@
-use Rattle.std.proofs.Common.{List, Option, ap, false, rules, subst, sym, ℕ, ◌∙◌}
+use Rattle.std.proofs.Common.{List, Option, ap, false, rules, subst, sym, ℕ, ◌∙◌, arith}
 use Rattle.std.specs.Bool.{IsTrue, OnFalse, OnTrue}
 use Rattle.std.specs.Prelude.{◌↔◌}
 use Rattle.std.proofs.lemmas.Bool.{OnFalse_at, OnTrue_at}
@@ -11,8 +11,10 @@ use Rattle.path_find.specs.Checking.{AllSpread, AreDistinct, HaveEnds, IsWalkOrN
 use Rattle.path_find.specs.Reads.{adjacency_of, neighbours_at}
 use Rattle.path_find.proofs.CheckLaws.{is_certified, not_certified, proves_shortest}
 use Rattle.path_find.proofs.NeighbourLaws.{neighbours_are}
-use Rattle.path_find.proofs.OnlyReads.{broken-read, is_read-on, same-read, store-read}
-use Rattle.path_find.proofs.Causes.{cause_passed}
+use Rattle.path_find.proofs.OnlyReads.{broken-read, is_read-on, same-read, store-read, is_read-none}
+use Rattle.chain_edit.proofs.Causes.{same_has}
+use Rattle.path_find.proofs.Causes.{cause_passed, memory_cause}
+use Rattle.rec_bytes.proofs.Causes.{never_ok}
 use Rattle.path_find.proofs.checking.check_levels.Goals as goal
 
 pub returns-then-not-leads-clause-decides : goal.returns-then-not-leads-clause-decides
@@ -113,3 +115,39 @@ returns-then-not-leads-clause-proves g c = λ tells store types stand.
     let near = adjacency_of (g.R.Reads.state c.args.reads.now) c.args.direction types in
     proves_shortest near c.args.answer.now.levels c.args.from c.args.to c.args.answer.now.walk false
     (returns-then-not-leads-clause-decides g c tells store types stand)
+
+pub returns-in_err-found-clause-decides : goal.returns-in_err-found-clause-decides
+returns-in_err-found-clause-decides g c _ _ _ _ = never_ok c.from_residual.result _ _ c.from_residual.ensures.1
+
+pub returns-in_err-leads-clause-decides : goal.returns-in_err-leads-clause-decides
+returns-in_err-leads-clause-decides g c _ _ _ _ = never_ok c.from_residual-in_err-leads.result _ _ c.from_residual-in_err-leads.ensures.1
+
+pub returns-in_err-found-clause-proves : goal.returns-in_err-found-clause-proves
+returns-in_err-found-clause-proves g c _ _ _ _ = never_ok c.from_residual.result _ _ c.from_residual.ensures.1
+
+pub returns-in_err-leads-clause-proves : goal.returns-in_err-leads-clause-proves
+returns-in_err-leads-clause-proves g c _ _ _ _ = never_ok c.from_residual-in_err-leads.result _ _ c.from_residual-in_err-leads.ensures.1
+
+pub returns-in_err-all-clause-decides : goal.returns-in_err-all-clause-decides
+returns-in_err-all-clause-decides g c _ _ _ _ = never_ok c.from_residual-in_err-all.result _ _ c.from_residual-in_err-all.ensures.1
+
+pub returns-in_err-found-clause-damaged : goal.returns-in_err-found-clause-damaged
+returns-in_err-found-clause-damaged g c _ = same_has _ c.from_residual.result _ c.from_residual.ensures.1 tt
+
+pub returns-in_err-found-clause-read : goal.returns-in_err-found-clause-read
+returns-in_err-found-clause-read g c = is_read-none g.R.Reads g.met.R.Reads.stays_onward c.args.reads.now
+
+pub returns-in_err-found-clause-cause : goal.returns-in_err-found-clause-cause
+returns-in_err-found-clause-cause g c =
+    memory_cause _ _ c.from_residual.result (omega arith) c.from_residual.ensures.1
+
+pub returns-in_err-leads-clause-damaged : goal.returns-in_err-leads-clause-damaged
+returns-in_err-leads-clause-damaged g c tells =
+    same_has _ c.from_residual-in_err-leads.result _ c.from_residual-in_err-leads.ensures.1 (c.in_err-leads.ensures.damaged tells)
+
+pub returns-in_err-leads-clause-read : goal.returns-in_err-leads-clause-read
+returns-in_err-leads-clause-read g c = c.is_walk.ensures.read
+
+pub returns-in_err-leads-clause-cause : goal.returns-in_err-leads-clause-cause
+returns-in_err-leads-clause-cause g c =
+    cause_passed _ _ _ c.from_residual-in_err-leads.result c.in_err-leads.field-0.0 (omega arith) c.in_err-leads.ensures.cause c.from_residual-in_err-leads.ensures.1

@@ -1,4 +1,4 @@
-use Rattle.std.proofs.Common.{ℕ, List, sym, subst, ◌∙◌}
+use Rattle.std.proofs.Common.{ℕ, List, sym, subst, ◌∙◌, arith}
 use Rattle.std.proofs.lemmas.Bool.{OnFalse_at, OnFalse_from, OnTrue_at, OnTrue_from, false≢true}
 use Rattle.path_find.specs.Checking.{AreIn, IsSpreadAt}
 use Rattle.path_find.specs.Reads.{neighbours_at}
@@ -6,6 +6,8 @@ use Rattle.std.proofs.lemmas.Result.{err_from_is_err_and}
 use Rattle.path_find.proofs.Answered.{load_fault}
 use Rattle.path_find.proofs.CheckLaws.{inner_fails, inner_spreads, last_spreads, past_fails}
 use Rattle.rec_bytes.proofs.Causes.{never_ok}
+use Rattle.chain_edit.proofs.Causes.{same_has}
+use Rattle.path_find.proofs.Causes.{cause_passed, row_passed}
 use Rattle.path_find.proofs.checking.is_spread.Goals as goal
 
 pub returns-then-is_past-clause-no : goal.returns-then-is_past-clause-no
@@ -58,3 +60,21 @@ returns-in_err-found-clause-yes g c _ _ = never_ok c.from_residual-in_err-found.
 
 pub returns-in_err-found-clause-no : goal.returns-in_err-found-clause-no
 returns-in_err-found-clause-no g c _ _ = never_ok c.from_residual-in_err-found.result _ _ c.from_residual-in_err-found.ensures.1
+
+pub returns-in_err-found-clause-damaged : goal.returns-in_err-found-clause-damaged
+returns-in_err-found-clause-damaged g c tells =
+    same_has _ c.from_residual-in_err-found.result _ c.from_residual-in_err-found.ensures.1 (c.in_err-found.ensures.damaged tells)
+
+pub returns-in_err-found-clause-read : goal.returns-in_err-found-clause-read
+returns-in_err-found-clause-read g c = c.neighbours.ensures.read
+
+pub returns-in_err-found-clause-cause : goal.returns-in_err-found-clause-cause
+returns-in_err-found-clause-cause g c =
+    cause_passed _ _ _ c.from_residual-in_err-found.result c.in_err-found.field-0.0 (omega arith) c.in_err-found.ensures.cause c.from_residual-in_err-found.ensures.1
+
+pub returns-in_err-there-clause-read : goal.returns-in_err-there-clause-read
+returns-in_err-there-clause-read g c = c.is_node.ensures.read
+
+pub returns-in_err-there-clause-cause : goal.returns-in_err-there-clause-cause
+returns-in_err-there-clause-cause g c =
+    row_passed _ _ _ c.from_residual.result c.in_err-there.field-0.0 (omega arith) c.in_err-there.ensures.cause c.from_residual.ensures.1

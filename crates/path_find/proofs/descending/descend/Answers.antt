@@ -8,7 +8,9 @@ use Rattle.path_find.specs.Reads.{neighbours_at}
 use Rattle.path_find.specs.Tree.{node_at}
 use Rattle.path_find.proofs.Descents.{descent_on}
 use Rattle.path_find.proofs.OnlyReads.{broken-read, is_read-none, is_read-on, same-read, store-read}
+use Rattle.chain_edit.proofs.Causes.{same_has}
 use Rattle.path_find.proofs.Causes.{cause_passed, later_on, memory_cause}
+use Rattle.rec_bytes.proofs.Causes.{never_ok}
 use Rattle.path_find.proofs.descending.descend.Goals as goal
 
 pub returns-in_err-next-clause-damaged : goal.returns-in_err-next-clause-damaged
@@ -83,3 +85,18 @@ pub returns-in_err-push-clause-cause : goal.returns-in_err-push-clause-cause
 returns-in_err-push-clause-cause g c =
     memory_cause _ _ c.from_residual-in_err-push.result (later_on c.loop-level.invariant.read.later c.in_ok-next.ensures.cause.later)
     c.from_residual-in_err-push.ensures.1
+
+pub returns-in_err-next-clause-descends : goal.returns-in_err-next-clause-descends
+returns-in_err-next-clause-descends g c _ _ _ = never_ok c.from_residual.result _ _ c.from_residual.ensures.1
+
+pub returns-in_err-next-clause-long : goal.returns-in_err-next-clause-long
+returns-in_err-next-clause-long g c _ _ _ = never_ok c.from_residual.result _ _ c.from_residual.ensures.1
+
+pub returns-in_err-push-clause-descends : goal.returns-in_err-push-clause-descends
+returns-in_err-push-clause-descends g c _ _ _ = never_ok c.from_residual-in_err-push.result _ _ c.from_residual-in_err-push.ensures.1
+
+pub returns-in_err-push-clause-long : goal.returns-in_err-push-clause-long
+returns-in_err-push-clause-long g c _ _ _ = never_ok c.from_residual-in_err-push.result _ _ c.from_residual-in_err-push.ensures.1
+
+pub returns-in_err-push-clause-damaged : goal.returns-in_err-push-clause-damaged
+returns-in_err-push-clause-damaged g c _ = same_has _ c.from_residual-in_err-push.result _ c.from_residual-in_err-push.ensures.1 tt

@@ -1,4 +1,4 @@
-use Rattle.std.proofs.Common.{◌≡◌, None, inl, inr, refl, sym, subst, ◌∙◌}
+use Rattle.std.proofs.Common.{◌≡◌, None, inl, inr, refl, sym, subst, ◌∙◌, arith}
 use Rattle.std.proofs.lemmas.Bool.{OnFalse_at}
 use Rattle.std.proofs.lemmas.Result.{err_from_is_err_and}
 use Rattle.rec_bytes.specs.Space.{State}
@@ -13,7 +13,10 @@ use Rattle.expand.specs.Expanding.{graph_in}
 use Rattle.path_find.proofs.Answered.{answered, closed_graph, ends_there, node_fault, search_fault, search_tells}
 use Rattle.path_find.proofs.Certified.{certified_answer, shortest_or_none}
 use Rattle.path_find.proofs.OnlyReads.{is_read-on, same-read, store-read}
-use Rattle.path_find.proofs.Causes.{expand_cause_passed, expand_memory_cause, later_on, row_cause_passed}
+use Rattle.chain_edit.proofs.Causes.{same_has}
+use Rattle.expand.proofs.Causes.{expand_cause_passed, expand_memory_cause, row_cause_passed}
+use Rattle.path_find.proofs.Causes.{later_on}
+use Rattle.rec_bytes.proofs.Causes.{never_ok}
 use Rattle.path_find.proofs.finding.find_path.Goals as goal
 
 pub returns-in_err-from_there-clause-damaged : goal.returns-in_err-from_there-clause-damaged
@@ -117,3 +120,57 @@ returns-in_err-tree-clause-cause g c =
 pub returns-in_err-answer-clause-cause : goal.returns-in_err-answer-clause-cause
 returns-in_err-answer-clause-cause g c =
     expand_memory_cause _ _ c.from_residual-in_err-answer.result (later_on (later_on c.in_ok-from_there.ensures.cause.later c.in_ok-to_there.ensures.cause.later) c.in_ok-tree.ensures.cause.later) c.from_residual-in_err-answer.ensures.1
+
+pub returns-in_err-from_there-clause-found : goal.returns-in_err-from_there-clause-found
+returns-in_err-from_there-clause-found g c _ _ _ _ = never_ok c.from_residual.result _ _ c.from_residual.ensures.1
+
+pub returns-in_err-from_there-clause-shortest : goal.returns-in_err-from_there-clause-shortest
+returns-in_err-from_there-clause-shortest g c _ _ _ _ = never_ok c.from_residual.result _ _ c.from_residual.ensures.1
+
+pub returns-in_err-from_there-clause-certified : goal.returns-in_err-from_there-clause-certified
+returns-in_err-from_there-clause-certified g c _ _ _ _ = never_ok c.from_residual.result _ _ c.from_residual.ensures.1
+
+pub returns-in_err-to_there-clause-found : goal.returns-in_err-to_there-clause-found
+returns-in_err-to_there-clause-found g c _ _ _ _ = never_ok c.from_residual-in_err-to_there.result _ _ c.from_residual-in_err-to_there.ensures.1
+
+pub returns-in_err-to_there-clause-shortest : goal.returns-in_err-to_there-clause-shortest
+returns-in_err-to_there-clause-shortest g c _ _ _ _ = never_ok c.from_residual-in_err-to_there.result _ _ c.from_residual-in_err-to_there.ensures.1
+
+pub returns-in_err-to_there-clause-certified : goal.returns-in_err-to_there-clause-certified
+returns-in_err-to_there-clause-certified g c _ _ _ _ = never_ok c.from_residual-in_err-to_there.result _ _ c.from_residual-in_err-to_there.ensures.1
+
+pub returns-in_err-tree-clause-found : goal.returns-in_err-tree-clause-found
+returns-in_err-tree-clause-found g c _ _ _ _ = never_ok c.from_residual-in_err-tree.result _ _ c.from_residual-in_err-tree.ensures.1
+
+pub returns-in_err-tree-clause-shortest : goal.returns-in_err-tree-clause-shortest
+returns-in_err-tree-clause-shortest g c _ _ _ _ = never_ok c.from_residual-in_err-tree.result _ _ c.from_residual-in_err-tree.ensures.1
+
+pub returns-in_err-tree-clause-certified : goal.returns-in_err-tree-clause-certified
+returns-in_err-tree-clause-certified g c _ _ _ _ = never_ok c.from_residual-in_err-tree.result _ _ c.from_residual-in_err-tree.ensures.1
+
+pub returns-in_err-answer-clause-found : goal.returns-in_err-answer-clause-found
+returns-in_err-answer-clause-found g c _ _ _ _ = never_ok c.from_residual-in_err-answer.result _ _ c.from_residual-in_err-answer.ensures.1
+
+pub returns-in_err-answer-clause-shortest : goal.returns-in_err-answer-clause-shortest
+returns-in_err-answer-clause-shortest g c _ _ _ _ = never_ok c.from_residual-in_err-answer.result _ _ c.from_residual-in_err-answer.ensures.1
+
+pub returns-in_err-answer-clause-certified : goal.returns-in_err-answer-clause-certified
+returns-in_err-answer-clause-certified g c _ _ _ _ = never_ok c.from_residual-in_err-answer.result _ _ c.from_residual-in_err-answer.ensures.1
+
+pub returns-in_err-from_there-clause-cause : goal.returns-in_err-from_there-clause-cause
+returns-in_err-from_there-clause-cause g c =
+    row_cause_passed _ _ _ c.from_residual.result c.in_err-from_there.field-0.0 (omega arith) c.in_err-from_there.ensures.cause c.from_residual.ensures.1
+
+pub returns-in_err-from_there-clause-read : goal.returns-in_err-from_there-clause-read
+returns-in_err-from_there-clause-read g c = c.is_node.ensures.read
+
+pub returns-in_err-to_there-clause-read : goal.returns-in_err-to_there-clause-read
+returns-in_err-to_there-clause-read g c =
+    is_read-on g.R.Reads g.met.R.Reads.further_onward _ _ _ c.is_node.ensures.read c.is_node-2.ensures.read
+
+pub returns-in_err-tree-clause-read : goal.returns-in_err-tree-clause-read
+returns-in_err-tree-clause-read g c =
+    is_read-on g.R.Reads g.met.R.Reads.further_onward _ _ _ (is_read-on g.R.Reads g.met.R.Reads.further_onward _ _ _ c.is_node.ensures.read c.is_node-2.ensures.read) c.search.ensures.read
+
+pub returns-in_err-answer-clause-damaged : goal.returns-in_err-answer-clause-damaged
+returns-in_err-answer-clause-damaged g c _ = same_has _ c.from_residual-in_err-answer.result _ c.from_residual-in_err-answer.ensures.1 tt

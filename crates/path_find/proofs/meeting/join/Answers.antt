@@ -2,6 +2,9 @@ use Rattle.std.proofs.Common.{◌++◌, ℕ, List, ap, ◌∙◌, arith}
 use Rattle.path_find.specs.Meeting.{AreApartFrom}
 use Rattle.path_find.specs.Tree.{row_count}
 use Rattle.rec_bytes.proofs.Causes.{never_ok, ok_cause}
+use Rattle.chain_edit.proofs.Causes.{same_has}
+use Rattle.path_find.proofs.Causes.{cause_passed, memory_cause}
+use Rattle.path_find.proofs.OnlyReads.{is_read-none}
 use Rattle.path_find.proofs.meeting.join.Goals as goal
 
 pub returns-clause-joins : goal.returns-clause-joins
@@ -36,3 +39,34 @@ returns-in_err-append-clause-joins g c _ _ = never_ok c.from_residual-in_err-app
 
 pub returns-clause-cause : goal.returns-clause-cause
 returns-clause-cause g c = ok_cause _ _ _ _ (omega arith)
+
+pub returns-in_err-walk-clause-damaged : goal.returns-in_err-walk-clause-damaged
+returns-in_err-walk-clause-damaged g c _ = same_has _ c.from_residual.result _ c.from_residual.ensures.1 tt
+
+pub returns-in_err-walk-clause-read : goal.returns-in_err-walk-clause-read
+returns-in_err-walk-clause-read g c = is_read-none g.R.Reads g.met.R.Reads.stays_onward c.args.space.now
+
+pub returns-in_err-walk-clause-cause : goal.returns-in_err-walk-clause-cause
+returns-in_err-walk-clause-cause g c =
+    memory_cause _ _ c.from_residual.result (omega arith) c.from_residual.ensures.1
+
+pub returns-in_err-way-clause-damaged : goal.returns-in_err-way-clause-damaged
+returns-in_err-way-clause-damaged g c tells =
+    same_has _ c.from_residual-in_err-way.result _ c.from_residual-in_err-way.ensures.1 (c.in_err-way.ensures.damaged tells)
+
+pub returns-in_err-way-clause-read : goal.returns-in_err-way-clause-read
+returns-in_err-way-clause-read g c = c.descend.ensures.read
+
+pub returns-in_err-way-clause-cause : goal.returns-in_err-way-clause-cause
+returns-in_err-way-clause-cause g c =
+    cause_passed _ _ _ c.from_residual-in_err-way.result c.in_err-way.field-0.0 (omega arith) c.in_err-way.ensures.cause c.from_residual-in_err-way.ensures.1
+
+pub returns-in_err-append-clause-damaged : goal.returns-in_err-append-clause-damaged
+returns-in_err-append-clause-damaged g c _ = same_has _ c.from_residual-in_err-append.result _ c.from_residual-in_err-append.ensures.1 tt
+
+pub returns-in_err-append-clause-read : goal.returns-in_err-append-clause-read
+returns-in_err-append-clause-read g c = c.descend.ensures.read
+
+pub returns-in_err-append-clause-cause : goal.returns-in_err-append-clause-cause
+returns-in_err-append-clause-cause g c =
+    memory_cause _ _ c.from_residual-in_err-append.result c.in_ok-way.ensures.cause.later c.from_residual-in_err-append.ensures.1

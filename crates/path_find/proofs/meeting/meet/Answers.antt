@@ -17,6 +17,9 @@ use Rattle.path_find.proofs.MeetSteps.{apart_start, met_start}
 use Rattle.path_find.proofs.OnlyReads.{broken-read, is_read-none, is_read-on, same-read, store-read}
 use Rattle.path_find.proofs.Opposites.{opposite, opposite_back}
 use Rattle.path_find.proofs.SearchSteps.{spans_begin}
+use Rattle.rec_bytes.proofs.Causes.{never_ok}
+use Rattle.chain_edit.proofs.Causes.{same_has}
+use Rattle.path_find.proofs.Causes.{cause_passed, memory_cause}
 use Rattle.path_find.proofs.meeting.meet.Goals as goal
 
 pub loop-has_met-init : goal.loop-has_met-init
@@ -169,3 +172,39 @@ returns-in_err-met-clause-cause g c =
           let rose = cause.disk (ap Err same) in
           omega (arith, early, rose);
     })
+
+pub returns-in_err-from_tree-clause-found : goal.returns-in_err-from_tree-clause-found
+returns-in_err-from_tree-clause-found g c _ _ _ _ = never_ok c.from_residual.result _ _ c.from_residual.ensures.1
+
+pub returns-in_err-from_tree-clause-damaged : goal.returns-in_err-from_tree-clause-damaged
+returns-in_err-from_tree-clause-damaged g c _ = same_has _ c.from_residual.result _ c.from_residual.ensures.1 tt
+
+pub returns-in_err-from_tree-clause-read : goal.returns-in_err-from_tree-clause-read
+returns-in_err-from_tree-clause-read g c = is_read-none g.R.Reads g.met.R.Reads.stays_onward c.args.space.now
+
+pub returns-in_err-from_tree-clause-cause : goal.returns-in_err-from_tree-clause-cause
+returns-in_err-from_tree-clause-cause g c =
+    memory_cause _ _ c.from_residual.result (omega arith) c.from_residual.ensures.1
+
+pub returns-in_err-to_tree-clause-found : goal.returns-in_err-to_tree-clause-found
+returns-in_err-to_tree-clause-found g c _ _ _ _ = never_ok c.from_residual-in_err-to_tree.result _ _ c.from_residual-in_err-to_tree.ensures.1
+
+pub returns-in_err-to_tree-clause-damaged : goal.returns-in_err-to_tree-clause-damaged
+returns-in_err-to_tree-clause-damaged g c _ = same_has _ c.from_residual-in_err-to_tree.result _ c.from_residual-in_err-to_tree.ensures.1 tt
+
+pub returns-in_err-to_tree-clause-read : goal.returns-in_err-to_tree-clause-read
+returns-in_err-to_tree-clause-read g c = is_read-none g.R.Reads g.met.R.Reads.stays_onward c.args.space.now
+
+pub returns-in_err-to_tree-clause-cause : goal.returns-in_err-to_tree-clause-cause
+returns-in_err-to_tree-clause-cause g c =
+    memory_cause _ _ c.from_residual-in_err-to_tree.result (omega arith) c.from_residual-in_err-to_tree.ensures.1
+
+pub returns-in_err-met-clause-found : goal.returns-in_err-met-clause-found
+returns-in_err-met-clause-found g c _ _ _ _ = never_ok c.from_residual-in_err-met.result _ _ c.from_residual-in_err-met.ensures.1
+
+pub returns-in_err-walk-clause-found : goal.returns-in_err-walk-clause-found
+returns-in_err-walk-clause-found g c _ _ _ _ = never_ok c.from_residual-in_err-walk.result _ _ c.from_residual-in_err-walk.ensures.1
+
+pub returns-in_err-walk-clause-cause : goal.returns-in_err-walk-clause-cause
+returns-in_err-walk-clause-cause g c =
+    cause_passed _ _ _ c.from_residual-in_err-walk.result c.in_err-walk.field-0.0 c.loop-has_met.invariant.read.later c.in_err-walk.ensures.cause c.from_residual-in_err-walk.ensures.1

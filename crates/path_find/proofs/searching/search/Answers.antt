@@ -1,6 +1,6 @@
 use Rattle.std.proofs.Common.{◌≡◌, ◌<◌, ◌+◌, true, false, sym, subst, ◌∙◌, arith}
 use Rattle.std.proofs.lemmas.Result.{err_from_is_err_and}
-use Rattle.path_find.proofs.OnlyReads.{broken-read, is_read-on, same-read, store-read}
+use Rattle.path_find.proofs.OnlyReads.{broken-read, is_read-on, same-read, store-read, is_read-none}
 use Rattle.path_find.specs.Tree.{node_at, row_count}
 use Rattle.path_find.proofs.SearchSteps.{searched_all, searched_near}
 use Rattle.plain_graph.specs.Graph.{has_node}
@@ -10,6 +10,7 @@ use Rattle.path_find.specs.Reads.{neighbours_at}
 use Rattle.path_find.specs.Search.{IsNarrow}
 use Rattle.path_find.specs.Tree.{AreNeighbours, IsTree, Rows, Spans}
 use Rattle.path_find.proofs.SearchSteps.{first_on, narrow_on, tree_past}
+use Rattle.chain_edit.proofs.Causes.{same_has}
 use Rattle.path_find.proofs.Causes.{cause_passed, later_on, memory_cause}
 use Rattle.rec_bytes.proofs.Causes.{never_ok, ok_cause}
 use Rattle.path_find.proofs.searching.search.Goals as goal
@@ -140,3 +141,16 @@ returns-in_err-spread-clause-spans g c _ _ _ = never_ok c.from_residual-in_err-s
 
 pub returns-clause-cause : goal.returns-clause-cause
 returns-clause-cause g c = ok_cause _ _ _ _ (omega arith)
+
+pub returns-in_err-tree-clause-damaged : goal.returns-in_err-tree-clause-damaged
+returns-in_err-tree-clause-damaged g c _ = same_has _ c.from_residual.result _ c.from_residual.ensures.1 tt
+
+pub returns-in_err-tree-clause-read : goal.returns-in_err-tree-clause-read
+returns-in_err-tree-clause-read g c = is_read-none g.R.Reads g.met.R.Reads.stays_onward c.args.space.now
+
+pub returns-in_err-tree-clause-cause : goal.returns-in_err-tree-clause-cause
+returns-in_err-tree-clause-cause g c =
+    memory_cause _ _ c.from_residual.result (omega arith) c.from_residual.ensures.1
+
+pub returns-in_err-spread-clause-damaged : goal.returns-in_err-spread-clause-damaged
+returns-in_err-spread-clause-damaged g c _ = same_has _ c.from_residual-in_err-spread.result _ c.from_residual-in_err-spread.ensures.1 tt

@@ -1,8 +1,10 @@
-use Rattle.std.proofs.Common.{ℕ, List, Contains, sym, subst, ◌∙◌}
+use Rattle.std.proofs.Common.{ℕ, List, Contains, sym, subst, ◌∙◌, arith}
 use Rattle.std.proofs.lemmas.Bool.{OnFalse_at, OnFalse_from, OnTrue_at, OnTrue_from, false≢true}
 use Rattle.path_find.specs.Checking.{IsStep}
 use Rattle.path_find.specs.Reads.{neighbours_at}
 use Rattle.rec_bytes.proofs.Causes.{never_ok}
+use Rattle.chain_edit.proofs.Causes.{same_has}
+use Rattle.path_find.proofs.Causes.{cause_passed}
 use Rattle.path_find.proofs.stepping.is_step.Goals as goal
 
 pub returns-in-Some-clause-yes : goal.returns-in-Some-clause-yes
@@ -31,3 +33,14 @@ returns-in_err-found-clause-yes g c _ _ = never_ok c.from_residual.result _ _ c.
 
 pub returns-in_err-found-clause-no : goal.returns-in_err-found-clause-no
 returns-in_err-found-clause-no g c _ _ = never_ok c.from_residual.result _ _ c.from_residual.ensures.1
+
+pub returns-in_err-found-clause-damaged : goal.returns-in_err-found-clause-damaged
+returns-in_err-found-clause-damaged g c tells =
+    same_has _ c.from_residual.result _ c.from_residual.ensures.1 (c.in_err-found.ensures.damaged tells)
+
+pub returns-in_err-found-clause-read : goal.returns-in_err-found-clause-read
+returns-in_err-found-clause-read g c = c.neighbours.ensures.read
+
+pub returns-in_err-found-clause-cause : goal.returns-in_err-found-clause-cause
+returns-in_err-found-clause-cause g c =
+    cause_passed _ _ _ c.from_residual.result c.in_err-found.field-0.0 (omega arith) c.in_err-found.ensures.cause c.from_residual.ensures.1

@@ -10,7 +10,8 @@ use Rattle.path_find.specs.Reads.{neighbours_at}
 use Rattle.path_find.proofs.Answered.{load_fault}
 use Rattle.path_find.proofs.CheckLaws.{last-from_walk, step-from_walk, walk-from_steps}
 use Rattle.path_find.proofs.OnlyReads.{broken-read, is_read-none, is_read-on, same-read, store-read}
-use Rattle.path_find.proofs.Causes.{cause_passed}
+use Rattle.path_find.proofs.Causes.{cause_passed, row_passed}
+use Rattle.rec_bytes.proofs.Causes.{never_ok}
 use Rattle.path_find.proofs.stepping.is_walk.Goals as goal
 
 -- a list that isn't empty
@@ -122,3 +123,19 @@ returns-in_err-there-clause-read g c =
 pub returns-clause-read : goal.returns-clause-read
 returns-clause-read g c =
     is_read-on g.R.Reads g.met.R.Reads.further_onward _ _ _ c.loop-row.invariant.read c.is_node.ensures.read
+
+pub returns-in_err-steps-clause-yes : goal.returns-in_err-steps-clause-yes
+returns-in_err-steps-clause-yes g c _ _ = never_ok c.from_residual.result _ _ c.from_residual.ensures.1
+
+pub returns-in_err-there-clause-yes : goal.returns-in_err-there-clause-yes
+returns-in_err-there-clause-yes g c _ _ = never_ok c.from_residual-in_err-there.result _ _ c.from_residual-in_err-there.ensures.1
+
+pub returns-in_err-steps-clause-no : goal.returns-in_err-steps-clause-no
+returns-in_err-steps-clause-no g c _ _ = never_ok c.from_residual.result _ _ c.from_residual.ensures.1
+
+pub returns-in_err-there-clause-no : goal.returns-in_err-there-clause-no
+returns-in_err-there-clause-no g c _ _ = never_ok c.from_residual-in_err-there.result _ _ c.from_residual-in_err-there.ensures.1
+
+pub returns-in_err-there-clause-cause : goal.returns-in_err-there-clause-cause
+returns-in_err-there-clause-cause g c =
+    row_passed _ _ _ c.from_residual-in_err-there.result c.in_err-there.field-0.0 c.loop-row.invariant.read.later c.in_err-there.ensures.cause c.from_residual-in_err-there.ensures.1

@@ -1,4 +1,4 @@
-use Rattle.std.proofs.Common.{◌≡◌, ℕ, List, None, inl, inr, refl, sym, subst}
+use Rattle.std.proofs.Common.{◌≡◌, ℕ, List, None, inl, inr, refl, sym, subst, arith}
 use Rattle.std.proofs.lemmas.Bool.{OnFalse_at}
 use Rattle.std.proofs.lemmas.Result.{err_from_is_err_and}
 use Rattle.rec_bytes.specs.Space.{State}
@@ -12,6 +12,9 @@ use Rattle.plain_graph.specs.Graph.{has_node}
 use Rattle.expand.specs.Expanding.{graph_in}
 use Rattle.path_find.proofs.Answered.{ends_there, node_fault, search_fault, search_tells, walked}
 use Rattle.path_find.proofs.OnlyReads.{is_read-on, same-read, store-read}
+use Rattle.rec_bytes.proofs.Causes.{never_ok}
+use Rattle.expand.proofs.Causes.{expand_cause_passed, row_cause_passed}
+use Rattle.path_find.proofs.Causes.{later_on}
 use Rattle.path_find.proofs.walking.find_walk.Goals as goal
 
 pub returns-in_err-from_there-clause-damaged : goal.returns-in_err-from_there-clause-damaged
@@ -79,3 +82,35 @@ returns-clause-found g c = λ tells store types stand.
     let walk = walked s store c.args.direction c.args.labels.now types stand (g.R.Reads.state c.is_node-2.new.reads) same c.args.from c.args.to there.0 there.1
     c.in_ok-walk.walk.items (c.in_ok-walk.ensures.found tells) in
     subst (λ list. IsLeastOrNone (adjacency_of s c.args.direction types) c.args.from c.args.to list) (sym c.new.ensures) walk
+
+pub returns-in_err-from_there-clause-found : goal.returns-in_err-from_there-clause-found
+returns-in_err-from_there-clause-found g c _ _ _ _ = never_ok c.from_residual.result _ _ c.from_residual.ensures.1
+
+pub returns-in_err-to_there-clause-found : goal.returns-in_err-to_there-clause-found
+returns-in_err-to_there-clause-found g c _ _ _ _ = never_ok c.from_residual-in_err-to_there.result _ _ c.from_residual-in_err-to_there.ensures.1
+
+pub returns-in_err-walk-clause-found : goal.returns-in_err-walk-clause-found
+returns-in_err-walk-clause-found g c _ _ _ _ = never_ok c.from_residual-in_err-walk.result _ _ c.from_residual-in_err-walk.ensures.1
+
+pub returns-in_err-from_there-clause-cause : goal.returns-in_err-from_there-clause-cause
+returns-in_err-from_there-clause-cause g c =
+    row_cause_passed _ _ _ c.from_residual.result c.in_err-from_there.field-0.0 (omega arith) c.in_err-from_there.ensures.cause c.from_residual.ensures.1
+
+pub returns-in_err-to_there-clause-cause : goal.returns-in_err-to_there-clause-cause
+returns-in_err-to_there-clause-cause g c =
+    row_cause_passed _ _ _ c.from_residual-in_err-to_there.result c.in_err-to_there.field-0.0 c.in_ok-from_there.ensures.cause.later c.in_err-to_there.ensures.cause c.from_residual-in_err-to_there.ensures.1
+
+pub returns-in_err-walk-clause-cause : goal.returns-in_err-walk-clause-cause
+returns-in_err-walk-clause-cause g c =
+    expand_cause_passed _ _ _ c.from_residual-in_err-walk.result c.in_err-walk.field-0.0 (later_on c.in_ok-from_there.ensures.cause.later c.in_ok-to_there.ensures.cause.later) c.in_err-walk.ensures.cause c.from_residual-in_err-walk.ensures.1
+
+pub returns-in_err-from_there-clause-read : goal.returns-in_err-from_there-clause-read
+returns-in_err-from_there-clause-read g c = c.is_node.ensures.read
+
+pub returns-in_err-to_there-clause-read : goal.returns-in_err-to_there-clause-read
+returns-in_err-to_there-clause-read g c =
+    is_read-on g.R.Reads g.met.R.Reads.further_onward _ _ _ c.is_node.ensures.read c.is_node-2.ensures.read
+
+pub returns-in_err-walk-clause-read : goal.returns-in_err-walk-clause-read
+returns-in_err-walk-clause-read g c =
+    is_read-on g.R.Reads g.met.R.Reads.further_onward _ _ _ (is_read-on g.R.Reads g.met.R.Reads.further_onward _ _ _ c.is_node.ensures.read c.is_node-2.ensures.read) c.meet.ensures.read

@@ -1,9 +1,10 @@
-use Rattle.std.proofs.Common.{◌≡◌, rules, ap, subst, ◌∙◌}
+use Rattle.std.proofs.Common.{◌≡◌, rules, ap, subst, ◌∙◌, arith}
 use Rattle.store_rules.specs.Graph.{graph_of}
 use Rattle.traversal_run.specs.Feeding.{Feeds}
 use Rattle.traversal_run.specs.Held.{IsBatch, is_hop, is_plain}
 use Rattle.traversal_run.specs.Stage.{is_count, limit_left}
 use Rattle.traversal_run.specs.declared.stage.Stage.{Stage}
+use Rattle.traversal_run.proofs.Causes.{fault_stop_cause, fault_stop_has, fault_stops}
 use Rattle.traversal_run.proofs.feeding.feed.Goals.{in-Mapped+in-Neighbours-1, in-Dedup-1}
 use Rattle.rec_bytes.proofs.Causes.{never_ok}
 use Rattle.traversal_run.proofs.feeding.feed.Goals as goal
@@ -62,3 +63,63 @@ returns-in_err-outs-3-clause-limits g c = never_ok c.from_residual-in_err-outs-3
 
 pub returns-in_err-outs-3-clause-few : goal.returns-in_err-outs-3-clause-few
 returns-in_err-outs-3-clause-few g c _ _ _ _ _ = never_ok c.from_residual-in_err-outs-3.result _ _ c.from_residual-in_err-outs-3.ensures.1
+
+pub returns-in_err-fits-clause-damaged : goal.returns-in_err-fits-clause-damaged
+returns-in_err-fits-clause-damaged g c tells =
+    fault_stops _ _ c.from_residual.result c.in_err-fits.field-0.0 c.from_residual.ensures.1 (c.in_err-fits.ensures.damaged tells)
+
+pub returns-in_err-fits-clause-stops : goal.returns-in_err-fits-clause-stops
+returns-in_err-fits-clause-stops g c _ _ =
+    fault_stop_has _ tt tt (λ _. tt) c.from_residual.result c.in_err-fits.field-0.0 c.from_residual.ensures.1
+
+pub returns-in_err-fits-clause-read : goal.returns-in_err-fits-clause-read
+returns-in_err-fits-clause-read g c = c.in_err-fits.ensures.read
+
+pub returns-in_err-fits-clause-cause : goal.returns-in_err-fits-clause-cause
+returns-in_err-fits-clause-cause g c =
+    fault_stop_cause _ _ _ c.from_residual.result c.in_err-fits.field-0.0 (omega arith) c.in_err-fits.ensures.cause c.from_residual.ensures.1
+
+pub returns-in_err-outs-clause-damaged : goal.returns-in_err-outs-clause-damaged
+returns-in_err-outs-clause-damaged g c tells =
+    fault_stops _ _ c.from_residual-in_err-outs.result c.in_err-outs.field-0.0 c.from_residual-in_err-outs.ensures.1 (c.in_err-outs.ensures.damaged tells)
+
+pub returns-in_err-outs-clause-stops : goal.returns-in_err-outs-clause-stops
+returns-in_err-outs-clause-stops g c _ _ =
+    fault_stop_has _ tt tt (λ _. tt) c.from_residual-in_err-outs.result c.in_err-outs.field-0.0 c.from_residual-in_err-outs.ensures.1
+
+pub returns-in_err-outs-clause-read : goal.returns-in_err-outs-clause-read
+returns-in_err-outs-clause-read g c = c.in_err-outs.ensures.read
+
+pub returns-in_err-outs-clause-cause : goal.returns-in_err-outs-clause-cause
+returns-in_err-outs-clause-cause g c =
+    fault_stop_cause _ _ _ c.from_residual-in_err-outs.result c.in_err-outs.field-0.0 (omega arith) c.in_err-outs.ensures.cause c.from_residual-in_err-outs.ensures.1
+
+pub returns-in_err-outs-2-clause-damaged : goal.returns-in_err-outs-2-clause-damaged
+returns-in_err-outs-2-clause-damaged g c tells =
+    fault_stops _ _ c.from_residual-in_err-outs-2.result c.in_err-outs-2.field-0.0 c.from_residual-in_err-outs-2.ensures.1 (c.in_err-outs-2.ensures.damaged tells)
+
+pub returns-in_err-outs-2-clause-stops : goal.returns-in_err-outs-2-clause-stops
+returns-in_err-outs-2-clause-stops g c _ _ =
+    fault_stop_has _ tt tt (λ _. tt) c.from_residual-in_err-outs-2.result c.in_err-outs-2.field-0.0 c.from_residual-in_err-outs-2.ensures.1
+
+pub returns-in_err-outs-2-clause-read : goal.returns-in_err-outs-2-clause-read
+returns-in_err-outs-2-clause-read g c = c.in_err-outs-2.ensures.read
+
+pub returns-in_err-outs-2-clause-cause : goal.returns-in_err-outs-2-clause-cause
+returns-in_err-outs-2-clause-cause g c =
+    fault_stop_cause _ _ _ c.from_residual-in_err-outs-2.result c.in_err-outs-2.field-0.0 (omega arith) c.in_err-outs-2.ensures.cause c.from_residual-in_err-outs-2.ensures.1
+
+pub returns-in_err-outs-3-clause-damaged : goal.returns-in_err-outs-3-clause-damaged
+returns-in_err-outs-3-clause-damaged g c tells =
+    fault_stops _ _ c.from_residual-in_err-outs-3.result c.in_err-outs-3.field-0.0 c.from_residual-in_err-outs-3.ensures.1 (c.in_err-outs-3.ensures.damaged tells)
+
+pub returns-in_err-outs-3-clause-stops : goal.returns-in_err-outs-3-clause-stops
+returns-in_err-outs-3-clause-stops g c _ _ =
+    fault_stop_has _ tt tt (λ _. tt) c.from_residual-in_err-outs-3.result c.in_err-outs-3.field-0.0 c.from_residual-in_err-outs-3.ensures.1
+
+pub returns-in_err-outs-3-clause-read : goal.returns-in_err-outs-3-clause-read
+returns-in_err-outs-3-clause-read g c = c.in_err-outs-3.ensures.read
+
+pub returns-in_err-outs-3-clause-cause : goal.returns-in_err-outs-3-clause-cause
+returns-in_err-outs-3-clause-cause g c =
+    fault_stop_cause _ _ _ c.from_residual-in_err-outs-3.result c.in_err-outs-3.field-0.0 (omega arith) c.in_err-outs-3.ensures.cause c.from_residual-in_err-outs-3.ensures.1

@@ -1,7 +1,10 @@
 use Rattle.std.proofs.Common.{List, sym, subst}
 use Rattle.plain_graph.specs.declared.item.Item.{Item}
 use Rattle.traversal_run.proofs.AllItems.{IsTaking, taking-end, taking-first, taking-on}
-use Rattle.rec_bytes.proofs.Causes.{never_ok}
+use Rattle.rec_bytes.proofs.Causes.{never_ok, ok_cause}
+use Rattle.traversal_run.proofs.Causes.{later_on, memory_cause}
+use Rattle.traversal_run.proofs.OnlyReads.{is_read-on}
+use Rattle.prop_store.proofs.Exits.{same_has}
 use Rattle.traversal_run.proofs.items.take_all.Goals as goal
 
 pub loop-init : goal.loop-init
@@ -29,3 +32,22 @@ returns-in_err-push-in-Item-clause-items g c _ _ = never_ok c.from_residual.resu
 
 pub returns-in_err-push-in-Item-clause-shown : goal.returns-in_err-push-in-Item-clause-shown
 returns-in_err-push-in-Item-clause-shown g c = never_ok c.from_residual.result _ _ c.from_residual.ensures.1
+
+pub returns-in_err-push-in-Item-clause-damaged : goal.returns-in_err-push-in-Item-clause-damaged
+returns-in_err-push-in-Item-clause-damaged g c _ = same_has _ c.from_residual.result _ c.from_residual.ensures.1 tt
+
+pub returns-in_err-push-in-Item-clause-read : goal.returns-in_err-push-in-Item-clause-read
+returns-in_err-push-in-Item-clause-read g c =
+    is_read-on g.R.Reads g.met.R.Reads.further_onward _ _ _ c.loop.invariant.read c.next.ensures.read
+
+pub returns-in_err-push-in-Item-clause-cause : goal.returns-in_err-push-in-Item-clause-cause
+returns-in_err-push-in-Item-clause-cause g c =
+    memory_cause _ _ c.from_residual.result (later_on c.loop.invariant.read.later c.next.ensures.read.later) c.from_residual.ensures.1
+
+pub returns-in-End-clause-read : goal.returns-in-End-clause-read
+returns-in-End-clause-read g c =
+    is_read-on g.R.Reads g.met.R.Reads.further_onward _ _ _ c.loop.invariant.read c.next.ensures.read
+
+pub returns-in-End-clause-cause : goal.returns-in-End-clause-cause
+returns-in-End-clause-cause g c =
+    ok_cause _ _ _ _ (later_on c.loop.invariant.read.later c.next.ensures.read.later)

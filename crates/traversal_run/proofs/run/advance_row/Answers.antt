@@ -1,4 +1,4 @@
-use Rattle.std.proofs.Common.{◌≡◌, List, [], true, cond, drop, take, get_or, refl, ap, ◌∙◌, subst}
+use Rattle.std.proofs.Common.{◌≡◌, List, [], true, cond, drop, take, get_or, refl, ap, ◌∙◌, subst, arith}
 use Rattle.std.proofs.lemmas.Result.{err_from_is_err_and}
 use Rattle.plain_graph.specs.declared.item.Item.{Item}
 use Rattle.store_rules.specs.Graph.{graph_of}
@@ -11,6 +11,7 @@ use Rattle.traversal_run.proofs.Rows.{advanced, passes_through}
 use Rattle.traversal_run.proofs.Scans.{limit_advanced}
 use Rattle.traversal_run.proofs.Stops.{may_stop}
 use Rattle.rec_bytes.proofs.Causes.{never_ok}
+use Rattle.traversal_run.proofs.Causes.{stop_cause_passed, stop_has}
 use Rattle.traversal_run.proofs.run.advance_row.Goals as goal
 
 pub returns-in_err-outs-clause-stops : goal.returns-in_err-outs-clause-stops
@@ -62,3 +63,14 @@ returns-in_err-outs-clause-limit g c _ _ _ = never_ok c.from_residual.result _ _
 
 pub returns-in_err-outs-clause-allowed : goal.returns-in_err-outs-clause-allowed
 returns-in_err-outs-clause-allowed g c = never_ok c.from_residual.result _ _ c.from_residual.ensures.1
+
+pub returns-in_err-outs-clause-damaged : goal.returns-in_err-outs-clause-damaged
+returns-in_err-outs-clause-damaged g c tells =
+    stop_has _ c.from_residual.result _ c.from_residual.ensures.1 (c.in_err-outs.ensures.damaged tells)
+
+pub returns-in_err-outs-clause-read : goal.returns-in_err-outs-clause-read
+returns-in_err-outs-clause-read g c = c.in_err-outs.ensures.read
+
+pub returns-in_err-outs-clause-cause : goal.returns-in_err-outs-clause-cause
+returns-in_err-outs-clause-cause g c =
+    stop_cause_passed _ _ _ c.from_residual.result c.in_err-outs.field-0.0 (omega arith) c.in_err-outs.ensures.cause c.from_residual.ensures.1

@@ -1,4 +1,4 @@
-use Rattle.std.proofs.Common.{◌≡◌, List, IfErr, OnOk, true, false, sym, ◌∙◌, subst}
+use Rattle.std.proofs.Common.{◌≡◌, List, IfErr, OnOk, true, false, sym, ◌∙◌, subst, arith}
 use Rattle.rec_bytes.specs.Space.{State}
 use Rattle.store_rules.specs.Graph.{graph_of}
 use Rattle.traversal_run.specs.Row.{stream, through, with_first}
@@ -9,6 +9,7 @@ use Rattle.traversal_run.specs.declared.source.Source.{Source}
 use Rattle.traversal_run.proofs.Fed.{plain_no_count}
 use Rattle.traversal_run.proofs.OnlyReads.{named-read}
 use Rattle.rec_bytes.proofs.Causes.{never_ok}
+use Rattle.traversal_run.proofs.Causes.{stop_cause_passed, stop_has}
 use Rattle.traversal_run.proofs.run.feed_rows.Goals as goal
 
 pub returns-then-branch-clause-near : goal.returns-then-branch-clause-near
@@ -39,3 +40,18 @@ returns-in_err-feed_two-clause-near g c _ _ _ _ _ _ = never_ok c.from_residual.r
 
 pub returns-in_err-feed_two-clause-allowed : goal.returns-in_err-feed_two-clause-allowed
 returns-in_err-feed_two-clause-allowed g c = never_ok c.from_residual.result _ _ c.from_residual.ensures.1
+
+pub returns-in_err-feed_two-clause-damaged : goal.returns-in_err-feed_two-clause-damaged
+returns-in_err-feed_two-clause-damaged g c tells =
+    stop_has _ c.from_residual.result _ c.from_residual.ensures.1 (c.in_err-feed_two.ensures.damaged tells)
+
+pub returns-in_err-feed_two-clause-stops : goal.returns-in_err-feed_two-clause-stops
+returns-in_err-feed_two-clause-stops g c tells store =
+    stop_has _ c.from_residual.result _ c.from_residual.ensures.1 (c.in_err-feed_two.ensures.stops tells store)
+
+pub returns-in_err-feed_two-clause-read : goal.returns-in_err-feed_two-clause-read
+returns-in_err-feed_two-clause-read g c = c.in_err-feed_two.ensures.read
+
+pub returns-in_err-feed_two-clause-cause : goal.returns-in_err-feed_two-clause-cause
+returns-in_err-feed_two-clause-cause g c =
+    stop_cause_passed _ _ _ c.from_residual.result c.in_err-feed_two.field-0.0 (omega arith) c.in_err-feed_two.ensures.cause c.from_residual.ensures.1

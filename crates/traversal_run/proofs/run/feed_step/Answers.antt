@@ -13,6 +13,7 @@ use Rattle.traversal_run.proofs.HeldRows.{near-fed, plain_at}
 use Rattle.traversal_run.proofs.Limits.{allowed-row, allowed_any}
 use Rattle.traversal_run.proofs.Stops.{may_stop}
 use Rattle.rec_bytes.proofs.Causes.{never_ok}
+use Rattle.traversal_run.proofs.Causes.{stop_cause_passed, stop_has}
 use Rattle.traversal_run.proofs.run.feed_step.Goals as goal
 
 pub returns-clause-same : goal.returns-clause-same
@@ -63,3 +64,14 @@ returns-in_err-outs-clause-near g c _ _ _ _ _ _ = never_ok c.from_residual.resul
 
 pub returns-in_err-outs-clause-allowed : goal.returns-in_err-outs-clause-allowed
 returns-in_err-outs-clause-allowed g c = never_ok c.from_residual.result _ _ c.from_residual.ensures.1
+
+pub returns-in_err-outs-clause-damaged : goal.returns-in_err-outs-clause-damaged
+returns-in_err-outs-clause-damaged g c tells =
+    stop_has _ c.from_residual.result _ c.from_residual.ensures.1 (c.in_err-outs.ensures.damaged tells)
+
+pub returns-in_err-outs-clause-read : goal.returns-in_err-outs-clause-read
+returns-in_err-outs-clause-read g c = c.in_err-outs.ensures.read
+
+pub returns-in_err-outs-clause-cause : goal.returns-in_err-outs-clause-cause
+returns-in_err-outs-clause-cause g c =
+    stop_cause_passed _ _ _ c.from_residual.result c.in_err-outs.field-0.0 (omega arith) c.in_err-outs.ensures.cause c.from_residual.ensures.1

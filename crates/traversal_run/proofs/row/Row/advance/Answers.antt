@@ -1,4 +1,4 @@
-use Rattle.std.proofs.Common.{◌++◌, List, ap, ◌∙◌}
+use Rattle.std.proofs.Common.{◌++◌, List, ap, ◌∙◌, arith}
 use Rattle.plain_graph.specs.declared.item.Item.{Item}
 use Rattle.store_rules.specs.Graph.{graph_of}
 use Rattle.traversal_run.specs.Stage.{after_stage, counts_past}
@@ -7,6 +7,7 @@ use Rattle.traversal_run.proofs.Counting.{counts_row, not_count, passes_all}
 use Rattle.traversal_run.proofs.HeldSteps.{few_at, takes_batch}
 use Rattle.traversal_run.proofs.Scans.{limit_taken}
 use Rattle.rec_bytes.proofs.Causes.{never_ok}
+use Rattle.traversal_run.proofs.Causes.{fault_stop_cause, fault_stop_has, fault_stops}
 use Rattle.traversal_run.proofs.row.Row.advance.Goals as goal
 
 pub take-requires-clause-counts : goal.take-requires-clause-counts
@@ -55,3 +56,18 @@ returns-in_err-outs-in-Some-clause-few g c _ _ _ _ _ = never_ok c.from_residual.
 
 pub returns-in_err-outs-in-Some-clause-limit : goal.returns-in_err-outs-in-Some-clause-limit
 returns-in_err-outs-in-Some-clause-limit g c _ _ _ = never_ok c.from_residual.result _ _ c.from_residual.ensures.1
+
+pub returns-in_err-outs-in-Some-clause-damaged : goal.returns-in_err-outs-in-Some-clause-damaged
+returns-in_err-outs-in-Some-clause-damaged g c tells =
+    fault_stops _ _ c.from_residual.result c.in_err-outs-in-Some.field-0.0 c.from_residual.ensures.1 (c.in_err-outs-in-Some.ensures.damaged tells)
+
+pub returns-in_err-outs-in-Some-clause-stops : goal.returns-in_err-outs-in-Some-clause-stops
+returns-in_err-outs-in-Some-clause-stops g c _ _ =
+    fault_stop_has _ tt tt (λ _. tt) c.from_residual.result c.in_err-outs-in-Some.field-0.0 c.from_residual.ensures.1
+
+pub returns-in_err-outs-in-Some-clause-read : goal.returns-in_err-outs-in-Some-clause-read
+returns-in_err-outs-in-Some-clause-read g c = c.in_err-outs-in-Some.ensures.read
+
+pub returns-in_err-outs-in-Some-clause-cause : goal.returns-in_err-outs-in-Some-clause-cause
+returns-in_err-outs-in-Some-clause-cause g c =
+    fault_stop_cause _ _ _ c.from_residual.result c.in_err-outs-in-Some.field-0.0 (omega arith) c.in_err-outs-in-Some.ensures.cause c.from_residual.ensures.1

@@ -10,7 +10,7 @@ use Rattle.traversal_run.specs.Scan.{TakesVertex, limit_row}
 use Rattle.traversal_run.specs.Source.{GivesFirst, is_over, left_of}
 use Rattle.traversal_run.specs.Stage.{is_open}
 use Rattle.traversal_run.specs.declared.row.Row.{Row}
-use Rattle.traversal_run.proofs.Causes.{fault_stop_cause, memory_stop_cause, stop_cause_passed}
+use Rattle.traversal_run.proofs.Causes.{fault_stop_cause, memory_stop_cause, stop_cause_passed, stop_has, fault_stop_has, fault_stops}
 use Rattle.traversal_run.proofs.HeldRows.{near-sourced, plain_at}
 use Rattle.traversal_run.proofs.HeldSteps.{plain_quiet}
 use Rattle.traversal_run.proofs.Places.{written_back}
@@ -206,3 +206,43 @@ returns-in_err-finish_row-clause-scan g c _ _ _ = never_ok c.from_residual-in_er
 
 pub returns-in_err-finish_row-clause-limit : goal.returns-in_err-finish_row-clause-limit
 returns-in_err-finish_row-clause-limit g c _ _ _ _ = never_ok c.from_residual-in_err-finish_row.result _ _ c.from_residual-in_err-finish_row.ensures.1
+
+pub returns-in_err-advance_row-clause-damaged : goal.returns-in_err-advance_row-clause-damaged
+returns-in_err-advance_row-clause-damaged g c tells =
+    stop_has _ c.from_residual.result _ c.from_residual.ensures.1 (c.in_err-advance_row.ensures.damaged tells)
+
+pub returns-in_err-advance_row-clause-read : goal.returns-in_err-advance_row-clause-read
+returns-in_err-advance_row-clause-read g c = c.in_err-advance_row.ensures.read
+
+pub returns-in_err-feed_rows-clause-damaged : goal.returns-in_err-feed_rows-clause-damaged
+returns-in_err-feed_rows-clause-damaged g c tells =
+    stop_has _ c.from_residual-in_err-feed_rows.result _ c.from_residual-in_err-feed_rows.ensures.1 (c.in_err-feed_rows.ensures.damaged tells)
+
+pub returns-in_err-feed_rows-clause-read : goal.returns-in_err-feed_rows-clause-read
+returns-in_err-feed_rows-clause-read g c = c.in_err-feed_rows.ensures.read
+
+pub returns-in_err-feed_rows-clause-cause : goal.returns-in_err-feed_rows-clause-cause
+returns-in_err-feed_rows-clause-cause g c =
+    stop_cause_passed _ _ _ c.from_residual-in_err-feed_rows.result c.in_err-feed_rows.field-0.0 (omega arith) c.in_err-feed_rows.ensures.cause c.from_residual-in_err-feed_rows.ensures.1
+
+pub returns-in_err-item-clause-damaged : goal.returns-in_err-item-clause-damaged
+returns-in_err-item-clause-damaged g c tells =
+    fault_stops _ _ c.from_residual-in_err-item.result c.in_err-item.field-0.0 c.from_residual-in_err-item.ensures.1 (c.in_err-item.ensures.damaged tells)
+
+pub returns-in_err-item-clause-stops : goal.returns-in_err-item-clause-stops
+returns-in_err-item-clause-stops g c _ _ =
+    fault_stop_has _ tt tt (λ _. tt) c.from_residual-in_err-item.result c.in_err-item.field-0.0 c.from_residual-in_err-item.ensures.1
+
+pub returns-in_err-item-clause-read : goal.returns-in_err-item-clause-read
+returns-in_err-item-clause-read g c = c.in_err-item.ensures.read
+
+pub returns-in_err-finish_row-clause-damaged : goal.returns-in_err-finish_row-clause-damaged
+returns-in_err-finish_row-clause-damaged g c _ =
+    stop_has _ c.from_residual-in_err-finish_row.result _ c.from_residual-in_err-finish_row.ensures.1 tt
+
+pub returns-in_err-finish_row-clause-stops : goal.returns-in_err-finish_row-clause-stops
+returns-in_err-finish_row-clause-stops g c _ _ =
+    stop_has _ c.from_residual-in_err-finish_row.result _ c.from_residual-in_err-finish_row.ensures.1 tt
+
+pub returns-in_err-finish_row-clause-read : goal.returns-in_err-finish_row-clause-read
+returns-in_err-finish_row-clause-read g c = c.in_ok-item.ensures.read
