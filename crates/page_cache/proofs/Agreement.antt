@@ -1,12 +1,13 @@
 -- Kept pages agree with the records.
-use Rattle.std.proofs.Common.{◌≡◌, ◌∙◌, ⊎_elim, ℕ, Bool, true, false, cond, List, [], ◌∷◌, Option, Some, None, is_some, unwrap_or, Contains, ap, sym, subst, refl, arith}
+use Rattle.std.proofs.Common.{◌≡◌, ◌∙◌, ⊎_elim, ℕ, Bool, true, false, cond, List, [], ◌∷◌, Option, Some, None, is_some, Contains, ap, sym, subst, refl, arith}
 use Rattle.std.proofs.lemmas.Bool.{false≢true}
 use Rattle.std.proofs.lemmas.Bool.Decides.{nat_tests}
 use Rattle.std.proofs.lemmas.Map.{lookup-remove_entry}
 use Rattle.std.proofs.lemmas.Map.Views.{lookup-from_Contains}
 use Rattle.std.specs.Cmp.{IsEquivalence}
-use Rattle.std.specs.List.{IsDistinct, slice_get}
-use Rattle.std.specs.Map.{keys_of, lookup, remove_entry}
+use Rattle.std.specs.List.{IsDistinct}
+use Rattle.std.specs.Map.{keys_of, lookup, lookup_entry, remove_entry}
+use Rattle.std.specs.Option.{option_map_or}
 use Rattle.lru.proofs.CallerLemmas.{Contains-lookup, Contains-put_entries, Contains-remove_entry}
 use Rattle.lru.specs.LruCache.{promoted, put_entries}
 use Rattle.disk_model.specs.Contents.{Files}
@@ -15,19 +16,19 @@ use Rattle.rec_bytes.specs.Key.{IsKey, key_eq}
 use Rattle.record_file.specs.Records.{SameButRecord, record_at}
 use Rattle.record_file.proofs.Records.{record_at-other}
 use Rattle.page_cache.specs.declared.page.PageKey.{PageKey}
-use Rattle.page_cache.specs.Pages.{Agrees, IsPage, KeepsPage, Pages, kept_page, page_eq, page_of, record_in, used_last, with_page}
+use Rattle.page_cache.specs.Pages.{Agrees, IsPage, IsUsed, KeepsPage, Pages, kept_page, page_eq, page_of, record_in, used_last, with_page}
 use Rattle.page_cache.proofs.RecordInPage.{record_in-is}
 
-page_eq-true : (a b : PageKey) → page_eq a b ≡ true → a ≡ b
+pub page_eq-true : (a b : PageKey) → page_eq a b ≡ true → a ≡ b
 page_eq-true a b h =
     let file : a.file ≡ b.file = grind (arith, nat_tests) in
     let number : a.number ≡ b.number = grind (arith, nat_tests) in
     ap (λ f. record { file = f; number = a.number }) file ∙ ap (λ n. record { file = b.file; number = n }) number
 
-page_eq-same : (a : PageKey) → page_eq a a ≡ true
+pub page_eq-same : (a : PageKey) → page_eq a a ≡ true
 page_eq-same a = grind (arith, nat_tests)
 
-page_laws : IsEquivalence page_eq
+pub page_laws : IsEquivalence page_eq
 page_laws = record {
   refl = page_eq-same;
   symm = λ x y. grind (arith, nat_tests);
@@ -95,26 +96,26 @@ agrees_forgotten old new key page before after its same once then is agrees = re
     other_key a b apart = grind (arith, nat_tests)
 
 -- as many pages may be there as before
-pub KeepsPage-room : (key : Key) (old new : Pages) → KeepsPage key (used_last key old) new → new.cap ≡ old.cap
+IsUsed-room : (key : Key) (old new : Pages) → IsUsed key old new → new.cap ≡ old.cap
+IsUsed-room key old new used = ⊎_elim
+    (λ (same : new ≡ old). ap (λ (pages : Pages). pages.cap) same)
+    (λ (moved : new ≡ used_last key old). ap (λ (pages : Pages). pages.cap) moved)
+    used
+
+pub KeepsPage-room : (key : Key) (old new : Pages) → KeepsPage key old new → new.cap ≡ old.cap
 KeepsPage-room key old new keeps = ⊎_elim
-    (λ (same : new ≡ used_last key old). ap (λ (pages : Pages). pages.cap) same)
-    (λ (put : (bytes : List ℕ) × (new ≡ with_page key bytes (used_last key old))). ap (λ (pages : Pages). pages.cap) put.1)
+    (λ used. IsUsed-room key old new used)
+    (λ (put : (bytes : List ℕ) × (new ≡ with_page key bytes old)). ap (λ (pages : Pages). pages.cap) put.1)
     keeps
 
--- The page that was used last is found, and using it leaves the list as it is.
-first_cases : (entries : List (PageKey × List ℕ)) (page : PageKey) (bytes : List ℕ) → slice_get entries 0 ≡ Some (page, bytes)
-    → (lookup (page_eq page) entries ≡ Some bytes) × (promoted (page_eq page) entries ≡ entries)
-first_cases [] page bytes is = absurd (false≢true (ap is_some is))
-first_cases (entry ∷ rest) page bytes is =
-    let same : entry ≡ (page, bytes) = ap (λ (o : Option (PageKey × List ℕ)). unwrap_or o entry) is in
-    let test : page_eq page entry.0 ≡ true = ap (λ (e : PageKey × List ℕ). page_eq page e.0) same ∙ page_eq-same page in (
-      ap (λ b. cond b (Some entry.1) (lookup (page_eq page) rest)) test ∙ ap (λ (e : PageKey × List ℕ). Some e.1) same,
-      rw test refl,
-    )
+-- where a page isn't kept, using it leaves the list as it is
+unused_cases : (test : PageKey → Bool) (entries : List (PageKey × List ℕ)) → lookup test entries ≡ None → lookup_entry test entries ≡ None
+unused_cases test [] is = refl
+unused_cases test (entry ∷ rest) is = pick (test entry.0) is (unused_cases test rest)
+  where
+    pick : (here : Bool) → cond here (Some entry.1) (lookup test rest) ≡ None → (lookup test rest ≡ None → lookup_entry test rest ≡ None) → cond here (Some entry) (lookup_entry test rest) ≡ None
+    pick true none later = absurd (false≢true (sym (ap is_some none)))
+    pick false none later = later none
 
-pub first_found : (pages : Pages) (key : Key) (page wanted : PageKey) (bytes : List ℕ) → wanted ≡ page_of key → page_eq page wanted ≡ true → Some (page, bytes) ≡ slice_get pages.entries 0
-    → (kept_page key pages ≡ Some bytes) × (used_last key pages ≡ pages)
-first_found pages key page wanted bytes of_key same is =
-    let its : page ≡ page_of key = page_eq-true page wanted same ∙ of_key in
-    let found = first_cases pages.entries (page_of key) bytes (subst (λ (p : PageKey). slice_get pages.entries 0 ≡ Some (p, bytes)) its (sym is)) in
-    (found.0, ap (λ (entries : List (PageKey × List ℕ)). record pages { entries = entries }) found.1)
+pub unused : (test : PageKey → Bool) (entries : List (PageKey × List ℕ)) → lookup test entries ≡ None → promoted test entries ≡ entries
+unused test entries is = ap (λ (found : Option (PageKey × List ℕ)). option_map_or (λ e. e ∷ remove_entry test entries) found entries) (unused_cases test entries is)

@@ -1,3 +1,4 @@
 pub mod Agreement
 pub mod Forgetting
+pub mod LastPages
 pub mod RecordInPage

@@ -37,8 +37,8 @@ page_records = 64
 abbrev pub page_bytes : ℕ
 page_bytes = 4096
 
--- The kept pages, the last used first, and of each the bytes that were read; and how many there may
--- be.
+-- The kept pages, first the one that was last put in or moved to the front, and of each the bytes
+-- that were read; and how many there may be.
 abbrev pub Pages : Type 0
 Pages = LruCache PageKey (List ℕ)
 
@@ -54,12 +54,12 @@ page_eq a b = nat_eq a.file b.file && nat_eq a.number b.number
 abbrev pub kept_page : Key → Pages → Option (List ℕ)
 kept_page key pages = lookup (page_eq (page_of key)) pages.entries
 
--- the same pages, and the page of the record, if it is kept, is the last used one
+-- the same pages, and the page of the record, if it is kept, is the first
 abbrev pub used_last : Key → Pages → Pages
 used_last key pages = record pages { entries = promoted (page_eq (page_of key)) pages.entries }
 
--- the page of the record, with these bytes, is the last used one; if that is a page too many, the
--- one that was not used for longest is gone
+-- the page of the record, with these bytes, is the first; if that is a page too many, the last one
+-- is gone
 abbrev pub with_page : Key → List ℕ → Pages → Pages
 with_page key bytes pages =
     record pages { entries = put_entries page_eq pages (page_of key) bytes }
@@ -74,9 +74,14 @@ abbrev pub without_pages : Pairs → Pages → Pages
 without_pages [] pages = pages
 without_pages (pair ∷ rest) pages = without_pages rest (without_page pair.0 pages)
 
--- the page of a record was put in, or no page changed
+-- The page of the record, if it is kept, is the first, or each page stays in its place. No page
+-- comes or goes, and each has its bytes.
+abbrev pub IsUsed : Key → Pages → Pages → Type 0
+IsUsed key old new = (new ≡ old) ⊎ (new ≡ used_last key old)
+
+-- the page of a record was put in, or no page came or went
 abbrev pub KeepsPage : Key → Pages → Pages → Type 0
-KeepsPage key old new = (new ≡ old) ⊎ ((bytes : List ℕ) × (new ≡ with_page key bytes old))
+KeepsPage key old new = IsUsed key old new ⊎ ((bytes : List ℕ) × (new ≡ with_page key bytes old))
 
 -- the bytes are a page's, as they stand in a content
 pub record IsPage (content : Files) (page : PageKey) (bytes : List ℕ) : Type 0 where

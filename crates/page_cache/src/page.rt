@@ -1,5 +1,5 @@
 ghost use Rattle.std.proofs.Common.{rules};
-ghost use Rattle.std.specs.Prelude.{◌≡◌, OnOk};
+ghost use Rattle.std.specs.Prelude.{◌≡◌, IfOk, IfSome, IsTrue};
 ghost use Rattle.std.specs.Cmp.Rules.{hashing};
 ghost use Rattle.fault_count.specs.Cause.{HasCause};
 ghost use Rattle.disk_model.specs.Spans.{OnlyReads};
@@ -11,6 +11,7 @@ use rec_bytes::{DiskFault, Key, RECORD_BYTES, Rec};
 use std::alloc::{AllocError, Global};
 use std::hash::{Hash, Hasher};
 use std::marker::Model;
+use std::rc::Rc;
 
 // How many records a page has, and how many bytes.
 const PAGE_RECORDS: u32 = 64;
@@ -50,10 +51,11 @@ impl PageKey {
     }
 }
 
-/// The bytes of a page. They stand on the heap, so that a cache moves a pointer.
+/// The bytes of a page. They stand on the heap, so that a cache moves a pointer, and the last page
+/// of a file is shared with the list of the pages.
 #[derive(Drop)]
 pub(crate) struct Page {
-    bytes: Box<[u8; PAGE_BYTES]>,
+    bytes: Rc<[u8; PAGE_BYTES]>,
 }
 
 impl Model for Page {
@@ -68,21 +70,35 @@ impl Page {
     // Room for a page, of zeros.
     pub(crate) fn new(alloc: Global) -> Result<Page, AllocError> {
         Ok(Page {
-            bytes: Box::new(alloc, [0; PAGE_BYTES])?,
+            bytes: Rc::new(alloc, [0; PAGE_BYTES])?,
         })
     }
 
-    // Reads the page of a record.
-    pub(crate) fn read<D: Disk>(&mut self, disk: &mut D, key: Key) -> Result<(), DiskFault>
+    // The same page once more, over the same memory.
+    pub(crate) fn share(&self) -> Option<Page>
+        ensures { IfSome result (λ page. page ≡ self.now) }
+    {
+        match self.bytes.clone() {
+            Ok(bytes) => Some(Page { bytes }),
+            Err(_) => None,
+        }
+    }
+
+    // Reads the page of a record, unless its memory is shared, and says whether it was read.
+    pub(crate) fn read<D: Disk>(&mut self, disk: &mut D, key: Key) -> Result<bool, DiskFault>
         requires { IsKey key }
-        ensures bytes { D.tells_reads
-            → OnOk result (IsPage (D.reads disk.old) (page_of key) self.new) }
+        ensures bytes { D.tells_reads → IfOk result
+            (λ read. IsTrue read → IsPage (D.reads disk.old) (page_of key) self.new) }
         ensures only_reads { OnlyReads D.Disk disk.old disk.new }
         ensures cause { HasCause (D.faults disk.old) (D.faults disk.new) result }
     {
         let page = PageKey::of(key);
         let at = PAGE_BYTES as u64 * page.number as u64;
-        disk.read(page.file, at, &mut *self.bytes)
+        let Some(bytes) = Rc::get_mut(&mut self.bytes) else {
+            return Ok(false);
+        };
+        disk.read(page.file, at, bytes)?;
+        Ok(true)
     }
 
     // Reads the record of a number, of this page, into the caller's.

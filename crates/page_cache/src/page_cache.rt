@@ -1,14 +1,15 @@
-ghost use Rattle.std.specs.Prelude.{◌≡◌, ◌*◌, [], ℕ, List, Contains, IfOk, IsOk, IsSome, IsTrue};
-ghost use Rattle.std.specs.Prelude.{OnErr, OnOk, false, is_some, max};
+ghost use Rattle.std.specs.Prelude.{◌≡◌, ◌⊎◌, ◌*◌, [], ℕ, List, Contains, IfOk, IsOk, IsSome};
+ghost use Rattle.std.specs.Prelude.{IsTrue, OnErr, OnOk, false, is_some, max};
 ghost use Rattle.fault_count.specs.Cause.{HasCause};
 ghost use Rattle.disk_model.specs.Contents.{Files};
 ghost use Rattle.disk_model.specs.Spans.{OnlyReads};
 ghost use Rattle.rec_bytes.specs.Key.{IsKey};
 ghost use Rattle.record_file.specs.Records.{KeepsOthers, SameButRecord, record_at};
-ghost use Rattle.lru.specs.LruCache.{lru_cache};
-ghost use Rattle.page_cache.specs.Pages.{Agrees, KeepsPage, kept_page, page_of, used_last};
+ghost use Rattle.lru.specs.LruCache.{lru_cache, put_entries};
+ghost use Rattle.page_cache.specs.Pages.{Agrees, IsUsed, KeepsPage, kept_page, page_eq, page_of};
 ghost use Rattle.page_cache.specs.Pages.{without_page, without_pages};
 
+use crate::last_pages::LastPages;
 use crate::page::{Page, PageKey};
 use disk_model::Disk;
 use lru::LruCache;
@@ -18,10 +19,12 @@ use std::alloc::{AllocError, Global};
 use std::marker::Model;
 use std::num::NonZeroUsize;
 
-/// The pages that were used last. Contracts see their bytes, as they were read.
+/// The pages that were used last, in a list. Contracts see their bytes, as they were read.
 #[derive(Drop)]
 pub struct PageCache {
     pages: LruCache<PageKey, Page>,
+    // Of each file the page that was used last, where it is among the pages.
+    last: LastPages,
     // The memory of a page that went, for the next one.
     spare: Option<Page>,
     alloc: Global,
@@ -29,10 +32,13 @@ pub struct PageCache {
 
 impl Model for PageCache {
     ghost use Rattle.page_cache.specs.Pages.{Pages};
+    ghost use Rattle.page_cache.specs.LastPages.{AreLastKept};
 
     ghost Value = { Pages };
 
     ghost view = { λ c. c.pages };
+
+    ghost invariant = { λ c. AreLastKept c.last.files c.pages };
 }
 
 impl PageCache {
@@ -45,6 +51,7 @@ impl PageCache {
         let pages = LruCache::new(alloc, room)?;
         Ok(PageCache {
             pages,
+            last: LastPages::new(),
             spare: None,
             alloc,
         })
@@ -52,7 +59,8 @@ impl PageCache {
 
     /// The record at a key, as it stands in its file. If its page is kept, no call of the disk is
     /// made, and otherwise one. A page that was read is kept, if there is memory for it, and the
-    /// one that was not used for longest goes.
+    /// last one of the list goes. A hit puts its page first there, but for one on the page that was
+    /// the last of its file already, which neither hashes nor moves a page.
     pub fn get<D: Disk>(&mut self, disk: &mut D, key: Key) -> Result<Rec, DiskFault>
         requires { IsKey key }
         ensures record { D.tells_reads → Agrees (D.reads disk.old) self.old
@@ -60,8 +68,8 @@ impl PageCache {
         ensures agrees { D.tells_reads → Agrees (D.reads disk.old) self.old
             → Agrees (D.reads disk.new) self.new }
         ensures hit { IsSome (kept_page key self.old) → IsOk result × (disk.new ≡ disk.old) }
-        ensures used { IsSome (kept_page key self.old) → self.new ≡ used_last key self.old }
-        ensures pages { KeepsPage key (used_last key self.old) self.new }
+        ensures used { IsSome (kept_page key self.old) → IsUsed key self.old self.new }
+        ensures pages { KeepsPage key self.old self.new }
         ensures only_reads { OnlyReads D.Disk disk.old disk.new }
         ensures cause { HasCause (D.faults disk.old) (D.faults disk.new) result }
     {
@@ -85,8 +93,8 @@ impl PageCache {
         ensures agrees { D.tells_reads → Agrees (D.reads disk.old) self.old
             → Agrees (D.reads disk.new) self.new }
         ensures hit { IsSome (kept_page key self.old) → IsOk result × (disk.new ≡ disk.old) }
-        ensures used { IsSome (kept_page key self.old) → self.new ≡ used_last key self.old }
-        ensures pages { KeepsPage key (used_last key self.old) self.new }
+        ensures used { IsSome (kept_page key self.old) → IsUsed key self.old self.new }
+        ensures pages { KeepsPage key self.old self.new }
         ensures only_reads { OnlyReads D.Disk disk.old disk.new }
         ensures cause { HasCause (D.faults disk.old) (D.faults disk.new) result }
     {
@@ -99,15 +107,6 @@ impl PageCache {
                 *rec = read_record(disk, key)?;
                 Ok(())
             }
-        }
-    }
-
-    // Keeps the memory of a page that went, if one did.
-    fn keep_memory(&mut self, gone: Option<(PageKey, Page)>)
-        ensures { self.new ≡ self.old }
-    {
-        if let Some((_, page)) = gone {
-            self.spare = Some(page);
         }
     }
 
@@ -130,7 +129,9 @@ impl PageCache {
     {
         // The contract of `len` says that no page is kept twice; the proof stands on that.
         let _before = self.pages.len();
-        drop(self.pages.pop(&PageKey::of(key)));
+        let page = PageKey::of(key);
+        self.last.forget(page);
+        drop(self.pages.pop(&page));
         let _after = self.pages.len();
     }
 
@@ -151,6 +152,7 @@ impl PageCache {
         ensures empty { self.new ≡ record self.old { entries = [] } }
         ensures agrees { (content : Files) → Agrees content self.new }
     {
+        self.last = LastPages::new();
         self.pages.clear();
     }
 
@@ -160,20 +162,19 @@ impl PageCache {
         ensures kept { result ≡ is_some (kept_page key self.old) }
         ensures record { (content : Files) → Agrees content self.old
             → IsTrue result → rec.new ≡ record_at content key }
-        ensures absent { result ≡ false → rec.new ≡ rec.old }
+        ensures absent { result ≡ false → (rec.new ≡ rec.old) × (self.new ≡ self.old) }
         ensures agrees { (content : Files) → Agrees content self.old → Agrees content self.new }
-        ensures used { self.new ≡ used_last key self.old }
+        ensures used { IsUsed key self.old self.new }
     {
         let wanted = PageKey::of(key);
-        if let Some((last, page)) = self.pages.peek_mru() {
-            if *last == wanted {
-                page.read_record(key.id, rec);
-                return true; // It is the first of the list already.
-            }
+        if let Some(page) = self.last.find(wanted) {
+            page.read_record(key.id, rec);
+            return true; // The list stays as it is.
         }
         match self.pages.get(&wanted) {
             Some(page) => {
                 page.read_record(key.id, rec);
+                self.last.put(wanted, page);
                 true
             }
             None => false,
@@ -199,12 +200,29 @@ impl PageCache {
         ensures only_reads { OnlyReads D.Disk disk.old disk.new }
         ensures cause { HasCause (D.faults disk.old) (D.faults disk.new) result }
     {
-        page.read(disk, key)?;
-        page.read_record(key.id, rec);
-        match self.pages.push(PageKey::of(key), page) {
-            Ok(gone) => self.keep_memory(gone),
-            Err(refused) => drop(refused),
+        if !page.read(disk, key)? {
+            *rec = read_record(disk, key)?;
+            return Ok(());
         }
+        page.read_record(key.id, rec);
+        self.keep(PageKey::of(key), page);
         Ok(())
+    }
+
+    // Keeps a page, as the last one of its file, if there is memory for that.
+    fn keep(&mut self, key: PageKey, page: Page)
+        ensures { (self.new ≡ self.old) ⊎ (self.new ≡ record self.old
+            { entries = put_entries page_eq self.old key page }) }
+    {
+        // The contract of `len` says that no more pages are kept than there is room for.
+        let _before = self.pages.len();
+        self.last.put(key, &page);
+        match self.pages.push(key, page) {
+            Ok(gone) => self.spare = self.last.forget_gone(gone),
+            Err(refused) => {
+                self.last.forget(key);
+                drop(refused);
+            }
+        }
     }
 }

@@ -1,59 +1,75 @@
-use Rattle.std.proofs.Common.{ap, sym, subst, ◌∙◌, ◌≡◌, Contains, List, Some, is_some, ℕ}
-use Rattle.std.specs.List.{slice_get}
+use Rattle.std.proofs.Common.{ap, inl, inr, refl, sym, subst, ◌∙◌, ◌≡◌, Contains, List, Some, None, is_some, ℕ}
 use Rattle.std.specs.Map.{lookup}
-use Rattle.std.proofs.lemmas.Bool.{false≢true}
 use Rattle.lru.proofs.CallerLemmas.{Contains-promoted}
-use Rattle.lru.specs.LruCache.{LruCache}
+use Rattle.lru.specs.LruCache.{lru_cache, promoted}
+use Rattle.disk_model.specs.Contents.{Files}
 use Rattle.page_cache.specs.declared.page.PageKey.{PageKey}
-use Rattle.page_cache.specs.contracts.page_cache.PageCache.{the_view}
+use Rattle.page_cache.specs.LastPages.{AreLastKept}
 use Rattle.page_cache.specs.Pages.{Agrees, Pages, kept_page, page_eq, used_last}
-use Rattle.page_cache.proofs.Agreement.{agrees_found, agrees_within, first_found}
-use Rattle.page_cache.proofs.page_cache.PageCache.find_into.Goals.{in-Some-get, in-None, in_default, in-Some+else-eq}
+use Rattle.page_cache.proofs.Agreement.{agrees_found, agrees_within, unused}
+use Rattle.page_cache.proofs.LastPages.{last_promoted, last_put, lookup-promoted}
 use Rattle.page_cache.proofs.page_cache.PageCache.find_into.Goals as goal
 
-pub returns-clause-record : goal.returns-clause-record
-returns-clause-record c content agrees there =
-    let pages = c.match-peek_mru.self-inside.pages in
-    -- a look at the page that was used last changes nothing
-    let start : Agrees content (the_view c.self.inside) = subst (Agrees content) (sym c.self.view_is) agrees in
-    let before : Agrees content pages = elim c.match-peek_mru.branch [
-      | in-Some+else-eq w ↦ subst (λ inside. Agrees content (the_view inside)) (sym w.self-inside-is) start
-      | in_default w ↦ subst (λ inside. Agrees content (the_view inside)) (sym w.self-inside-is) start
-    ] in
-    elim c.match-get.branch [
-      | in-Some-get w ↦ w.rec-is ∙ w.read_record-in-Some-get.ensures
-          ∙ agrees_found content pages c.args.key w.in-Some-get.page.now c.requires before (ap (λ page. lookup (page_eq page) pages.entries) (sym c.of-wanted.ensures) ∙ sym w.in-Some-get.ensures.value)
-      | in-None w ↦ absurd (false≢true (sym w.result-is ∙ there))
-    ]
+-- the last page of the record's file is the record's, and it is among the pages
+held : (c : goal.After-read_record) → kept_page c.args.key c.args.self.now ≡ Some c.in-Some.page.now
+held c =
+    ap (λ (page : PageKey). lookup (page_eq page) c.args.self.now.entries) (sym c.of-wanted.ensures)
+    ∙ subst (λ (pages : Pages). lookup (page_eq c.of-wanted.result) pages.entries ≡ Some c.in-Some.page.now) c.self.view_is (c.self.invariant c.of-wanted.result c.in-Some.page.now (sym c.in-Some.ensures))
 
-pub returns-clause-agrees : goal.returns-clause-agrees
-returns-clause-agrees c content agrees =
-    let pages = c.match-peek_mru.self-inside.pages in
-    -- a look at the page that was used last changes nothing
-    let start : Agrees content (the_view c.self.inside) = subst (Agrees content) (sym c.self.view_is) agrees in
-    let before : Agrees content pages = elim c.match-peek_mru.branch [
-      | in-Some+else-eq w ↦ subst (λ inside. Agrees content (the_view inside)) (sym w.self-inside-is) start
-      | in_default w ↦ subst (λ inside. Agrees content (the_view inside)) (sym w.self-inside-is) start
-    ] in
-    let after = agrees_within content pages c.get.follows.lender-at-none before (λ entry i.
-    Contains-promoted (page_eq c.of-wanted.result) pages.entries entry (subst (λ es. Contains es entry) (ap (λ (cache : LruCache PageKey (List ℕ)). cache.entries) c.get.follows.holds-at-none) i)) in
-    elim c.match-get.branch [
-      | in-Some-get w ↦ subst (λ inside. Agrees content (the_view inside)) (sym w.self-inside-is) after
-      | in-None w ↦ subst (λ inside. Agrees content (the_view inside)) (sym w.self-inside-is) after
-    ]
+pub returns-in-Some-clause-kept : goal.returns-in-Some-clause-kept
+returns-in-Some-clause-kept c = ap is_some (sym (held c))
 
--- the page that was used last is the record's
-first : (c : goal.After-read_record) → (kept_page c.args.key c.args.self.now ≡ Some c.in-Some.page.now) × (used_last c.args.key c.args.self.now ≡ c.args.self.now)
-first c =
-    first_found c.args.self.now c.args.key c.in-Some.last.now c.of-wanted.result c.in-Some.page.now c.of-wanted.ensures (sym c.eq.ensures ∙ c.if-eq.true)
-    (c.in-Some.ensures ∙ ap (λ (pages : Pages). slice_get pages.entries 0) c.self.view_is)
+pub returns-in-Some-clause-record : goal.returns-in-Some-clause-record
+returns-in-Some-clause-record c content agrees there =
+    c.read_record.ensures ∙ agrees_found content c.args.self.now c.args.key c.in-Some.page.now c.requires agrees (held c)
 
-pub returns-then-eq-clause-kept : goal.returns-then-eq-clause-kept
-returns-then-eq-clause-kept c = ap is_some (sym (first c).0)
+-- where the list is looked through
+moved_agrees : (content : Files) (pages moved : Pages) (wanted : PageKey) → moved ≡ lru_cache (promoted (page_eq wanted) pages.entries) pages.cap → Agrees content pages → Agrees content moved
+moved_agrees content pages moved wanted is agrees =
+    agrees_within content pages moved agrees (λ entry i. Contains-promoted (page_eq wanted) pages.entries entry (subst (λ (p : Pages). Contains p.entries entry) is i))
 
-pub returns-then-eq-clause-record : goal.returns-then-eq-clause-record
-returns-then-eq-clause-record c content agrees there =
-    c.read_record.ensures ∙ agrees_found content c.args.self.now c.args.key c.in-Some.page.now c.requires agrees (first c).0
+pub invariant_of-self : goal.invariant_of-self
+invariant_of-self c =
+    let pages = c.self.inside.pages in
+    let wanted = c.of-wanted.result in
+    let moved = c.get.follows.lender-at-none in
+    last_put c.self.inside.last.files c.put.new.self.files moved wanted c.in-Some-get.page.now
+    (ap (λ (p : Pages). lookup (page_eq wanted) p.entries) c.get.follows.holds-at-none ∙ lookup-promoted wanted wanted pages.entries ∙ sym c.in-Some-get.ensures.value)
+    (subst (AreLastKept c.self.inside.last.files) (sym c.get.follows.holds-at-none) (last_promoted c.self.inside.last.files pages wanted c.self.invariant))
+    c.put.ensures
 
-pub returns-then-eq-clause-used : goal.returns-then-eq-clause-used
-returns-then-eq-clause-used c = sym (first c).1
+pub invariant_of-self-in-None : goal.invariant_of-self-in-None
+invariant_of-self-in-None c =
+    subst (AreLastKept c.self.inside.last.files) (sym c.get.follows.holds-at-none) (last_promoted c.self.inside.last.files c.self.inside.pages c.of-wanted.result c.self.invariant)
+
+pub returns-in-Some-get-clause-record : goal.returns-in-Some-get-clause-record
+returns-in-Some-get-clause-record c content agrees there =
+    let pages = c.self.inside.pages in
+    c.read_record-in-Some-get.ensures
+    ∙ agrees_found content pages c.args.key c.in-Some-get.page.now c.requires (subst (Agrees content) (sym c.self.view_is) agrees)
+    (ap (λ (page : PageKey). lookup (page_eq page) pages.entries) (sym c.of-wanted.ensures) ∙ sym c.in-Some-get.ensures.value)
+
+pub returns-in-Some-get-clause-agrees : goal.returns-in-Some-get-clause-agrees
+returns-in-Some-get-clause-agrees c content agrees =
+    moved_agrees content c.self.inside.pages c.get.follows.lender-at-none c.of-wanted.result c.get.follows.holds-at-none (subst (Agrees content) (sym c.self.view_is) agrees)
+
+pub returns-in-Some-get-clause-used : goal.returns-in-Some-get-clause-used
+returns-in-Some-get-clause-used c =
+    let pages = c.self.inside.pages in
+    inr (c.get.follows.holds-at-none ∙ ap (λ (page : PageKey). lru_cache (promoted (page_eq page) pages.entries) pages.cap) c.of-wanted.ensures ∙ ap (used_last c.args.key) c.self.view_is)
+
+pub returns-in-None-clause-agrees : goal.returns-in-None-clause-agrees
+returns-in-None-clause-agrees c content agrees =
+    moved_agrees content c.self.inside.pages c.get.follows.lender-at-none c.of-wanted.result c.get.follows.holds-at-none (subst (Agrees content) (sym c.self.view_is) agrees)
+
+-- where the page isn't kept
+stays : (pages moved now : Pages) (wanted : PageKey) → moved ≡ lru_cache (promoted (page_eq wanted) pages.entries) pages.cap → lookup (page_eq wanted) pages.entries ≡ None → pages ≡ now → moved ≡ now
+stays pages moved now wanted is none view = is ∙ ap (λ (entries : List (PageKey × List ℕ)). lru_cache entries pages.cap) (unused (page_eq wanted) pages.entries none) ∙ view
+
+pub returns-in-None-clause-absent : goal.returns-in-None-clause-absent
+returns-in-None-clause-absent c _ =
+    (refl, stays c.self.inside.pages c.get.follows.lender-at-none c.args.self.now c.of-wanted.result c.get.follows.holds-at-none (sym c.in-None.ensures.value) c.self.view_is)
+
+pub returns-in-None-clause-used : goal.returns-in-None-clause-used
+returns-in-None-clause-used c =
+    inl (stays c.self.inside.pages c.get.follows.lender-at-none c.args.self.now c.of-wanted.result c.get.follows.holds-at-none (sym c.in-None.ensures.value) c.self.view_is)

@@ -1,0 +1,40 @@
+-- Of each file the page that was used last.
+use Rattle.std.specs.Prelude.{◌≡◌, ◌⊎◌, ℕ, List, Option, Some, None, cond, false, nat_eq, slice_get}
+use Rattle.std.specs.Map.{lookup}
+use Rattle.page_cache.specs.Pages.{Pages, page_eq}
+use Rattle.page_cache.specs.declared.page.PageKey.{PageKey}
+use Rattle.page_cache.specs.declared.last_pages.LastPage.{LastPage}
+
+-- the bytes of a file's last page, if it has this number
+abbrev pub numbered : ℕ → Option (Option LastPage) → Option (List ℕ)
+numbered number (Some (Some last)) = cond (nat_eq last.number number) (Some last.page) None
+numbered number (Some None) = None
+numbered number None = None
+
+-- the bytes of a page, if it is the last one of its file
+abbrev pub last_page : List (Option LastPage) → PageKey → Option (List ℕ)
+last_page files page = numbered page.number (slice_get files page.file)
+
+-- the last page of each file is among the pages
+abbrev pub AreLastKept : List (Option LastPage) → Pages → Type 0
+AreLastKept files pages = (page : PageKey) (bytes : List ℕ) → last_page files page ≡ Some bytes
+    → lookup (page_eq page) pages.entries ≡ Some bytes
+
+-- each last page was one before, and isn't this one
+abbrev pub ForgetsLast : PageKey → List (Option LastPage) → List (Option LastPage) → Type 0
+ForgetsLast page old new = (other : PageKey) (bytes : List ℕ) → last_page new other ≡ Some bytes
+    → (page_eq page other ≡ false) × (last_page old other ≡ Some bytes)
+
+-- each last page was one before, and isn't the one that went from the list
+abbrev pub ForgetsGone : Option (PageKey × List ℕ) → List (Option LastPage)
+    → List (Option LastPage) → Type 0
+ForgetsGone gone old new = (other : PageKey) (bytes : List ℕ) → last_page new other ≡ Some bytes
+    → ((pair : PageKey × List ℕ) → gone ≡ Some pair → page_eq pair.0 other ≡ false)
+    × (last_page old other ≡ Some bytes)
+
+-- each last page is this one, with these bytes, or another that was one before
+abbrev pub PutsLast : PageKey → List ℕ → List (Option LastPage) → List (Option LastPage) → Type 0
+PutsLast page held old new = (other : PageKey) (bytes : List ℕ)
+    → last_page new other ≡ Some bytes
+    → ((other ≡ page) × (bytes ≡ held))
+    ⊎ ((page_eq page other ≡ false) × (last_page old other ≡ Some bytes))
