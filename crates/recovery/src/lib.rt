@@ -1,6 +1,7 @@
 //! Recovery: what the log says comes into the files of records, at a checkpoint and after a stop. A
 //! checkpoint costs a write for each run of at most 64 changed records that stand one behind the
-//! other in a file, and nine syncs; recovery reads the log twice and syncs all files twice.
+//! other in a file, and nine syncs; recovery reads the log twice and syncs all files, and does so
+//! once more where the log has an entry.
 #![tactic(auto)]
 
 mod checkpointing;

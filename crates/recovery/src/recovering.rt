@@ -16,8 +16,9 @@ use crate::redoing::redo;
 use disk_model::Disk;
 
 /// Brings a disk into order after a stop: tests the log and the meta records, and then brings what
-/// the log's entries say into the files of records and takes the entries away. It takes no memory,
-/// may be stopped at any moment and run again, and writes nothing where it refuses the disk.
+/// the log's entries say into the files of records and takes the entries away. All files are synced
+/// before the tests, and again only where the log has an entry. It takes no memory, may be stopped
+/// at any moment and run again, and writes nothing where it refuses the disk.
 pub fn recover<D: Disk>(disk: &mut D) -> Result<Found, RecoverFault>
     // A stop at any moment leaves an image from before, or a content that redoes to what was read
     // at the start.

@@ -1,4 +1,4 @@
-ghost use Rattle.std.specs.Prelude.{◌≡◌, ◌≢◌, ◌≤◌, [], List, ℕ, OnOk};
+ghost use Rattle.std.specs.Prelude.{◌≡◌, ◌≢◌, ◌≤◌, [], List, ℕ, IfOk, OnOk, false};
 ghost use Rattle.disk_model.specs.Spans.{AtEachMoment, IsAllSettled, OnlyReads};
 ghost use Rattle.rec_bytes.specs.declared.key.Key.{Key as AKey};
 ghost use Rattle.rec_bytes.specs.declared.record.Rec.{Rec as ARec};
@@ -24,7 +24,8 @@ use redo_log::{EntryAnswer, LogReader, reset};
 pub(crate) const ENTRY_RULE: u8 = 0;
 
 /// Brings what the log says into the files of records, and takes its entries away. The disk must be
-/// settled, so that each image is what is read.
+/// settled, so that each image is what is read. Where the log has no entry, the disk is only read,
+/// and no file is synced again.
 pub(crate) fn redo<D: Disk>(disk: &mut D) -> Result<(), RecoverFault>
     // A stop at any moment leaves a content that redoes to the same.
     ensures crash { D.tells_reads → D.tells_images → IsAllSettled D.Disk disk.old
@@ -37,7 +38,8 @@ pub(crate) fn redo<D: Disk>(disk: &mut D) -> Result<(), RecoverFault>
     ensures space { D.tells_reads → (space : AKey → ARec) → Redoes (D.reads disk.old) space
         → OnOk result (record_at (D.reads disk.new) ≡ space) }
     ensures emptied { D.tells_reads → OnOk result (HasEntries (D.reads disk.new) [] 0) }
-    ensures settled { D.tells_reads → D.tells_images → OnOk result (IsAllSettled D.Disk disk.new) }
+    ensures settled { D.tells_reads → D.tells_images → IsAllSettled D.Disk disk.old
+        → OnOk result (IsAllSettled D.Disk disk.new) }
     ensures sound { D.tells_reads → (space : AKey → ARec) → Redoes (D.reads disk.old) space
         → BlamesDisk result }
 
@@ -47,14 +49,17 @@ pub(crate) fn redo<D: Disk>(disk: &mut D) -> Result<(), RecoverFault>
 
     ensures cause { HasCause (D.faults disk.old) (D.faults disk.new) result }
 {
-    redo_entries(disk)?;
+    if !redo_entries(disk)? {
+        return Ok(());
+    }
     sync_record_files(disk)?; // All records are stable.
     reset(disk)?;
     Ok(())
 }
 
-// Writes the records of the log's entries in their files, one entry after the other.
-fn redo_entries<D: Disk>(disk: &mut D) -> Result<(), RecoverFault>
+// Writes the records of the log's entries in their files, one entry after the other, and says
+// whether there is one.
+fn redo_entries<D: Disk>(disk: &mut D) -> Result<bool, RecoverFault>
     ensures redone { D.tells_reads → (entries : List Pairs) (tail : ℕ)
         → HasEntries (D.reads disk.old) entries tail
         → OnOk result (record_at (D.reads disk.new)
@@ -69,17 +74,22 @@ fn redo_entries<D: Disk>(disk: &mut D) -> Result<(), RecoverFault>
         → HasEntries (D.reads disk.old) entries tail → BlamesDisk result }
     ensures closed { D.tells_reads → D.reads disk.old log_file 0 ≢ open_byte
         → OnlyReads D.Disk disk.old disk.new }
+    ensures untouched { IfOk result (λ some. some ≡ false → OnlyReads D.Disk disk.old disk.new) }
+    ensures none { D.tells_reads
+        → IfOk result (λ some. some ≡ false → D.reads disk.old log_file 0 ≢ open_byte) }
     ensures cause { HasCause (D.faults disk.old) (D.faults disk.new) result }
 {
     let mut reader = LogReader::new();
     let mut place = 0;
+    let mut some = false;
     loop {
         match reader.entry_at(disk, place) {
             EntryAnswer::Entry { count, next } => {
                 redo_entry(disk, &mut reader, place, count)?;
                 place = next;
+                some = true;
             }
-            EntryAnswer::End => return Ok(()),
+            EntryAnswer::End => return Ok(some),
             EntryAnswer::Disk => return Err(RecoverFault::Disk),
             EntryAnswer::Damaged { place } => return Err(damaged_entry(place)),
         }

@@ -113,6 +113,16 @@ returns-in_err-reset-clause-read g c reads space redoes =
     (space_read g c.args.disk.now c.redo_entries.new.disk c.sync_record_files.new.disk space redoes (c.in_ok-redo_entries.ensures.redone reads redoes.entries redoes.tail redoes.log) c.sync_record_files.ensures.only_reads.keeps)
     c.reset.ensures.elsewhere (c.reset.ensures.read reads redoes.entries redoes.tail by.log)
 
+-- where the log has no entry
+pub returns-then-not-branch-clause-crash : goal.returns-then-not-branch-clause-crash
+returns-then-not-branch-clause-crash g c reads images settled space redoes =
+    weaker g c.args.disk.now c.redo_entries.new.disk redoes.entries redoes.tail space
+    (while_written g c.args.disk.now c.redo_entries.new.disk space redoes settled (c.redo_entries.ensures.crash reads images redoes.entries redoes.tail redoes.log))
+
+pub returns-then-not-branch-clause-unmade : goal.returns-then-not-branch-clause-unmade
+returns-then-not-branch-clause-unmade g c reads images settled unmade =
+    unmade_torn g.D.Disk c.args.disk.now c.redo_entries.new.disk unmade settled (c.redo_entries.ensures.crash reads images [] 0 unmade.log)
+
 pub returns-clause-crash : goal.returns-clause-crash
 returns-clause-crash g c reads images settled space redoes =
     while_reset g c.args.disk.now c.sync_record_files.new.disk c.reset.new.disk space redoes images
@@ -189,7 +199,7 @@ pub returns-in_err-redo_entries-clause-emptied : goal.returns-in_err-redo_entrie
 returns-in_err-redo_entries-clause-emptied g c _ = never_ok c.from_residual.result _ _ c.from_residual.ensures.1
 
 pub returns-in_err-redo_entries-clause-settled : goal.returns-in_err-redo_entries-clause-settled
-returns-in_err-redo_entries-clause-settled g c _ _ = never_ok c.from_residual.result _ _ c.from_residual.ensures.1
+returns-in_err-redo_entries-clause-settled g c _ _ _ = never_ok c.from_residual.result _ _ c.from_residual.ensures.1
 
 pub returns-in_err-sync_record_files-clause-space : goal.returns-in_err-sync_record_files-clause-space
 returns-in_err-sync_record_files-clause-space g c _ _ _ =
@@ -200,7 +210,7 @@ returns-in_err-sync_record_files-clause-emptied g c _ =
     never_ok c.from_residual-in_err-sync_record_files.result _ _ c.from_residual-in_err-sync_record_files.ensures.1
 
 pub returns-in_err-sync_record_files-clause-settled : goal.returns-in_err-sync_record_files-clause-settled
-returns-in_err-sync_record_files-clause-settled g c _ _ =
+returns-in_err-sync_record_files-clause-settled g c _ _ _ =
     never_ok c.from_residual-in_err-sync_record_files.result _ _ c.from_residual-in_err-sync_record_files.ensures.1
 
 pub returns-in_err-reset-clause-space : goal.returns-in_err-reset-clause-space
@@ -210,4 +220,4 @@ pub returns-in_err-reset-clause-emptied : goal.returns-in_err-reset-clause-empti
 returns-in_err-reset-clause-emptied g c _ = never_ok c.from_residual-in_err-reset.result _ _ c.from_residual-in_err-reset.ensures.1
 
 pub returns-in_err-reset-clause-settled : goal.returns-in_err-reset-clause-settled
-returns-in_err-reset-clause-settled g c _ _ = never_ok c.from_residual-in_err-reset.result _ _ c.from_residual-in_err-reset.ensures.1
+returns-in_err-reset-clause-settled g c _ _ _ = never_ok c.from_residual-in_err-reset.result _ _ c.from_residual-in_err-reset.ensures.1

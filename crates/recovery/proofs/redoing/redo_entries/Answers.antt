@@ -1,4 +1,5 @@
-use Rattle.std.proofs.Common.{◌≡◌, ◌≢◌, ◌∙◌, ap, refl, ℕ, ◌+◌, List, [], arith}
+use Rattle.std.proofs.Common.{◌≡◌, ◌≢◌, ◌∙◌, ap, refl, sym, ℕ, ◌+◌, List, [], arith}
+use Rattle.std.proofs.lemmas.Bool.{false≢true}
 use Rattle.std.proofs.lemmas.Result.{err_from_is_err_and}
 use Rattle.disk_model.specs.Spans.{AtEachMoment, OnlyReads}
 use Rattle.disk_model.proofs.Spans.{at_each_moment_now, at_each_moment_on, at_each_moment_read, only_reads_on}
@@ -101,6 +102,9 @@ loop-count-preserved g c =
           c.entry_at.ensures.only_reads (c.redo_entry.ensures.crash reads images is.at);
       closed = λ reads closed. absurd (none_entered g c.args.disk.now c.loop-count.disk c.entry_at.new.disk c.loop-count.reader c.entry_at.new.self c.loop-count.place c.in-Entry.count c.in-Entry.next closed
           (λ has. c.loop-count.invariant.made reads [] 0 has) (c.in-Entry.ensures.tells reads) c.in-Entry.ensures.in_log.2 c.entry_at.ensures.only_reads (c.entry_at.ensures.keeps reads));
+      first = λ none. absurd (false≢true (sym none));
+      untouched = λ none. absurd (false≢true (sym none));
+      fresh = λ reads none. absurd (false≢true (sym none));
       later = omega (arith, c.loop-count.invariant.later, c.entry_at.ensures.later, c.redo_entry.ensures.cause.later);
     }
 
@@ -128,3 +132,13 @@ returns-in-Disk-clause-closed g c reads closed =
 pub returns-in-Damaged-clause-closed : goal.returns-in-Damaged-clause-closed
 returns-in-Damaged-clause-closed g c reads closed =
     only_reads_on g.D.Disk c.args.disk.now c.loop-count.disk c.entry_at.new.disk (c.loop-count.invariant.closed reads closed) c.entry_at.ensures.only_reads
+
+-- where no entry was met
+pub returns-in-End-clause-untouched : goal.returns-in-End-clause-untouched
+returns-in-End-clause-untouched g c none =
+    only_reads_on g.D.Disk c.args.disk.now c.loop-count.disk c.entry_at.new.disk (c.loop-count.invariant.untouched none) c.entry_at.ensures.only_reads
+
+pub returns-in-End-clause-none : goal.returns-in-End-clause-none
+returns-in-End-clause-none g c reads none is_open =
+    c.in-End.ensures.tells reads (c.loop-count.invariant.fresh reads none)
+    (ap (λ place. g.D.Disk.reads c.loop-count.disk log_file place) (c.loop-count.invariant.first none) ∙ (c.loop-count.invariant.untouched none).keeps log_file 0 ∙ is_open)
