@@ -1,25 +1,24 @@
--- What a new element leaves as it was, and which record is damaged where it is added.
+-- What a new element leaves of the free lists, and which record is damaged where it is added.
 use Rattle.std.specs.Cmp.Lexicographic.{pointwise}
 use Rattle.std.specs.List.{list_any}
-use Rattle.std.proofs.Common.{◌≡◌, ◌≢◌, ◌∙◌, ℕ, ◌<◌, ◌≤◌, nat_eq, Bool, true, false, cond, List, [], ◌∷◌, ◌++◌, length, map, sym, ap, subst, ⊎_elim, arith, refl, inl}
+use Rattle.std.proofs.Common.{◌≡◌, ◌≢◌, ◌∙◌, ℕ, nat_eq, Bool, true, false, cond, List, length, map, sym, ap, subst, ⊎_elim, arith, refl, inl, inr}
 use Rattle.plain_graph.specs.declared.pairs.Pair.{Pair}
 use Rattle.rec_bytes.specs.declared.damage.Damage.{Damage}
 use Rattle.rec_bytes.specs.declared.key.Key.{Key}
 use Rattle.rec_bytes.specs.declared.record.Rec.{Rec}
-use Rattle.rec_bytes.specs.declared.shape.Shape.{Shape}
 use Rattle.rec_bytes.specs.declared.space.SpaceFault.{SpaceFault}
 use Rattle.rec_bytes.specs.declared.space.SpaceFault.TheVariants as spaces
 use Rattle.std.proofs.Math.Path.{fun_ext}
 use Rattle.rec_bytes.specs.Format as format
 use Rattle.rec_bytes.specs.Meta as meta_records
 use Rattle.rec_bytes.specs.RecordFiles.{meta_key_of}
-use Rattle.rec_bytes.specs.declared.meta.Meta.{Meta}
 use Rattle.rec_bytes.specs.Record.{field}
-use Rattle.rec_bytes.specs.RecordFiles.{room_of}
-use Rattle.rec_bytes.specs.Space.{IsAmong, State, after_put, meta_of, put}
+use Rattle.rec_bytes.specs.Space.{State, after_put, meta_of, put}
 use Rattle.rec_bytes.proofs.KeyLaws.{key_eq-other}
-use Rattle.id_freelist.specs.Taking.{BadNext, InUse, IsRanged, IsTakeDamage, IsTakeFault, IsUnused, Overcounted, Undercounted, Unlisted, Unranged, record_damage, room}
-use Rattle.id_freelist.proofs.TakeBreaches.{breaks_of}
+use Rattle.id_freelist.specs.ListDamage.{HarmsNoList}
+use Rattle.id_freelist.specs.Taking.{IsTakeDamage, IsTakeFault}
+use Rattle.id_freelist.proofs.ListSteps.{beside_harms_none, harms_none_then}
+use Rattle.id_freelist.proofs.TakeBreaches.{list_breaks, list_damage}
 use Rattle.id_freelist.specs.declared.take_fault.TakeFault.{TakeFault}
 use Rattle.id_freelist.specs.declared.take_fault.TakeFault.TheVariants as take
 use Rattle.name_store.specs.Interning.{counted, interned, named}
@@ -30,17 +29,14 @@ use Rattle.plain_graph.specs.declared.command.Target.TheVariants as targets
 use Rattle.prop_store.specs.FileChange.{IsSameBeside}
 use Rattle.prop_store.specs.Owner.{first_of}
 use Rattle.prop_store.specs.Reading.{properties_met}
-use Rattle.prop_store.specs.Setting.{BlamesSet, BreaksMidway}
-use Rattle.prop_store.specs.Touching.{TouchesProperties, property_keys}
+use Rattle.prop_store.specs.Setting.{BlamesLists, HarmsNoLists}
 use Rattle.prop_store.specs.declared.set_fault.SetFault.{SetFault}
 use Rattle.prop_store.specs.declared.set_fault.SetFault.TheVariants as sets
-use Rattle.store_rules.specs.Breaking.{Breaks, BreaksAny}
+use Rattle.store_rules.specs.Breaking.{BreaksAny}
 use Rattle.store_rules.specs.Properties.{property_at, property_ids}
-use Rattle.store_rules.specs.Rules.{next_free}
-use Rattle.store_rules.specs.Views.{Records, high, key_in, kind_at, kind_in, rec_at}
-use Rattle.store_rules.specs.Writes.{ChangesOnly}
+use Rattle.store_rules.specs.Views.{Records, key_in, rec_at}
 use Rattle.graph_ops.specs.ChangeFault.{of_set, of_space, of_take}
-use Rattle.graph_ops.specs.Damage.{AddsElement, BreaksAdding, IfBlames, IsBeyond, KeepsBeyond}
+use Rattle.graph_ops.specs.Damage.{IfBlames, IsBroken, IsOfLists, KeepsButNames}
 use Rattle.graph_ops.specs.Owners.{owner_of}
 use Rattle.graph_ops.specs.Preparing.{IsLineCause}
 use Rattle.graph_ops.specs.Rooms.{LacksRoom}
@@ -66,9 +62,6 @@ interned_beside s t names text is = subst (λ (z : State). IsSameBeside format.n
     by true = λ q other no_meta. refl
     by false = named_beside s (length names) text
 
-pub interned_beyond : (s t : State) (names : List (List ℕ)) (text : List ℕ) → t ≡ interned s names text → KeepsBeyond s t
-interned_beyond s t names text is q beyond = interned_beside s t names text is q beyond.names beyond.names_meta
-
 -- the records of an element lead through the same properties
 pub met_beside : (s t : Records) (target : Target) → IsSameBeside format.names_file s t → properties_met t (owner_of target) ≡ properties_met s (owner_of target)
 met_beside s t target same =
@@ -85,77 +78,58 @@ met_beside s t target same =
     first (targets.Edge id) = ap (λ (r : Rec). field 4 r format.relationship_first_property) (same (key_in format.relationships_file id) (λ e. omega arith) (λ e. let f = ap (λ (k : Key). k.file) e in omega arith))
 
 -- a key of a line gets its number, or is only counted
-pub key_beyond : (few : Bool) (s t : State) (names : List (List ℕ)) (text : List ℕ) → (few ≡ true → t ≡ interned s names text) → (few ≡ false → t ≡ s) → KeepsBeyond s t
-key_beyond true s t names text ok held = interned_beyond s t names text (ok refl)
-key_beyond false s t names text ok held = subst (KeepsBeyond s) (sym (held refl)) (λ q beyond. refl)
+pub key_beside : (few : Bool) (s t : State) (names : List (List ℕ)) (text : List ℕ) → (few ≡ true → t ≡ interned s names text) → (few ≡ false → t ≡ s) → KeepsButNames s t
+key_beside true s t names text ok held = interned_beside s t names text (ok refl)
+key_beside false s t names text ok held = subst (KeepsButNames s) (sym (held refl)) (λ q other no_meta. refl)
 
-pub beyond_then : (s t u : State) → KeepsBeyond s t → KeepsBeyond t u → KeepsBeyond s u
-beyond_then s t u h k q beyond = k q beyond ∙ h q beyond
+pub names_then : (s t u : State) → KeepsButNames s t → KeepsButNames t u → KeepsButNames s u
+names_then s t u h k q other no_meta = k q other no_meta ∙ h q other no_meta
 
--- ---- elements
+-- ---- free lists
 
-pub adds_none : (element : Key) (s t : State) → t.shape ≡ s.shape → KeepsBeyond s t → AddsElement element s t
-adds_none element s t shape keeps = record { shape = shape; others = λ q beyond ne meta. keeps q beyond }
+-- those of a file stay where another one changed
+module _ (s t : State) (changed : ℕ) (shape : t.shape ≡ s.shape) (keeps : IsSameBeside changed s.records t.records) where
+  list_stays : (file : ℕ) → file ≢ changed → file ≢ format.meta_file → changed ≢ format.meta_file → HarmsNoList s t file
+  list_stays file other own known = beside_harms_none s t file shape
+      (keeps (meta_key_of file) (λ e. known (sym e)) (λ e. other (ap (λ (k : Key). k.id) e))) (λ x. keeps (key_in file x) other (λ e. own (ap (λ (k : Key). k.file) e)))
 
-pub adds_then : (element : Key) (s t u : State) → AddsElement element s t → AddsElement element t u → AddsElement element s u
-adds_then element s t u h k = record { shape = k.shape ∙ h.shape; others = λ q beyond ne meta. k.others q beyond ne meta ∙ h.others q beyond ne meta }
-
--- an identifier is taken, and the record is written
-pub adds_record : (element : Key) (s t : State) (rec : Rec) → t.shape ≡ s.shape → ChangesOnly s t (meta_key_of element.file ∷ []) → AddsElement element s (after_put t element rec)
-adds_record element s t rec shape changes = record {
-  shape = shape;
-  others = λ q beyond ne meta. put_other t.records element rec q ne
-      ∙ ⊎_elim (λ e. e) (λ (i : IsAmong q (meta_key_of element.file ∷ [])). absurd (⊎_elim meta (λ (f : ⊥). f) i)) (changes.each q);
+pub names_harm_no_lists : (s t : State) → t.shape ≡ s.shape → KeepsButNames s t → HarmsNoLists s t
+names_harm_no_lists s t shape keeps = record {
+  properties = list_stays s t format.names_file shape keeps format.properties_file (λ e. omega arith) (λ e. omega arith) (λ e. omega arith);
+  blocks = list_stays s t format.names_file shape keeps format.strings_file (λ e. omega arith) (λ e. omega arith) (λ e. omega arith);
 }
 
--- ---- values
-
-among_ids : (file : ℕ) (ids : List ℕ) (rest : List Key) (q : Key) → q.file ≢ file → IsAmong q (map (key_in file) ids ++ rest) → IsAmong q rest
-among_ids file [] rest q ne i = i
-among_ids file (x ∷ ids) rest q ne i = ⊎_elim (λ e. absurd (ne (ap (λ (k : Key). k.file) e))) (λ j. among_ids file ids rest q ne j) i
-
-beyond_keys : (ids blocks : List ℕ) (q : Key) → IsBeyond q → ¬ IsAmong q (property_keys ids blocks)
-beyond_keys ids blocks q beyond i =
-    ⊎_elim beyond.properties_meta (λ j. ⊎_elim beyond.blocks_meta (λ (f : ⊥). f) j)
-    (among_ids format.strings_file blocks _ q beyond.blocks (among_ids format.properties_file ids _ q beyond.properties i))
-
-pub adds_value : (tells : Type 0) (element : Key) (properties blocks : ℕ) (s t : State) → tells → t.shape ≡ s.shape → TouchesProperties tells (element ∷ []) properties blocks s t → AddsElement element s t
-adds_value tells element properties blocks s t does shape touches = record {
-  shape = shape;
-  others = λ q beyond ne meta. ⊎_elim (λ e. e)
-      (λ (i : IsAmong q (element ∷ property_keys touches.ids touches.block_ids)). absurd (⊎_elim ne (λ j. beyond_keys touches.ids touches.block_ids q beyond j) i))
-      ((touches.only.stays does).each q);
+pub node_harms_no_lists : (s t : State) → t.shape ≡ s.shape → IsSameBeside format.nodes_file s.records t.records → HarmsNoLists s t
+node_harms_no_lists s t shape keeps = record {
+  properties = list_stays s t format.nodes_file shape keeps format.properties_file (λ e. omega arith) (λ e. omega arith) (λ e. omega arith);
+  blocks = list_stays s t format.nodes_file shape keeps format.strings_file (λ e. omega arith) (λ e. omega arith) (λ e. omega arith);
 }
 
-midway_beyond : (tells : Type 0) (blocks : ℕ) (s t : State) → tells → TouchesProperties tells [] 0 blocks s t → KeepsBeyond s t
-midway_beyond tells blocks s t does touches q beyond = ⊎_elim (λ e. e)
-    (λ (i : IsAmong q (property_keys touches.ids touches.block_ids)). absurd (beyond_keys touches.ids touches.block_ids q beyond i))
-    ((touches.only.stays does).each q)
+pub no_lists_harmed : (s : State) → HarmsNoLists s s
+no_lists_harmed s = record { properties = λ d why. why; blocks = λ d why. why }
+
+pub no_lists_then : (s t u : State) → HarmsNoLists s t → HarmsNoLists t u → HarmsNoLists s u
+no_lists_then s t u h k = record {
+  properties = harms_none_then s t u format.properties_file h.properties k.properties;
+  blocks = harms_none_then s t u format.strings_file h.blocks k.blocks;
+}
 
 -- ---- records that are blamed
 
-pub value_breaks : (tells : Type 0) (element : Key) (blocks : ℕ) (s t : State) → tells → AddsElement element s t → (fault : SetFault) → BlamesSet tells blocks t fault → IfBlames (BreaksAdding element s) (of_set fault)
-value_breaks tells element blocks s t does adds (sets.PropsFull count) told = tt
-value_breaks tells element blocks s t does adds (sets.Full file live) told = tt
-value_breaks tells element blocks s t does adds sets.Memory told = tt
-value_breaks tells element blocks s t does adds sets.Disk told = tt
-value_breaks tells element blocks s t does adds (sets.Damaged damage) told = ⊎_elim
-    (λ (k : Breaks t.records t.shape damage). record { mid = t; adds = adds; breaks = inl (subst (λ (h : Shape). Breaks t.records h damage) adds.shape k) })
-    (λ (k : BreaksMidway tells blocks t damage). record {
-      mid = record k.mid { shape = t.shape };
-      adds = record {
-        shape = adds.shape;
-        others = λ q beyond ne meta. midway_beyond tells blocks t k.mid does k.touched q beyond ∙ adds.others q beyond ne meta;
-      };
-      breaks = inl (subst (λ (h : Shape). Breaks k.mid.records h damage) adds.shape k.breaks);
-    }) told
+-- what is wrong with the lists was so before
+pub lists_before : (s t : State) → HarmsNoLists s t → (d : Damage) → IsOfLists t d → IsOfLists s d
+lists_before s t harmless d told = ⊎_elim (λ k. inl (harmless.properties d k)) (λ k. inr (harmless.blocks d k)) told
 
-pub breaks_then : (element : Key) (s t : State) → AddsElement element s t → (damage : Damage) → BreaksAdding element t damage → BreaksAdding element s damage
-breaks_then element s t adds damage k = record {
-  mid = k.mid;
-  adds = adds_then element s t k.mid adds k.adds;
-  breaks = subst (λ (h : Shape). BreaksAny k.mid.records h damage) adds.shape k.breaks;
-}
+-- and breaks a rule
+pub lists_broken : (s : State) (d : Damage) → IsOfLists s d → IsBroken s d
+lists_broken s d told = inl (⊎_elim (list_breaks s.records s.shape format.properties_file refl d) (list_breaks s.records s.shape format.strings_file refl d) told)
+
+pub value_lists : (s t : State) → HarmsNoLists s t → (fault : SetFault) → BlamesLists t fault → IfBlames (IsOfLists s) (of_set fault)
+value_lists s t harmless (sets.PropsFull count) told = tt
+value_lists s t harmless (sets.Full file live) told = tt
+value_lists s t harmless sets.Memory told = tt
+value_lists s t harmless sets.Disk told = tt
+value_lists s t harmless (sets.Damaged damage) told = lists_before s t harmless damage told
 
 pub take_blamed : (s : State) (file : ℕ) (fault : TakeFault) → IsTakeFault s file fault → IfBlames (IsTakeDamage s file) (of_take fault)
 take_blamed s file (take.Full full live) told = tt
@@ -188,54 +162,10 @@ line_blamed told s names label pairs (Damaged damage) why = absurd why
 
 -- ---- a take where only names are new
 
-module _ (s u : State) (file : ℕ) (metas : meta_of u file ≡ meta_of s file) (shape : u.shape ≡ s.shape) (same : (x : ℕ) → rec_at u.records file x ≡ rec_at s.records file x) where
-  room_is : room u file ≡ room s file
-  room_is = ap (λ (h : Shape). room_of h file) shape
+pub node_damage : (s u : State) → u.shape ≡ s.shape → KeepsButNames s u → (d : Damage) → IsTakeDamage u format.nodes_file d → BreaksAny s.records s.shape d
+node_damage s u shape keeps d told =
+    inl (list_breaks s.records s.shape format.nodes_file refl d (list_stays s u format.names_file shape keeps format.nodes_file (λ e. omega arith) (λ e. omega arith) (λ e. omega arith) d (list_damage u format.nodes_file d told)))
 
-  kind_is : (x : ℕ) → kind_at u.records file x ≡ kind_at s.records file x
-  kind_is x = ap (λ (m : Meta). kind_in m.high (rec_at u.records file x) x) metas ∙ ap (λ (r : Rec). kind_in (high s.records file) r x) (same x)
-
-  unused_is : (x : ℕ) → IsUnused u.records file x → IsUnused s.records file x
-  unused_is x k = record { low = subst (λ (m : Meta). x < m.high) metas k.low; free = sym (kind_is x) ∙ k.free }
-
-  -- the record that is damaged was so before
-  pub damage_before : (d : Damage) → IsTakeDamage u file d → IsTakeDamage s file d
-  damage_before d (Unranged f) = Unranged (λ k. f (subst (λ (m : Meta). IsRanged m (room u file)) (sym metas) (subst (IsRanged (meta_of s file)) (sym room_is) k)))
-  damage_before d (Unlisted x none lt unused) = Unlisted x (subst (λ (m : Meta). m.free ≡ format.nil) metas none) (subst (λ (m : Meta). m.live < m.high) metas lt) (unused_is x unused)
-  damage_before d (Undercounted none lt used) = Undercounted (subst (λ (m : Meta). m.free ≡ format.nil) metas none) (subst (λ (m : Meta). m.live < m.high) metas lt)
-      (λ x low free. used x (subst (λ (m : Meta). x < m.high) (sym metas) low) (kind_is x ∙ free))
-  damage_before d (Overcounted le more) = Overcounted (subst (λ (m : Meta). m.high ≤ m.live) metas le)
-      (λ none. subst (λ (m : Meta). m.high < m.live) metas (more (subst (λ (m : Meta). m.free ≡ format.nil) (sym metas) none)))
-  damage_before d (InUse some used) = InUse (λ e. some (subst (λ (m : Meta). m.free ≡ format.nil) (sym metas) e))
-      (λ e. used (ap (λ (m : Meta). kind_at u.records file m.free) metas ∙ kind_is (meta_of s file).free ∙ e))
-  damage_before d (BadNext some unused next high_is) =
-      let free_is = ap (λ (m : Meta). m.free) metas in
-      let next_is = ap (λ (m : Meta). next_free u.records file m.free) metas ∙ ap (λ (r : Rec). field 4 r format.free_next) (same (meta_of s file).free) in
-      subst (λ x. IsTakeDamage s file (record_damage file x 1)) (sym free_is)
-      (BadNext (λ e. some (free_is ∙ e)) (unused_is (meta_of s file).free (subst (IsUnused u.records file) free_is unused))
-      (λ e. next (next_is ∙ e)) (let n = next_is in let h = ap (λ (m : Meta). m.high) metas in omega arith))
-
--- so it is at a file of other records than names
-node_beyond : (x : ℕ) → IsBeyond (key_in format.nodes_file x)
-node_beyond x = record {
-  names = λ e. omega arith;
-  properties = λ e. omega arith;
-  blocks = λ e. omega arith;
-  names_meta = λ e. let f : format.nodes_file ≡ format.meta_file = ap (λ (k : Key). k.file) e in omega arith;
-  properties_meta = λ e. let f : format.nodes_file ≡ format.meta_file = ap (λ (k : Key). k.file) e in omega arith;
-  blocks_meta = λ e. let f : format.nodes_file ≡ format.meta_file = ap (λ (k : Key). k.file) e in omega arith;
-}
-
-pub node_damage : (s u : State) → meta_of u format.nodes_file ≡ meta_of s format.nodes_file → u.shape ≡ s.shape → KeepsBeyond s u → (d : Damage) → IsTakeDamage u format.nodes_file d → BreaksAny s.records s.shape d
-node_damage s u metas shape keeps d told = inl (breaks_of s format.nodes_file refl d (damage_before s u format.nodes_file metas shape (λ x. keeps (key_in format.nodes_file x) (node_beyond x)) d told))
-
--- the meta record of the indexes is beyond names and properties
-pub index_beyond : (s u : State) → KeepsBeyond s u → meta_of u format.index_file ≡ meta_of s format.index_file
-index_beyond s u keeps = ap meta_records.meta_of (keeps (meta_key_of format.index_file) (record {
-  names = λ e. omega arith;
-  properties = λ e. omega arith;
-  blocks = λ e. omega arith;
-  names_meta = λ e. let f : format.index_file ≡ format.names_file = ap (λ (k : Key). k.id) e in omega arith;
-  properties_meta = λ e. let f : format.index_file ≡ format.properties_file = ap (λ (k : Key). k.id) e in omega arith;
-  blocks_meta = λ e. let f : format.index_file ≡ format.strings_file = ap (λ (k : Key). k.id) e in omega arith;
-}))
+-- the meta record of the indexes is none of the names
+pub index_beside : (s u : State) → KeepsButNames s u → meta_of u format.index_file ≡ meta_of s format.index_file
+index_beside s u keeps = ap meta_records.meta_of (keeps (meta_key_of format.index_file) (λ e. omega arith) (λ e. let f : format.index_file ≡ format.names_file = ap (λ (k : Key). k.id) e in omega arith))

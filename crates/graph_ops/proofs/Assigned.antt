@@ -26,7 +26,7 @@ use Rattle.store_rules.specs.Properties.{AreOnce}
 use Rattle.store_rules.specs.Writes.{WritesAtMost}
 use Rattle.graph_ops.specs.Assigning.{AreAssigned, HasTooMany, IsAssignFault, assigned_blocks, pair_at, pair_of, pairs_of, with_place}
 use Rattle.graph_ops.specs.ChangeFault.{of_intern}
-use Rattle.graph_ops.specs.Damage.{KeepsBeyond}
+use Rattle.graph_ops.specs.Damage.{KeepsButNames}
 use Rattle.graph_ops.specs.Rooms.{KeepsElementMetas}
 use Rattle.graph_ops.specs.Store.{IsMidway, KeepsElements}
 use Rattle.graph_ops.specs.declared.assigning.Assignment.{Assignment}
@@ -222,7 +222,7 @@ module _ (old names : List (List ℕ)) (pairs : List Pair) (items : List Assignm
 -- ---- the loop's invariant
 pub record IsAssigning (tells onward : Type 0) (s t : State) (before now : ℕ) (old names : List (List ℕ)) (pairs : List Pair) (n : ℕ) (items : List Assignment) : Type 0 where
   pub so_far : IsSoFar old names pairs n items
-  pub stays : tells → KeepsBeyond s t
+  pub stays : tells → KeepsButNames s t
   pub kept : tells → length items ≤ 32 → IsMidway s old → KeepsElements s t names
   pub metas : tells → KeepsElementMetas s t
   pub shape : tells → t.shape ≡ s.shape

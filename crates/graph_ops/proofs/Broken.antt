@@ -1,7 +1,7 @@
 -- A record that is called damaged breaks the rule.
 use Rattle.std.specs.Cmp.Lexicographic.{pointwise}
 use Rattle.std.specs.List.{list_any}
-use Rattle.std.proofs.Common.{◌≡◌, ◌⊎◌, ℕ, nat_eq, Bool, true, false, cond, Some, List, length, sym, subst, ⊎_elim, inl, inr, arith, refl}
+use Rattle.std.proofs.Common.{◌≡◌, ◌⊎◌, ℕ, nat_eq, Bool, true, false, cond, Some, List, length, sym, subst, inl, inr, arith, refl}
 use Rattle.plain_graph.specs.declared.command.Target.{Target}
 use Rattle.plain_graph.specs.declared.command.Target.TheVariants as targets
 use Rattle.rec_bytes.specs.declared.damage.Damage.{Damage}
@@ -21,7 +21,7 @@ use Rattle.rel_store.specs.Loading as rels
 use Rattle.rel_store.specs.declared.rel_row.RelRow.{RelRow}
 use Rattle.rel_store.proofs.Rows as rel_rows
 use Rattle.prop_store.specs.Fault as props
-use Rattle.prop_store.specs.Setting.{BlamesSet, BreaksMidway}
+use Rattle.prop_store.specs.Setting.{SetBlamesBroken}
 use Rattle.prop_store.specs.declared.set_fault.SetFault.{SetFault}
 use Rattle.prop_store.specs.declared.set_fault.SetFault.TheVariants as sets
 use Rattle.name_store.specs.Interning.{interned, named}
@@ -37,7 +37,7 @@ use Rattle.prop_index.specs.Blaming as indexes
 use Rattle.graph_ops.specs.ChangeFault.{IsFailure, of_fault, of_intern, of_row, of_set}
 use Rattle.graph_ops.specs.declared.change_fault.ChangeFault.{ChangeFault}
 use Rattle.graph_ops.specs.declared.change_fault.ChangeFault.TheVariants.{NoNode, NoEdge, HasRelationships, IndexThere, TooManyIndexes, IndexTooLarge, Full, NamesFull, PropsFull, Memory, Disk, Damaged}
-use Rattle.graph_ops.specs.Damage.{BlamesBroken, BlamesEntry, BlamesGiven, IfBlames, IsBroken, IsEntryDamage}
+use Rattle.graph_ops.specs.Damage.{BlamesBroken, BlamesEntry, BlamesGiven, IfBlames, IsBroken, IsEntryDamage, IsOfIndex}
 use Rattle.graph_ops.specs.NodeDeleting.{IsDeleteCause}
 use Rattle.graph_ops.specs.Owners.{MayMiss, owner_of}
 use Rattle.graph_ops.proofs.Elements.{used_of}
@@ -78,6 +78,11 @@ pub read_broken : (s m : State) → SameButReads s m → (fault : Fault) → pro
 read_broken s m same faults.Memory told = tt
 read_broken s m same faults.Disk told = tt
 read_broken s m same (faults.Damaged damage) told = inl (subst (λ (z : State). Breaks z.records z.shape damage) same told)
+
+pub index_named : (fault : Fault) → indexes.NamesIndexes fault → IfBlames IsOfIndex (of_fault fault)
+index_named faults.Memory told = tt
+index_named faults.Disk told = tt
+index_named (faults.Damaged damage) told = told
 
 pub index_broken : (s : State) (fault : Fault) → indexes.BlamesBroken s.records s.shape fault → BlamesBroken s (of_fault fault)
 index_broken s faults.Memory told = tt
@@ -146,10 +151,25 @@ blames_more told more then Memory blames = tt
 blames_more told more then Disk blames = tt
 blames_more told more then (Damaged damage) blames = then damage blames
 
-pub key_blamed : (tells : Type 0) (blocks : ℕ) (s named t : State) (fault : InternFault) → BlamesGiven tells blocks s named t (of_intern fault)
-key_blamed tells blocks s named t (interns.NamesFull count) = tt
-key_blamed tells blocks s named t interns.Memory = tt
-key_blamed tells blocks s named t interns.Disk = tt
+-- what is so of it in two ways
+pub blames_both : (one other : Damage → Type 0) (fault : ChangeFault) → IfBlames one fault → IfBlames other fault → IfBlames (λ damage. one damage × other damage) fault
+blames_both one other (NoNode id) a b = tt
+blames_both one other (NoEdge id) a b = tt
+blames_both one other (HasRelationships id degree) a b = tt
+blames_both one other IndexThere a b = tt
+blames_both one other TooManyIndexes a b = tt
+blames_both one other (IndexTooLarge count) a b = tt
+blames_both one other (Full file live) a b = tt
+blames_both one other (NamesFull count) a b = tt
+blames_both one other (PropsFull count) a b = tt
+blames_both one other Memory a b = tt
+blames_both one other Disk a b = tt
+blames_both one other (Damaged damage) a b = (a, b)
+
+pub key_blamed : (s named t : State) (fault : InternFault) → BlamesGiven s named t (of_intern fault)
+key_blamed s named t (interns.NamesFull count) = tt
+key_blamed s named t interns.Memory = tt
+key_blamed s named t interns.Disk = tt
 
 -- reads before a key becomes a name are counted after it
 pub interned_read : (s m : State) (names : List (List ℕ)) (key : List ℕ) → SameButReads s m → SameButReads (interned s names key) (interned m names key)
@@ -174,30 +194,12 @@ interned_in_use s names key (targets.Edge id) used = by (list_any (pointwise nat
     by true = used
     by false = used
 
-midway_read : (tells : Type 0) (blocks : ℕ) (s t : State) (damage : Damage) → SameButReads s t → BreaksMidway tells blocks t damage → BreaksMidway tells blocks s damage
-midway_read tells blocks s t damage same told =
-    let k = subst (λ (z : State). BreaksMidway tells blocks z damage) same told in
-    let touched = k.touched in
-    record {
-      mid = k.mid;
-      touched = record {
-        ids = touched.ids;
-        block_ids = touched.block_ids;
-        few_ids = touched.few_ids;
-        few_blocks = touched.few_blocks;
-        only = record { writes = record { each = touched.only.writes.each }; stays = λ does. record { each = (touched.only.stays does).each } };
-      };
-      breaks = k.breaks;
-    }
-
-pub value_blamed : (tells : Type 0) (blocks : ℕ) (s named t last : State) → SameButReads named t → (fault : SetFault) → BlamesSet tells blocks t fault → BlamesGiven tells blocks s named last (of_set fault)
-value_blamed tells blocks s named t last same (sets.PropsFull count) told = tt
-value_blamed tells blocks s named t last same (sets.Full file live) told = tt
-value_blamed tells blocks s named t last same sets.Memory told = tt
-value_blamed tells blocks s named t last same sets.Disk told = tt
-value_blamed tells blocks s named t last same (sets.Damaged damage) told = inr (⊎_elim
-    (λ (k : Breaks t.records t.shape damage). inl (inl (subst (λ (z : State). Breaks z.records z.shape damage) same k)))
-    (λ (k : BreaksMidway tells blocks t damage). inr (inl (midway_read tells blocks named t damage same k))) told)
+pub value_blamed : (s named t last : State) → SameButReads named t → (fault : SetFault) → SetBlamesBroken t fault → BlamesGiven s named last (of_set fault)
+value_blamed s named t last same (sets.PropsFull count) told = tt
+value_blamed s named t last same (sets.Full file live) told = tt
+value_blamed s named t last same sets.Memory told = tt
+value_blamed s named t last same sets.Disk told = tt
+value_blamed s named t last same (sets.Damaged damage) told = inr (inl (inl (subst (λ (z : State). Breaks z.records z.shape damage) same told)))
 
 -- ---- in the space as a call left it
 

@@ -13,7 +13,7 @@ use Rattle.plain_graph.specs.declared.value.Value.{Value}
 use Rattle.prop_store.specs.Finding.{IsCrowded, LacksMet, property_of}
 use Rattle.prop_store.specs.Reading.{properties_met}
 use Rattle.prop_store.specs.SetFault.{IsSetCause}
-use Rattle.prop_store.specs.Setting.{BlamesStill}
+use Rattle.prop_store.specs.Setting.{SetBlamesBroken}
 use Rattle.prop_store.specs.declared.set_fault.SetFault.{SetFault}
 use Rattle.prop_store.specs.declared.set_fault.SetFault.TheVariants as sets
 use Rattle.rec_bytes.specs.declared.damage.Damage.{Damage}
@@ -301,7 +301,7 @@ intern_blamed told (intern.NamesFull count) = tt
 intern_blamed told intern.Memory = tt
 intern_blamed told intern.Disk = tt
 
-pub set_blamed : (t : State) (fault : SetFault) → BlamesStill t fault → BlamesBroken t (of_set fault)
+pub set_blamed : (t : State) (fault : SetFault) → SetBlamesBroken t fault → BlamesBroken t (of_set fault)
 set_blamed t (sets.PropsFull count) why = tt
 set_blamed t (sets.Full file live) why = tt
 set_blamed t sets.Memory why = tt

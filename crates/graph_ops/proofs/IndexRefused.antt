@@ -25,7 +25,7 @@ use Rattle.graph_ops.specs.ChangeFault.{LeavesSpace, of_intern, of_make}
 use Rattle.graph_ops.specs.Damage.{BlamesBroken}
 use Rattle.graph_ops.specs.declared.change_fault.ChangeFault.{ChangeFault}
 use Rattle.graph_ops.specs.declared.change_fault.ChangeFault.TheVariants.{NoNode, NoEdge, HasRelationships, IndexThere, TooManyIndexes, IndexTooLarge, Full, NamesFull, PropsFull, Memory, Disk, Damaged}
-use Rattle.graph_ops.proofs.Adding.{beyond_then, index_beyond, interned_beside, interned_beyond}
+use Rattle.graph_ops.proofs.Adding.{index_beside, interned_beside, names_then}
 use Rattle.graph_ops.proofs.Interned.{shape_interned}
 use Rattle.prop_store.specs.FileChange.{IsSameBeside}
 use Rattle.prop_store.proofs.FileSteps.{beside_then}
@@ -133,7 +133,7 @@ shape_named s p m t old now label key read first second =
 -- names leave what the meta record of the indexes says
 pub meta_named : (s p m t : State) (old now : List (List ℕ)) (label key : List ℕ) → SameButReads s p → m ≡ interned p old label → t ≡ interned m now key → meta_of t format.index_file ≡ meta_of s format.index_file
 meta_named s p m t old now label key read first second =
-    index_beyond p t (beyond_then p m t (interned_beyond p m old label first) (interned_beyond m t now key second)) ∙ ap (λ (z : State). meta_of z format.index_file) read
+    index_beside p t (names_then p m t (interned_beside p m old label first) (interned_beside m t now key second)) ∙ ap (λ (z : State). meta_of z format.index_file) read
 
 -- the count that a refusal tells is so
 pub caused_counted : (s t : State) (old now : List (List ℕ)) (label key : List ℕ) (fault : ChangeFault) → IsCaused (commands.Index label key) s t old now fault → IsCounted s fault

@@ -21,7 +21,7 @@ use Rattle.group_store.specs.Opening.{IsOpenFault}
 use Rattle.group_store.specs.Leaving.{LeavesBeside}
 use Rattle.group_store.proofs.LeftBeside.{beside_kinds}
 use Rattle.graph_ops.specs.ChangeFault.{of_fault}
-use Rattle.graph_ops.specs.Damage.{BlamesBroken, IfBlames, KeepsBeyond}
+use Rattle.graph_ops.specs.Damage.{BlamesBroken, IfBlames, KeepsButNames}
 use Rattle.graph_ops.specs.EdgeAdding.{IsLinkingDamage, IsUsedNode}
 use Rattle.graph_ops.specs.Owners.{IsAbsent}
 use Rattle.graph_ops.specs.Rooms.{HasRoom}
@@ -64,26 +64,12 @@ pub used_read : (s t : State) (node : ℕ) → SameButReads s t → IsUsedNode s
 used_read s t node same used = subst (λ (z : State). IsUsedNode z node) (sym same) used
 
 -- and after names, properties and blocks were made ready
-module _ (s t : State) (keeps : KeepsBeyond s t) (node : ℕ) where
+module _ (s t : State) (keeps : KeepsButNames s t) (node : ℕ) where
   record_beyond : rec_at t.records format.nodes_file node ≡ rec_at s.records format.nodes_file node
-  record_beyond = keeps (key_in format.nodes_file node) (record {
-    names = λ e. omega arith;
-    properties = λ e. omega arith;
-    blocks = λ e. omega arith;
-    names_meta = λ e. let f = ap (λ (k : Key). k.file) e in omega arith;
-    properties_meta = λ e. let f = ap (λ (k : Key). k.file) e in omega arith;
-    blocks_meta = λ e. let f = ap (λ (k : Key). k.file) e in omega arith;
-  })
+  record_beyond = keeps (key_in format.nodes_file node) (λ e. omega arith) (λ e. let f = ap (λ (k : Key). k.file) e in omega arith)
 
   meta_beyond : t.records (meta_key_of format.nodes_file) ≡ s.records (meta_key_of format.nodes_file)
-  meta_beyond = keeps (meta_key_of format.nodes_file) (record {
-    names = λ e. omega arith;
-    properties = λ e. omega arith;
-    blocks = λ e. omega arith;
-    names_meta = λ e. let f = ap (λ (k : Key). k.id) e in omega arith;
-    properties_meta = λ e. let f = ap (λ (k : Key). k.id) e in omega arith;
-    blocks_meta = λ e. let f = ap (λ (k : Key). k.id) e in omega arith;
-  })
+  meta_beyond = keeps (meta_key_of format.nodes_file) (λ e. omega arith) (λ e. let f = ap (λ (k : Key). k.id) e in omega arith)
 
   kind_beyond : kind_at t.records format.nodes_file node ≡ kind_at s.records format.nodes_file node
   kind_beyond = ap (λ m. kind_in m (rec_at t.records format.nodes_file node) node) (ap (λ r. (metas.meta_of r).high) meta_beyond)
@@ -93,16 +79,9 @@ module _ (s t : State) (keeps : KeepsBeyond s t) (node : ℕ) where
   used_beyond used = ⊎_elim (λ d. inl (kind_beyond ∙ d)) (λ d. inr (kind_beyond ∙ d)) used
 
 -- the file of relationships has the room that it had
-pub room_beyond : (s t : State) → KeepsBeyond s t → t.shape ≡ s.shape → HasRoom s format.relationships_file 1 → HasRoom t format.relationships_file 1
+pub room_beyond : (s t : State) → KeepsButNames s t → t.shape ≡ s.shape → HasRoom s format.relationships_file 1 → HasRoom t format.relationships_file 1
 room_beyond s t keeps shape room =
-    let meta = keeps (meta_key_of format.relationships_file) (record {
-      names = λ e. omega arith;
-      properties = λ e. omega arith;
-      blocks = λ e. omega arith;
-      names_meta = λ e. let f = ap (λ (k : Key). k.id) e in omega arith;
-      properties_meta = λ e. let f = ap (λ (k : Key). k.id) e in omega arith;
-      blocks_meta = λ e. let f = ap (λ (k : Key). k.id) e in omega arith;
-    }) in
+    let meta = keeps (meta_key_of format.relationships_file) (λ e. omega arith) (λ e. let f = ap (λ (k : Key). k.id) e in omega arith) in
     room_still s t format.relationships_file 1 (ap (λ (r : Rec). (metas.meta_of r).live) meta) shape room
 
 -- the meta record of the relationships stays where a head was found or made

@@ -19,7 +19,7 @@ use Rattle.graph_ops.specs.Assigning.{LacksNames, pair_at}
 -- ---- one name
 
 -- the names after a name are one list
-name_once : (a : List (List ℕ)) (x : List ℕ) (b c : List (List ℕ)) → UsesName a x b → UsesName a x c → b ≡ c
+pub name_once : (a : List (List ℕ)) (x : List ℕ) (b c : List (List ℕ)) → UsesName a x b → UsesName a x c → b ≡ c
 name_once a x b c h k = ⊎_elim
     (λ (i : Contains a x × (b ≡ a)). ⊎_elim (λ (j : Contains a x × (c ≡ a)). i.1 ∙ sym j.1) (λ (j : (¬ Contains a x) × (c ≡ a ++ x ∷ [])). absurd (j.0 i.0)) k)
     (λ (i : (¬ Contains a x) × (b ≡ a ++ x ∷ [])). ⊎_elim (λ (j : Contains a x × (c ≡ a)). absurd (i.0 j.0)) (λ (j : (¬ Contains a x) × (c ≡ a ++ x ∷ [])). i.1 ∙ sym j.1) k) h

@@ -26,7 +26,7 @@ use Rattle.store_rules.specs.Writes.{WritesBeside}
 use Rattle.store_rules.proofs.PropertyCounts.{count_blocks, count_properties}
 use Rattle.graph_ops.specs.Assigning.{CanPut, HasPropertyRoom, KeepsLinks, PutsPairs, assigned_blocks, pair_of, pairs_of}
 use Rattle.graph_ops.specs.ChangeFault.{IsOutside, of_set}
-use Rattle.graph_ops.specs.Damage.{AddsElement}
+use Rattle.prop_store.specs.Setting.{HarmsNoLists}
 use Rattle.graph_ops.specs.Owners.{owner_of}
 use Rattle.graph_ops.specs.Entries.{with_assigned}
 use Rattle.graph_ops.specs.Store.{IsMidway, KeepsIndexes, graph_in}
@@ -253,7 +253,7 @@ pub record IsPutting (tells onward : Type 0) (s t : State) (before now : ℕ) (o
       → (e : Entry) → wanted_in t.records e ≡ with_assigned (wanted_in s.records) (label_at s.records id) id pairs (take i assigned) e
   pub indexes : tells → (names : List (List ℕ)) (id : ℕ) → owner ≡ owner_of (targets.Edge id) → CanPut s names (targets.Edge id) pairs assigned → KeepsIndexes s t
   pub shape : tells → t.shape ≡ s.shape
-  pub adds : tells → AddsElement owner.key s t
+  pub harmless : tells → HarmsNoLists s t
   pub writes : WritesBeside owner.key (i + assigned_blocks pairs (take i assigned)) s t
   pub onward_is : onward
   pub later : before ≤ now

@@ -34,8 +34,7 @@ ghost use Rattle.graph_ops.specs.Assigning.{
 };
 ghost use Rattle.store_rules.specs.Writes.{WritesAtMost, WritesBeside};
 ghost use Rattle.graph_ops.specs.ChangeFault.{HasChangeCause, IsOutside, MayComeLate};
-ghost use Rattle.graph_ops.specs.Damage.{AddsElement, BlamesBroken, BreaksAdding, IfBlames};
-ghost use Rattle.graph_ops.specs.Damage.{KeepsBeyond};
+ghost use Rattle.graph_ops.specs.Damage.{BlamesBroken, IfBlames, IsOfLists, KeepsButNames};
 ghost use Rattle.graph_ops.specs.Owners.{owner_of};
 ghost use Rattle.graph_ops.specs.Rooms.{KeepsElementMetas};
 ghost use Rattle.graph_ops.specs.Entries.{GivesValues};
@@ -81,7 +80,8 @@ pub(crate) fn assign_pairs<S: Space>(
         length names.new.names ≤ length names.old.names + length assigned.items) }
     ensures metas { S.tells → OnOk result
         (KeepsElementMetas (S.state space.old) (S.state space.new)) }
-    ensures stays { S.tells → OnOk result (KeepsBeyond (S.state space.old) (S.state space.new)) }
+    ensures stays { S.tells
+        → OnOk result (KeepsButNames (S.state space.old) (S.state space.new)) }
     ensures writes { OnOk result (WritesAtMost (length names.new.names - length names.old.names)
         (S.state space.old) (S.state space.new)) }
     ensures few_writes { WritesAtMost 33 (S.state space.old) (S.state space.new) }
@@ -230,11 +230,8 @@ pub(crate) fn put_properties<S: Space>(
         (S.state space.old) (S.state space.new)) }
     ensures caused { S.tells → IfErr result (IsPutCause (S.state space.new) (length assigned.now)
         (assigned_blocks pairs.now assigned.now)) }
-    ensures damaged { S.tells → IfErr result
-        (IfBlames (BreaksAdding owner.key (S.state space.old))) }
+    ensures damaged { S.tells → IfErr result (IfBlames (IsOfLists (S.state space.old))) }
     ensures still { S.tells → IfErr result (BlamesBroken (S.state space.new)) }
-    ensures adds { S.tells
-        → AddsElement owner.key (S.state space.old) (S.state space.new) }
     ensures late { S.tells → IfErr result MayComeLate }
     ensures onward { S.onward space.old space.new }
     ensures cause { HasChangeCause (S.faults space.old) (S.faults space.new) result }

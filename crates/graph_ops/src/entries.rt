@@ -21,7 +21,7 @@ ghost use Rattle.store_rules.specs.Views.{high, key_in, rec_at};
 ghost use Rattle.graph_ops.specs.Assigning.{ArePlaced};
 ghost use Rattle.graph_ops.specs.Causes.{IsNodeTarget};
 ghost use Rattle.graph_ops.specs.ChangeFault.{HasChangeCause, IsFailure, IsOutside, MayComeLate};
-ghost use Rattle.graph_ops.specs.Damage.{BlamesBroken, BlamesEntry};
+ghost use Rattle.graph_ops.specs.Damage.{BlamesBroken, BlamesEntry, IfBlames, IsOfIndex};
 ghost use Rattle.graph_ops.specs.Entries.{
   AreKeysOnce,
   ArePairsOf,
@@ -84,6 +84,7 @@ pub(crate) fn listed_pairs<R: Reads>(
         → KeepsStore (R.state space.old) → IfErr result IsOutside }
     ensures failure { IfErr result IsFailure }
     ensures damaged { R.tells → IfErr result (BlamesBroken (R.state space.old)) }
+    ensures names { R.tells → IfErr result (IfBlames IsOfIndex) }
     ensures few { IfOk result (λ pairs. length pairs.items ≤ 16) }
     ensures none { (meta_of (R.state space.old) index_file).live ≡ 0
         → IfOk result (λ pairs. pairs.items ≡ []) }

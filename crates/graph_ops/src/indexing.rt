@@ -3,7 +3,8 @@
 ghost use Rattle.std.specs.Prelude.{◌≡◌, ◌++◌, ◌+◌, ◌-◌, ◌<◌, ◌≤◌, [], ◌∷◌, ℕ, List, IfErr, IfOk};
 ghost use Rattle.std.specs.Prelude.{IsErr, OnErr, OnOk, length};
 ghost use Rattle.plain_graph.specs.Changes.{most_weight, start_weight};
-ghost use Rattle.plain_graph.specs.Graph.{UsesNames};
+ghost use Rattle.name_store.specs.Interning.{interned};
+ghost use Rattle.plain_graph.specs.Graph.{UsesName, UsesNames};
 ghost use Rattle.plain_graph.specs.Lines.{HasForm};
 ghost use Rattle.plain_graph.specs.Refusals.{most_names};
 ghost use Rattle.plain_graph.specs.Reply.{Done};
@@ -13,7 +14,7 @@ ghost use Rattle.store_rules.specs.Writes.{WritesAtMost};
 ghost use Rattle.graph_ops.specs.Causes.{IsCaused, IsStillCaused};
 ghost use Rattle.graph_ops.specs.Change.{IsCounted, IsRefusal, IsRefusedBy, MakesChange};
 ghost use Rattle.graph_ops.specs.ChangeFault.{HasChangeCause, LeavesSpace};
-ghost use Rattle.graph_ops.specs.Damage.{BlamesBroken};
+ghost use Rattle.graph_ops.specs.Damage.{BlamesBroken, BlamesMaking};
 ghost use Rattle.graph_ops.specs.Indexing.{
   IsNumberOf,
   IsPairOf,
@@ -54,7 +55,10 @@ pub fn index<S: Space>(
         (S.state space.old) (S.state space.new) names.old.names names.new.names) }
     ensures still { S.tells → IfErr result (IsStillCaused (commands.Index label.now key.now)
         (S.state space.new) names.old.names names.new.names) }
-    ensures damaged { S.tells → IfErr result (BlamesBroken (S.state space.new)) }
+    ensures damaged { S.tells → (known : List (List ℕ))
+        → UsesName names.old.names label.now known
+        → IfErr result (BlamesMaking (S.state space.old)
+        (interned (interned (S.state space.old) names.old.names label.now) known key.now)) }
     ensures counts { S.tells → IsStore (S.state space.old) names.old.names
         → IfErr result (IsCounted (S.state space.old)) }
     ensures names_full { (used : List (List ℕ))

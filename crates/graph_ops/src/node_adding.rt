@@ -1,5 +1,5 @@
 ghost use Rattle.std.specs.Prelude.{◌≡◌, ◌++◌, ◌+◌, ◌-◌, ◌<◌, ◌≤◌, ℕ, List, ◌∷◌, Some, IfErr, IfOk};
-ghost use Rattle.std.specs.Prelude.{IsErr, OnErr, length, slice_get};
+ghost use Rattle.std.specs.Prelude.{IsErr, OnErr, OnOk, length, slice_get};
 ghost use Rattle.plain_graph.specs.Changes.{most_weight, properties_weight, start_weight};
 ghost use Rattle.plain_graph.specs.Graph.{UsesNames};
 ghost use Rattle.plain_graph.specs.Lines.{HasForm};
@@ -9,6 +9,7 @@ ghost use Rattle.plain_graph.specs.Reply.{NodeMade};
 ghost use Rattle.plain_graph.specs.declared.command.Command.TheVariants as commands;
 ghost use Rattle.rec_bytes.specs.Format.{index_file, nodes_file};
 ghost use Rattle.id_freelist.specs.Taking.{IsTakeDamage};
+ghost use Rattle.prop_store.specs.FileChange.{IsSameBeside};
 ghost use Rattle.rec_bytes.specs.Key.{IsKey};
 ghost use Rattle.rec_bytes.specs.Space.{meta_of};
 ghost use Rattle.store_rules.specs.Views.{key_in};
@@ -16,7 +17,7 @@ ghost use Rattle.store_rules.specs.Writes.{WritesAtMost, WritesBeside};
 ghost use Rattle.graph_ops.specs.Causes.{IsCaused, IsStillCaused};
 ghost use Rattle.graph_ops.specs.Change.{IsCounted, IsRefusal, MakesChange};
 ghost use Rattle.graph_ops.specs.ChangeFault.{HasChangeCause, IsFailure, IsOutside, LeavesSpace};
-ghost use Rattle.graph_ops.specs.Damage.{AddsElement, BlamesAdding, BlamesBroken, IfBlames};
+ghost use Rattle.graph_ops.specs.Damage.{BlamesFound, BlamesBroken, IfBlames};
 ghost use Rattle.graph_ops.specs.Entries.{WeighsNode};
 ghost use Rattle.graph_ops.specs.NodeAdding.{IsFullOfNodes, IsSparse, PutsNode, new_row};
 ghost use Rattle.graph_ops.specs.Rooms.{HasRoom};
@@ -56,7 +57,7 @@ pub fn add_node<S: Space>(
     ensures still { S.tells → IfErr result (IsStillCaused (commands.Node label.now pairs.now)
         (S.state space.new) names.old.names names.new.names) }
     ensures damaged { S.tells → IfErr result
-        (BlamesAdding nodes_file (S.state space.old) (S.state space.new)) }
+        (BlamesFound (S.state space.old) (S.state space.new)) }
     ensures counts { S.tells → IsStore (S.state space.old) names.old.names
         → IfErr result (IsCounted (S.state space.old)) }
     ensures full { IsStore (S.state space.old) names.old.names → IsFullOfNodes (S.state space.old)
@@ -118,8 +119,8 @@ fn put_node<S: Space>(space: &mut S, label: u32) -> Result<u32, ChangeFault>
     ensures damaged { S.tells → IfErr result
         (IfBlames (IsTakeDamage (S.state space.old) nodes_file)) }
     ensures still { S.tells → IfErr result (BlamesBroken (S.state space.new)) }
-    ensures adds { S.tells → IfOk result (λ id. AddsElement (key_in nodes_file id)
-        (S.state space.old) (S.state space.new)) }
+    ensures beside { S.tells → OnOk result (IsSameBeside nodes_file (S.state space.old).records
+        (S.state space.new).records) }
     ensures key { IfOk result (λ id. IsKey (key_in nodes_file id)) }
     ensures writes { IfOk result (λ id. WritesBeside (key_in nodes_file id) 0
         (S.state space.old) (S.state space.new)) }

@@ -14,7 +14,7 @@ ghost use Rattle.rec_bytes.specs.Format.{properties_file, strings_file};
 ghost use Rattle.store_rules.specs.Writes.{WritesAtMost};
 ghost use Rattle.graph_ops.specs.Change.{IsCounted, IsRefusedBy};
 ghost use Rattle.graph_ops.specs.ChangeFault.{HasChangeCause, LeavesSpace};
-ghost use Rattle.graph_ops.specs.Damage.{KeepsBeyond};
+ghost use Rattle.graph_ops.specs.Damage.{KeepsButNames};
 ghost use Rattle.graph_ops.specs.Preparing.{IsLineCause, IsPrepared, NeedForPairs, line_reasons};
 ghost use Rattle.graph_ops.specs.Rooms.{KeepsElementMetas};
 ghost use Rattle.graph_ops.specs.Store.{IsMidway, graph_in};
@@ -83,7 +83,8 @@ pub(crate) fn prepare<S: Space>(
     ensures few_writes { WritesAtMost 34 (S.state space.old) (S.state space.new) }
     ensures metas { S.tells → OnOk result
         (KeepsElementMetas (S.state space.old) (S.state space.new)) }
-    ensures stays { S.tells → OnOk result (KeepsBeyond (S.state space.old) (S.state space.new)) }
+    ensures stays { S.tells
+        → OnOk result (KeepsButNames (S.state space.old) (S.state space.new)) }
     ensures onward { S.onward space.old space.new }
     ensures cause { HasChangeCause (S.faults space.old) (S.faults space.new) result }
 {

@@ -4,7 +4,6 @@ ghost use Rattle.plain_graph.specs.Changes.{most_weight, start_weight};
 ghost use Rattle.name_store.specs.Interning.{interned};
 ghost use Rattle.plain_graph.specs.Graph.{UsesNames};
 ghost use Rattle.plain_graph.specs.Lines.{HasForm};
-ghost use Rattle.plain_graph.specs.Properties.{blocks_of};
 ghost use Rattle.plain_graph.specs.Refusals.{most_names};
 ghost use Rattle.plain_graph.specs.Reply.{Done};
 ghost use Rattle.plain_graph.specs.declared.command.Command.TheVariants as commands;
@@ -12,7 +11,7 @@ ghost use Rattle.store_rules.specs.Writes.{WritesAtMost};
 ghost use Rattle.graph_ops.specs.Causes.{IsCaused, IsStillCaused};
 ghost use Rattle.graph_ops.specs.Change.{IsRefusal, IsSetCount, MakesChange};
 ghost use Rattle.graph_ops.specs.ChangeFault.{HasChangeCause, LeavesSpace};
-ghost use Rattle.graph_ops.specs.Damage.{BlamesGiven, BlamesTaken};
+ghost use Rattle.graph_ops.specs.Damage.{BlamesGiven, BlamesFound};
 ghost use Rattle.graph_ops.specs.Store.{IsStore, graph_in};
 
 use crate::ChangeFault;
@@ -47,7 +46,7 @@ pub fn set<S: Space>(
         (commands.Set target key.now value.now) (S.state space.new)
         names.old.names names.new.names) }
     ensures damaged { S.tells → IfErr result
-        (BlamesGiven S.tells (22 + blocks_of value.now) (S.state space.old)
+        (BlamesGiven (S.state space.old)
         (interned (S.state space.old) names.old.names key.now) (S.state space.new)) }
     ensures counts { S.tells → IfErr result (IsSetCount (S.state space.old).shape) }
     ensures names_full { (used : List (List ℕ)) → UsesNames names.old.names (key.now ∷ []) used
@@ -91,7 +90,7 @@ pub fn unset<S: Space>(
     ensures still { S.tells → IfErr result (IsStillCaused (commands.Unset target key.now)
         (S.state space.new) names.now.names names.now.names) }
     ensures damaged { S.tells
-        → IfErr result (BlamesTaken (S.state space.old) (S.state space.new)) }
+        → IfErr result (BlamesFound (S.state space.old) (S.state space.new)) }
     ensures leaves { IfErr result (LeavesSpace (S.state space.old) (S.state space.new)) }
     ensures light { IfOk result (λ weight. weight + start_weight ≤ most_weight) }
     ensures writes { IfOk result (λ weight.

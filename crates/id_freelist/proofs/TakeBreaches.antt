@@ -1,6 +1,6 @@
 -- What a take says is damaged breaks the rule.
 use Rattle.std.specs.Prelude.{Result, Ok, Err, IfErr, nat_lt}
-use Rattle.std.proofs.Common.{◌≡◌, ◌≢◌, ℕ, ◌<◌, ◌≤◌, nat_eq, Bool, true, false, cond, ◌&&◌, ◌||◌, None, Some, List, [], ◌∷◌, sym, ap, ◌∙◌, subst, inl, arith, refl}
+use Rattle.std.proofs.Common.{◌≡◌, ◌≢◌, ℕ, ◌<◌, ◌≤◌, nat_eq, Bool, true, false, cond, ◌&&◌, ◌||◌, None, Some, List, [], ◌∷◌, sym, ap, ◌∙◌, subst, inl, inr, arith, refl}
 use Rattle.std.proofs.lemmas.Bool.{true≢false}
 use Rattle.rec_bytes.specs.declared.damage.Damage.{Damage}
 use Rattle.rec_bytes.specs.declared.meta_form.MetaForm.{MetaForm}
@@ -21,9 +21,10 @@ use Rattle.store_rules.specs.Ranges.{Fits, Layout, all_point, bytes_of, free_lay
 use Rattle.store_rules.specs.Rules.{next_free}
 use Rattle.store_rules.specs.Views.{Records, high, is_live, kind_at, rec_at}
 use Rattle.store_rules.proofs.Counts.{ids_all, ids_fewer, length-ids}
-use Rattle.store_rules.proofs.MetaLaws.{meta_of_reused}
+use Rattle.store_rules.proofs.MetaLaws.{high_fits, meta_of_reused}
 use Rattle.store_rules.proofs.NumberLaws.{eq_false, lt_false}
 use Rattle.store_rules.proofs.ViewLaws.{kind_low, live_false, live_true, not_live}
+use Rattle.id_freelist.specs.ListDamage.{BadLink, First, IsListDamage, IsReached, Next, NoList, NotReached, OutOfRange}
 use Rattle.id_freelist.specs.TakeFault.{BlamesBroken}
 use Rattle.id_freelist.specs.Taking.{AreAllUsed, BadNext, InUse, IsTakeDamage, IsTakeFault, IsUnused, Overcounted, Undercounted, Unlisted, Unranged}
 use Rattle.id_freelist.specs.declared.take_fault.TakeFault.{TakeFault}
@@ -49,14 +50,6 @@ in_range shape file r known = in_range_as (form_of file) shape file r (passes (�
 -- ---- the free list, as the second rule has it
 
 module _ (records : Records) (file : ℕ) where
-  -- where the list begins with none, nothing is on it
-  none_listed : (x : ℕ) → (meta_in records file).free ≡ format.nil → ¬ IsOnFreeList records file x
-  none_listed x none on = by on.members on.list.walk on.member
-    where
-      by : (xs : List ℕ) → IsWalk (next_free records file) (meta_in records file).free xs → In x xs → ⊥
-      by [] walk i = elim i [ ]
-      by (y ∷ ys) walk i = walk.1 (sym walk.0 ∙ none)
-
   all_counted : AreAllUsed records file → HasFreeList records file → (meta_in records file).live ≡ high records file
   all_counted used k = k.exact ∙ ids_all (is_live records file) (high records file) (λ x lt. live_true (kind_at records file x) (used x lt))
 
@@ -75,6 +68,24 @@ module _ (records : Records) (file : ℕ) where
       by : (xs : List ℕ) → IsWalk (next_free records file) (meta_in records file).free xs → ((x : ℕ) → In x xs → is_live records file x ≡ false) → kind_at records file (meta_in records file).free ≡ format.free_kind
       by [] walk only = absurd (some walk)
       by (y ∷ ys) walk only = ap (kind_at records file) walk.0 ∙ not_live (kind_at records file y) (only y (inl refl))
+
+  -- ---- what is reached
+
+  -- where the list begins with none, nothing else is
+  none_reached : (meta_in records file).free ≡ format.nil → (x : ℕ) → IsReached records file x → x ≡ format.nil
+  none_reached none _ First = none
+  none_reached none _ (Next x r unused) = let e = none_reached none x r in let lt = unused.low in let fits = high_fits records file in absurd (omega arith)
+
+  -- what is on the list is
+  listed_reached : (x : ℕ) → IsOnFreeList records file x → IsReached records file x
+  listed_reached x on = by on.members (meta_in records file).free First on.list.walk on.list.low on.list.only on.member
+    where
+      by : (xs : List ℕ) (from : ℕ) → IsReached records file from → IsWalk (next_free records file) from xs → ((y : ℕ) → In y xs → y < high records file) → ((y : ℕ) → In y xs → is_live records file y ≡ false) → In x xs → IsReached records file x
+      by [] from r walk low only i = elim i [ ]
+      by (y ∷ ys) from r walk low only (inl e) = subst (IsReached records file) (walk.0 ∙ sym e) r
+      by (y ∷ ys) from r walk low only (inr i) =
+          let here : IsReached records file y = subst (IsReached records file) walk.0 r in
+          by ys (next_free records file y) (Next y here (record { low = low y (inl refl); free = not_live (kind_at records file y) (only y (inl refl)) })) walk.2 (λ z j. low z (inr j)) (λ z j. only z (inr j)) i
 
   -- ---- a free record whose next one can't stand there
   module _ (x : ℕ) (is : is_reused file ≡ true) (unused : IsUnused records file x) where
@@ -107,16 +118,26 @@ module _ (records : Records) (file : ℕ) where
 
 -- ---- what is said to be damaged
 
-pub breaks_of : (s : State) (file : ℕ) → is_reused file ≡ true → (d : Damage) → IsTakeDamage s file d → Breaks s.records s.shape d
-breaks_of s file is d (Unranged f) =
+-- by what is wrong with the list
+pub list_breaks : (records : Records) (shape : Shape) (file : ℕ) → is_reused file ≡ true → (d : Damage) → IsListDamage records shape file d → Breaks records shape d
+list_breaks records shape file is _ (OutOfRange f) =
     let known = meta_of_reused file is in
-    WrongMeta file (is_record_file-low file (is_meta_file-record file known)) (λ k. let right = in_range s.shape file (s.records (meta_key_of file)) known k in f (record { mark = right.high; first = right.free }))
-breaks_of s file is d (Unlisted x none lt unused) = OffFreeList file x is unused.low (live_false (kind_at s.records file x) unused.free) (none_listed s.records file x none)
-breaks_of s file is d (Undercounted none lt used) = FreeList file is (λ k. let e = all_counted s.records file used k in omega arith)
-breaks_of s file is d (Overcounted le more) = FreeList file is (λ k. never_over s.records file k le more)
-breaks_of s file is d (InUse some used) = FreeList file is (λ k. used (first_free s.records file k some))
-breaks_of s file is d (BadNext ne unused some le) =
-    RecordRange file (meta_of s file).free (meta_of_reused file is) unused.low (low_next s.records file (meta_of s file).free is unused some le)
+    WrongMeta file (is_record_file-low file (is_meta_file-record file known)) (λ k. let right = in_range shape file (records (meta_key_of file)) known k in f (record { mark = right.high; first = right.free }))
+list_breaks records shape file is _ (NoList f) = FreeList file is f
+list_breaks records shape file is _ (NotReached x unused f) = OffFreeList file x is unused.low (live_false (kind_at records file x) unused.free) (λ on. f (listed_reached records file x on))
+list_breaks records shape file is _ (BadLink x unused some le) = RecordRange file x (meta_of_reused file is) unused.low (low_next records file x is unused some le)
+
+-- something is wrong with the list
+pub list_damage : (s : State) (file : ℕ) (d : Damage) → IsTakeDamage s file d → IsListDamage s.records s.shape file d
+list_damage s file _ (Unranged f) = OutOfRange f
+list_damage s file _ (Unlisted x none lt unused) = NotReached x unused (λ r. let e = none_reached s.records file none x r in let low = unused.low in let fits = high_fits s.records file in omega arith)
+list_damage s file _ (Undercounted none lt used) = NoList (λ k. let e = all_counted s.records file used k in omega arith)
+list_damage s file _ (Overcounted le more) = NoList (λ k. never_over s.records file k le more)
+list_damage s file _ (InUse some used) = NoList (λ k. used (first_free s.records file k some))
+list_damage s file _ (BadNext ne unused some le) = BadLink (meta_of s file).free unused some le
+
+pub breaks_of : (s : State) (file : ℕ) → is_reused file ≡ true → (d : Damage) → IsTakeDamage s file d → Breaks s.records s.shape d
+breaks_of s file is d why = list_breaks s.records s.shape file is d (list_damage s file d why)
 
 pub blames_broken : (s : State) (file : ℕ) → is_reused file ≡ true → (r : Result ℕ TakeFault) → IfErr r (IsTakeFault s file) → IfErr r (BlamesBroken s.records s.shape)
 blames_broken s file is (Ok id) why = tt

@@ -1,4 +1,5 @@
 pub mod FreeLists
 pub mod Giving
+pub mod ListDamage
 pub mod TakeFault
 pub mod Taking

@@ -125,6 +125,9 @@ take_make records shape (take.Damaged d) is = is
 pub make_reread : (s t : State) (f : MakeFault) → SameButReads s t → makes.BlamesBroken s.records s.shape f → makes.BlamesBroken t.records t.shape f
 make_reread s t f same is = subst (λ (z : State). makes.BlamesBroken z.records z.shape f) (sym same) is
 
+pub make_before : (s t : State) (f : MakeFault) → SameButReads s t → makes.BlamesBroken t.records t.shape f → makes.BlamesBroken s.records s.shape f
+make_before s t f same is = subst (λ (r : Records). makes.BlamesBroken r s.shape f) (ap (λ (z : State). z.records) same) (subst (λ (h : Shape). makes.BlamesBroken t.records h f) (ap (λ (z : State). z.shape) same) is)
+
 -- a node that was given out is not one that there can't be
 pub owner_blames : (s : State) (node : ℕ) (named bad : Damage) → node < high s.records format.nodes_file → IsOwnerDamage s node named bad → BreaksAny s.records s.shape bad
 owner_blames s node named _ low (NamesNone le) = absurd (omega (arith, low, le))

@@ -20,6 +20,7 @@ mod IndexMade
 pub mod IndexTouches
 pub mod LeftValues
 pub mod LinkRules
+mod ListKept
 mod LiveCounts
 mod Lookups
 mod Made

@@ -25,6 +25,9 @@ apart_bytes i size out = ⊎_elim
     (λ (ge : 4 ≤ i). ⊎_elim (λ (l : i < 4 + size). absurd (let a : 4 + size ≤ i = grind (arith, nat_tests) in omega arith)) (λ (k : 4 + size ≤ i). inr k) (cases_lt i (4 + size)))
     (cases_lt i 4)
 
+pub entry-kind : (node next hash : ℕ) → node < 2 ^ 32 → next < 2 ^ 32 → hash < 2 ^ 64 → field 1 (entry_record node next hash) format.kind ≡ format.indexed
+entry-kind node next hash a b c = field-with_fields 1 zeros (entry_fields node next hash) format.kind format.indexed refl (omega arith, (a, (omega arith, (b, (c, tt))))) refl
+
 module _ (marks : ℕ → ℕ) (node next hash : ℕ) (known : node < marks format.nodes_file) (node_fits : node < 2 ^ 32) (low : IsLow (marks format.index_file) next) (next_fits : next < 2 ^ 32) (hash_fits : hash < 2 ^ 64) where
   abbrev rec : Rec
   rec = entry_record node next hash
@@ -42,7 +45,7 @@ module _ (marks : ℕ → ℕ) (node next hash : ℕ) (known : node < marks form
   }
 
   kind_is : field 1 rec format.kind ≡ format.indexed
-  kind_is = field-with_fields 1 zeros table format.kind format.indexed refl fit refl
+  kind_is = entry-kind node next hash node_fits next_fits hash_fits
 
   node_is : field 4 rec format.indexed_node ≡ node
   node_is = field-with_fields 4 zeros table format.indexed_node node refl fit refl

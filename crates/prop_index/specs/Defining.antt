@@ -10,6 +10,7 @@ use Rattle.store_rules.specs.IndexChange.{IsDefinitionMade}
 use Rattle.store_rules.specs.Indexes.{first_definition, index_rec}
 use Rattle.store_rules.specs.Ranges.{Fits}
 use Rattle.store_rules.specs.Views.{Records, high, kind_at}
+use Rattle.id_freelist.specs.ListDamage.{KeepsInUse}
 use Rattle.prop_index.specs.DefinitionRecord.{empty_heads, head_of}
 use Rattle.prop_index.specs.Reading.{KeepsStore}
 use Rattle.prop_index.specs.declared.finding.Definition.{Definition}
@@ -82,3 +83,19 @@ pub record IsDefinitionAdded (s t : State) (label key : ℕ) (definition : Defin
 pub record CountsMore (s t : State) (count : ℕ) : Type 0 where
   pub live : (meta_of t format.index_file).live ≡ (meta_of s format.index_file).live + count
   pub shape : t.shape ≡ s.shape
+
+-- The record is in use, and so is what was. Nothing more is wrong with the free list.
+pub record PutsInUse (s t : State) (id : ℕ) : Type 0 where
+  pub keeps : KeepsInUse s t format.index_file
+  pub used : kind_at t.records format.index_file id ≢ format.free_kind
+
+-- the first heads that the record of a definition names are in use
+abbrev pub AreHeadsUsed : State → ℕ → Rec → Type 0
+AreHeadsUsed s count rec =
+    (c : ℕ) → c < count
+    → kind_at s.records format.index_file (head_of rec c) ≢ format.free_kind
+
+-- So they are, and so is what was. Nothing more is wrong with the free list.
+pub record PutsHeads (s t : State) (count : ℕ) (rec : Rec) : Type 0 where
+  pub keeps : KeepsInUse s t format.index_file
+  pub used : AreHeadsUsed t count rec

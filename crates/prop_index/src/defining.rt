@@ -1,6 +1,7 @@
 //! A definition with empty buckets.
 
-ghost use Rattle.std.specs.Prelude.{◌≢◌, ◌<◌, ℕ, [], ◌∷◌, IfErr, IfOk, OnOk};
+ghost use Rattle.std.specs.Prelude.{◌≡◌, ◌≢◌, ◌<◌, ℕ, [], ◌∷◌, IfErr, IfOk, OnOk};
+ghost use Rattle.id_freelist.specs.ListDamage.{BlamesList};
 ghost use Rattle.id_freelist.specs.TakeFault.{HasTakeCause};
 ghost use Rattle.prop_index.specs.Blaming.{TakeBlamesBroken as BlamesBroken};
 ghost use Rattle.prop_index.specs.Defining.{
@@ -10,6 +11,8 @@ ghost use Rattle.prop_index.specs.Defining.{
   HasLeft,
   IsDefinitionAdded,
   IsRecordAdded,
+  PutsHeads,
+  PutsInUse,
 };
 ghost use Rattle.prop_index.specs.DefinitionRecord.{head_ids, head_of};
 ghost use Rattle.prop_index.specs.Entering.{IsMishap, IsNotFull};
@@ -39,8 +42,11 @@ pub(crate) fn define<S: Space>(space: &mut S, label: u32, key: u32) -> Result<De
     ensures counted { S.tells → OnOk result
         (CountsMore (S.state space.old) (S.state space.new) 13) }
     ensures roomy { S.tells → HasLeft (S.state space.old) 13 → IfErr result IsNotFull }
+    ensures damaged { S.tells → IfErr result (BlamesList (S.state space.old) index_file) }
     ensures still { S.tells → IfErr result
         (BlamesBroken (S.state space.new).records (S.state space.new).shape) }
+    ensures kept { S.tells → IfOk result (λ definition.
+        PutsHeads (S.state space.old) (S.state space.new) 12 definition.rec) }
     ensures heads { IfOk result (λ definition. (c : ℕ) → c < 12
         → IsKey (key_in index_file (head_of definition.rec c))) }
     ensures touched { IfOk result (λ definition. TouchesOnly S.tells (S.state space.old)
@@ -66,8 +72,12 @@ fn add_heads<S: Space>(space: &mut S, start: Rec) -> Result<Rec, TakeFault>
     ensures counted { S.tells → OnOk result
         (CountsMore (S.state space.old) (S.state space.new) 12) }
     ensures roomy { S.tells → HasLeft (S.state space.old) 12 → IfErr result IsNotFull }
+    ensures damaged { S.tells → IfErr result (BlamesList (S.state space.old) index_file) }
     ensures still { S.tells → IfErr result
         (BlamesBroken (S.state space.new).records (S.state space.new).shape) }
+    ensures kept { S.tells
+        → IfOk result (PutsHeads (S.state space.old) (S.state space.new) 12) }
+    ensures kind { IfOk result (λ rec. field 1 rec KIND ≡ field 1 start KIND) }
     ensures heads { IfOk result (λ rec. (c : ℕ) → c < 12
         → IsKey (key_in index_file (head_of rec c))) }
     ensures touched { IfOk result (λ rec. TouchesOnly S.tells (S.state space.old)
@@ -93,8 +103,11 @@ fn add_record<S: Space>(space: &mut S, rec: Rec) -> Result<u32, TakeFault>
     ensures counted { S.tells → OnOk result
         (CountsMore (S.state space.old) (S.state space.new) 1) }
     ensures roomy { S.tells → HasLeft (S.state space.old) 1 → IfErr result IsNotFull }
+    ensures damaged { S.tells → IfErr result (BlamesList (S.state space.old) index_file) }
     ensures still { S.tells → IfErr result
         (BlamesBroken (S.state space.new).records (S.state space.new).shape) }
+    ensures kept { S.tells → field 1 rec KIND ≢ FREE
+        → IfOk result (PutsInUse (S.state space.old) (S.state space.new)) }
     ensures key { IfOk result (λ id. IsKey (key_in index_file id)) }
     ensures touched { IfOk result (λ id. TouchesOnly S.tells (S.state space.old)
         (S.state space.new) (index_keys (id ∷ []))) }

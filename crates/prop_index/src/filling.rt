@@ -1,9 +1,10 @@
 //! The entries of an index that is made.
 
 ghost use Rattle.std.specs.Prelude.{◌<◌, ℕ, IfErr, OnOk, length};
+ghost use Rattle.id_freelist.specs.ListDamage.{BlamesList};
 ghost use Rattle.id_freelist.specs.TakeFault.{HasTakeCause};
 ghost use Rattle.prop_index.specs.Blaming.{TakeBlamesBroken as BlamesBroken};
-ghost use Rattle.prop_index.specs.Defining.{HasLeft};
+ghost use Rattle.prop_index.specs.Defining.{AreHeadsUsed, HasLeft};
 ghost use Rattle.prop_index.specs.DefinitionRecord.{head_ids, head_of};
 ghost use Rattle.prop_index.specs.Entering.{IsMishap, IsNotFull};
 ghost use Rattle.prop_index.specs.Filling.{AreFillable, IsEmptyIndex, IsFilled, TouchesBeside};
@@ -42,6 +43,8 @@ pub(crate) fn fill<S: Space>(
         → HasLeft (S.state space.old) (length contents.now) → IfErr result IsMishap }
     ensures roomy { S.tells → HasLeft (S.state space.old) (length contents.now)
         → IfErr result IsNotFull }
+    ensures damaged { S.tells → AreHeadsUsed (S.state space.old) 12 definition.now.rec
+        → IfErr result (BlamesList (S.state space.old) index_file) }
     ensures still { S.tells → IfErr result
         (BlamesBroken (S.state space.new).records (S.state space.new).shape) }
     ensures touches { TouchesBeside S.tells (head_ids 12 definition.now.rec)

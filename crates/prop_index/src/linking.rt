@@ -1,10 +1,12 @@
 //! An entry in front of a bucket.
 
 ghost use Rattle.std.specs.Prelude.{◌≡◌, ◌≢◌, ◌+◌, ◌<◌, ◌≤◌, ℕ, List, IfErr, IfOk, OnOk};
+ghost use Rattle.id_freelist.specs.ListDamage.{BlamesList};
 ghost use Rattle.id_freelist.specs.TakeFault.{HasTakeCause, NotDamaged};
 ghost use Rattle.prop_index.specs.Blaming.{TakeBlamesBroken as BlamesBroken};
 ghost use Rattle.id_freelist.specs.Taking.{CanTake};
 ghost use Rattle.prop_index.specs.Blaming.{TakeNamesIndexes};
+ghost use Rattle.prop_index.specs.Defining.{PutsInUse};
 ghost use Rattle.prop_index.specs.Entering.{IsIndexFull};
 ghost use Rattle.prop_index.specs.Heads.{BeginsRight, IsHead, IsHeadPlace};
 ghost use Rattle.prop_index.specs.Linking.{backed_entry, linked_entry};
@@ -17,11 +19,11 @@ ghost use Rattle.prop_index.specs.Touching.{
   some_id,
 };
 ghost use Rattle.prop_store.specs.Touching.{TouchesOnly};
-ghost use Rattle.rec_bytes.specs.Format.{index_file, nodes_file};
+ghost use Rattle.rec_bytes.specs.Format.{free_kind, index_file, nodes_file};
 ghost use Rattle.rec_bytes.specs.Key.{IsKey};
 ghost use Rattle.rec_bytes.specs.Space.{HasCause, meta_of};
 ghost use Rattle.store_rules.specs.IndexChange.{IsEntryMade};
-ghost use Rattle.store_rules.specs.Views.{high, key_in};
+ghost use Rattle.store_rules.specs.Views.{high, key_in, kind_at};
 
 use crate::entry_record::entry_record;
 use crate::entry_row::Content;
@@ -55,8 +57,13 @@ pub(crate) fn put_in_front<S: Space>(
     ensures full { S.tells → IfErr result (IsIndexFull (S.state space.old)) }
     ensures crowded { S.tells → IfErr result (IsIndexFull (S.state space.new)) }
     ensures names { S.tells → IfErr result TakeNamesIndexes }
-    ensures damaged { S.tells → IfErr result
-        (BlamesBroken (S.state space.old).records (S.state space.old).shape) }
+    ensures damaged { S.tells → IfErr result (BlamesList (S.state space.old) index_file) }
+    ensures kept { S.tells
+        → kind_at (S.state space.old).records index_file bucket.slot.id ≢ free_kind
+        → (bucket.first ≢ NIL
+        → kind_at (S.state space.old).records index_file bucket.first ≢ free_kind)
+        → 0 < bucket.slot.place
+        → IfOk result (PutsInUse (S.state space.old) (S.state space.new)) }
     ensures still { S.tells → IfErr result
         (BlamesBroken (S.state space.new).records (S.state space.new).shape) }
     ensures key { IfOk result (λ id. IsKey (key_in index_file id)) }

@@ -2,6 +2,7 @@
 
 ghost use Rattle.std.specs.Prelude.{◌≡◌, ◌+◌, ◌≤◌, ◌↔◌, Contains, IfErr, IfOk, IsTrue, OnOk};
 ghost use Rattle.std.specs.Prelude.{length};
+ghost use Rattle.id_freelist.specs.ListDamage.{BlamesList};
 ghost use Rattle.id_freelist.specs.TakeFault as takes;
 ghost use Rattle.id_freelist.specs.TakeFault.{HasTakeCause};
 ghost use Rattle.prop_index.specs.Blaming.{TakeBlamesBroken};
@@ -54,6 +55,8 @@ pub fn make<S: Space>(alloc: Global, space: &mut S, label: u32, key: u32) -> Res
         → IfErr result (IsMakeRefusal (S.state space.old) was label
         key) }
     ensures caused { S.tells → IfErr result (IsMakeCause (S.state space.old) label key) }
+    ensures damaged { S.tells → IfErr result
+        (BlamesBroken (S.state space.old).records (S.state space.old).shape) }
     ensures still { S.tells → IfErr result
         (BlamesBroken (S.state space.new).records (S.state space.new).shape) }
     ensures touches { S.tells → TouchesIndex S.tells
@@ -145,6 +148,7 @@ fn write_index<S: Space>(
         → HasLeft (S.state space.old) (13 + length contents.now) → IfErr result IsMishap }
     ensures roomy { S.tells → HasLeft (S.state space.old) (13 + length contents.now)
         → IfErr result IsNotFull }
+    ensures damaged { S.tells → IfErr result (BlamesList (S.state space.old) index_file) }
     ensures still { S.tells → IfErr result
         (TakeBlamesBroken (S.state space.new).records (S.state space.new).shape) }
     ensures touches { TouchesIndex S.tells (13 + length contents.now)

@@ -1,5 +1,6 @@
 -- What is written in the record of a block is what is read of it.
-use Rattle.std.proofs.Common.{◌≡◌, ◌<◌, ◌≤◌, ◌^◌, ◌∙◌, ℕ, List, length, inl, inr, arith}
+use Rattle.std.proofs.Common.{ap, ◌≢◌, ◌≡◌, ◌<◌, ◌≤◌, ◌^◌, ◌∙◌, ℕ, List, length, inl, inr, arith}
+use Rattle.rec_bytes.specs.declared.record.Rec.{Rec}
 use Rattle.rec_bytes.specs.Format as format
 use Rattle.rec_bytes.specs.Record.{field, text_in, with_field, with_text, zeros}
 use Rattle.rec_bytes.proofs.Numbers.{field-with_field_same, field-with_field_other}
@@ -29,3 +30,7 @@ module _ (text : List ℕ) (next : ℕ) (fits : length text ≤ 48) where
 
   pub next-block_record : next < 2 ^ 32 → field 4 (block_record text next) format.block_next ≡ next
   next-block_record small = field-with_field_same 4 (with_text (with_field 1 (with_field 1 zeros format.kind format.block) format.block_length (length text)) format.block_text text) format.block_next next (omega arith) (omega arith)
+
+-- it is one in use
+pub used_block : (text : List ℕ) (next : ℕ) (rec : Rec) → length text ≤ 48 → rec ≡ block_record text next → field 1 rec format.kind ≢ format.free_kind
+used_block text next rec fits is e = let kind = kind-block_record text next fits in let same = ap (λ (r : Rec). field 1 r format.kind) is in omega arith

@@ -1,5 +1,5 @@
 -- A block of a text that is taken and written, and what stands of the text so far.
-use Rattle.std.proofs.Common.{◌≡◌, ◌≢◌, ℕ, ◌+◌, ◌*◌, ◌/◌, ◌%◌, ◌<◌, ◌≤◌, ◌^◌, min, nat_eq, Bool, true, false, cond, List, [], ◌∷◌, length, take, drop, sym, ap, ◌∙◌, subst, inl, inr, ⊎_elim, arith, refl, length-drop}
+use Rattle.std.proofs.Common.{◌≡◌, ◌≢◌, ℕ, ◌+◌, ◌*◌, ◌/◌, ◌%◌, ◌<◌, ◌≤◌, ◌^◌, min, true, false, List, [], ◌∷◌, length, take, drop, sym, ap, ◌∙◌, subst, inl, inr, ⊎_elim, arith, refl, length-drop}
 use Rattle.std.specs.Prelude.{Err}
 use Rattle.std.proofs.lemmas.Bool.{true≢false}
 use Rattle.std.proofs.lemmas.List.{drop-drop, length-take}
@@ -8,8 +8,8 @@ use Rattle.rec_bytes.specs.declared.record.Rec.{Rec}
 use Rattle.rec_bytes.specs.Format as format
 use Rattle.rec_bytes.specs.Key.{IsKey, key_eq}
 use Rattle.rec_bytes.specs.Record.{field, text_in}
-use Rattle.rec_bytes.specs.RecordFiles.{meta_key_of, room_of}
-use Rattle.rec_bytes.specs.Space.{State, after_put, meta_in, meta_of}
+use Rattle.rec_bytes.specs.RecordFiles.{room_of}
+use Rattle.rec_bytes.specs.Space.{State, after_put, meta_in}
 use Rattle.rec_bytes.proofs.KeyLaws.{key_eq-other, key_eq-same}
 use Rattle.store_rules.specs.Chains.{In}
 use Rattle.store_rules.specs.Properties.{AreBlocks, IsBlock, head_of}
@@ -20,9 +20,10 @@ use Rattle.store_rules.proofs.PropertyStays.{blocks_stay}
 use Rattle.store_rules.proofs.ViewLaws.{kind_below, live_false}
 use Rattle.id_freelist.specs.FreeLists.{IsFreeList}
 use Rattle.id_freelist.specs.TakeFault.{NotDamaged}
-use Rattle.id_freelist.specs.Taking.{CanTake, HasTaken, IsTakeFault, free_taken, mark_taken, taken}
+use Rattle.id_freelist.specs.Taking.{CanTake, HasTaken, IsTakeFault, taken}
 use Rattle.id_freelist.specs.declared.take_fault.TakeFault.{TakeFault}
 use Rattle.id_freelist.specs.declared.take_fault.TakeFault.TheVariants.{Damaged, Disk, Full, Memory}
+use Rattle.id_freelist.proofs.ListSteps.{records-taken, shape-taken}
 use Rattle.id_freelist.proofs.Splits.{can_take}
 use Rattle.prop_store.specs.BlockRecord.{block_record}
 use Rattle.prop_store.specs.BlockWriting.{MayFollow, WritesBlock, numbered_piece}
@@ -30,25 +31,6 @@ use Rattle.prop_store.specs.FileChange.{HasWritten, IsSameBeside, IsWriteFault, 
 use Rattle.prop_store.proofs.BlockRecords.{kind-block_record, next-block_record, size-block_record, text-block_record}
 use Rattle.prop_store.proofs.FileSteps.{file_more, file_taken, keeps_file, live_taken}
 use Rattle.prop_store.proofs.RecordFits.{Fits-block_record}
-
--- ---- an identifier taken
-
-pub shape-taken : (s : State) (file : ℕ) → (taken s file).shape ≡ s.shape
-unfolding mark_taken free_taken
-shape-taken s file = by (nat_eq (meta_of s file).free format.nil)
-  where
-    by : (b : Bool) → (cond b (mark_taken s file) (free_taken s file)).shape ≡ s.shape
-    by true = refl
-    by false = refl
-
--- only the file's meta record changed
-pub records-taken : (s : State) (file : ℕ) (key : Key) → key ≢ meta_key_of file → (taken s file).records key ≡ s.records key
-unfolding mark_taken free_taken
-records-taken s file key other = by (nat_eq (meta_of s file).free format.nil)
-  where
-    by : (b : Bool) → (cond b (mark_taken s file) (free_taken s file)).records key ≡ s.records key
-    by true = let e : key_eq key (meta_key_of file) ≡ false = key_eq-other key (meta_key_of file) other in rw e refl
-    by false = let e : key_eq key (meta_key_of file) ≡ false = key_eq-other key (meta_key_of file) other in rw e refl
 
 -- ---- a record written
 

@@ -33,7 +33,7 @@ use Rattle.store_rules.proofs.OnceLaws.{in_parts, in_right, once_walk}
 use Rattle.store_rules.proofs.PropertyOwners.{used_of_live}
 use Rattle.store_rules.proofs.ViewLaws.{kind_below, kind_low, row_some}
 use Rattle.prop_store.specs.Blocks as blocks
-use Rattle.prop_store.specs.Blocks.{ArePassed, IsBlockOf, IsBlockFault, IsTextDamage, IsTextFault, IsTextOf, LeadsToAll, NoBlock, NotSuch, TooMany}
+use Rattle.prop_store.specs.Blocks.{ArePassed, AreUsedOnce, IsBlockOf, IsBlockFault, IsTextDamage, IsTextFault, IsTextOf, LeadsToAll, NoBlock, NotSuch, TooMany}
 use Rattle.prop_store.specs.Fault.{BlamesBroken}
 use Rattle.prop_store.specs.Form.{form_in, form_of}
 use Rattle.prop_store.specs.GivenOut.{HighMark, IsLinkDamage, IsLinkFault, PastMark, holder_of}
@@ -259,6 +259,26 @@ text_goes_on records p from then at left piece to r more piece_is here next then
       subst (ArePassed records (first_block records p) (text_size records p) (r.blocks ++ at ∷ []) to) same all;
   from_is = then_is ∙ sym (holder_more format.strings_file (key_in format.properties_file p) r.blocks at);
 }
+
+pub passed_piece : (records : Records) (from size : ℕ) (bs pushed : List ℕ) (at left piece to : ℕ) → ArePassed records from size bs at left → 0 < left → piece ≡ min 48 left → IsBlockOf records at piece → to ≡ next_block records at → pushed ≡ bs ++ at ∷ []
+    → ArePassed records from size pushed to (left - piece)
+passed_piece records from size bs pushed at left piece to passed more piece_is here next is =
+    let all = passed_more records from size bs at left to passed more (subst (IsBlockOf records at) piece_is here) next in
+    let same : left - 48 ≡ left - piece = omega (arith, piece_is) in
+    subst (λ zs. ArePassed records from size zs to (left - piece)) (sym is) (subst (ArePassed records from size (bs ++ at ∷ []) to) same all)
+
+-- those that end are in use, and none comes twice
+pub passed_once : (records : Records) (from size : ℕ) (bs : List ℕ) (at left : ℕ) → ArePassed records from size bs at left → at ≡ format.nil → AreUsedOnce records bs
+passed_once records from size bs at left passed end = record { once = once_walk (next_block records) from bs (walk from size bs passed); used = used from size bs passed }
+  where
+    walk : (from size : ℕ) (bs : List ℕ) → ArePassed records from size bs at left → IsWalk (next_block records) from bs
+    walk from size [] p = p.0 ∙ end
+    walk from size (b ∷ bs) p = (p.0, p.2.some, walk (next_block records b) (size - 48) bs p.3)
+
+    used : (from size : ℕ) (bs : List ℕ) → ArePassed records from size bs at left → (b : ℕ) → In b bs → kind_at records format.strings_file b ≢ format.free_kind
+    used from size [] p b i = elim i [ ]
+    used from size (x ∷ bs) p b (inl e) = subst (λ z. kind_at records format.strings_file z ≢ format.free_kind) (sym e) p.2.used
+    used from size (x ∷ bs) p b (inr i) = used (next_block records x) (size - 48) bs p.3 b i
 
 -- what is left of a list that begins there
 record TextRest (records : Records) (bs members : List ℕ) (at left : ℕ) : Type 0 where

@@ -27,6 +27,7 @@ pub mod OwnerPlaces
 pub mod PointerLaws
 pub mod PropertyParts
 pub mod PropertyRecords
+pub mod PutLists
 pub mod PutSteps
 pub mod PutTouches
 pub mod ReadCounts

@@ -1,16 +1,16 @@
--- What is blamed in the middle of a change that takes identifiers.
+-- What a change that takes identifiers blames.
 use Rattle.std.specs.Prelude.{Result, Err, IfErr}
 use Rattle.std.specs.Result.{IsErrAnd}
 use Rattle.rec_bytes.specs.declared.key.Key.{Key}
 use Rattle.rec_bytes.specs.declared.meta.Meta.{Meta}
 use Rattle.rec_bytes.specs.Format as format
 use Rattle.rec_bytes.specs.Meta as metas
-use Rattle.rec_bytes.specs.Record.{field}
 use Rattle.rec_bytes.specs.RecordFiles.{meta_key_of, room_of}
-use Rattle.store_rules.specs.Rules.{next_free}
-use Rattle.id_freelist.specs.Taking.{BadNext, InUse, IsRanged, IsTakeDamage, IsTakeFault, IsUnused, Overcounted, Undercounted, Unlisted, Unranged, record_damage, room}
-use Rattle.id_freelist.proofs.TakeBreaches.{breaks_of}
-use Rattle.std.proofs.Common.{◌∙◌, ◌≡◌, ◌≤◌, ◌+◌, ℕ, [], sym, ap, subst, inl, inr, ⊎_elim, arith, ◌<◌, refl}
+use Rattle.id_freelist.specs.ListDamage.{BlamesList, HarmsNoList}
+use Rattle.id_freelist.specs.Taking.{IsTakeFault}
+use Rattle.id_freelist.proofs.ListSteps.{beside_harms_none, blames_before, blames_list, reads_harm_none}
+use Rattle.id_freelist.proofs.TakeBreaches.{list_breaks}
+use Rattle.std.proofs.Common.{◌∙◌, ◌≡◌, ◌≤◌, ℕ, sym, ap, subst, inl, inr, ⊎_elim, arith, ◌<◌, refl}
 use Rattle.std.proofs.lemmas.Result.{err_from_is_err_and}
 use Rattle.rec_bytes.specs.declared.damage.Damage.{Damage}
 use Rattle.rec_bytes.specs.declared.fault.Fault.{Fault}
@@ -20,73 +20,59 @@ use Rattle.rec_bytes.specs.declared.space.SpaceFault.{SpaceFault}
 use Rattle.rec_bytes.specs.declared.space.SpaceFault.TheVariants as spaces
 use Rattle.rec_bytes.specs.Space.{SameButReads, State, meta_of}
 use Rattle.store_rules.specs.Breaking.{Breaks}
-use Rattle.store_rules.specs.Views.{Records, high, key_in, kind_at, rec_at}
+use Rattle.store_rules.specs.Views.{Records, key_in, rec_at}
 use Rattle.id_freelist.specs.TakeFault as take_faults
 use Rattle.id_freelist.specs.declared.take_fault.TakeFault.{TakeFault}
 use Rattle.id_freelist.specs.declared.take_fault.TakeFault.TheVariants as takes
 use Rattle.prop_store.specs.Fault.{BlamesBroken}
 use Rattle.prop_store.specs.FileChange.{IsSameBeside}
 use Rattle.prop_store.specs.SetFault.{HasSetCause, IsFullFile, IsSetCause, IsTextCause, of_fault, of_space, of_take}
-use Rattle.prop_store.specs.Setting.{BlamesSet, BlamesStill, BlamesTaken, BreaksMidway}
-use Rattle.prop_store.specs.Touching.{TouchesProperties}
+use Rattle.prop_store.specs.Setting.{BlamesLists, SetBlamesBroken}
 use Rattle.prop_store.specs.declared.set_fault.SetFault.{SetFault}
 use Rattle.prop_store.specs.declared.set_fault.SetFault.TheVariants.{Damaged, Disk, Full, Memory, PropsFull}
-use Rattle.prop_store.proofs.Clearing.{kind_same}
-use Rattle.prop_store.proofs.Touches.{touches_reads, touches_then}
 
-module _ (tells : Type 0) where
-  -- ---- a take
+-- ---- what is blamed is wrong with a list
 
-  -- what a take blames, after these records were written
-  taken_midway : (n : ℕ) (s t : State) (d : Damage) → t.shape ≡ s.shape → TouchesProperties tells [] 0 n s t → Breaks t.records t.shape d → BreaksMidway tells n s d
-  taken_midway n s t d shape touched breaks = record { mid = t; touched = touched; breaks = subst (λ (h : Shape). Breaks t.records h d) shape breaks }
+-- of the blocks
+pub lists_of_text : (s : State) (fault : TakeFault) → BlamesList s format.strings_file fault → BlamesLists s (of_take fault)
+lists_of_text s (takes.Full file live) why = tt
+lists_of_text s takes.Memory why = tt
+lists_of_text s takes.Disk why = tt
+lists_of_text s (takes.Damaged d) why = inr why
 
-  pub take_blames : (n : ℕ) (s t : State) (fault : TakeFault) → t.shape ≡ s.shape → TouchesProperties tells [] 0 n s t → take_faults.BlamesBroken t.records t.shape fault → BlamesTaken tells n s fault
-  take_blames n s t (takes.Full file live) shape touched why = tt
-  take_blames n s t takes.Memory shape touched why = tt
-  take_blames n s t takes.Disk shape touched why = tt
-  take_blames n s t (takes.Damaged d) shape touched why = taken_midway n s t d shape touched why
+-- of the properties
+pub lists_of_take : (s : State) (fault : TakeFault) → BlamesList s format.properties_file fault → BlamesLists s (of_take fault)
+lists_of_take s (takes.Full file live) why = tt
+lists_of_take s takes.Memory why = tt
+lists_of_take s takes.Disk why = tt
+lists_of_take s (takes.Damaged d) why = inl why
 
-  -- and after these, where it was said of what came later
-  later_midway : (n m k : ℕ) (s t : State) (d : Damage) → n + m ≤ k → t.shape ≡ s.shape → TouchesProperties tells [] 0 n s t → BreaksMidway tells m t d → BreaksMidway tells k s d
-  later_midway n m k s t d le shape touched b = record { mid = b.mid; touched = touches_then [] 0 n 0 m 0 k s t b.mid (omega arith) le touched b.touched; breaks = subst (λ (h : Shape). Breaks b.mid.records h d) shape b.breaks }
+pub lists_of_space : (s : State) (fault : SpaceFault) → BlamesLists s (of_space fault)
+lists_of_space s spaces.Memory = tt
+lists_of_space s spaces.Disk = tt
 
-  pub later_take : (n m k : ℕ) (s t : State) (fault : TakeFault) → n + m ≤ k → t.shape ≡ s.shape → TouchesProperties tells [] 0 n s t → BlamesTaken tells m t fault → BlamesTaken tells k s fault
-  later_take n m k s t (takes.Full file live) le shape touched why = tt
-  later_take n m k s t takes.Memory le shape touched why = tt
-  later_take n m k s t takes.Disk le shape touched why = tt
-  later_take n m k s t (takes.Damaged d) le shape touched why = later_midway n m k s t d le shape touched why
+-- so it breaks the rule
+pub lists_broken : (s : State) (fault : SetFault) → BlamesLists s fault → SetBlamesBroken s fault
+lists_broken s (Full file live) why = tt
+lists_broken s Memory why = tt
+lists_broken s Disk why = tt
+lists_broken s (PropsFull count) why = tt
+lists_broken s (Damaged d) why = ⊎_elim (list_breaks s.records s.shape format.properties_file refl d) (list_breaks s.records s.shape format.strings_file refl d) why
 
-  pub take_of_space : (n : ℕ) (s : State) (fault : SpaceFault) → BlamesTaken tells n s (take_faults.of_space fault)
-  take_of_space n s spaces.Memory = tt
-  take_of_space n s spaces.Disk = tt
+-- the change began with reads
+pub lists_read : (s t : State) (fault : SetFault) → SameButReads s t → BlamesLists t fault → BlamesLists s fault
+lists_read s t (Full file live) same why = tt
+lists_read s t Memory same why = tt
+lists_read s t Disk same why = tt
+lists_read s t (PropsFull count) same why = tt
+lists_read s t (Damaged d) same why = ⊎_elim (λ k. inl (reads_harm_none s t format.properties_file same d k)) (λ k. inr (reads_harm_none s t format.strings_file same d k)) why
 
-  -- ---- a change
-
-  pub set_of_take : (n : ℕ) (s : State) (fault : TakeFault) → BlamesTaken tells n s fault → BlamesSet tells n s (of_take fault)
-  set_of_take n s (takes.Full file live) why = tt
-  set_of_take n s takes.Memory why = tt
-  set_of_take n s takes.Disk why = tt
-  set_of_take n s (takes.Damaged d) why = inr why
-
-  pub set_of_space : (n : ℕ) (s : State) (fault : SpaceFault) → BlamesSet tells n s (of_space fault)
-  set_of_space n s spaces.Memory = tt
-  set_of_space n s spaces.Disk = tt
-
-  pub set_of_fault : (n : ℕ) (s : State) (fault : Fault) → BlamesBroken s.records s.shape fault → BlamesSet tells n s (of_fault fault)
-  set_of_fault n s faults.Memory why = tt
-  set_of_fault n s faults.Disk why = tt
-  set_of_fault n s (faults.Damaged d) why = inl why
-
-  -- the change began with reads
-  pub set_read : (n k : ℕ) (s t : State) (fault : SetFault) → n ≤ k → SameButReads s t → BlamesSet tells n t fault → BlamesSet tells k s fault
-  set_read n k s t (Full file live) le same why = tt
-  set_read n k s t Memory le same why = tt
-  set_read n k s t Disk le same why = tt
-  set_read n k s t (PropsFull count) le same why = tt
-  set_read n k s t (Damaged d) le same why = ⊎_elim
-      (λ (b : Breaks t.records t.shape d). inl (subst (λ (r : Records). Breaks r s.shape d) (ap (λ (z : State). z.records) same) (subst (λ (h : Shape). Breaks t.records h d) (ap (λ (z : State). z.shape) same) b)))
-      (λ (b : BreaksMidway tells n t d). inr (later_midway 0 n k s t d (omega arith) (ap (λ (z : State). z.shape) same) (touches_reads [] 0 0 s t same) b)) why
+pub set_read : (s t : State) (fault : SetFault) → SameButReads s t → SetBlamesBroken t fault → SetBlamesBroken s fault
+set_read s t (Full file live) same why = tt
+set_read s t Memory same why = tt
+set_read s t Disk same why = tt
+set_read s t (PropsFull count) same why = tt
+set_read s t (Damaged d) same why = subst (λ (r : Records). Breaks r s.shape d) (ap (λ (z : State). z.records) same) (subst (λ (h : Shape). Breaks t.records h d) (ap (λ (z : State). z.shape) same) why)
 
 -- what holds of a fault that is passed on holds of the result
 pub set_has : {T : Type 0} (P : SetFault → Type 0) (r : Result T SetFault) (fault : SetFault) → IsErrAnd r (λ f. f ≡ fault) → P fault → IfErr r P
@@ -168,17 +154,17 @@ pub take_still_space : (t : State) (fault : SpaceFault) → take_faults.BlamesBr
 take_still_space t spaces.Memory = tt
 take_still_space t spaces.Disk = tt
 
-pub set_still_take : (t : State) (fault : TakeFault) → take_faults.BlamesBroken t.records t.shape fault → BlamesStill t (of_take fault)
+pub set_still_take : (t : State) (fault : TakeFault) → take_faults.BlamesBroken t.records t.shape fault → SetBlamesBroken t (of_take fault)
 set_still_take t (takes.Full file live) why = tt
 set_still_take t takes.Memory why = tt
 set_still_take t takes.Disk why = tt
 set_still_take t (takes.Damaged d) why = why
 
-pub set_still_space : (t : State) (fault : SpaceFault) → BlamesStill t (of_space fault)
+pub set_still_space : (t : State) (fault : SpaceFault) → SetBlamesBroken t (of_space fault)
 set_still_space t spaces.Memory = tt
 set_still_space t spaces.Disk = tt
 
-pub set_still_fault : (s t : State) (fault : Fault) → BlamesBroken s.records s.shape fault → SameButReads s t → BlamesStill t (of_fault fault)
+pub set_still_fault : (s t : State) (fault : Fault) → BlamesBroken s.records s.shape fault → SameButReads s t → SetBlamesBroken t (of_fault fault)
 set_still_fault s t faults.Memory why same = tt
 set_still_fault s t faults.Disk why same = tt
 set_still_fault s t (faults.Damaged d) why same = still_read s t d same why
@@ -189,43 +175,26 @@ module _ (s a : State) (beside : IsSameBeside format.strings_file s.records a.re
   abbrev file : ℕ
   file = format.properties_file
 
-  meta_stays : meta_of a file ≡ meta_of s file
-  meta_stays = ap metas.meta_of (beside (meta_key_of file) (λ e. absurd (omega (arith, e))) (λ e. let k : file ≡ format.strings_file = ap (λ (k : Key). k.id) e in omega arith))
+  meta_record_stays : a.records (meta_key_of file) ≡ s.records (meta_key_of file)
+  meta_record_stays = beside (meta_key_of file) (λ e. absurd (omega (arith, e))) (λ e. let k : file ≡ format.strings_file = ap (λ (k : Key). k.id) e in omega arith)
 
-  free_stays : (meta_of a file).free ≡ (meta_of s file).free
-  free_stays = ap (λ (m : Meta). m.free) meta_stays
+  meta_stays : meta_of a file ≡ meta_of s file
+  meta_stays = ap metas.meta_of meta_record_stays
 
   here : (x : ℕ) → rec_at a.records file x ≡ rec_at s.records file x
   here x = beside (key_in file x) (λ e. absurd (omega (arith, e))) (λ e. let k : file ≡ format.meta_file = ap (λ (k : Key). k.file) e in omega arith)
 
-  kind_stays : (x : ℕ) → kind_at a.records file x ≡ kind_at s.records file x
-  kind_stays x = kind_same s.records a.records file x (ap (λ (m : Meta). m.high) meta_stays) (here x)
-
-  unused_stays : (x : ℕ) → IsUnused a.records file x → IsUnused s.records file x
-  unused_stays x u = record { low = subst (λ (m : Meta). x < m.high) meta_stays u.low; free = sym (kind_stays x) ∙ u.free }
-
-  take_before : (d : Damage) → IsTakeDamage a file d → Breaks s.records s.shape d
-  take_before d (Unranged f) = breaks_of s file refl d (Unranged (λ k. f (subst (λ (m : Meta). IsRanged m (room a file)) (sym meta_stays) (subst (λ (h : Shape). IsRanged (meta_of s file) (room_of h file)) (sym shape) k))))
-  take_before d (Unlisted x none lt unused) = breaks_of s file refl d (Unlisted x (sym free_stays ∙ none) (subst (λ (m : Meta). m.live < m.high) meta_stays lt) (unused_stays x unused))
-  take_before d (Undercounted none lt used) = breaks_of s file refl d (Undercounted (sym free_stays ∙ none) (subst (λ (m : Meta). m.live < m.high) meta_stays lt) (λ x l e. used x (subst (λ (m : Meta). x < m.high) (sym meta_stays) l) (kind_stays x ∙ e)))
-  take_before d (Overcounted le more) = breaks_of s file refl d (Overcounted (subst (λ (m : Meta). m.high ≤ m.live) meta_stays le) (λ e. subst (λ (m : Meta). m.high < m.live) meta_stays (more (free_stays ∙ e))))
-  take_before d (InUse some used) = breaks_of s file refl d (InUse (λ e. some (free_stays ∙ e)) (λ e. used (ap (kind_at a.records file) free_stays ∙ kind_stays (meta_of s file).free ∙ e)))
-  take_before d (BadNext ne unused some le) =
-      let next : next_free a.records file (meta_of a file).free ≡ next_free s.records file (meta_of s file).free = ap (next_free a.records file) free_stays ∙ ap (λ r. field 4 r format.free_next) (here (meta_of s file).free) in
-      subst (λ z. Breaks s.records s.shape (record_damage file z 1)) (sym free_stays)
-      (breaks_of s file refl (record_damage file (meta_of s file).free 1) (BadNext (λ e. ne (free_stays ∙ e)) (unused_stays (meta_of s file).free (subst (IsUnused a.records file) free_stays unused)) (λ e. some (next ∙ e))
-      (let mark : high a.records file ≡ high s.records file = ap (λ (m : Meta). m.high) meta_stays in omega (arith, mark, next, le))))
+  -- what is wrong with their list was so before
+  pub text_harms_none : HarmsNoList s a file
+  text_harms_none = beside_harms_none s a file shape meta_record_stays here
 
   -- a file that is full now was full before
   pub full_before : (meta_of a file).live ≡ room_of a.shape file → (meta_of s file).live ≡ room_of s.shape file
   full_before full = sym (ap (λ (m : Meta). m.live) meta_stays) ∙ full ∙ ap (λ (h : Shape). room_of h file) shape
 
-  -- what it blames was broken before
-  pub property_take : (tells : Type 0) (n : ℕ) (fault : TakeFault) → IsTakeFault a file fault → BlamesSet tells n s (of_take fault)
-  property_take tells n (takes.Full full live) why = tt
-  property_take tells n takes.Memory why = tt
-  property_take tells n takes.Disk why = tt
-  property_take tells n (takes.Damaged d) why = inl (take_before d why)
+  -- and so is what a take of it blames
+  pub property_take : (fault : TakeFault) → IsTakeFault a file fault → BlamesLists s (of_take fault)
+  property_take fault why = lists_of_take s fault (blames_before s a file fault text_harms_none (blames_list a file fault why))
 
 -- where a record is blamed the disk is not
 pub set_cause : {T : Type 0} (before now : ℕ) (r : Result T SetFault) (fault : Fault) (d : Damage) → IsErrAnd r (λ f. f ≡ of_fault fault) → fault ≡ faults.Damaged d → before ≤ now → HasSetCause before now r

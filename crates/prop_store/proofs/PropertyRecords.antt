@@ -233,3 +233,10 @@ used-content r c is free = none (ap (λ k. content_by r k (field 2 r format.prop
   where
     none : content_by r 0 (field 2 r format.property_length) ≡ Some c → ⊥
     none e = cc
+
+-- it is one in use
+pub used-property_record : (key first next : ℕ) (value : Value) → IsKept value → field 1 (property_record key value first next) format.kind ≢ format.free_kind
+used-property_record key first next (values.Int n) kept e = let k = kind-int_record key first next n in omega arith
+used-property_record key first next (values.Bool b) kept e = let k = kind-bool_record key first next b in omega arith
+used-property_record key first next (values.Text text) kept e = by_length text
+    (λ (short : length text ≤ 40). let k = kind-inline_record key first next text short in omega arith) (λ (long : 40 < length text). let k = kind-long_record key first next text long kept in omega arith)

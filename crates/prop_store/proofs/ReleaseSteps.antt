@@ -1,8 +1,10 @@
 -- One of several blocks is given back.
-use Rattle.std.proofs.Common.{◌≡◌, ℕ, ◌+◌, true, false, List, [], ◌∷◌, ap, refl, subst, sym, ◌∙◌, inl, inr, ⊎_elim, arith}
+use Rattle.std.proofs.Common.{◌≡◌, ℕ, ◌+◌, ◌<◌, true, false, List, [], ◌∷◌, length, ap, refl, subst, sym, ◌∙◌, inl, inr, ⊎_elim, arith}
 use Rattle.std.proofs.lemmas.Bool.{true≢false}
 use Rattle.rec_bytes.specs.RecordFiles.{meta_key_of}
-use Rattle.rec_bytes.specs.Space.{State, meta_in}
+use Rattle.rec_bytes.specs.Format as format
+use Rattle.rec_bytes.specs.Meta.{IsLinkBelow}
+use Rattle.rec_bytes.specs.Space.{State, meta_in, meta_of}
 use Rattle.rec_bytes.specs.declared.key.Key.{Key}
 use Rattle.rec_bytes.specs.Key.{key_eq}
 use Rattle.rec_bytes.proofs.KeyLaws.{key_eq-other}
@@ -12,6 +14,9 @@ use Rattle.store_rules.specs.Properties.{AreOnce}
 use Rattle.store_rules.specs.PropertyChange.{ChangesFile}
 use Rattle.store_rules.specs.Views.{Records, is_live, key_in}
 use Rattle.id_freelist.specs.Giving.{CanGive, HasGiven, given}
+use Rattle.id_freelist.specs.ListDamage.{HarmsNoList}
+use Rattle.id_freelist.proofs.ListSteps.{give_harms_none, give_link, give_used, harms_none_then}
+use Rattle.prop_store.specs.Blocks.{AreUsedOnce}
 use Rattle.prop_store.specs.FileChange.{IsSameBeside}
 use Rattle.prop_store.proofs.FileSteps.{IsPropertyFile, file_given, file_less, file_now, live_given}
 
@@ -46,3 +51,26 @@ beside_given s t file id is key out other =
     let not_meta : key_eq key (meta_key_of file) ≡ false = key_eq-other key (meta_key_of file) other in
     let not_here : key_eq key (key_in file id) ≡ false = key_eq-other key (key_in file id) (λ e. out (ap (λ (k : Key). k.file) e)) in
     ap (λ (z : State). z.records key) is ∙ rw (not_meta, not_here) refl
+
+-- Nothing more is wrong with their list, the blocks that are left are in use, and the first free one may stand there.
+pub record LeavesLinked (s t : State) (blocks rest : List ℕ) : Type 0 where
+  pub harmless : HarmsNoList s t format.strings_file
+  pub left : AreUsedOnce t.records rest
+  pub link : 0 < length blocks → IsLinkBelow (meta_of t format.strings_file).free (meta_of t format.strings_file).high
+
+pub none_linked : (s : State) (blocks : List ℕ) → AreUsedOnce s.records blocks → (0 < length blocks → IsLinkBelow (meta_of s format.strings_file).free (meta_of s format.strings_file).high) → LeavesLinked s s blocks blocks
+none_linked s blocks used link = record { harmless = λ d why. why; left = used; link = link }
+
+pub one_linked : (s t u : State) (blocks whole rest : List ℕ) (id : ℕ) → 0 < length blocks → whole ≡ id ∷ rest → id < format.most_ids → u ≡ given t format.strings_file id → LeavesLinked s t blocks whole → LeavesLinked s u blocks rest
+one_linked s t u blocks whole rest id some e few now left =
+    let both : AreUsedOnce t.records (id ∷ rest) = subst (AreUsedOnce t.records) e left.left in
+    let used = both.used id (inl refl) in
+    let link = left.link some in
+    record {
+      harmless = harms_none_then s t u format.strings_file left.harmless (give_harms_none t u format.strings_file id refl now few used link);
+      left = record {
+        once = both.once.1;
+        used = λ b i. give_used t u format.strings_file id refl now few used link b (λ q. both.once.0 (subst (λ z. In z rest) q i)) (both.used b (inr i));
+      };
+      link = λ _. give_link t u format.strings_file id refl now few used link;
+    }

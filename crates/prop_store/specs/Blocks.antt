@@ -11,7 +11,7 @@ use Rattle.rec_bytes.specs.Space.{State}
 use Rattle.store_rules.specs.Breaking.{IsLong, block_size, damage, first_block, next_block}
 use Rattle.store_rules.specs.Breaking.{text_size}
 use Rattle.store_rules.specs.Chains.{In}
-use Rattle.store_rules.specs.Properties.{AreBlocks, head_of}
+use Rattle.store_rules.specs.Properties.{AreBlocks, AreOnce, head_of}
 use Rattle.store_rules.specs.Views.{Records, key_in, kind_at}
 use Rattle.prop_store.specs.GivenOut.{IsLinkDamage, holder_of}
 
@@ -93,3 +93,8 @@ pub record LeadsToBlock (records : Records) (p b : ℕ) : Type 0 where
 -- it leads to each of these
 abbrev pub LeadsToAll : Records → ℕ → List ℕ → Type 0
 LeadsToAll records p bs = (b : ℕ) → In b bs → LeadsToBlock records p b
+
+-- These blocks are in use, and none comes twice.
+pub record AreUsedOnce (records : Records) (bs : List ℕ) : Type 0 where
+  pub once : AreOnce bs
+  pub used : (b : ℕ) → In b bs → kind_at records format.strings_file b ≢ format.free_kind

@@ -1,17 +1,14 @@
 -- A property whose record and blocks are written.
 use Rattle.std.specs.Prelude.{◌≡◌, ◌⊎◌, ℕ, ◌+◌, ◌<◌, List, [], ◌∷◌}
 use Rattle.plain_graph.specs.declared.value.Value.{Value}
-use Rattle.rec_bytes.specs.declared.damage.Damage.{Damage}
 use Rattle.rec_bytes.specs.Format as format
 use Rattle.rec_bytes.specs.RecordFiles.{room_of}
 use Rattle.rec_bytes.specs.Space.{State, meta_of}
 use Rattle.store_rules.specs.Breaking.{Breaks}
 use Rattle.store_rules.specs.Properties.{AreOnce, IsProperty, property_records}
 use Rattle.store_rules.specs.Views.{high}
-use Rattle.id_freelist.specs.declared.take_fault.TakeFault.{TakeFault}
-use Rattle.id_freelist.specs.declared.take_fault.TakeFault.TheVariants as takes
+use Rattle.id_freelist.specs.ListDamage.{HarmsNoList, IsListDamage}
 use Rattle.prop_store.specs.Dropping.{ChangesRecords}
-use Rattle.prop_store.specs.Touching.{TouchesProperties}
 use Rattle.prop_store.specs.declared.set_fault.SetFault.{SetFault}
 use Rattle.prop_store.specs.declared.set_fault.SetFault.TheVariants.{Damaged, Disk, Full, Memory}
 use Rattle.prop_store.specs.declared.set_fault.SetFault.TheVariants.{PropsFull}
@@ -44,33 +41,25 @@ IsPutFault s gone needed Disk = Unit {0}
 IsPutFault s gone needed (PropsFull count) = ⊥
 IsPutFault s gone needed (Damaged damage) = ⊥
 
--- The record breaks the rule as the change had left the store when it took a block: so many blocks
--- and the meta record of their file may have been written by then.
-pub record BreaksMidway (tells : Type 0) (blocks : ℕ) (s : State) (d : Damage) : Type 0 where
-  pub mid : State
-  pub touched : TouchesProperties tells [] 0 blocks s mid
-  pub breaks : Breaks mid.records s.shape d
-
--- a record that is blamed breaks the rule so
-abbrev pub BlamesTaken : Type 0 → ℕ → State → TakeFault → Type 0
-BlamesTaken tells blocks s (takes.Full file live) = Unit {0}
-BlamesTaken tells blocks s takes.Memory = Unit {0}
-BlamesTaken tells blocks s takes.Disk = Unit {0}
-BlamesTaken tells blocks s (takes.Damaged d) = BreaksMidway tells blocks s d
-
 -- a record that is blamed breaks the rule
-abbrev pub BlamesStill : State → SetFault → Type 0
-BlamesStill t (Full file live) = Unit {0}
-BlamesStill t Memory = Unit {0}
-BlamesStill t Disk = Unit {0}
-BlamesStill t (PropsFull count) = Unit {0}
-BlamesStill t (Damaged d) = Breaks t.records t.shape d
+abbrev pub SetBlamesBroken : State → SetFault → Type 0
+SetBlamesBroken s (Full file live) = Unit {0}
+SetBlamesBroken s Memory = Unit {0}
+SetBlamesBroken s Disk = Unit {0}
+SetBlamesBroken s (PropsFull count) = Unit {0}
+SetBlamesBroken s (Damaged d) = Breaks s.records s.shape d
 
--- a record that is blamed breaks the rule in the store as it was, or when a block was taken
-abbrev pub BlamesSet : Type 0 → ℕ → State → SetFault → Type 0
-BlamesSet tells blocks s (Full file live) = Unit {0}
-BlamesSet tells blocks s Memory = Unit {0}
-BlamesSet tells blocks s Disk = Unit {0}
-BlamesSet tells blocks s (PropsFull count) = Unit {0}
-BlamesSet tells blocks s (Damaged d) =
-    Breaks s.records s.shape d ⊎ BreaksMidway tells blocks s d
+-- a record that is blamed is what is wrong with the free list of the properties or of the blocks
+abbrev pub BlamesLists : State → SetFault → Type 0
+BlamesLists s (Full file live) = Unit {0}
+BlamesLists s Memory = Unit {0}
+BlamesLists s Disk = Unit {0}
+BlamesLists s (PropsFull count) = Unit {0}
+BlamesLists s (Damaged d) =
+    IsListDamage s.records s.shape format.properties_file d
+    ⊎ IsListDamage s.records s.shape format.strings_file d
+
+-- What is wrong with these two lists was wrong with them before.
+pub record HarmsNoLists (old new : State) : Type 0 where
+  pub properties : HarmsNoList old new format.properties_file
+  pub blocks : HarmsNoList old new format.strings_file

@@ -1,10 +1,10 @@
 ghost use Rattle.std.specs.Prelude.{◌≡◌, ◌*◌, ◌<◌, ◌≤◌, [], IfErr, IfOk, OnOk, length};
 ghost use Rattle.rec_bytes.specs.Format.{strings_file};
+ghost use Rattle.id_freelist.specs.ListDamage.{BlamesList, HarmsNoList};
 ghost use Rattle.id_freelist.specs.TakeFault.{BlamesBroken, HasTakeCause};
 ghost use Rattle.prop_store.specs.BlockWriting.{MayFollow, WritesBlock, numbered_piece};
 ghost use Rattle.prop_store.specs.FileChange.{HasWritten, IsSameBeside, IsWriteFault, KeepsFile};
 ghost use Rattle.prop_store.specs.FileChange.{blocks_for};
-ghost use Rattle.prop_store.specs.Setting.{BlamesTaken};
 ghost use Rattle.prop_store.specs.Touching.{TouchesProperties};
 ghost use Rattle.prop_store.specs.SetFault.{IsTextCause};
 
@@ -29,8 +29,9 @@ pub(crate) fn write_text<S: Space>(space: &mut S, text: &[u8]) -> Result<u32, Ta
         → IfErr result (IsTextCause (S.state space.new) (blocks_for (length text.now))) }
     ensures still { S.tells
         → IfErr result (BlamesBroken (S.state space.new).records (S.state space.new).shape) }
-    ensures damaged { S.tells → IfErr result
-        (BlamesTaken S.tells (blocks_for (length text.now)) (S.state space.old)) }
+    ensures damaged { S.tells → IfErr result (BlamesList (S.state space.old) strings_file) }
+    ensures harmless { S.tells
+        → OnOk result (HarmsNoList (S.state space.old) (S.state space.new) strings_file) }
     ensures onward { S.onward space.old space.new }
     ensures cause { HasTakeCause (S.faults space.old) (S.faults space.new) result }
 {
@@ -72,7 +73,9 @@ fn write_block<S: Space>(space: &mut S, piece: &[u8], next: u32) -> Result<u32, 
     ensures caused { S.tells → IfErr result (IsTextCause (S.state space.new) 1) }
     ensures still { S.tells
         → IfErr result (BlamesBroken (S.state space.new).records (S.state space.new).shape) }
-    ensures damaged { S.tells → IfErr result (BlamesTaken S.tells 0 (S.state space.old)) }
+    ensures damaged { S.tells → IfErr result (BlamesList (S.state space.old) strings_file) }
+    ensures harmless { S.tells
+        → OnOk result (HarmsNoList (S.state space.old) (S.state space.new) strings_file) }
     ensures onward { S.onward space.old space.new }
     ensures cause { HasTakeCause (S.faults space.old) (S.faults space.new) result }
 {

@@ -1,4 +1,4 @@
-ghost use Rattle.std.specs.Prelude.{◌≡◌, ◌∷◌, [], IfErr, OnErr, OnOk, length, map};
+ghost use Rattle.std.specs.Prelude.{◌≡◌, ◌<◌, ◌∷◌, [], IfErr, OnErr, OnOk, length, map};
 ghost use Rattle.rec_bytes.specs.Format.{meta_file, strings_file};
 ghost use Rattle.rec_bytes.specs.Meta.{IsLinkBelow};
 ghost use Rattle.rec_bytes.specs.RecordFiles.{meta_key_of};
@@ -6,7 +6,9 @@ ghost use Rattle.rec_bytes.specs.Space.{HasCause, meta_of};
 ghost use Rattle.store_rules.specs.Properties.{AreOnce};
 ghost use Rattle.store_rules.specs.PropertyChange.{ChangesFile};
 ghost use Rattle.store_rules.specs.Views.{key_in};
+ghost use Rattle.id_freelist.specs.ListDamage.{HarmsNoList};
 ghost use Rattle.prop_store.specs.BlockList.{AreSmall};
+ghost use Rattle.prop_store.specs.Blocks.{AreUsedOnce};
 ghost use Rattle.prop_store.specs.FileChange.{HasFewer, HasFreed, IsSameBeside};
 ghost use Rattle.prop_store.specs.Touching.{TouchesOnly};
 
@@ -19,6 +21,9 @@ use rec_bytes::{Fault, META, NIL, RANGE_RULE, Reads, STRINGS, Space, SpaceFault}
 pub(crate) fn test_free<R: Reads>(space: &R, blocks: &[u32]) -> Result<(), Fault>
     ensures named { IfErr result (λ fault. fault
         ≡ Fault.Damaged (record { file = meta_file; id = strings_file; rule = 1 })) }
+    ensures passed { OnOk result (0 < length blocks.now
+        → IsLinkBelow (meta_of (R.state space.now) strings_file).free
+        (meta_of (R.state space.now) strings_file).high) }
     ensures broken { OnErr result (¬ IsLinkBelow (meta_of (R.state space.now) strings_file).free
         (meta_of (R.state space.now) strings_file).high) }
 {
@@ -40,6 +45,11 @@ pub(crate) fn release<S: Space>(space: &mut S, blocks: &[u32]) -> Result<(), Spa
         × HasFewer (S.state space.old) (S.state space.new) strings_file (length blocks.now)) }
     ensures freed { S.tells → OnOk result
         (HasFreed (S.state space.old).records (S.state space.new).records blocks.now) }
+    ensures harmless { S.tells → OnOk result (AreUsedOnce (S.state space.old).records blocks.now
+        → (0 < length blocks.now
+        → IsLinkBelow (meta_of (S.state space.old) strings_file).free
+        (meta_of (S.state space.old) strings_file).high)
+        → HarmsNoList (S.state space.old) (S.state space.new) strings_file) }
     ensures beside { S.tells → OnOk result (IsSameBeside strings_file
         (S.state space.old).records (S.state space.new).records) }
     ensures touches { TouchesOnly S.tells (S.state space.old) (S.state space.new)

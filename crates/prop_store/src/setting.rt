@@ -1,7 +1,7 @@
 //! Values that are given to the keys of one element.
 
 ghost use Rattle.std.specs.Prelude.{◌≡◌, ◌≢◌, ◌+◌, ◌<◌, ◌≤◌, List, [], ◌∷◌, None, IfErr, IfOk};
-ghost use Rattle.std.specs.Prelude.{length};
+ghost use Rattle.std.specs.Prelude.{OnOk, length};
 ghost use Rattle.std.specs.FinMap as maps;
 ghost use Rattle.plain_graph.specs.Forms.{IsKept};
 ghost use Rattle.plain_graph.specs.Properties.{blocks_of};
@@ -21,8 +21,8 @@ ghost use Rattle.prop_store.specs.Finding.{IsCrowded, LacksMet};
 ghost use Rattle.prop_store.specs.Owner.{IsInUse, IsOwner};
 ghost use Rattle.prop_store.specs.PropertyRow.{IsReadRow, IsRow};
 ghost use Rattle.prop_store.specs.SetFault.{HasSetCause, IsSetCause};
-ghost use Rattle.prop_store.specs.Setting.{BlamesSet, BlamesStill, IsPutFault, MayLead};
-ghost use Rattle.prop_store.specs.Setting.{PutsProperty};
+ghost use Rattle.prop_store.specs.Setting.{BlamesLists, HarmsNoLists, IsPutFault, MayLead};
+ghost use Rattle.prop_store.specs.Setting.{PutsProperty, SetBlamesBroken};
 ghost use Rattle.prop_store.specs.Touching.{TouchesProperties};
 ghost use Rattle.rec_bytes.specs.Format.{properties_file, property_key, property_next};
 ghost use Rattle.rec_bytes.specs.Format.{strings_file};
@@ -75,9 +75,11 @@ pub fn add<S: Space>(space: &mut S, owner: Owner, key: u32, value: &Value) -> Re
     ensures caused { S.tells → IfErr result (IsSetCause ⊥
         (SameButReads (S.state space.old) (S.state space.new)) (blocks_of value.now)
         (S.state space.new)) }
-    ensures still { S.tells → IfErr result (BlamesStill (S.state space.new)) }
-    ensures damaged { S.tells
-        → IfErr result (BlamesSet S.tells (blocks_of value.now) (S.state space.old)) }
+    ensures still { S.tells → IfErr result (SetBlamesBroken (S.state space.new)) }
+    ensures lists { S.tells → IfErr result (BlamesLists (S.state space.old)) }
+    ensures damaged { S.tells → IfErr result (SetBlamesBroken (S.state space.old)) }
+    ensures harmless { S.tells
+        → OnOk result (HarmsNoLists (S.state space.old) (S.state space.new)) }
     ensures onward { S.onward space.old space.new }
     ensures cause { HasSetCause (S.faults space.old) (S.faults space.new) result }
 {
@@ -123,9 +125,9 @@ pub fn set<S: Space>(space: &mut S, owner: Owner, key: u32, value: &Value) -> Re
         × SameButReads (S.state space.old) (S.state space.new)) (blocks_of value.now)
         (S.state space.new)) }
     ensures still { S.tells → IsInUse (S.state space.old).records owner
-        → IfErr result (BlamesStill (S.state space.new)) }
+        → IfErr result (SetBlamesBroken (S.state space.new)) }
     ensures damaged { S.tells → IsInUse (S.state space.old).records owner
-        → IfErr result (BlamesSet S.tells (22 + blocks_of value.now) (S.state space.old)) }
+        → IfErr result (SetBlamesBroken (S.state space.old)) }
     ensures onward { S.onward space.old space.new }
     ensures cause { HasSetCause (S.faults space.old) (S.faults space.new) result }
 {
@@ -178,9 +180,10 @@ fn put_new<S: Space>(space: &mut S, key: u32, value: &Value, next: u32) -> Resul
         ((meta_of (S.state space.old) properties_file).live
         ≡ room_of (S.state space.old).shape properties_file) (blocks_of value.now)
         (S.state space.new)) }
-    ensures still { S.tells → IfErr result (BlamesStill (S.state space.new)) }
-    ensures damaged { S.tells
-        → IfErr result (BlamesSet S.tells (blocks_of value.now) (S.state space.old)) }
+    ensures still { S.tells → IfErr result (SetBlamesBroken (S.state space.new)) }
+    ensures damaged { S.tells → IfErr result (BlamesLists (S.state space.old)) }
+    ensures harmless { S.tells
+        → OnOk result (HarmsNoLists (S.state space.old) (S.state space.new)) }
     ensures onward { S.onward space.old space.new }
     ensures cause { HasSetCause (S.faults space.old) (S.faults space.new) result }
 {
@@ -215,9 +218,9 @@ fn put_again<S: Space>(space: &mut S, row: &PropertyRow, value: &Value) -> Resul
     ensures caused { S.tells
         → IfErr result (IsSetCause ⊥ ⊥ (blocks_of value.now) (S.state space.new)) }
     ensures still { S.tells → IsReadRow (S.state space.old).records row.now
-        → IfErr result (BlamesStill (S.state space.new)) }
+        → IfErr result (SetBlamesBroken (S.state space.new)) }
     ensures damaged { S.tells → IsReadRow (S.state space.old).records row.now
-        → IfErr result (BlamesSet S.tells (22 + blocks_of value.now) (S.state space.old)) }
+        → IfErr result (SetBlamesBroken (S.state space.old)) }
     ensures onward { S.onward space.old space.new }
     ensures cause { HasSetCause (S.faults space.old) (S.faults space.new) result }
 {

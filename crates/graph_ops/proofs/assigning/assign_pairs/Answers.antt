@@ -15,7 +15,7 @@ use Rattle.graph_ops.proofs.LineNames.{name_long, uses_long, uses_prefix}
 use Rattle.graph_ops.proofs.NewNames.{placed_grows}
 use Rattle.graph_ops.proofs.Places.{has_room, no_room}
 use Rattle.store_rules.proofs.WriteLaws.{more_written, none_written, then_written}
-use Rattle.graph_ops.proofs.Adding.{beyond_then, key_beyond}
+use Rattle.graph_ops.proofs.Adding.{key_beside, names_then}
 use Rattle.graph_ops.proofs.DiskCauses.{intern_cause_passed}
 use Rattle.rec_bytes.proofs.Causes.{never_ok, ok_cause}
 use Rattle.graph_ops.proofs.assigning.assign_pairs.Goals as goal
@@ -27,7 +27,7 @@ loop-place-init g c =
     let s = g.S.Reads.state c.args.space.now in
     record {
       so_far = subst (IsSoFar c.args.names.now.names c.args.names.now.names c.args.pairs.now 0) (sym c.new-assigned.ensures) (none_so_far c.args.names.now.names c.args.pairs.now c.requires.names);
-      stays = λ tells q beyond. refl;
+      stays = λ tells q other no_meta. refl;
       kept = λ tells few store. keeps_same s c.args.names.now.names store;
       metas = λ tells. metas_same s;
       shape = λ tells. refl;
@@ -94,7 +94,7 @@ loop-place-preserved g c =
     let written = name_written t u names new text uses c.number_key.ensures.known c.number_key.ensures.writes in
     record {
       so_far = now;
-      stays = λ tells. beyond_then s t u (inv.stays tells) (key_beyond (not c.is_full-are_few.result) t u names text (λ few. c.in_ok-key.ensures.ok tells few) c.number_key.ensures.held);
+      stays = λ tells. names_then s t u (inv.stays tells) (key_beside (not c.is_full-are_few.result) t u names text (λ few. c.in_ok-key.ensures.ok tells few) c.number_key.ensures.held);
       kept = λ tells few store.
           let before : length items ≤ 32 = omega arith in
           let kept = inv.kept tells before store in

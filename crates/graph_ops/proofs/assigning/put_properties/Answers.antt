@@ -29,8 +29,8 @@ use Rattle.graph_ops.proofs.PairsPut.{added_value, all_put, index_kept, key_fits
 use Rattle.store_rules.proofs.WriteLaws.{beside_more, beside_then, beside_written, more_written, then_written, this_written}
 use Rattle.graph_ops.proofs.Writes.{on_any_err, touched_written}
 use Rattle.graph_ops.proofs.Causes.{add_caused, set_blamed}
-use Rattle.graph_ops.specs.Damage.{BlamesBroken, BreaksAdding, IfBlames}
-use Rattle.graph_ops.proofs.Adding.{adds_none, adds_then, adds_value, value_breaks}
+use Rattle.graph_ops.specs.Damage.{BlamesBroken, IfBlames, IsOfLists}
+use Rattle.graph_ops.proofs.Adding.{no_lists_harmed, no_lists_then, value_lists}
 use Rattle.graph_ops.proofs.DiskCauses.{set_cause_passed}
 use Rattle.rec_bytes.proofs.Causes.{never_ok, ok_cause}
 use Rattle.graph_ops.proofs.assigning.put_properties.Goals as goal
@@ -45,7 +45,7 @@ loop-assignment-init g c =
       values = λ tells names id is can e. none_given (wanted_in s.records) (label_at s.records id) id c.args.pairs.now e;
       indexes = λ tells names id is can are. are;
       shape = λ tells. refl;
-      adds = λ tells. adds_none c.args.owner.key s s refl (λ q beyond. refl);
+      harmless = λ tells. no_lists_harmed s;
       writes = this_written c.args.owner.key s s [] (λ q i. absurd i) (record { each = λ q w. inl w });
       onward_is = g.met.S.Reads.stays_onward c.args.space.now;
       later = omega arith;
@@ -110,7 +110,7 @@ loop-assignment-preserved g c =
           let sets = added (key_there s t names target pairs assigned i can c.requires.few put lt shape) (key_new s t names target pairs assigned i can c.requires.few put lt shape) (key_fits s t names target pairs assigned i can c.requires.few put lt shape) in
           λ are. properties_keep t u t.shape format.relationships_file id sets.changes.before sets.changes.after sets.changes.changes refl put.store.store (inv.indexes tells names id is can are);
       shape = λ tells. (g.met.S.Reads.onward_shape _ _ c.add.ensures.onward) ∙ inv.shape tells;
-      adds = λ tells. adds_then c.args.owner.key s t u (inv.adds tells) (adds_value g.S.Reads.tells c.args.owner.key _ _ t u tells (g.met.S.Reads.onward_shape _ _ c.add.ensures.onward) c.add.ensures.touches);
+      harmless = λ tells. no_lists_then s t u (inv.harmless tells) (c.in_ok-add.ensures.harmless tells);
       writes =
           let more = sum_by_more (λ (a : Assignment). blocks_of (pair_at pairs a.pair).value) assigned i (record { key = 0; pair = 0 }) c.loop-assignment-test.true in
           let same = ap blocks_of (value_is g at) in
@@ -191,23 +191,12 @@ pub returns-in_err-add-clause-damaged : goal.returns-in_err-add-clause-damaged
 returns-in_err-add-clause-damaged g c tells =
     let s = g.S.Reads.state c.args.space.now in
     let t = g.S.Reads.state c.loop-assignment.space in
-    let key = c.args.owner.key in
-    fault_exit of_set (IfBlames (BreaksAdding key s)) c.in_err-add.field-0.0 c.from_residual.result c.from_residual.ensures.1
-    (value_breaks g.S.Reads.tells key _ s t tells (c.loop-assignment.invariant.adds tells) c.in_err-add.field-0.0 (c.in_err-add.ensures.damaged tells))
+    fault_exit of_set (IfBlames (IsOfLists s)) c.in_err-add.field-0.0 c.from_residual.result c.from_residual.ensures.1
+    (value_lists s t (c.loop-assignment.invariant.harmless tells) c.in_err-add.field-0.0 (c.in_err-add.ensures.lists tells))
 
 pub returns-in_err-add-clause-cause : goal.returns-in_err-add-clause-cause
 returns-in_err-add-clause-cause g c =
     set_cause_passed _ _ _ c.from_residual.result c.in_err-add.field-0.0 c.loop-assignment.invariant.later c.in_err-add.ensures.cause c.from_residual.ensures.1
-
-pub returns-in_err-add-clause-adds : goal.returns-in_err-add-clause-adds
-returns-in_err-add-clause-adds g c tells =
-    let s = g.S.Reads.state c.args.space.now in
-    let t = g.S.Reads.state c.loop-assignment.space in
-    let u = g.S.Reads.state c.add.new.space in
-    adds_then c.args.owner.key s t u (c.loop-assignment.invariant.adds tells) (adds_value g.S.Reads.tells c.args.owner.key _ _ t u tells (g.met.S.Reads.onward_shape _ _ c.add.ensures.onward) c.add.ensures.touches)
-
-pub returns-clause-adds : goal.returns-clause-adds
-returns-clause-adds g c tells = c.loop-assignment.invariant.adds tells
 
 pub returns-in_err-add-clause-still : goal.returns-in_err-add-clause-still
 returns-in_err-add-clause-still g c tells =

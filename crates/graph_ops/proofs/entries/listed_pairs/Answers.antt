@@ -8,8 +8,8 @@ use Rattle.rec_bytes.specs.Space as spaces
 use Rattle.rec_bytes.specs.Space.{meta_of}
 use Rattle.rec_bytes.specs.declared.meta.Meta.{Meta}
 use Rattle.graph_ops.specs.ChangeFault.{IsOutside, of_fault}
-use Rattle.graph_ops.specs.Damage.{BlamesBroken}
-use Rattle.graph_ops.proofs.Broken.{index_broken}
+use Rattle.graph_ops.specs.Damage.{BlamesBroken, IfBlames, IsOfIndex}
+use Rattle.graph_ops.proofs.Broken.{index_broken, index_named}
 use Rattle.graph_ops.proofs.EntriesHeld.{none_of}
 use Rattle.graph_ops.proofs.Exits.{fault_exit, fault_outside}
 use Rattle.rec_bytes.proofs.Causes.{never_ok, ok_cause}
@@ -42,6 +42,10 @@ returns-in_err-pairs-clause-damaged g c tells =
     let s = g.R.Reads.state c.args.space.now in
     fault_exit of_fault (BlamesBroken s) c.in_err-pairs.field-0.0 c.from_residual.result c.from_residual.ensures.1
     (index_broken s c.in_err-pairs.field-0.0 (c.in_err-pairs.ensures.damaged tells))
+
+pub returns-in_err-pairs-clause-names : goal.returns-in_err-pairs-clause-names
+returns-in_err-pairs-clause-names g c tells =
+    fault_exit of_fault (IfBlames IsOfIndex) c.in_err-pairs.field-0.0 c.from_residual.result c.from_residual.ensures.1 (index_named c.in_err-pairs.field-0.0 (c.in_err-pairs.ensures.names tells))
 
 pub returns-in_err-pairs-clause-same : goal.returns-in_err-pairs-clause-same
 returns-in_err-pairs-clause-same g c = reads_same 17 _ _ c.indexes.ensures.at_most

@@ -1,5 +1,6 @@
 use Rattle.std.specs.Prelude.{Contains}
-use Rattle.std.proofs.Common.{◌≡◌, ◌≢◌, ◌+◌, ◌≤◌, Some, [], ◌∷◌, ◌++◌, length, ap, sym, ◌∙◌, subst, append_assoc, arith, refl, rules}
+use Rattle.rec_bytes.specs.Space.{SameButReads, State}
+use Rattle.std.proofs.Common.{ℕ, List, inl, inr, ◌≡◌, ◌≢◌, ◌+◌, ◌≤◌, Some, [], ◌∷◌, ◌++◌, length, ap, sym, ◌∙◌, subst, append_assoc, arith, refl, rules}
 use Rattle.plain_graph.specs.Graph.{UsesName}
 use Rattle.plain_graph.specs.Refusals.{most_names}
 use Rattle.plain_graph.specs.declared.command.Command.TheVariants as commands
@@ -13,9 +14,10 @@ use Rattle.prop_index.specs.Defining.{AreNamesOf}
 use Rattle.prop_index.specs.Making.{count_of}
 use Rattle.graph_ops.specs.Causes.{IsCaused, IsStillCaused}
 use Rattle.graph_ops.specs.Change.{IsCounted, IsRefusal}
-use Rattle.graph_ops.specs.Damage.{BlamesBroken, IsBroken}
+use Rattle.graph_ops.specs.Damage.{BlamesMaking, IsBroken}
 use Rattle.graph_ops.specs.ChangeFault.{LeavesSpace, of_intern, of_make}
 use Rattle.graph_ops.specs.Store.{IsStore, graph_in}
+use Rattle.graph_ops.proofs.Broken.{blames_more, interned_read}
 use Rattle.graph_ops.proofs.Causes.{broken_left, caused_left, intern_blamed}
 use Rattle.graph_ops.proofs.DiskCauses.{change_cause_passed, intern_cause_passed, later_on, make_cause_passed}
 use Rattle.graph_ops.proofs.Exits.{fault_exit, read_leaves}
@@ -26,7 +28,7 @@ use Rattle.graph_ops.proofs.IndexFree.{few_there, none_there}
 use Rattle.graph_ops.proofs.IndexNumbers.{number_stays, pair_is_got}
 use Rattle.graph_ops.proofs.IndexRefused.{IsNamedFor, caused_counted, make_blamed, make_caused, make_leaves, make_still, meta_named, name_caused, name_leaves, records_named, second_lacks, shape_named}
 use Rattle.graph_ops.proofs.Interned.{name_written, one_written}
-use Rattle.graph_ops.proofs.LineNames.{first_lacks, held_name, name_long, name_prefix, uses_once}
+use Rattle.graph_ops.proofs.LineNames.{first_lacks, held_name, name_long, name_once, name_prefix, uses_once}
 use Rattle.graph_ops.proofs.NewNames.{name_one}
 use Rattle.graph_ops.proofs.Writes.{on_any_err, read_exit}
 use Rattle.rec_bytes.proofs.Causes.{never_ok}
@@ -78,12 +80,12 @@ returns-in_err-test_pair-clause-still g c tells =
     })
 
 pub returns-in_err-test_pair-clause-damaged : goal.returns-in_err-test_pair-clause-damaged
-returns-in_err-test_pair-clause-damaged g c tells =
+returns-in_err-test_pair-clause-damaged g c tells known uses =
     let s = g.S.Reads.state c.args.space.now in
-    let t = g.S.Reads.state c.test_pair.new.space in
+    let named = interned (interned s c.args.names.now.names c.args.label.now) known c.args.key.now in
     let fault = c.in_err-test_pair.field-0.0 in
-    fault_exit (λ f. f) (BlamesBroken t) fault c.from_residual.result c.from_residual.ensures.1
-    (broken_left s t c.test_pair.ensures.same fault (c.in_err-test_pair.ensures.damaged tells))
+    fault_exit (λ f. f) (BlamesMaking s named) fault c.from_residual.result c.from_residual.ensures.1
+    (blames_more _ _ (λ damage broken. inl broken) fault (c.in_err-test_pair.ensures.damaged tells))
 
 pub returns-in_err-test_pair-clause-counts : goal.returns-in_err-test_pair-clause-counts
 returns-in_err-test_pair-clause-counts g c tells whole =
@@ -157,10 +159,11 @@ returns-in_err-label-clause-still g c tells =
     (record { caused = (name_caused t t names now names label key label (λ all lacks. first_lacks names label (key ∷ []) all lacks) fault (label_full g (goal.at.returns-in_err-label-clause-still g c).In_err-label)); damaged = intern_blamed (IsBroken t) fault })
 
 pub returns-in_err-label-clause-damaged : goal.returns-in_err-label-clause-damaged
-returns-in_err-label-clause-damaged g c tells =
-    let t = g.S.Reads.state c.intern.new.space in
+returns-in_err-label-clause-damaged g c tells known uses =
+    let s = g.S.Reads.state c.args.space.now in
+    let named = interned (interned s c.args.names.now.names c.args.label.now) known c.args.key.now in
     let fault = c.in_err-label.field-0.0 in
-    fault_exit of_intern (BlamesBroken t) fault c.from_residual-in_err-label.result c.from_residual-in_err-label.ensures.1 (intern_blamed (IsBroken t) fault)
+    fault_exit of_intern (BlamesMaking s named) fault c.from_residual-in_err-label.result c.from_residual-in_err-label.ensures.1 (intern_blamed _ fault)
 
 pub returns-in_err-label-clause-counts : goal.returns-in_err-label-clause-counts
 returns-in_err-label-clause-counts g c tells whole =
@@ -238,10 +241,11 @@ returns-in_err-key-clause-still g c tells =
     (record { caused = (name_caused t t names now c.intern.new.self.names label key key (λ all lacks. second_lacks names c.intern.new.self.names label key (label_uses g (goal.at.returns-in_err-key-clause-still g c).After-intern-2) all lacks) fault (key_full g (goal.at.returns-in_err-key-clause-still g c).In_err-key)); damaged = intern_blamed (IsBroken t) fault })
 
 pub returns-in_err-key-clause-damaged : goal.returns-in_err-key-clause-damaged
-returns-in_err-key-clause-damaged g c tells =
-    let t = g.S.Reads.state c.intern-2.new.space in
+returns-in_err-key-clause-damaged g c tells known uses =
+    let s = g.S.Reads.state c.args.space.now in
+    let named = interned (interned s c.args.names.now.names c.args.label.now) known c.args.key.now in
     let fault = c.in_err-key.field-0.0 in
-    fault_exit of_intern (BlamesBroken t) fault c.from_residual-in_err-key.result c.from_residual-in_err-key.ensures.1 (intern_blamed (IsBroken t) fault)
+    fault_exit of_intern (BlamesMaking s named) fault c.from_residual-in_err-key.result c.from_residual-in_err-key.ensures.1 (intern_blamed _ fault)
 
 pub returns-in_err-key-clause-counts : goal.returns-in_err-key-clause-counts
 returns-in_err-key-clause-counts g c tells whole =
@@ -427,12 +431,30 @@ returns-in_err-count-clause-still g c tells =
       damaged = make_blamed t fault (c.in_err-count.ensures.still tells);
     })
 
+-- the names that the label and the key have become
+named_read : (s m n t : State) (names known then : List (List ℕ)) (label key : List ℕ) → SameButReads s m → n ≡ interned m names label → UsesName names label known → UsesName names label then → t ≡ interned n then key → SameButReads (interned (interned s names label) known key) t
+named_read s m n t names known then label key same first is uses second =
+    let one : SameButReads (interned s names label) n = subst (SameButReads (interned s names label)) (sym first) (interned_read s m names label same) in
+    let two : SameButReads (interned (interned s names label) then key) t = subst (SameButReads (interned (interned s names label) then key)) (sym second) (interned_read (interned s names label) n then key one) in
+    subst (λ k. SameButReads (interned (interned s names label) k key) t) (name_once names label then known uses is) two
+
 pub returns-in_err-count-clause-damaged : goal.returns-in_err-count-clause-damaged
-returns-in_err-count-clause-damaged g c tells =
-    let t = g.S.Reads.state c.make.new.space in
+returns-in_err-count-clause-damaged g c tells known uses =
+    let s = g.S.Reads.state c.args.space.now in
+    let m = g.S.Reads.state c.test_pair.new.space in
+    let n = g.S.Reads.state c.intern.new.space in
+    let t = g.S.Reads.state c.intern-2.new.space in
+    let names = c.args.names.now.names in
+    let label = c.args.label.now in
+    let key = c.args.key.now in
+    let named = interned (interned s names label) known key in
     let fault = c.in_err-count.field-0.0 in
-    fault_exit of_make (BlamesBroken t) fault c.from_residual-in_err-count.result c.from_residual-in_err-count.ensures.1
-    (make_blamed t fault (c.in_err-count.ensures.still tells))
+    let first : n ≡ interned m names label = subst (λ k. n ≡ interned m names k) c.as_bytes.ensures (c.in_ok-label.ensures.ok tells) in
+    let used : UsesName names label c.intern.new.self.names = subst (λ k. UsesName names k c.intern.new.self.names) c.as_bytes.ensures c.in_ok-label.ensures.names in
+    let second : t ≡ interned n c.intern.new.self.names key = subst (λ k. t ≡ interned n c.intern.new.self.names k) c.as_bytes-2.ensures (c.in_ok-key.ensures.ok tells) in
+    let same = named_read s m n t names known c.intern.new.self.names label key c.test_pair.ensures.same first uses used second in
+    fault_exit of_make (BlamesMaking s named) fault c.from_residual-in_err-count.result c.from_residual-in_err-count.ensures.1
+    (blames_more _ _ (λ damage broken. inr (subst (λ (z : State). IsBroken z damage) same broken)) (of_make fault) (make_blamed t fault (c.in_err-count.ensures.damaged tells)))
 
 pub returns-in_err-count-clause-counts : goal.returns-in_err-count-clause-counts
 returns-in_err-count-clause-counts g c tells whole =

@@ -11,10 +11,8 @@ use Rattle.plain_graph.specs.declared.pairs.Pair.{Pair}
 use Rattle.plain_graph.specs.declared.value.Value.{Value}
 use Rattle.plain_graph.proofs.PropertyLaws.{order}
 use Rattle.rec_bytes.specs.declared.meta.Meta.{Meta}
-use Rattle.rec_bytes.specs.declared.shape.Shape.{Shape}
 use Rattle.rec_bytes.specs.Space.{State, meta_of}
 use Rattle.rec_bytes.specs.Format as format
-use Rattle.store_rules.specs.Breaking.{BreaksAny}
 use Rattle.store_rules.specs.Indexes.{AreIndexed, IsIndexed, wanted_in}
 use Rattle.store_rules.specs.Views.{high}
 use Rattle.store_rules.specs.Writes.{WritesAtMost, WritesBeside}
@@ -41,10 +39,9 @@ use Rattle.graph_ops.proofs.Writes.{on_any_err}
 use Rattle.store_rules.specs.Views.{Records}
 use Rattle.graph_ops.specs.Causes.{AsksRoom, IsCaused, IsStillCaused}
 use Rattle.graph_ops.proofs.Causes.{broken_left, entry_caused, failure_caused, line_node, put_caused, room_caused}
-use Rattle.graph_ops.specs.Damage.{BlamesAdding, BreaksAdding, IfBlames, KeepsBeyond}
-use Rattle.store_rules.specs.Views.{key_in}
-use Rattle.graph_ops.proofs.Adding.{adds_none, adds_then, breaks_then, index_beyond, line_blamed, node_damage, room_blamed}
-use Rattle.graph_ops.proofs.Broken.{blames_more}
+use Rattle.graph_ops.specs.Damage.{BlamesFound, IsBroken, IsOfIndex, KeepsButNames}
+use Rattle.graph_ops.proofs.Adding.{index_beside, line_blamed, lists_before, lists_broken, names_harm_no_lists, no_lists_then, node_damage, node_harms_no_lists, room_blamed}
+use Rattle.graph_ops.proofs.Broken.{blames_both, blames_more}
 use Rattle.graph_ops.proofs.DiskCauses.{change_cause_passed, later_on}
 use Rattle.graph_ops.proofs.IndexBeside.{index_written, kinds_beside, touched_beside}
 use Rattle.graph_ops.proofs.NodeEntries.{added_made, entries, entries_refused, keys_once, listed, node_low, pairs_then, prepared_read, room_then, whole_before}
@@ -93,15 +90,15 @@ module _ (g : Over) (c : After-listed_pairs g) where
   same_shape : at_read.shape ≡ before.shape
   same_shape = g.met.S.Reads.onward_shape _ _ c.listed_pairs.ensures.onward ∙ g.met.S.Reads.onward_shape _ _ c.prepare.ensures.onward
 
-  -- what is beyond the names and the properties stays
-  beyond : g.S.Reads.tells → KeepsBeyond before at_read
-  beyond tells = subst (λ (y : State). KeepsBeyond before y) (sym c.listed_pairs.ensures.same) (c.in_ok-prepared.ensures.stays tells)
+  -- only names are new
+  beside_names : g.S.Reads.tells → KeepsButNames before at_read
+  beside_names tells = subst (λ (y : State). KeepsButNames before y) (sym c.listed_pairs.ensures.same) (c.in_ok-prepared.ensures.stays tells)
 
   nodes_meta : g.S.Reads.tells → meta_of at_read format.nodes_file ≡ meta_of before format.nodes_file
   nodes_meta tells = subst (λ (y : State). meta_of y format.nodes_file ≡ meta_of before format.nodes_file) (sym c.listed_pairs.ensures.same) (c.in_ok-prepared.ensures.metas tells).nodes
 
   index_meta : g.S.Reads.tells → meta_of at_read format.index_file ≡ meta_of before format.index_file
-  index_meta tells = index_beyond before at_read (beyond tells)
+  index_meta tells = index_beside before at_read (beside_names tells)
 
   abbrev at_hand : g.S.Reads.tells → IsMidway before c.args.names.now.names
       → IsPrepared before at_read c.prepare.new.names.names c.args.label.now c.as_slice-pairs.result.now c.in_ok-prepared.prepared
@@ -178,11 +175,9 @@ returns-in_err-listed-clause-damaged g c tells =
     let s = g.S.Reads.state c.args.space.now in
     let z = g.S.Reads.state c.prepare.new.space in
     let u = g.S.Reads.state c.listed_pairs.new.space in
-    let key = key_in format.nodes_file 0 in
-    let shape = g.met.S.Reads.onward_shape _ _ c.prepare.ensures.onward in
-    let adds = adds_none key s z shape (c.in_ok-prepared.ensures.stays tells) in
-    fault_exit (λ f. f) (BlamesAdding format.nodes_file s u) c.in_err-listed.field-0.0 c.from_residual-in_err-listed.result c.from_residual-in_err-listed.ensures.1
-    (blames_more _ _ (λ damage breaks. inr (inl (0, record { mid = z; adds = adds; breaks = subst (λ (h : Shape). BreaksAny z.records h damage) shape breaks }))) c.in_err-listed.field-0.0 (c.in_err-listed.ensures.damaged tells))
+    let fault = c.in_err-listed.field-0.0 in
+    fault_exit (λ f. f) (BlamesFound s u) c.in_err-listed.field-0.0 c.from_residual-in_err-listed.result c.from_residual-in_err-listed.ensures.1
+    (blames_more _ _ (λ damage k. inr (k.0, subst (λ (y : State). IsBroken y damage) (sym c.listed_pairs.ensures.same) k.1)) fault (blames_both IsOfIndex (IsBroken z) fault (c.in_err-listed.ensures.names tells) (c.in_err-listed.ensures.damaged tells)))
 
 pub returns-in_err-listed-clause-cause : goal.returns-in_err-listed-clause-cause
 returns-in_err-listed-clause-cause g c =
@@ -258,7 +253,7 @@ pub returns-in_err-test_room-2-clause-damaged : goal.returns-in_err-test_room-2-
 returns-in_err-test_room-2-clause-damaged g c tells =
     let s = g.S.Reads.state c.args.space.now in
     let u = g.S.Reads.state c.listed_pairs.new.space in
-    fault_exit (λ f. f) (BlamesAdding format.nodes_file s u) c.in_err-test_room-2.field-0.0 c.from_residual-in_err-test_room-2.result c.from_residual-in_err-test_room-2.ensures.1
+    fault_exit (λ f. f) (BlamesFound s u) c.in_err-test_room-2.field-0.0 c.from_residual-in_err-test_room-2.result c.from_residual-in_err-test_room-2.ensures.1
     (room_blamed _ u format.index_file c.entry_count-entries.result c.in_err-test_room-2.field-0.0 c.in_err-test_room-2.ensures.full)
 
 pub returns-in_err-test_room-2-clause-refused_writes : goal.returns-in_err-test_room-2-clause-refused_writes
@@ -463,8 +458,8 @@ pub returns-in_err-enter_values-clause-damaged : goal.returns-in_err-enter_value
 returns-in_err-enter_values-clause-damaged g c tells =
     let s = g.S.Reads.state c.args.space.now in
     let x = g.S.Reads.state c.enter_values.new.space in
-    fault_exit (λ f. f) (BlamesAdding format.nodes_file s x) c.in_err-enter_values.field-0.0 c.from_residual-in_err-enter_values.result c.from_residual-in_err-enter_values.ensures.1
-    (blames_more _ _ (λ damage entry. inr (inr entry)) c.in_err-enter_values.field-0.0 (c.in_err-enter_values.ensures.blames tells))
+    fault_exit (λ f. f) (BlamesFound s x) c.in_err-enter_values.field-0.0 c.from_residual-in_err-enter_values.result c.from_residual-in_err-enter_values.ensures.1
+    (blames_more _ _ (λ damage entry. inr entry) c.in_err-enter_values.field-0.0 (c.in_err-enter_values.ensures.blames tells))
 
 pub returns-in_err-enter_values-clause-refused_writes : goal.returns-in_err-enter_values-clause-refused_writes
 returns-in_err-enter_values-clause-refused_writes g c =
@@ -577,7 +572,7 @@ returns-clause-unindexed g c tells bare =
     let z = g.S.Reads.state c.prepare.new.space in
     let label = c.in_ok-prepared.prepared.label in
     let k = c.in_ok-prepared.ensures.weighs in
-    let none = c.in_ok-listed.ensures.none (ap (λ (m : Meta). m.live) (index_beyond s z (c.in_ok-prepared.ensures.stays tells)) ∙ bare) in
+    let none = c.in_ok-listed.ensures.none (ap (λ (m : Meta). m.live) (index_beside s z (c.in_ok-prepared.ensures.stays tells)) ∙ bare) in
     let n = c.entry_count-entries.ensures.is ∙ ap (λ l. length (indexed_of l label c.deref-2.result.now)) (c.deref.ensures.value ∙ none) ∙ none_listed label c.deref-2.result.now in
     subst (λ l. 1 + c.in_ok-prepared.prepared.weight + 3 * c.entry_count-entries.result ≡ 1 + properties_weight (with_pairs no_properties l) + (length c.prepare.new.names.names - length c.args.names.now.names)) c.as_slice-pairs.ensures (omega (arith, k, n))
 
@@ -653,13 +648,13 @@ returns-in_err-put_properties-clause-caused g c tells =
 pub returns-in_err-test_room-clause-damaged : goal.returns-in_err-test_room-clause-damaged
 returns-in_err-test_room-clause-damaged g c tells =
     let s = g.S.Reads.state c.args.space.now in
-    fault_exit (λ f. f) (BlamesAdding format.nodes_file s s) c.in_err-test_room.field-0.0 c.from_residual.result c.from_residual.ensures.1
+    fault_exit (λ f. f) (BlamesFound s s) c.in_err-test_room.field-0.0 c.from_residual.result c.from_residual.ensures.1
     (room_blamed _ s format.nodes_file 1 c.in_err-test_room.field-0.0 c.in_err-test_room.ensures.full)
 
 pub returns-in_err-prepared-clause-damaged : goal.returns-in_err-prepared-clause-damaged
 returns-in_err-prepared-clause-damaged g c tells =
     let s = g.S.Reads.state c.args.space.now in
-    fault_exit (λ f. f) (BlamesAdding format.nodes_file s (g.S.Reads.state c.prepare.new.space)) c.in_err-prepared.field-0.0 c.from_residual-in_err-prepared.result c.from_residual-in_err-prepared.ensures.1
+    fault_exit (λ f. f) (BlamesFound s (g.S.Reads.state c.prepare.new.space)) c.in_err-prepared.field-0.0 c.from_residual-in_err-prepared.result c.from_residual-in_err-prepared.ensures.1
     (line_blamed _ s c.args.names.now.names c.args.label.now c.as_slice-pairs.result.now c.in_err-prepared.field-0.0 (c.in_err-prepared.ensures.caused tells))
 
 pub returns-in_err-id-clause-damaged : goal.returns-in_err-id-clause-damaged
@@ -667,8 +662,8 @@ returns-in_err-id-clause-damaged g c tells =
     let s = g.S.Reads.state c.args.space.now in
     let u = g.S.Reads.state c.listed_pairs.new.space in
     let after = (goal.at.returns-in_err-id-clause-damaged g c).After-listed_pairs in
-    fault_exit (λ f. f) (BlamesAdding format.nodes_file s (g.S.Reads.state c.put_node.new.space)) c.in_err-id.field-0.0 c.from_residual-in_err-id.result c.from_residual-in_err-id.ensures.1
-    (blames_more _ _ (λ damage told. inl (node_damage s u (nodes_meta g after tells) (same_shape g after) (beyond g after tells) damage told)) c.in_err-id.field-0.0 (c.in_err-id.ensures.damaged tells))
+    fault_exit (λ f. f) (BlamesFound s (g.S.Reads.state c.put_node.new.space)) c.in_err-id.field-0.0 c.from_residual-in_err-id.result c.from_residual-in_err-id.ensures.1
+    (blames_more _ _ (λ damage told. inl (node_damage s u (same_shape g after) (beside_names g after tells) damage told)) c.in_err-id.field-0.0 (c.in_err-id.ensures.damaged tells))
 
 pub returns-in_err-put_properties-clause-damaged : goal.returns-in_err-put_properties-clause-damaged
 returns-in_err-put_properties-clause-damaged g c tells =
@@ -676,12 +671,9 @@ returns-in_err-put_properties-clause-damaged g c tells =
     let u = g.S.Reads.state c.listed_pairs.new.space in
     let after = (goal.at.returns-in_err-put_properties-clause-damaged g c).After-listed_pairs in
     let v = g.S.Reads.state c.put_node.new.space in
-    let id = c.in_ok-id.id in
-    let key = key_in format.nodes_file id in
-    let adds = adds_then key s u v (adds_none key s u (same_shape g after) (beyond g after tells)) (c.in_ok-id.ensures.adds tells) in
-    let told = subst (λ (o : Owner). IfBlames (BreaksAdding o.key v) c.in_err-put_properties.field-0.0) c.node_owner.ensures (c.in_err-put_properties.ensures.damaged tells) in
-    fault_exit (λ f. f) (BlamesAdding format.nodes_file s (g.S.Reads.state c.put_properties.new.space)) c.in_err-put_properties.field-0.0 c.from_residual-in_err-put_properties.result c.from_residual-in_err-put_properties.ensures.1
-    (blames_more _ _ (λ damage breaks. inr (inl (id, breaks_then key s v adds damage breaks))) c.in_err-put_properties.field-0.0 told)
+    let harmless = no_lists_then s u v (names_harm_no_lists s u (same_shape g after) (beside_names g after tells)) (node_harms_no_lists u v (g.met.S.Reads.onward_shape _ _ c.put_node.ensures.onward) (c.in_ok-id.ensures.beside tells)) in
+    fault_exit (λ f. f) (BlamesFound s (g.S.Reads.state c.put_properties.new.space)) c.in_err-put_properties.field-0.0 c.from_residual-in_err-put_properties.result c.from_residual-in_err-put_properties.ensures.1
+    (blames_more _ _ (λ damage told. inl (lists_broken s damage (lists_before s v harmless damage told))) c.in_err-put_properties.field-0.0 (c.in_err-put_properties.ensures.damaged tells))
 
 pub returns-in_err-prepared-clause-cause : goal.returns-in_err-prepared-clause-cause
 returns-in_err-prepared-clause-cause g c =

@@ -1,21 +1,22 @@
-use Rattle.std.proofs.Common.{◌≡◌, ◌∙◌, ap, refl, sym, subst, inl, inr, ⊎_elim, [], ◌∷◌, rules}
+use Rattle.std.proofs.Common.{◌≡◌, ◌∙◌, ap, refl, inl, inr, ⊎_elim, [], ◌∷◌, rules}
 use Rattle.rec_bytes.specs.Format as format
 use Rattle.rec_bytes.specs.RecordFiles.{meta_key_of}
 use Rattle.rec_bytes.specs.Space.{State, after_put}
 use Rattle.store_rules.specs.Views.{key_in}
 use Rattle.node_store.specs.declared.node_row.NodeRow.{NodeRow}
 use Rattle.node_store.specs.NodeRecord.{node_key, node_record}
+use Rattle.prop_store.proofs.BlockSteps.{beside_put}
 use Rattle.graph_ops.specs.ChangeFault.{IsOutside, IsFailure, of_space, of_take}
 use Rattle.graph_ops.proofs.Exits.{fault_exit, space_fails}
 use Rattle.graph_ops.proofs.NodePut.{puts_node}
 use Rattle.graph_ops.proofs.Takes.{store_can_take, take_fails, take_outside, taken-shape}
 use Rattle.store_rules.proofs.WriteLaws.{among_metas, beside_then, then_written, this_written}
 use Rattle.graph_ops.proofs.Writes.{on_any_err, read_exit, record_written, taken_written}
-use Rattle.graph_ops.specs.Damage.{AddsElement, BlamesBroken, IfBlames}
+use Rattle.graph_ops.specs.Damage.{BlamesBroken, IfBlames}
 use Rattle.graph_ops.proofs.Causes.{take_blamed_still}
 use Rattle.id_freelist.specs.Taking.{IsTakeDamage}
 use Rattle.graph_ops.specs.NodeAdding.{new_row}
-use Rattle.graph_ops.proofs.Adding.{adds_record, space_blamed, take_blamed}
+use Rattle.graph_ops.proofs.Adding.{space_blamed, take_blamed}
 use Rattle.graph_ops.proofs.DiskCauses.{space_cause_passed, later_on}
 use Rattle.rec_bytes.proofs.Causes.{never_ok, ok_cause}
 use Rattle.graph_ops.proofs.node_adding.put_node.Goals as goal
@@ -72,14 +73,12 @@ returns-in_err-save-clause-damaged g c tells =
     let s = g.S.Reads.state c.args.space.now in
     fault_exit of_space (IfBlames (IsTakeDamage s format.nodes_file)) c.in_err-save.field-0.0 c.from_residual-in_err-save.result c.from_residual-in_err-save.ensures.1 (space_blamed _ c.in_err-save.field-0.0)
 
-pub returns-clause-adds : goal.returns-clause-adds
-returns-clause-adds g c tells =
+pub returns-clause-beside : goal.returns-clause-beside
+returns-clause-beside g c tells =
     let s = g.S.Reads.state c.args.space.now in
     let t = g.S.Reads.state c.take.new.space in
-    let key = key_in format.nodes_file c.in_ok-id.id in
-    let row = new_row c.in_ok-id.id c.args.label in
-    subst (AddsElement key s) (sym (c.in_ok-save.ensures.ok ∙ ap (λ (r : NodeRow). after_put t (node_key r.id) (node_record r)) c.new_row.ensures))
-    (adds_record key s t (node_record row) (took g (goal.at.returns-clause-adds g c).In_ok-id tells) (c.take.ensures.stays tells))
+    beside_put s t (g.S.Reads.state c.save.new.space) format.nodes_file c.in_ok-id.id (node_record (new_row c.in_ok-id.id c.args.label)) (c.in_ok-id.ensures.ok tells)
+    (c.in_ok-save.ensures.ok ∙ ap (λ (r : NodeRow). after_put t (node_key r.id) (node_record r)) c.new_row.ensures)
 
 pub returns-in_err-save-clause-cause : goal.returns-in_err-save-clause-cause
 returns-in_err-save-clause-cause g c =
@@ -98,8 +97,8 @@ returns-in_err-save-clause-still g c tells =
 pub returns-in_err-id-clause-put : goal.returns-in_err-id-clause-put
 returns-in_err-id-clause-put g c _ = never_ok c.from_residual.result _ _ c.from_residual.ensures.1
 
-pub returns-in_err-id-clause-adds : goal.returns-in_err-id-clause-adds
-returns-in_err-id-clause-adds g c _ = never_ok c.from_residual.result _ _ c.from_residual.ensures.1
+pub returns-in_err-id-clause-beside : goal.returns-in_err-id-clause-beside
+returns-in_err-id-clause-beside g c _ = never_ok c.from_residual.result _ _ c.from_residual.ensures.1
 
 pub returns-in_err-id-clause-key : goal.returns-in_err-id-clause-key
 returns-in_err-id-clause-key g c = never_ok c.from_residual.result _ _ c.from_residual.ensures.1
@@ -113,8 +112,8 @@ returns-in_err-id-clause-onward g c = search rules
 pub returns-in_err-save-clause-put : goal.returns-in_err-save-clause-put
 returns-in_err-save-clause-put g c _ = never_ok c.from_residual-in_err-save.result _ _ c.from_residual-in_err-save.ensures.1
 
-pub returns-in_err-save-clause-adds : goal.returns-in_err-save-clause-adds
-returns-in_err-save-clause-adds g c _ = never_ok c.from_residual-in_err-save.result _ _ c.from_residual-in_err-save.ensures.1
+pub returns-in_err-save-clause-beside : goal.returns-in_err-save-clause-beside
+returns-in_err-save-clause-beside g c _ = never_ok c.from_residual-in_err-save.result _ _ c.from_residual-in_err-save.ensures.1
 
 pub returns-in_err-save-clause-key : goal.returns-in_err-save-clause-key
 returns-in_err-save-clause-key g c = never_ok c.from_residual-in_err-save.result _ _ c.from_residual-in_err-save.ensures.1

@@ -20,7 +20,7 @@ use Rattle.graph_ops.proofs.NewNames.{name_one}
 use Rattle.graph_ops.proofs.Preparation.{assign_refused_by, label_refused, prepared_is, reserve_refused}
 use Rattle.store_rules.proofs.WriteLaws.{more_written, then_written}
 use Rattle.graph_ops.proofs.Causes.{assign_caused, label_caused, reserve_caused}
-use Rattle.graph_ops.proofs.Adding.{beyond_then, interned_beyond}
+use Rattle.graph_ops.proofs.Adding.{interned_beside, names_then}
 use Rattle.graph_ops.proofs.DiskCauses.{change_cause_passed, intern_cause_passed, later_on, reserve_refusal_cause}
 use Rattle.rec_bytes.proofs.Causes.{never_ok, ok_cause}
 use Rattle.graph_ops.proofs.preparing.prepare.Goals as goal
@@ -224,7 +224,7 @@ pub returns-clause-stays : goal.returns-clause-stays
 returns-clause-stays g c tells =
     let s = g.S.Reads.state c.args.space.now in
     let t = g.S.Reads.state c.intern.new.space in
-    beyond_then s t (g.S.Reads.state c.assign_pairs.new.space) (interned_beyond s t c.args.names.now.names c.as_bytes.result.now (c.in_ok-label.ensures.ok tells)) (c.in_ok-assigned.ensures.stays tells)
+    names_then s t (g.S.Reads.state c.assign_pairs.new.space) (interned_beside s t c.args.names.now.names c.as_bytes.result.now (c.in_ok-label.ensures.ok tells)) (c.in_ok-assigned.ensures.stays tells)
 
 pub returns-in_err-label-clause-cause : goal.returns-in_err-label-clause-cause
 returns-in_err-label-clause-cause g c =

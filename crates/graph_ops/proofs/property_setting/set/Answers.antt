@@ -402,17 +402,15 @@ pub returns-in_err-owner-clause-damaged : goal.returns-in_err-owner-clause-damag
 returns-in_err-owner-clause-damaged g c tells =
     let s = g.S.Reads.state c.args.space.now in
     let named = interned s c.args.names.now.names c.args.key.now in
-    let blocks = 22 + blocks_of c.args.value.now in
-    fault_exit (λ f. f) (BlamesGiven g.S.Reads.tells blocks s named (g.S.Reads.state c.find_owner.new.space)) c.in_err-owner.field-0.0 c.from_residual.result c.from_residual.ensures.1
+    fault_exit (λ f. f) (BlamesGiven s named (g.S.Reads.state c.find_owner.new.space)) c.in_err-owner.field-0.0 c.from_residual.result c.from_residual.ensures.1
     (blames_more _ _ (λ damage broken. inl broken) c.in_err-owner.field-0.0 (c.in_err-owner.ensures.damaged tells))
 
 pub returns-in_err-number-clause-damaged : goal.returns-in_err-number-clause-damaged
 returns-in_err-number-clause-damaged g c tells =
     let s = g.S.Reads.state c.args.space.now in
     let named = interned s c.args.names.now.names c.args.key.now in
-    let blocks = 22 + blocks_of c.args.value.now in
-    fault_exit of_intern (BlamesGiven g.S.Reads.tells blocks s named (g.S.Reads.state c.intern.new.space)) c.in_err-number.field-0.0 c.from_residual-in_err-number.result c.from_residual-in_err-number.ensures.1
-    (key_blamed g.S.Reads.tells blocks s named (g.S.Reads.state c.intern.new.space) c.in_err-number.field-0.0)
+    fault_exit of_intern (BlamesGiven s named (g.S.Reads.state c.intern.new.space)) c.in_err-number.field-0.0 c.from_residual-in_err-number.result c.from_residual-in_err-number.ensures.1
+    (key_blamed s named (g.S.Reads.state c.intern.new.space) c.in_err-number.field-0.0)
 
 pub returns-in_err-released-clause-damaged : goal.returns-in_err-released-clause-damaged
 returns-in_err-released-clause-damaged g c tells =
@@ -423,14 +421,13 @@ returns-in_err-released-clause-damaged g c tells =
     let names = c.args.names.now.names in
     let key = c.args.key.now in
     let named = interned s names key in
-    let blocks = 22 + blocks_of c.args.value.now in
     let is = subst (λ k. t ≡ interned m names k) (text_is g after) (c.in_ok-number.ensures.ok tells) in
     let v = g.S.Reads.state c.indexed_value.new.space in
     let same = same_both named t v (subst (SameButReads named) (sym is) (interned_read s m names key c.find_owner.ensures.state)) c.indexed_value.ensures.same in
     let used = subst (λ (z : State). IsInUse z.records (owner_of c.args.target)) (sym c.find_owner.ensures.state) (c.in_ok-owner.ensures.in_use tells) in
     let kept = subst (λ (z : State). IsInUse z.records (owner_of c.args.target)) (sym c.indexed_value.ensures.same) (subst (λ (z : State). IsInUse z.records (owner_of c.args.target)) (sym is) (interned_in_use m names key c.args.target used)) in
-    fault_exit of_set (BlamesGiven g.S.Reads.tells blocks s named (g.S.Reads.state c.set.new.space)) c.in_err-released.field-0.0 c.from_residual-in_err-released.result c.from_residual-in_err-released.ensures.1
-    (value_blamed g.S.Reads.tells blocks s named v (g.S.Reads.state c.set.new.space) same c.in_err-released.field-0.0 (c.in_err-released.ensures.damaged tells (subst (IsInUse v.records) (sym c.in_ok-owner.ensures.owner) kept)))
+    fault_exit of_set (BlamesGiven s named (g.S.Reads.state c.set.new.space)) c.in_err-released.field-0.0 c.from_residual-in_err-released.result c.from_residual-in_err-released.ensures.1
+    (value_blamed s named v (g.S.Reads.state c.set.new.space) same c.in_err-released.field-0.0 (c.in_err-released.ensures.damaged tells (subst (IsInUse v.records) (sym c.in_ok-owner.ensures.owner) kept)))
 
 pub returns-in_err-number-clause-cause : goal.returns-in_err-number-clause-cause
 returns-in_err-number-clause-cause g c =
@@ -520,9 +517,8 @@ returns-in_err-held-clause-damaged g c tells =
     let names = c.args.names.now.names in
     let key = c.args.key.now in
     let named = interned s names key in
-    let blocks = 22 + blocks_of c.args.value.now in
     let same : SameButReads named t = subst (SameButReads named) (sym (subst (λ k. t ≡ interned m names k) (text_is g after) (c.in_ok-number.ensures.ok tells))) (interned_read s m names key c.find_owner.ensures.state) in
-    fault_exit (λ f. f) (BlamesGiven g.S.Reads.tells blocks s named v) c.in_err-held.field-0.0 c.from_residual-in_err-held.result c.from_residual-in_err-held.ensures.1
+    fault_exit (λ f. f) (BlamesGiven s named v) c.in_err-held.field-0.0 c.from_residual-in_err-held.result c.from_residual-in_err-held.ensures.1
     (blames_more _ _ (λ damage broken. inr (inl (subst (λ (z : State). IsBroken z damage) same broken))) c.in_err-held.field-0.0 (c.in_err-held.ensures.damaged tells (used_before g after tells)))
 
 pub returns-in_err-entries-clause-damaged : goal.returns-in_err-entries-clause-damaged
@@ -530,9 +526,8 @@ returns-in_err-entries-clause-damaged g c tells =
     let s = g.S.Reads.state c.args.space.now in
     let v = g.S.Reads.state c.change_entry.new.space in
     let named = interned s c.args.names.now.names c.args.key.now in
-    let blocks = 22 + blocks_of c.args.value.now in
-    fault_exit (λ f. f) (BlamesGiven g.S.Reads.tells blocks s named v) c.in_err-entries.field-0.0 c.from_residual-in_err-entries.result c.from_residual-in_err-entries.ensures.1
-    (blames_more _ _ (λ damage entry. inr (inr (inr entry))) c.in_err-entries.field-0.0 (c.in_err-entries.ensures.blames tells))
+    fault_exit (λ f. f) (BlamesGiven s named v) c.in_err-entries.field-0.0 c.from_residual-in_err-entries.result c.from_residual-in_err-entries.ensures.1
+    (blames_more _ _ (λ damage entry. inr (inr entry)) c.in_err-entries.field-0.0 (c.in_err-entries.ensures.blames tells))
 
 pub returns-in_err-held-clause-still : goal.returns-in_err-held-clause-still
 returns-in_err-held-clause-still g c tells =

@@ -1,18 +1,21 @@
-use Rattle.std.proofs.Common.{◌≡◌, ◌≢◌, ℕ, ◌+◌, ◌<◌, ◌≤◌, ◌^◌, suc, List, [], ◌∷◌, refl, ap, sym, ◌∙◌, subst, inl, inr, ⊎_elim, arith}
+use Rattle.std.proofs.Common.{◌≡◌, ◌≢◌, ℕ, ◌+◌, ◌*◌, ◌<◌, ◌≤◌, ◌^◌, suc, List, [], ◌∷◌, refl, ap, sym, ◌∙◌, subst, inl, inr, ⊎_elim, arith}
 use Rattle.std.proofs.lemmas.Bool.{cases_lt}
 use Rattle.rec_bytes.specs.declared.record.Rec.{Rec}
 use Rattle.rec_bytes.specs.Format as format
 use Rattle.rec_bytes.specs.Key.{IsKey}
 use Rattle.rec_bytes.specs.Record.{field}
-use Rattle.store_rules.specs.Views.{key_in}
+use Rattle.store_rules.specs.Views.{key_in, kind_at}
+use Rattle.rec_bytes.proofs.Numbers.{field-with_field_other}
+use Rattle.id_freelist.specs.ListDamage.{BlamesList}
+use Rattle.id_freelist.proofs.ListSteps.{blames_before, keeps_none, keeps_then}
 use Rattle.prop_store.specs.Touching.{TouchesOnly}
-use Rattle.prop_index.specs.Defining.{AreHeadsAdded, IsRecordAdded}
+use Rattle.prop_index.specs.Defining.{AreHeadsAdded, IsRecordAdded, PutsHeads}
 use Rattle.prop_index.specs.DefinitionRecord.{head_ids, head_of}
 use Rattle.prop_index.specs.Touching.{index_keys}
 use Rattle.prop_index.specs.Entering.{IsNotFull}
 use Rattle.prop_index.proofs.Counting.{counts_left, counts_then}
 use Rattle.prop_index.proofs.IndexBlames.{take_has}
-use Rattle.prop_index.proofs.HeadsAdded.{head-other, head-same, head_ids-more, heads-more, length-head_ids, with_head}
+use Rattle.prop_index.proofs.HeadsAdded.{head-other, head-same, head_ids-more, heads-more, heads-none, length-head_ids, with_head}
 use Rattle.prop_index.proofs.IndexTouches.{index_then, only_join}
 use Rattle.prop_index.proofs.RecordFits.{empty_heads-kind}
 use Rattle.rec_bytes.proofs.Causes.{never_ok}
@@ -44,6 +47,18 @@ loop-number-preserved g c =
           let used : field 1 c.empty_heads.result format.kind ≢ format.free_kind = λ e. let k = ap (λ (r : Rec). field 1 r format.kind) heads_is ∙ empty_heads-kind in omega (arith, k, e) in
           let new = subst (λ (r : Rec). IsRecordAdded m t r id) heads_is (c.in_ok-id.ensures.added tells was.kept used) in
           subst (AreHeadsAdded s t c.args.start (n + 1)) (sym now_is) (heads-more s m t c.args.start rec n id low was new);
+      kept = λ tells.
+          let was = old.kept tells in
+          let used : field 1 c.empty_heads.result format.kind ≢ format.free_kind = λ e. let k = ap (λ (r : Rec). field 1 r format.kind) c.empty_heads.ensures ∙ empty_heads-kind in omega (arith, k, e) in
+          let new = c.in_ok-id.ensures.kept tells used in
+          subst (PutsHeads s t (n + 1)) (sym now_is) (record {
+            keeps = keeps_then s m t format.index_file was.keeps new.keeps;
+            used = λ k lt. ⊎_elim
+                (λ (u : k < n). subst (λ x. kind_at t.records format.index_file x ≢ format.free_kind) (sym (head-other rec n id k low u)) (new.keeps.used (head_of rec k) (was.used k u)))
+                (λ (u : n ≤ k). let e : k ≡ n = omega arith in subst (λ x. kind_at t.records format.index_file x ≢ format.free_kind) (sym (ap (head_of (with_head rec n id)) e ∙ head-same rec n id low small)) new.used)
+                (cases_lt k n);
+          });
+      kind = ap (λ (r : Rec). field 1 r format.kind) now_is ∙ field-with_field_other 4 rec (format.definition_heads + 4 * n) id 1 format.kind (omega arith) (inr (omega arith)) ∙ old.kind;
       counted = λ tells. counts_then s m t n 1 (n + 1) refl (old.counted tells) (c.in_ok-id.ensures.counted tells);
       heads = λ k lt. subst (λ (r : Rec). IsKey (key_in format.index_file (head_of r k))) (sym now_is) (⊎_elim
           (λ (u : k < n). subst (λ x. IsKey (key_in format.index_file x)) (sym (head-other rec n id k low u)) (old.heads k u))
@@ -69,6 +84,33 @@ returns-in_err-id-clause-roomy g c tells left =
 pub returns-in_err-id-clause-onward : goal.returns-in_err-id-clause-onward
 returns-in_err-id-clause-onward g c =
     g.met.S.Reads.further_onward _ _ _ c.loop-number.invariant.onward c.in_err-id.ensures.onward
+
+pub returns-in_err-id-clause-damaged : goal.returns-in_err-id-clause-damaged
+returns-in_err-id-clause-damaged g c tells =
+    let s = g.S.Reads.state c.args.space.now in
+    let m = g.S.Reads.state c.loop-number.space in
+    take_has (BlamesList s format.index_file) c.from_residual.result c.in_err-id.field-0.0 c.from_residual.ensures.1
+    (blames_before s m format.index_file c.in_err-id.field-0.0 (c.loop-number.invariant.kept tells).keeps.harmless (c.in_err-id.ensures.damaged tells))
+
+pub loop-number-init : goal.loop-number-init
+loop-number-init g c =
+    let s = g.S.Reads.state c.args.space.now in
+    record {
+      added = λ tells store. heads-none s c.args.start store;
+      kept = λ tells. record { keeps = keeps_none s format.index_file; used = λ k lt. absurd (omega arith) };
+      kind = refl;
+      counted = λ tells. record { live = omega arith; shape = refl };
+      heads = λ k lt. absurd (omega arith);
+      touched = record { writes = record { each = λ q w. inl w }; stays = λ told. record { each = λ q. inl refl } };
+      onward = g.met.S.Reads.stays_onward _;
+      later = omega arith;
+    }
+
+pub returns-in_err-id-clause-kept : goal.returns-in_err-id-clause-kept
+returns-in_err-id-clause-kept g c _ = never_ok c.from_residual.result _ _ c.from_residual.ensures.1
+
+pub returns-in_err-id-clause-kind : goal.returns-in_err-id-clause-kind
+returns-in_err-id-clause-kind g c = never_ok c.from_residual.result _ _ c.from_residual.ensures.1
 
 pub returns-in_err-id-clause-added : goal.returns-in_err-id-clause-added
 returns-in_err-id-clause-added g c _ _ = never_ok c.from_residual.result _ _ c.from_residual.ensures.1

@@ -4,6 +4,9 @@ use Rattle.rec_bytes.specs.Format as format
 use Rattle.rec_bytes.specs.Space.{State, meta_of}
 use Rattle.store_rules.specs.Views.{key_in}
 use Rattle.prop_index.proofs.IndexTouches.{index_one_taken, meta_only, meta_then, only_one}
+use Rattle.id_freelist.specs.ListDamage.{BlamesList}
+use Rattle.id_freelist.proofs.ListSteps.{blames_list, list_of_space}
+use Rattle.prop_index.proofs.ListKept.{record_kept}
 use Rattle.prop_index.specs.Blaming.{TakeBlamesBroken as BlamesBroken}
 use Rattle.prop_index.specs.Entering.{IsNotFull}
 use Rattle.prop_index.proofs.Counting.{put_live, space_roomy, take_roomy}
@@ -86,6 +89,27 @@ pub returns-in_err-put-clause-still : goal.returns-in_err-put-clause-still
 returns-in_err-put-clause-still g c tells =
     let t = g.S.Reads.state c.put.new.self in
     space_take t.records t.shape c.from_residual-in_err-put.result c.in_err-put.field-0.0 c.from_residual-in_err-put.ensures.1
+
+pub returns-clause-kept : goal.returns-clause-kept
+returns-clause-kept g c tells used =
+    record_kept (g.S.Reads.state c.args.space.now) (g.S.Reads.state c.take.new.space) (g.S.Reads.state c.put.new.self) c.args.rec c.in_ok-id.id (c.in_ok-id.ensures.ok tells) c.in_ok-id.ensures.is (c.in_ok-id.ensures.undamaged tells) (c.in_ok-id.ensures.fresh tells) c.in_ok-id.ensures.key.id
+    c.in_ok-id.ensures.small c.in_ok-put.ensures.ok used
+
+pub returns-in_err-id-clause-damaged : goal.returns-in_err-id-clause-damaged
+returns-in_err-id-clause-damaged g c tells =
+    let s = g.S.Reads.state c.args.space.now in
+    take_has (BlamesList s format.index_file) c.from_residual.result c.in_err-id.field-0.0 c.from_residual.ensures.1 (blames_list s format.index_file c.in_err-id.field-0.0 (c.in_err-id.ensures.refused tells))
+
+pub returns-in_err-put-clause-damaged : goal.returns-in_err-put-clause-damaged
+returns-in_err-put-clause-damaged g c tells =
+    let s = g.S.Reads.state c.args.space.now in
+    take_has (BlamesList s format.index_file) c.from_residual-in_err-put.result _ c.from_residual-in_err-put.ensures.1 (list_of_space s format.index_file c.in_err-put.field-0.0)
+
+pub returns-in_err-id-clause-kept : goal.returns-in_err-id-clause-kept
+returns-in_err-id-clause-kept g c _ _ = never_ok c.from_residual.result _ _ c.from_residual.ensures.1
+
+pub returns-in_err-put-clause-kept : goal.returns-in_err-put-clause-kept
+returns-in_err-put-clause-kept g c _ _ = never_ok c.from_residual-in_err-put.result _ _ c.from_residual-in_err-put.ensures.1
 
 pub returns-in_err-id-clause-added : goal.returns-in_err-id-clause-added
 returns-in_err-id-clause-added g c _ _ _ = never_ok c.from_residual.result _ _ c.from_residual.ensures.1

@@ -8,8 +8,12 @@ use Rattle.rec_bytes.specs.Record.{field}
 use Rattle.rec_bytes.specs.RecordFiles.{meta_key_of}
 use Rattle.rec_bytes.specs.Space.{State, after_get, after_set, meta_of}
 use Rattle.store_rules.specs.Indexes.{first_definition}
+use Rattle.id_freelist.specs.ListDamage.{BlamesList}
+use Rattle.id_freelist.specs.declared.take_fault.TakeFault.{TakeFault}
+use Rattle.id_freelist.proofs.ListSteps.{blames_before, keeps_then, list_of_space, reads_harm_none, reads_keep}
+use Rattle.prop_index.proofs.ListKept.{definition_kept}
 use Rattle.prop_store.specs.Touching.{TouchesOnly}
-use Rattle.prop_store.proofs.ReadCounts.{reads_one}
+use Rattle.prop_store.proofs.ReadCounts.{reads_one, reads_same}
 use Rattle.prop_index.specs.Defining.{AreHeadsAdded, CountsMore, HasLeft, IsRecordAdded}
 use Rattle.prop_index.specs.DefinitionRecord.{definition_start, head_ids}
 use Rattle.prop_index.specs.Entering.{IsNotFull}
@@ -101,6 +105,73 @@ returns-clause-added g c tells store named =
     let is : w ≡ after_set t (meta_key_of format.index_file) 4 format.meta_definition id = c.in_ok-set_number.ensures.ok tells ∙ ap (λ (k : Key). after_set t k 4 format.meta_definition id) c.meta_key-2.ensures in
     definition_reread s w (raised s.reads) label key (record { id = id; rec = rec })
     (definition_added (after_get s) m t label key first id rec store heads added named first_is label_fits key_fits first_fits w is)
+
+-- the heads, the definition, and the meta record
+pub returns-clause-kept : goal.returns-clause-kept
+returns-clause-kept g c tells =
+    let s = g.S.Reads.state c.args.space.now in
+    let a = g.S.Reads.state c.get.new.self in
+    let m = g.S.Reads.state c.add_heads.new.space in
+    let t = g.S.Reads.state c.add_record.new.space in
+    let w = g.S.Reads.state c.set_number.new.space in
+    let id = c.in_ok-id.id in
+    let label = c.args.label in
+    let key = c.args.key in
+    let first = c.number.result in
+    let rec = c.in_ok-rec.rec in
+    let label_fits : label < 2 ^ 32 = search rules in
+    let key_fits : key < 2 ^ 32 = search rules in
+    let first_fits : first < 2 ^ 32 = search rules in
+    let kind : field 1 rec format.kind ≡ format.definition = c.in_ok-rec.ensures.kind ∙ ap (λ (r : Rec). field 1 r format.kind) c.definition_start-start.ensures ∙ start-kind label key first label_fits key_fits first_fits in
+    let used : field 1 rec format.kind ≢ format.free_kind = λ e. omega (arith, kind, e) in
+    let is : w ≡ after_set t (meta_key_of format.index_file) 4 format.meta_definition id = c.in_ok-set_number.ensures.ok tells ∙ ap (λ (k : Key). after_set t k 4 format.meta_definition id) c.meta_key-2.ensures in
+    let heads = c.in_ok-rec.ensures.kept tells in
+    let added = c.in_ok-id.ensures.kept tells used in
+    let last = definition_kept t w id is in
+    record {
+      keeps = keeps_then s a w format.index_file (reads_keep s a format.index_file (reads_same 1 s a (reads_one 1 s a (omega arith) c.get.ensures.state)))
+          (keeps_then a m w format.index_file heads.keeps (keeps_then m t w format.index_file added.keeps last));
+      used = λ k lt. last.used _ (added.keeps.used _ (heads.used k lt));
+    }
+
+-- what is blamed is wrong with the list
+list_read : (s a : State) (fault : TakeFault) → a ≡ after_get s → BlamesList a format.index_file fault → BlamesList s format.index_file fault
+list_read s a fault is why = blames_before s a format.index_file fault (reads_harm_none s a format.index_file (reads_same 1 s a (reads_one 1 s a (omega arith) is))) why
+
+pub returns-in_err-meta-clause-damaged : goal.returns-in_err-meta-clause-damaged
+returns-in_err-meta-clause-damaged g c tells =
+    let s = g.S.Reads.state c.args.space.now in
+    take_has (BlamesList s format.index_file) c.from_residual.result _ c.from_residual.ensures.1 (list_of_space s format.index_file c.in_err-meta.field-0.0)
+
+pub returns-in_err-rec-clause-damaged : goal.returns-in_err-rec-clause-damaged
+returns-in_err-rec-clause-damaged g c tells =
+    let s = g.S.Reads.state c.args.space.now in
+    take_has (BlamesList s format.index_file) c.from_residual-in_err-rec.result c.in_err-rec.field-0.0 c.from_residual-in_err-rec.ensures.1 (list_read s (g.S.Reads.state c.get.new.self) c.in_err-rec.field-0.0 c.get.ensures.state (c.in_err-rec.ensures.damaged tells))
+
+pub returns-in_err-id-clause-damaged : goal.returns-in_err-id-clause-damaged
+returns-in_err-id-clause-damaged g c tells =
+    let s = g.S.Reads.state c.args.space.now in
+    let a = g.S.Reads.state c.get.new.self in
+    let m = g.S.Reads.state c.add_heads.new.space in
+    take_has (BlamesList s format.index_file) c.from_residual-in_err-id.result c.in_err-id.field-0.0 c.from_residual-in_err-id.ensures.1
+    (list_read s a c.in_err-id.field-0.0 c.get.ensures.state (blames_before a m format.index_file c.in_err-id.field-0.0 (c.in_ok-rec.ensures.kept tells).keeps.harmless (c.in_err-id.ensures.damaged tells)))
+
+pub returns-in_err-set_number-clause-damaged : goal.returns-in_err-set_number-clause-damaged
+returns-in_err-set_number-clause-damaged g c tells =
+    let s = g.S.Reads.state c.args.space.now in
+    take_has (BlamesList s format.index_file) c.from_residual-in_err-set_number.result _ c.from_residual-in_err-set_number.ensures.1 (list_of_space s format.index_file c.in_err-set_number.field-0.0)
+
+pub returns-in_err-meta-clause-kept : goal.returns-in_err-meta-clause-kept
+returns-in_err-meta-clause-kept g c _ = never_ok c.from_residual.result _ _ c.from_residual.ensures.1
+
+pub returns-in_err-rec-clause-kept : goal.returns-in_err-rec-clause-kept
+returns-in_err-rec-clause-kept g c _ = never_ok c.from_residual-in_err-rec.result _ _ c.from_residual-in_err-rec.ensures.1
+
+pub returns-in_err-id-clause-kept : goal.returns-in_err-id-clause-kept
+returns-in_err-id-clause-kept g c _ = never_ok c.from_residual-in_err-id.result _ _ c.from_residual-in_err-id.ensures.1
+
+pub returns-in_err-set_number-clause-kept : goal.returns-in_err-set_number-clause-kept
+returns-in_err-set_number-clause-kept g c _ = never_ok c.from_residual-in_err-set_number.result _ _ c.from_residual-in_err-set_number.ensures.1
 
 -- what was read before is counted as it was
 counts_read : (s a t : State) (n : ℕ) → a ≡ after_get s → CountsMore a t n → CountsMore s t n

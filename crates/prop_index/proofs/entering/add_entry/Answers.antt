@@ -9,6 +9,7 @@ use Rattle.prop_index.specs.Blaming.{TakeNamesIndexes}
 use Rattle.prop_index.specs.Touching.{front_ids}
 use Rattle.prop_index.proofs.DefinitionsStay.{made_graph}
 use Rattle.prop_index.proofs.FillSteps.{elsewhere_of}
+use Rattle.prop_index.proofs.ListKept.{any_list}
 use Rattle.prop_index.proofs.IndexBlames.{link_blames, link_names, take_has}
 use Rattle.prop_index.proofs.IndexTouches.{front_index}
 use Rattle.rec_bytes.proofs.Causes.{never_ok}
@@ -44,7 +45,7 @@ returns-in-Err-clause-still g c tells d b h =
 pub returns-in_err-put_in_front-clause-damaged : goal.returns-in_err-put_in_front-clause-damaged
 returns-in_err-put_in_front-clause-damaged g c tells d b h =
     let s = g.S.Reads.state c.args.space.now in
-    take_has (BlamesBroken s.records s.shape) c.from_residual.result c.in_err-put_in_front.field-0.0 c.from_residual.ensures.1 (c.in_err-put_in_front.ensures.damaged tells)
+    take_has (BlamesBroken s.records s.shape) c.from_residual.result c.in_err-put_in_front.field-0.0 c.from_residual.ensures.1 (any_list s c.in_err-put_in_front.field-0.0 (c.in_err-put_in_front.ensures.damaged tells))
 
 pub returns-in_err-put_in_front-clause-still : goal.returns-in_err-put_in_front-clause-still
 returns-in_err-put_in_front-clause-still g c tells d b h =

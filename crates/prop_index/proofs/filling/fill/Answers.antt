@@ -11,8 +11,10 @@ use Rattle.rec_bytes.specs.RecordFiles.{meta_key_of, room_of}
 use Rattle.store_rules.specs.Chains.{In}
 use Rattle.store_rules.specs.Hashes.{bucket_of}
 use Rattle.store_rules.specs.Indexes.{first_entry}
-use Rattle.store_rules.specs.Views.{high, key_in}
+use Rattle.store_rules.specs.Views.{high, key_in, kind_at}
 use Rattle.store_rules.proofs.NumberLaws.{nat_cases}
+use Rattle.id_freelist.specs.ListDamage.{BlamesList}
+use Rattle.id_freelist.proofs.ListSteps.{blames_before, keeps_none, keeps_then}
 use Rattle.prop_index.specs.DefinitionRecord.{head_ids, head_of}
 use Rattle.prop_index.specs.Filling.{IsFilled}
 use Rattle.prop_index.specs.Touching.{front_ids}
@@ -35,6 +37,7 @@ loop-content-init g c =
     let nil_at : (b : ℕ) → b < 180 → get_or (replicate 180 format.nil) b 0 ≡ format.nil = λ b lt. get_or-replicate 180 b format.nil 0 lt in
     record {
       filled = λ tells wanted ix label key empty fillable store. (fs.filled-none s wanted ix label key store, λ b lt. nil_at b lt ∙ sym (empty.empty b lt));
+      kept = λ tells heads. (keeps_none s format.index_file, λ b lt some. absurd (some (nil_at b lt)));
       long = length-replicate 180 format.nil;
       keys = λ b lt some. absurd (some (nil_at b lt));
       touched = ([], omega arith, (λ b lt some. absurd (some (nil_at b lt))), record { writes = record { each = λ q w. inl w }; stays = λ told. record { each = λ q. inl refl } });
@@ -92,6 +95,15 @@ loop-content-preserved g c =
                 (λ (ne : b ≢ k). get_or-set_other firsts k b id 0 ne ∙ was.1 b lt
                 ∙ sym (fs.first_same s m wanted ix label key c.args.definition.now empty (take i contents) was.0 content bucket id_is place_is first_is t id made apart live shape others kept b lt (λ q. ne (q ∙ sym k_is))))
                 (nat_cases b k)),
+          );
+      kept = λ tells heads.
+          let was = old.kept tells heads in
+          let put = c.in_ok-firsts.ensures.kept tells (was.0.used slot.id (subst (λ x. kind_at s.records format.index_file x ≢ format.free_kind) (sym c.slot_of.ensures.is.id_is) (heads (k / 15) (omega arith)))) (was.1 k k_low) (let at = c.slot_of.ensures.is.place_is in omega arith) in (
+            keeps_then s m t format.index_file was.0 put.keeps,
+            λ b lt some. ⊎_elim
+                (λ (e : b ≡ k). subst (λ x. kind_at t.records format.index_file x ≢ format.free_kind) (sym (ap (λ z. get_or (set firsts k id) z 0) e ∙ get_or-set_same firsts k id 0 long)) put.used)
+                (λ (ne : b ≢ k). let same = get_or-set_other firsts k b id 0 ne in subst (λ x. kind_at t.records format.index_file x ≢ format.free_kind) (sym same) (put.keeps.used _ (was.1 b lt (λ q. some (same ∙ q)))))
+                (nat_cases b k),
           );
       long = length-set firsts k id ∙ old.long;
       keys = λ b lt some. ⊎_elim
@@ -156,6 +168,13 @@ returns-in_err-firsts-clause-roomy g c tells left =
     let test = c.loop-content-test.true in
     take_has IsNotFull c.from_residual.result c.in_err-firsts.field-0.0 c.from_residual.ensures.1
     (full_roomy m c.in_err-firsts.field-0.0 (c.in_err-firsts.ensures.full tells) (counts_left s m c.loop-content.content-index 1 (length c.args.contents.now) (c.loop-content.invariant.counted tells) (omega (arith, test)) left))
+
+pub returns-in_err-firsts-clause-damaged : goal.returns-in_err-firsts-clause-damaged
+returns-in_err-firsts-clause-damaged g c tells heads =
+    let s = g.S.Reads.state c.args.space.now in
+    let m = g.S.Reads.state c.loop-content.space in
+    take_has (BlamesList s format.index_file) c.from_residual.result c.in_err-firsts.field-0.0 c.from_residual.ensures.1
+    (blames_before s m format.index_file c.in_err-firsts.field-0.0 (c.loop-content.invariant.kept tells heads).0.harmless (c.in_err-firsts.ensures.damaged tells))
 
 pub returns-in_err-firsts-clause-still : goal.returns-in_err-firsts-clause-still
 returns-in_err-firsts-clause-still g c tells =

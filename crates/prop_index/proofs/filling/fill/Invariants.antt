@@ -3,9 +3,10 @@ use Rattle.rec_bytes.specs.Format as format
 use Rattle.rec_bytes.specs.Key.{IsKey}
 use Rattle.store_rules.specs.Chains.{In}
 use Rattle.store_rules.specs.Indexes.{AreIndexed, Entries, first_entry}
-use Rattle.store_rules.specs.Views.{key_in}
+use Rattle.store_rules.specs.Views.{key_in, kind_at}
+use Rattle.id_freelist.specs.ListDamage.{KeepsInUse}
 use Rattle.prop_store.specs.Touching.{TouchesOnly}
-use Rattle.prop_index.specs.Defining.{CountsMore}
+use Rattle.prop_index.specs.Defining.{AreHeadsUsed, CountsMore}
 use Rattle.prop_index.specs.DefinitionRecord.{head_ids}
 use Rattle.prop_index.specs.Filling.{AreFillable, IsEmptyIndex, IsFilled}
 use Rattle.prop_index.specs.Reading.{KeepsStore}
@@ -20,6 +21,7 @@ invariant-loop-content g l =
     record {
       filled : g.S.Reads.tells → (wanted : Entries) → (ix : AreIndexed old.records wanted) → (label key : ℕ) → IsEmptyIndex old.records wanted ix label key definition → AreFillable old.records l.fn.contents → KeepsStore old
           → IsFilled old now wanted ix label key (take l.content-index l.fn.contents) × ((b : ℕ) → b < 180 → get_or l.firsts b 0 ≡ first_entry now.records definition.id b);
+      kept : g.S.Reads.tells → AreHeadsUsed old 12 definition.rec → KeepsInUse old now format.index_file × ((b : ℕ) → b < 180 → get_or l.firsts b 0 ≢ format.nil → kind_at now.records format.index_file (get_or l.firsts b 0) ≢ format.free_kind);
       long : length l.firsts ≡ 180;
       keys : (b : ℕ) → b < 180 → get_or l.firsts b 0 ≢ format.nil → IsKey (key_in format.index_file (get_or l.firsts b 0));
       touched : (ids : List ℕ) × (length ids ≤ l.content-index) × ((b : ℕ) → b < 180 → get_or l.firsts b 0 ≢ format.nil → In (get_or l.firsts b 0) ids)

@@ -7,7 +7,10 @@ use Rattle.rec_bytes.specs.Space.{State}
 use Rattle.store_rules.specs.IndexChange.{IsEntryMade}
 use Rattle.prop_index.proofs.LinkRules.{free_list}
 use Rattle.prop_index.proofs.MadeRules.{entry_made_kept}
+use Rattle.id_freelist.specs.ListDamage.{BlamesList}
 use Rattle.id_freelist.specs.TakeFault.{of_space}
+use Rattle.id_freelist.proofs.ListSteps.{blames_list, list_of_space}
+use Rattle.prop_index.proofs.ListKept.{entry_kept}
 use Rattle.prop_index.specs.Blaming.{TakeBlamesBroken as BlamesBroken}
 use Rattle.prop_index.proofs.IndexBlames.{any_take, space_names, space_take, take_has, take_names, take_reread}
 use Rattle.prop_index.proofs.IndexFull.{full-after, take-full}
@@ -82,7 +85,21 @@ returns-in_err-id-clause-full g c tells =
 pub returns-in_err-id-clause-damaged : goal.returns-in_err-id-clause-damaged
 returns-in_err-id-clause-damaged g c tells =
     let s = g.S.Reads.state c.args.space.now in
-    take_has (BlamesBroken s.records s.shape) c.from_residual.result c.in_err-id.field-0.0 c.from_residual.ensures.1 (any_take s.records s.shape c.in_err-id.field-0.0 (c.in_err-id.ensures.damaged tells))
+    take_has (BlamesList s format.index_file) c.from_residual.result c.in_err-id.field-0.0 c.from_residual.ensures.1 (blames_list s format.index_file c.in_err-id.field-0.0 (c.in_err-id.ensures.refused tells))
+
+pub returns-clause-kept : goal.returns-clause-kept
+returns-clause-kept g c tells head begins place =
+    let node_fits : c.args.content.node < 2 ^ 32 = search rules in
+    let first_fits : c.args.bucket.first < 2 ^ 32 = search rules in
+    let hash_fits : c.args.content.hash < 2 ^ 64 = search rules in
+    entry_kept (g.S.Reads.state c.args.space.now) (g.S.Reads.state c.take.new.space) (g.S.Reads.state c.link.new.space) c.args.bucket.slot c.args.bucket.first c.in_ok-id.id c.args.content node_fits first_fits hash_fits (c.in_ok-id.ensures.ok tells) c.in_ok-id.ensures.is (c.in_ok-id.ensures.undamaged tells)
+    (c.in_ok-id.ensures.fresh tells) c.in_ok-id.ensures.key.id c.in_ok-id.ensures.small (c.in_ok-link.ensures.ok tells) head begins place
+
+pub returns-in_err-id-clause-kept : goal.returns-in_err-id-clause-kept
+returns-in_err-id-clause-kept g c _ _ _ _ = never_ok c.from_residual.result _ _ c.from_residual.ensures.1
+
+pub returns-in_err-link-clause-kept : goal.returns-in_err-link-clause-kept
+returns-in_err-link-clause-kept g c _ _ _ _ = never_ok c.from_residual-in_err-link.result _ _ c.from_residual-in_err-link.ensures.1
 
 pub returns-in_err-id-clause-still : goal.returns-in_err-id-clause-still
 returns-in_err-id-clause-still g c tells =
@@ -93,7 +110,7 @@ returns-in_err-id-clause-still g c tells =
 pub returns-in_err-link-clause-damaged : goal.returns-in_err-link-clause-damaged
 returns-in_err-link-clause-damaged g c tells =
     let s = g.S.Reads.state c.args.space.now in
-    space_take s.records s.shape c.from_residual-in_err-link.result c.in_err-link.field-0.0 c.from_residual-in_err-link.ensures.1
+    take_has (BlamesList s format.index_file) c.from_residual-in_err-link.result _ c.from_residual-in_err-link.ensures.1 (list_of_space s format.index_file c.in_err-link.field-0.0)
 
 pub returns-in_err-link-clause-still : goal.returns-in_err-link-clause-still
 returns-in_err-link-clause-still g c tells =

@@ -20,9 +20,10 @@ use Rattle.id_freelist.specs.declared.take_fault.TakeFault.TheVariants as takes
 use Rattle.prop_index.specs.declared.entry_row.Content.{Content}
 use Rattle.prop_index.proofs.IndexMade.{left_before, left_reread, mishap_reread, written_reread}
 use Rattle.prop_index.proofs.IndexTouches.{index_same, index_then}
+use Rattle.prop_index.proofs.ListKept.{any_list}
 use Rattle.prop_index.proofs.LinkRules.{store_room}
 use Rattle.prop_index.proofs.Lookups.{nodes_readable}
-use Rattle.prop_index.proofs.Counting.{collect_cause, make_reread, pair_cause, roomy_cause, take_make}
+use Rattle.prop_index.proofs.Counting.{collect_cause, make_before, make_reread, pair_cause, roomy_cause, take_make}
 use Rattle.prop_index.proofs.MakeFaults.{collect_refusal, mishap_refusal, pair_refusal}
 use Rattle.prop_index.proofs.Reread.{readable_after, same_records, same_then}
 use Rattle.prop_index.specs.Touching.{TouchesIndex}
@@ -244,6 +245,29 @@ pub returns-clause-still : goal.returns-clause-still
 returns-clause-still g c tells =
     let t = g.S.Reads.state c.write_index.new.space in
     subst (BlamesBroken t.records t.shape) (sym c.of_take.ensures) (take_make t.records t.shape c.in-Err.fault (c.in-Err.ensures.still tells))
+
+-- ---- which record is blamed
+
+pub returns-in_err-test_pair-clause-damaged : goal.returns-in_err-test_pair-clause-damaged
+returns-in_err-test_pair-clause-damaged g c tells =
+    let s = g.S.Reads.state c.args.space.now in
+    let p = err_from_is_err_and c.from_residual.result c.from_residual.ensures.1 in
+    rw (p.1, p.2) (c.in_err-test_pair.ensures.damaged tells)
+
+pub returns-in_err-contents-clause-damaged : goal.returns-in_err-contents-clause-damaged
+returns-in_err-contents-clause-damaged g c tells =
+    let s = g.S.Reads.state c.args.space.now in
+    let a = g.S.Reads.state c.test_pair.new.space in
+    let p = err_from_is_err_and c.from_residual-in_err-contents.result c.from_residual-in_err-contents.ensures.1 in
+    rw (p.1, p.2) (make_before s a c.in_err-contents.field-0.0 (reads_same 17 s a c.test_pair.ensures.reads) (c.in_err-contents.ensures.damaged tells))
+
+pub returns-clause-damaged : goal.returns-clause-damaged
+returns-clause-damaged g c tells =
+    let s = g.S.Reads.state c.args.space.now in
+    let a = g.S.Reads.state c.test_pair.new.space in
+    let b = g.S.Reads.state c.collect.new.space in
+    let same : SameButReads s b = same_then s a b (reads_same 17 s a c.test_pair.ensures.reads) c.collect.ensures.same in
+    subst (BlamesBroken s.records s.shape) (sym c.of_take.ensures) (make_before s b (of_take c.in-Err.fault) same (take_make b.records b.shape c.in-Err.fault (any_list b c.in-Err.fault (c.in-Err.ensures.damaged tells))))
 
 pub returns-in-Ok-clause-written : goal.returns-in-Ok-clause-written
 returns-in-Ok-clause-written g c =

@@ -3,13 +3,15 @@ use Rattle.std.proofs.Common.{◌+◌, ap, sym, subst, length, arith, rules}
 use Rattle.std.proofs.lemmas.Result.{err_from_is_err_and}
 use Rattle.rec_bytes.specs.Format as format
 use Rattle.rec_bytes.specs.RecordFiles.{room_of}
+use Rattle.id_freelist.specs.ListDamage.{BlamesList}
+use Rattle.id_freelist.proofs.ListSteps.{blames_before}
 use Rattle.prop_index.specs.Filling.{AreFillable, IsFilled}
 use Rattle.prop_index.proofs.ContentsWanted.{contents_fillable}
 use Rattle.prop_index.proofs.IndexMade.{before, empty_index, index_more, index_written, ix_defined, written_touches}
 use Rattle.prop_index.specs.Defining.{HasLeft}
 use Rattle.prop_index.specs.Entering.{IsNotFull}
 use Rattle.prop_index.proofs.Counting.{counts_left}
-use Rattle.prop_index.proofs.IndexBlames.{take_has}
+use Rattle.prop_index.proofs.IndexBlames.{if_err, take_has}
 use Rattle.rec_bytes.proofs.Causes.{never_ok}
 use Rattle.prop_index.proofs.making.write_index.Goals as goal
 
@@ -72,3 +74,15 @@ returns-in_err-definition-clause-written g c _ _ _ _ _ = never_ok c.from_residua
 
 pub returns-in_err-definition-clause-onward : goal.returns-in_err-definition-clause-onward
 returns-in_err-definition-clause-onward g c = search rules
+
+pub returns-in_err-definition-clause-damaged : goal.returns-in_err-definition-clause-damaged
+returns-in_err-definition-clause-damaged g c tells =
+    let s = g.S.Reads.state c.args.space.now in
+    take_has (BlamesList s format.index_file) c.from_residual.result c.in_err-definition.field-0.0 c.from_residual.ensures.1 (c.in_err-definition.ensures.damaged tells)
+
+pub returns-clause-damaged : goal.returns-clause-damaged
+returns-clause-damaged g c tells =
+    let s = g.S.Reads.state c.args.space.now in
+    let m = g.S.Reads.state c.define.new.space in
+    let kept = c.in_ok-definition.ensures.kept tells in
+    if_err c.fill.result (λ fault why. blames_before s m format.index_file fault kept.keeps.harmless why) (c.fill.ensures.damaged tells kept.used)

@@ -4,9 +4,11 @@ use Rattle.rec_bytes.specs.Format.{strings_file}
 use Rattle.prop_store.proofs.BlockSteps.{beside_put, block_written, cannot_take}
 use Rattle.id_freelist.specs.TakeFault.{BlamesBroken}
 use Rattle.prop_store.specs.SetFault.{IsTextCause}
-use Rattle.prop_store.specs.Setting.{BlamesTaken}
-use Rattle.prop_store.proofs.Midway.{take_blames, take_has, take_of_space, take_still, take_still_space, text_caused, text_caused_space}
-use Rattle.prop_store.proofs.Touches.{touches_reads, touches_block, touches_block_taken, touches_more, touches_same, touches_then}
+use Rattle.id_freelist.specs.ListDamage.{BlamesList}
+use Rattle.id_freelist.proofs.ListSteps.{blames_list, list_of_space, put_harms_none}
+use Rattle.prop_store.proofs.BlockRecords.{used_block}
+use Rattle.prop_store.proofs.Midway.{take_has, take_still, take_still_space, text_caused, text_caused_space}
+use Rattle.prop_store.proofs.Touches.{touches_block, touches_block_taken, touches_more, touches_same, touches_then}
 use Rattle.rec_bytes.proofs.Causes.{never_ok}
 use Rattle.prop_store.proofs.block_writing.write_block.Goals as goal
 
@@ -39,13 +41,23 @@ returns-clause-touches g c =
 pub returns-in_err-id-clause-damaged : goal.returns-in_err-id-clause-damaged
 returns-in_err-id-clause-damaged g c tells =
     let s = g.S.Reads.state c.args.space.now in
-    take_has (BlamesTaken g.S.Reads.tells 0 s) c.from_residual.result c.in_err-id.field-0.0 c.from_residual.ensures.1
-    (take_blames g.S.Reads.tells 0 s s c.in_err-id.field-0.0 refl (touches_reads [] 0 0 s s refl) (c.in_err-id.ensures.damaged tells))
+    take_has (BlamesList s strings_file) c.from_residual.result c.in_err-id.field-0.0 c.from_residual.ensures.1 (blames_list s strings_file c.in_err-id.field-0.0 (c.in_err-id.ensures.refused tells))
 
 pub returns-in_err-put-clause-damaged : goal.returns-in_err-put-clause-damaged
 returns-in_err-put-clause-damaged g c tells =
     let s = g.S.Reads.state c.args.space.now in
-    take_has (BlamesTaken g.S.Reads.tells 0 s) c.from_residual-in_err-put.result _ c.from_residual-in_err-put.ensures.1 (take_of_space g.S.Reads.tells 0 s c.in_err-put.field-0.0)
+    take_has (BlamesList s strings_file) c.from_residual-in_err-put.result _ c.from_residual-in_err-put.ensures.1 (list_of_space s strings_file c.in_err-put.field-0.0)
+
+pub returns-clause-harmless : goal.returns-clause-harmless
+returns-clause-harmless g c tells =
+    put_harms_none (g.S.Reads.state c.args.space.now) (g.S.Reads.state c.take.new.space) (g.S.Reads.state c.put.new.self) strings_file c.in_ok-id.id c.block_record.result refl (c.in_ok-id.ensures.ok tells) c.in_ok-id.ensures.is (c.in_ok-id.ensures.undamaged tells)
+    (c.in_ok-id.ensures.fresh tells) c.in_ok-id.ensures.key.id c.in_ok-id.ensures.small c.in_ok-put.ensures.ok (used_block c.args.piece.now c.args.next c.block_record.result c.requires.few c.block_record.ensures)
+
+pub returns-in_err-id-clause-harmless : goal.returns-in_err-id-clause-harmless
+returns-in_err-id-clause-harmless g c _ = never_ok c.from_residual.result _ _ c.from_residual.ensures.1
+
+pub returns-in_err-put-clause-harmless : goal.returns-in_err-put-clause-harmless
+returns-in_err-put-clause-harmless g c _ = never_ok c.from_residual-in_err-put.result _ _ c.from_residual-in_err-put.ensures.1
 
 pub returns-in_err-id-clause-caused : goal.returns-in_err-id-clause-caused
 returns-in_err-id-clause-caused g c tells =

@@ -7,8 +7,9 @@ use Rattle.prop_store.proofs.BlockSteps.{blocks_are, drop-piece, keeps_now, leng
 use Rattle.prop_store.proofs.FileSteps.{beside_none, beside_then}
 use Rattle.id_freelist.specs.TakeFault.{BlamesBroken}
 use Rattle.prop_store.specs.SetFault.{IsTextCause}
-use Rattle.prop_store.specs.Setting.{BlamesTaken}
-use Rattle.prop_store.proofs.Midway.{later_take, take_has, text_caused_more}
+use Rattle.id_freelist.specs.ListDamage.{BlamesList}
+use Rattle.id_freelist.proofs.ListSteps.{blames_before, harms_none_then}
+use Rattle.prop_store.proofs.Midway.{take_has, text_caused_more}
 use Rattle.prop_store.proofs.Touches.{touches_more, touches_reads, touches_then}
 use Rattle.rec_bytes.proofs.Causes.{never_ok}
 use Rattle.prop_store.proofs.block_writing.write_text.Goals as goal
@@ -22,6 +23,7 @@ loop-left-init g c =
       stands = λ tells keeps. nothing_stands old (drop (48 * c.div_ceil-left.result) text) (drop_all (48 * c.div_ceil-left.result) text (omega arith)) keeps;
       few = omega arith;
       beside = λ tells. beside_none strings_file old.records;
+      harmless = λ tells d why. why;
       touches = touches_reads [] 0 _ old old refl;
       onward = search rules;
       later = omega arith;
@@ -52,6 +54,7 @@ loop-left-preserved g c =
           (c.in_ok-first.ensures.written tells (keeps_now old now (drop (48 * left) text) c.loop-left.first shape stands) (may_follow old now (drop (48 * left) text) c.loop-left.first shape stands));
       few = omega arith;
       beside = λ tells. beside_then strings_file old.records now.records then.records (c.loop-left.invariant.beside tells) (c.in_ok-first.ensures.beside tells);
+      harmless = λ tells. harms_none_then old now then strings_file (c.loop-left.invariant.harmless tells) (c.in_ok-first.ensures.harmless tells);
       touches = touches_then [] 0 (blocks_for (length text) - left) 0 1 0 _ old now then (omega arith) (omega arith) c.loop-left.invariant.touches c.write_block.ensures.touches;
       onward = g.met.S.Reads.further_onward _ _ _ c.loop-left.invariant.onward c.in_ok-first.ensures.onward;
       later = omega (arith, c.loop-left.invariant.later, c.in_ok-first.ensures.cause.later);
@@ -86,10 +89,14 @@ pub returns-in_err-first-clause-damaged : goal.returns-in_err-first-clause-damag
 returns-in_err-first-clause-damaged g c tells =
     let old = g.S.Reads.state c.args.space.now in
     let now = g.S.Reads.state c.loop-left.space in
-    let count = blocks_for (length c.args.text.now) in
-    let few = c.loop-left.invariant.few in
-    take_has (BlamesTaken g.S.Reads.tells count old) c.from_residual.result c.in_err-first.field-0.0 c.from_residual.ensures.1
-    (later_take g.S.Reads.tells (count - c.loop-left.left) 0 count old now c.in_err-first.field-0.0 (omega arith) (g.met.S.Reads.onward_shape _ _ c.loop-left.invariant.onward) c.loop-left.invariant.touches (c.in_err-first.ensures.damaged tells))
+    take_has (BlamesList old strings_file) c.from_residual.result c.in_err-first.field-0.0 c.from_residual.ensures.1
+    (blames_before old now strings_file c.in_err-first.field-0.0 (c.loop-left.invariant.harmless tells) (c.in_err-first.ensures.damaged tells))
+
+pub returns-in_err-first-clause-harmless : goal.returns-in_err-first-clause-harmless
+returns-in_err-first-clause-harmless g c _ = never_ok c.from_residual.result _ _ c.from_residual.ensures.1
+
+pub returns-clause-harmless : goal.returns-clause-harmless
+returns-clause-harmless g c tells = c.loop-left.invariant.harmless tells
 
 pub returns-in_err-first-clause-caused : goal.returns-in_err-first-clause-caused
 returns-in_err-first-clause-caused g c tells =

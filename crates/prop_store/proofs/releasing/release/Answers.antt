@@ -3,7 +3,7 @@ use Rattle.rec_bytes.specs.Format.{strings_file}
 use Rattle.prop_store.proofs.Clearing.{freed_more}
 use Rattle.prop_store.proofs.FileSteps.{beside_then}
 use Rattle.prop_store.proofs.ListLaws.{drop_step, in_at}
-use Rattle.prop_store.proofs.ReleaseSteps.{beside_given, one_given}
+use Rattle.prop_store.proofs.ReleaseSteps.{beside_given, one_given, one_linked}
 use Rattle.prop_store.proofs.Touches.{only_given}
 use Rattle.rec_bytes.proofs.Causes.{never_ok, ok_cause}
 use Rattle.prop_store.proofs.releasing.release.Goals as goal
@@ -27,11 +27,18 @@ loop-id-preserved g c =
       released = λ tells once h. one_given old.records now then old.shape strings_file blocks (drop i blocks) (drop (i + 1) blocks) id i (i + 1) (inr refl) (drop_step blocks i (i + 1) refl lt) refl
           (c.in_ok-give.ensures.given tells) (c.loop-id.invariant.released tells once h);
       freed = λ tells. freed_more old now then blocks id (in_at blocks i lt) (c.requires id (in_at blocks i lt)) (c.in_ok-give.ensures.ok tells) (c.loop-id.invariant.freed tells);
+      harmless = λ tells used link. one_linked old now then blocks (drop i blocks) (drop (i + 1) blocks) id (omega arith) (drop_step blocks i (i + 1) refl lt) (c.requires id (in_at blocks i lt)) (c.in_ok-give.ensures.ok tells) (c.loop-id.invariant.harmless tells used link);
       beside = λ tells. beside_then strings_file old.records now.records then.records (c.loop-id.invariant.beside tells) (beside_given now then strings_file id (c.in_ok-give.ensures.ok tells));
       touches = only_given old now then strings_file id blocks (in_at blocks i lt) c.loop-id.invariant.touches (record { writes = c.give.ensures.writes; stays = c.give.ensures.stays });
       onward = g.met.S.Reads.further_onward _ _ _ c.loop-id.invariant.onward c.give.ensures.onward;
       later = omega (arith, c.loop-id.invariant.later, c.give.ensures.cause.later);
     }
+
+pub returns-in_err-give-clause-harmless : goal.returns-in_err-give-clause-harmless
+returns-in_err-give-clause-harmless g c _ = never_ok c.from_residual.result _ _ c.from_residual.ensures.1
+
+pub returns-clause-harmless : goal.returns-clause-harmless
+returns-clause-harmless g c tells used link = (c.loop-id.invariant.harmless tells used link).harmless
 
 pub returns-in_err-give-clause-released : goal.returns-in_err-give-clause-released
 returns-in_err-give-clause-released g c _ = never_ok c.from_residual.result _ _ c.from_residual.ensures.1

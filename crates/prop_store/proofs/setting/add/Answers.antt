@@ -11,12 +11,13 @@ use Rattle.prop_store.specs.Changing.{HasKey, properties_of}
 use Rattle.prop_store.specs.FileChange.{KeepsFile}
 use Rattle.prop_store.specs.Owner.{IsOwner}
 use Rattle.prop_store.specs.SetFault.{IsSetCause}
-use Rattle.prop_store.specs.Setting.{BlamesSet, BlamesStill, IsPutFault, MayLead}
+use Rattle.prop_store.specs.Setting.{BlamesLists, SetBlamesBroken, IsPutFault, MayLead}
 use Rattle.prop_store.specs.declared.owner.Owner.{Owner}
 use Rattle.prop_store.specs.declared.set_fault.SetFault.TheVariants.{Full}
 use Rattle.prop_store.proofs.ElementGraphs.{count_is, lacks_key, listed_at, owns_listed, refusal_graph, sets_graph}
 use Rattle.prop_store.proofs.ElementSets.{first_leads, keeps_properties, keeps_strings, no_new_blocks, no_property, puts_read, value_added}
-use Rattle.prop_store.proofs.Midway.{set_caused_more, set_caused_space, set_has, set_of_space, set_read, set_still_space}
+use Rattle.prop_store.proofs.Midway.{set_caused_more, set_caused_space, set_has, lists_broken, lists_of_space, lists_read, set_still_space}
+use Rattle.prop_store.proofs.PutLists.{led_harms_no_lists, read_harms_no_lists}
 use Rattle.prop_store.proofs.ReadCounts.{reads_one, reads_same}
 use Rattle.prop_store.proofs.Touches.{touches_after, touches_beside, touches_owner, touches_reads, touches_then}
 use Rattle.prop_store.proofs.WriteCounts.{touched_beside}
@@ -113,26 +114,57 @@ returns-clause-writes g c = touched_beside 1 (blocks_of c.args.value.now) (1 + b
 
 -- ---- which record is blamed
 
+pub returns-in_err-next-clause-lists : goal.returns-in_err-next-clause-lists
+returns-in_err-next-clause-lists g c tells =
+    let s = g.S.Reads.state c.args.space.now in
+    set_has (BlamesLists s) c.from_residual.result _ c.from_residual.ensures.1 (lists_of_space s c.in_err-next.field-0.0)
+
 pub returns-in_err-next-clause-damaged : goal.returns-in_err-next-clause-damaged
 returns-in_err-next-clause-damaged g c tells =
     let s = g.S.Reads.state c.args.space.now in
-    let n = blocks_of c.args.value.now in
-    set_has (BlamesSet g.S.Reads.tells n s) c.from_residual.result _ c.from_residual.ensures.1 (set_of_space g.S.Reads.tells n s c.in_err-next.field-0.0)
+    set_has (SetBlamesBroken s) c.from_residual.result _ c.from_residual.ensures.1 (set_still_space s c.in_err-next.field-0.0)
+
+pub returns-in_err-id-clause-lists : goal.returns-in_err-id-clause-lists
+returns-in_err-id-clause-lists g c tells =
+    let s = g.S.Reads.state c.args.space.now in
+    let z = g.S.Reads.state c.first.new.space in
+    let fault = c.in_err-id.field-0.0 in
+    set_has (BlamesLists s) c.from_residual-in_err-id.result fault c.from_residual-in_err-id.ensures.1
+    (lists_read s z fault (reads_same 1 s z (reads_one 1 s z (omega arith) c.first.ensures.state)) (c.in_err-id.ensures.damaged tells))
 
 pub returns-in_err-id-clause-damaged : goal.returns-in_err-id-clause-damaged
 returns-in_err-id-clause-damaged g c tells =
     let s = g.S.Reads.state c.args.space.now in
-    let z = g.S.Reads.state c.first.new.space in
-    let n = blocks_of c.args.value.now in
-    let fault = c.in_err-id.field-0.0 in
-    set_has (BlamesSet g.S.Reads.tells n s) c.from_residual-in_err-id.result fault c.from_residual-in_err-id.ensures.1
-    (set_read g.S.Reads.tells n n s z fault (omega arith) (reads_same 1 s z (reads_one 1 s z (omega arith) c.first.ensures.state)) (c.in_err-id.ensures.damaged tells))
+    IfErr-weaker c.from_residual-in_err-id.result (BlamesLists s) (SetBlamesBroken s) (λ fault why. lists_broken s fault why) (returns-in_err-id-clause-lists g c tells)
+
+pub returns-in_err-set_number-clause-lists : goal.returns-in_err-set_number-clause-lists
+returns-in_err-set_number-clause-lists g c tells =
+    let s = g.S.Reads.state c.args.space.now in
+    set_has (BlamesLists s) c.from_residual-in_err-set_number.result _ c.from_residual-in_err-set_number.ensures.1 (lists_of_space s c.in_err-set_number.field-0.0)
 
 pub returns-in_err-set_number-clause-damaged : goal.returns-in_err-set_number-clause-damaged
 returns-in_err-set_number-clause-damaged g c tells =
     let s = g.S.Reads.state c.args.space.now in
-    let n = blocks_of c.args.value.now in
-    set_has (BlamesSet g.S.Reads.tells n s) c.from_residual-in_err-set_number.result _ c.from_residual-in_err-set_number.ensures.1 (set_of_space g.S.Reads.tells n s c.in_err-set_number.field-0.0)
+    set_has (SetBlamesBroken s) c.from_residual-in_err-set_number.result _ c.from_residual-in_err-set_number.ensures.1 (set_still_space s c.in_err-set_number.field-0.0)
+
+-- ---- what is left of the free lists
+
+pub returns-clause-harmless : goal.returns-clause-harmless
+returns-clause-harmless g c tells =
+    let s = g.S.Reads.state c.args.space.now in
+    let z = g.S.Reads.state c.first.new.space in
+    let t = g.S.Reads.state c.put_new.new.space in
+    read_harms_no_lists s z (g.S.Reads.state c.set_number.new.space) (reads_same 1 s z (reads_one 1 s z (omega arith) c.first.ensures.state))
+    (led_harms_no_lists z t (g.S.Reads.state c.set_number.new.space) c.args.owner c.in_ok-id.id c.requires.owner (c.in_ok-id.ensures.harmless tells) (c.in_ok-set_number.ensures.ok tells))
+
+pub returns-in_err-next-clause-harmless : goal.returns-in_err-next-clause-harmless
+returns-in_err-next-clause-harmless g c _ = never_ok c.from_residual.result _ _ c.from_residual.ensures.1
+
+pub returns-in_err-id-clause-harmless : goal.returns-in_err-id-clause-harmless
+returns-in_err-id-clause-harmless g c _ = never_ok c.from_residual-in_err-id.result _ _ c.from_residual-in_err-id.ensures.1
+
+pub returns-in_err-set_number-clause-harmless : goal.returns-in_err-set_number-clause-harmless
+returns-in_err-set_number-clause-harmless g c _ = never_ok c.from_residual-in_err-set_number.result _ _ c.from_residual-in_err-set_number.ensures.1
 
 -- ---- what a refusal carries
 
@@ -171,17 +203,17 @@ returns-in_err-set_number-clause-caused g c tells =
 pub returns-in_err-next-clause-still : goal.returns-in_err-next-clause-still
 returns-in_err-next-clause-still g c tells =
     let t = g.S.Reads.state c.first.new.space in
-    set_has (BlamesStill t) c.from_residual.result _ c.from_residual.ensures.1 (set_still_space t c.in_err-next.field-0.0)
+    set_has (SetBlamesBroken t) c.from_residual.result _ c.from_residual.ensures.1 (set_still_space t c.in_err-next.field-0.0)
 
 pub returns-in_err-id-clause-still : goal.returns-in_err-id-clause-still
 returns-in_err-id-clause-still g c tells =
     let t = g.S.Reads.state c.put_new.new.space in
-    set_has (BlamesStill t) c.from_residual-in_err-id.result c.in_err-id.field-0.0 c.from_residual-in_err-id.ensures.1 (c.in_err-id.ensures.still tells)
+    set_has (SetBlamesBroken t) c.from_residual-in_err-id.result c.in_err-id.field-0.0 c.from_residual-in_err-id.ensures.1 (c.in_err-id.ensures.still tells)
 
 pub returns-in_err-set_number-clause-still : goal.returns-in_err-set_number-clause-still
 returns-in_err-set_number-clause-still g c tells =
     let t = g.S.Reads.state c.set_number.new.space in
-    set_has (BlamesStill t) c.from_residual-in_err-set_number.result _ c.from_residual-in_err-set_number.ensures.1 (set_still_space t c.in_err-set_number.field-0.0)
+    set_has (SetBlamesBroken t) c.from_residual-in_err-set_number.result _ c.from_residual-in_err-set_number.ensures.1 (set_still_space t c.in_err-set_number.field-0.0)
 
 pub returns-in_err-id-clause-cause : goal.returns-in_err-id-clause-cause
 returns-in_err-id-clause-cause g c =

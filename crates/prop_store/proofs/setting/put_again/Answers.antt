@@ -3,17 +3,18 @@ use Rattle.std.proofs.lemmas.Result.{err_from_is_err_and}
 use Rattle.plain_graph.specs.Properties.{blocks_of}
 use Rattle.rec_bytes.specs.Format.{property_key, property_next}
 use Rattle.rec_bytes.specs.Record.{field}
-use Rattle.rec_bytes.specs.Space.{State}
 use Rattle.prop_store.proofs.DropSteps.{blocks_given_out}
 use Rattle.rec_bytes.specs.Format.{strings_file}
 use Rattle.rec_bytes.specs.Meta.{IsLinkBelow}
 use Rattle.rec_bytes.specs.Space.{meta_in}
 use Rattle.store_rules.specs.Views.{Records}
+use Rattle.id_freelist.proofs.ListSteps.{blames_before}
+use Rattle.prop_store.specs.Blocks.{AreUsedOnce}
 use Rattle.prop_store.specs.Fault.{BlamesBroken}
-use Rattle.prop_store.specs.SetFault.{IsSetCause, IsTextCause}
-use Rattle.prop_store.specs.Setting.{BlamesSet, BlamesStill, BlamesTaken}
+use Rattle.prop_store.specs.SetFault.{IsSetCause, IsTextCause, of_take}
+use Rattle.prop_store.specs.Setting.{SetBlamesBroken}
 use Rattle.prop_store.proofs.Breaches.{strings_free, text_blames}
-use Rattle.prop_store.proofs.Midway.{later_take, set_cause, set_caused_fault, set_caused_space, set_caused_text, set_has, set_of_fault, set_of_space, set_of_take, set_still_fault, set_still_space, set_still_take}
+use Rattle.prop_store.proofs.Midway.{lists_broken, lists_of_text, set_cause, set_caused_fault, set_caused_space, set_caused_text, set_has, set_read, set_still_fault, set_still_space, set_still_take}
 use Rattle.prop_store.proofs.PutSteps.{blocks_needed, again_put, again_text_fault, read_put_fault, space_put_fault}
 use Rattle.prop_store.proofs.PutTouches.{touches_new, touches_texts}
 use Rattle.prop_store.proofs.ReadCounts.{reads_records, reads_same}
@@ -90,35 +91,31 @@ returns-clause-at_most g c = let few = c.as_slice-ids.ensures.few in touches_mor
 pub returns-in_err-blocks-clause-damaged : goal.returns-in_err-blocks-clause-damaged
 returns-in_err-blocks-clause-damaged g c tells read =
     let s = g.S.Reads.state c.args.space.now in
-    let n = 22 + blocks_of c.args.value.now in
-    set_has (BlamesSet g.S.Reads.tells n s) c.from_residual.result _ c.from_residual.ensures.1
-    (set_of_fault g.S.Reads.tells n s c.in_err-blocks.field-0.0 (text_blames s c.args.row.now.id c.in_err-blocks.field-0.0 (c.in_err-blocks.ensures.damaged tells read)))
+    set_has (SetBlamesBroken s) c.from_residual.result _ c.from_residual.ensures.1
+    (set_still_fault s s c.in_err-blocks.field-0.0 (text_blames s c.args.row.now.id c.in_err-blocks.field-0.0 (c.in_err-blocks.ensures.damaged tells read)) refl)
 
 pub returns-in_err-release-clause-damaged : goal.returns-in_err-release-clause-damaged
 returns-in_err-release-clause-damaged g c tells read =
     let s = g.S.Reads.state c.args.space.now in
-    let n = 22 + blocks_of c.args.value.now in
-    set_has (BlamesSet g.S.Reads.tells n s) c.from_residual-in_err-release.result _ c.from_residual-in_err-release.ensures.1 (set_of_space g.S.Reads.tells n s c.in_err-release.field-0.0)
+    set_has (SetBlamesBroken s) c.from_residual-in_err-release.result _ c.from_residual-in_err-release.ensures.1 (set_still_space s c.in_err-release.field-0.0)
 
 pub returns-in_err-first-clause-damaged : goal.returns-in_err-first-clause-damaged
 returns-in_err-first-clause-damaged g c tells read =
     let s = g.S.Reads.state c.args.space.now in
     let a = g.S.Reads.state c.value_blocks.new.space in
     let b = g.S.Reads.state c.release.new.space in
-    let n = 22 + blocks_of c.args.value.now in
     let fault = c.in_err-first.field-0.0 in
-    let few = c.as_slice-ids.ensures.few in
-    let shape = g.met.S.Reads.onward_shape _ _ c.release.ensures.onward ∙ ap (λ (z : State). z.shape) (reads_same 22 s a c.value_blocks.ensures.at_most) in
-    set_has (BlamesSet g.S.Reads.tells n s) c.from_residual-in_err-first.result _ c.from_residual-in_err-first.ensures.1
-    (set_of_take g.S.Reads.tells n s fault
-    (later_take g.S.Reads.tells (length c.as_slice-ids.result.now) (blocks_of c.args.value.now) n s b fault (omega arith) shape (touches_freed s a b c.as_slice-ids.result.now (reads_same 22 s a c.value_blocks.ensures.at_most) c.release.ensures.touches)
-    (subst (λ m. BlamesTaken g.S.Reads.tells m b fault) (blocks_needed c.args.value.now c.long_bytes.result.now c.long_bytes.ensures.is) (c.in_err-first.ensures.damaged tells))))
+    let ids = c.as_slice-ids.result.now in
+    let used : AreUsedOnce a.records ids = subst (λ (r : Records). AreUsedOnce r ids) (sym (reads_records 22 s a c.value_blocks.ensures.at_most)) (subst (AreUsedOnce s.records) (sym c.as_slice-ids.ensures.is) (c.in_ok-blocks.ensures.once tells)) in
+    let harmless = c.in_ok-release.ensures.harmless tells used c.in_ok-test_free.ensures.passed in
+    set_has (SetBlamesBroken s) c.from_residual-in_err-first.result _ c.from_residual-in_err-first.ensures.1
+    (set_read s a (of_take fault) (reads_same 22 s a c.value_blocks.ensures.at_most)
+    (lists_broken a (of_take fault) (lists_of_text a fault (blames_before a b strings_file fault harmless (c.in_err-first.ensures.damaged tells)))))
 
 pub returns-in_err-put-clause-damaged : goal.returns-in_err-put-clause-damaged
 returns-in_err-put-clause-damaged g c tells read =
     let s = g.S.Reads.state c.args.space.now in
-    let n = 22 + blocks_of c.args.value.now in
-    set_has (BlamesSet g.S.Reads.tells n s) c.from_residual-in_err-put.result _ c.from_residual-in_err-put.ensures.1 (set_of_space g.S.Reads.tells n s c.in_err-put.field-0.0)
+    set_has (SetBlamesBroken s) c.from_residual-in_err-put.result _ c.from_residual-in_err-put.ensures.1 (set_still_space s c.in_err-put.field-0.0)
 
 -- ---- what a refusal carries
 
@@ -155,29 +152,29 @@ returns-in_err-blocks-clause-still g c tells read =
     let s = g.S.Reads.state c.args.space.now in
     let t = g.S.Reads.state c.value_blocks.new.space in
     let fault = c.in_err-blocks.field-0.0 in
-    set_has (BlamesStill t) c.from_residual.result _ c.from_residual.ensures.1 (set_still_fault s t fault (text_blames s c.args.row.now.id fault (c.in_err-blocks.ensures.damaged tells read)) (reads_same 22 s t c.value_blocks.ensures.at_most))
+    set_has (SetBlamesBroken t) c.from_residual.result _ c.from_residual.ensures.1 (set_still_fault s t fault (text_blames s c.args.row.now.id fault (c.in_err-blocks.ensures.damaged tells read)) (reads_same 22 s t c.value_blocks.ensures.at_most))
 
 pub returns-in_err-test_free-clause-still : goal.returns-in_err-test_free-clause-still
 returns-in_err-test_free-clause-still g c tells read =
     let t = g.S.Reads.state c.value_blocks.new.space in
     let fault = c.in_err-test_free.field-0.0 in
-    set_has (BlamesStill t) c.from_residual-in_err-test_free.result _ c.from_residual-in_err-test_free.ensures.1
+    set_has (SetBlamesBroken t) c.from_residual-in_err-test_free.result _ c.from_residual-in_err-test_free.ensures.1
     (set_still_fault t t fault (subst (BlamesBroken t.records t.shape) (sym c.in_err-test_free.ensures.named) (strings_free t c.in_err-test_free.ensures.broken)) refl)
 
 pub returns-in_err-release-clause-still : goal.returns-in_err-release-clause-still
 returns-in_err-release-clause-still g c tells read =
     let t = g.S.Reads.state c.release.new.space in
-    set_has (BlamesStill t) c.from_residual-in_err-release.result _ c.from_residual-in_err-release.ensures.1 (set_still_space t c.in_err-release.field-0.0)
+    set_has (SetBlamesBroken t) c.from_residual-in_err-release.result _ c.from_residual-in_err-release.ensures.1 (set_still_space t c.in_err-release.field-0.0)
 
 pub returns-in_err-first-clause-still : goal.returns-in_err-first-clause-still
 returns-in_err-first-clause-still g c tells read =
     let t = g.S.Reads.state c.write_text.new.space in
-    set_has (BlamesStill t) c.from_residual-in_err-first.result _ c.from_residual-in_err-first.ensures.1 (set_still_take t c.in_err-first.field-0.0 (c.in_err-first.ensures.still tells))
+    set_has (SetBlamesBroken t) c.from_residual-in_err-first.result _ c.from_residual-in_err-first.ensures.1 (set_still_take t c.in_err-first.field-0.0 (c.in_err-first.ensures.still tells))
 
 pub returns-in_err-put-clause-still : goal.returns-in_err-put-clause-still
 returns-in_err-put-clause-still g c tells read =
     let t = g.S.Reads.state c.put.new.self in
-    set_has (BlamesStill t) c.from_residual-in_err-put.result _ c.from_residual-in_err-put.ensures.1 (set_still_space t c.in_err-put.field-0.0)
+    set_has (SetBlamesBroken t) c.from_residual-in_err-put.result _ c.from_residual-in_err-put.ensures.1 (set_still_space t c.in_err-put.field-0.0)
 
 -- ---- the first free block can't stand there
 
@@ -194,10 +191,9 @@ pub returns-in_err-test_free-clause-damaged : goal.returns-in_err-test_free-clau
 returns-in_err-test_free-clause-damaged g c tells read =
     let s = g.S.Reads.state c.args.space.now in
     let a = g.S.Reads.state c.value_blocks.new.space in
-    let n = 22 + blocks_of c.args.value.now in
     let bad = subst (λ (r : Records). ¬ IsLinkBelow (meta_in r strings_file).free (meta_in r strings_file).high) (reads_records 22 s a c.value_blocks.ensures.at_most) c.in_err-test_free.ensures.broken in
-    set_has (BlamesSet g.S.Reads.tells n s) c.from_residual-in_err-test_free.result _ c.from_residual-in_err-test_free.ensures.1
-    (set_of_fault g.S.Reads.tells n s c.in_err-test_free.field-0.0 (subst (BlamesBroken s.records s.shape) (sym c.in_err-test_free.ensures.named) (strings_free s bad)))
+    set_has (SetBlamesBroken s) c.from_residual-in_err-test_free.result _ c.from_residual-in_err-test_free.ensures.1
+    (set_still_fault s s c.in_err-test_free.field-0.0 (subst (BlamesBroken s.records s.shape) (sym c.in_err-test_free.ensures.named) (strings_free s bad)) refl)
 
 pub returns-in_err-test_free-clause-refused : goal.returns-in_err-test_free-clause-refused
 returns-in_err-test_free-clause-refused g c tells e held =

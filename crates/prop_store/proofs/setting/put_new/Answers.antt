@@ -5,9 +5,10 @@ use Rattle.rec_bytes.specs.Format.{properties_file}
 use Rattle.rec_bytes.specs.RecordFiles.{room_of}
 use Rattle.rec_bytes.specs.Space.{meta_of}
 use Rattle.prop_store.specs.SetFault.{IsSetCause, IsTextCause}
-use Rattle.prop_store.specs.Setting.{BlamesSet, BlamesStill, BlamesTaken}
-use Rattle.prop_store.proofs.Midway.{full_before, set_caused_space, set_caused_take, set_caused_text, set_has, set_still_space, set_still_take, take_still, set_of_space, set_of_take, property_take}
+use Rattle.prop_store.specs.Setting.{BlamesLists, SetBlamesBroken}
+use Rattle.prop_store.proofs.Midway.{full_before, set_caused_space, set_caused_take, set_caused_text, set_has, set_still_space, set_still_take, take_still, lists_of_space, lists_of_text, property_take}
 use Rattle.prop_store.proofs.PutSteps.{blocks_needed, property_put, take_put_fault}
+use Rattle.prop_store.proofs.PutLists.{put_harms_no_lists}
 use Rattle.prop_store.proofs.PutTouches.{touches_new, touches_text, touches_text_taken}
 use Rattle.prop_store.proofs.Touches.{touches_more, touches_same}
 use Rattle.prop_store.proofs.Causes.{later_on}
@@ -54,25 +55,38 @@ returns-clause-touches g c =
 pub returns-in_err-first-clause-damaged : goal.returns-in_err-first-clause-damaged
 returns-in_err-first-clause-damaged g c tells =
     let s = g.S.Reads.state c.args.space.now in
-    let n = blocks_of c.args.value.now in
-    let fault = c.in_err-first.field-0.0 in
-    set_has (BlamesSet g.S.Reads.tells n s) c.from_residual.result _ c.from_residual.ensures.1
-    (set_of_take g.S.Reads.tells n s fault (subst (λ m. BlamesTaken g.S.Reads.tells m s fault) (blocks_needed c.args.value.now c.long_bytes.result.now c.long_bytes.ensures.is) (c.in_err-first.ensures.damaged tells)))
+    set_has (BlamesLists s) c.from_residual.result _ c.from_residual.ensures.1 (lists_of_text s c.in_err-first.field-0.0 (c.in_err-first.ensures.damaged tells))
 
 pub returns-in_err-id-clause-damaged : goal.returns-in_err-id-clause-damaged
 returns-in_err-id-clause-damaged g c tells =
     let s = g.S.Reads.state c.args.space.now in
     let a = g.S.Reads.state c.write_text.new.space in
-    let n = blocks_of c.args.value.now in
-    let fault = c.in_err-id.field-0.0 in
-    set_has (BlamesSet g.S.Reads.tells n s) c.from_residual-in_err-id.result _ c.from_residual-in_err-id.ensures.1
-    (property_take s a (c.in_ok-first.ensures.beside tells) (g.met.S.Reads.onward_shape _ _ c.in_ok-first.ensures.onward) g.S.Reads.tells n fault (c.in_err-id.ensures.refused tells))
+    set_has (BlamesLists s) c.from_residual-in_err-id.result _ c.from_residual-in_err-id.ensures.1
+    (property_take s a (c.in_ok-first.ensures.beside tells) (g.met.S.Reads.onward_shape _ _ c.in_ok-first.ensures.onward) c.in_err-id.field-0.0 (c.in_err-id.ensures.refused tells))
 
 pub returns-in_err-put-clause-damaged : goal.returns-in_err-put-clause-damaged
 returns-in_err-put-clause-damaged g c tells =
     let s = g.S.Reads.state c.args.space.now in
-    let n = blocks_of c.args.value.now in
-    set_has (BlamesSet g.S.Reads.tells n s) c.from_residual-in_err-put.result _ c.from_residual-in_err-put.ensures.1 (set_of_space g.S.Reads.tells n s c.in_err-put.field-0.0)
+    set_has (BlamesLists s) c.from_residual-in_err-put.result _ c.from_residual-in_err-put.ensures.1 (lists_of_space s c.in_err-put.field-0.0)
+
+-- ---- what is left of the free lists
+
+pub returns-clause-harmless : goal.returns-clause-harmless
+returns-clause-harmless g c tells =
+    let s = g.S.Reads.state c.args.space.now in
+    let a = g.S.Reads.state c.write_text.new.space in
+    put_harms_no_lists s a (g.S.Reads.state c.take.new.space) (g.S.Reads.state c.put.new.self) c.in_ok-id.id c.args.key c.in_ok-first.first c.args.next c.args.value.now c.property_record.result c.requires c.property_record.ensures
+    (c.in_ok-first.ensures.harmless tells) (c.in_ok-first.ensures.beside tells) (g.met.S.Reads.onward_shape _ _ c.in_ok-first.ensures.onward) (c.in_ok-id.ensures.ok tells) c.in_ok-id.ensures.is (c.in_ok-id.ensures.undamaged tells)
+    (c.in_ok-id.ensures.fresh tells) c.in_ok-id.ensures.key.id c.in_ok-id.ensures.small c.in_ok-put.ensures.ok
+
+pub returns-in_err-first-clause-harmless : goal.returns-in_err-first-clause-harmless
+returns-in_err-first-clause-harmless g c _ = never_ok c.from_residual.result _ _ c.from_residual.ensures.1
+
+pub returns-in_err-id-clause-harmless : goal.returns-in_err-id-clause-harmless
+returns-in_err-id-clause-harmless g c _ = never_ok c.from_residual-in_err-id.result _ _ c.from_residual-in_err-id.ensures.1
+
+pub returns-in_err-put-clause-harmless : goal.returns-in_err-put-clause-harmless
+returns-in_err-put-clause-harmless g c _ = never_ok c.from_residual-in_err-put.result _ _ c.from_residual-in_err-put.ensures.1
 
 -- ---- what a refusal carries
 
@@ -109,19 +123,19 @@ returns-in_err-put-clause-caused g c tells =
 pub returns-in_err-first-clause-still : goal.returns-in_err-first-clause-still
 returns-in_err-first-clause-still g c tells =
     let t = g.S.Reads.state c.write_text.new.space in
-    set_has (BlamesStill t) c.from_residual.result _ c.from_residual.ensures.1 (set_still_take t c.in_err-first.field-0.0 (c.in_err-first.ensures.still tells))
+    set_has (SetBlamesBroken t) c.from_residual.result _ c.from_residual.ensures.1 (set_still_take t c.in_err-first.field-0.0 (c.in_err-first.ensures.still tells))
 
 pub returns-in_err-id-clause-still : goal.returns-in_err-id-clause-still
 returns-in_err-id-clause-still g c tells =
     let a = g.S.Reads.state c.write_text.new.space in
     let t = g.S.Reads.state c.take.new.space in
     let fault = c.in_err-id.field-0.0 in
-    set_has (BlamesStill t) c.from_residual-in_err-id.result _ c.from_residual-in_err-id.ensures.1 (set_still_take t fault (take_still a t fault (c.in_err-id.ensures.damaged tells) c.in_err-id.ensures.err))
+    set_has (SetBlamesBroken t) c.from_residual-in_err-id.result _ c.from_residual-in_err-id.ensures.1 (set_still_take t fault (take_still a t fault (c.in_err-id.ensures.damaged tells) c.in_err-id.ensures.err))
 
 pub returns-in_err-put-clause-still : goal.returns-in_err-put-clause-still
 returns-in_err-put-clause-still g c tells =
     let t = g.S.Reads.state c.put.new.self in
-    set_has (BlamesStill t) c.from_residual-in_err-put.result _ c.from_residual-in_err-put.ensures.1 (set_still_space t c.in_err-put.field-0.0)
+    set_has (SetBlamesBroken t) c.from_residual-in_err-put.result _ c.from_residual-in_err-put.ensures.1 (set_still_space t c.in_err-put.field-0.0)
 
 pub returns-in_err-put-clause-cause : goal.returns-in_err-put-clause-cause
 returns-in_err-put-clause-cause g c =

@@ -1,5 +1,5 @@
 use Rattle.std.specs.Prelude.{Result, Ok, Err, IfOk}
-use Rattle.std.proofs.Common.{◌≡◌, ◌+◌, ◌<◌, ℕ, List, ◌∷◌, [], length, sym, ap, ◌∙◌, subst, arith, rules}
+use Rattle.std.proofs.Common.{◌≡◌, ◌+◌, ◌<◌, ℕ, List, ◌∷◌, [], length, sym, ap, ◌∙◌, subst, arith, refl, rules}
 use Rattle.std.proofs.lemmas.Result.{IfErr-weaker, IfOk-weaker, err_from_is_err_and}
 use Rattle.plain_graph.specs.Properties.{blocks_of}
 use Rattle.rec_bytes.specs.Format.{property_key, property_next}
@@ -13,7 +13,7 @@ use Rattle.prop_store.specs.Dropping.{IsHeld}
 use Rattle.prop_store.specs.PropertyRow.{IsReadRow}
 use Rattle.prop_store.specs.Finding.{FoundAt, IsCrowded, IsMet, IsPlaced, IsReadAt, IsSought, LacksMet}
 use Rattle.prop_store.specs.SetFault.{IsSetCause}
-use Rattle.prop_store.specs.Setting.{BlamesSet, BlamesStill, IsPutFault, PutsProperty}
+use Rattle.prop_store.specs.Setting.{SetBlamesBroken, IsPutFault, PutsProperty}
 use Rattle.prop_store.specs.Touching.{TouchesProperties}
 use Rattle.prop_store.specs.declared.set_fault.SetFault.{SetFault}
 use Rattle.prop_store.specs.declared.set_fault.SetFault.TheVariants.{PropsFull}
@@ -22,7 +22,7 @@ use Rattle.prop_store.proofs.ElementChanges.{has_properties, owns_read}
 use Rattle.prop_store.proofs.ElementGraphs.{owns_listed, refusal_graph, sets_graph}
 use Rattle.prop_store.proofs.ElementParts.{held_same, held_spot}
 use Rattle.prop_store.proofs.ElementSets.{next_leads, no_other_blocks, put_read_fault, puts_read, read_refusal, refusal_read, sets_read, value_replaced}
-use Rattle.prop_store.proofs.Midway.{set_caused_fault, set_caused_more, set_has, set_of_fault, set_read, set_still_fault}
+use Rattle.prop_store.proofs.Midway.{set_caused_fault, set_caused_more, set_has, set_read, set_still_fault}
 use Rattle.prop_store.proofs.ReadCounts.{reads_records, reads_same, same_then}
 use Rattle.prop_store.proofs.Touches.{touches_after, touches_beside, touches_more, touches_reads}
 use Rattle.prop_store.proofs.WriteCounts.{beside_writes, touched_beside}
@@ -218,25 +218,22 @@ returns-in-Found-clause-writes g c =
 pub returns-in_err-count-clause-damaged : goal.returns-in_err-count-clause-damaged
 returns-in_err-count-clause-damaged g c tells used =
     let s = g.S.Reads.state c.args.space.now in
-    let n = 22 + blocks_of c.args.value.now in
-    set_has (BlamesSet g.S.Reads.tells n s) c.from_residual.result _ c.from_residual.ensures.1 (set_of_fault g.S.Reads.tells n s c.in_err-count.field-0.0 (c.in_err-count.ensures.damaged tells used))
+    set_has (SetBlamesBroken s) c.from_residual.result _ c.from_residual.ensures.1 (set_still_fault s s c.in_err-count.field-0.0 (c.in_err-count.ensures.damaged tells used) refl)
 
 pub returns-in_err-add-in-Absent-clause-damaged : goal.returns-in_err-add-in-Absent-clause-damaged
 returns-in_err-add-in-Absent-clause-damaged g c tells used =
     let s = g.S.Reads.state c.args.space.now in
     let z = g.S.Reads.state c.find.new.space in
-    let n = blocks_of c.args.value.now in
     let fault = c.in_err-add-in-Absent.field-0.0 in
-    set_has (BlamesSet g.S.Reads.tells (22 + n) s) c.from_residual-in_err-add-in-Absent.result fault c.from_residual-in_err-add-in-Absent.ensures.1
-    (set_read g.S.Reads.tells n (22 + n) s z fault (omega arith) (reads_same 33 s z c.find.ensures.at_most) (c.in_err-add-in-Absent.ensures.damaged tells))
+    set_has (SetBlamesBroken s) c.from_residual-in_err-add-in-Absent.result fault c.from_residual-in_err-add-in-Absent.ensures.1
+    (set_read s z fault (reads_same 33 s z c.find.ensures.at_most) (c.in_err-add-in-Absent.ensures.damaged tells))
 
 pub returns-in-Found-clause-damaged : goal.returns-in-Found-clause-damaged
 returns-in-Found-clause-damaged g c tells used =
     let s = g.S.Reads.state c.args.space.now in
     let z = g.S.Reads.state c.find.new.space in
-    let n = 22 + blocks_of c.args.value.now in
     let read = subst (λ (r : Records). IsReadRow r c.in-Found.spot.row) (sym (reads_records 33 s z c.find.ensures.at_most)) (subst (IsReadAt s.records) c.in-Found.is (c.in_ok-count.ensures.read tells)) in
-    IfErr-weaker c.put_again.result (BlamesSet g.S.Reads.tells n z) (BlamesSet g.S.Reads.tells n s) (λ fault why. set_read g.S.Reads.tells n n s z fault (omega arith) (same g c) why) (c.put_again.ensures.damaged tells read)
+    IfErr-weaker c.put_again.result (SetBlamesBroken z) (SetBlamesBroken s) (λ fault why. set_read s z fault (same g c) why) (c.put_again.ensures.damaged tells read)
 
 -- ---- what a refusal carries
 
@@ -285,12 +282,12 @@ pub returns-in_err-count-clause-still : goal.returns-in_err-count-clause-still
 returns-in_err-count-clause-still g c tells used =
     let s = g.S.Reads.state c.args.space.now in
     let t = g.S.Reads.state c.find.new.space in
-    set_has (BlamesStill t) c.from_residual.result _ c.from_residual.ensures.1 (set_still_fault s t c.in_err-count.field-0.0 (c.in_err-count.ensures.damaged tells used) (reads_same 33 s t c.find.ensures.at_most))
+    set_has (SetBlamesBroken t) c.from_residual.result _ c.from_residual.ensures.1 (set_still_fault s t c.in_err-count.field-0.0 (c.in_err-count.ensures.damaged tells used) (reads_same 33 s t c.find.ensures.at_most))
 
 pub returns-in_err-add-in-Absent-clause-still : goal.returns-in_err-add-in-Absent-clause-still
 returns-in_err-add-in-Absent-clause-still g c tells used =
     let t = g.S.Reads.state c.add.new.space in
-    set_has (BlamesStill t) c.from_residual-in_err-add-in-Absent.result c.in_err-add-in-Absent.field-0.0 c.from_residual-in_err-add-in-Absent.ensures.1 (c.in_err-add-in-Absent.ensures.still tells)
+    set_has (SetBlamesBroken t) c.from_residual-in_err-add-in-Absent.result c.in_err-add-in-Absent.field-0.0 c.from_residual-in_err-add-in-Absent.ensures.1 (c.in_err-add-in-Absent.ensures.still tells)
 
 pub returns-in-Found-clause-still : goal.returns-in-Found-clause-still
 returns-in-Found-clause-still g c tells used =

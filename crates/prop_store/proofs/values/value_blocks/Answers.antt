@@ -2,6 +2,7 @@ use Rattle.std.proofs.Common.{sym, subst, ◌∙◌, arith}
 use Rattle.rec_bytes.specs.Format.{strings_file}
 use Rattle.store_rules.specs.Chains.{In}
 use Rattle.store_rules.specs.Views.{rec_at}
+use Rattle.prop_store.specs.Blocks.{AreUsedOnce}
 use Rattle.prop_store.proofs.Breaches.{text_of_row}
 use Rattle.prop_store.proofs.Meanings.{none_if_short}
 use Rattle.prop_store.proofs.ReadCounts.{reads_none}
@@ -26,6 +27,9 @@ returns-in-Long-clause-leads g c tells read =
 
 pub returns-in_default-clause-leads : goal.returns-in_default-clause-leads
 returns-in_default-clause-leads g c tells read b i = elim (subst (In b) c.new.ensures i) [ ]
+
+pub returns-in_default-clause-once : goal.returns-in_default-clause-once
+returns-in_default-clause-once g c tells = subst (AreUsedOnce (g.R.Reads.state c.args.space.now).records) (sym c.new.ensures) (record { once = tt; used = λ b i. elim i [ ] })
 
 pub returns-in_default-clause-cause : goal.returns-in_default-clause-cause
 returns-in_default-clause-cause g c = ok_cause _ _ _ _ (omega arith)
