@@ -22,7 +22,8 @@ use Rattle.txn_core.specs.declared.open_fault.OpenFault.{OpenFault}
 use Rattle.txn_core.specs.declared.open_fault.OpenFault.TheVariants as opening
 use Rattle.follower.specs.Follower.{Answers, IsNextFor, IsOpened, IsUnchanged, IsUnopened, LeavesByOpening, Reopens, View}
 use Rattle.follower.specs.Running.{Event, Opens, Fails, Comes, Reopens_as, Stops, Stops_inside, FollowsAlways, IsBlamedAgain, IsBlamedRightly, IsSound, May, Run, World, after, answered, came, found, found_again, start_of, AcceptsAt, ReopensAt}
-use Rattle.follower.specs.Sent.{FollowsSent, HoldsSent, IsSent, FitsTold, IsZeros, Told, nothing_told}
+use Rattle.stored_graph.specs.Stands.{IsZeros}
+use Rattle.follower.specs.Sent.{FollowsSent, HoldsSent, IsSent, FitsTold, Told, nothing_told}
 use Rattle.follower.specs.Taken.{follower_records, number_in, taken}
 use Rattle.follower.specs.declared.accept.Accept.{Accept}
 use Rattle.follower.specs.declared.accept.Accept.TheVariants.{Applied, Bad, Disk, Gap, Memory, Old}

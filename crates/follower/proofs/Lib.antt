@@ -1,5 +1,6 @@
 pub mod Accepts
 pub mod Applies
+pub mod Ascending
 pub mod Beginnings
 pub mod Completing
 pub mod Following

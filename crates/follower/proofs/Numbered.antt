@@ -14,7 +14,8 @@ use Rattle.rec_bytes.proofs.Spaces.{laid_over-other}
 use Rattle.store_rules.specs.Indexes.{IsIndexed}
 use Rattle.store_rules.proofs.NewStores.{new_store_empty}
 use Rattle.store_rules.proofs.NumberedStores.{graph-numbered, indexed_numbered}
-use Rattle.follower.specs.Sent.{HoldsSent, IsSent, StandsFor, sent_graph}
+use Rattle.stored_graph.specs.Stands.{StandsFor}
+use Rattle.follower.specs.Sent.{HoldsSent, IsSent, sent_graph}
 use Rattle.txn_core.specs.Shipped.{is_shipped, taken_key}
 use Rattle.follower.specs.Shipment.{Ascend, writes_of}
 use Rattle.follower.specs.Taken.{follower_records, number_record, sender_records}

@@ -1,26 +1,24 @@
 -- What an opening finds on a follower's disk, and what it leaves.
-use Rattle.std.proofs.Common.{◌≡◌, ◌∙◌, ap, sym, subst, inl, inr, ⊎_elim, ℕ, zero, suc, ◌+◌, ◌*◌, ◌<◌, ◌≤◌, Bool, true, false, cond, List, ◌∷◌, Option, None, Some, length, replicate, refl, arith, unwrap_or}
-use Rattle.disk_model.specs.Contents.{Files, bytes_from}
+use Rattle.std.proofs.Common.{◌≡◌, ◌∙◌, ap, sym, subst, inl, inr, ⊎_elim, ℕ, ◌≤◌, List, Option, None, Some, length, refl, unwrap_or}
+use Rattle.disk_model.specs.Contents.{Files}
 use Rattle.rec_bytes.specs.declared.key.Key.{Key}
 use Rattle.rec_bytes.specs.declared.record.Rec.{Rec}
 use Rattle.rec_bytes.specs.declared.shape.Shape.{Shape}
 use Rattle.rec_bytes.specs.Creation.{creation_pairs, own_key, raised}
-use Rattle.rec_bytes.specs.Format.{default_limit, default_threshold, meta_records, newest_version}
-use Rattle.rec_bytes.specs.RecordFiles.{is_record_file, meta_key_of}
-use Rattle.rec_bytes.specs.Record.{zeros}
-use Rattle.rec_bytes.specs.Shape.{shape_of_record, version_of}
+use Rattle.rec_bytes.specs.Format.{default_limit, default_threshold}
+use Rattle.rec_bytes.specs.Shape.{shape_of_record}
 use Rattle.rec_bytes.specs.Space.{laid_over}
-use Rattle.recovery.specs.Finding.{HasMetaRight, IsMade}
-use Rattle.record_file.specs.Records.{record_at}
+use Rattle.recovery.specs.Finding.{IsMade}
 use Rattle.record_file.specs.Redone.{Redoes}
-use Rattle.store_rules.specs.Ranges.{AreInRange}
+use Rattle.stored_graph.specs.Stands.{IsZeros}
+use Rattle.stored_graph.proofs.Versions.{newest-made, newest-not_old, newest-raised}
+use Rattle.stored_graph.proofs.Zeros.{zeros-records, zeros-unmade}
 use Rattle.txn_core.specs.Again.{IsOld}
 use Rattle.txn_core.specs.Config.{IsAsked, Suits, shape_of}
 use Rattle.txn_core.specs.Opening.{IsOldOrNew, IsOldOrRaised, Opens, made_over}
 use Rattle.txn_core.specs.declared.config.Config.{Config}
 use Rattle.txn_core.proofs.Finding.{none_made, redoes_unique}
-use Rattle.txn_core.proofs.Raising.{raised_newest}
-use Rattle.follower.specs.Sent.{HoldsSent, IsBlank, IsSent, IsZeros}
+use Rattle.follower.specs.Sent.{HoldsSent, IsBlank, IsSent}
 use Rattle.follower.specs.Taken.{follower_records}
 use Rattle.follower.proofs.Numbered.{follower_well}
 use Rattle.follower.proofs.Taking.{follower_records-none}
@@ -38,38 +36,15 @@ suits_itself config = (asked_else config.threshold default_threshold, asked_else
 
 -- ---- a follower's records are a store of the newest version
 
--- recovery finds the store whose records are in range
-module _ (space : Key → Rec) (shape : Shape) (are : AreInRange space shape) where
-  not_old : ¬ IsOld space
-  not_old old = let newest : version_of (space own_key) ≡ newest_version = are.newest in omega (arith, old, newest)
-
-  metas_right : (id : ℕ) → id < meta_records → HasMetaRight space shape id
-  metas_right zero low = tt
-  metas_right (suc zero) low = are.metas 1 refl
-  metas_right (suc (suc zero)) low = are.metas 2 refl
-  metas_right (suc (suc (suc zero))) low = are.metas 3 refl
-  metas_right (suc (suc (suc (suc zero)))) low = are.metas 4 refl
-  metas_right (suc (suc (suc (suc (suc zero))))) low = are.metas 5 refl
-  metas_right (suc (suc (suc (suc (suc (suc zero)))))) low = are.metas 6 refl
-  metas_right (suc (suc (suc (suc (suc (suc (suc zero))))))) low = are.taken
-  metas_right (suc (suc (suc (suc (suc (suc (suc (suc zero)))))))) low = record { before = λ old. absurd (not_old old); since = λ newest. are.metas 8 refl }
-  metas_right (suc (suc (suc (suc (suc (suc (suc (suc (suc k))))))))) low = absurd (omega (arith, low))
-
-  made : IsMade space shape
-  made = record { own = are.own; metas = metas_right }
-
-  raised_same : raised shape space ≡ space
-  raised_same = let newest : version_of (space own_key) ≡ newest_version = are.newest in raised_newest shape space (omega (arith, newest))
-
 module _ (shape : Shape) (sent : List (List ℕ)) (j : ℕ) (is : IsSent shape sent) (below : j ≤ length sent) where
   pub follower_made : IsMade (follower_records shape sent j) shape
-  follower_made = made (follower_records shape sent j) shape (follower_well shape sent j is below).store.ranges
+  follower_made = newest-made (follower_records shape sent j) shape (follower_well shape sent j is below).store.ranges
 
   pub follower_not_old : ¬ IsOld (follower_records shape sent j)
-  follower_not_old = not_old (follower_records shape sent j) shape (follower_well shape sent j is below).store.ranges
+  follower_not_old = newest-not_old (follower_records shape sent j) shape (follower_well shape sent j is below).store.ranges
 
   pub follower_raised : raised shape (follower_records shape sent j) ≡ follower_records shape sent j
-  follower_raised = raised_same (follower_records shape sent j) shape (follower_well shape sent j is below).store.ranges
+  follower_raised = newest-raised (follower_records shape sent j) shape (follower_well shape sent j is below).store.ranges
 
   -- an opening leaves the same records
   pub left_redoes : (left : Files) → IsOldOrRaised shape (follower_records shape sent j) left → Redoes left (follower_records shape sent j)
@@ -77,26 +52,8 @@ module _ (shape : Shape) (sent : List (List ℕ)) (j : ℕ) (is : IsSent shape s
 
 -- ---- a disk of zeros
 
-bytes_of_zeros : (file : ℕ → ℕ) (place n : ℕ) → ((place : ℕ) → file place ≡ 0) → bytes_from file place n ≡ replicate n 0
-bytes_of_zeros file place zero all = refl
-bytes_of_zeros file place (suc n) all = ap (λ (b : ℕ). b ∷ bytes_from file (place + 1) n) (all place) ∙ ap (λ (bs : List ℕ). 0 ∷ bs) (bytes_of_zeros file (place + 1) n all)
-
-zero_record : (content : Files) (key : Key) → IsZeros content → record_at content key ≡ zeros
-unfolding record_at
-zero_record content key all = by (is_record_file key.file)
-  where
-    by : (is : Bool) → cond is (record { bytes = bytes_from (content key.file) (64 * key.id) 64 }) zeros ≡ zeros
-    by true = ap (λ (bs : List ℕ). record { bytes = bs }) (bytes_of_zeros (content key.file) (64 * key.id) 64 (all key.file))
-    by false = refl
-
 pub zeros_blank : (content : Files) → IsZeros content → IsBlank content
-zeros_blank content all = record {
-  unmade = record {
-    log = (refl, λ open_gate. let e : 0 ≡ 1 = sym (all 7 0) ∙ open_gate in omega (arith, e));
-    blank = λ id low. zero_record content (meta_key_of id) all;
-  };
-  records = λ i key. zero_record content key all i;
-}
+zeros_blank content all = record { unmade = zeros-unmade content all; records = zeros-records content all }
 
 -- ---- what an opening finds
 

@@ -2,9 +2,7 @@
 use Rattle.std.specs.Prelude.{◌≡◌, ◌⊎◌, ℕ, ◌+◌, ◌≤◌, ◌<◌, ◌^◌, List, Some, length}
 use Rattle.std.specs.List.{slice_get}
 use Rattle.disk_model.specs.Contents.{Files}
-use Rattle.plain_graph.specs.Graph.{Graph, empty_graph}
-use Rattle.rec_bytes.specs.declared.key.Key.{Key}
-use Rattle.rec_bytes.specs.declared.record.Rec.{Rec}
+use Rattle.plain_graph.specs.Graph.{Graph}
 use Rattle.rec_bytes.specs.declared.shape.Shape.{Shape}
 use Rattle.rec_bytes.specs.Space.{blank_records}
 use Rattle.record_file.specs.Records.{IsUnmade, record_at}
@@ -26,24 +24,6 @@ pub record IsSent (shape : Shape) (sent : List (List ℕ)) : Type 0 where
 -- the sender's graph after its first transactions, so many of them
 abbrev pub sent_graph : Shape → List (List ℕ) → ℕ → Graph
 sent_graph shape sent j = graph_of (sender_records shape sent j)
-
--- The entries of the log, laid over the records of the files, make a store of this shape, of
--- the newest version, that keeps all rules and whose graph this is.
-pub record IsServed (content : Files) (shape : Shape) (graph : Graph) : Type 0 where
-  pub space : Key → Rec
-  pub redoes : Redoes content space
-  pub store : IsIndexed space shape
-  pub graph_is : graph ≡ graph_of space
-
--- the content stands for this graph, under this shape; one in which no store was made stands for
--- the empty graph
-abbrev pub StandsFor : Files → Shape → Graph → Type 0
-StandsFor content shape graph =
-    (IsUnmade content × (graph ≡ empty_graph)) ⊎ IsServed content shape graph
-
--- each byte of the content is zero
-abbrev pub IsZeros : Files → Type 0
-IsZeros content = (file place : ℕ) → content file place ≡ 0
 
 -- the content is that of a disk on which no follower's store was made yet
 pub record IsBlank (content : Files) : Type 0 where

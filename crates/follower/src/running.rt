@@ -1,10 +1,11 @@
 ghost use Rattle.std.specs.Prelude.{◌≡◌, ◌<◌, ◌≤◌, ◌^◌, ℕ, List, length};
 ghost use Rattle.disk_model.specs.Contents.{Files};
 ghost use Rattle.rec_bytes.specs.declared.shape.Shape.{Shape as AShape};
+ghost use Rattle.stored_graph.specs.Stands.{IsZeros, StandsFor};
 ghost use Rattle.txn_core.specs.Config.{shape_of};
 ghost use Rattle.txn_core.specs.declared.config.Config.{Config as AConfig};
 ghost use Rattle.follower.specs.Running.{Event, FollowsAlways, IsSound, May, Run, World, start_of};
-ghost use Rattle.follower.specs.Sent.{HoldsSent, IsSent, IsZeros, StandsFor, sent_graph};
+ghost use Rattle.follower.specs.Sent.{HoldsSent, IsSent, sent_graph};
 ghost use Rattle.follower.specs.Taken.{follower_records, number_in};
 
 use disk_model::Disk;

@@ -13,7 +13,7 @@ use Rattle.graph_session.specs.SharedExchange.{TakesSharedStep}
 use Rattle.graph_session.specs.SnapshotEffects.{SharedView}
 use Rattle.graph_session.specs.Snapshots.{SharedState}
 use Rattle.graph_session.specs.Stands.{IsAdmittedByEither}
-use Rattle.graph_console.specs.Run.{ComesBy, IsAdmittedInRun, Run}
+use Rattle.graph_console.specs.Run.{ComesBy, IsAdmittedInRun, Run, shared_course}
 use Rattle.graph_console.proofs.Runs.{Carries, run_on}
 
 -- The session is at the state that the run has come to. At each moment since the start a crash left a content from before, or one
@@ -34,7 +34,7 @@ module _ (tells : Type 0) (first : SharedState) (run : List Exchange) (middle : 
     later = by.later ++ x ∷ [];
     run_is = ap (λ (xs : List Exchange). xs ++ x ∷ []) by.run_is ∙ append_assoc by.before by.later (x ∷ []);
     leads = by.leads;
-    goes_on = run_on tells state middle last by.later x by.goes_on step;
+    goes_on = run_on (TakesSharedStep tells) state middle last by.later x by.goes_on step;
   }
 
   admitted_on : (content : Files) → IsAdmittedInRun tells first run middle content → IsAdmittedInRun tells first (run ++ x ∷ []) last content
@@ -42,7 +42,7 @@ module _ (tells : Type 0) (first : SharedState) (run : List Exchange) (middle : 
 
   admitted_either : Run tells first run middle → (content : Files) → IsAdmittedByEither middle.writer last.writer content → IsAdmittedInRun tells first (run ++ x ∷ []) last content
   admitted_either steps content (inl a) = (middle, comes_by_on middle (ends_by tells first run middle steps), a)
-  admitted_either steps content (inr a) = (last, ends_by tells first (run ++ x ∷ []) last (run_on tells first middle last run x steps step), a)
+  admitted_either steps content (inr a) = (last, ends_by tells first (run ++ x ∷ []) last (run_on (TakesSharedStep tells) first middle last run x steps step), a)
 
 -- a turn carries on what a crash leaves
 module _ {D : Type 0} {g : Ghosts D} {start old : SharedView D} (new : SharedView D) {first : SharedState} {run : List Exchange} {state : SharedState} (steps : Run g.tells_reads first run state) (so_far : IsAtSince g start old first run state) where
@@ -61,7 +61,7 @@ module _ {D : Type 0} {g : Ghosts D} {start old : SharedView D} (new : SharedVie
             (λ content h. inr (turn content h));
       }
 
-  pub carries : Carries g.tells_reads run state (SharedComesTo g old new state) (IsAtSince g start new first)
+  pub carries : Carries (shared_course g.tells_reads) run state (SharedComesTo g old new state) (IsAtSince g start new first)
   carries = record {
     on = λ x last step comes. carried (run ++ x ∷ []) last (admitted_on g.tells_reads first run state x last step) (admitted_either g.tells_reads first run state x last step steps) comes;
     stays = λ comes. carried run state (λ content a. a) (λ content h. (state, ends_by g.tells_reads first run state steps, ⊎_elim (λ a. a) (λ a. a) h)) comes;

@@ -9,10 +9,11 @@ use Rattle.rec_bytes.specs.declared.key.Key.{Key}
 use Rattle.rec_bytes.specs.declared.record.Rec.{Rec}
 use Rattle.rec_bytes.specs.declared.shape.Shape.{Shape}
 use Rattle.record_file.specs.Redone.{Redoes}
+use Rattle.stored_graph.specs.Stands.{IsZeros}
 use Rattle.txn_core.specs.Config.{shape_of}
 use Rattle.txn_core.specs.declared.config.Config.{Config}
 use Rattle.follower.specs.Follower.{HasApplied, IsNextFor, IsOpened, IsUnchanged, View}
-use Rattle.follower.specs.Sent.{IsSent, IsZeros}
+use Rattle.follower.specs.Sent.{IsSent}
 use Rattle.follower.specs.Shipment.{number_of}
 use Rattle.follower.specs.Taken.{follower_records, number_in, taken}
 use Rattle.follower.proofs.Standing.{opens_as, zeros_blank}

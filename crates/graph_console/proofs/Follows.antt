@@ -7,15 +7,15 @@ use Rattle.plain_graph.specs.Counts.{counts_of}
 use Rattle.plain_graph.specs.Graph.{Graph}
 use Rattle.plain_graph.specs.Lines.{counts_text}
 use Rattle.plain_graph.specs.Reply.{NoMemory as WantOfMemory, fault_line, text_line}
+use Rattle.stored_graph.specs.Stands.{Stands}
+use Rattle.stored_graph.proofs.Stands.{newest-stands}
 use Rattle.console_words.specs.declared.sample_options.SampleOptions.{SampleOptions}
 use Rattle.rec_bytes.specs.declared.shape.Shape.{Shape}
 use Rattle.record_file.specs.Redone.{Redoes}
 use Rattle.txn_core.specs.Config.{shape_of}
-use Rattle.follower.specs.Sent.{IsSent, StandsFor, sent_graph}
+use Rattle.follower.specs.Sent.{IsSent, sent_graph}
 use Rattle.follower.specs.Taken.{follower_records}
 use Rattle.follower.proofs.Numbered.{taken_stands}
-use Rattle.graph_session.specs.Stands.{Stands}
-use Rattle.graph_session.proofs.Stands.{served-made}
 use Rattle.graph_console.specs.Follow.{EndsFollow, Follows, all_delivered, delivered_line}
 use Rattle.graph_console.specs.Following.{SendsSample}
 use Rattle.graph_console.specs.Program.{Writes}
@@ -50,11 +50,7 @@ ends_follow tells options text old new exit ends (inr fails) = let written : Lis
 
 -- a disk with all shipments of a sender stands for the sender's graph
 all_stands : (shape : Shape) (sent : List (List ℕ)) (content : Files) → IsSent shape sent → Redoes content (follower_records shape sent (length sent)) → Stands content shape (sent_graph shape sent (length sent))
-all_stands shape sent content is redoes = by (taken_stands shape sent (length sent) content is (omega arith) (inl redoes))
-  where
-    by : StandsFor content shape (sent_graph shape sent (length sent)) → Stands content shape (sent_graph shape sent (length sent))
-    by (inl unmade) = inl unmade
-    by (inr served) = inr (served-made content shape (sent_graph shape sent (length sent)) (record { space = served.space; redoes = served.redoes; store = served.store; graph_is = served.graph_is }))
+all_stands shape sent content is redoes = newest-stands content shape (sent_graph shape sent (length sent)) (taken_stands shape sent (length sent) content is (omega arith) (inl redoes))
 
 -- what comes of the deliveries, and the counts of the follower's graph, where the disk has all shipments
 pub follow_text : (tells : Type 0) (options : SampleOptions) (x : ℕ) (sent : List (List ℕ)) (delivered : Delivered) (content : Files) (text : List ℕ) → SendsSample tells options x sent

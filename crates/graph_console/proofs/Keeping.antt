@@ -7,15 +7,16 @@ use Rattle.disk_model.proofs.Spans.{CountsNow, OnlyNow, at_each_moment_now}
 use Rattle.plain_graph.specs.Graph.{Graph, empty_graph}
 use Rattle.rec_bytes.specs.declared.shape.Shape.{Shape}
 use Rattle.record_file.specs.Records.{IsUnmade}
+use Rattle.stored_graph.specs.Stands.{Stands}
+use Rattle.stored_graph.proofs.Stands.{Stands-only, stands-recoverable}
 use Rattle.txn_core.specs.Config.{shape_of}
 use Rattle.txn_core.specs.Opening.{IsOldOrRaised, IsStore}
 use Rattle.txn_core.specs.declared.config.Config.{Config}
 use Rattle.console_words.specs.declared.run_options.RunOptions.{RunOptions}
 use Rattle.graph_session.specs.Opening.{LeavesOldOrSame}
 use Rattle.graph_session.specs.Snapshots.{SharedState}
-use Rattle.graph_session.specs.Stands.{IsAdmitted, Stands}
+use Rattle.graph_session.specs.Stands.{IsAdmitted}
 use Rattle.graph_session.proofs.Openings.{redone-made, store-shape}
-use Rattle.graph_session.proofs.Stands.{Stands-only, stands-recoverable}
 use Rattle.graph_console.specs.Lives.{Event, Happen, IsKept, IsLeft, May, MayHave, Refuses, Runs, Stops, Stops_inside, World, after, start_of}
 use Rattle.graph_console.specs.Program.{StartsRun, config_for}
 use Rattle.graph_console.specs.Run.{IsAdmittedInRun}

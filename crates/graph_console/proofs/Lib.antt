@@ -1,4 +1,5 @@
 pub mod Admitted
+pub mod AnyDisk
 mod AskedFor
 mod Events
 mod Delivered
@@ -8,12 +9,14 @@ mod Follows
 pub mod Histories
 pub mod Keeping
 pub mod LineLaws
+pub mod Lossless
 pub mod Opened
 mod Recorded
 pub mod Restarts
 pub mod Runs
 mod SampleStores
 mod Samples
+mod SentRecords
 mod SentTurns
 pub mod SharedSteps
 mod Stats

@@ -21,7 +21,7 @@ use Rattle.graph_session.specs.State.{State}
 use Rattle.graph_session.proofs.Openings.{opens_admitted}
 use Rattle.graph_console.specs.Program.{HoldsGraph, Refuses, RunTo, Serves, Terms, Writes, config_for, terms_for, terms_from, usage_line}
 use Rattle.graph_console.specs.Unopened.{EndsUnopened, IsUnopenedExit, exit_of, line_of}
-use Rattle.graph_console.specs.Run.{IsAdmittedInRun, Run, begins_with}
+use Rattle.graph_console.specs.Run.{Course, IsAdmittedInRun, Run, RunBy, begins_with}
 use Rattle.graph_console.specs.declared.exit.Exit.{Exit}
 use Rattle.graph_console.specs.declared.exit.Exit.TheVariants as exits
 use Rattle.graph_console.proofs.Runs.{counts_within}
@@ -43,10 +43,10 @@ leaves_from g old opened new first run last steps opening opens serving =
     (λ content h. ⊎_elim (λ o. inr (admitted_first g.tells_reads first run last steps content (opens content o))) (λ a. inr a) h)
 
 -- what is served on terms is served on wider ones
-module _ (tells : Type 0) (terms wider : Terms tells) (begins : (state : SharedState) → terms.starts state → wider.starts state)
-    (closes : (first : SharedState) (run : List Exchange) (last : SharedState) → terms.starts first → Run tells first run last → terms.ends first run last → wider.ends first run last)
+module _ {V : Type 0} {course : Course V} (terms wider : Terms course) (begins : (state : V) → terms.starts state → wider.starts state)
+    (closes : (first : V) (run : List Exchange) (last : V) → terms.starts first → RunBy course.step first run last → terms.ends first run last → wider.ends first run last)
     (refuses : (why : OpenFault) → terms.unopened why → wider.unopened why) where
-  runs_wider : (P : List Exchange → SharedState → Type 0) → RunTo terms P → RunTo wider P
+  runs_wider : (P : List Exchange → V → Type 0) → RunTo terms P → RunTo wider P
   runs_wider P r = record {
     first = r.first;
     begins = begins r.first r.begins;
@@ -60,7 +60,7 @@ module _ (tells : Type 0) (terms wider : Terms tells) (begins : (state : SharedS
   ends_wider : (exit : Exit) (written : List ℕ) → EndsUnopened terms.unopened exit written → EndsUnopened wider.unopened exit written
   ends_wider exit written e = (e.0, refuses e.0 e.1, e.2, e.3)
 
-  serves_wider : (exit : Exit) (input left written : List ℕ) → Serves terms exit input left written → Serves wider exit input left written
+  pub serves_wider : (exit : Exit) (input left written : List ℕ) → Serves terms exit input left written → Serves wider exit input left written
   serves_wider exits.Done input left written s = runs_wider _ s
   serves_wider exits.StoreFailed input left written s = runs_wider _ s
   serves_wider exits.Usage input left written s = absurd s
@@ -81,7 +81,7 @@ pub serves_opened : {D : Type 0} (g : Ghosts D) (options : RunOptions) (old : D)
 serves_opened g options old session new leaves later holds state starts is_at exit old_taken new_taken input left w = (
   w.0,
   w.1,
-  serves_wider g.tells_reads (terms_from g (begins_with state) session.disk new) (terms_for g options old new)
+  serves_wider (terms_from g (begins_with state) session.disk new) (terms_for g options old new)
       (λ first is. subst (λ (s : SharedState). (terms_for g options old new).starts s) (sym is) (record { writer = starts; readers = refl }))
       (λ first run last is steps ends. record {
         durable = ends.durable;
@@ -99,7 +99,7 @@ serves_opened g options old session new leaves later holds state starts is_at ex
 abbrev WritesLine : List ℕ → Exit → Exit → List ℕ → List ℕ → Type 0
 WritesLine line exit result old new = ((result ≡ exit) × (new ≡ old ++ line)) ⊎ ((result ≡ exits.OutputFault) × TakesFront old new line)
 
-module _ (tells : Type 0) (terms : Terms tells) where
+module _ {V : Type 0} {course : Course V} (terms : Terms course) where
   reason_serves : (why : OpenFault) → terms.unopened why → (input left : List ℕ) → Serves terms (exit_of why) input left (line_of why)
   reason_serves faults.Memory is input left = (faults.Memory, is, refl, refl)
   reason_serves faults.Disk is input left = (faults.Disk, is, refl, refl)

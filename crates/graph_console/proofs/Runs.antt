@@ -1,5 +1,5 @@
 -- A run of the console, as far as the program's loop has come.
-use Rattle.std.proofs.Common.{◌≡◌, ◌⊎◌, ⊎_elim, inl, inr, ℕ, ◌+◌, ◌-◌, ◌^◌, ◌≤◌, Bool, true, false, List, [], ◌∷◌, ◌++◌, length, take, map, refl, sym, ◌∙◌, ap, subst, arith, append_assoc, length-append, Some, cond}
+use Rattle.std.proofs.Common.{◌≡◌, ◌≢◌, ◌⊎◌, ⊎_elim, inl, inr, ℕ, ◌+◌, ◌-◌, ◌^◌, ◌≤◌, Bool, true, false, List, [], ◌∷◌, ◌++◌, length, take, map, refl, sym, ◌∙◌, ap, subst, arith, append_assoc, length-append, Some, cond}
 use Rattle.std.proofs.lemmas.Bool.{cases_lt}
 use Rattle.std.proofs.lemmas.List.{append-nil, map_push}
 use Rattle.std.proofs.lemmas.Grind.{flat_map-append}
@@ -11,12 +11,10 @@ use Rattle.stream_io.specs.Streams.{TakesFront}
 use Rattle.plain_graph.specs.Reply as replies
 use Rattle.plain_graph.specs.Reply.{Reply}
 use Rattle.graph_session.specs.Exchange.{Exchange, told_fault}
-use Rattle.graph_session.specs.SharedExchange.{TakesSharedStep}
-use Rattle.graph_session.specs.Snapshots.{SharedState}
-use Rattle.graph_session.specs.State.{IsQuit, health_at}
+use Rattle.graph_session.specs.State.{IsQuit}
 use Rattle.graph_session.specs.declared.health.Health.{Health}
 use Rattle.graph_session.specs.declared.health.Health.TheVariants.{Live, Failed}
-use Rattle.graph_console.specs.Run.{CountsRises, Run, exchange_text, run_lines, run_text, told_faults, NoQuit, AreUpToQuit, AreFirstOf, LacksEnd}
+use Rattle.graph_console.specs.Run.{CountsRises, Course, RunBy, exchange_text, run_lines, run_text, told_faults, NoQuit, AreUpToQuit, AreFirstOf, LacksEnd}
 use Rattle.graph_console.specs.Program.{RunTo, Serves, ServesAll, ServesEnded, Terms, Writes}
 use Rattle.graph_console.specs.Serve.{TurnSays, Exchanges, Ends, Breaks, Progress, bytes_ahead}
 use Rattle.graph_console.specs.declared.exit.Exit.{Exit}
@@ -24,9 +22,9 @@ use Rattle.graph_console.specs.declared.exit.Exit.TheVariants.{Done, StoreFailed
 use Rattle.graph_console.proofs.LineLaws.{piece_first, piece_alone, pieces_joined, lines-piece, lines-last}
 
 -- one step more
-pub run_on : (tells : Type 0) (first middle last : SharedState) (run : List Exchange) (x : Exchange) → Run tells first run middle → TakesSharedStep tells middle x last → Run tells first (run ++ x ∷ []) last
-run_on tells first middle last [] x steps step = (last, subst (λ (s : SharedState). TakesSharedStep tells s x last) steps step, refl)
-run_on tells first middle last (y ∷ run) x steps step = (steps.0, steps.1, run_on tells steps.0 middle last run x steps.2 step)
+pub run_on : {V : Type 0} (Step : V → Exchange → V → Type 0) (first middle last : V) (run : List Exchange) (x : Exchange) → RunBy Step first run middle → Step middle x last → RunBy Step first (run ++ x ∷ []) last
+run_on {V} Step first middle last [] x steps step = (last, subst (λ (s : V). Step s x last) steps step, refl)
+run_on Step first middle last (y ∷ run) x steps step = (steps.0, steps.1, run_on Step steps.0 middle last run x steps.2 step)
 
 no_quit_on : (lines : List InputLine) (line : InputLine) → NoQuit lines → ¬ IsQuit line → NoQuit (lines ++ line ∷ [])
 no_quit_on [] line none not_quit = (not_quit, tt)
@@ -49,9 +47,17 @@ told_once (replies.Faulted lines replies.DiskFailed) = inr refl
 told_once (replies.Faulted lines fault) = inl refl
 told_once reply = inl refl
 
+-- the reply blames the disk only where it failed in the line
+abbrev pub Blames : Exchange → Type 0
+Blames x = told_fault x.reply ≢ 0 → x.disk_failed ≡ true
+
+-- so it is with each step of the course
+abbrev pub AllBlame : {V : Type 0} → Course V → Type 0
+AllBlame {V} course = (old : V) (x : Exchange) (new : V) → course.step old x new → Blames x
+
 -- only a reply to a line in which the disk failed says so
-told_failed : (tells : Type 0) (old : SharedState) (x : Exchange) (new : SharedState) → TakesSharedStep tells old x new → (told_fault x.reply ≡ 0) ⊎ ((told_fault x.reply ≡ 1) × (x.disk_failed ≡ true))
-told_failed tells old x new step = ⊎_elim (λ none. inl none) (λ one. inr (one, step.blames (λ none. cc))) (told_once x.reply)
+told_failed : (x : Exchange) → Blames x → (told_fault x.reply ≡ 0) ⊎ ((told_fault x.reply ≡ 1) × (x.disk_failed ≡ true))
+told_failed x blames = ⊎_elim (λ none. inl none) (λ one. inr (one, blames (λ none. cc))) (told_once x.reply)
 
 -- a count rises by one at least where a fault is told
 count_on : (failed : Bool) (told total before middle after : ℕ) → (told ≡ 0) ⊎ ((told ≡ 1) × (failed ≡ true)) → (total + before ≤ middle) ⊎ (2 ^ 64 - 1 ≤ middle) → (failed ≡ true → Rose middle after) → middle ≤ after
@@ -63,11 +69,11 @@ count_on failed told total before middle after (inr one) (inl counts) counted la
     elim (cases_lt middle after) [ inl below ↦ inl (omega (arith, one.0)) | inr not_below ↦ inr (omega arith) ]
 
 -- a count that kept up with a run keeps up with it and one exchange more
-counts_on : (tells : Type 0) (before middle after : ℕ) (run : List Exchange) (x : Exchange) (old new : SharedState) → TakesSharedStep tells old x new → CountsRises before middle run → (x.disk_failed ≡ true → Rose middle after) → middle ≤ after
+counts_on : (before middle after : ℕ) (run : List Exchange) (x : Exchange) → Blames x → CountsRises before middle run → (x.disk_failed ≡ true → Rose middle after) → middle ≤ after
     → CountsRises before after (run ++ x ∷ [])
-counts_on tells before middle after run x old new step counts counted later =
+counts_on before middle after run x blames counts counted later =
     subst (λ (n : ℕ). (n + before ≤ after) ⊎ (2 ^ 64 - 1 ≤ after)) (sym (told_faults_on run x))
-    (count_on x.disk_failed (told_fault x.reply) (told_faults run) before middle after (told_failed tells old x new step) counts counted later)
+    (count_on x.disk_failed (told_fault x.reply) (told_faults run) before middle after (told_failed x blames) counts counted later)
 
 -- a count that kept up with a run keeps up with it later, and from an earlier one on
 pub counts_within : (earlier before middle after : ℕ) (run : List Exchange) → earlier ≤ before → CountsRises before middle run → middle ≤ after → CountsRises earlier after run
@@ -93,10 +99,10 @@ pub record Boundary (input ahead_of : List ℕ) (lines : List InputLine) : Type 
   pub lines_are : ended_lines used ≡ lines
 
 -- A run from the first state has come from the start to here, and to a state that the session is at.
-pub record Serving (tells : Type 0) (first : SharedState) (is_at : List Exchange → SharedState → Type 0) (start now : Progress) : Type 0 where
+pub record Serving {V : Type 0} (course : Course V) (first : V) (is_at : List Exchange → V → Type 0) (start now : Progress) : Type 0 where
   pub run : List Exchange
-  pub state : SharedState
-  pub steps : Run tells first run state
+  pub state : V
+  pub steps : RunBy course.step first run state
   pub arrives : is_at run state
   pub no_quit : NoQuit (run_lines run)
   pub text : now.taken ≡ start.taken ++ run_text run
@@ -108,8 +114,8 @@ pub record Serving (tells : Type 0) (first : SharedState) (is_at : List Exchange
 fresh_ahead : (reader : Reading) (left : List ℕ) → reader.ended ≡ false → reader.held ≡ [] → ahead reader left ≡ left
 fresh_ahead reader left goes_on none = ap (λ (b : Bool). cond b reader.held (reader.held ++ left)) goes_on ∙ ap (λ (bs : List ℕ). bs ++ left) none
 
-pub serving_first : (tells : Type 0) (first : SharedState) (is_at : List Exchange → SharedState → Type 0) (start : Progress) → is_at [] first → IsFresh start.reader → Serving tells first is_at start start
-serving_first tells first is_at start at_first fresh =
+pub serving_first : {V : Type 0} (course : Course V) (first : V) (is_at : List Exchange → V → Type 0) (start : Progress) → is_at [] first → IsFresh start.reader → Serving course first is_at start start
+serving_first course first is_at start at_first fresh =
     let same = fresh_ahead start.reader start.left fresh.ended fresh.held in
     record {
       run = [];
@@ -125,25 +131,25 @@ serving_first tells first is_at start at_first fresh =
     }
 
 -- A turn that comes to a state carries on what is said of the run so far: by its line, or without one.
-pub record Carries (tells : Type 0) (run : List Exchange) (state : SharedState) (comes_to : SharedState → Type 0) (is_at : List Exchange → SharedState → Type 0) : Type 0 where
-  pub on : (x : Exchange) (last : SharedState) → TakesSharedStep tells state x last → comes_to last → is_at (run ++ x ∷ []) last
+pub record Carries {V : Type 0} (course : Course V) (run : List Exchange) (state : V) (comes_to : V → Type 0) (is_at : List Exchange → V → Type 0) : Type 0 where
+  pub on : (x : Exchange) (last : V) → course.step state x last → comes_to last → is_at (run ++ x ∷ []) last
   pub stays : comes_to state → is_at run state
 
 -- What is said of the whole run: its end, by the state that the session is then at and by the disk's count.
-abbrev Closes : (List Exchange → SharedState → Type 0) → (List Exchange → SharedState → Type 0) → ℕ → ℕ → Type 0
-Closes is_at ends before after = (run : List Exchange) (last : SharedState) → is_at run last → CountsRises before after run → ends run last
+abbrev Closes : {V : Type 0} → (List Exchange → V → Type 0) → (List Exchange → V → Type 0) → ℕ → ℕ → Type 0
+Closes {V} is_at ends before after = (run : List Exchange) (last : V) → is_at run last → CountsRises before after run → ends run last
 
 -- What is served when a line's exchange has come to its end.
-module _ (tells : Type 0) (first : SharedState) (old_is_at is_at : List Exchange → SharedState → Type 0) (comes_to : SharedState → Type 0) (start old new : Progress) (s : Serving tells first old_is_at start old) (carries : Carries tells s.run s.state comes_to is_at)
-    (says : SharedState → Exchange → Type 0) (e : Exchanges tells s.state comes_to old new says) where
+module _ {V : Type 0} (course : Course V) (blamed : AllBlame course) (first : V) (old_is_at is_at : List Exchange → V → Type 0) (comes_to : V → Type 0) (start old new : Progress) (s : Serving course first old_is_at start old) (carries : Carries course s.run s.state comes_to is_at)
+    (says : V → Exchange → Type 0) (e : Exchanges course s.state comes_to old new says) where
   abbrev run_after : List Exchange
   run_after = s.run ++ e.exchange ∷ []
 
-  steps_after : Run tells first run_after e.after
-  steps_after = run_on tells first s.state e.after s.run e.exchange s.steps e.step
+  steps_after : RunBy course.step first run_after e.after
+  steps_after = run_on course.step first s.state e.after s.run e.exchange s.steps e.step
 
   counts_after : old.faults ≤ new.faults → CountsRises start.faults new.faults run_after
-  counts_after later = counts_on tells start.faults old.faults new.faults s.run e.exchange s.state e.after e.step s.counts e.counted later
+  counts_after later = counts_on start.faults old.faults new.faults s.run e.exchange (blamed s.state e.exchange e.after e.step) s.counts e.counted later
 
   lines_after : run_lines run_after ≡ run_lines s.run ++ e.exchange.line ∷ []
   lines_after = run_lines_on s.run e.exchange
@@ -194,7 +200,7 @@ module _ (tells : Type 0) (first : SharedState) (old_is_at is_at : List Exchange
   ]
 
   pub serving_on : ¬ IsQuit e.exchange.line → new.taken ≡ old.taken ++ exchange_text e.exchange → old.faults ≤ new.faults → (new.reader.ended ≡ false → old.reader.ended ≡ false)
-      → new.reader.taken + length new.left ≡ old.reader.taken + length old.left → Serving tells first is_at start new
+      → new.reader.taken + length new.left ≡ old.reader.taken + length old.left → Serving course first is_at start new
   serving_on not_quit text later stays counted = record {
     run = run_after;
     state = e.after;
@@ -208,9 +214,9 @@ module _ (tells : Type 0) (first : SharedState) (old_is_at is_at : List Exchange
     counts = counts_after later;
   }
 
-  module _ (terms : Terms tells) (begins : terms.starts first) (closes : Closes is_at (terms.ends first) start.faults new.faults) (later : old.faults ≤ new.faults) where
+  module _ (terms : Terms course) (begins : terms.starts first) (closes : Closes is_at (terms.ends first) start.faults new.faults) (later : old.faults ≤ new.faults) where
     -- the run with this exchange ends so
-    closed : (P : List Exchange → SharedState → Type 0) → P run_after e.after → RunTo terms P
+    closed : (P : List Exchange → V → Type 0) → P run_after e.after → RunTo terms P
     closed P says_so = record {
       first = first;
       begins = begins;
@@ -221,12 +227,12 @@ module _ (tells : Type 0) (first : SharedState) (old_is_at is_at : List Exchange
       says = says_so;
     }
 
-    pub serves_quit : (health : Health) → health_at e.after.writer ≡ health → IsQuit e.exchange.line → new.taken ≡ old.taken ++ exchange_text e.exchange
+    pub serves_quit : (health : Health) → course.health e.after ≡ health → IsQuit e.exchange.line → new.taken ≡ old.taken ++ exchange_text e.exchange
         → Writes start.taken new.taken (ServesAll terms health start.left)
     serves_quit health ends_so is_quit text = (
       run_text run_after,
       text ∙ sym text_after,
-      closed (λ run last. (health_at last.writer ≡ health) × AreUpToQuit (lines_of start.left) (run_lines run) × (run_text run_after ≡ run_text run)) (
+      closed (λ run last. (course.health last ≡ health) × AreUpToQuit (lines_of start.left) (run_lines run) × (run_text run_after ≡ run_text run)) (
         ends_so,
         inr (record {
           before = run_lines s.run;
@@ -253,10 +259,10 @@ module _ (tells : Type 0) (first : SharedState) (old_is_at is_at : List Exchange
     )
 
 -- What is served when the run ends without a line, in a state that the session is still at.
-module _ (tells : Type 0) (first : SharedState) (old_is_at is_at : List Exchange → SharedState → Type 0) (comes_to : SharedState → Type 0) (start old new : Progress) (s : Serving tells first old_is_at start old) (carries : Carries tells s.run s.state comes_to is_at) (arrives : comes_to s.state)
-    (terms : Terms tells) (begins : terms.starts first) (closes : Closes is_at (terms.ends first) start.faults new.faults) (later : old.faults ≤ new.faults) where
+module _ {V : Type 0} (course : Course V) (first : V) (old_is_at is_at : List Exchange → V → Type 0) (comes_to : V → Type 0) (start old new : Progress) (s : Serving course first old_is_at start old) (carries : Carries course s.run s.state comes_to is_at) (arrives : comes_to s.state)
+    (terms : Terms course) (begins : terms.starts first) (closes : Closes is_at (terms.ends first) start.faults new.faults) (later : old.faults ≤ new.faults) where
   -- the run so far ends so
-  closed_here : (P : List Exchange → SharedState → Type 0) → P s.run s.state → RunTo terms P
+  closed_here : (P : List Exchange → V → Type 0) → P s.run s.state → RunTo terms P
   closed_here P says_so = record {
     first = first;
     begins = begins;
@@ -267,16 +273,16 @@ module _ (tells : Type 0) (first : SharedState) (old_is_at is_at : List Exchange
     says = says_so;
   }
 
-  pub serves_end : (health : Health) → health_at s.state.writer ≡ health → bytes_ahead old ≡ [] → new.taken ≡ old.taken
+  pub serves_end : (health : Health) → course.health s.state ≡ health → bytes_ahead old ≡ [] → new.taken ≡ old.taken
       → Writes start.taken new.taken (ServesAll terms health start.left)
   serves_end health ends_so none same = let all = sym (append-nil (run_lines s.run)) ∙ ap (λ (bs : List ℕ). run_lines s.run ++ lines_of bs) (sym none) ∙ s.lines in (
     run_text s.run,
     same ∙ s.text,
-    closed_here (λ run last. (health_at last.writer ≡ health) × AreUpToQuit (lines_of start.left) (run_lines run) × (run_text s.run ≡ run_text run))
+    closed_here (λ run last. (course.health last ≡ health) × AreUpToQuit (lines_of start.left) (run_lines run) × (run_text s.run ≡ run_text run))
         (ends_so, inl (subst NoQuit all s.no_quit, all), refl),
   )
 
-  module _ (b : Breaks tells s.state comes_to old new) where
+  module _ (b : Breaks course s.state comes_to old new) where
     boundary : Boundary start.left (bytes_ahead old) (run_lines s.run)
     boundary = s.boundary b.stops.had_not_ended
 
@@ -318,23 +324,23 @@ module _ (tells : Type 0) (first : SharedState) (old_is_at is_at : List Exchange
         )
 
 -- What a turn that ends the run has served.
-module _ (tells : Type 0) (first : SharedState) (old_is_at is_at : List Exchange → SharedState → Type 0) (comes_to : SharedState → Type 0) (start old new : Progress) (s : Serving tells first old_is_at start old) (carries : Carries tells s.run s.state comes_to is_at)
-    (terms : Terms tells) (begins : terms.starts first) (closes : Closes is_at (terms.ends first) start.faults new.faults) (later : old.faults ≤ new.faults)
+module _ {V : Type 0} (course : Course V) (blamed : AllBlame course) (first : V) (old_is_at is_at : List Exchange → V → Type 0) (comes_to : V → Type 0) (start old new : Progress) (s : Serving course first old_is_at start old) (carries : Carries course s.run s.state comes_to is_at)
+    (terms : Terms course) (begins : terms.starts first) (closes : Closes is_at (terms.ends first) start.faults new.faults) (later : old.faults ≤ new.faults)
     (counted : new.reader.taken + length new.left ≡ old.reader.taken + length old.left) where
-  serves_all : (health : Health) → Ends tells s.state comes_to old new health
+  serves_all : (health : Health) → Ends course s.state comes_to old new health
       → Writes start.taken new.taken (ServesAll terms health start.left)
-  serves_all health (inl at_end) = serves_end tells first old_is_at is_at comes_to start old new s carries at_end.2 terms begins closes later health at_end.1 at_end.0 at_end.3
-  serves_all health (inr quits) = serves_quit tells first old_is_at is_at comes_to start old new s carries _ quits terms begins closes later health quits.more.1 quits.more.0 quits.more.2
+  serves_all health (inl at_end) = serves_end course first old_is_at is_at comes_to start old new s carries at_end.2 terms begins closes later health at_end.1 at_end.0 at_end.3
+  serves_all health (inr quits) = serves_quit course blamed first old_is_at is_at comes_to start old new s carries _ quits terms begins closes later health quits.more.1 quits.more.0 quits.more.2
 
-  pub served : (exit : Exit) → TurnSays tells s.state comes_to old new (Some exit)
+  pub served : (exit : Exit) → TurnSays course s.state comes_to old new (Some exit)
       → Writes start.taken new.taken (Serves terms exit start.left new.left)
   served Done says = serves_all Live says
   served StoreFailed says = serves_all Failed says
   served Usage says = absurd says
-  served InputFault says = serves_fault tells first old_is_at is_at comes_to start old new s carries says.arrives terms begins closes later says
-  served OutputFault says = serves_short tells first old_is_at is_at comes_to start old new s carries _ says terms begins closes later says.more.0 says.more.1
+  served InputFault says = serves_fault course first old_is_at is_at comes_to start old new s carries says.arrives terms begins closes later says
+  served OutputFault says = serves_short course blamed first old_is_at is_at comes_to start old new s carries _ says terms begins closes later says.more.0 says.more.1
   served NoMemory says = absurd says
   served BadFiles says = absurd says
   served ConfigDiffers says = absurd says
   served DiskFault says = absurd says
-  served InputTooLong says = serves_too_long tells first old_is_at is_at comes_to start old new s carries says.0.arrives terms begins closes later says.0 says.1 counted
+  served InputTooLong says = serves_too_long course first old_is_at is_at comes_to start old new s carries says.0.arrives terms begins closes later says.0 says.1 counted

@@ -9,6 +9,7 @@ use Rattle.plain_graph.specs.Reply.{NoMemory as WantOfMemory, fault_line}
 use Rattle.console_words.specs.declared.sample_options.SampleOptions.{SampleOptions}
 use Rattle.graph_session.specs.Exchange.{Exchange}
 use Rattle.graph_session.specs.SharedConsole.{IsSharedAt}
+use Rattle.graph_session.specs.SharedExchange.{TakesSharedStep}
 use Rattle.graph_session.specs.SnapshotEffects.{SharedView}
 use Rattle.graph_session.specs.Snapshots.{SharedState}
 use Rattle.graph_console.specs.Program.{Writes}
@@ -48,7 +49,7 @@ turn_more disk options turns sample next old new text took answers adds =
     record {
       run = took.run ++ a.exchange ∷ [];
       last = a.after;
-      steps = run_on disk.tells_reads (sample_store options) took.last a.after took.run a.exchange took.steps a.step;
+      steps = run_on (TakesSharedStep disk.tells_reads) (sample_store options) took.last a.after took.run a.exchange took.steps a.step;
       is_at = a.is_at;
       turned = turns_on (sample_start options.seed) sample next took.run a.exchange took.turned one;
       many = length-append took.run (a.exchange ∷ []) ∙ ap (λ (n : ℕ). n + 1) took.many;
@@ -112,7 +113,7 @@ module _ {D : Type 0} {disk : DiskGhosts D} {options : SampleOptions} where
       made = s.run.made;
       steps =
           subst (λ (run : List Exchange). Run disk.tells_reads (sample_store options) run a.after) (append_assoc s.run.made s.answered (a.exchange ∷ []))
-          (run_on disk.tells_reads (sample_store options) s.last a.after (s.run.made ++ s.answered) a.exchange s.run.steps a.step);
+          (run_on (TakesSharedStep disk.tells_reads) (sample_store options) s.last a.after (s.run.made ++ s.answered) a.exchange s.run.steps a.step);
       generated = s.run.generated;
       lines =
           run_lines_on s.answered a.exchange

@@ -15,7 +15,6 @@ use Rattle.txn_core.specs.Config.{shape_of}
 use Rattle.follower.specs.Shipment.{most_shipped}
 use Rattle.follower.specs.Shipping.{shipment_bytes}
 use Rattle.graph_session.specs.Exchange.{CarriesKind, CarriesOut, ConsoleStep, KeepsStore, MakesChange, MovesBound}
-use Rattle.graph_session.specs.Sending.{HasSent, Sends, Steps}
 use Rattle.graph_session.specs.SharedConsole.{IsSharedAt}
 use Rattle.graph_session.specs.SharedExchange.{step_of}
 use Rattle.graph_session.specs.SnapshotEffects.{Confirms, SharedView}
@@ -23,6 +22,7 @@ use Rattle.graph_session.specs.Snapshots.{SharedState}
 use Rattle.graph_session.specs.State.{SpellsLine, State, session_in}
 use Rattle.graph_session.specs.Tapping.{Acknowledges}
 use Rattle.graph_session.proofs.OneCommand.{line_agrees}
+use Rattle.graph_console.specs.Sending.{HasSent, Sends, Steps}
 use Rattle.graph_console.specs.Following.{AnswersTapped, HasSentTurns, SendsSample}
 use Rattle.graph_console.specs.Sample.{Adds, SampleState, sample_config, sample_start, sample_store, turn}
 use Rattle.graph_console.specs.Sampling.{AnswersWell}

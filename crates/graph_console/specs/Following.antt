@@ -7,17 +7,18 @@ use Rattle.plain_graph.specs.Reply.{Reply, marked_text}
 use Rattle.rec_bytes.specs.Pairs.{Pairs}
 use Rattle.rec_bytes.specs.declared.shape.Shape.{Shape}
 use Rattle.record_file.specs.Redone.{Redoes}
+use Rattle.stored_graph.specs.Stands.{IsZeros}
 use Rattle.console_words.specs.declared.sample_options.SampleOptions.{SampleOptions}
 use Rattle.txn_core.specs.Config.{shape_of}
 use Rattle.follower.specs.Follower.{View}
-use Rattle.follower.specs.Sent.{IsSent, IsZeros, sent_graph}
+use Rattle.follower.specs.Sent.{IsSent, sent_graph}
 use Rattle.follower.specs.Taken.{follower_records}
 use Rattle.graph_session.specs.Exchange.{Exchange}
-use Rattle.graph_session.specs.Sending.{HasSent, Steps}
 use Rattle.graph_session.specs.SharedConsole.{IsSharedAt}
 use Rattle.graph_session.specs.SnapshotEffects.{SharedView}
 use Rattle.graph_session.specs.Snapshots.{SharedState}
 use Rattle.graph_session.specs.State.{Live, mark_in}
+use Rattle.graph_console.specs.Sending.{HasSent, Steps}
 use Rattle.graph_console.specs.Follow.{all_delivered}
 use Rattle.graph_console.specs.Run.{Run}
 use Rattle.graph_console.specs.Sample.{SampleLines, SampleState, sample_config, sample_store}

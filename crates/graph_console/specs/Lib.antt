@@ -1,3 +1,4 @@
+pub mod AnyDisk
 pub mod Exit
 pub mod Follow
 pub mod Following
@@ -7,6 +8,7 @@ pub mod Program
 pub mod Run
 pub mod Sample
 pub mod Sampling
+pub mod Sending
 pub mod Serve
 pub mod TakenSnapshots
 pub mod Unopened

@@ -4,12 +4,12 @@ use Rattle.disk_model.specs.Contents.{Files}
 use Rattle.disk_model.specs.declared.disk.Disk.{Ghosts}
 use Rattle.plain_graph.specs.Graph.{Graph}
 use Rattle.rec_bytes.specs.declared.shape.Shape.{Shape}
+use Rattle.stored_graph.specs.Stands.{Stands}
 use Rattle.console_words.specs.declared.run_options.RunOptions.{RunOptions}
 use Rattle.graph_session.specs.Exchange.{Exchange}
 use Rattle.txn_core.specs.declared.open_fault.OpenFault.{OpenFault}
 use Rattle.graph_session.specs.Opening.{IsUnopened}
 use Rattle.graph_session.specs.Snapshots.{SharedState}
-use Rattle.graph_session.specs.Stands.{Stands}
 use Rattle.graph_session.specs.State.{Admits}
 use Rattle.graph_console.specs.Program.{EndsAs, StartsRun, config_for}
 use Rattle.graph_console.specs.Run.{ComesBy, Run}

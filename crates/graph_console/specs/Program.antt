@@ -20,12 +20,12 @@ use Rattle.graph_session.specs.Exchange.{Exchange}
 use Rattle.graph_session.specs.Opening.{IsUnopened, StandsForOne, StartsAs}
 use Rattle.graph_session.specs.Snapshots.{SharedState}
 use Rattle.graph_session.specs.Stands.{AreAdmitted}
-use Rattle.graph_session.specs.State.{health_at}
 use Rattle.graph_session.specs.declared.health.Health.{Health}
 use Rattle.graph_session.specs.declared.health.Health.TheVariants.{Live, Failed}
 use Rattle.graph_console.specs.Unopened.{EndsUnopened, FailsUnopened}
-use Rattle.graph_console.specs.Run.{CountsRises, IsAdmittedInRun, Run, run_lines, run_text, NoQuit}
-use Rattle.graph_console.specs.Run.{AreUpToQuit, AreFirstOf, LacksEnd, no_readers}
+use Rattle.graph_console.specs.Run.{AreFirstOf, AreUpToQuit, CountsRises, Course, IsAdmittedInRun}
+use Rattle.graph_console.specs.Run.{LacksEnd, NoQuit, RunBy, no_readers, run_lines, run_text}
+use Rattle.graph_console.specs.Run.{shared_course}
 use Rattle.graph_console.specs.declared.exit.Exit.{Exit}
 use Rattle.graph_console.specs.declared.exit.Exit.TheVariants.{Done, StoreFailed, Usage, InputFault}
 use Rattle.graph_console.specs.declared.exit.Exit.TheVariants.{OutputFault, NoMemory, BadFiles}
@@ -61,36 +61,38 @@ pub record ServesEnded (input left : List ℕ) (run : List Exchange) : Type 0 wh
   pub lines : run_lines run ≡ ended_lines taken
   pub no_quit : NoQuit (run_lines run)
 
--- The terms of a run over a disk that may tell what it reads: the states of all sessions that it
--- may start with, what holds of it at its end, and the reasons why there is none.
-pub record Terms (tells : Type 0) : Type 1 where
-  pub starts : SharedState → Type 0
-  pub ends : SharedState → List Exchange → SharedState → Type 0
+-- The terms of a run on a course: the states that it may start with, what holds of it at its end,
+-- and the reasons why there is none.
+pub record Terms {V : Type 0} (course : Course V) : Type 1 where
+  pub starts : V → Type 0
+  pub ends : V → List Exchange → V → Type 0
   pub unopened : OpenFault → Type 0
 
 -- A run on these terms, with more that holds of it.
-pub record RunTo {tells : Type 0} (terms : Terms tells)
-    (P : List Exchange → SharedState → Type 0) : Type 0 where
-  pub first : SharedState
+pub record RunTo {V : Type 0} {course : Course V} (terms : Terms course)
+    (P : List Exchange → V → Type 0) : Type 0 where
+  pub first : V
   pub begins : terms.starts first
   pub run : List Exchange
-  pub last : SharedState
-  pub steps : Run tells first run last
+  pub last : V
+  pub steps : RunBy course.step first run last
   pub arrives : terms.ends first run last
   pub says : P run last
 
 -- The run took all lines of the input, or those up to quit, and ended in this health. All replies
 -- were written.
-abbrev pub ServesAll : {tells : Type 0} → Terms tells → Health → List ℕ → List ℕ → Type 0
-ServesAll terms health input written =
+abbrev pub ServesAll :
+    {V : Type 0} {course : Course V} → Terms course → Health → List ℕ → List ℕ → Type 0
+ServesAll {course = course} terms health input written =
     RunTo terms (λ run last.
-    (health_at last.writer ≡ health) × AreUpToQuit (lines_of input) (run_lines run)
+    (course.health last ≡ health) × AreUpToQuit (lines_of input) (run_lines run)
     × (written ≡ run_text run))
 
 -- What was written by a program that was asked to run, with what it had read: input is what the
 -- source had left at the start, and left what it has left at the end. Where the store was not
 -- opened for a reason, nothing was read.
-abbrev pub Serves : {tells : Type 0} → Terms tells → Exit → List ℕ → List ℕ → List ℕ → Type 0
+abbrev pub Serves :
+    {V : Type 0} {course : Course V} → Terms course → Exit → List ℕ → List ℕ → List ℕ → Type 0
 Serves terms Done input left written = ServesAll terms Live input written
 Serves terms StoreFailed input left written = ServesAll terms Failed input written
 Serves terms InputFault input left written =
@@ -123,7 +125,7 @@ pub record EndsAs {D : Type 0} (disk : DiskGhosts D) (old new : D)
 
 -- the terms of a run from this state, in a store that is open
 abbrev pub terms_from : {D : Type 0} (disk : DiskGhosts D) → SharedState → D → D
-    → Terms disk.tells_reads
+    → Terms (shared_course disk.tells_reads)
 terms_from disk first old new =
     record {
       starts = λ state. state ≡ first;
@@ -140,7 +142,7 @@ pub record StartsRun {D : Type 0} (disk : DiskGhosts D) (now : D) (config : Conf
 
 -- the terms of a run over this disk, for these options
 abbrev pub terms_for : {D : Type 0} (disk : DiskGhosts D) → RunOptions → D → D
-    → Terms disk.tells_reads
+    → Terms (shared_course disk.tells_reads)
 terms_for disk options old new = record {
   starts = StartsRun disk old (config_for options);
   ends = EndsAs disk old new;
@@ -164,8 +166,9 @@ abbrev pub Writes : List ℕ → List ℕ → (List ℕ → Type 0) → Type 0
 Writes old new P = (written : List ℕ) × (new ≡ old ++ written) × P written
 
 -- A run on these terms, where the source tells what it has left and the sink what it took.
-abbrev pub ServesOn : {S K : Type 0} {tells : Type 0} → SourceGhosts S → SinkGhosts K
-    → Terms tells → Exit → Streams S K → Streams S K → Type 0
+abbrev pub ServesOn :
+    {S K V : Type 0} {course : Course V} → SourceGhosts S → SinkGhosts K → Terms course → Exit
+    → Streams S K → Streams S K → Type 0
 ServesOn source sink terms exit old new =
     source.tells → sink.tells
     → Writes (sink.taken old.output) (sink.taken new.output)

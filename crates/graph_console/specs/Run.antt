@@ -9,7 +9,8 @@ use Rattle.graph_session.specs.Exchange.{Exchange, told_fault}
 use Rattle.graph_session.specs.SharedExchange.{TakesSharedStep}
 use Rattle.graph_session.specs.Snapshots.{Readers, SharedState}
 use Rattle.graph_session.specs.Stands.{IsAdmitted}
-use Rattle.graph_session.specs.State.{State, IsQuit, mark_in}
+use Rattle.graph_session.specs.State.{State, IsQuit, health_at, mark_in}
+use Rattle.graph_session.specs.declared.health.Health.{Health}
 
 -- no session that reads has a snapshot, nor one that has ended
 abbrev pub no_readers : Readers
@@ -19,22 +20,43 @@ no_readers = record { open_ones = []; ended = [] }
 abbrev pub begins_with : State → SharedState
 begins_with writer = record { writer = writer; readers = no_readers }
 
+-- one step of this kind for each exchange, from the first state to the last
+abbrev pub RunBy :
+    {V : Type 0} → (V → Exchange → V → Type 0) → V → List Exchange → V → Type 0
+RunBy Step first [] last = last ≡ first
+RunBy {V} Step first (exchange ∷ later) last =
+    (next : V) × Step first exchange next × RunBy Step next later last
+
 -- one step for each exchange, of whichever session, from the first state of all sessions to the
 -- last; what a step does is said where the disk tells what it reads
 abbrev pub Run : Type 0 → SharedState → List Exchange → SharedState → Type 0
-Run tells first [] last = last ≡ first
-Run tells first (exchange ∷ later) last =
-    (next : SharedState) × TakesSharedStep tells first exchange next × Run tells next later last
+Run tells = RunBy (TakesSharedStep tells)
 
--- The run comes by this state. Its exchanges up to some place lead to it, and the others lead from
--- it to the last.
-pub record ComesBy (tells : Type 0) (first : SharedState) (run : List Exchange)
-    (last state : SharedState) : Type 0 where
+-- what a run goes by: which steps there are, and the health of a state
+pub record Course (V : Type 0) : Type 1 where
+  pub step : V → Exchange → V → Type 0
+  pub health : V → Health
+
+-- the course of a run of the states of all sessions
+abbrev pub shared_course : Type 0 → Course SharedState
+shared_course tells = record {
+  step = TakesSharedStep tells;
+  health = λ state. health_at state.writer;
+}
+
+-- A run by steps of this kind comes by this state. Its exchanges up to some place lead to it, and
+-- the others lead from it to the last.
+pub record RunComesBy {V : Type 0} (Step : V → Exchange → V → Type 0) (first : V)
+    (run : List Exchange) (last state : V) : Type 0 where
   pub before : List Exchange
   pub later : List Exchange
   pub run_is : run ≡ before ++ later
-  pub leads : Run tells first before state
-  pub goes_on : Run tells state later last
+  pub leads : RunBy Step first before state
+  pub goes_on : RunBy Step state later last
+
+-- a run of the states of all sessions comes by this one
+abbrev pub ComesBy : Type 0 → SharedState → List Exchange → SharedState → SharedState → Type 0
+ComesBy tells = RunComesBy (TakesSharedStep tells)
 
 -- the content stands for a graph that is admitted before or after a line of the run
 abbrev pub IsAdmittedInRun :

@@ -1,5 +1,6 @@
 -- What one turn of the program's loop does.
-use Rattle.std.specs.Prelude.{◌≡◌, ◌≢◌, ◌⊎◌, ℕ, ◌^◌, Bool, true, List, [], ◌++◌, Option, Some, None}
+use Rattle.std.specs.Prelude.{◌≡◌, ◌≢◌, ◌⊎◌, ℕ, ◌^◌, Bool, false, true, List, [], ◌++◌, Option}
+use Rattle.std.specs.Prelude.{Some, None}
 use Rattle.fault_count.specs.Cause.{Rose}
 use Rattle.disk_model.specs.declared.disk.Disk.{Ghosts as DiskGhosts}
 use Rattle.stream_io.specs.Answers.{TakesLine, Drops, Stops}
@@ -11,16 +12,16 @@ use Rattle.graph_session.specs.Exchange.{Exchange}
 use Rattle.graph_session.specs.Known.{as_known}
 use Rattle.graph_session.specs.SharedAnswer.{SharedComesTo}
 use Rattle.graph_session.specs.SharedConsole.{IsSharedAt}
-use Rattle.graph_session.specs.SharedExchange.{TakesSharedStep}
 use Rattle.graph_session.specs.SnapshotEffects.{SharedView}
 use Rattle.graph_session.specs.Snapshots.{SharedState}
-use Rattle.graph_session.specs.State.{IsQuit, health_at}
+use Rattle.graph_session.specs.State.{IsQuit}
 use Rattle.graph_session.specs.declared.health.Health.{Health}
 use Rattle.graph_session.specs.declared.health.Health.TheVariants.{Live, Failed}
 use Rattle.graph_session.specs.declared.turn.Turn.{Turn}
 use Rattle.graph_session.specs.declared.turn.Turn.TheVariants.{Go, Quit, SinkFault}
+use Rattle.graph_console.specs.AnyDisk.{over_disk}
 use Rattle.graph_console.specs.Program.{Streams, streams}
-use Rattle.graph_console.specs.Run.{exchange_text}
+use Rattle.graph_console.specs.Run.{Course, exchange_text, shared_course}
 use Rattle.graph_console.specs.Unopened.{IsUnopenedExit}
 use Rattle.graph_console.specs.declared.exit.Exit.{Exit}
 use Rattle.graph_console.specs.declared.exit.Exit.TheVariants.{Done, StoreFailed, Usage, InputFault}
@@ -75,16 +76,16 @@ module _ {S K D : Type 0}
     faults = disk.faults now.session.session.disk;
   }
 
--- A turn from a state of all sessions, to one that the session comes to.
-module _ (tells : Type 0) (before : SharedState) (comes_to : SharedState → Type 0)
+-- A turn from a state of the course, to one that the session comes to.
+module _ {V : Type 0} (course : Course V) (before : V) (comes_to : V → Type 0)
     (old new : Progress) where
   -- A line was read, and its session made one step. More is said of the state that it leads to and
   -- of the exchange.
-  pub record Exchanges (says : SharedState → Exchange → Type 0) : Type 0 where
+  pub record Exchanges (says : V → Exchange → Type 0) : Type 0 where
     pub exchange : Exchange
-    pub after : SharedState
+    pub after : V
     pub takes : TakesLine exchange.line (bytes_ahead old) (bytes_ahead new) new.reader.ended
-    pub step : TakesSharedStep tells before exchange after
+    pub step : course.step before exchange after
     pub counted : exchange.disk_failed ≡ true → Rose old.faults new.faults
     pub arrives : comes_to after
     pub more : says after exchange
@@ -99,10 +100,10 @@ module _ (tells : Type 0) (before : SharedState) (comes_to : SharedState → Typ
   -- The run has come to the end of the input or to quit, in this health.
   abbrev pub Ends : Health → Type 0
   Ends health =
-      ((bytes_ahead old ≡ []) × (health_at before.writer ≡ health) × comes_to before
+      ((bytes_ahead old ≡ []) × (course.health before ≡ health) × comes_to before
       × (new.taken ≡ old.taken))
       ⊎ Exchanges (λ after x.
-      IsQuit x.line × (health_at after.writer ≡ health)
+      IsQuit x.line × (course.health after ≡ health)
       × (new.taken ≡ old.taken ++ exchange_text x))
 
   -- The turn, and how the program ends with it if it does.
@@ -121,6 +122,13 @@ module _ (tells : Type 0) (before : SharedState) (comes_to : SharedState → Typ
   TurnSays (Some ConfigDiffers) = ⊥
   TurnSays (Some DiskFault) = ⊥
 
+-- The session has this view, and without knowledge of what the disk reads it is at a state.
+pub record IsViewedAs {D : Type 0} (disk : DiskGhosts D) (session view : SharedView D)
+    : Type 0 where
+  pub is : view ≡ session
+  pub state : SharedState
+  pub is_at : IsSharedAt (as_known false disk) session state
+
 -- What a turn says from each state that the session is at, where source and sink tell their bytes.
 module _ {S K D : Type 0}
     (source : SourceGhosts S) (sink : SinkGhosts K) (disk : DiskGhosts D) where
@@ -128,6 +136,14 @@ module _ {S K D : Type 0}
   Turns exit old new =
       (known : Bool) (state : SharedState) → IsSharedAt (as_known known disk) old.session state
       → source.tells → sink.tells
-      → TurnSays (as_known known disk).tells_reads state
+      → TurnSays (shared_course (as_known known disk).tells_reads) state
       (SharedComesTo (as_known known disk) old.session new.session state)
+      (progress source sink disk old) (progress source sink disk new) exit
+
+  -- What a turn says over any disk, from the view that the session has.
+  abbrev pub TurnsOver : Option Exit → Loop S K D → Loop S K D → Type 0
+  TurnsOver exit old new =
+      (state : SharedState) → IsSharedAt (as_known false disk) old.session state
+      → source.tells → sink.tells
+      → TurnSays (over_disk disk) old.session (IsViewedAs disk new.session)
       (progress source sink disk old) (progress source sink disk new) exit

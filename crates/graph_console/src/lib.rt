@@ -7,8 +7,10 @@ mod follow;
 mod lives;
 mod program;
 mod sample;
+mod sending;
 mod serve;
 
 pub use exit::Exit;
 pub use lives::keeps_over_runs;
 pub use program::{end_without_memory, graph_main};
+pub use sending::sends_what_it_commits;

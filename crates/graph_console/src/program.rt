@@ -1,6 +1,7 @@
 ghost use Rattle.std.specs.Prelude.{◌≡◌, ◌≢◌, ◌⊎◌, ◌+◌, ◌^◌, ◌≤◌, Bool, length, map, string_bytes};
 ghost use Rattle.std.specs.Prelude.{true};
 ghost use Rattle.fault_count.specs.Cause.{Rose};
+ghost use Rattle.stored_graph.specs.Stands.{Stands};
 ghost use Rattle.console_words.specs.Words.{AsksFor};
 ghost use Rattle.console_words.specs.declared.run_options.RunOptions.{RunOptions};
 ghost use Rattle.console_words.specs.declared.sample_options.SampleOptions.{SampleOptions};
@@ -15,7 +16,7 @@ ghost use Rattle.txn_core.specs.Opening.{StaysAsItWas};
 ghost use Rattle.recovery.specs.Finding.{IsCareful};
 ghost use Rattle.graph_session.specs.Known.{as_known};
 ghost use Rattle.graph_session.specs.Opening.{IsUnopened, LeavesRefused, StandsForOne};
-ghost use Rattle.graph_session.specs.Stands.{Stands};
+ghost use Rattle.graph_console.specs.AnyDisk.{terms_over};
 ghost use Rattle.graph_console.specs.Follow.{Follows};
 ghost use Rattle.graph_console.specs.Program.{AskForNothing, AskForSample, EndsWithLine};
 ghost use Rattle.graph_console.specs.Program.{HasStreamCause, HoldsGraph, Refuses, ServesOn};
@@ -62,6 +63,15 @@ pub fn graph_main<S: Source, K: Sink, D: Disk>(
         → HoldsGraph (as_known known D.Disk) disk.old
         → ServesOn S.Source K.Sink
         (terms_for (as_known known D.Disk) options disk.old disk.new) result
+        (streams input.old output.old) (streams input.new output.new) }
+
+    // Over any disk, whatever is in it, each line does what the session's contract says, from what
+    // opening the store left to the disk as it is left. So a run in which no line acknowledges a
+    // transaction, and none says that the disk failed, loses no record of a store, also of one that
+    // breaks a rule.
+    ensures steps { (options : RunOptions)
+        → AsksFor (map string_bytes words.items) (Asked.Run options)
+        → ServesOn S.Source K.Sink (terms_over D.Disk options disk.old disk.new) result
         (streams input.old output.old) (streams input.new output.new) }
 
     // Where the store was not opened, one line says why, and the disk holds what it held or a new
@@ -158,6 +168,8 @@ fn run<S: Source, K: Sink, D: Disk>(
     ensures serves { (known : Bool) → HoldsGraph (as_known known D.Disk) disk.old
         → ServesOn S.Source K.Sink
         (terms_for (as_known known D.Disk) options disk.old disk.new) result
+        (streams input.old output.old) (streams input.new output.new) }
+    ensures steps { ServesOn S.Source K.Sink (terms_over D.Disk options disk.old disk.new) result
         (streams input.old output.old) (streams input.new output.new) }
     ensures unopened { IsUnopenedExit result → K.tells
         → Writes (K.taken output.old) (K.taken output.new) (EndsUnopened

@@ -5,8 +5,10 @@ ghost use Rattle.graph_session.specs.Known.{as_known};
 ghost use Rattle.graph_session.specs.Session.{HaveSameDisk, shared_view, view};
 ghost use Rattle.graph_session.specs.SharedConsole.{IsSharedAt};
 ghost use Rattle.graph_session.specs.Snapshots.{SharedState};
+ghost use Rattle.graph_console.specs.AnyDisk.{terms_on};
 ghost use Rattle.graph_console.specs.Program.{HasStreamCause, ServesOn, streams, terms_from};
-ghost use Rattle.graph_console.specs.Serve.{IsRunExit, Turns, exit_after_turn, exit_at_end, loop};
+ghost use Rattle.graph_console.specs.Serve.{IsRunExit, Turns, TurnsOver, exit_after_turn};
+ghost use Rattle.graph_console.specs.Serve.{exit_at_end, loop};
 
 use crate::Exit;
 use disk_model::Disk;
@@ -25,6 +27,12 @@ pub(crate) fn serve<S: Source, K: Sink, D: Disk>(
         → IsSharedAt (as_known known D.Disk) (shared_view session.old) first
         → ServesOn S.Source K.Sink (terms_from (as_known known D.Disk) first
         (view session.old).disk (view session.new).disk) result
+        (streams input.old output.old) (streams input.new output.new) }
+    // From a view that the session has, each line does what the session says over any disk.
+    ensures steps { (first : SharedState)
+        → IsSharedAt (as_known false D.Disk) (shared_view session.old) first
+        → ServesOn S.Source K.Sink
+        (terms_on D.Disk (shared_view session.old) (view session.new).disk) result
         (streams input.old output.old) (streams input.new output.new) }
     // At most 2^30 bytes are taken from the input.
     ensures within { S.tells
@@ -49,6 +57,9 @@ fn serve_line<S: Source, K: Sink, D: Disk>(
     output: &mut K,
 ) -> Option<Exit>
     ensures turns { Turns S.Source K.Sink D.Disk result
+        (loop reader.old input.old output.old (shared_view session.old))
+        (loop reader.new input.new output.new (shared_view session.new)) }
+    ensures steps { TurnsOver S.Source K.Sink D.Disk result
         (loop reader.old input.old output.old (shared_view session.old))
         (loop reader.new input.new output.new (shared_view session.new)) }
     ensures counted { S.tells → reader.new.taken + length (S.left input.new)

@@ -16,7 +16,7 @@ use Rattle.graph_session.specs.Effects.{Stays}
 use Rattle.graph_session.specs.Exchange.{ConsoleStep, Exchange, IsDone, told_fault}
 use Rattle.graph_session.specs.Known.{as_known}
 use Rattle.graph_session.specs.Moments.{ComesTo}
-use Rattle.graph_session.specs.ReaderAnswers.{MayStepAs}
+use Rattle.graph_session.specs.ReaderAnswers.{AsksQuestion, MayStepAs}
 use Rattle.graph_session.specs.Refusals.{IsRefused}
 use Rattle.graph_session.specs.SharedAnswer.{SettlesLine, SettlesShared, UsesAs}
 use Rattle.graph_session.specs.SharedConsole.{IsSharedAt}
@@ -25,9 +25,11 @@ use Rattle.graph_session.specs.SharedExchange.{AsksForSnapshot, SharedStep, step
 use Rattle.graph_session.specs.SnapshotEffects.{SharedView}
 use Rattle.graph_session.specs.Snapshots.{SharedState}
 use Rattle.graph_session.specs.State.{IsQuit, NeverLacksMemory, State, mark_in, session_in}
+use Rattle.graph_session.specs.Verdicts.{JudgesLine}
 use Rattle.graph_session.specs.declared.turn.Turn.{Turn}
 use Rattle.graph_session.specs.declared.turn.Turn.TheVariants.{Go, Quit, SinkFault}
 use Rattle.graph_session.proofs.DiskUse.{uses-none}
+use Rattle.graph_session.proofs.Judged.{judges-none}
 use Rattle.graph_session.proofs.Staying.{comes-stays, crash-kept, stays-none}
 
 -- the reply says that the command was carried out
@@ -163,14 +165,15 @@ AnswersWith disk sink line old new turn reply = (answers : AnswersLine disk sink
 module _ {D K : Type 0} {g : DiskGhosts D} {sink : SinkGhosts K} {line : InputLine} {old new : Terminal D K} {turn : Turn} where
   -- the reply of a settled line was given to the sink
   pub given-with : (reply : Reply) → Gives sink (marked_text (mark_in line) reply) old.output new.output turn → ¬ IsQuit line → Onward g old.session new.session
-      → (HasNoDraft old.session → MayStepAs g (session_in line) line (shared_in old) reply (shared_in new))
+      → (HasNoDraft old.session → MayStepAs g (session_in line) line (shared_in old) reply (shared_in new)) → JudgesLine g line (shared_in old) reply
       → ((known : Bool) (state : SharedState) → IsSharedAt (as_known known g) (shared_in old) state → SettlesLine (as_known known g) line (shared_in old) (shared_in new) state reply) → AnswersWith g sink line old new turn reply
-  given-with reply gives runs onward may settles = (
+  given-with reply gives runs onward may judges settles = (
     record {
       reply = reply;
       text = gives.delivers;
       quit = (λ e. absurd (gives.goes e), λ h. absurd (runs h));
       may = may;
+      judges = judges;
       settles = settles;
       cause = gives.cause;
       later = gives.later;
@@ -180,9 +183,9 @@ module _ {D K : Type 0} {g : DiskGhosts D} {sink : SinkGhosts K} {line : InputLi
   )
 
   pub answers-given : (reply : Reply) → Gives sink (marked_text (mark_in line) reply) old.output new.output turn → ¬ IsQuit line → Onward g old.session new.session
-      → (HasNoDraft old.session → MayStepAs g (session_in line) line (shared_in old) reply (shared_in new))
+      → (HasNoDraft old.session → MayStepAs g (session_in line) line (shared_in old) reply (shared_in new)) → JudgesLine g line (shared_in old) reply
       → ((known : Bool) (state : SharedState) → IsSharedAt (as_known known g) (shared_in old) state → SettlesLine (as_known known g) line (shared_in old) (shared_in new) state reply) → AnswersLine g sink line old new turn
-  answers-given reply gives runs onward may settles = (given-with reply gives runs onward may settles).0
+  answers-given reply gives runs onward may judges settles = (given-with reply gives runs onward may judges settles).0
 
 -- a turn without a fault of the sink delivers nothing
 delivers-nothing : (turn : Turn) (text : List ℕ) → turn ≢ SinkFault → Delivers turn text text []
@@ -192,13 +195,14 @@ delivers-nothing SinkFault text goes = absurd (goes refl)
 
 module _ {D K : Type 0} {g : DiskGhosts D} (only : OnlyNow g) {sink : SinkGhosts K} {line : InputLine} where
   -- the line gets no reply
-  pub answers-silent : {terminal : Terminal D K} {turn : Turn} → turn ≢ SinkFault → ((turn ≡ Quit) ↔ IsQuit line) → MayStepAs g (session_in line) line (shared_in terminal) Silent (shared_in terminal)
+  pub answers-silent : {terminal : Terminal D K} {turn : Turn} → turn ≢ SinkFault → ((turn ≡ Quit) ↔ IsQuit line) → MayStepAs g (session_in line) line (shared_in terminal) Silent (shared_in terminal) → ¬ AsksQuestion line
       → ((state : SharedState) → SharedStep state (exchange line false Silent) state) → AnswersLine g sink line terminal terminal turn
-  answers-silent {terminal = terminal} {turn = turn} goes quit may step = record {
+  answers-silent {terminal = terminal} {turn = turn} goes quit may unasked step = record {
     reply = Silent;
     text = λ told. delivers-nothing turn (sink.taken terminal.output) goes;
     quit = quit;
     may = λ none. may;
+    judges = judges-none g (shared_in terminal) line Silent unasked;
     settles = λ known state at. settles-unchanged {g = as_known known g} only at refl (step state);
     cause = λ e. absurd (goes e);
     later = omega arith;
@@ -207,14 +211,14 @@ module _ {D K : Type 0} {g : DiskGhosts D} (only : OnlyNow g) {sink : SinkGhosts
 
   -- it gets one, and changes nothing
   pub unchanged-with : {session : SessionView D} {held : Snapshots} {before after : K} {turn : Turn} (reply : Reply) → told_fault reply ≡ 0 → Gives sink (marked_text (mark_in line) reply) before after turn → ¬ IsQuit line
-      → MayStepAs g (session_in line) line (record { session = session; held = held }) reply (record { session = session; held = held })
+      → MayStepAs g (session_in line) line (record { session = session; held = held }) reply (record { session = session; held = held }) → JudgesLine g line (record { session = session; held = held }) reply
       → ((known : Bool) (state : SharedState) → IsSharedAt (as_known known g) (record { session = session; held = held }) state → SharedStep state (exchange line false reply) state)
       → AnswersWith g sink line (record { session = session; held = held; output = before }) (record { session = session; held = held; output = after }) turn reply
-  unchanged-with reply quiet gives runs may step =
-      given-with {line = line} reply gives runs (onward-none only) (λ none. may) (λ known state at. settles-unchanged {g = as_known known g} only at quiet (step known state at))
+  unchanged-with reply quiet gives runs may judges step =
+      given-with {line = line} reply gives runs (onward-none only) (λ none. may) judges (λ known state at. settles-unchanged {g = as_known known g} only at quiet (step known state at))
 
   pub answers-unchanged : {session : SessionView D} {held : Snapshots} {before after : K} {turn : Turn} (reply : Reply) → told_fault reply ≡ 0 → Gives sink (marked_text (mark_in line) reply) before after turn → ¬ IsQuit line
-      → MayStepAs g (session_in line) line (record { session = session; held = held }) reply (record { session = session; held = held })
+      → MayStepAs g (session_in line) line (record { session = session; held = held }) reply (record { session = session; held = held }) → JudgesLine g line (record { session = session; held = held }) reply
       → ((known : Bool) (state : SharedState) → IsSharedAt (as_known known g) (record { session = session; held = held }) state → SharedStep state (exchange line false reply) state)
       → AnswersLine g sink line (record { session = session; held = held; output = before }) (record { session = session; held = held; output = after }) turn
-  answers-unchanged reply quiet gives runs may step = (unchanged-with reply quiet gives runs may step).0
+  answers-unchanged reply quiet gives runs may judges step = (unchanged-with reply quiet gives runs may judges step).0

@@ -115,7 +115,7 @@ module _ {D : Type 0} (g : Ghosts D) (old : SessionView D) (reply : Reply) (new 
   keep_none commands.Reopen (inl refused) = kept_none old new none refused.2
   keep_none commands.Reopen (inr (closed, leaves, inl done)) = done.1.ends.no_draft
   keep_none commands.Reopen (inr (closed, leaves, inr (inl failed))) = failed.1.ends.no_draft
-  keep_none commands.Reopen (inr (closed, leaves, inr (inr damaged))) = damaged.1.ends.no_draft
+  keep_none commands.Reopen (inr (closed, leaves, inr (inr damaged))) = damaged.2.ends.no_draft
   keep_none _ may = absurd may
 
   answer_none : (kind : Kind) (command : Command) → MayAnswerKind g old reply new kind command → HasNoDraft new

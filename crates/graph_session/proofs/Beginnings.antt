@@ -21,7 +21,12 @@ use Rattle.rec_bytes.specs.declared.shape.Shape.{Shape}
 use Rattle.record_file.specs.Records.{IsUnmade, record_at}
 use Rattle.record_file.specs.Redone.{Redoes}
 use Rattle.record_file.proofs.Redone.{Redoes-kept}
+use Rattle.record_file.specs.Unique.{Redoes-unique}
 use Rattle.recovery.specs.Finding as finding
+use Rattle.stored_graph.specs.Stands.{Stands}
+use Rattle.stored_graph.specs.Versions.{IsIndexedIn}
+use Rattle.stored_graph.proofs.Stands.{Stands-only, unmade-not_found}
+use Rattle.stored_graph.proofs.Versions.{graph_of-raised, newest-indexed}
 use Rattle.txn_core.specs.Base.{OnlyReadsBase}
 use Rattle.txn_core.specs.Config.{Suits, shape_of}
 use Rattle.txn_core.specs.Kept.{IsOnDisk}
@@ -45,17 +50,14 @@ use Rattle.txn_core.proofs.StoreRecords.{committed-read, drafted-none, working-n
 use Rattle.graph_session.specs.Console.{IsAt, SessionView}
 use Rattle.graph_session.specs.Known.{as_known}
 use Rattle.graph_session.specs.Opening.{IsUnopened, LeavesByOpening, LeavesOldOrSame, LeavesRefused, Opens, RefusesContent, StandsForOne, Starts, StartsAs, unloaded}
-use Rattle.graph_session.specs.Stands.{Stands}
 use Rattle.graph_session.specs.State.{Live, State}
-use Rattle.graph_session.specs.Versions.{IsIndexedIn}
 use Rattle.graph_session.specs.declared.health.Health.TheVariants as healths
 use Rattle.graph_session.proofs.Knowing.{on_disk-known, told_of}
 use Rattle.graph_session.proofs.Openings.{starts-stands}
-use Rattle.graph_session.proofs.Stands.{Redoes-only, Stands-only, all-admitted, own-one, redone-held, unmade-not_found}
+use Rattle.graph_session.proofs.Stands.{all-admitted, own-one, redone-held}
 use Rattle.graph_session.proofs.States.{same_one}
 use Rattle.graph_session.proofs.StoreRecords.{draft-read}
 use Rattle.graph_session.proofs.Streams.{Rose-from}
-use Rattle.graph_session.proofs.Versions.{graph_of-raised, newest-indexed}
 
 -- ---- the records of the store
 
@@ -80,7 +82,7 @@ new-store content config shape space unmade allowed shape_is space_is =
 found-store : (content : Files) (shape other : Shape) (before : Key → Rec) (graph : Graph) → Redoes content before → finding.IsMade before shape → Stands content other graph → IsIndexedIn before shape
 found-store content shape other before graph redoes found (inl unmade) = absurd (unmade-not_found content shape before unmade.0 redoes found)
 found-store content shape other before graph redoes found (inr made) =
-    let same : made.space ≡ before = Redoes-only content made.space before made.redoes redoes in
+    let same : made.space ≡ before = Redoes-unique content made.space before made.redoes redoes in
     let shapes : other ≡ shape = same_one other shape (sym made.store.made.own ∙ ap (λ (records : Key → Rec). shape_of_record (records own_key)) same ∙ found.own) in
     subst (λ (s : Shape). IsIndexedIn before s) shapes (subst (λ (records : Key → Rec). IsIndexedIn records other) same made.store)
 

@@ -4,6 +4,7 @@ use Rattle.disk_model.specs.declared.disk.Disk.{Ghosts as DiskGhosts}
 use Rattle.disk_model.proofs.Spans.{OnlyNow}
 use Rattle.stream_io.specs.Lines.{Long, Whole}
 use Rattle.stream_io.specs.declared.streams.Sink.{Ghosts as SinkGhosts}
+use Rattle.plain_graph.specs.Lines.{IsQuestion}
 use Rattle.plain_graph.specs.Reply.{Faulted, NoMemory, Refused, Reply, marked_text}
 use Rattle.plain_graph.specs.declared.command.Command.{Command}
 use Rattle.plain_graph.specs.declared.command.Command.TheVariants as commands
@@ -31,6 +32,7 @@ use Rattle.graph_session.proofs.Anyhow.{keeps-end, may-served, may-write}
 use Rattle.graph_session.proofs.Answering.{AnswersWith, answers-silent, answers-unchanged, given-with, settles-written, unchanged-with}
 use Rattle.graph_session.proofs.AtOnce.{apart-only, asks-only, may-silent, may-turn_away, may-unanswered, may-writer, step-fault, step-memory, step-refused, step-silent, step-writer}
 use Rattle.graph_session.proofs.Conditions.{failed-refused, long-refused}
+use Rattle.graph_session.proofs.Judged.{JudgesCommand, judges-failed, judges-memory, judges-none, judges-parsed, unasked}
 use Rattle.graph_session.proofs.SharedSettling.{settles-shared}
 use Rattle.graph_session.proofs.Spelling.{IsMute, lacks-memory, quit-only, silent-mute, spells-same}
 use Rattle.graph_session.proofs.States.{is_failed}
@@ -63,6 +65,11 @@ loud-not_mute : (command : Command) → IsLoud command → ¬ IsMute command
 loud-not_mute command loud (inl e) = subst IsLoud e loud tt
 loud-not_mute command loud (inr e) = subst IsLoud e loud tt
 
+-- a command about snapshots reads nothing of the graph
+sight-unasked : (command : Command) → IsOfSnapshots command → ¬ IsQuestion command
+sight-unasked command (inl is) asks = subst IsQuestion is asks
+sight-unasked command (inr is) asks = subst IsQuestion is asks
+
 -- the reply has the line's mark
 pub given-marked : {K : Type 0} {sink : SinkGhosts K} {line : List ℕ} {session : ℕ} {command : Command} {mark : List ℕ} → IsParsed line session command mark → {before after : K} {turn : Turn} (reply : Reply)
     → Gives sink (marked_text mark reply) before after turn → Gives sink (marked_text (mark_in (Whole line)) reply) before after turn
@@ -71,12 +78,13 @@ given-marked {sink = sink} parsed {before = before} {after = after} {turn = turn
 module _ {D K : Type 0} {g : DiskGhosts D} {sink : SinkGhosts K} {line : List ℕ} {session : ℕ} {command : Command} {mark : List ℕ} (parsed : IsParsed line session command mark) where
   -- a command that was settled, and whose reply was given
   pub settled-with : {old new : Terminal D K} {turn : Turn} (reply : Reply) → session ≡ 0 → IsLoud command → ¬ IsOfSnapshots command → IsServed old.session.console command → SettlesCommand g command old.session new.session reply
-      → KeepsOlds g command (shared_in old) reply (shared_in new) → Gives sink (marked_text mark reply) old.output new.output turn → AnswersWith g sink (Whole line) old new turn reply
-  settled-with {old = old} {new = new} reply writes loud apart served settles keeps gives =
+      → KeepsOlds g command (shared_in old) reply (shared_in new) → JudgesCommand g session command (shared_in old) reply → Gives sink (marked_text mark reply) old.output new.output turn → AnswersWith g sink (Whole line) old new turn reply
+  settled-with {old = old} {new = new} reply writes loud apart served settles keeps judges gives =
       let first = parsed.session_is ∙ writes in
       let none = apart-only parsed.only apart in
       given-with {line = Whole line} reply (given-marked parsed reply gives) (quit-only parsed.only (λ e. loud-not_mute command loud (inr e))) settles.onward
       (λ free. may-write (shared_in old) (shared_in new) (session_of line) first none (may-served parsed.only served (settles.may free)) (keeps-end (shared_in old) (shared_in new) parsed.only keeps))
+      (judges-parsed g (shared_in old) parsed reply judges)
       (λ known state at.
       let done = settles.settles known line state.writer parsed.only served at.writer in
       settles-written {line = Whole line} first none done.uses (settles-shared known parsed.only at served done (settles.may at.writer.no_draft) keeps))
@@ -94,6 +102,7 @@ module _ {D K : Type 0} (g : DiskGhosts D) (only_now : OnlyNow g) (sink : SinkGh
       unchanged-with {g = g} only_now {line = Whole line} (Refused refusals.Failed) refl (given-marked parsed (Refused refusals.Failed) gives) (quit-only only (λ e. mute (inr e)))
       (may-turn_away g (record { session = session; held = held }) (session_of line) first (Whole line) (Refused refusals.Failed) none
       (inr (inr (refl, failed, (λ silent. mute (silent-mute only silent)), λ spells. again (spells-same only commands.Reopen spells)))))
+      (judges-failed g (record { session = session; held = held }) (Whole line) (Refused refusals.Failed) failed)
       (λ known state at. step-refused (session_of line) first state (Whole line) none refusals.Failed (failed-refused state.writer only (is_failed at.writer failed) mute again))
 
   -- it has no snapshots
@@ -103,7 +112,8 @@ module _ {D K : Type 0} (g : DiskGhosts D) (only_now : OnlyNow g) (sink : SinkGh
       let first = parsed.session_is ∙ writes in
       let asks = asks-only parsed.only about in
       answers-unchanged {g = g} only_now {line = Whole line} (Refused refusals.Writer) refl (given-marked parsed (Refused refusals.Writer) gives) (quit-only parsed.only (λ e. loud-not_mute command loud (inr e)))
-      (may-writer g (record { session = session; held = held }) (session_of line) first (Whole line) asks) (λ known state at. step-writer (session_of line) first state (Whole line) asks)
+      (may-writer g (record { session = session; held = held }) (session_of line) first (Whole line) asks) (judges-none g (record { session = session; held = held }) (Whole line) (Refused refusals.Writer) (unasked parsed.only (sight-unasked command about)))
+      (λ known state at. step-writer (session_of line) first state (Whole line) asks)
 
 -- ---- a line of whichever session
 
@@ -120,18 +130,18 @@ quit-apart (inr e) = cc
 
 module _ {D K : Type 0} (g : DiskGhosts D) (only_now : OnlyNow g) (sink : SinkGhosts K) where
   module _ {line : List ℕ} {terminal : Terminal D K} where
-    silent_line : {command : Command} {turn : Turn} → SpellsOnly line command → ¬ IsOfSnapshots command → turn ≢ turns.SinkFault → IsSilent (Whole line) → ((turn ≡ turns.Quit) ↔ IsQuit (Whole line)) → AnswersLine g sink (Whole line) terminal terminal turn
-    silent_line only apart goes silent quit =
+    silent_line : {command : Command} {turn : Turn} → SpellsOnly line command → ¬ IsOfSnapshots command → ¬ IsQuestion command → turn ≢ turns.SinkFault → IsSilent (Whole line) → ((turn ≡ turns.Quit) ↔ IsQuit (Whole line)) → AnswersLine g sink (Whole line) terminal terminal turn
+    silent_line only apart reads goes silent quit =
         let none = apart-only only apart in
-        answers-silent {g = g} only_now {line = Whole line} goes quit (may-silent g (shared_in terminal) (session_of line) (Whole line) none silent) (λ state. step-silent (session_of line) state (Whole line) none silent)
+        answers-silent {g = g} only_now {line = Whole line} goes quit (may-silent g (shared_in terminal) (session_of line) (Whole line) none silent) (unasked only reads) (λ state. step-silent (session_of line) state (Whole line) none silent)
 
     -- a line of blanks
     pub answers-blank : SpellsOnly line commands.Blank → AnswersLine g sink (Whole line) terminal terminal turns.Go
-    answers-blank only = silent_line only blank-apart (λ e. cc) (inl only.spelled) ((λ e. cc), λ h. absurd (blank-not_quit (only.only commands.Quit h)))
+    answers-blank only = silent_line only blank-apart (λ asks. asks) (λ e. cc) (inl only.spelled) ((λ e. cc), λ h. absurd (blank-not_quit (only.only commands.Quit h)))
 
     -- the end of the run
     pub answers-quit : SpellsOnly line commands.Quit → AnswersLine g sink (Whole line) terminal terminal turns.Quit
-    answers-quit only = silent_line only quit-apart (λ e. cc) (inr only.spelled) ((λ e. only.spelled), λ h. refl)
+    answers-quit only = silent_line only quit-apart (λ asks. asks) (λ e. cc) (inr only.spelled) ((λ e. only.spelled), λ h. refl)
 
   module _ {session : SessionView D} {held : Snapshots} {before after : K} {turn : Turn} where
     -- the line is too long
@@ -140,6 +150,7 @@ module _ {D K : Type 0} (g : DiskGhosts D) (only_now : OnlyNow g) (sink : SinkGh
     answers-long gives =
         answers-unchanged {g = g} only_now {line = Long} (Refused refusals.LongLine) refl gives (λ quit. quit)
         (may-unanswered g (record { session = session; held = held }) 0 Long (Refused refusals.LongLine) long-apart (inl (refusals.LongLine, refl, inl (refl, refl))))
+        (judges-none g (record { session = session; held = held }) Long (Refused refusals.LongLine) (λ asks. asks.1))
         (λ known state at. step-refused 0 refl state Long long-apart refusals.LongLine (long-refused state.writer))
       where
         long-apart : ¬ AsksForSnapshot Long
@@ -158,11 +169,12 @@ module _ {D K : Type 0} (g : DiskGhosts D) (only_now : OnlyNow g) (sink : SinkGh
               let lacks = lacks-memory line (memory (memory-only fault is)) in
               let apart = fault-apart line (spells-none line fault none memory) in
               unchanged-with {g = g} only_now {line = Whole line} (Faulted [] NoMemory) refl given (spells-none line fault none memory commands.Quit tt)
-              (may-unanswered g (record { session = session; held = held }) (session_of line) (Whole line) (Faulted [] NoMemory) apart (inr (refl, lacks)))
+              (may-unanswered g (record { session = session; held = held }) (session_of line) (Whole line) (Faulted [] NoMemory) apart (inr (refl, lacks))) (judges-memory g (record { session = session; held = held }) (Whole line))
               (λ known state at. step-memory (session_of line) state (Whole line) apart lacks)
           by (Some why) is given =
               let first = leftmost (refused-other fault why is) in
               let apart = fault-apart line (spells-none line fault none memory) in
               unchanged-with {g = g} only_now {line = Whole line} (Refused why) refl given (spells-none line fault none memory commands.Quit tt)
               (may-unanswered g (record { session = session; held = held }) (session_of line) (Whole line) (Refused why) apart (inl (why, refl, inr (line, refl, fault, first, is))))
+              (judges-none g (record { session = session; held = held }) (Whole line) (Refused why) (λ asks. none (refused-other fault why is) asks.0 asks.1))
               (λ known state at. step-fault (session_of line) state line apart fault why first is)

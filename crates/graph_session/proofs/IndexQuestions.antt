@@ -14,9 +14,9 @@ use Rattle.plain_graph.specs.declared.item.Item.TheVariants as items
 use Rattle.plain_graph.specs.declared.refusal.Refusal.TheVariants as refusals
 use Rattle.plain_graph.specs.declared.value.Value.{Value}
 use Rattle.plain_graph.proofs.LineLaws.{change_first}
-use Rattle.rec_bytes.specs.declared.damage.Damage.{Damage}
 use Rattle.rec_bytes.specs.declared.space.Reads.{Ghosts as SpaceGhosts}
 use Rattle.store_rules.specs.Graph.{graph_of}
+use Rattle.prop_index.specs.Looking.{BlamesBroken}
 use Rattle.prop_index.specs.declared.lookup_fault.LookupFault.{LookupFault}
 use Rattle.prop_index.specs.declared.lookup_fault.LookupFault.TheVariants as faults
 use Rattle.traversal_run.specs.FoundNodes.{HasIndex, IsIndexRefusal}
@@ -54,12 +54,12 @@ module _ {R K : Type 0} {space : SpaceGhosts R} {sink : SinkGhosts K} {names : L
 
   -- what it begins with is not known
   pub asks-unfound : (fault : LookupFault) → (fault ≡ faults.NoIndex → index_of command ≢ None) → (fault ≡ faults.Disk → Rose (space.faults a) (space.faults b))
-      → OfStore space names a (λ graph. fault ≡ faults.NoIndex → lacks_index (index_of command) graph refusals.NoIndex) → OfStore space names a (λ graph. (damage : Damage) → fault ≢ faults.Damaged damage)
+      → OfStore space names a (λ graph. fault ≡ faults.NoIndex → lacks_index (index_of command) graph refusals.NoIndex) → (space.tells → BlamesBroken (space.state a).records (space.state a).shape fault)
       → Gives sink (marked_text mark (reply_of (answer_for fault))) before after turn → GivesReading space sink names command mark a b before after turn
-  asks-unfound faults.NoIndex some rose refused sound gives = no-index (index_of command) refl (some refl) (λ told store. refused told store refl) gives
-  asks-unfound faults.Memory some rose refused sound gives = asks-memory asks read gives
-  asks-unfound faults.Disk some rose refused sound gives = asks-disk asks read (rose refl) gives
-  asks-unfound (faults.Damaged damage) some rose refused sound gives = asks-damaged asks read damage (λ told store. sound told store damage refl) gives
+  asks-unfound faults.NoIndex some rose refused blames gives = no-index (index_of command) refl (some refl) (λ told store. refused told store refl) gives
+  asks-unfound faults.Memory some rose refused blames gives = asks-memory asks read gives
+  asks-unfound faults.Disk some rose refused blames gives = asks-disk asks read (rose refl) gives
+  asks-unfound (faults.Damaged damage) some rose refused blames gives = asks-damaged asks read damage blames gives
 
 -- ---- `find`
 
@@ -87,9 +87,9 @@ module _ (label key : List ℕ) (value : Value) where
         (λ told store. ap listed (sym (vertex_lines nodes) ∙ ap (map item_line) (is told store))) gives
 
     -- they are not known
-    pub gives-unfound : (fault : LookupFault) → (fault ≡ faults.Disk → Rose (space.faults a) (space.faults b)) → OfStore space names a (λ graph. IsIndexRefusal graph label key fault)
+    pub gives-unfound : (fault : LookupFault) → (fault ≡ faults.Disk → Rose (space.faults a) (space.faults b)) → OfStore space names a (λ graph. IsIndexRefusal graph label key fault) → (space.tells → BlamesBroken (space.state a).records (space.state a).shape fault)
         → Gives sink (marked_text mark (reply_of (answer_for fault))) before after turn → GivesReading space sink names (commands.Find label key value) mark a b before after turn
-    gives-unfound fault rose refused gives =
+    gives-unfound fault rose refused blames gives =
         asks-unfound finds (λ graph. tt) read fault (λ is e. cc) rose
         (λ told store is. (subst (IsIndexRefusal (graph_of (space.state a).records) label key) is (refused told store), refl))
-        (λ told store damage is. subst (IsIndexRefusal (graph_of (space.state a).records) label key) is (refused told store)) gives
+        blames gives

@@ -34,7 +34,7 @@ module _ {R K : Type 0} {space : SpaceGhosts R} {sink : SinkGhosts K} (names : L
     form = (one_line sound_text, inl refl, refl, refl);
     gives = gives;
     means = λ told store. ((λ limit. idle_reasons), (one_line sound_text, refl, refl, refl, refl));
-    verdict = λ told is. (refl, inl (refl, keeps told));
+    judges = λ told. record { verdict = λ is. (refl, inl (refl, keeps told)); blames = tt };
     told = λ blames. absurd (blames refl);
     read = read;
     idle = λ spared. absurd (check-spared spared);
@@ -49,7 +49,7 @@ module _ {R K : Type 0} {space : SpaceGhosts R} {sink : SinkGhosts K} (names : L
     form = (one_line (broken_text damage.file damage.id damage.rule), inr (damage.file, damage.id, damage.rule, refl), refl, refl);
     gives = gives;
     means = λ told store. absurd (let same = breaks told (record { store = store.store; indexes = store.indexes }) in cc);
-    verdict = λ told is. (refl, inr (damage, refl, least told));
+    judges = λ told. record { verdict = λ is. (refl, inr (damage, refl, least told)); blames = tt };
     told = λ blames. absurd (blames refl);
     read = read;
     idle = λ spared. absurd (check-spared spared);
@@ -62,7 +62,7 @@ module _ {R K : Type 0} {space : SpaceGhosts R} {sink : SinkGhosts K} (names : L
     form = (check-spared, one_line sound_text, inl refl, tt, ([], refl));
     gives = gives;
     means = λ told store. inl refl;
-    verdict = λ told is. (refl, tt);
+    judges = λ told. record { verdict = λ is. (refl, tt); blames = tt };
     told = λ blames. absurd (blames refl);
     read = read;
     idle = λ spared. absurd (check-spared spared);
@@ -74,7 +74,7 @@ module _ {R K : Type 0} {space : SpaceGhosts R} {sink : SinkGhosts K} (names : L
     form = (check-spared, one_line sound_text, inl refl, tt, ([], refl));
     gives = gives;
     means = λ told store. inl refl;
-    verdict = λ told is. (refl, tt);
+    judges = λ told. record { verdict = λ is. (refl, tt); blames = tt };
     told = λ blames. rose;
     read = read;
     idle = λ spared. absurd (check-spared spared);
@@ -89,7 +89,7 @@ gives-counts names read counts are gives = record {
   form = (one_line (counts_text counts), (counts, refl), refl, refl);
   gives = gives;
   means = λ told store. ((λ limit. idle_reasons), (one_line (counts_text counts), ap (λ (c : Counts). one_line (counts_text c)) (are store.store), refl, refl, refl));
-  verdict = λ told is. cc;
+  judges = λ told. record { verdict = λ is. cc; blames = tt };
   told = λ blames. absurd (blames refl);
   read = read;
   idle = λ spared. refl;

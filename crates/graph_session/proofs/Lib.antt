@@ -18,6 +18,7 @@ pub mod GraphIndexes
 pub mod Held
 pub mod IndexQuestions
 pub mod IndexesTold
+pub mod Judged
 pub mod Judging
 pub mod Knowing
 pub mod KeptChanges
@@ -45,7 +46,6 @@ pub mod Spelling
 pub mod Stands
 pub mod States
 pub mod Staying
-pub mod SentRecords
 pub mod SessionNumbers
 pub mod SharedDisks
 pub mod SharedNames
@@ -58,7 +58,6 @@ pub mod StoreRecords
 pub mod Streams
 pub mod Taps
 pub mod Transactions
-pub mod Versions
 pub mod Viewing
 pub mod Weighing
 pub mod Weights

@@ -92,7 +92,7 @@ module _ {D : Type 0} (g : Ghosts D) (line : InputLine) (old : SessionView D) (r
     keep-moves commands.Reopen spelled (inr (closed, leaves, inl (told, found))) =
         record { shape = found.ends.shape; live = λ confirms live. found.health; leaves = inr (inr (inl (spelled, subst Confirms (sym told) tt))) }
     keep-moves commands.Reopen spelled (inr (closed, leaves, inr (inl (fault, lost)))) = moves-failed lost.ends lost.health (faulted-unconfirmed fault.0)
-    keep-moves commands.Reopen spelled (inr (closed, leaves, inr (inr (damage, lost)))) = moves-failed lost.ends lost.health (faulted-unconfirmed damage.2)
+    keep-moves commands.Reopen spelled (inr (closed, leaves, inr (inr (damage, is, lost, blames)))) = moves-failed lost.ends lost.health (faulted-unconfirmed is)
     keep-moves _ spelled may = absurd may
 
     change-moves : (command : Command) → SpellsLine line command → IsChange command → MayChange g old reply new command → Moves g line old reply new

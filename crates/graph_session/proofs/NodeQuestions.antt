@@ -12,14 +12,14 @@ use Rattle.plain_graph.specs.declared.command.Command.TheVariants as commands
 use Rattle.plain_graph.specs.declared.refusal.Refusal.{Refusal}
 use Rattle.plain_graph.specs.declared.refusal.Refusal.TheVariants as refusals
 use Rattle.plain_graph.proofs.LineLaws.{change_first}
-use Rattle.rec_bytes.specs.declared.damage.Damage.{Damage}
+use Rattle.rec_bytes.specs.Space.{State}
 use Rattle.rec_bytes.specs.declared.space.Reads.{Ghosts as SpaceGhosts}
+use Rattle.store_rules.specs.Breaking.{Breaks}
 use Rattle.store_rules.specs.Graph.{graph_of}
-use Rattle.expand.specs.ExpandFault.{NotDamaged}
-use Rattle.expand.specs.Expanding.{TellsNode}
+use Rattle.expand.specs.Expanding.{IsExpandFault, TellsNode}
 use Rattle.expand.specs.declared.expand_fault.ExpandFault.{ExpandFault}
 use Rattle.expand.specs.declared.expand_fault.ExpandFault.TheVariants as faults
-use Rattle.path_find.specs.Finding.{TellsEnds}
+use Rattle.path_find.specs.Finding.{IsPathFault, TellsEnds}
 use Rattle.traversal_run.specs.Reading.{IsRead}
 use Rattle.graph_session.specs.Answer.{Gives}
 use Rattle.graph_session.specs.Answering.{reply_of}
@@ -102,9 +102,22 @@ end-missing V fault from to graph tells id is = by (subst (λ (f : ExpandFault).
     by (inl (same, missing)) = inl (missing, ap (λ (n : ℕ). refusals.NoNode n) same)
     by (inr (same, found, missing)) = inr (found, (missing, ap (λ (n : ℕ). refusals.NoNode n) same))
 
--- no record is said to be damaged
-pub undamaged : (V : Type 0) (fault : ExpandFault) → NotDamaged {T = V} (Err fault) → (damage : Damage) → ¬ (fault ≡ faults.Damaged damage)
-undamaged V fault sound damage is = subst (λ (f : ExpandFault). NotDamaged {T = V} (Err f)) is sound
+-- a record that is said to be damaged breaks a rule
+abbrev pub BlamesBroken : State → ExpandFault → Type 0
+BlamesBroken s (faults.Damaged damage) = Breaks s.records s.shape damage
+BlamesBroken s _ = Unit {0}
+
+pub one-blamed : (s : State) (node : ℕ) (fault : ExpandFault) → IsExpandFault s node fault → BlamesBroken s fault
+one-blamed s node (faults.NoNode id) told = tt
+one-blamed s node faults.Memory told = tt
+one-blamed s node faults.Disk told = tt
+one-blamed s node (faults.Damaged damage) told = told
+
+pub end-blamed : (s : State) (from to : ℕ) (fault : ExpandFault) → IsPathFault s from to fault → BlamesBroken s fault
+end-blamed s from to (faults.NoNode id) told = tt
+end-blamed s from to faults.Memory told = tt
+end-blamed s from to faults.Disk told = tt
+end-blamed s from to (faults.Damaged damage) told = told
 
 -- ---- what is given
 
@@ -125,9 +138,9 @@ module _ {R K : Type 0} {space : SpaceGhosts R} {sink : SinkGhosts K} {names : L
   -- what is asked of nodes is not known
   pub gives-unknown : AsksNode (asked_of command) → (fault : ExpandFault) → (fault ≡ faults.Disk → Rose (space.faults a) (space.faults b))
       → OfStore space names a (λ graph. (id : ℕ) → fault ≡ faults.NoNode id → LacksElement graph (asked_of command) (refusals.NoNode id))
-      → OfStore space names a (λ graph. (damage : Damage) → ¬ (fault ≡ faults.Damaged damage))
+      → (space.tells → BlamesBroken (space.state a) fault)
       → Gives sink (marked_text mark (reply_of (answer_for fault))) before after turn → GivesReading space sink names command mark a b before after turn
-  gives-unknown nodes (faults.NoNode id) rose missing sound gives = gives-missing (refusals.NoNode id) (tells-node (asked_of command) nodes id) (λ told store. missing told store id refl) gives
-  gives-unknown nodes faults.Memory rose missing sound gives = asks-memory (elements-asked asks) read gives
-  gives-unknown nodes faults.Disk rose missing sound gives = asks-disk (elements-asked asks) read (rose refl) gives
-  gives-unknown nodes (faults.Damaged damage) rose missing sound gives = asks-damaged (elements-asked asks) read damage (λ told store. sound told store damage refl) gives
+  gives-unknown nodes (faults.NoNode id) rose missing blames gives = gives-missing (refusals.NoNode id) (tells-node (asked_of command) nodes id) (λ told store. missing told store id refl) gives
+  gives-unknown nodes faults.Memory rose missing blames gives = asks-memory (elements-asked asks) read gives
+  gives-unknown nodes faults.Disk rose missing blames gives = asks-disk (elements-asked asks) read (rose refl) gives
+  gives-unknown nodes (faults.Damaged damage) rose missing blames gives = asks-damaged (elements-asked asks) read damage (λ told. inl (blames told)) gives

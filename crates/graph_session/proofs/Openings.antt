@@ -11,27 +11,30 @@ use Rattle.rec_bytes.specs.declared.key.Key.{Key}
 use Rattle.rec_bytes.specs.declared.record.Rec.{Rec}
 use Rattle.rec_bytes.specs.declared.shape.Shape.{Shape}
 use Rattle.record_file.specs.Redone.{Redoes}
+use Rattle.record_file.specs.Unique.{Redoes-unique}
+use Rattle.stored_graph.specs.Stands.{IsMade, Stands}
+use Rattle.stored_graph.proofs.Stands.{stands-recoverable, unmade-not_made}
+use Rattle.stored_graph.proofs.Versions.{graph_of-raised, newest-indexed}
 use Rattle.txn_core.specs.Opening.{IsOldOrRaised, IsStore}
 use Rattle.txn_core.specs.declared.config.Config.{Config}
 use Rattle.graph_session.specs.Console.{TellsAll}
 use Rattle.graph_session.specs.Opening.{LeavesByOpening, LeavesOldOrSame, StandsForOne, Starts, StartsAs}
-use Rattle.graph_session.specs.Stands.{IsAdmitted, IsMade, Stands}
+use Rattle.graph_session.specs.Stands.{IsAdmitted}
 use Rattle.graph_session.specs.State.{Admits, Live, State}
-use Rattle.graph_session.proofs.Stands.{Redoes-only, admits-own, stands-recoverable, unmade-not_made}
+use Rattle.graph_session.proofs.Stands.{admits-own}
 use Rattle.graph_session.proofs.States.{same_one}
-use Rattle.graph_session.proofs.Versions.{graph_of-raised, newest-indexed}
 
 -- what redoes to the records of a made store, as they were or in the newest version, stands for its graph
 pub redone-made : (content left : Files) (shape : Shape) (graph : Graph) (space : Key → Rec) → IsMade content shape graph → Redoes content space → IsOldOrRaised shape space left → IsMade left shape graph
 redone-made content left shape graph space made redoes (inl same) = record {
   space = made.space;
-  redoes = subst (λ (records : Key → Rec). Redoes left records) (Redoes-only content space made.space redoes made.redoes) same;
+  redoes = subst (λ (records : Key → Rec). Redoes left records) (Redoes-unique content space made.space redoes made.redoes) same;
   store = made.store;
   graph_is = made.graph_is;
 }
 redone-made content left shape graph space made redoes (inr newest) = record {
   space = raised shape made.space;
-  redoes = subst (λ (records : Key → Rec). Redoes left (raised shape records)) (Redoes-only content space made.space redoes made.redoes) newest;
+  redoes = subst (λ (records : Key → Rec). Redoes left (raised shape records)) (Redoes-unique content space made.space redoes made.redoes) newest;
   store = newest-indexed (raised shape made.space) shape made.store.store;
   graph_is = made.graph_is ∙ sym (graph_of-raised shape made.space made.store.made);
 }
@@ -39,7 +42,7 @@ redone-made content left shape graph space made redoes (inr newest) = record {
 -- a content has a store of one shape
 pub store-shape : (content : Files) (shape : Shape) (graph : Graph) → IsMade content shape graph → (other : Shape) (store : IsStore content other) → other ≡ shape
 store-shape content shape graph made other store =
-    let same : store.space ≡ made.space = Redoes-only content store.space made.space store.redoes made.redoes in
+    let same : store.space ≡ made.space = Redoes-unique content store.space made.space store.redoes made.redoes in
     same_one other shape (sym store.made.own ∙ ap (λ (records : Key → Rec). shape_of_record (records own_key)) same ∙ made.store.made.own)
 
 -- what an opening leaves is from before, or the state that the session begins with admits it

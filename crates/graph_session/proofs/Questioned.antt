@@ -13,7 +13,10 @@ use Rattle.rec_bytes.specs.declared.damage.Damage.{Damage}
 use Rattle.rec_bytes.specs.declared.fault.Fault.{Fault}
 use Rattle.rec_bytes.specs.declared.fault.Fault.TheVariants as faults
 use Rattle.rec_bytes.specs.declared.space.Reads.{Ghosts as SpaceGhosts}
+use Rattle.prop_index.specs.Blaming.{BlamesBroken}
+use Rattle.store_rules.specs.Breaking.{BreaksAny}
 use Rattle.store_rules.specs.Graph.{graph_of}
+use Rattle.store_rules.proofs.Breaches.{none_at_all}
 use Rattle.traversal_run.specs.Reading.{IsNamedStore, IsRead}
 use Rattle.graph_session.specs.Answer.{Gives}
 use Rattle.graph_session.specs.Answering.{reply_of}
@@ -50,7 +53,7 @@ module _ {R K : Type 0} {space : SpaceGhosts R} {sink : SinkGhosts K} {names : L
       (λ limit. unchanging-free command (asks-unchanging command asks.question) limit (graph_of (space.state a).records) (has told store) (there told store)),
       (reading, shows told store, none, refl, refl),
     );
-    verdict = λ told is. absurd (asks.unchecked is);
+    judges = λ told. record { verdict = λ is. absurd (asks.unchecked is); blames = tt };
     told = λ blames. absurd (blames refl);
     read = read;
     idle = λ spared. absurd (asks.unspared spared);
@@ -64,7 +67,7 @@ module _ {R K : Type 0} {space : SpaceGhosts R} {sink : SinkGhosts K} {names : L
     form = (refusable, lacks);
     gives = gives;
     means = λ told store limit. first told store limit;
-    verdict = λ told is. absurd (asks.unchecked is);
+    judges = λ told. record { verdict = λ is. absurd (asks.unchecked is); blames = tt };
     told = λ blames. absurd (blames refl);
     read = read;
     idle = λ spared. absurd (asks.unspared spared);
@@ -77,7 +80,7 @@ module _ {R K : Type 0} {space : SpaceGhosts R} {sink : SinkGhosts K} {names : L
     form = (asks.unspared, asks.reading, asks.formed, tt, (asks.reading.lines, refl));
     gives = gives;
     means = λ told store. inl refl;
-    verdict = λ told is. absurd (asks.unchecked is);
+    judges = λ told. record { verdict = λ is. absurd (asks.unchecked is); blames = tt };
     told = λ blames. absurd (blames refl);
     read = read;
     idle = λ spared. absurd (asks.unspared spared);
@@ -90,28 +93,29 @@ module _ {R K : Type 0} {space : SpaceGhosts R} {sink : SinkGhosts K} {names : L
     form = (asks.unspared, asks.reading, asks.formed, tt, (asks.reading.lines, refl));
     gives = gives;
     means = λ told store. inl refl;
-    verdict = λ told is. absurd (asks.unchecked is);
+    judges = λ told. record { verdict = λ is. absurd (asks.unchecked is); blames = tt };
     told = λ blames. rose;
     read = read;
     idle = λ spared. absurd (asks.unspared spared);
   }
 
-  -- a record is damaged, so it is no store
-  pub asks-damaged : (damage : Damage) → OfStore space names a (λ graph. ⊥) → Gives sink (marked_text mark (Faulted [] (DamagedRecord damage.file damage.id))) before after turn → GivesReading space sink names command mark a b before after turn
-  asks-damaged damage none gives = record {
+  -- a record breaks a rule, so it is no store
+  pub asks-damaged : (damage : Damage) → (space.tells → BreaksAny (space.state a).records (space.state a).shape damage)
+      → Gives sink (marked_text mark (Faulted [] (DamagedRecord damage.file damage.id))) before after turn → GivesReading space sink names command mark a b before after turn
+  asks-damaged damage broken gives = record {
     reply = Faulted [] (DamagedRecord damage.file damage.id);
     form = (asks.unspared, asks.reading, asks.formed, asks.unchecked, (asks.reading.lines, refl));
     gives = gives;
-    means = λ told store. none told store;
-    verdict = λ told is. absurd (asks.unchecked is);
+    means = λ told store. none_at_all (space.state a).records (space.state a).shape (record { store = store.store; indexes = store.indexes }) damage (broken told);
+    judges = λ told. record { verdict = λ is. absurd (asks.unchecked is); blames = (damage.rule, broken told) };
     told = λ blames. absurd (blames refl);
     read = read;
     idle = λ spared. absurd (asks.unspared spared);
   }
 
   -- records were not read to their end
-  pub asks-unread : (fault : Fault) → (fault ≡ faults.Disk → Rose (space.faults a) (space.faults b)) → OfStore space names a (λ graph. (damage : Damage) → fault ≢ faults.Damaged damage)
+  pub asks-unread : (fault : Fault) → (fault ≡ faults.Disk → Rose (space.faults a) (space.faults b)) → (space.tells → BlamesBroken (space.state a).records (space.state a).shape fault)
       → Gives sink (marked_text mark (reply_of (answer_for_read fault))) before after turn → GivesReading space sink names command mark a b before after turn
-  asks-unread faults.Memory rose sound gives = asks-memory gives
-  asks-unread faults.Disk rose sound gives = asks-disk (rose refl) gives
-  asks-unread (faults.Damaged damage) rose sound gives = asks-damaged damage (λ told store. sound told store damage refl) gives
+  asks-unread faults.Memory rose blames gives = asks-memory gives
+  asks-unread faults.Disk rose blames gives = asks-disk (rose refl) gives
+  asks-unread (faults.Damaged damage) rose blames gives = asks-damaged damage blames gives

@@ -1,5 +1,5 @@
 -- A store that is found again, and its names.
-use Rattle.std.proofs.Common.{◌≡◌, ◌⊎◌, ⊎_elim, ◌∙◌, ℕ, ◌≤◌, Bool, false, List, [], length, inl, inr, refl, sym, ap, subst, arith}
+use Rattle.std.proofs.Common.{◌≡◌, ◌⊎◌, ⊎_elim, ◌∙◌, ℕ, ◌≤◌, Bool, false, List, [], ◌++◌, length, inl, inr, refl, sym, ap, subst, arith}
 use Rattle.std.proofs.lemmas.List.{nil_from_length}
 use Rattle.fault_count.specs.Cause.{Rose}
 use Rattle.disk_model.specs.Spans.{AtEachMoment, OnlyReads}
@@ -9,17 +9,24 @@ use Rattle.plain_graph.specs.Graph.{Graph}
 use Rattle.plain_graph.specs.Reply.{DamagedRecord, DiskFailed, Faulted}
 use Rattle.plain_graph.specs.declared.command.Command.TheVariants as commands
 use Rattle.rec_bytes.specs.Pairs.{Held}
+use Rattle.rec_bytes.specs.declared.damage.Damage.{Damage}
 use Rattle.rec_bytes.specs.declared.key.Key.{Key}
 use Rattle.rec_bytes.specs.declared.record.Rec.{Rec}
+use Rattle.rec_bytes.specs.declared.row_fault.RowFault.TheVariants as rows
 use Rattle.rec_bytes.specs.declared.shape.Shape.{Shape}
 use Rattle.record_file.specs.Redone.{Redoes}
 use Rattle.record_file.proofs.Redone.{Redoes-kept}
 use Rattle.recovery.specs.Finding as finding
 use Rattle.recovery.specs.Finding.{IsCareful}
 use Rattle.store_rules.specs.Graph.{names_of}
-use Rattle.txn_core.specs.Again.{IsOld, IsRecovered}
+use Rattle.store_rules.specs.Views.{Records}
+use Rattle.stored_graph.proofs.Versions.{newest-made, newest-not_old}
+use Rattle.name_store.specs.Again.{IsFirstOther}
+use Rattle.name_store.proofs.NameDamage.{NotDamaged-prefix}
+use Rattle.txn_core.specs.Again.{IsOld, IsRecovered, RefusesAgain}
 use Rattle.txn_core.specs.Base.{OnlyReadsBase, SameStore}
 use Rattle.txn_core.specs.Store.{content, drafted}
+use Rattle.txn_core.specs.declared.again_fault.AgainFault.TheVariants as again_faults
 use Rattle.txn_core.specs.declared.store.Store.{Store}
 use Rattle.txn_core.proofs.StoreRecords.{committed-read, drafted-none, working-none}
 use Rattle.graph_session.specs.Answering.{reply_of}
@@ -38,11 +45,14 @@ use Rattle.graph_session.proofs.Known.{known-admitted}
 use Rattle.graph_session.proofs.Moves.{seen_as}
 use Rattle.graph_session.proofs.Streams.{Rose-from}
 use Rattle.graph_session.proofs.Storage.{leaves-same_read, settles-reopen, settles-reopen_damaged, settles-reopen_fault}
-use Rattle.graph_session.proofs.Versions.{newest-made, newest-not_old}
 
 -- files that were left as they were are so after calls that only read
 pub careful-on : {D : Type 0} (g : Ghosts D) (first old new : D) → IsCareful g first old → OnlyReads g old new → IsCareful g first new
 careful-on g first old new careful reads told = ⊎_elim (λ only. inl (only_reads_on g first old new only reads)) (λ store. inr store) (careful told)
+
+-- a name that is blamed is none of names that begin with those of the records
+names-other : (records : Records) (names rest : List (List ℕ)) (damage : Damage) → names ≡ names_of records ++ rest → ¬ IsFirstOther records names damage
+names-other records names rest damage is other = NotDamaged-prefix records names rest (rows.Damaged damage) is other
 
 module _ {D : Type 0} {g : Ghosts D} where
   module _ (counts : CountsNow g) (s t : Store D g) (same : SameStore s.base t.base) (was_closed : s.base.in_transaction ≡ false) (closed : t.base.in_transaction ≡ false) (draft : t.draft.pairs ≡ [])
@@ -63,18 +73,20 @@ module _ {D : Type 0} {g : Ghosts D} where
     lost_disk rose = record { settles = λ known line state only served at. settles-reopen_fault {g = as_known known g} counts at was_closed only (leaves_known known) (lost-known known lost-at_once) rose; may = λ none. inr (was_closed, leaves, inr (inl ((refl, rose), lost-at_once))); onward = record { disk_later = later_on } }
 
     -- what is read was told to be no store of the newest version
-    pub lost_damaged : (file id : ℕ) → (g.tells_reads → (space : Key → Rec) → Redoes (content s) space → finding.IsMade space s.base.shape → ¬ IsOld space → ⊥)
-        → SettlesCommand g commands.Reopen (seen_as s health weight names) (seen_as t healths.Failed weight names) (Faulted [] (DamagedRecord file id))
-    lost_damaged file id sound = record {
-      settles = λ known line state only served at. settles-reopen_damaged {g = as_known known g} counts at was_closed only file id (leaves_known known) (lost-known known lost-at_once) (λ told. none known at told);
-      may = λ undrafted. inr (was_closed, leaves, inr (inr ((file, id, refl), lost-at_once)));
+    pub lost_damaged : (damage : Damage) → (g.tells_reads → (space : Key → Rec) → Redoes (content s) space → finding.IsMade space s.base.shape → ¬ IsOld space → ⊥)
+        → (g.tells_reads → RefusesAgain (content s) s.base.shape (again_faults.Damaged damage))
+        → SettlesCommand g commands.Reopen (seen_as s health weight names) (seen_as t healths.Failed weight names) (Faulted [] (DamagedRecord damage.file damage.id))
+    lost_damaged damage sound refused = record {
+      settles = λ known line state only served at. settles-reopen_damaged {g = as_known known g} counts at was_closed only damage.file damage.id (leaves_known known) (lost-known known lost-at_once) (λ told. none known at told);
+      may = λ undrafted. inr (was_closed, leaves, inr (inr (damage, refl, lost-at_once, λ told. inl (refused told))));
       onward = record { disk_later = later_on };
     }
       where
         none : (known : Bool) {state : State} → IsAt (as_known known g) (seen_as s health weight names) state → (as_known known g).tells_reads → ⊥
         none known {state = state} at told =
             let had = (at.reads told).2 in
-            sound (told_of known g told) had.space had.redoes (subst (λ (shape : Shape). finding.IsMade had.space shape) at.shape (newest-made had.space state.shape had.store)) (newest-not_old had.space state.shape had.store)
+            sound (told_of known g told) had.space had.redoes (subst (λ (shape : Shape). finding.IsMade had.space shape) at.shape (newest-made had.space state.shape had.store.store.ranges))
+            (newest-not_old had.space state.shape had.store.store.ranges)
 
     module _ (own : t.base.own ≡ s.base.own) (no_own : length s.base.own.pairs ≡ 0) (recovered : IsRecovered s.base t.base) (u : Store D g) (reads : OnlyReadsBase t.base u.base) (no_draft : u.draft.pairs ≡ [])
         (later_still : g.faults t.base.disk.now ≤ g.faults u.base.disk.now) where
@@ -99,6 +111,12 @@ module _ {D : Type 0} {g : Ghosts D} where
       -- the records that are served are those that what was read redoes to
       drafted-space : g.tells_reads → (space : Key → Rec) → Redoes (content s) space → drafted t ≡ space
       drafted-space told space redoes = drafted-none t draft ∙ working-none t.base no_own-now ∙ recovered.space told space redoes
+
+      -- the name that is blamed is one of those that what was read redoes to
+      other-found : (damage : Damage) → (g.tells_reads → IsFirstOther (drafted t) names damage) → g.tells_reads → (space : Key → Rec) × Redoes (content s) space × IsFirstOther space names damage
+      other-found damage blames told =
+          let had = recovered.store told in
+          (had.space, had.redoes, subst (λ (records : Records). IsFirstOther records names damage) (drafted-space told had.space had.redoes) (blames told))
 
       far : g.faults s.base.disk.now ≤ g.faults u.base.disk.now
       far = omega (arith, later_on, later_still)
@@ -148,7 +166,7 @@ module _ {D : Type 0} {g : Ghosts D} where
       }
       named_again healthier weigher named (answers.Damaged damage) takes = record {
         settles = λ known line state only served at.
-            settles-reopen_damaged {g = as_known known g} counts at was_closed only damage.file damage.id (leaves_all_known known) (lost-known known (lost healthier weigher named takes.0)) (λ told. takes.1 (told_of known g told) (names-begin known at told));
-        may = λ none. inr (was_closed, leaves_all, inr (inr ((damage.file, damage.id, refl), lost healthier weigher named takes.0)));
+            settles-reopen_damaged {g = as_known known g} counts at was_closed only damage.file damage.id (leaves_all_known known) (lost-known known (lost healthier weigher named takes.0)) (λ told. let begins = names-begin known at told in names-other (drafted t) names begins.0 damage begins.1 (takes.1 (told_of known g told)));
+        may = λ none. inr (was_closed, leaves_all, inr (inr (damage, refl, lost healthier weigher named takes.0, λ told. inr (other-found damage takes.1 told))));
         onward = record { disk_later = far };
       }

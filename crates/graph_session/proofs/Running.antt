@@ -1,5 +1,5 @@
 -- A query's results, taken from its run one by one.
-use Rattle.std.proofs.Common.{◌≡◌, ◌≢◌, ◌∙◌, ℕ, true, None, List, [], ◌∷◌, ◌++◌, append_assoc, inr, map, refl, sym, ap, subst, arith}
+use Rattle.std.proofs.Common.{◌≡◌, ◌≢◌, ◌∙◌, ℕ, true, None, List, [], ◌∷◌, ◌++◌, append_assoc, inl, inr, map, refl, sym, ap, subst, arith}
 use Rattle.std.proofs.lemmas.List.{append-nil, map-append}
 use Rattle.fault_count.specs.Cause.{Rose}
 use Rattle.stream_io.specs.declared.streams.Sink.{Ghosts as SinkGhosts}
@@ -12,13 +12,15 @@ use Rattle.plain_graph.specs.declared.command.Command.TheVariants as commands
 use Rattle.plain_graph.specs.declared.item.Item.{Item}
 use Rattle.plain_graph.specs.declared.query.Query.{Query}
 use Rattle.rec_bytes.specs.Space.{SameButReads, State}
-use Rattle.rec_bytes.specs.declared.damage.Damage.{Damage}
+use Rattle.prop_store.specs.Fault.{BlamesBroken}
 use Rattle.rec_bytes.specs.declared.fault.Fault.{Fault as StopFault}
 use Rattle.rec_bytes.specs.declared.fault.Fault.TheVariants as faults
 use Rattle.rec_bytes.specs.declared.shape.Shape.{Shape}
 use Rattle.rec_bytes.specs.declared.space.Reads.{Ghosts as SpaceGhosts}
+use Rattle.store_rules.specs.Breaking.{Breaks}
 use Rattle.store_rules.specs.Graph.{graph_of}
 use Rattle.store_rules.specs.Views.{Records}
+use Rattle.store_rules.proofs.Breaches.{none_broken}
 use Rattle.traversal_run.specs.Reading.{IsNamedStore, IsRead}
 use Rattle.traversal_run.specs.Row.{Stream, stream, with_first}
 use Rattle.traversal_run.specs.Run.{meant, stopped_by, to_come}
@@ -28,12 +30,13 @@ use Rattle.graph_session.specs.Exchange.{ShowsPast, ShowsSome, told_in}
 use Rattle.graph_session.specs.LineBuffer.{AddsLine, MarkedLines, no_lines, stop_of}
 use Rattle.graph_session.specs.Questions.{GivesReading, MeansFault}
 use Rattle.graph_session.specs.QueryResults.{AddsNone, AddsShown}
+use Rattle.graph_session.specs.Verdicts.{TellsBroken}
 use Rattle.graph_session.specs.declared.turn.Turn.{Turn}
 use Rattle.graph_session.specs.declared.turn.Turn.TheVariants.{Go}
 use Rattle.graph_session.proofs.ListedLines.{HasLines, lines-add, lines-last, lines-none, lines-stop}
 use Rattle.graph_session.proofs.Questioned.{OfStore}
 use Rattle.graph_session.proofs.Reasons.{HasAsked}
-use Rattle.graph_session.proofs.WholeReplies.{BeginResults, all_lines, asks-query, lines-first, more_lines, query-all, query-stop, query-tell, reading_of, rest_of, results-more, results-none, whole-form, whole-means, whole-text, whole-told, whole_of}
+use Rattle.graph_session.proofs.WholeReplies.{BeginResults, all_lines, asks-query, lines-first, more_lines, query-all, query-stop, query-tell, reading_of, rest_of, results-more, results-none, whole-blames, whole-form, whole-means, whole-text, whole-told, whole_of}
 use Rattle.graph_session.proofs.Streams.{Rose-from}
 
 -- ---- spaces that were only read
@@ -46,6 +49,10 @@ pub named-same : (s t : State) (names : List (List ℕ)) → SameButReads s t �
 named-same s t names same store =
     subst (λ (shape : Shape). IsNamedStore t.records shape names) (sym (ap (λ (x : State). x.shape) same))
     (subst (λ (records : Records). IsNamedStore records s.shape names) (sym (records-same s t same)) store)
+
+-- and so it does of a record that is said to be damaged
+blamed-same : (s t : State) (fault : StopFault) → SameButReads s t → BlamesBroken t.records t.shape fault → BlamesBroken s.records s.shape fault
+blamed-same s t fault same blames = subst (λ (x : State). BlamesBroken x.records x.shape fault) same blames
 
 same-on : (s t u : State) → SameButReads s t → SameButReads t u → SameButReads s u
 same-on s t u first more = more ∙ ap (λ (x : State). record x { reads = u.reads }) first
@@ -140,21 +147,22 @@ module _ {R K : Type 0} {space : SpaceGhosts R} {sink : SinkGhosts K} {names : L
           let all = first-found (stream []) (at_start (λ g. to_come g run ≡ stream []) ends told store) told store in
           query-all graph query (running.there told store) running.lines
           (running.shown told store ∙ ap (map line_of) (sym (ap (λ (s : Stream). s.items) all ∙ append-nil running.found))) (ap (λ (s : Stream). s.past) all);
-      verdict = λ told is. cc;
+      judges = λ told. record { verdict = λ is. cc; blames = tt };
       told = λ blames. absurd (blames refl);
       read = read-on;
       idle = λ spared. absurd ((asks-query query).unspared spared);
     }
 
     -- the run stopped with a fault
-    pub running-fault : (fault : Fault) → OfStore space names old (λ graph. MeansFault graph (commands.Query query) running.lines fault) → (told_in fault ≢ 0 → Rose (space.faults now) (space.faults next)) → (then : K) (turn : Turn)
+    pub running-fault : (fault : Fault) → OfStore space names old (λ graph. MeansFault graph (commands.Query query) running.lines fault) → (told_in fault ≢ 0 → Rose (space.faults now) (space.faults next))
+        → (space.tells → TellsBroken (space.state old).records (space.state old).shape (Faulted running.lines fault)) → (then : K) (turn : Turn)
         → Gives sink (held.bytes ++ (held.mark ++ fault_line fault)) after then turn → GivesReading space sink names (commands.Query query) mark old next before then turn
-    running-fault fault means rose then turn gives = record {
+    running-fault fault means rose broken then turn gives = record {
       reply = Faulted running.lines fault;
       form = query-stop query running.lines running.formed fault;
       gives = lines-last running.has (fault_line fault) then turn gives;
       means = λ told store. means told store;
-      verdict = λ told is. cc;
+      judges = λ told. record { verdict = λ is. cc; blames = broken told };
       told = λ blames. Rose-from (space.faults old) (space.faults now) (space.faults next) running.read.later (rose blames);
       read = read-on;
       idle = λ spared. absurd ((asks-query query).unspared spared);
@@ -173,12 +181,14 @@ module _ {R K : Type 0} {space : SpaceGhosts R} {sink : SinkGhosts K} {names : L
   shows-past passes told store = (reading_of graph query, refl, past-found passes told store, begin-lines told store)
 
   -- records were not read to their end
-  pub running-stopped : {next : R} → IsRead space now next → (fault : StopFault) → (fault ≡ faults.Disk → Rose (space.faults now) (space.faults next)) → OfStore space names now (λ graph. (damage : Damage) → fault ≢ faults.Damaged damage)
+  pub running-stopped : {next : R} → IsRead space now next → (fault : StopFault) → (fault ≡ faults.Disk → Rose (space.faults now) (space.faults next)) → (space.tells → BlamesBroken (space.state now).records (space.state now).shape fault)
       → (then : K) (turn : Turn) → Gives sink (held.bytes ++ (held.mark ++ fault_line (stop_of fault))) after then turn → GivesReading space sink names (commands.Query query) mark old next before then turn
-  running-stopped reads faults.Memory rose sound then turn gives = running-fault reads NoMemory shows-some (λ blames. absurd (blames refl)) then turn gives
-  running-stopped reads faults.Disk rose sound then turn gives = running-fault reads DiskFailed shows-some (λ blames. rose refl) then turn gives
-  running-stopped reads (faults.Damaged damage) rose sound then turn gives =
-      running-fault reads (DamagedRecord damage.file damage.id) (λ told store. absurd (sound told (named-now store) damage refl)) (λ blames. absurd (blames refl)) then turn gives
+  running-stopped reads faults.Memory rose blames then turn gives = running-fault reads NoMemory shows-some (λ told. absurd (told refl)) (λ told. tt) then turn gives
+  running-stopped reads faults.Disk rose blames then turn gives = running-fault reads DiskFailed shows-some (λ told. rose refl) (λ told. tt) then turn gives
+  running-stopped reads (faults.Damaged damage) rose blames then turn gives =
+      let broken : space.tells → Breaks (space.state old).records (space.state old).shape damage = λ told. blamed-same (space.state old) (space.state now) (faults.Damaged damage) running.read.same (blames told) in
+      running-fault reads (DamagedRecord damage.file damage.id) (λ told store. absurd (none_broken (space.state old).records (space.state old).shape store.store damage (broken told)))
+      (λ told. absurd (told refl)) (λ told. (damage.rule, inl (broken told))) then turn gives
 
   -- ---- one more result
 
@@ -231,18 +241,18 @@ module _ {R K : Type 0} {space : SpaceGhosts R} {sink : SinkGhosts K} {names : L
             form = whole-form graph query lines found formed-more past;
             gives = subst (λ (text : List ℕ). Gives sink text before then turn) (whole-text mark past lines more) (lines-stop running.has adds.line new then turn adds.adds stops (rest_of mark past more));
             means = λ told store. whole-means graph query lines found (running.there told store) (shown-more told store) ((to_come graph later).items, sym (ap (λ (s : Stream). s.items) (found_more told store))) past refl;
-            verdict = λ told is. cc;
+            judges = λ told. record { verdict = λ is. cc; blames = whole-blames (space.state old).records (space.state old).shape past lines more };
             told = λ blames. absurd (blames (whole-told past lines more));
             read = read-to reads;
             idle = λ spared. absurd ((asks-query query).unspared spared);
           }
 
     -- its line was not known
-    pub running-unshown : {new : MarkedLines} {between then : K} {next : R} (fault : StopFault) → IsRead space mid next → AddsNone space names mid next held new after between fault → (turn : Turn)
+    pub running-unshown : {new : MarkedLines} {between then : K} {next : R} (fault : StopFault) → IsRead space mid next → AddsNone space mid next held new after between fault → (turn : Turn)
         → Gives sink (new.bytes ++ (new.mark ++ fault_line (stop_of fault))) between then turn → GivesReading space sink names (commands.Query query) mark old next before then turn
     running-unshown {new = new} {between = between} {then = then} {next = next} fault reads none turn gives =
         running-stopped (is_read-on space further now mid next comes-read reads) fault
         (λ is. Rose-from (space.faults now) (space.faults mid) (space.faults next) comes-read.later (none.disk is))
-        (λ told store. none.sound told (named-same (space.state now) (space.state mid) names comes-read.same store)) then turn
+        (λ told. blamed-same (space.state now) (space.state mid) fault comes-read.same (none.blames told)) then turn
         (subst (λ (k : K). Gives sink (held.bytes ++ (held.mark ++ fault_line (stop_of fault))) k then turn) none.output
         (subst (λ (lines : MarkedLines). Gives sink (lines.bytes ++ (lines.mark ++ fault_line (stop_of fault))) between then turn) none.held gives))

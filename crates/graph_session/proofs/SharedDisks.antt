@@ -11,12 +11,12 @@ use Rattle.rec_bytes.specs.declared.key.Key.{Key}
 use Rattle.rec_bytes.specs.declared.record.Rec.{Rec}
 use Rattle.record_file.specs.Redone.{Redoes}
 use Rattle.record_file.proofs.Redone.{Redoes-kept}
+use Rattle.record_file.specs.Unique.{Redoes-unique}
 use Rattle.graph_session.specs.Console.{SessionView}
 use Rattle.graph_session.specs.Effects.{Begins, Commits, CommitsAlone, Drops, FailsDrafted, FailsRead, IsAloneInDoubt, IsBrought, IsFound, IsLeftOpen, IsLost, IsStopped, Keeps, KeepsBeneath, Stays}
 use Rattle.graph_session.specs.MayStep.{MayAnswerKind, MayBound, MayChange, MayKeep, MayRead}
 use Rattle.graph_session.specs.declared.health.Health.{Health}
 use Rattle.graph_session.specs.declared.health.Health.TheVariants as healths
-use Rattle.graph_session.proofs.Stands.{Redoes-only}
 
 same-back : (old new : Files) → Same old new → Same new old
 same-back old new same = λ file place. sym (same file place)
@@ -79,7 +79,7 @@ module _ {D : Type 0} (g : Ghosts D) (old new : SessionView D) (told : g.tells_r
   -- the disk has what was committed
   back : old.console.health ≡ healths.Live → IsStoredNow old → Redoes (g.reads new.disk) old.console.committed → ReadsSame
   back live stored now space redoes =
-      subst (λ (records : Key → Rec). Redoes (g.reads old.disk) records) (Redoes-only (g.reads new.disk) old.console.committed space now redoes) (stored live)
+      subst (λ (records : Key → Rec). Redoes (g.reads old.disk) records) (Redoes-unique (g.reads new.disk) old.console.committed space now redoes) (stored live)
 
   pub quiet-brought : IsBrought g old new → old.console.health ≡ healths.Live → IsStoredNow old → IsQuiet
   quiet-brought brought live stored = record {
@@ -93,7 +93,7 @@ module _ {D : Type 0} (g : Ghosts D) (old new : SessionView D) (told : g.tells_r
   -- what was read is found again
   module _ (space : Key → Rec) (was : Redoes (g.reads old.disk) space) where
     found-same : Redoes (g.reads new.disk) space → ReadsSame
-    found-same now other redoes = subst (λ (records : Key → Rec). Redoes (g.reads old.disk) records) (Redoes-only (g.reads new.disk) space other now redoes) was
+    found-same now other redoes = subst (λ (records : Key → Rec). Redoes (g.reads old.disk) records) (Redoes-unique (g.reads new.disk) space other now redoes) was
 
     pub quiet-found : IsFound g old new → IsQuiet
     quiet-found found = record {
@@ -136,7 +136,7 @@ module _ {D : Type 0} (g : Ghosts D) (old : SessionView D) (reply : Reply) (new 
   quiet-keep commands.Reopen live (inl refused) = quiet-none g old new told refused.2 stored
   quiet-keep commands.Reopen live (inr (closed, leaves, inl done)) = quiet-found g old new told was.0 was.1 done.1
   quiet-keep commands.Reopen live (inr (closed, leaves, inr (inl failed))) = quiet-lost g old new told was.0 was.1 failed.1
-  quiet-keep commands.Reopen live (inr (closed, leaves, inr (inr damaged))) = quiet-lost g old new told was.0 was.1 damaged.1
+  quiet-keep commands.Reopen live (inr (closed, leaves, inr (inr damaged))) = quiet-lost g old new told was.0 was.1 damaged.2
   quiet-keep command live never = absurd never
 
   stored-commit : MayBound g old reply new commands.Commit → IsStoredNow g old new told new

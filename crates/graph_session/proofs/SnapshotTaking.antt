@@ -9,6 +9,7 @@ use Rattle.plain_graph.specs.Graph.{Graph}
 use Rattle.rec_bytes.specs.declared.key.Key.{Key}
 use Rattle.rec_bytes.specs.declared.record.Rec.{Rec}
 use Rattle.record_file.specs.Redone.{Redoes}
+use Rattle.record_file.specs.Unique.{Redoes-unique}
 use Rattle.store_rules.specs.Graph.{graph_of}
 use Rattle.store_rules.specs.Indexes.{IsIndexed}
 use Rattle.snap_store.specs.Layers.{AreDistinct, Layer, Layers, SameSights, is_open, joined, readers_of, released, released_behind, sees, total}
@@ -23,7 +24,7 @@ use Rattle.graph_session.specs.Stands.{HoldsAdmitted}
 use Rattle.graph_session.specs.State.{Live, State}
 use Rattle.graph_session.proofs.SnapshotLaws.{shows-on}
 use Rattle.graph_session.proofs.SnapshotLists.{AreApart, all-layers, all-open, all-readers, all_both, all_end, all_filtered, all_more, apart-of, flag-set, opens, own_number, same_number}
-use Rattle.graph_session.proofs.Stands.{Redoes-only, admits-only}
+use Rattle.graph_session.proofs.Stands.{admits-only}
 
 pub symmetric : (m n : ℕ) → nat_eq m n ≡ nat_eq n m
 symmetric m n = grind (arith, nat_tests)
@@ -150,7 +151,7 @@ module _ {D : Type 0} (g : Ghosts D) (held : Snapshots) (disk : D) (state : Shar
     shows-own : (committed : Key → Rec) → g.tells_reads → Redoes (g.reads disk) committed → ShowsGraph (taken reader held).open_ones state.writer.shape committed snapshot
     shows-own committed told redoes =
         let found = stored told in
-        let same : committed ≡ found.2.space = Redoes-only (g.reads disk) committed found.2.space redoes found.2.redoes in
+        let same : committed ≡ found.2.space = Redoes-unique (g.reads disk) committed found.2.space redoes found.2.redoes in
         record {
           store = subst (λ (records : Key → Rec). IsIndexed records state.writer.shape) (sym (own committed ∙ same)) found.2.store;
           graph = ap graph_of (own committed ∙ same) ∙ sym found.2.graph_is ∙ admits-only state.writer found.0 live found.1;

@@ -10,11 +10,9 @@ use Rattle.plain_graph.specs.Reply.{Reply}
 use Rattle.plain_graph.specs.declared.command.Command.{Command}
 use Rattle.plain_graph.specs.declared.command.Command.TheVariants as commands
 use Rattle.plain_graph.specs.declared.refusal.Refusal.{Refusal}
-use Rattle.rec_bytes.specs.declared.key.Key.{Key}
 use Rattle.rec_bytes.specs.declared.shape.Shape.{Shape}
-use Rattle.rec_bytes.specs.Pairs.{Held, IsBelow, IsOrdered, Pairs}
+use Rattle.rec_bytes.specs.Pairs.{Held, Pairs}
 use Rattle.rec_bytes.specs.Space.{laid_over}
-use Rattle.follower.specs.Shipment.{Ascend}
 use Rattle.gremlin_parse.specs.Lines.{Spells}
 use Rattle.gremlin_parse.specs.Tags.{session_of}
 use Rattle.gremlin_parse.specs.declared.line_fault.LineFault.{LineFault}
@@ -60,22 +58,14 @@ takes-nothing (Some set) room = room.0
 
 -- ---- its records
 
-ascends-behind : (shape : Shape) (last : Key) (pairs : Pairs) → IsBelow last pairs → IsOrdered pairs → AllShip shape pairs → Ascend shape (Some last) pairs
-ascends-behind shape last [] below rising all = tt
-ascends-behind shape last (pair ∷ later) below rising all = (record { shipped = all.0; above = below.0 }, ascends-behind shape pair.0 later rising.0 rising.1 all.1)
-
--- rising records that may be shipped are in the order of a shipment
-pub ascends : (shape : Shape) (pairs : Pairs) → IsOrdered pairs → AllShip shape pairs → Ascend shape None pairs
-ascends shape [] rising all = tt
-ascends shape (pair ∷ later) rising all = (record { shipped = all.0; above = tt }, ascends-behind shape pair.0 later rising.0 rising.1 all.1)
-
 module _ {D : Type 0} {g : DiskGhosts D} where
   -- what was written is what was committed
   pub tapped-written : (old new : SessionView D) (pairs : Pairs) → HasWritten old.console pairs → new.console.shape ≡ old.console.shape
       → (g.tells_reads → new.console.committed ≡ laid_over old.console.committed old.console.written) → IsTapped g old new pairs
   tapped-written old new pairs has shape is = record {
     few = has.few;
-    ascend = subst (λ (s : Shape). Ascend s None pairs) (sym shape) has.ascend;
+    rising = has.rising;
+    shipped = subst (λ (s : Shape). AllShip s pairs) (sym shape) has.shipped;
     whole = has.whole;
     committed = λ told. is told ∙ ap (laid_over old.console.committed) (sym has.is);
   }
@@ -83,7 +73,8 @@ module _ {D : Type 0} {g : DiskGhosts D} where
   pub tapped-from : (old mid new : SessionView D) → mid.console.committed ≡ old.console.committed → (pairs : Pairs) → IsTapped g mid new pairs → IsTapped g old new pairs
   tapped-from old mid new same pairs tapped = record {
     few = tapped.few;
-    ascend = tapped.ascend;
+    rising = tapped.rising;
+    shipped = tapped.shipped;
     whole = tapped.whole;
     committed = λ told. tapped.committed told ∙ ap (λ (records : _). laid_over records pairs) same;
   }
@@ -97,13 +88,22 @@ commit-from g old mid new made answer was tap same (inr failed) = inr failed
 module _ {D : Type 0} {g : DiskGhosts D} {command : Command} {old new : SessionView D} {reply : Reply} where
   -- the reply does not acknowledge a transaction, or the command ends none
   pub taps-unconfirmed : ¬ Confirms reply → (pairs : Pairs) → IsEmpty pairs → TapsCommand g command old reply new pairs
-  taps-unconfirmed refused pairs none = record { taken = λ confirms ends. absurd (refused confirms); empty = λ no. none }
+  taps-unconfirmed refused pairs none = record {
+    taken = λ confirms ends. absurd (refused confirms);
+    written = λ confirms commits. absurd (refused confirms);
+    empty = λ no. none;
+  }
 
   pub taps-other : ¬ EndsOne old.console.is_open command → (pairs : Pairs) → IsEmpty pairs → TapsCommand g command old reply new pairs
-  taps-other other pairs none = record { taken = λ confirms ends. absurd (other ends); empty = λ no. none }
+  taps-other other pairs none = record {
+    taken = λ confirms ends. absurd (other ends);
+    written = λ confirms commits. absurd (other (inl commits));
+    empty = λ no. none;
+  }
 
-  pub taps-ended : Confirms reply → EndsOne old.console.is_open command → (pairs : Pairs) → IsTapped g old new pairs → TapsCommand g command old reply new pairs
-  taps-ended confirms ends pairs tapped = record { taken = λ also so. tapped; empty = λ no. absurd (no (confirms, ends)) }
+  pub taps-ended : Confirms reply → EndsOne old.console.is_open command → (pairs : Pairs) → (command ≡ commands.Commit → pairs ≡ old.console.written) → IsTapped g old new pairs
+      → TapsCommand g command old reply new pairs
+  taps-ended confirms ends pairs written tapped = record { taken = λ also so. tapped; written = λ also. written; empty = λ no. absurd (no (confirms, ends)) }
 
 -- a command of another kind ends no transaction
 pub apart-ends : (command : Command) → ¬ IsChange command → command ≢ commands.Commit → (is_open : Bool) → ¬ EndsOne is_open command
@@ -178,6 +178,7 @@ module _ {D : Type 0} {g : DiskGhosts D} (command : Command) (change : IsChange 
       by (Ok made) drafts (inl (inl (told, takes))) =
           takes-weaker was tap (λ pairs tapped.
           taps-ended (subst (λ (a : Answer). Confirms (reply_of a)) (sym told) (made-confirmed command (reply_of made.answer) drafts.0)) (inr (begins.closed, change)) pairs
+          (λ commits. absurd (commit-still (subst IsChange commits change)))
           (tapped-from (view old) (view then) (view new) (committed-read mid.store.base then.store.base only.base ∙ committed-beneath old.store.base mid.store.base begins.same) pairs tapped)) takes
       by (Ok made) drafts (inl (inr (told, none))) = takes-weaker was tap (taps-unconfirmed (λ confirms. subst (λ (a : Answer). Confirms (reply_of a)) told confirms)) none
       by (Ok made) drafts (inr (unkept, none)) = takes-weaker was tap (taps-unconfirmed (unkept-unconfirmed made.weight answer unkept)) none
@@ -203,11 +204,16 @@ module _ {D : Type 0} {g : DiskGhosts D} {old new : SessionView D} where
   taps-line : {line : List ℕ} {command : Command} {reply : Reply} → SpellsOnly line command → session_of line ≡ 0 → (pairs : Pairs) → TapsCommand g command old reply new pairs → Taps g (Whole line) old reply new pairs
   taps-line {reply = reply} only first pairs taps = record {
     taken = λ ends. let both = acknowledges-ends only old.console.is_open reply ends in taps.taken both.0 both.1;
+    written = λ ends commits. taps.written ends.1 (sym (only.only commands.Commit commits));
     empty = λ no. taps.empty (λ both. no (ends-acknowledges only old.console.is_open reply first both.0 both.1));
   }
 
   taps-none : {line : InputLine} {reply : Reply} → ¬ Acknowledges old.console.is_open line reply → (pairs : Pairs) → IsEmpty pairs → Taps g line old reply new pairs
-  taps-none never pairs none = record { taken = λ ends. absurd (never ends); empty = λ so. none }
+  taps-none never pairs none = record {
+    taken = λ ends. absurd (never ends);
+    written = λ ends commits. absurd (never ends);
+    empty = λ so. none;
+  }
 
 module _ {D K : Type 0} {g : DiskGhosts D} {sink : SinkGhosts K} {line : InputLine} {old new : Terminal D K} {turn : Turn} where
   -- a line that acknowledges nothing, whatever its reply

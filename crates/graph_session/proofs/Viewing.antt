@@ -1,5 +1,5 @@
 -- An element that a line shows: what it is told, and why it isn't.
-use Rattle.std.proofs.Common.{◌≡◌, ◌∙◌, ℕ, Bool, true, false, ◌||◌, cond, Option, None, Some, List, [], ◌∷◌, ◌++◌, nat_eq, find, refl, sym, ap, subst}
+use Rattle.std.proofs.Common.{◌≡◌, ◌∙◌, ℕ, Bool, true, false, ◌||◌, cond, Option, None, Some, List, [], ◌∷◌, ◌++◌, nat_eq, find, inl, refl, sym, ap, subst}
 use Rattle.std.specs.List.{list_any}
 use Rattle.std.specs.Option.{option_map}
 use Rattle.stream_io.specs.declared.streams.Sink.{Ghosts as SinkGhosts}
@@ -14,7 +14,6 @@ use Rattle.plain_graph.specs.declared.command.Target.TheVariants as targets
 use Rattle.plain_graph.specs.declared.element_map.ElementMap.{ElementMap}
 use Rattle.plain_graph.specs.declared.item.Item.{Item}
 use Rattle.plain_graph.specs.declared.item.Item.TheVariants as items
-use Rattle.rec_bytes.specs.declared.damage.Damage.{Damage}
 use Rattle.rec_bytes.specs.declared.fault.Fault.{Fault}
 use Rattle.rec_bytes.specs.declared.fault.Fault.TheVariants as faults
 use Rattle.rec_bytes.specs.declared.space.Reads.{Ghosts as SpaceGhosts}
@@ -91,10 +90,10 @@ pub unviewed : (graph : Graph) (target : Target) → view_of graph target ≡ No
 unviewed graph target is = mapped-none (λ own. (own, element_map graph [] own)) (item_at graph target) is
 
 -- records that were not read to their end
-pub read-refusal : (graph : Graph) (target : Target) (fault : Fault) → ((damage : Damage) → ¬ (fault ≡ faults.Damaged damage)) → IsViewRefusal graph target (answer_for_read fault)
-read-refusal graph target faults.Memory sound = tt
-read-refusal graph target faults.Disk sound = tt
-read-refusal graph target (faults.Damaged damage) sound = sound damage refl
+pub read-refusal : (graph : Graph) (target : Target) (fault : Fault) → IsViewRefusal graph target (answer_for_read fault)
+read-refusal graph target faults.Memory = tt
+read-refusal graph target faults.Disk = tt
+read-refusal graph target (faults.Damaged damage) = tt
 
 -- ---- the line that asks for one
 
@@ -123,7 +122,7 @@ module _ {R K : Type 0} {space : SpaceGhosts R} {sink : SinkGhosts K} {names : L
       (subst (λ (text : List ℕ). Gives sink (mark ++ text) before after turn) made.is gives)
 
   -- it wasn't
-  pub gives-unviewed : (answer : Answer) → IsViewAnswer (space.faults a) (space.faults b) target answer → OfStore space names a (λ graph. IsViewRefusal graph target answer)
+  pub gives-unviewed : (answer : Answer) → IsViewAnswer space target a b answer → OfStore space names a (λ graph. IsViewRefusal graph target answer)
       → Gives sink (marked_text mark (reply_of answer)) before after turn → GivesReading space sink names (commands.View target) mark a b before after turn
   gives-unviewed answers.Done is refused gives = absurd is
   gives-unviewed (answers.NodeMade id) is refused gives = absurd is
@@ -135,4 +134,4 @@ module _ {R K : Type 0} {space : SpaceGhosts R} {sink : SinkGhosts K} {names : L
       subst (LacksElement (graph_of (space.state a).records) (asked_of (commands.View target))) (sym is) (view-lacks (graph_of (space.state a).records) target (refused told store))) gives
   gives-unviewed answers.NoMemory is refused gives = asks-memory (elements-asked (asks-view target)) read gives
   gives-unviewed answers.DiskFailed is refused gives = asks-disk (elements-asked (asks-view target)) read is gives
-  gives-unviewed (answers.Damaged damage) is refused gives = asks-damaged (elements-asked (asks-view target)) read damage (λ told store. refused told store) gives
+  gives-unviewed (answers.Damaged damage) is refused gives = asks-damaged (elements-asked (asks-view target)) read damage (λ told. inl (is told)) gives

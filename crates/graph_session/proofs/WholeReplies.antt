@@ -12,11 +12,14 @@ use Rattle.plain_graph.specs.declared.command.Command.TheVariants as commands
 use Rattle.plain_graph.specs.declared.element_map.ElementMap.{ElementMap}
 use Rattle.plain_graph.specs.declared.item.Item.{Item}
 use Rattle.plain_graph.specs.declared.query.Query.{Query}
+use Rattle.rec_bytes.specs.declared.shape.Shape.{Shape}
+use Rattle.store_rules.specs.Views.{Records}
 use Rattle.graph_session.specs.Exchange.{AreFirst, told_fault}
 use Rattle.graph_session.specs.MayStep.{MayTell}
 use Rattle.graph_session.specs.Questions.{Means}
 use Rattle.graph_session.specs.QueryResults.{IsResultLine}
 use Rattle.graph_session.specs.State.{IsSpared}
+use Rattle.graph_session.specs.Verdicts.{TellsBroken}
 use Rattle.graph_session.proofs.ListedLines.{bytes_of}
 use Rattle.graph_session.proofs.Questioned.{Asks}
 use Rattle.graph_session.proofs.Reasons.{HasAsked, unchanging-free}
@@ -130,6 +133,11 @@ whole-text mark true first more = refl
 pub whole-told : (past : Bool) (first more : List (List ℕ)) → told_fault (whole_of past first more) ≡ 0
 whole-told false first more = refl
 whole-told true first more = refl
+
+-- it calls no record damaged
+pub whole-blames : (records : Records) (shape : Shape) (past : Bool) (first more : List (List ℕ)) → TellsBroken records shape (whole_of past first more)
+whole-blames records shape false first more = tt
+whole-blames records shape true first more = tt
 
 module _ (graph : Graph) (query : Query) (first : List (List ℕ)) (found : List Item) where
   pub whole-form : AreResults query.maps first → (past : Bool) → MayTell (commands.Query query) (whole_of past first (more_lines graph query found))

@@ -18,6 +18,7 @@ use Rattle.graph_session.specs.SharedConsole.{IsSharedAt}
 use Rattle.graph_session.specs.SnapshotEffects.{SharedView}
 use Rattle.graph_session.specs.Snapshots.{SharedState}
 use Rattle.graph_session.specs.State.{State, IsQuit, mark_in, session_in}
+use Rattle.graph_session.specs.Verdicts.{JudgesLine}
 use Rattle.graph_session.specs.declared.turn.Turn.{Turn}
 use Rattle.graph_session.specs.declared.turn.Turn.TheVariants.{Go, Quit, SinkFault}
 
@@ -60,9 +61,9 @@ shared_in terminal = record { session = terminal.session; held = terminal.held }
 
 -- What one call says of its line, of whichever session: its reply, each line of which begins with
 -- the session's mark where the line names it, and which is given to the sink where that tells what
--- it takes; what the line does over any disk; and from each state of all sessions that the session
--- is at, how it is settled, also where nothing is known of what the disk reads. Only quit ends the
--- run.
+-- it takes; what the line does over any disk, and what the reply to a question says of the records
+-- that it sees; and from each state of all sessions that the session is at, how it is settled, also
+-- where nothing is known of what the disk reads. Only quit ends the run.
 pub record AnswersLine {D K : Type 0} (disk : DiskGhosts D) (sink : SinkGhosts K) (line : InputLine)
     (old new : Terminal D K) (turn : Turn) : Type 0 where
   pub reply : Reply
@@ -73,6 +74,7 @@ pub record AnswersLine {D K : Type 0} (disk : DiskGhosts D) (sink : SinkGhosts K
   pub may :
       HasNoDraft old.session
       → MayStepAs disk (session_in line) line (shared_in old) reply (shared_in new)
+  pub judges : JudgesLine disk line (shared_in old) reply
   pub settles : (known : Bool) (state : SharedState)
       → IsSharedAt (as_known known disk) (shared_in old) state
       → SettlesLine (as_known known disk) line (shared_in old) (shared_in new) state reply

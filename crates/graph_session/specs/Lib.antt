@@ -21,7 +21,6 @@ pub mod ReaderAnswers
 pub mod ReaderStep
 pub mod Refusals
 pub mod Results
-pub mod Sending
 pub mod Session
 pub mod Settling
 pub mod SharedAnswer
@@ -37,5 +36,4 @@ pub mod State
 pub mod TapEnds
 pub mod Tapping
 pub mod Verdicts
-pub mod Versions
 pub mod Views

@@ -2,6 +2,7 @@
 -- of the session, of its records and of the disk.
 use Rattle.std.specs.Prelude.{◌≡◌, ◌≢◌, ◌⊎◌, ◌≤◌, ℕ, true, false, Option, None, Some, List, []}
 use Rattle.fault_count.specs.Cause.{Rose}
+use Rattle.disk_model.specs.Contents.{Files}
 use Rattle.disk_model.specs.declared.disk.Disk.{Ghosts}
 use Rattle.stream_io.specs.Lines.{InputLine, Whole, Long}
 use Rattle.plain_graph.specs.Changes.{most_weight}
@@ -18,8 +19,13 @@ use Rattle.plain_graph.specs.declared.command.Command.TheVariants as commands
 use Rattle.plain_graph.specs.declared.item.Item.{Item}
 use Rattle.plain_graph.specs.declared.refusal.Refusal.{Refusal}
 use Rattle.plain_graph.specs.declared.refusal.Refusal.TheVariants as refusals
+use Rattle.rec_bytes.specs.declared.damage.Damage.{Damage}
 use Rattle.rec_bytes.specs.declared.key.Key.{Key}
 use Rattle.rec_bytes.specs.declared.record.Rec.{Rec}
+use Rattle.record_file.specs.Redone.{Redoes}
+use Rattle.name_store.specs.Again.{IsFirstOther}
+use Rattle.txn_core.specs.Again.{RefusesAgain}
+use Rattle.txn_core.specs.declared.again_fault.AgainFault.TheVariants as again_faults
 use Rattle.gremlin_parse.specs.Lines.{IsLeftmostFault}
 use Rattle.gremlin_parse.specs.declared.line_fault.LineFault.{LineFault}
 use Rattle.graph_session.specs.Console.{ConsoleView, SessionView}
@@ -52,6 +58,13 @@ TellsMade _ reply = ⊥
 -- the reply says that a record is damaged, and has no results
 abbrev pub TellsDamage : Reply → Type 0
 TellsDamage reply = (file : ℕ) × (id : ℕ) × (reply ≡ Faulted [] (DamagedRecord file id))
+
+-- What `reopen` finds damaged: the log, the store's own record or a meta record, as recovery refuses
+-- it; or of the records that it finds, the first name that isn't the one in memory.
+abbrev pub IsFoundDamaged : Files → ConsoleView → Damage → Type 0
+IsFoundDamaged content console damage =
+    RefusesAgain content console.shape (again_faults.Damaged damage)
+    ⊎ ((space : Key → Rec) × Redoes content space × IsFirstOther space console.names damage)
 
 -- A count passes only in such an answer. What `check` finds damaged it tells in its verdict.
 abbrev pub MayStop : Command → Reading → Fault → Type 0
@@ -176,7 +189,9 @@ module _ {D : Type 0} (g : Ghosts D) (old : SessionView D) (reply : Reply) (new 
         ((reply ≡ Refused refusals.TransactionOpen) × (old.console.is_open ≡ true) × (new ≡ old))
         ⊎ ((old.console.is_open ≡ false) × LeavesSame g old.disk new.disk
         × (((reply ≡ Done) × IsFound g old new) ⊎ (TellsDiskFault × IsLost g old new)
-        ⊎ (TellsDamage reply × IsLost g old new)))
+        ⊎ ((damage : Damage) × (reply ≡ Faulted [] (DamagedRecord damage.file damage.id))
+        × IsLost g old new
+        × (g.tells_reads → IsFoundDamaged (g.reads old.disk) old.console damage))))
 
     -- The disk is only read, and blamed only where it failed. What never lacks memory doesn't call
     -- it.

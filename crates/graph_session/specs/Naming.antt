@@ -3,9 +3,9 @@ use Rattle.std.specs.Prelude.{◌≡◌, List, ℕ}
 use Rattle.fault_count.specs.Cause.{Rose}
 use Rattle.disk_model.specs.declared.disk.Disk.{Ghosts}
 use Rattle.store_rules.specs.Graph.{names_of}
+use Rattle.name_store.specs.Again.{IsFirstOther}
 use Rattle.txn_core.specs.Store.{drafted}
 use Rattle.txn_core.specs.declared.store.Store.{Store}
-use Rattle.graph_session.specs.Console.{BeginWith}
 use Rattle.graph_session.specs.declared.answer.Answer.{Answer}
 use Rattle.graph_session.specs.declared.answer.Answer.TheVariants as answers
 use Rattle.graph_session.specs.declared.health.Health.{Health}
@@ -23,7 +23,7 @@ pub record IsUnnamed (old names : List (List ℕ)) (health : Health) : Type 0 wh
   pub same : names ≡ old
 
 -- What the names and the health are after the answer. The disk is blamed only where it failed, and
--- a record only where the names don't begin with those of the store.
+-- of the records the first name that isn't the one in memory.
 abbrev pub TakesNames : {D : Type 0} {g : Ghosts D} → Store D g → Store D g → List (List ℕ)
     → List (List ℕ) → Health → Answer → Type 0
 TakesNames old new was names health answers.Done = IsNamed old names health
@@ -35,4 +35,4 @@ TakesNames old new was names health answers.NoMemory = ⊥
 TakesNames {g = g} old new was names health answers.DiskFailed =
     IsUnnamed was names health × Rose (g.faults old.base.disk.now) (g.faults new.base.disk.now)
 TakesNames {g = g} old new was names health (answers.Damaged damage) =
-    IsUnnamed was names health × (g.tells_reads → ¬ BeginWith was (names_of (drafted old)))
+    IsUnnamed was names health × (g.tells_reads → IsFirstOther (drafted old) was damage)

@@ -14,6 +14,7 @@ use Rattle.rec_bytes.specs.declared.shape.Shape.{Shape}
 use Rattle.record_file.specs.Records.{IsUnmade}
 use Rattle.record_file.specs.Redone.{Redoes}
 use Rattle.recovery.specs.Finding.{IsCareful, IsRecoverable}
+use Rattle.stored_graph.specs.Stands.{IsMade, Stands}
 use Rattle.txn_core.specs.Config.{Suits, shape_of}
 use Rattle.txn_core.specs.declared.config.Config.{Config}
 use Rattle.txn_core.specs.declared.open_fault.OpenFault.{OpenFault}
@@ -23,7 +24,6 @@ use Rattle.txn_core.specs.Opening.{OnlyDiffers, RefusesOpening, StaysAsItWas}
 use Rattle.name_store.specs.Loading.{IsNameDamage}
 use Rattle.graph_session.specs.Console.{HasNoDraft, IsAt, SessionView, TellsAll}
 use Rattle.graph_session.specs.Known.{as_known}
-use Rattle.graph_session.specs.Stands.{IsMade, Stands}
 use Rattle.graph_session.specs.State.{Live, State}
 
 -- The state that a session over this content begins with: with the empty graph and the shape that

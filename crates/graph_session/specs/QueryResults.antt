@@ -1,5 +1,5 @@
 -- The line of a result of a query, as it is or as a map.
-use Rattle.std.specs.Prelude.{◌≡◌, ◌≢◌, ℕ, Option, None, Some, List}
+use Rattle.std.specs.Prelude.{◌≡◌, ℕ, Option, None, Some, List}
 use Rattle.fault_count.specs.Cause.{Rose}
 use Rattle.stream_io.specs.declared.streams.Sink.{Ghosts as SinkGhosts}
 use Rattle.plain_graph.specs.ElementMaps.{map_line, shown_line}
@@ -8,7 +8,7 @@ use Rattle.plain_graph.specs.Meaning.{properties_of}
 use Rattle.plain_graph.specs.Reply.{item_line, text_line}
 use Rattle.plain_graph.specs.declared.element_map.ElementMap.{ElementMap}
 use Rattle.plain_graph.specs.declared.item.Item.{Item}
-use Rattle.rec_bytes.specs.declared.damage.Damage.{Damage}
+use Rattle.prop_store.specs.Fault.{BlamesBroken}
 use Rattle.rec_bytes.specs.declared.fault.Fault.{Fault}
 use Rattle.rec_bytes.specs.declared.fault.Fault.TheVariants as faults
 use Rattle.rec_bytes.specs.declared.space.Reads.{Ghosts as SpaceGhosts}
@@ -34,15 +34,14 @@ pub record AddsShown {R K : Type 0} (space : SpaceGhosts R) (sink : SinkGhosts K
       → line ≡ shown_line (graph_of (space.state at).records) maps item
   pub adds : AddsLine sink (text_line line) old new before after turn
 
--- No line was gathered. The disk is blamed only where it failed, and no record of a store.
-pub record AddsNone {R K : Type 0} (space : SpaceGhosts R) (names : List (List ℕ))
-    (at now : R) (old new : MarkedLines) (before after : K) (fault : Fault) : Type 0 where
+-- No line was gathered. The disk is blamed only where it failed, and a record only where it breaks a
+-- rule.
+pub record AddsNone {R K : Type 0} (space : SpaceGhosts R) (at now : R) (old new : MarkedLines)
+    (before after : K) (fault : Fault) : Type 0 where
   pub held : new ≡ old
   pub output : after ≡ before
   pub disk : fault ≡ faults.Disk → Rose (space.faults at) (space.faults now)
-  pub sound : space.tells
-      → IsNamedStore (space.state at).records (space.state at).shape names
-      → (damage : Damage) → fault ≢ faults.Damaged damage
+  pub blames : space.tells → BlamesBroken (space.state at).records (space.state at).shape fault
 
 -- What a result's line reads: nothing where it is shown as it is, and else its element, and each
 -- property and each block of their texts.

@@ -8,7 +8,6 @@ use Rattle.plain_graph.specs.Refusals.{FirstReason, NoReason, change_reasons}
 use Rattle.plain_graph.specs.Reply.{DamagedRecord, DiskFailed, Fault, Faulted, NoMemory, PastCount}
 use Rattle.plain_graph.specs.Reply.{Refused, Reply, Told, marked_text}
 use Rattle.plain_graph.specs.declared.command.Command.{Command}
-use Rattle.plain_graph.specs.declared.command.Command.TheVariants as commands
 use Rattle.rec_bytes.specs.declared.space.Reads.{Ghosts as SpaceGhosts}
 use Rattle.store_rules.specs.Graph.{graph_of}
 use Rattle.traversal_run.specs.Reading.{IsNamedStore, IsRead}
@@ -16,7 +15,7 @@ use Rattle.graph_session.specs.Answer.{Gives}
 use Rattle.graph_session.specs.Exchange.{ShowsPast, ShowsSome, told_fault}
 use Rattle.graph_session.specs.MayStep.{MayTell}
 use Rattle.graph_session.specs.State.{IsSpared}
-use Rattle.graph_session.specs.Verdicts.{TellsVerdict}
+use Rattle.graph_session.specs.Verdicts.{Judges}
 use Rattle.graph_session.specs.declared.turn.Turn.{Turn}
 
 -- all of a reading that the command asks for, in which no count passes
@@ -46,8 +45,8 @@ Means graph command _ = ⊥
 
 -- A reply to the command was given to the sink, with this mark before each line; where the sink
 -- failed it is a whole one, of which a prefix was taken. Over a store with its indexes and these
--- names the reply is what the graph means. Over any records `check` tells a verdict on them. The
--- disk is blamed only where it failed.
+-- names the reply is what the graph means. What it says of records over any space is true of them.
+-- The disk is blamed only where it failed.
 pub record GivesReading {R K : Type 0} (space : SpaceGhosts R) (sink : SinkGhosts K)
     (names : List (List ℕ)) (command : Command) (mark : List ℕ) (old new : R) (before after : K)
     (turn : Turn) : Type 0 where
@@ -57,8 +56,8 @@ pub record GivesReading {R K : Type 0} (space : SpaceGhosts R) (sink : SinkGhost
   pub means : space.tells
       → IsNamedStore (space.state old).records (space.state old).shape names
       → Means (graph_of (space.state old).records) command reply
-  pub verdict : space.tells → command ≡ commands.Check
-      → TellsVerdict (space.state old).records (space.state old).shape reply
+  pub judges : space.tells
+      → Judges (space.state old).records (space.state old).shape command reply
   pub told : told_fault reply ≢ 0 → Rose (space.faults old) (space.faults new)
   pub read : IsRead space old new
   pub idle : IsSpared command → new ≡ old

@@ -1,29 +1,9 @@
--- What a content of the disk stands for.
-use Rattle.std.specs.Prelude.{◌≡◌, ◌⊎◌}
+-- Which contents of the disk a state admits.
+use Rattle.std.specs.Prelude.{◌⊎◌}
 use Rattle.disk_model.specs.Contents.{Files}
-use Rattle.plain_graph.specs.Graph.{Graph, empty_graph}
-use Rattle.rec_bytes.specs.declared.key.Key.{Key}
-use Rattle.rec_bytes.specs.declared.record.Rec.{Rec}
-use Rattle.rec_bytes.specs.declared.shape.Shape.{Shape}
-use Rattle.record_file.specs.Records.{IsUnmade}
-use Rattle.record_file.specs.Redone.{Redoes}
-use Rattle.follower.specs.Sent.{IsServed}
-use Rattle.store_rules.specs.Graph.{graph_of}
-use Rattle.graph_session.specs.Versions.{IsIndexedIn}
+use Rattle.plain_graph.specs.Graph.{Graph}
+use Rattle.stored_graph.specs.Stands.{IsServed, Stands}
 use Rattle.graph_session.specs.State.{Admits, State}
-
--- The entries of the log, laid over the records of the files, make a store of this shape, of
--- whatever version, that keeps all rules and whose graph this is.
-pub record IsMade (content : Files) (shape : Shape) (graph : Graph) : Type 0 where
-  pub space : Key → Rec
-  pub redoes : Redoes content space
-  pub store : IsIndexedIn space shape
-  pub graph_is : graph ≡ graph_of space
-
--- The content stands for this graph, under this shape; one in which no store was made stands for
--- the empty graph, under every shape.
-abbrev pub Stands : Files → Shape → Graph → Type 0
-Stands content shape graph = (IsUnmade content × (graph ≡ empty_graph)) ⊎ IsMade content shape graph
 
 -- the content stands for a graph that the state admits
 abbrev pub IsAdmitted : State → Files → Type 0

@@ -8,11 +8,10 @@ use Rattle.plain_graph.specs.Changes.{IsChange}
 use Rattle.plain_graph.specs.Reply.{Reply}
 use Rattle.plain_graph.specs.declared.command.Command.{Command}
 use Rattle.plain_graph.specs.declared.command.Command.TheVariants as commands
-use Rattle.rec_bytes.specs.Pairs.{Held, Pairs}
+use Rattle.rec_bytes.specs.Pairs.{Held, IsOrdered, Pairs}
 use Rattle.rec_bytes.specs.Space.{laid_over}
 use Rattle.rec_bytes.specs.declared.shape.Shape.{Shape}
 use Rattle.redo_log.specs.Appending.{AreWhole}
-use Rattle.follower.specs.Shipment.{Ascend}
 use Rattle.txn_core.specs.Kept.{most_own}
 use Rattle.txn_core.specs.Shipped.{AllShip}
 use Rattle.graph_session.specs.Answer.{AnswersLine, Terminal}
@@ -29,20 +28,23 @@ Acknowledges is_open line reply =
     × (SpellsLine line commands.Commit
     ⊎ ((is_open ≡ false) × (command : Command) × IsChange command × SpellsLine line command))
 
--- These are the records of a transaction that was committed: at most 2,048, in the order in which a
--- shipment has them, each one that a shipment may have. What is committed is what was, with them
--- laid over it.
+-- These are the records of a transaction that was committed: at most 2,048, whose keys rise, each
+-- one that a shipment may have. What is committed is what was, with them laid over it.
 pub record IsTapped {D : Type 0} (g : DiskGhosts D) (old new : SessionView D) (tap : Pairs)
     : Type 0 where
   pub few : length tap ≤ 2048
-  pub ascend : Ascend new.console.shape None tap
+  pub rising : IsOrdered tap
+  pub shipped : AllShip new.console.shape tap
   pub whole : AreWhole tap
   pub committed : g.tells_reads → new.console.committed ≡ laid_over old.console.committed tap
 
--- The set has what was committed where the reply acknowledges a transaction, and else nothing.
+-- The set has what was committed where the reply acknowledges a transaction, and else nothing. For
+-- `commit` that is what the open transaction had written.
 pub record Taps {D : Type 0} (g : DiskGhosts D) (line : InputLine) (old : SessionView D)
     (reply : Reply) (new : SessionView D) (tap : Pairs) : Type 0 where
   pub taken : Acknowledges old.console.is_open line reply → IsTapped g old new tap
+  pub written : Acknowledges old.console.is_open line reply → SpellsLine line commands.Commit
+      → tap ≡ old.console.written
   pub empty : ¬ Acknowledges old.console.is_open line reply → tap ≡ []
 
 -- A line is answered, and its set has what its transaction wrote.
@@ -70,7 +72,8 @@ IsEmpty tap = tap ≡ []
 pub record HasWritten (console : ConsoleView) (tap : Pairs) : Type 0 where
   pub is : tap ≡ console.written
   pub few : length tap ≤ 2048
-  pub ascend : Ascend console.shape None tap
+  pub rising : IsOrdered tap
+  pub shipped : AllShip console.shape tap
   pub whole : AreWhole tap
 
 -- the command ends a transaction where it is carried out
@@ -78,11 +81,12 @@ abbrev pub EndsOne : Bool → Command → Type 0
 EndsOne is_open command =
     (command ≡ commands.Commit) ⊎ ((is_open ≡ false) × IsChange command)
 
--- What a command leaves in the set: what was committed where it ended a transaction, and else
--- nothing.
+-- What a command leaves in the set: what was committed where it ended a transaction, for `commit`
+-- what the open one had written, and else nothing.
 pub record TapsCommand {D : Type 0} (g : DiskGhosts D) (command : Command) (old : SessionView D)
     (reply : Reply) (new : SessionView D) (tap : Pairs) : Type 0 where
   pub taken : Confirms reply → EndsOne old.console.is_open command → IsTapped g old new tap
+  pub written : Confirms reply → command ≡ commands.Commit → tap ≡ old.console.written
   pub empty : ¬ (Confirms reply × EndsOne old.console.is_open command) → tap ≡ []
 
 -- A line is answered, and the set, where there is one, has what its transaction wrote.

@@ -1,20 +1,24 @@
--- What a line is answered with that asks whether the store keeps its rules, whatever is in it.
+-- What the reply to a line that reads says of the records that it sees, whatever they are.
 use Rattle.std.specs.Prelude.{◌≡◌, ◌⊎◌, ℕ, zero, suc, true, List, []}
-use Rattle.stream_io.specs.declared.streams.Sink.{Ghosts as SinkGhosts}
-use Rattle.plain_graph.specs.Lines.{broken_text, sound_text}
+use Rattle.disk_model.specs.declared.disk.Disk.{Ghosts}
+use Rattle.stream_io.specs.Lines.{InputLine}
+use Rattle.plain_graph.specs.Lines.{IsQuestion, broken_text, sound_text}
 use Rattle.plain_graph.specs.Reply.{DamagedRecord, DiskFailed, Fault, Faulted, NoMemory, PastCount}
-use Rattle.plain_graph.specs.Reply.{Reply, Told, marked_text}
+use Rattle.plain_graph.specs.Reply.{Reply, Told}
+use Rattle.plain_graph.specs.declared.command.Command.{Command}
+use Rattle.plain_graph.specs.declared.command.Command.TheVariants as commands
 use Rattle.rec_bytes.specs.Space.{laid_over}
 use Rattle.rec_bytes.specs.declared.damage.Damage.{Damage}
 use Rattle.rec_bytes.specs.declared.shape.Shape.{Shape}
 use Rattle.snap_store.specs.Layers.{is_open, sees}
 use Rattle.store_check.specs.Verdicts.{IsLeastBroken}
+use Rattle.store_rules.specs.Breaking.{BreaksAny, damage}
 use Rattle.store_rules.specs.Indexes.{IsIndexed}
 use Rattle.store_rules.specs.Views.{Records}
-use Rattle.graph_session.specs.Answer.{Gives}
 use Rattle.graph_session.specs.Console.{ConsoleView}
 use Rattle.graph_session.specs.SnapshotEffects.{SharedView}
-use Rattle.graph_session.specs.declared.turn.Turn.{Turn}
+use Rattle.graph_session.specs.State.{SpellsLine, session_in}
+use Rattle.graph_session.specs.declared.health.Health.TheVariants as healths
 
 -- a fault with which no verdict is found: want of memory, or the disk's
 abbrev pub LeavesUnjudged : Fault → Type 0
@@ -37,6 +41,19 @@ TellsVerdict records shape (Told lines last) = (lines ≡ []) × IsVerdict recor
 TellsVerdict records shape (Faulted lines fault) = (lines ≡ []) × LeavesUnjudged fault
 TellsVerdict records shape _ = ⊥
 
+-- A record that the reply calls damaged breaks a rule.
+abbrev pub TellsBroken : Records → Shape → Reply → Type 0
+TellsBroken records shape (Faulted lines (DamagedRecord file id)) =
+    (rule : ℕ) × BreaksAny records shape (damage file id rule)
+TellsBroken records shape _ = Unit {0}
+
+-- What the reply to a question says of these records, whatever they are: `check` tells a verdict on
+-- them, and a record that is called damaged breaks a rule.
+pub record Judges (records : Records) (shape : Shape) (command : Command) (reply : Reply) : Type 0
+  where
+    pub verdict : command ≡ commands.Check → TellsVerdict records shape reply
+    pub blames : TellsBroken records shape reply
+
 -- the records that a line of the session that writes sees
 abbrev pub seen_records : ConsoleView → Records
 seen_records console = laid_over console.working console.draft
@@ -49,10 +66,11 @@ SeesRecords view (suc reader) records =
     (is_open (suc reader) view.held.open_ones ≡ true)
     × (records ≡ sees view.held.open_ones (suc reader) view.session.console.committed)
 
--- The reply was given to the sink, with this mark before each line. Where the disk tells its reads,
--- it tells the verdict on these records, also where they are those of no store.
-pub record Judges {K : Type 0} (tells : Type 0) (sink : SinkGhosts K) (mark : List ℕ)
-    (records : Records) (shape : Shape) (before after : K) (turn : Turn) : Type 0 where
-  pub reply : Reply
-  pub gives : Gives sink (marked_text mark reply) before after turn
-  pub verdict : tells → TellsVerdict records shape reply
+-- What the reply to a question of a live session says of the records that its line sees, where the
+-- disk tells its reads.
+abbrev pub JudgesLine : {D : Type 0} → Ghosts D → InputLine → SharedView D → Reply → Type 0
+JudgesLine g line old reply =
+    g.tells_reads → old.session.console.health ≡ healths.Live
+    → (command : Command) → SpellsLine line command → IsQuestion command
+    → (records : Records) → SeesRecords old (session_in line) records
+    → Judges records old.session.console.shape command reply

@@ -12,6 +12,7 @@ use Rattle.plain_graph.specs.declared.item.Item.{Item}
 use Rattle.plain_graph.specs.declared.refusal.Refusal.{Refusal}
 use Rattle.plain_graph.specs.declared.refusal.Refusal.TheVariants as refusals
 use Rattle.rec_bytes.specs.declared.space.Reads.{Ghosts as SpaceGhosts}
+use Rattle.store_rules.specs.Breaking.{Breaks}
 use Rattle.store_rules.specs.Graph.{graph_of}
 use Rattle.traversal_run.specs.Reading.{IsNamedStore}
 use Rattle.traversal_run.specs.Viewing.{view_of}
@@ -34,16 +35,17 @@ pub record MakesElement {R : Type 0} (space : SpaceGhosts R) (names : List (List
       → IsNamedStore (space.state at).records (space.state at).shape names
       → view_of (graph_of (space.state at).records) target ≡ Some (item, element)
 
--- The answer in place of the line. The disk is blamed only where it failed.
-abbrev pub IsViewAnswer : ℕ → ℕ → Target → Answer → Type 0
-IsViewAnswer was now target (answers.Refused why) = why ≡ no_element target
-IsViewAnswer was now target answers.NoMemory = Unit {0}
-IsViewAnswer was now target answers.DiskFailed = Rose was now
-IsViewAnswer was now target (answers.Damaged damage) = Unit {0}
-IsViewAnswer was now target _ = ⊥
+-- The answer in place of the line. The disk is blamed only where it failed, and a record only where
+-- it breaks a rule.
+abbrev pub IsViewAnswer : {R : Type 0} → SpaceGhosts R → Target → R → R → Answer → Type 0
+IsViewAnswer space target at now (answers.Refused why) = why ≡ no_element target
+IsViewAnswer space target at now answers.NoMemory = Unit {0}
+IsViewAnswer space target at now answers.DiskFailed = Rose (space.faults at) (space.faults now)
+IsViewAnswer space target at now (answers.Damaged damage) =
+    space.tells → Breaks (space.state at).records (space.state at).shape damage
+IsViewAnswer space target at now _ = ⊥
 
--- In a store the element isn't there where it is refused, and no record is damaged.
+-- In a store the element isn't there where it is refused.
 abbrev pub IsViewRefusal : Graph → Target → Answer → Type 0
 IsViewRefusal graph target (answers.Refused why) = item_at graph target ≡ None
-IsViewRefusal graph target (answers.Damaged damage) = ⊥
 IsViewRefusal graph target _ = Unit {0}

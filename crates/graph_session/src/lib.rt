@@ -13,7 +13,6 @@ mod opening;
 mod questions;
 mod reading;
 mod results;
-mod sending;
 mod session;
 mod sight_reading;
 mod storing;
@@ -24,7 +23,6 @@ mod type_numbers;
 mod unknown;
 
 pub use health::Health;
-pub use sending::sends_what_it_commits;
 pub use session::Session;
 pub use turn::Turn;
 pub use txn_core::{Config, NotOpened, OpenFault};

@@ -10,14 +10,11 @@ ghost use Rattle.recovery.specs.Finding.{IsCareful};
 ghost use Rattle.snap_store.specs.Layers.{SameSights};
 ghost use Rattle.snap_store.specs.Snaps.{IsReader, state_of};
 ghost use Rattle.snap_store.specs.declared.snap_state.SnapState.TheVariants as states;
-ghost use Rattle.store_rules.specs.Views.{Records};
 ghost use Rattle.graph_session.specs.Answer.{AnswersLine};
 ghost use Rattle.graph_session.specs.Answering.{reply_of};
 ghost use Rattle.graph_session.specs.ReaderAnswers.{LacksSnapshot, MayRelease, MaySnap};
 ghost use Rattle.graph_session.specs.ReaderAnswers.{RefusesReader, ServesReader, SuitsSnapshot};
 ghost use Rattle.graph_session.specs.Settling.{IsLoud, IsParsed};
-ghost use Rattle.graph_session.specs.Verdicts.{Judges, SeesRecords};
-ghost use Rattle.graph_session.specs.declared.health.Health.TheVariants as healths;
 
 use crate::answer::Answer;
 use crate::giving::give_answer;
@@ -45,10 +42,6 @@ impl<'d, D: Disk> Session<'d, D> {
         ensures answers { (line : List ℕ) → IsParsed line reader command.now mark.now
             → AnswersLine D.Disk K.Sink (Whole line)
             (with_sink self.old output.old) (with_sink self.new output.new) result }
-        ensures judges { command.now ≡ commands.Check → self.old.health ≡ healths.Live
-            → (records : Records) → SeesRecords (shared_view self.old) reader records
-            → Judges D.tells_reads K.Sink mark.now records (view self.old).console.shape
-            output.old output.new result }
         ensures careful { command.now ≡ commands.Reopen
             → IsCareful D.Disk (view self.old).disk (view self.new).disk }
         ensures same_disk { HaveSameDisk self.old self.new }

@@ -21,13 +21,9 @@ ghost use Rattle.graph_session.specs.MayStep.{IsServed};
 ghost use Rattle.graph_session.specs.Settling.{IsLoud, IsParsed, SettlesCommand, told_of};
 ghost use Rattle.graph_session.specs.SharedExchange.{IsOfSnapshots};
 ghost use Rattle.graph_session.specs.SnapshotEffects.{KeepsOlds};
-ghost use Rattle.graph_session.specs.State.{mark_in};
 ghost use Rattle.graph_session.specs.Tapping.{AllShip-prop, HasRoom, Takes, TapsAnswer};
 ghost use Rattle.graph_session.specs.Tapping.{TapsCommand, TapsLine};
-ghost use Rattle.graph_session.specs.Verdicts.{Judges, SeesRecords, seen_records};
-ghost use Rattle.store_rules.specs.Views.{Records};
 ghost use Rattle.txn_core.specs.Shipped.{AllShip};
-ghost use Rattle.gremlin_parse.specs.Tags.{session_of};
 ghost use Rattle.gremlin_parse.specs.Lines.{Spells};
 ghost use Rattle.plain_graph.specs.Lines.{HasForm, IsQuestion};
 ghost use Rattle.plain_graph.specs.declared.command.Command.TheVariants as commands;
@@ -80,12 +76,6 @@ impl<'d, D: Disk> Session<'d, D> {
     pub fn step<K: Sink>(&mut self, line: &[u8], output: &mut K) -> Turn
         ensures answers { AnswersLine D.Disk K.Sink (Whole line.now)
             (with_sink self.old output.old) (with_sink self.new output.new) result }
-        // What `check` says is true of any content of the disk.
-        ensures judges { Spells line.now commands.Check → self.old.health ≡ healths.Live
-            → (records : Records)
-            → SeesRecords (shared_view self.old) (session_of line.now) records
-            → Judges D.tells_reads K.Sink (mark_in (Whole line.now)) records
-            (view self.old).console.shape output.old output.new result }
         // `reopen` leaves files that are no store, or a broken one, as they were.
         ensures careful { Spells line.now commands.Reopen
             → IsCareful D.Disk (view self.old).disk (view self.new).disk }
@@ -104,11 +94,6 @@ impl<'d, D: Disk> Session<'d, D> {
         requires room { 2048 ≤ tap.old.room }
         ensures answers { TapsLine D.Disk K.Sink (Whole line.now) (with_sink self.old output.old)
             (with_sink self.new output.new) result tap.new.pairs }
-        ensures judges { Spells line.now commands.Check → self.old.health ≡ healths.Live
-            → (records : Records)
-            → SeesRecords (shared_view self.old) (session_of line.now) records
-            → Judges D.tells_reads K.Sink (mark_in (Whole line.now)) records
-            (view self.old).console.shape output.old output.new result }
         ensures careful { Spells line.now commands.Reopen
             → IsCareful D.Disk (view self.old).disk (view self.new).disk }
         ensures no_draft { HasNoDraft (view self.old) → HasNoDraft (view self.new) }
@@ -162,11 +147,6 @@ impl<'d, D: Disk> Session<'d, D> {
         ensures answers { TapsAnswer D.Disk K.Sink (Whole line.now)
             (with_sink self.old output.old) (with_sink self.new output.new) result
             tap.old tap.new }
-        ensures judges { Spells line.now commands.Check → self.old.health ≡ healths.Live
-            → (records : Records)
-            → SeesRecords (shared_view self.old) (session_of line.now) records
-            → Judges D.tells_reads K.Sink (mark_in (Whole line.now)) records
-            (view self.old).console.shape output.old output.new result }
         ensures careful { Spells line.now commands.Reopen
             → IsCareful D.Disk (view self.old).disk (view self.new).disk }
         ensures no_draft { HasNoDraft (view self.old) → HasNoDraft (view self.new) }
@@ -198,10 +178,6 @@ impl<'d, D: Disk> Session<'d, D> {
             → TapsAnswer D.Disk K.Sink (Whole line)
             (with_sink self.old output.old) (with_sink self.new output.new) result
             tap.old tap.new }
-        ensures judges { command.now ≡ commands.Check → self.old.health ≡ healths.Live
-            → (records : Records) → SeesRecords (shared_view self.old) session records
-            → Judges D.tells_reads K.Sink mark.now records (view self.old).console.shape
-            output.old output.new result }
         ensures careful { command.now ≡ commands.Reopen
             → IsCareful D.Disk (view self.old).disk (view self.new).disk }
         ensures same_disk { HaveSameDisk self.old self.new }
@@ -230,10 +206,6 @@ impl<'d, D: Disk> Session<'d, D> {
             → TapsAnswer D.Disk K.Sink (Whole line)
             (with_sink self.old output.old) (with_sink self.new output.new) result
             tap.old tap.new }
-        ensures judges { command.now ≡ commands.Check → self.old.health ≡ healths.Live
-            → (records : Records) → SeesRecords (shared_view self.old) session records
-            → Judges D.tells_reads K.Sink mark.now records (view self.old).console.shape
-            output.old output.new result }
         ensures careful { command.now ≡ commands.Reopen
             → IsCareful D.Disk (view self.old).disk (view self.new).disk }
         ensures same_disk { HaveSameDisk self.old self.new }
@@ -260,9 +232,6 @@ impl<'d, D: Disk> Session<'d, D> {
             → TapsAnswer D.Disk K.Sink (Whole line)
             (with_sink self.old output.old) (with_sink self.new output.new) result
             tap.old tap.new }
-        ensures judges { command.now ≡ commands.Check → self.old.health ≡ healths.Live
-            → Judges D.tells_reads K.Sink mark.now (seen_records (view self.old).console)
-            (view self.old).console.shape output.old output.new result }
         ensures careful { command.now ≡ commands.Reopen
             → IsCareful D.Disk (view self.old).disk (view self.new).disk }
         ensures same_disk { HaveSameDisk self.old self.new }

@@ -1,19 +1,20 @@
 ghost use Rattle.std.specs.Prelude.{◌≤◌, [], IfOk};
+ghost use Rattle.stored_graph.specs.Stands.{IsZeros};
 ghost use Rattle.txn_core.specs.Config.{shape_of};
-ghost use Rattle.follower.specs.Sent.{IsZeros};
 ghost use Rattle.graph_session.specs.Session.{shared_view};
-ghost use Rattle.graph_session.specs.Sending.{HasSent};
 ghost use Rattle.graph_console.specs.Following.{SendsSample};
 ghost use Rattle.graph_console.specs.Sample.{sample_config, sample_store};
+ghost use Rattle.graph_console.specs.Sending.{HasSent};
 
 use crate::follow::shipments::Shipments;
 use crate::sample::asking::ask_tapped;
 use crate::sample::config_of;
 use crate::sample::generator::Generator;
 use crate::sample::sampler::Sampler;
+use crate::sending::sends_what_it_commits;
 use console_words::SampleOptions;
 use disk_model::Disk;
-use graph_session::{NotOpened, Session, sends_what_it_commits};
+use graph_session::{NotOpened, Session};
 use rec_bytes::WriteSet;
 use std::alloc::{AllocError, Global};
 use stream_io::Page;

@@ -5,8 +5,8 @@ ghost use Rattle.plain_graph.specs.Lines.{counts_text};
 ghost use Rattle.plain_graph.specs.Reply.{text_line};
 ghost use Rattle.rec_bytes.specs.Shape.{is_allowed};
 ghost use Rattle.rec_bytes.specs.declared.shape.Shape.{Shape};
+ghost use Rattle.stored_graph.specs.Stands.{Stands};
 ghost use Rattle.txn_core.specs.Config.{shape_of};
-ghost use Rattle.graph_session.specs.Stands.{Stands};
 ghost use Rattle.graph_console.specs.Follow.{delivered_line};
 
 use crate::follow::delivered::Delivered;

@@ -6,8 +6,9 @@ ghost use Rattle.graph_console.specs.Following.{AnswersTapped};
 ghost use Rattle.graph_console.specs.Sampling.{AnswersWell};
 ghost use Rattle.graph_session.specs.Session.{shared_view};
 
+use crate::sending::sends_what_it_commits;
 use disk_model::Disk;
-use graph_session::{Session, Turn, sends_what_it_commits};
+use graph_session::{Session, Turn};
 use plain_graph::{disk_fault, no_memory};
 use rec_bytes::WriteSet;
 use std::alloc::{AllocError, Global};

@@ -73,7 +73,7 @@ fn add_shown<R: Reads, K: Sink>(
     requires { IsShown item.now }
     ensures added { IfOk result (AddsShown R.Reads K.Sink names.now.names maps.now item.now
         space.old lines.old lines.new output.old output.new) }
-    ensures stopped { IfErr result (AddsNone R.Reads names.now.names space.old space.new
+    ensures stopped { IfErr result (AddsNone R.Reads space.old space.new
         lines.old lines.new output.old output.new) }
     ensures cost { R.tells
         → IsNamedStore (R.state space.old).records (R.state space.old).shape names.now.names

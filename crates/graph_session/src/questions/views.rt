@@ -52,7 +52,7 @@ fn line_of<R: Reads>(
         → IsNamedStore (R.state space.old).records (R.state space.old).shape names.now.names
         → IfErr result (IsViewRefusal (graph_of (R.state space.old).records) target.now) }
     ensures answer { IfErr result
-        (IsViewAnswer (R.faults space.old) (R.faults space.new) target.now) }
+        (IsViewAnswer R.Reads target.now space.old space.new) }
     // One read of the element, and one for each property and each block of their texts.
     ensures cost { R.tells
         → IsNamedStore (R.state space.old).records (R.state space.old).shape names.now.names

@@ -7,6 +7,7 @@ use Rattle.console_words.specs.declared.run_options.RunOptions.{RunOptions}
 use Rattle.console_words.specs.declared.sample_options.SampleOptions.{SampleOptions}
 use Rattle.graph_session.specs.Known.{as_known}
 use Rattle.graph_session.specs.Opening.{IsUnopened}
+use Rattle.graph_console.specs.AnyDisk.{terms_over}
 use Rattle.graph_console.specs.Follow.{Follows}
 use Rattle.graph_console.specs.Program.{Serves, Writes, config_for, terms_for}
 use Rattle.graph_console.specs.Sample.{Samples}
@@ -19,6 +20,9 @@ use Rattle.graph_console.proofs.program.graph_main.Goals as goal
 
 pub returns-in-Err-Usage-clause-serves : goal.returns-in-Err-Usage-clause-serves
 returns-in-Err-Usage-clause-serves g c = λ known options asks holds s k. absurd (rw c.deref.ensures.value at (c.in-Err-Usage.ensures.usage (ap Err c.in-Err-Usage.field-0-is)) (Run options) asks)
+
+pub returns-in-Err-Usage-clause-steps : goal.returns-in-Err-Usage-clause-steps
+returns-in-Err-Usage-clause-steps g c = λ options asks s k. absurd (rw c.deref.ensures.value at (c.in-Err-Usage.ensures.usage (ap Err c.in-Err-Usage.field-0-is)) (Run options) asks)
 
 pub returns-in-Err-Usage-clause-usage : goal.returns-in-Err-Usage-clause-usage
 returns-in-Err-Usage-clause-usage g c = λ is. rw c.deref.ensures.value at (c.in-Err-Usage.ensures.usage (ap Err c.in-Err-Usage.field-0-is))
@@ -45,7 +49,12 @@ returns-in-Err-Memory-clause-follows g c = λ options asks k.
 
 pub returns-in-Err-Memory-clause-serves : goal.returns-in-Err-Memory-clause-serves
 returns-in-Err-Memory-clause-serves g c = λ known options asks holds s k.
-    serves_unopened (as_known known g.D.Disk).tells_reads (terms_for (as_known known g.D.Disk) options c.args.disk.now c.args.disk.now) Memory (unopened_memory (as_known known g.D.Disk) g.met.D.Disk.only_now (config_for options) c.args.disk.now)
+    serves_unopened (terms_for (as_known known g.D.Disk) options c.args.disk.now c.args.disk.now) Memory (unopened_memory (as_known known g.D.Disk) g.met.D.Disk.only_now (config_for options) c.args.disk.now)
+    _ _ c.end_without_memory.result _ _ (c.end_without_memory.ensures.written k)
+
+pub returns-in-Err-Memory-clause-steps : goal.returns-in-Err-Memory-clause-steps
+returns-in-Err-Memory-clause-steps g c = λ options asks s k.
+    serves_unopened (terms_over g.D.Disk options c.args.disk.now c.args.disk.now) Memory (unopened_memory g.D.Disk g.met.D.Disk.only_now (config_for options) c.args.disk.now)
     _ _ c.end_without_memory.result _ _ (c.end_without_memory.ensures.written k)
 
 pub returns-in-Err-Memory-clause-unopened : goal.returns-in-Err-Memory-clause-unopened
@@ -63,6 +72,14 @@ returns-in-Run-clause-serves g c = λ known options asks holds s k.
     (λ (o : RunOptions). Writes (g.K.Sink.taken c.args.output.now) (g.K.Sink.taken c.run.new.output)
     (Serves (terms_for (as_known known g.D.Disk) o c.args.disk.now c.run.new.disk) c.run.result (g.S.Source.left c.args.input.now) (g.S.Source.left c.run.new.input)))
     (sym same) (c.run.ensures.serves known holds s k)
+
+pub returns-in-Run-clause-steps : goal.returns-in-Run-clause-steps
+returns-in-Run-clause-steps g c = λ options asks s k.
+    let same : options ≡ c.in-Run.options = same_run options c.in-Run.options c.in-Ok.asked (rw c.deref.ensures.value at c.in-Ok.ensures.only (Run options) asks) c.in-Run.is in
+    subst
+    (λ (o : RunOptions). Writes (g.K.Sink.taken c.args.output.now) (g.K.Sink.taken c.run.new.output)
+    (Serves (terms_over g.D.Disk o c.args.disk.now c.run.new.disk) c.run.result (g.S.Source.left c.args.input.now) (g.S.Source.left c.run.new.input)))
+    (sym same) (c.run.ensures.steps s k)
 
 pub returns-in-Run-clause-unopened : goal.returns-in-Run-clause-unopened
 returns-in-Run-clause-unopened g c = λ options asks ends k.
@@ -126,6 +143,9 @@ sample-requires g c = sample_within _ c.in-Sample.options c.in-Ok.asked c.in-Ok.
 pub returns-in-Sample-clause-serves : goal.returns-in-Sample-clause-serves
 returns-in-Sample-clause-serves g c = λ known options asks holds s k. absurd (run-not_sample options c.in-Sample.options c.in-Ok.asked (rw c.deref.ensures.value at c.in-Ok.ensures.only (Run options) asks) c.in-Sample.is)
 
+pub returns-in-Sample-clause-steps : goal.returns-in-Sample-clause-steps
+returns-in-Sample-clause-steps g c = λ options asks s k. absurd (run-not_sample options c.in-Sample.options c.in-Ok.asked (rw c.deref.ensures.value at c.in-Ok.ensures.only (Run options) asks) c.in-Sample.is)
+
 pub returns-in-Sample-clause-unopened : goal.returns-in-Sample-clause-unopened
 returns-in-Sample-clause-unopened g c = λ options asks ends k. absurd (run-not_sample options c.in-Sample.options c.in-Ok.asked (rw c.deref.ensures.value at c.in-Ok.ensures.only (Run options) asks) c.in-Sample.is)
 
@@ -166,6 +186,9 @@ follow-requires g c = follow_within _ c.in-Follow.options c.in-Ok.asked c.in-Ok.
 
 pub returns-clause-serves : goal.returns-clause-serves
 returns-clause-serves g c = λ known options asks holds s k. absurd (run-not_follow options c.in-Follow.options c.in-Ok.asked (rw c.deref.ensures.value at c.in-Ok.ensures.only (Run options) asks) c.in-Follow.is)
+
+pub returns-clause-steps : goal.returns-clause-steps
+returns-clause-steps g c = λ options asks s k. absurd (run-not_follow options c.in-Follow.options c.in-Ok.asked (rw c.deref.ensures.value at c.in-Ok.ensures.only (Run options) asks) c.in-Follow.is)
 
 pub returns-clause-unopened : goal.returns-clause-unopened
 returns-clause-unopened g c = λ options asks ends k. absurd (run-not_follow options c.in-Follow.options c.in-Ok.asked (rw c.deref.ensures.value at c.in-Ok.ensures.only (Run options) asks) c.in-Follow.is)

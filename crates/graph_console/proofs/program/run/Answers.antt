@@ -1,9 +1,10 @@
-use Rattle.std.proofs.Common.{◌≡◌, inl, inr, true, subst, rules}
+use Rattle.std.proofs.Common.{◌≡◌, inl, inr, true, false, subst, rules}
 use Rattle.disk_model.proofs.Spans.{only_reads_none}
 use Rattle.recovery.specs.Finding.{IsCareful}
 use Rattle.fault_count.specs.Cause.{Rose}
 use Rattle.txn_core.specs.Config.{Suits}
 use Rattle.txn_core.specs.Opening.{StaysAsItWas}
+use Rattle.txn_core.specs.Opening as store
 use Rattle.txn_core.specs.declared.config.Config.{Config}
 use Rattle.txn_core.specs.declared.open_fault.OpenFault.TheVariants.{Memory}
 use Rattle.graph_session.specs.Known.{as_known}
@@ -11,16 +12,26 @@ use Rattle.graph_session.specs.Opening.{IsUnopened, LeavesRefused, Opens}
 use Rattle.graph_session.specs.Session.{shared_view, view}
 use Rattle.graph_session.proofs.Knowing.{leaves-known, told_of, unopened-known}
 use Rattle.graph_session.proofs.SnapshotTaking.{opens-shared}
+use Rattle.graph_session.specs.SnapshotEffects.{SharedView}
+use Rattle.graph_console.specs.AnyDisk.{terms_over}
+use Rattle.graph_console.specs.Sending.{OpensSession}
 use Rattle.graph_console.specs.Program.{Serves, Writes, config_for, terms_for}
 use Rattle.graph_console.specs.Run.{begins_with}
 use Rattle.graph_console.specs.Unopened.{EndsUnopened}
+use Rattle.graph_console.proofs.AnyDisk.{walks_opened}
 use Rattle.graph_console.proofs.Failing.{failed_rose}
+use Rattle.graph_console.proofs.Lossless.{ends_over}
 use Rattle.graph_console.proofs.Opened.{asked_other, at_equal, bad_files, disk_failed, ends_unopened, serves_opened, serves_unopened, sound_for, unopened_memory}
 use Rattle.graph_console.proofs.program.run.Goals as goal
 
 pub returns-in_default-clause-serves : goal.returns-in_default-clause-serves
 returns-in_default-clause-serves g c = λ known holds s k.
-    serves_unopened (as_known known g.D.Disk).tells_reads (terms_for (as_known known g.D.Disk) c.args.options c.args.disk.now c.args.disk.now) Memory (unopened_memory (as_known known g.D.Disk) g.met.D.Disk.only_now (config_for c.args.options) c.args.disk.now)
+    serves_unopened (terms_for (as_known known g.D.Disk) c.args.options c.args.disk.now c.args.disk.now) Memory (unopened_memory (as_known known g.D.Disk) g.met.D.Disk.only_now (config_for c.args.options) c.args.disk.now)
+    _ _ c.end_without_memory.result _ _ (c.end_without_memory.ensures.written k)
+
+pub returns-in_default-clause-steps : goal.returns-in_default-clause-steps
+returns-in_default-clause-steps g c = λ s k.
+    serves_unopened (terms_over g.D.Disk c.args.options c.args.disk.now c.args.disk.now) Memory (unopened_memory g.D.Disk g.met.D.Disk.only_now (config_for c.args.options) c.args.disk.now)
     _ _ c.end_without_memory.result _ _ (c.end_without_memory.ensures.written k)
 
 pub returns-in_default-clause-unopened : goal.returns-in_default-clause-unopened
@@ -42,6 +53,28 @@ returns-in-Ok-open-clause-serves g c = λ known holds s k.
     (c.serve-exit.ensures.serves known (begins_with begins.0) at s k))
     (search rules)
 
+pub returns-in-Ok-open-clause-steps : goal.returns-in-Ok-open-clause-steps
+returns-in-Ok-open-clause-steps g c = λ s k.
+    let config_is : c.config_of.result ≡ config_for c.args.options = c.config_of.ensures in
+    let first : SharedView g.row.D.Denot = shared_view c.in-Ok-open.session in
+    let opens = subst (λ (config : Config). Opens g.D.Disk config c.args.disk.now (view c.in-Ok-open.session)) config_is c.in-Ok-open.ensures.opened in
+    let starts : OpensSession g.D.Disk (config_for c.args.options) c.args.disk.now first = record {
+      opens = opens;
+      none = c.in-Ok-open.ensures.no_snapshots;
+      stored = c.in-Ok-open.ensures.stored;
+      records = λ told. subst (λ (config : Config). store.Opens (g.D.Disk.reads c.args.disk.now) config first.session.console.shape first.session.console.committed) config_is (c.in-Ok-open.ensures.records told);
+    } in
+    let begins = opens.begins false (λ never. absurd never) in
+    let at = opens-shared (as_known false g.D.Disk) first begins.0 begins.2 (λ never. absurd never) begins.1.closed c.in-Ok-open.ensures.no_snapshots in
+    at_equal
+    (λ (disk : g.row.D.Denot). Writes (g.K.Sink.taken c.args.output.now) (g.K.Sink.taken c.serve-exit.new.output)
+    (Serves (terms_over g.D.Disk c.args.options c.args.disk.now disk) c.serve-exit.result (g.S.Source.left c.args.input.now) (g.S.Source.left c.serve-exit.new.input)))
+    (view c.serve-exit.new.session).disk _
+    (walks_opened g.D.Disk c.args.options c.args.disk.now (view c.serve-exit.new.session).disk first starts
+    (ends_over g.D.Disk g.met.D.Disk.only_now g.met.D.Disk.counts_now (config_for c.args.options) c.args.disk.now (view c.serve-exit.new.session).disk first starts) c.serve-exit.result _ _ _ _
+    (c.serve-exit.ensures.steps (begins_with begins.0) at s k))
+    (search rules)
+
 pub returns-in-Ok-open-clause-store_failed : goal.returns-in-Ok-open-clause-store_failed
 returns-in-Ok-open-clause-store_failed g c = λ told stands s k is.
     failed_rose g.D.Disk c.args.options c.args.disk.now _ told c.serve-exit.result _ _ _ _ (returns-in-Ok-open-clause-serves g c true (λ _. stands) s k) is
@@ -54,7 +87,18 @@ returns-clause-serves g c = λ known holds s k.
     (λ (disk : g.row.D.Denot). Writes (g.K.Sink.taken c.args.output.now) (g.K.Sink.taken c.end_unopened.new.output)
     (Serves (terms_for (as_known known g.D.Disk) c.args.options c.args.disk.now disk) c.end_unopened.result (g.S.Source.left c.args.input.now) (g.S.Source.left c.args.input.now)))
     c.in-Err.field-0.disk.now _
-    (serves_unopened (as_known known g.D.Disk).tells_reads (terms_for (as_known known g.D.Disk) c.args.options c.args.disk.now c.in-Err.field-0.disk.now) c.in-Err.field-0.why (unopened-known known unopened) _ _ c.end_unopened.result _ _ (c.end_unopened.ensures.written k))
+    (serves_unopened (terms_for (as_known known g.D.Disk) c.args.options c.args.disk.now c.in-Err.field-0.disk.now) c.in-Err.field-0.why (unopened-known known unopened) _ _ c.end_unopened.result _ _ (c.end_unopened.ensures.written k))
+    (search rules)
+
+pub returns-clause-steps : goal.returns-clause-steps
+returns-clause-steps g c = λ s k.
+    let config_is : c.config_of.result ≡ config_for c.args.options = c.config_of.ensures in
+    let unopened = subst (λ (config : Config). IsUnopened g.D.Disk config c.args.disk.now c.in-Err.field-0.disk.now c.in-Err.field-0.why) config_is c.in-Err.ensures.unopened in
+    at_equal
+    (λ (disk : g.row.D.Denot). Writes (g.K.Sink.taken c.args.output.now) (g.K.Sink.taken c.end_unopened.new.output)
+    (Serves (terms_over g.D.Disk c.args.options c.args.disk.now disk) c.end_unopened.result (g.S.Source.left c.args.input.now) (g.S.Source.left c.args.input.now)))
+    c.in-Err.field-0.disk.now _
+    (serves_unopened (terms_over g.D.Disk c.args.options c.args.disk.now c.in-Err.field-0.disk.now) c.in-Err.field-0.why unopened _ _ c.end_unopened.result _ _ (c.end_unopened.ensures.written k))
     (search rules)
 
 pub returns-clause-unopened : goal.returns-clause-unopened

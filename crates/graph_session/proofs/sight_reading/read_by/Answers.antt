@@ -6,7 +6,7 @@ use Rattle.store_rules.specs.Graph.{graph_of}
 use Rattle.graph_session.specs.Exchange.{told_fault}
 use Rattle.traversal_run.specs.Reading.{IsNamedStore}
 use Rattle.graph_session.specs.Questions.{Means}
-use Rattle.graph_session.specs.Verdicts.{TellsVerdict}
+use Rattle.graph_session.specs.Verdicts.{Judges}
 use Rattle.graph_session.proofs.sight_reading.read_by.Goals as goal
 
 -- what holds of the space beneath a view holds of the space that was lent to it
@@ -25,7 +25,7 @@ returns-clause-gives g c = λ asks.
       gives = given.gives;
       means = λ tells store.
           subst (λ (s : State). IsNamedStore s.records s.shape names → Means (graph_of s.records) command given.reply) c.view-view.ensures.sees (given.means tells) store;
-      verdict = λ tells is. subst (λ (s : State). TellsVerdict s.records s.shape given.reply) c.view-view.ensures.sees (given.verdict tells is);
+      judges = λ tells. subst (λ (s : State). Judges s.records s.shape command given.reply) c.view-view.ensures.sees (given.judges tells);
       told = lent (λ old new. told_fault given.reply ≢ 0 → Rose (g.R.Reads.faults old) (g.R.Reads.faults new)) _ _ _ _ c.view-view.ensures.committed (search rules) given.told;
       later = lent (λ old new. g.R.Reads.faults old ≤ g.R.Reads.faults new) _ _ _ _ c.view-view.ensures.committed (search rules) given.read.later;
     }

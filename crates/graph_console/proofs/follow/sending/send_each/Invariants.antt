@@ -1,7 +1,7 @@
 use Rattle.std.proofs.Common.{[]}
 use Rattle.txn_core.specs.Config.{shape_of}
-use Rattle.graph_session.specs.Sending.{HasSent}
 use Rattle.graph_session.specs.Session.{shared_view}
+use Rattle.graph_console.specs.Sending.{HasSent}
 use Rattle.graph_console.specs.Following.{HasSentTurns}
 use Rattle.graph_console.specs.Sample.{sample_config, sample_store}
 use Rattle.graph_console.proofs.follow.sending.send_each.Given as goal

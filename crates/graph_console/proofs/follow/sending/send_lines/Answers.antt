@@ -3,8 +3,8 @@ use Rattle.std.proofs.lemmas.Result.{IfOk-weaker}
 use Rattle.rec_bytes.specs.Shape.{is_allowed}
 use Rattle.txn_core.specs.Config.{shape_of}
 use Rattle.txn_core.specs.declared.config.Config.{Config}
-use Rattle.graph_session.specs.Sending.{OpensSession}
 use Rattle.graph_session.specs.Session.{shared_view}
+use Rattle.graph_console.specs.Sending.{OpensSession}
 use Rattle.graph_console.specs.Sample.{sample_config}
 use Rattle.graph_console.proofs.AskedFor.{sample_allowed}
 use Rattle.graph_console.proofs.follow.sending.send_lines.Goals as goal

@@ -2,11 +2,10 @@ use Rattle.std.proofs.Common.{◌∙◌, ℕ, Option, Err, List, ap, refl}
 use Rattle.plain_graph.specs.Lines.{degree_text, one_line}
 use Rattle.plain_graph.specs.declared.command.Command.TheVariants as commands
 use Rattle.plain_graph.specs.declared.direction.Direction.{Direction}
-use Rattle.expand.proofs.Unblamed.{unblamed}
 use Rattle.store_rules.specs.Graph.{graph_of}
 use Rattle.store_rules.specs.Rows.{option_list}
 use Rattle.graph_session.proofs.Expansion.{is_read-gets, rows-degree}
-use Rattle.graph_session.proofs.NodeQuestions.{AsksElements, gives-told, gives-unknown, one-missing, undamaged}
+use Rattle.graph_session.proofs.NodeQuestions.{AsksElements, gives-told, gives-unknown, one-blamed, one-missing}
 use Rattle.graph_session.proofs.questions.degrees.give_degree.Goals as goal
 
 asks : (id : ℕ) (direction : Direction) (label : Option (List ℕ)) → AsksElements (commands.Degree id direction label)
@@ -29,5 +28,5 @@ returns-in-Err g c =
     let met = c.in-Err.ensures in
     gives-unknown (asks c.args.id c.args.direction c.args.label.now) (is_read-gets g.R.Reads met.at_most.count met.at_most.is met.onward met.cause.later) tt c.in-Err.fault (λ disk. met.cause.disk (ap Err disk))
     (λ told store. one-missing ℕ c.in-Err.fault c.args.id (graph_of s.records) (met.missing told store.store))
-    (λ told store. undamaged ℕ c.in-Err.fault (unblamed {T = ℕ} s c.args.id (Err c.in-Err.fault) store.store (met.damaged told)))
+    (λ told. one-blamed s c.args.id c.in-Err.fault (met.damaged told))
     (rw c.answer_of.ensures at c.give_answer.ensures)

@@ -7,10 +7,9 @@ use Rattle.plain_graph.specs.declared.direction.Direction.{Direction}
 use Rattle.plain_graph.specs.declared.item.Item.{Item}
 use Rattle.rel_store.specs.declared.edge_row.EdgeRow.{EdgeRow}
 use Rattle.expand.specs.declared.expand_fault.ExpandFault.TheVariants as faults
-use Rattle.expand.proofs.Unblamed.{unblamed}
 use Rattle.store_rules.specs.Graph.{graph_of}
 use Rattle.graph_session.specs.EdgeResults.{items_of}
-use Rattle.graph_session.proofs.NodeQuestions.{AsksElements, gives-told, gives-unknown, one-missing, undamaged}
+use Rattle.graph_session.proofs.NodeQuestions.{AsksElements, gives-told, gives-unknown, one-blamed, one-missing}
 use Rattle.graph_session.proofs.Running.{is_read-none}
 use Rattle.graph_session.proofs.questions.edge_results.give_edges.Goals as goal
 
@@ -19,7 +18,7 @@ asks id direction label = record { question = tt; some = tt; reading = listed []
 
 pub returns-in_default : goal.returns-in_default
 returns-in_default g c =
-    gives-unknown (asks c.args.id c.args.direction c.args.label.now) (is_read-none g.R.Reads g.met.R.Reads.stays_onward c.args.space.now) tt faults.Memory (λ e. cc) (λ told store id e. cc) (λ told store damage e. cc) (rw c.no_memory.ensures at c.give_line.ensures)
+    gives-unknown (asks c.args.id c.args.direction c.args.label.now) (is_read-none g.R.Reads g.met.R.Reads.stays_onward c.args.space.now) tt faults.Memory (λ e. cc) (λ told store id e. cc) (λ told. tt) (rw c.no_memory.ensures at c.give_line.ensures)
 
 pub returns-in-Ok-edges_of : goal.returns-in-Ok-edges_of
 returns-in-Ok-edges_of g c =
@@ -37,5 +36,5 @@ returns-in-Err g c =
     let fault = c.in-Err.fault in
     gives-unknown (asks c.args.id c.args.direction c.args.label.now) met.read tt fault (λ disk. met.cause.disk (ap Err disk))
     (λ told store. one-missing (Vec EdgeRow Global) fault c.args.id (graph_of s.records) (met.missing told store))
-    (λ told store. undamaged (Vec EdgeRow Global) fault (unblamed {T = Vec EdgeRow Global} s c.args.id (Err fault) store.store (met.damaged told)))
+    (λ told. one-blamed s c.args.id fault (met.damaged told))
     (rw c.answer_of.ensures at c.give_answer.ensures)

@@ -1,7 +1,5 @@
-use Rattle.std.proofs.Common.{◌∙◌, Err, ap, refl, subst, sym}
+use Rattle.std.proofs.Common.{◌∙◌, Err, ap, refl, sym}
 use Rattle.plain_graph.specs.Lines.{listed}
-use Rattle.prop_index.specs.Blaming.{BlamesBroken}
-use Rattle.store_rules.proofs.Breaches.{none_at_all}
 use Rattle.graph_session.specs.IndexLists.{index_lines}
 use Rattle.graph_session.proofs.Expansion.{is_read-gets}
 use Rattle.graph_session.proofs.GraphIndexes.{graph-lines}
@@ -24,8 +22,6 @@ returns-in-Ok-clause-gives g c =
 
 pub returns-in-Err-clause-gives : goal.returns-in-Err-clause-gives
 returns-in-Err-clause-gives g c =
-    let s = g.R.Reads.state c.args.space.now in
     let met = c.in-Err.ensures in
     asks-unread asks-indexes (is_read-gets g.R.Reads met.at_most.count met.at_most.is met.onward met.cause.later) c.in-Err.fault (λ disk. met.cause.disk (ap Err disk))
-    (λ told store damage is. none_at_all s.records s.shape (record { store = store.store; indexes = store.indexes }) damage (subst (BlamesBroken s.records s.shape) is (met.damaged told)))
-    (rw c.answer_of_read.ensures at c.give_answer.ensures)
+    (λ told. met.damaged told) (rw c.answer_of_read.ensures at c.give_answer.ensures)

@@ -3,11 +3,9 @@ use Rattle.std.proofs.lemmas.Result.{err_from_is_err_and}
 use Rattle.plain_graph.specs.ElementMaps.{map_line}
 use Rattle.plain_graph.specs.Reply.{item_line}
 use Rattle.plain_graph.specs.declared.element_map.ElementMap.{ElementMap}
-use Rattle.prop_store.specs.Fault.{BlamesBroken}
 use Rattle.prop_store.specs.Reading.{ReadsAtMost}
 use Rattle.prop_store.proofs.ReadCounts.{reads_none}
 use Rattle.store_rules.specs.Graph.{graph_of}
-use Rattle.store_rules.proofs.Breaches.{none_broken}
 use Rattle.graph_session.specs.QueryResults.{AddsShown, reads_to_show}
 use Rattle.graph_session.proofs.questions.query_results.add_shown.Goals as goal
 
@@ -23,14 +21,13 @@ returns-in_default-clause-cost g c = λ told store.
 
 pub returns-in_err-map-clause-stopped : goal.returns-in_err-map-clause-stopped
 returns-in_err-map-clause-stopped g c =
-    let s = g.R.Reads.state c.args.space.now in
     let met = c.in_err-map.ensures in
     let p = err_from_is_err_and c.from_residual.result c.from_residual.ensures.1 in
     rw (p.1, p.2) (record {
       held = refl;
       output = refl;
       disk = λ is. met.cause.disk (ap Err is);
-      sound = λ told store damage is. none_broken s.records s.shape store.store damage (subst (BlamesBroken s.records s.shape) is (met.damaged told));
+      blames = λ told. met.damaged told;
     })
 
 pub returns-clause-added : goal.returns-clause-added

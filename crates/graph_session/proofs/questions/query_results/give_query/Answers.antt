@@ -1,10 +1,8 @@
 use Rattle.std.proofs.Common.{◌∙◌, Err, ap, refl, subst, sym}
 use Rattle.plain_graph.specs.Lines.{index_of_source}
 use Rattle.plain_graph.specs.Reply.{PastCount}
-use Rattle.prop_index.specs.Looking.{BlamesBroken}
 use Rattle.rec_bytes.specs.declared.fault.Fault.TheVariants as faults
 use Rattle.store_rules.specs.Graph.{graph_of}
-use Rattle.store_rules.proofs.Breaches.{none_at_all, none_broken}
 use Rattle.traversal_run.specs.FoundNodes.{IsSourceRefusal}
 use Rattle.graph_session.proofs.IndexQuestions.{asks-unfound}
 use Rattle.graph_session.proofs.Reasons.{index-there}
@@ -29,8 +27,7 @@ returns-in-Err g c =
     let query = c.args.query.now in
     asks-unfound (asks-query query) (λ graph. tt) met.read fault (λ is none. let memory = met.memory none in absurd (let e = sym is ∙ memory in cc)) (λ disk. met.cause.disk (ap Err disk))
     (λ told store is. subst (IsSourceRefusal (graph_of s.records) query.source) is (met.refused told store))
-    (λ told store damage is. none_at_all s.records s.shape (record { store = store.store; indexes = store.indexes }) damage (subst (BlamesBroken s.records s.shape) is (met.damaged told)))
-    (rw c.answer_of_lookup.ensures at c.give_answer.ensures)
+    (λ told. met.damaged told) (rw c.answer_of_lookup.ensures at c.give_answer.ensures)
 
 pub loop-preserved : goal.loop-preserved
 loop-preserved g c =
@@ -49,24 +46,22 @@ returns-in-End g c =
     running-end g.met.R.Reads.further_onward c.loop.invariant c.next.ensures.read (λ told store. c.in-End.ensures.end told store c.loop.invariant.goes refl) c.finish.new.output c.finish.result (rw c.end_of_results.ensures at c.finish.ensures)
 
 pub returns-in-Memory : goal.returns-in-Memory
-returns-in-Memory g c = running-stopped g.met.R.Reads.further_onward c.loop.invariant c.next.ensures.read faults.Memory (λ e. cc) (λ told store damage e. cc) c.stop-in-Memory.new.output c.stop-in-Memory.result c.stop-in-Memory.ensures
+returns-in-Memory g c = running-stopped g.met.R.Reads.further_onward c.loop.invariant c.next.ensures.read faults.Memory (λ e. cc) (λ told. tt) c.stop-in-Memory.new.output c.stop-in-Memory.result c.stop-in-Memory.ensures
 
 pub returns-in-Disk : goal.returns-in-Disk
 returns-in-Disk g c =
-    running-stopped g.met.R.Reads.further_onward c.loop.invariant c.next.ensures.read faults.Disk (λ e. c.in-Disk.ensures.cause c.loop.invariant.goes refl) (λ told store damage e. cc) c.stop-in-Disk.new.output c.stop-in-Disk.result c.stop-in-Disk.ensures
+    running-stopped g.met.R.Reads.further_onward c.loop.invariant c.next.ensures.read faults.Disk (λ e. c.in-Disk.ensures.cause c.loop.invariant.goes refl) (λ told. tt) c.stop-in-Disk.new.output c.stop-in-Disk.result c.stop-in-Disk.ensures
 
 pub returns-in-Damaged : goal.returns-in-Damaged
 returns-in-Damaged g c =
-    let s = g.R.Reads.state c.loop.space in
-    running-stopped g.met.R.Reads.further_onward c.loop.invariant c.next.ensures.read (faults.Damaged c.in-Damaged.damage) (λ e. cc)
-    (λ told store damage e. none_broken s.records s.shape store.store c.in-Damaged.damage (c.in-Damaged.ensures.damaged told c.loop.invariant.goes)) c.stop-in-Damaged.new.output c.stop-in-Damaged.result c.stop-in-Damaged.ensures
+    running-stopped g.met.R.Reads.further_onward c.loop.invariant c.next.ensures.read (faults.Damaged c.in-Damaged.damage) (λ e. cc) (λ told. c.in-Damaged.ensures.damaged told c.loop.invariant.goes) c.stop-in-Damaged.new.output c.stop-in-Damaged.result c.stop-in-Damaged.ensures
 
 pub returns-in-PastCount : goal.returns-in-PastCount
 returns-in-PastCount g c =
     running-fault g.met.R.Reads.further_onward c.loop.invariant c.next.ensures.read PastCount
     (shows-past g.met.R.Reads.further_onward c.loop.invariant (λ told-now store-now. c.in-PastCount.ensures.past told-now store-now c.loop.invariant.goes refl))
-    (λ blames. absurd (blames refl)) c.finish-in-PastCount.new.output c.finish-in-PastCount.result (rw c.past_count.ensures at c.finish-in-PastCount.ensures)
+    (λ blames. absurd (blames refl)) (λ told. tt) c.finish-in-PastCount.new.output c.finish-in-PastCount.result (rw c.past_count.ensures at c.finish-in-PastCount.ensures)
 
 pub returns : goal.returns
 returns g c =
-    running-stopped g.met.R.Reads.further_onward c.loop.invariant (is_read-none g.R.Reads g.met.R.Reads.stays_onward c.loop.space) faults.Memory (λ e. cc) (λ told store damage e. cc) c.stop-2.new.output c.stop-2.result c.stop-2.ensures
+    running-stopped g.met.R.Reads.further_onward c.loop.invariant (is_read-none g.R.Reads g.met.R.Reads.stays_onward c.loop.space) faults.Memory (λ e. cc) (λ told. tt) c.stop-2.new.output c.stop-2.result c.stop-2.ensures

@@ -1,7 +1,5 @@
 use Rattle.std.proofs.Common.{◌∙◌, sym, subst}
-use Rattle.prop_store.specs.Fault.{BlamesBroken}
 use Rattle.store_rules.specs.Graph.{graph_of}
-use Rattle.store_rules.proofs.Breaches.{none_broken}
 use Rattle.graph_session.specs.Views.{IsViewRefusal}
 use Rattle.graph_session.specs.declared.answer.Answer.{Answer}
 use Rattle.graph_session.proofs.Viewing.{read-refusal}
@@ -19,5 +17,4 @@ pub returns-clause-refused : goal.returns-clause-refused
 returns-clause-refused g c = λ told store.
     let s = g.R.Reads.state c.args.space.now in
     subst (λ (answer : Answer). IsViewRefusal (graph_of s.records) c.args.target.now answer) (sym c.answer_of_read.ensures)
-    (read-refusal (graph_of s.records) c.args.target.now c.in-Err.fault
-    (λ damage is. none_broken s.records s.shape store.store damage (subst (BlamesBroken s.records s.shape) is (c.in-Err.ensures.damaged told))))
+    (read-refusal (graph_of s.records) c.args.target.now c.in-Err.fault)

@@ -4,8 +4,7 @@ use Rattle.plain_graph.specs.declared.command.Command.TheVariants as commands
 use Rattle.plain_graph.specs.declared.direction.Direction.{Direction}
 use Rattle.store_rules.specs.Graph.{graph_of}
 use Rattle.path_find.specs.declared.answer.Answer.{Answer}
-use Rattle.path_find.proofs.Unblamed.{unblamed}
-use Rattle.graph_session.proofs.NodeQuestions.{AsksElements, end-missing, gives-told, gives-unknown, undamaged}
+use Rattle.graph_session.proofs.NodeQuestions.{AsksElements, end-blamed, end-missing, gives-told, gives-unknown}
 use Rattle.graph_session.proofs.questions.walks.give_levels.Goals as goal
 
 asks : (from to : ℕ) (direction : Direction) (label : Option (List ℕ)) → AsksElements (commands.Levels from to direction label)
@@ -27,4 +26,4 @@ returns-in-Err g c =
     let a = c.args in
     gives-unknown (asks a.from a.to a.direction a.label.now) met.read tt fault (λ disk. met.cause.disk (ap Err disk))
     (λ told store. end-missing Answer fault a.from a.to (graph_of (g.R.Reads.state c.args.space.now).records) (met.missing told store))
-    (λ told store. undamaged Answer fault (unblamed {T = Answer} (g.R.Reads.state c.args.space.now) c.args.from c.args.to (Err fault) store.store (met.damaged told))) (rw c.answer_of.ensures at c.give_answer.ensures)
+    (λ told. end-blamed (g.R.Reads.state a.space.now) a.from a.to fault (met.damaged told)) (rw c.answer_of.ensures at c.give_answer.ensures)

@@ -3,8 +3,7 @@ use Rattle.plain_graph.specs.Lines.{no_path_text, one_line, walk_reading}
 use Rattle.plain_graph.specs.declared.command.Command.TheVariants as commands
 use Rattle.plain_graph.specs.declared.direction.Direction.{Direction}
 use Rattle.store_rules.specs.Graph.{graph_of}
-use Rattle.path_find.proofs.Unblamed.{unblamed}
-use Rattle.graph_session.proofs.NodeQuestions.{AsksElements, end-missing, gives-told, gives-unknown, undamaged}
+use Rattle.graph_session.proofs.NodeQuestions.{AsksElements, end-blamed, end-missing, gives-told, gives-unknown}
 use Rattle.graph_session.proofs.WalkReplies.{walk-counted}
 use Rattle.graph_session.proofs.questions.walks.give_walk.Goals as goal
 
@@ -26,4 +25,4 @@ returns-in-Err g c =
     let a = c.args in
     gives-unknown (asks a.from a.to a.direction a.label.now) met.read tt fault (λ disk. met.cause.disk (ap Err disk))
     (λ told store. end-missing (List ℕ) fault a.from a.to (graph_of (g.R.Reads.state c.args.space.now).records) (met.missing told store))
-    (λ told store. undamaged (List ℕ) fault (unblamed {T = List ℕ} (g.R.Reads.state c.args.space.now) c.args.from c.args.to (Err fault) store.store (met.damaged told))) (rw c.answer_of.ensures at c.give_answer.ensures)
+    (λ told. end-blamed (g.R.Reads.state a.space.now) a.from a.to fault (met.damaged told)) (rw c.answer_of.ensures at c.give_answer.ensures)

@@ -5,9 +5,8 @@ use Rattle.stream_io.specs.Lines.{Whole}
 use Rattle.gremlin_parse.specs.Tags.{session_named, session_of}
 use Rattle.graph_session.specs.Answer.{Gives}
 use Rattle.graph_session.specs.Answering.{reply_of}
-use Rattle.graph_session.specs.Session.{shared_view, view}
+use Rattle.graph_session.specs.Session.{shared_view}
 use Rattle.graph_session.specs.Settling.{told_of}
-use Rattle.graph_session.specs.Verdicts.{Judges, SeesRecords}
 use Rattle.graph_session.proofs.Anyhow.{as-no_draft}
 use Rattle.graph_session.proofs.Dispatch.{fault-with, spells-none}
 use Rattle.graph_session.proofs.SessionNumbers.{session-low}
@@ -33,12 +32,6 @@ returns-in-Ok-clause-no_draft g c = λ none.
     let answers = (returns-in-Ok-clause-answers g c).0 in
     as-no_draft g.D.Disk (shared_view c.args.self.now) answers.reply (shared_view c.answer.new.self) none (session_of c.args.line.now) (Whole c.args.line.now) (answers.may none)
 
-pub returns-in-Ok-clause-judges : goal.returns-in-Ok-clause-judges
-returns-in-Ok-clause-judges g c = λ spells live records sees.
-    subst (λ (mark : List ℕ). Judges g.D.Disk.tells_reads g.K.Sink mark records (view c.args.self.now).console.shape c.args.output.now c.answer.new.output c.answer.result)
-    (marked c.args.line.now c.named_session.ensures c.mark_of-mark.ensures c.as_bytes.ensures)
-    (c.answer.ensures.judges (sym (c.in-Ok.ensures.only commands.Check spells)) live records (subst (λ (n : ℕ). SeesRecords (shared_view c.args.self.now) n records) (sym c.in-Ok.ensures.session) sees))
-
 pub returns-in-Ok-clause-careful : goal.returns-in-Ok-clause-careful
 returns-in-Ok-clause-careful g c = λ spells. c.answer.ensures.careful (sym (c.in-Ok.ensures.only commands.Reopen spells))
 
@@ -48,9 +41,6 @@ returns-in-Err-clause-answers g c =
     (fault-with g.D.Disk g.met.D.Disk.only_now g.K.Sink c.args.line.now c.in-Err.fault c.in-Err.ensures.none (λ e. c.in-Err.ensures.memory (ap Err e)) c.in-Err.ensures.fault
     (subst (λ (mark : List ℕ). Gives g.K.Sink (marked_text mark (reply_of (told_of c.in-Err.fault))) c.args.output.now c.give_answer.new.output c.give_answer.result)
     (marked c.args.line.now c.named_session.ensures c.mark_of-mark.ensures c.as_bytes-in-Err.ensures) (rw c.answer_of.ensures at c.give_answer.ensures)))
-
-pub returns-in-Err-clause-judges : goal.returns-in-Err-clause-judges
-returns-in-Err-clause-judges g c = λ spells live. absurd (spells-none c.args.line.now c.in-Err.fault c.in-Err.ensures.none (λ e. c.in-Err.ensures.memory (ap Err e)) commands.Check tt spells)
 
 pub returns-in-Err-clause-careful : goal.returns-in-Err-clause-careful
 returns-in-Err-clause-careful g c = λ spells. absurd (spells-none c.args.line.now c.in-Err.fault c.in-Err.ensures.none (λ e. c.in-Err.ensures.memory (ap Err e)) commands.Reopen tt spells)

@@ -1,7 +1,6 @@
 use Rattle.std.proofs.Common.{subst, sym}
 use Rattle.rec_bytes.specs.Pairs.{Pairs}
 use Rattle.txn_core.specs.Shipped.{AllShip}
-use Rattle.graph_session.proofs.Taps.{ascends}
 use Rattle.graph_session.proofs.session.Session.fill.Goals as goal
 
 pub returns-in-Some : goal.returns-in-Some
@@ -11,6 +10,7 @@ returns-in-Some g c =
     rw c.in-Some.is (record {
       is = is;
       few = c.tap.ensures.few;
-      ascend = ascends s.store.base.shape c.tap.new.tap.pairs c.tap.ensures.rising (subst (λ (pairs : Pairs). AllShip s.store.base.shape pairs) (sym is) s.ships);
+      rising = c.tap.ensures.rising;
+      shipped = subst (λ (pairs : Pairs). AllShip s.store.base.shape pairs) (sym is) s.ships;
       whole = c.tap.ensures.whole;
     })

@@ -1,6 +1,8 @@
-use Rattle.std.proofs.Common.{◌≡◌, ◌∙◌, Err, ap, inl, refl, sym, true≢false}
+use Rattle.std.proofs.Common.{◌≡◌, ◌∙◌, Err, ap, inl, refl, subst, sym, true≢false}
 use Rattle.disk_model.proofs.Spans.{only_reads_none}
 use Rattle.rec_bytes.specs.declared.damage.Damage.{Damage}
+use Rattle.txn_core.specs.Again.{RefusesAgain}
+use Rattle.txn_core.specs.Store.{content}
 use Rattle.txn_core.specs.declared.again_fault.AgainFault.TheVariants as faults
 use Rattle.graph_session.specs.Session.{view}
 use Rattle.graph_session.proofs.Moves.{refused-reopen}
@@ -33,8 +35,9 @@ returns-in-Err-Damaged-clause-settles g c =
     let s = c.args.self.now in
     let done = c.in-Err-Damaged.ensures in
     let damage = c.in-Err-Damaged.damage in
-    lost_damaged g.met.D.Disk.counts_now s.store c.recover_again.new.self done.same (sym c.if-in_transaction.ensures.is) done.closed done.draft done.later done.crash done.read done.clean s.health s.weight s.names.names damage.file damage.id
+    lost_damaged g.met.D.Disk.counts_now s.store c.recover_again.new.self done.same (sym c.if-in_transaction.ensures.is) done.closed done.draft done.later done.crash done.read done.clean s.health s.weight s.names.names damage
     (λ told space redoes made newest. not-disk damage (sym c.in-Err-Damaged.field-0-is ∙ done.sound told space redoes made newest))
+    (λ told. subst (RefusesAgain (content s.store) s.store.base.shape) c.in-Err-Damaged.field-0-is (done.refused told))
 
 pub returns-then-in_transaction-clause-careful : goal.returns-then-in_transaction-clause-careful
 returns-then-in_transaction-clause-careful g c = λ told. inl (only_reads_none g.D.Disk c.args.self.now.store.base.disk.now g.met.D.Disk.only_now)

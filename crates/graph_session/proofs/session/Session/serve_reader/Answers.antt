@@ -7,7 +7,7 @@ use Rattle.graph_session.specs.Session.{shared_view}
 use Rattle.graph_session.specs.SnapshotEffects.{SharedView}
 use Rattle.graph_session.proofs.Asking.{stays-over}
 use Rattle.graph_session.proofs.Moves.{seen_as}
-use Rattle.graph_session.proofs.ReaderAnswers.{answers-refuses, answers-release, answers-sight, answers-snapshot, check-served, judges-sight}
+use Rattle.graph_session.proofs.ReaderAnswers.{answers-refuses, answers-release, answers-sight, answers-snapshot}
 use Rattle.graph_session.proofs.ReaderRefusals.{opened-in, suits-question}
 use Rattle.graph_session.proofs.session.Session.serve_reader.Goals as goal
 
@@ -36,12 +36,3 @@ returns-in_default-command-clause-answers g c = λ line parsed.
     (λ none. stays-over s.store c.read_store.new.store read.base (ap (λ (held : Held). held.pairs) read.draft ∙ none) s.health s.weight s.names.names)
     (λ spared. ap (λ (store : Store _ _). let view : SharedView _ = record { session = seen_as store s.health s.weight s.names.names; held = s.snaps } in view) (c.read_store.ensures.idle suits.0 spared))
     (c.read_store.ensures.gives suits.0)
-
-pub returns-in_default-command-clause-judges : goal.returns-in_default-command-clause-judges
-returns-in_default-command-clause-judges g c = λ is live records seen.
-    let suits = suits-question (state_of c.args.self.now.snaps c.args.reader) c.args.command.now c.in_default.ensures.served.1 c.in_default-command.not-Snapshot c.in_default-command.not-Release in
-    judges-sight (shared_view c.args.self.now) c.requires.reader is records seen (c.read_store.ensures.gives suits.0)
-
-pub returns-in-Some-clause-judges : goal.returns-in-Some-clause-judges
-returns-in-Some-clause-judges g c = λ is live records seen.
-    absurd (check-served (shared_view c.args.self.now) c.requires.reader is records seen live c.in-Some.why c.in-Some.ensures.refused)

@@ -13,6 +13,8 @@ use Rattle.graph_session.proofs.Lifting.{asks-live, settles-asked}
 use Rattle.graph_session.proofs.Moves.{seen_as}
 use Rattle.graph_session.proofs.Taps.{question-ends, sight-ends, takes-nothing, taps-nothing, taps-refused, taps-settled, unended}
 use Rattle.graph_session.specs.Tapping.{IsEmpty, Takes}
+use Rattle.graph_session.specs.Verdicts.{Judges}
+use Rattle.store_rules.specs.Views.{Records}
 use Rattle.graph_session.proofs.session.Session.serve_writer.Goals as goal
 
 denied : (b : Bool) (P : Type 0) → (IsTrue b ↔ P) → b ≡ false → ¬ P
@@ -34,7 +36,7 @@ pub returns-in-Some-clause-answers : goal.returns-in-Some-clause-answers
 returns-in-Some-clause-answers g c = λ line parsed.
     taps-settled parsed.only parsed.session_is c.args.tap.now c.settle.new.tap c.in-Some.ensures.taps
     (settled-with parsed (reply_of c.in-Some.answer) refl c.requires.loud (denied _ _ c.is_of_snapshots.ensures c.if-is_of_snapshots.false) (c.refuses.ensures.no c.if-refuses.false)
-    c.in-Some.ensures.settles c.in-Some.ensures.keeps c.give_answer-in-Some.ensures)
+    c.in-Some.ensures.settles c.in-Some.ensures.keeps (λ told live asks. absurd (c.in-Some.ensures.told asks)) c.give_answer-in-Some.ensures)
 
 pub returns-in-None-clause-answers : goal.returns-in-None-clause-answers
 returns-in-None-clause-answers g c = λ line parsed.
@@ -61,9 +63,5 @@ returns-in-None-clause-answers g c = λ line parsed.
       onward = record { disk_later = given.read.later };
     })
     (keeps-read (shared_view s) (record { session = seen_as c.answer_question.new.space s.health s.weight s.names.names; held = s.snaps }) asks refl given.read.onward.in_transaction (ap (λ (held : Held). held.pairs) given.read.onward.own) refl)
+    (λ told _ _ records seen. subst (λ (found : Records). Judges found (view s).console.shape c.args.command.now given.reply) (sym seen) (given.judges told))
     given.gives).0)
-
-pub returns-in-None-clause-judges : goal.returns-in-None-clause-judges
-returns-in-None-clause-judges g c = λ is live.
-    let given = rw c.in-None.ensures.asked.1 at (c.answer_question.ensures c.in-None.ensures.asked.0) in
-    record { reply = given.reply; gives = given.gives; verdict = λ told. given.verdict told is }

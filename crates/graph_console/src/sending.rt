@@ -4,11 +4,16 @@ ghost use Rattle.plain_graph.specs.Reply.{Reply};
 ghost use Rattle.rec_bytes.specs.Pairs.{Pairs};
 ghost use Rattle.rec_bytes.specs.Shape.{is_allowed};
 ghost use Rattle.rec_bytes.specs.declared.shape.Shape.{Shape as AShape};
+ghost use Rattle.stored_graph.specs.Stands.{IsZeros};
 ghost use Rattle.txn_core.specs.Config.{shape_of};
 ghost use Rattle.txn_core.specs.declared.config.Config.{Config as AConfig};
-ghost use Rattle.follower.specs.Sent.{IsZeros};
 ghost use Rattle.graph_session.specs.Answer.{Terminal, shared_in};
-ghost use Rattle.graph_session.specs.Sending.{
+ghost use Rattle.graph_session.specs.SharedConsole.{IsSharedAt};
+ghost use Rattle.graph_session.specs.SnapshotEffects.{SharedView};
+ghost use Rattle.graph_session.specs.Snapshots.{SharedState};
+ghost use Rattle.graph_session.specs.Tapping.{TapsLine};
+ghost use Rattle.graph_session.specs.declared.turn.Turn.{Turn as ATurn};
+ghost use Rattle.graph_console.specs.Sending.{
   HasSent,
   HasSentMore,
   OpensSession,
@@ -19,11 +24,6 @@ ghost use Rattle.graph_session.specs.Sending.{
   TappedLine,
   new_state,
 };
-ghost use Rattle.graph_session.specs.SharedConsole.{IsSharedAt};
-ghost use Rattle.graph_session.specs.SnapshotEffects.{SharedView};
-ghost use Rattle.graph_session.specs.Snapshots.{SharedState};
-ghost use Rattle.graph_session.specs.Tapping.{TapsLine};
-ghost use Rattle.graph_session.specs.declared.turn.Turn.{Turn as ATurn};
 
 use disk_model::Disk;
 use stream_io::Sink;

@@ -1,9 +1,10 @@
 -- Stores of every version, and the same stores in the newest one.
-use Rattle.std.proofs.Common.{◌≡◌, ◌∙◌, ℕ, zero, suc, ◌<◌, Bool, true, false, cond, nat_lt, refl, sym, ap, subst, arith}
+use Rattle.std.proofs.Common.{◌≡◌, ◌∙◌, ℕ, ◌<◌, Bool, true, false, cond, nat_lt, refl, sym, ap, subst, arith}
 use Rattle.std.proofs.lemmas.Bool.Decides.{nat_tests}
 use Rattle.plain_graph.specs.Graph.{Graph}
 use Rattle.rec_bytes.specs.Creation.{own_key, raised, raising_pairs}
-use Rattle.rec_bytes.specs.Format.{index_file, meta_high, meta_records, names_file, newest_version}
+use Rattle.rec_bytes.specs.Format.{index_file, meta_high, names_file, newest_version}
+use Rattle.rec_bytes.specs.MetaForm.{IsMetaRight}
 use Rattle.rec_bytes.specs.Record.{field, zeros}
 use Rattle.rec_bytes.specs.RecordFiles.{meta_key_of}
 use Rattle.rec_bytes.specs.Shape.{version_of}
@@ -16,40 +17,35 @@ use Rattle.rec_bytes.proofs.CreationPairs.{first_meta-says}
 use Rattle.recovery.specs.Finding as finding
 use Rattle.store_rules.specs.Graph.{graph_of, indexes_from}
 use Rattle.store_rules.specs.Indexes.{IsIndexed}
+use Rattle.store_rules.specs.Ranges.{AreInRange}
 use Rattle.store_rules.specs.Views.{high, kind_in, rec_at}
-use Rattle.txn_core.specs.Again.{IsOld}
-use Rattle.txn_core.proofs.Raising.{raised_newest}
-use Rattle.graph_session.specs.Versions.{IsIndexedIn}
+use Rattle.store_rules.proofs.MetaRights.{metas_right}
+use Rattle.stored_graph.specs.Versions.{IsIndexedIn}
 
-module _ (space : Key → Rec) (shape : Shape) (store : IsIndexed space shape) where
+module _ (space : Key → Rec) (shape : Shape) (are : AreInRange space shape) where
   -- the records of a store say the newest version
-  pub newest-not_old : ¬ IsOld space
-  newest-not_old old = let newest : version_of (space own_key) ≡ newest_version = store.store.ranges.newest in omega (arith, old, newest)
-
-  metas-right : (id : ℕ) → id < meta_records → finding.HasMetaRight space shape id
-  metas-right zero low = tt
-  metas-right (suc zero) low = store.store.ranges.metas 1 refl
-  metas-right (suc (suc zero)) low = store.store.ranges.metas 2 refl
-  metas-right (suc (suc (suc zero))) low = store.store.ranges.metas 3 refl
-  metas-right (suc (suc (suc (suc zero)))) low = store.store.ranges.metas 4 refl
-  metas-right (suc (suc (suc (suc (suc zero))))) low = store.store.ranges.metas 5 refl
-  metas-right (suc (suc (suc (suc (suc (suc zero)))))) low = store.store.ranges.metas 6 refl
-  metas-right (suc (suc (suc (suc (suc (suc (suc zero))))))) low = store.store.ranges.taken
-  metas-right (suc (suc (suc (suc (suc (suc (suc (suc zero)))))))) low = record {
-    before = λ old. absurd (newest-not_old old);
-    since = λ newest. store.store.ranges.metas 8 refl;
-  }
-  metas-right (suc (suc (suc (suc (suc (suc (suc (suc (suc k))))))))) low = absurd (omega (arith, low))
+  pub newest-not_old : ¬ (version_of (space own_key) < newest_version)
+  newest-not_old old = let newest : version_of (space own_key) ≡ newest_version = are.newest in omega (arith, old, newest)
 
   -- recovery finds it
   pub newest-made : finding.IsMade space shape
-  newest-made = record { own = store.store.ranges.own; metas = metas-right }
+  newest-made = record {
+    own = are.own;
+    metas = λ id low. subst (λ (version : ℕ). IsMetaRight version shape id (space (meta_key_of id))) (sym are.newest) (metas_right space shape are id low);
+  }
 
-  -- and it is a store of a known version
-  pub newest-indexed : IsIndexedIn space shape
-  newest-indexed =
-      let newest : version_of (space own_key) ≡ newest_version = store.store.ranges.newest in
-      record { made = newest-made; store = subst (λ (records : Key → Rec). IsIndexed records shape) (sym (raised_newest shape space (omega (arith, newest)))) store }
+  -- and it stays as it is
+  pub newest-raised : raised shape space ≡ space
+  newest-raised =
+      let newest : version_of (space own_key) ≡ newest_version = are.newest in
+      ap (λ (version : ℕ). cond (nat_lt version newest_version) (laid_over space (raising_pairs shape)) space) newest
+
+-- so it is a store of a known version
+pub newest-indexed : (space : Key → Rec) (shape : Shape) → IsIndexed space shape → IsIndexedIn space shape
+newest-indexed space shape store = record {
+  made = newest-made space shape store.store.ranges;
+  store = subst (λ (records : Key → Rec). IsIndexed records shape) (sym (newest-raised space shape store.store.ranges)) store;
+}
 
 -- before the version that brings the index its meta record says that nothing was given out
 blank_high : field 4 zeros meta_high ≡ 0

@@ -18,21 +18,24 @@ use Rattle.rec_bytes.specs.declared.shape.Shape.{Shape}
 use Rattle.record_file.specs.Records.{IsUnmade}
 use Rattle.store_rules.specs.Graph.{graph_of}
 use Rattle.store_rules.specs.Indexes.{IsIndexed}
+use Rattle.stored_graph.specs.Stands.{IsZeros}
+use Rattle.stored_graph.proofs.Stands.{unmade-not_made}
 use Rattle.txn_core.specs.Config.{shape_of}
 use Rattle.txn_core.specs.Opening as store
+use Rattle.txn_core.specs.Shipped.{AllShip}
 use Rattle.txn_core.specs.declared.config.Config.{Config}
 use Rattle.txn_core.proofs.Finding.{none_made}
-use Rattle.follower.specs.Sent.{IsSent, IsZeros, sent_graph}
-use Rattle.follower.specs.Shipment.{Ascend, IsShipment, most_shipped, number_of, writes_of}
+use Rattle.follower.specs.Sent.{IsSent, sent_graph}
+use Rattle.follower.specs.Shipment.{IsShipment, most_shipped, number_of, writes_of}
 use Rattle.follower.specs.Shipping.{AreShipped, shipment_bytes}
 use Rattle.follower.specs.Taken.{laid_all, sender_records}
+use Rattle.follower.proofs.Ascending.{ascends}
 use Rattle.follower.proofs.RoundTrip.{number-back, shipment-back, writes-back}
 use Rattle.follower.proofs.Standing.{zeros_blank}
 use Rattle.follower.proofs.Taking.{sender_records-more}
 use Rattle.graph_session.specs.Answer.{Terminal, shared_in}
 use Rattle.graph_session.specs.Opening.{Starts}
 use Rattle.graph_session.specs.SharedConsole.{IsSharedAt}
-use Rattle.graph_session.specs.Sending.{HasSent, HasSentMore, OpensSession, Sender, Sends, Ships, Steps, TappedLine, new_state}
 use Rattle.graph_session.specs.SnapshotEffects.{Confirms, SharedView}
 use Rattle.graph_session.specs.Snapshots.{SharedState}
 use Rattle.graph_session.specs.State.{Failed, Live, SpellsLine, Standing, State, health_of}
@@ -41,7 +44,7 @@ use Rattle.graph_session.specs.declared.health.Health.TheVariants as healths
 use Rattle.graph_session.specs.declared.turn.Turn.{Turn}
 use Rattle.graph_session.proofs.LineMoves.{LeavesRecords, Moves, acknowledges-live, line-moves}
 use Rattle.graph_session.proofs.SnapshotTaking.{opens-shared}
-use Rattle.graph_session.proofs.Stands.{unmade-not_made}
+use Rattle.graph_console.specs.Sending.{HasSent, HasSentMore, OpensSession, Sender, Sends, Ships, Steps, TappedLine, new_state}
 
 -- ---- one shipment more
 
@@ -206,7 +209,7 @@ module _ {D : Type 0} (g : DiskGhosts D) (told : g.tells_reads) (shape : Shape) 
       let tapped = steps.taps.taken acknowledges in
       let are : AreShipped shape tap = record {
         few = few;
-        ascend = subst (λ (s : Shape). Ascend s None tap) (moves.shape ∙ shape-old) tapped.ascend;
+        ascend = ascends shape tap tapped.rising (subst (λ (s : Shape). AllShip s tap) (moves.shape ∙ shape-old) tapped.shipped);
         whole = tapped.whole;
       } in
       let records : new.session.console.committed ≡ sender_records shape (sent ++ bytes ∷ []) (length sent + 1) =

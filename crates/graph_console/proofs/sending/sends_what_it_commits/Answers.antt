@@ -1,5 +1,5 @@
-use Rattle.graph_session.proofs.SentRecords.{begins-sent, goes_on-sent, ships-sent, tapped-steps}
-use Rattle.graph_session.proofs.sending.sends_what_it_commits.Goals as goal
+use Rattle.graph_console.proofs.SentRecords.{begins-sent, goes_on-sent, ships-sent, tapped-steps}
+use Rattle.graph_console.proofs.sending.sends_what_it_commits.Goals as goal
 
 pub returns-clause-begins : goal.returns-clause-begins
 returns-clause-begins g c told config disk new allowed zero opened = begins-sent g.D.Disk told config disk new allowed zero opened
