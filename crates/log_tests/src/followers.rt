@@ -90,12 +90,12 @@ fn a_follower_takes_shipments_in_order(rt: HostRuntime) -> Result<(), Fail> {
 /// later.
 fn check_stops(rt: &impl Abort, alloc: Global, choice: Crash, first: u64) -> Result<(), Fail> {
     let bytes = shipment(alloc, 1, &[(NODES, 0), (NAMES, 1)])?;
-    for stop in 27..32 {
+    for stop in 17..22 {
         let mut disk = new_disk(alloc, &[], Some(stop))?;
         let mut follower = open(alloc, &mut disk)?;
         let answer = deliver(rt, &mut follower, &bytes);
         let _ = Box::into_inner(follower).close();
-        let wanted = if stop == 31 {
+        let wanted = if stop == 21 {
             Accept::Applied { number: 1 }
         } else {
             Accept::Disk
@@ -113,7 +113,7 @@ fn check_stops(rt: &impl Abort, alloc: Global, choice: Crash, first: u64) -> Res
 #[test]
 fn a_stopped_shipment_is_whole_or_nothing(rt: HostRuntime) -> Result<(), Fail> {
     // The crash, and the first call whose stop leaves the shipment, as for a commit.
-    for (choice, first) in [(Crash::Old, 31), (Crash::New, 30), (Crash::Fill(1), 29)] {
+    for (choice, first) in [(Crash::Old, 21), (Crash::New, 20), (Crash::Fill(1), 19)] {
         check_stops(&rt, rt.alloc(), choice, first)?;
     }
     Ok(())
@@ -123,7 +123,7 @@ fn a_stopped_shipment_is_whole_or_nothing(rt: HostRuntime) -> Result<(), Fail> {
 fn a_failed_shipment_is_found_again(rt: HostRuntime) -> Result<(), Fail> {
     // The call of the shipment that fails, whether the first call after it fails too, and the
     // number that the follower then has.
-    let table = [(27, false, 0), (28, true, 0), (29, false, 0), (30, true, 1)];
+    let table = [(17, false, 0), (18, true, 0), (19, false, 0), (20, true, 1)];
     let bytes = shipment(rt.alloc(), 1, &[(NODES, 0), (NAMES, 1)])?;
     for (call, twice, have) in table {
         let next = if twice { call + 1 } else { call };

@@ -47,11 +47,11 @@ fn try_raising(rt: &impl Abort, alloc: Global, choice: Crash, stop: u64) -> Resu
 
 #[test]
 fn a_stopped_raise_is_made_good(rt: HostRuntime) -> Result<(), Fail> {
-    // An opening reads the meta records in call 23, and appends the entry in the calls 24 to 27.
+    // An opening reads the meta records in call 13, and appends the entry in the calls 14 to 17.
     for choice in [Crash::Old, Crash::New, Crash::Fill(1)] {
-        for stop in 1..29 {
+        for stop in 1..19 {
             let opened = try_raising(&rt, rt.alloc(), choice, stop)?;
-            assert!(rt; opened == (stop == 28), "{choice:?} at call {stop}");
+            assert!(rt; opened == (stop == 18), "{choice:?} at call {stop}");
         }
     }
     Ok(())

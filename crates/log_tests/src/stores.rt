@@ -1,4 +1,4 @@
-//! A store over a disk in memory, whose calls are counted from 1: making a store takes 26, and a
+//! A store over a disk in memory, whose calls are counted from 1: making a store takes 16, and a
 //! commit of a few records 4.
 use crate::quiet_disk::{QuietDisk, plan};
 use crate::turned_disk::TurnedDisk;
@@ -228,11 +228,11 @@ fn a_commit_is_one_entry(rt: HostRuntime) -> Result<(), Fail> {
 /// Stops a commit in each of its calls, and in none, and opens what this loss of power leaves. It
 /// has the transaction where the stop came in the call `first` or later.
 fn check_stops(rt: &impl Abort, alloc: Global, choice: Crash, first: u64) -> Result<(), Fail> {
-    for stop in 27..32 {
+    for stop in 17..22 {
         let mut disk = new_disk(alloc, &[], Some(stop))?;
         let mut store = open(alloc, &mut disk)?;
         let answer = change(rt, &mut store, 1, FOUR);
-        assert!(rt; answer.is_ok() == (stop == 31), "{choice:?} at call {stop}");
+        assert!(rt; answer.is_ok() == (stop == 21), "{choice:?} at call {stop}");
         let mut left = left_of(alloc, close(store), choice, None)?;
         let mut store = open(alloc, &mut left)?;
         let count = if stop < first { 0 } else { 1 };
@@ -248,14 +248,14 @@ fn check_stops(rt: &impl Abort, alloc: Global, choice: Crash, first: u64) -> Res
 #[test]
 fn a_stopped_commit_is_whole_or_nothing(rt: HostRuntime) -> Result<(), Fail> {
     // The crash, and the first call whose stop leaves the transaction. The calls are the write of
-    // the records and its sync, and the write of the gate and its sync. 31 is a call after them.
+    // the records and its sync, and the write of the gate and its sync. 21 is a call after them.
     let table = [
-        (Crash::Old, 31),
-        (Crash::New, 30),
-        (Crash::Fill(0), 31),
-        (Crash::Fill(1), 29),
-        (Crash::Fill(7), 31),
-        (Crash::Mixed(1), 31),
+        (Crash::Old, 21),
+        (Crash::New, 20),
+        (Crash::Fill(0), 21),
+        (Crash::Fill(1), 19),
+        (Crash::Fill(7), 21),
+        (Crash::Mixed(1), 21),
     ];
     for (choice, first) in table {
         check_stops(&rt, rt.alloc(), choice, first)?;
@@ -367,16 +367,16 @@ fn try_failing(rt: &impl Abort, alloc: Global, call: u64) -> Result<([bool; 3], 
 
 #[test]
 fn each_call_of_the_disk_may_fail(rt: HostRuntime) -> Result<(), Fail> {
-    for call in 1..27 {
+    for call in 1..17 {
         assert!(rt; try_opening(&rt, rt.alloc(), call)?, "call {call}");
     }
     // The first call of each step and its last, the step, and the transaction that the store then
     // has. The commit is stored once its gate is written, so also where the sync after that fails.
     let table = [
-        (27, 29, [true, false, false], 0),
-        (30, 30, [true, false, false], 1),
-        (31, 46, [false, true, false], 1),
-        (47, 69, [false, false, true], 1),
+        (17, 19, [true, false, false], 0),
+        (20, 20, [true, false, false], 1),
+        (21, 36, [false, true, false], 1),
+        (37, 49, [false, false, true], 1),
     ];
     for (first, last, step, count) in table {
         for call in first..=last {
@@ -421,9 +421,9 @@ fn a_commit_that_keeps_fails_as_it_reads_or_writes(rt: HostRuntime) -> Result<()
     // The calls that fail, and the health of the store. Two pages are read, and then an entry is
     // appended in four calls.
     let table = [
-        (27, 28, Health::Live, 0),
-        (29, 31, Health::Failed, 0),
-        (32, 32, Health::Failed, 1),
+        (17, 18, Health::Live, 0),
+        (19, 21, Health::Failed, 0),
+        (22, 22, Health::Failed, 1),
     ];
     for (first, last, health, count) in table {
         for call in first..=last {
@@ -479,7 +479,7 @@ fn only_a_commit_of_records_calls_the_disk(rt: HostRuntime) -> Result<(), Fail> 
         (course(true, true, true), Err(Failed)),
     ];
     // All calls after those of the opening fail.
-    let mut disk = new_disk(rt.alloc(), &[], Some(27))?;
+    let mut disk = new_disk(rt.alloc(), &[], Some(17))?;
     let mut store = open(rt.alloc(), &mut disk)?;
     for (course, answer) in table {
         assert!(rt; go(&rt, &mut store, course) == answer, "{course:?}");
@@ -553,7 +553,7 @@ fn recover_poked(
     // The calls of the opening, and of a checkpoint of eight records in two runs. The next one
     // fails.
     let mut disk = TurnedDisk::new(
-        new_disk(alloc, &[40], None)?,
+        new_disk(alloc, &[30], None)?,
         Vec::from_slice(alloc, pokes)?,
     );
     let mut store = open(alloc, &mut disk)?;
