@@ -1,5 +1,5 @@
 -- A list of changes that are made one after the other.
-use Rattle.std.proofs.Common.{◌≡◌, ◌∙◌, ℕ, ◌+◌, List, [], ◌∷◌, ◌++◌, inl, inr, ⊎_elim, append_assoc, sym, ap, subst, arith, refl}
+use Rattle.std.proofs.Common.{◌≡◌, ◌∙◌, ℕ, ◌+◌, List, [], ◌∷◌, ◌++◌, inl, inr, ⊎_elim, append_assoc, sym, ap, subst, arith}
 use Rattle.plain_graph.specs.Changes.{Changes, Weighs}
 use Rattle.plain_graph.specs.Graph.{Graph}
 use Rattle.plain_graph.specs.Refusals.{FirstReason, NoReason, Reason, change_reasons}
@@ -7,38 +7,9 @@ use Rattle.plain_graph.specs.Reply.{Reply}
 use Rattle.plain_graph.specs.declared.command.Command.{Command}
 use Rattle.plain_graph.specs.declared.item.Item.{Item}
 use Rattle.plain_graph.specs.declared.refusal.Refusal.{Refusal}
-use Rattle.plain_graph.specs.Mutations.{ChangesEach, MakesEach, MakesOne, RefusesEach, WeighsEach, new_element, new_elements}
+use Rattle.plain_graph.specs.Mutations.{ChangesEach, MakesEach, RefusesEach, WeighsEach, new_element, new_elements}
 
 module _ (limit threshold : ℕ) where
-  pub none_made : (old : Graph) → MakesEach limit threshold old [] [] 0 old
-  none_made old = (refl, refl, refl)
-
-  -- one more change
-  pub one_more : (old mid new : Graph) (done : List Command) (command : Command) (replies : List Reply) (reply : Reply) (weight first : ℕ) → MakesEach limit threshold old done replies weight mid
-      → MakesOne limit threshold mid command reply first new → MakesEach limit threshold old (done ++ command ∷ []) (replies ++ reply ∷ []) (weight + first) new
-  one_more old mid new [] command replies reply weight first made one = (
-    reply,
-    first,
-    new,
-    [],
-    0,
-    ap (λ (r : List Reply). r ++ reply ∷ []) made.0,
-    let w = made.1 in omega arith,
-    subst (λ (g : Graph). MakesOne limit threshold g command reply first new) made.2 one,
-    (refl, refl, refl),
-  )
-  one_more old mid new (head ∷ later) command replies reply weight first made one = (
-    made.0,
-    made.1,
-    made.2,
-    made.3 ++ reply ∷ [],
-    made.4 + first,
-    ap (λ (r : List Reply). r ++ reply ∷ []) made.5,
-    let w = made.6 in omega arith,
-    made.7,
-    one_more made.2 mid new later command made.3 reply made.4 first made.8 one,
-  )
-
   pub each_changes : (old new : Graph) (commands : List Command) (replies : List Reply) (weight : ℕ) → MakesEach limit threshold old commands replies weight new → ChangesEach limit old commands replies new
   each_changes old new [] replies weight made = (made.0, made.2)
   each_changes old new (command ∷ later) replies weight made = (made.0, made.3, made.2, made.5, made.7.changes, each_changes made.2 new later made.3 made.4 made.8)
@@ -46,12 +17,6 @@ module _ (limit threshold : ℕ) where
   pub each_weighs : (old new : Graph) (commands : List Command) (replies : List Reply) (weight : ℕ) → MakesEach limit threshold old commands replies weight new → WeighsEach limit threshold old commands weight
   each_weighs old new [] replies weight made = made.1
   each_weighs old new (command ∷ later) replies weight made = (made.1, made.4, made.0, made.2, made.6, made.7.weighs, made.7.changes, each_weighs made.2 new later made.3 made.4 made.8)
-
-  -- the first one that is refused refuses the list
-  pub next_refused : (old mid : Graph) (done later : List Command) (command : Command) (replies : List Reply) (weight : ℕ) (why : Refusal) → MakesEach limit threshold old done replies weight mid
-      → FirstReason change_reasons limit mid command why → RefusesEach limit old (done ++ command ∷ later) why
-  next_refused old mid [] later command replies weight why made first = inl (subst (λ (g : Graph). FirstReason change_reasons limit g command why) made.2 first)
-  next_refused old mid (head ∷ more) later command replies weight why made first = inr (made.7.free, made.0, made.2, made.7.changes, next_refused made.2 mid more later command made.3 made.4 why made.8 first)
 
 -- ---- one list and then another
 

@@ -1,8 +1,7 @@
 -- How many properties an element has, and how many blocks they take, after a change of its map.
-use Rattle.std.proofs.Common.{◌≡◌, ℕ, ◌+◌, ◌-◌, Bool, true, false, ◌&&◌, cond, Option, None, Some, List, [], ◌∷◌, length, map, sym, ap, ◌∙◌, arith, refl}
+use Rattle.std.proofs.Common.{◌≡◌, ℕ, ◌+◌, ◌-◌, Bool, true, false, ◌&&◌, cond, None, Some, List, [], ◌∷◌, length, map, sym, ap, ◌∙◌, arith, refl}
 use Rattle.std.proofs.lemmas.Cmp.{nat_list_cmp_total}
 use Rattle.std.proofs.lemmas.List.Sums.{sum_by-cons}
-use Rattle.std.specs.Cmp.{tied_itself}
 use Rattle.std.specs.Cmp.Lexicographic.{slice_cmp}
 use Rattle.std.specs.Prelude.{is_some}
 use Rattle.std.specs.FinMap as maps
@@ -72,10 +71,6 @@ blocks_put k v (e ∷ es) sorted =
 pub len-insert : (m : Properties) (k : List ℕ) (v : Value) → maps.len (maps.insert m k v) ≡ cond (maps.contains_key m k) (maps.len m) (maps.len m + 1)
 len-insert m k v = maps.len-insert nat_list_cmp_total m k v
 
--- a key that had a value is one less
-pub len-remove : (m : Properties) (k : List ℕ) → maps.len (maps.remove m k) ≡ cond (maps.contains_key m k) (maps.len m - 1) (maps.len m)
-len-remove m k = maps.len-remove nat_list_cmp_total m k
-
 -- the blocks of the old value are given back, and those of the new one are taken
 pub blocks_in-insert : (m : Properties) (k : List ℕ) (v : Value) → blocks_in (maps.insert m k v) + blocks_at m k ≡ blocks_in m + blocks_of v
 blocks_in-insert m k v =
@@ -96,47 +91,6 @@ same_key q k e = order_apart q k (equal (order q k) e)
     equal Less h = absurd cc
     equal Equal h = refl
     equal Greater h = absurd cc
-
--- a key is equal to itself
-eq_itself : (k : List ℕ) → eq_by_cmp order k k ≡ true
-eq_itself k = ap is_eq (tied_itself nat_list_cmp_total k)
-
--- a key that is removed has no value
-get_removed : (m : Properties) (k : List ℕ) → maps.get (maps.remove m k) k ≡ None
-get_removed m k = maps.get-remove nat_list_cmp_total m k k ∙ ap (λ b. cond b None (maps.get m k)) (eq_itself k)
-
--- a key that is removed and has its value again
-remove_back : (m : Properties) (k : List ℕ) (v : Value) → maps.get m k ≡ Some v → maps.insert (maps.remove m k) k v ≡ m
-remove_back m k v some = maps.same_map nat_list_cmp_total order_apart (maps.insert (maps.remove m k) k v) m (λ q.
-    maps.get-insert nat_list_cmp_total (maps.remove m k) k v q ∙ ap (cond (eq_by_cmp order q k) (Some v)) (maps.get-remove nat_list_cmp_total m k q) ∙ by q (eq_by_cmp order q k) (same_key q k))
-  where
-    by : (q : List ℕ) (b : Bool) → (b ≡ true → q ≡ k) → cond b (Some v) (cond b None (maps.get m q)) ≡ maps.get m q
-    by q true f = sym some ∙ ap (maps.get m) (sym (f refl))
-    by q false f = refl
-
--- a key without a value is not missed
-remove_none : (m : Properties) (k : List ℕ) → maps.get m k ≡ None → maps.remove m k ≡ m
-remove_none m k none = maps.same_map nat_list_cmp_total order_apart (maps.remove m k) m (λ q. maps.get-remove nat_list_cmp_total m k q ∙ by q (eq_by_cmp order q k) (same_key q k))
-  where
-    by : (q : List ℕ) (b : Bool) → (b ≡ true → q ≡ k) → cond b None (maps.get m q) ≡ maps.get m q
-    by q true f = sym none ∙ ap (maps.get m) (sym (f refl))
-    by q false f = refl
-
--- the blocks of a value that is removed are given back
-pub blocks_in-remove : (m : Properties) (k : List ℕ) → blocks_in (maps.remove m k) + blocks_at m k ≡ blocks_in m
-blocks_in-remove m k = by (maps.get m k) refl
-  where
-    by : (o : Option Value) → maps.get m k ≡ o → blocks_in (maps.remove m k) + blocks_at m k ≡ blocks_in m
-    by None e =
-        let same = ap blocks_in (remove_none m k e) in
-        let none = ap blocks_if e in
-        omega arith
-    by (Some v) e =
-        let same = ap blocks_in (remove_back m k v e) in
-        let here = ap blocks_if e in
-        let none = ap blocks_if (get_removed m k) in
-        let all = blocks_in-insert (maps.remove m k) k v in
-        omega arith
 
 -- no key comes twice among the entries
 abbrev pub AreApart : List (List ℕ × Value) → Type 0

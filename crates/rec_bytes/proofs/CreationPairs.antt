@@ -1,27 +1,23 @@
 -- The first records of a store, put one by one.
-use Rattle.std.proofs.Common.{◌≡◌, ◌≢◌, ℕ, Bool, true, false, cond, ◌||◌, nat_eq, List, [], ◌∷◌, Some, rules, refl, ap, ◌∙◌, inl, arith}
+use Rattle.std.proofs.Common.{◌≡◌, ℕ, Bool, true, false, cond, ◌||◌, nat_eq, List, [], ◌∷◌, Some, rules, refl, ap, ◌∙◌, inl, arith}
 use Rattle.std.specs.Prelude.{map}
 use Rattle.std.specs.List.{list_any}
 use Rattle.std.proofs.lemmas.Bool.Decides.{nat_tests}
-use Rattle.rec_bytes.specs.declared.key.Key.{Key}
 use Rattle.rec_bytes.specs.declared.meta.Meta.{Meta}
-use Rattle.rec_bytes.specs.declared.record.Rec.{Rec}
 use Rattle.rec_bytes.specs.declared.record_files.RecordFile.{RecordFile}
 use Rattle.rec_bytes.specs.declared.shape.Shape.{Shape}
 use Rattle.rec_bytes.specs.Creation.{creation_pairs, new_records, own_key, raising_pairs}
-use Rattle.rec_bytes.specs.Format.{index_file, meta_definition, meta_file, meta_index_rest, meta_rest, newest_version, nil, own_id}
+use Rattle.rec_bytes.specs.Format.{index_file, meta_definition, meta_index_rest, meta_rest, newest_version, nil, own_id}
 use Rattle.rec_bytes.specs.Meta as metas
 use Rattle.rec_bytes.specs.Meta.{IsMetaInRange, empty_meta, first_meta, has_definition, meta_record, rest_of}
 use Rattle.rec_bytes.specs.Pairs.{Pairs, IsOrdered, find_pair, merged, with_pair}
 use Rattle.rec_bytes.specs.Record.{as_64, field, with_bytes, with_field, zeros, zeros_from}
 use Rattle.rec_bytes.specs.RecordFiles.{Rooms, is_meta_file, meta_files, meta_key_of, meta_rooms, rooms_of}
 use Rattle.rec_bytes.specs.Shape.{is_allowed, shape_of_record, shape_record, version_of}
-use Rattle.rec_bytes.specs.Space.{blank_records, meta_in}
 use Rattle.rec_bytes.proofs.Metas.{meta_of-definition, meta_reads_back}
 use Rattle.rec_bytes.proofs.Numbers.{field-with_field_same}
 use Rattle.rec_bytes.proofs.RecordFiles.{is_meta_file-not_meta}
 use Rattle.rec_bytes.proofs.Shapes.{shape_reads_back, version_reads_back}
-use Rattle.rec_bytes.proofs.Spaces.{laid_over-at, laid_over-other}
 
 -- the first meta records of these files
 abbrev pub meta_pairs : List RecordFile → Pairs
@@ -42,10 +38,7 @@ raising_pairs-put shape = refl
 pub creation_pairs-ordered : (shape : Shape) → IsOrdered (creation_pairs shape)
 creation_pairs-ordered shape = search rules
 
--- the record of the shape, a meta record each, and zeros elsewhere
-pub new_records-own : (shape : Shape) → new_records shape own_key ≡ shape_record shape
-new_records-own shape = refl
-
+-- a meta record for each file
 pub find_pair-creation_meta : (shape : Shape) (file : ℕ) → is_meta_file file ≡ true → find_pair (creation_pairs shape) (meta_key_of file) ≡ Some (first_meta file)
 find_pair-creation_meta shape file h =
     let ne = is_meta_file-not_meta file h in
@@ -63,14 +56,6 @@ find_pair-creation_meta shape file h =
         pick true is later any = is refl
         pick false is later any = later any
 
-pub new_records-meta : (shape : Shape) (file : ℕ) → is_meta_file file ≡ true → new_records shape (meta_key_of file) ≡ first_meta file
-new_records-meta shape file h = laid_over-at blank_records (creation_pairs shape) (meta_key_of file) (first_meta file) (find_pair-creation_meta shape file h)
-
-pub new_records-other : (shape : Shape) (key : Key) → key.file ≢ meta_file → new_records shape key ≡ zeros
-new_records-other shape key ne =
-    let other : nat_eq key.file meta_file ≡ false = grind (arith, nat_tests) in
-    laid_over-other blank_records (creation_pairs shape) key (rw other refl)
-
 -- what they say
 pub first_meta-says : (file : ℕ) → metas.meta_of (first_meta file) ≡ empty_meta
 first_meta-says file = pick (has_definition file)
@@ -81,9 +66,6 @@ first_meta-says file = pick (has_definition file)
     pick : (b : Bool) → metas.meta_of (cond b (with_field 4 (meta_record empty_meta) meta_definition nil) (meta_record empty_meta)) ≡ empty_meta
     pick false = read
     pick true = meta_of-definition (meta_record empty_meta) nil ∙ read
-
-pub meta_in-new : (shape : Shape) (file : ℕ) → is_meta_file file ≡ true → meta_in (new_records shape) file ≡ empty_meta
-meta_in-new shape file h = ap (λ (r : Rec). metas.meta_of r) (new_records-meta shape file h) ∙ first_meta-says file
 
 pub shape_of_record-new : (shape : Shape) → is_allowed shape ≡ true → shape_of_record (new_records shape own_key) ≡ Some shape
 shape_of_record-new shape allowed = shape_reads_back shape (grind (arith, nat_tests)) (grind (arith, nat_tests)) allowed

@@ -1,6 +1,5 @@
 -- Laws of what calls write.
-use Rattle.std.proofs.Common.{◌≡◌, nat_eq, ◌⊎◌, ℕ, ◌+◌, ◌-◌, ◌≤◌, true, false, Bool, cond, ◌||◌, List, [], ◌∷◌, ◌++◌, sym, ap, ◌∙◌, subst, inl, inr, ⊎_elim, arith, refl, length-append}
-use Rattle.std.specs.List.{list_any}
+use Rattle.std.proofs.Common.{◌≡◌, ◌⊎◌, ℕ, ◌+◌, ◌-◌, ◌≤◌, true, false, Bool, cond, ◌||◌, List, [], ◌∷◌, ◌++◌, sym, ap, ◌∙◌, subst, inl, inr, ⊎_elim, arith, refl, length-append}
 use Rattle.rec_bytes.specs.declared.key.Key.{Key}
 use Rattle.rec_bytes.specs.declared.record.Rec.{Rec}
 use Rattle.rec_bytes.specs.Key.{key_eq}
@@ -100,15 +99,6 @@ wrote_later s t u ys files m same v = record {
   few = v.few;
   own = v.own;
   each = λ q. ⊎_elim (λ e. inl (record { written = e.written ∙ ap (λ (z : State). z.written q) same; held = e.held ∙ ap (λ (z : State). z.records q) same })) inr (v.each q);
-}
-
--- the first of the fixed records is one of the others
-pub wrote_counted : (s t : State) (key : Key) (ys : List Key) (files : List ℕ) (m : ℕ) → list_any (nat_eq key.file) files ≡ true → Wrote s t (key ∷ ys) files m → Wrote s t ys files (m + 1)
-wrote_counted s t key ys files m of w = record {
-  others = key ∷ w.others;
-  few = let f = w.few in omega arith;
-  own = (of, w.own);
-  each = λ q. ⊎_elim inl (λ i. inr (among_either q w.others (key ∷ ys) (λ k. inr (among_left q w.others ys k)) (λ k. ⊎_elim (λ e. inl e) (λ j. inr (among_right q w.others ys j)) k) i)) (w.each q);
 }
 
 pub ruleset writing = (wrote_none, wrote_put, wrote_edit, wrote_fixed, wrote_within, wrote_then, wrote_later)

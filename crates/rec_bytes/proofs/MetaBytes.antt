@@ -2,7 +2,7 @@
 use Rattle.std.specs.Prelude.{replicate}
 use Rattle.std.specs.List.{list_all}
 use Rattle.std.proofs.Common.{◌≡◌, ℕ, ◌+◌, ◌-◌, ◌≤◌, Bool, true, false, cond, nat_eq, List, [], ◌++◌, length, drop, take, sym, ap, ◌∙◌, arith, refl}
-use Rattle.std.proofs.lemmas.List.{drop_at, drop-drop, length-append, length-drop, length-replicate, length-take-le, append_assoc}
+use Rattle.std.proofs.lemmas.List.{drop-drop, length-append, length-drop, length-replicate, length-take-le, append_assoc}
 use Rattle.std.proofs.Math.Seq.{drop-append-add, take-append_seam}
 use Rattle.byteorder.specs.Endian.{little_bytes}
 use Rattle.byteorder.specs.Numbers.{length-bytes_low_first}
@@ -54,17 +54,6 @@ with_meta-is r m =
     let whole2 : as_64 (with_bytes (as_64 (with_bytes xs 0 a)) 4 b) ≡ (([] ++ a) ++ b) ++ drop 8 xs = ap (λ ys. as_64 (with_bytes ys 4 b)) whole1 ∙ ap as_64 two ∙ as_64-whole ((([] ++ a) ++ b) ++ drop 8 xs) long2 in
     let three : with_bytes ((([] ++ a) ++ b) ++ drop 8 xs) 8 c ≡ ((([] ++ a) ++ b) ++ c) ++ drop 12 xs = write_behind (([] ++ a) ++ b) (drop 8 xs) c 8 (sym lab) (omega arith) ∙ ap (λ n. ((([] ++ a) ++ b) ++ c) ++ drop n (drop 8 xs)) lc ∙ ap (λ ys. ((([] ++ a) ++ b) ++ c) ++ ys) (drop-drop 4 8 xs) in
     ap (λ ys. record { bytes = with_bytes ys 8 c }) whole2 ∙ ap (λ ys. record { bytes = ys }) three
-
--- the numbers that were written before don't matter
-pub with_meta-again : (r : Rec) (a b : Meta) → with_meta (with_meta r a) b ≡ with_meta r b
-with_meta-again r a b =
-    let xs = as_64 r.bytes in
-    let la = length-meta_bytes a in
-    let long : length xs ≡ 64 = length-as_64 r.bytes in
-    let whole : as_64 (meta_bytes a ++ drop 12 xs) ≡ meta_bytes a ++ drop 12 xs = as_64-whole (meta_bytes a ++ drop 12 xs) (omega (arith, length-append (meta_bytes a) (drop 12 xs), length-drop 12 xs)) in
-    ap (λ q. with_meta q b) (with_meta-is r a) ∙ with_meta-is (record { bytes = meta_bytes a ++ drop 12 xs }) b
-    ∙ ap (λ ys. record { bytes = meta_bytes b ++ drop 12 ys }) whole ∙ ap (λ ys. record { bytes = meta_bytes b ++ ys }) (drop_at (meta_bytes a) (drop 12 xs) 12 la)
-    ∙ sym (with_meta-is r b)
 
 -- what stands behind the three numbers stays
 drop-with_meta : (k : ℕ) (r : Rec) (m : Meta) → drop (12 + k) (as_64 (with_meta r m).bytes) ≡ drop (12 + k) (as_64 r.bytes)

@@ -44,15 +44,6 @@ get_or-with_bytes xs at (b ∷ bs) k out =
     get_or-with_bytes (set xs at b) (suc at) bs k (⊎_elim (λ h. inl (omega arith)) (λ h. inr (omega arith)) out)
     ∙ get_or-set_other xs at k b 0 (⊎_elim (λ h e. omega arith) (λ h e. omega arith) out)
 
--- a record that a number was written to is whole
-pub length-with_field : (n : ℕ) (r : Rec) (at value : ℕ) → length (with_field n r at value).bytes ≡ 64
-unfolding with_field with_bytes
-length-with_field n r at value = each (as_64 r.bytes) at (little_bytes n value) ∙ length-as_64 r.bytes
-  where
-    each : (xs : List ℕ) (at : ℕ) (bs : List ℕ) → length (with_bytes xs at bs) ≡ length xs
-    each xs at [] = refl
-    each xs at (b ∷ bs) = each (set xs at b) (suc at) bs ∙ length-set xs at b
-
 -- where there is room, the bytes stand between what was before and behind them
 pub with_bytes-is : (xs : List ℕ) (at : ℕ) (bs : List ℕ) → at + length bs ≤ length xs → with_bytes xs at bs ≡ take at xs ++ (bs ++ drop (at + length bs) xs)
 unfolding with_bytes

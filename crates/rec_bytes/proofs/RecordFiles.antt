@@ -9,7 +9,7 @@ use Rattle.rec_bytes.specs.declared.record_files.RecordFile.{RecordFile}
 use Rattle.rec_bytes.specs.declared.record_files.TheConstants.{RECORD_FILES}
 use Rattle.rec_bytes.specs.Format.{log_file, meta_file, meta_records, most_ids, taken_id}
 use Rattle.rec_bytes.specs.Key.{IsKey}
-use Rattle.rec_bytes.specs.RecordFiles.{Rooms, is_meta_file, is_record_file, meta_files, meta_key_of, record_files, record_rooms, room_in, room_of, records_of, rooms_of}
+use Rattle.rec_bytes.specs.RecordFiles.{Rooms, is_meta_file, is_record_file, meta_files, record_files, record_rooms, room_in, room_of, records_of, rooms_of}
 use Rattle.rec_bytes.specs.Shape.{is_allowed}
 
 -- the code's list
@@ -34,9 +34,6 @@ is_record_file-low file h = let low = passes (λ f. nat_lt f meta_records) recor
 pub is_record_file-not_log : (file : ℕ) → is_record_file file ≡ true → file ≢ log_file
 is_record_file-not_log file h = let other = passes (λ f. not (nat_eq f log_file)) record_files file refl h in grind (arith, nat_tests)
 
-pub is_record_file-meta : is_record_file meta_file ≡ true
-is_record_file-meta = refl
-
 pub is_meta_file-record : (file : ℕ) → is_meta_file file ≡ true → is_record_file file ≡ true
 is_meta_file-record file h = passes is_record_file meta_files file refl h
 
@@ -46,10 +43,6 @@ is_meta_file-not_meta file h = let other = passes (λ f. not (nat_eq f meta_file
 -- the record of the last transaction that was taken over is no file's
 pub is_meta_file-not_taken : (file : ℕ) → is_meta_file file ≡ true → file ≢ taken_id
 is_meta_file-not_taken file h = let other = passes (λ f. not (nat_eq f taken_id)) meta_files file refl h in grind (arith, nat_tests)
-
--- the key of a file's meta record
-pub IsKey-meta_key : (file : ℕ) → is_meta_file file ≡ true → IsKey (meta_key_of file)
-IsKey-meta_key file h = record { file = refl; id = let low = is_record_file-low file (is_meta_file-record file h) in omega arith }
 
 -- no file has room for more records than there are numbers
 pub room_of-most : (shape : Shape) (file : ℕ) → is_allowed shape ≡ true → room_of shape file ≤ most_ids

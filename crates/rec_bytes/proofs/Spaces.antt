@@ -45,14 +45,6 @@ put_twice records key a b = λ i q. twice (key_eq q key) a b (records q) i
     twice true x y z = refl
     twice false x y z = refl
 
-pub put_swap : (records : Key → Rec) (one other : Key) (a b : Rec) → one ≢ other → put (put records one a) other b ≡ put (put records other b) one a
-put_swap records one other a b ne = λ i q. swap q (key_eq q other) (key_eq q one) (λ e f. ne (sym (key_eq_true q one f) ∙ key_eq_true q other e)) i
-  where
-    swap : (q : Key) (s t : Bool) → (s ≡ true → t ≡ true → ⊥) → cond s b (cond t a (records q)) ≡ cond t a (cond s b (records q))
-    swap q true true apart = absurd (apart refl refl)
-    swap q true false apart = refl
-    swap q false t apart = refl
-
 -- records that were there are put once more, so nothing changes
 pub put_held : (records : Key → Rec) (key : Key) (rec : Rec) → records key ≡ rec → put records key rec ≡ records
 put_held records key rec e = λ i q. held q (key_eq q key) (λ t. ap records (key_eq_true q key t) ∙ e) i
@@ -61,10 +53,7 @@ put_held records key rec e = λ i q. held q (key_eq q key) (λ t. ap records (ke
     held q true h = sym (h refl)
     held q false h = refl
 
--- written records over others: none, one more, those of another set
-pub laid_over-none : (records : Key → Rec) → laid_over records [] ≡ records
-laid_over-none records = refl
-
+-- written records over others: one more, and those of another set
 pub laid_over-with_pair : (records : Key → Rec) (pairs : Pairs) (key : Key) (rec : Rec) → laid_over records (with_pair pairs key rec) ≡ put (laid_over records pairs) key rec
 laid_over-with_pair records pairs key rec = λ i q. (ap (λ (o : Option Rec). unwrap_or o (records q)) (find_with pairs key rec q) ∙ same (key_eq q key) (find_pair pairs q) (records q)) i
   where
@@ -78,13 +67,6 @@ laid_over-merged records pairs later rises = λ i q. (ap (λ (o : Option Rec). u
     same : (o p : Option Rec) (below : Rec) → unwrap_or (option_or o p) below ≡ unwrap_or o (unwrap_or p below)
     same (Some x) p below = refl
     same None p below = refl
-
-pub laid_over_twice : (records : Key → Rec) (pairs : Pairs) → laid_over (laid_over records pairs) pairs ≡ laid_over records pairs
-laid_over_twice records pairs = λ i q. same (find_pair pairs q) (records q) i
-  where
-    same : (o : Option Rec) (below : Rec) → unwrap_or o (unwrap_or o below) ≡ unwrap_or o below
-    same (Some x) below = refl
-    same None below = refl
 
 -- a key that isn't among the written ones
 pub laid_over-other : (records : Key → Rec) (pairs : Pairs) (key : Key) → find_pair pairs key ≡ None → laid_over records pairs key ≡ records key

@@ -60,28 +60,6 @@ field-with_text_other r at text m other fits apart =
     ∙ get_or-as_64 r.bytes (other + i) (omega arith)
     ∙ sym (get_or-drop other r.bytes i 0)))
 
--- a number set twice
-pub with_field_twice : (n : ℕ) (r : Rec) (at one other : ℕ) → at + n ≤ 64 → with_field n (with_field n r at one) at other ≡ with_field n r at other
-unfolding with_field
-with_field_twice n r at one other fits =
-    let xs = as_64 r.bytes in
-    let long : length xs ≡ 64 = length-as_64 r.bytes in
-    let old = little_bytes n one in
-    let new = little_bytes n other in
-    let n_old : length old ≡ n = length-bytes_low_first 0 n one in
-    let n_new : length new ≡ n = length-bytes_low_first 0 n other in
-    let mid = with_bytes xs at old in
-    let l_mid : length mid ≡ 64 = length-with_bytes xs at old ∙ long in
-    let front : length (take at xs) ≡ at = length-take-le at xs (omega arith) in
-    let is_mid : mid ≡ take at xs ++ (old ++ drop (at + length old) xs) = with_bytes-is xs at old (omega arith) in
-    let start : take at mid ≡ take at xs = ap (take at) is_mid ∙ take_at (take at xs) (old ++ drop (at + length old) xs) at front in
-    let end : drop (at + length new) mid ≡ drop (at + length new) xs =
-    sym (drop-drop (length new) at mid) ∙ ap (λ ys. drop (length new) (drop at ys)) is_mid
-    ∙ ap (drop (length new)) (drop_at (take at xs) (old ++ drop (at + length old) xs) at front)
-    ∙ drop_at old (drop (at + length old) xs) (length new) (n_old ∙ sym n_new) ∙ ap (λ k. drop (at + k) xs) (n_old ∙ sym n_new) in
-    ap (λ b. record { bytes = b }) (ap (λ ys. with_bytes ys at new) (as_64-whole mid l_mid) ∙ with_bytes-is mid at new (omega arith)
-    ∙ ap (λ ys. ys ++ (new ++ drop (at + length new) mid)) start ∙ ap (λ ys. take at xs ++ (new ++ ys)) end ∙ sym (with_bytes-is xs at new (omega arith)))
-
 -- a piece of the bytes
 pub mid-text_in : (r : Rec) (at n : ℕ) → length r.bytes ≡ 64 → take (at + n - at) (drop at r.bytes) ≡ text_in r at n
 unfolding text_in
