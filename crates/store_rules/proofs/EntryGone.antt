@@ -95,10 +95,6 @@ module _ (s t : Records) (wanted : Entries) (ix : AreIndexed s wanted) (d b x : 
   not_before : (y : ℕ) → kind_at s format.index_file y ≢ format.indexed → y ≢ format.nil → y ≢ previous_entry s x
   not_before y ne some e = ⊎_elim (λ (n : first_entry s d b ≡ x). some (e ∙ before_none n)) (λ (m : In (previous_entry s x) xs). ne (ap (kind_at s format.index_file) e ∙ was.kind (previous_entry s x) m)) before_there
 
-  -- what a record of each kind is
-  heads_kind : (e c : ℕ) → In e ix.definitions → c < 12 → kind_at s format.index_file (heads_of s e c) ≡ format.heads
-  heads_kind e c i lt = ix.heads e c i lt
-
   hid_kind : kind_at s format.index_file hid ≡ format.heads
   hid_kind = ix.heads d (b / 15) listed (omega arith)
 

@@ -82,9 +82,6 @@ module _ (s t : Records) (wanted : Entries) (ix : AreIndexed s wanted) (d x node
   hid_kind : kind_at s format.index_file hid ≡ format.heads
   hid_kind = ix.heads d (b / 15) listed (omega arith)
 
-  hid_some : hid ≢ format.nil
-  hid_some = let k = hid_kind in live_some hid (λ q. omega (arith, k, q))
-
   not_hid : (y : ℕ) → kind_at s format.index_file y ≢ format.heads → y ≢ hid
   not_hid y ne q = ne (ap (kind_at s format.index_file) q ∙ hid_kind)
 

@@ -14,13 +14,12 @@ use Rattle.store_rules.proofs.Changes.{IsChanged}
 use Rattle.store_rules.proofs.EdgeChange as ec
 use Rattle.store_rules.proofs.EdgeChange.{IsEdgeChange}
 use Rattle.store_rules.proofs.IndexStays.{indexes_stay, wanted_same}
-use Rattle.store_rules.proofs.Made.{IsGone, IsMade}
+use Rattle.store_rules.proofs.Made.{IsMade}
 use Rattle.store_rules.proofs.NodeChange as nc
-use Rattle.store_rules.proofs.NodeGone.{IsBare}
 use Rattle.store_rules.proofs.NodeMade.{IsNewNode}
 use Rattle.store_rules.proofs.NumberLaws.{nat_cases}
 use Rattle.store_rules.proofs.PropertyFrames as fr
-use Rattle.store_rules.proofs.ViewLaws.{row_none, row_some}
+use Rattle.store_rules.proofs.ViewLaws.{row_none}
 
 -- ---- the file of the index stays
 
@@ -94,15 +93,3 @@ made_indexed s t shape id number rec made new = bare_indexed s t id made.change
           where
             same : (a b : NodeRow) → Some a ≡ Some b → a.property ≡ format.nil → b.property ≡ format.nil
             same a b e p = cc
-
--- a node without properties that went
-pub gone_indexed : (s t : Records) (shape : Shape) (id : ℕ) → IsGone s t shape format.nodes_file id → IsBare s id → AreIndexed s (wanted_in s) → AreIndexed t (wanted_in t)
-gone_indexed s t shape id gone old = bare_indexed s t id gone.change
-    (λ row is. same (node_in (rec_at s format.nodes_file id) id) row (sym (row_some (kind_at s format.nodes_file id) (node_in (rec_at s format.nodes_file id) id) old.used) ∙ is) old.bare)
-    (λ row is. absurd (none_some row (sym (row_none (kind_at t format.nodes_file id) (node_in (rec_at t format.nodes_file id) id) gone.gone) ∙ is)))
-  where
-    none_some : (row : NodeRow) → None ≡ Some row → ⊥
-    none_some row e = absurd cc
-
-    same : (a b : NodeRow) → Some a ≡ Some b → a.property ≡ format.nil → b.property ≡ format.nil
-    same a b e p = cc

@@ -37,9 +37,6 @@ use Rattle.store_rules.proofs.ViewLaws.{kind_by, kind_low, live_true}
 abbrev pub OthersStay : Records → Records → Type 0
 OthersStay s t = (f : ℕ) → is_meta_file f ≡ true → f ≢ format.index_file → IsSameFile s t f
 
-pub others_then : (s m t : Records) → OthersStay s m → OthersStay m t → OthersStay s t
-others_then s m t h k f is ne = record { records = (k f is ne).records ∙ (h f is ne).records; meta = (k f is ne).meta ∙ (h f is ne).meta }
-
 module _ (s t : Records) (shape : Shape) (others : OthersStay s t) where
   abbrev slack : Slack
   slack = record { most = shape.threshold; empty = [] }

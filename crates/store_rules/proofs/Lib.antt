@@ -18,7 +18,6 @@ pub mod EntryGone
 pub mod EntryMade
 pub mod FilledGroups
 pub mod Frames
-pub mod GraphIndexes
 pub mod GraphRows
 pub mod GroupLaws
 pub mod GroupOwners
@@ -66,7 +65,6 @@ pub mod Relinks
 pub mod RowChange
 pub mod RowLaws
 pub mod RuleStays
-pub mod RuleUses
 pub mod Shapes
 pub mod TwinRows
 pub mod Untouched

@@ -23,9 +23,6 @@ module _ {E : Type 0} (row : ℕ → E) where
   pub contains_row : (n x : ℕ) → x < n → Contains (all_rows n) (row x)
   contains_row n x lt = (x, let long = length-rows n in omega arith, row_at n x (row x) lt)
 
-  pub row_contained : (n : ℕ) (e : E) → Contains (all_rows n) e → (x : ℕ) × (x < n) × (row x ≡ e)
-  row_contained n e h = let long = length-rows n in let lt = h.1 in let low : h.0 < n = omega arith in (h.0, low, sym (row_at n h.0 e low) ∙ h.2)
-
 pub rows_same : {E : Type 0} → (row now : ℕ → E) (n : ℕ) → ((x : ℕ) → x < n → now x ≡ row x) → all_rows now n ≡ all_rows row n
 rows_same row now zero h = refl
 rows_same row now (suc n) h = ap (λ xs. xs ++ now n ∷ []) (rows_same row now n (λ x lt. h x (omega arith))) ∙ ap (λ e. all_rows row n ++ e ∷ []) (h n (omega arith))

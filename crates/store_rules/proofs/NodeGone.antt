@@ -1,7 +1,7 @@
 -- A node that goes keeps the rules, and is one node less of the graph.
 use Rattle.std.proofs.Common.{List, ◌≡◌, ◌≢◌, ℕ, nat_eq, Bool, true, false, ◌||◌, None, Some, length, sym, ap, ◌∙◌, subst, inl, inr, ⊎_elim, arith, refl}
 use Rattle.std.proofs.lemmas.Bool.{true≢false}
-use Rattle.plain_graph.specs.Graph.{degree_in, node_number, without_row}
+use Rattle.plain_graph.specs.Graph.{node_number, without_row}
 use Rattle.rec_bytes.specs.declared.shape.Shape.{Shape}
 use Rattle.rec_bytes.specs.Format as format
 use Rattle.rec_bytes.specs.Record.{field}
@@ -14,7 +14,6 @@ use Rattle.store_rules.proofs.Changes as ch
 use Rattle.store_rules.proofs.Counts.{ids_empty}
 use Rattle.store_rules.proofs.DefinedStays.{changed_defined}
 use Rattle.store_rules.proofs.Frames.{owner_beside_node, properties_bare}
-use Rattle.store_rules.proofs.GraphRows.{degree_in-degree}
 use Rattle.store_rules.proofs.Made.{IsGone}
 use Rattle.store_rules.proofs.NodeChange as nc
 use Rattle.store_rules.proofs.NumberLaws.{eq_true}
@@ -112,6 +111,3 @@ module _ (s t : Records) (shape : Shape) (id : ℕ) (lost : IsGone s t shape for
   node_removed = ap (collect (node_of t)) lost.mark ∙ collect_without node_number (node_of s) (node_of t) (high s format.nodes_file) id (nc.nodes_numbered s)
       (nc.node_text s t id lost.change id ∙ ap (node_from (rec_at s format.names_file) (property_records s)) node_gone)
       (λ x _ ne. nc.row_other s t id lost.change x ne) (kind_below (high s format.nodes_file) (rec_at s format.nodes_file id) id old.used)
-
-  pub node_was_lone : degree_in (graph_of s) id ≡ 0
-  node_was_lone = degree_in-degree s shape well id old.used ∙ old.alone

@@ -1,6 +1,6 @@
 -- A change of one element's properties is that change of the graph.
-use Rattle.std.proofs.Common.{◌≡◌, ◌≢◌, ℕ, ◌+◌, ◌≤◌, true, Option, None, Some, List, option_map, sym, ap, ◌∙◌, subst, inl, ⊎_elim, arith, refl}
-use Rattle.plain_graph.specs.Graph.{change_edge, change_node, edge_number, has_element, node_number, properties_at, with_change, with_properties}
+use Rattle.std.proofs.Common.{◌≡◌, ◌≢◌, ℕ, ◌+◌, ◌≤◌, Option, None, Some, List, option_map, sym, ap, ◌∙◌, subst, inl, ⊎_elim, arith, refl}
+use Rattle.plain_graph.specs.Graph.{change_edge, change_node, edge_number, node_number, with_change, with_properties}
 use Rattle.plain_graph.specs.Properties.{Properties}
 use Rattle.rec_bytes.specs.declared.record.Rec.{Rec}
 use Rattle.rec_bytes.specs.declared.shape.Shape.{Shape}
@@ -11,7 +11,7 @@ use Rattle.store_rules.specs.Properties.{Property, PropertyRecords, map_of, prop
 use Rattle.store_rules.specs.Rows.{collect}
 use Rattle.store_rules.specs.Rules.{KeepsRules, node_first, rel_first}
 use Rattle.store_rules.specs.Views.{NodeRow, Records, RelRow, high, kind_at, node_at, rec_at, rel_at, text_of}
-use Rattle.store_rules.proofs.ElementProperties.{edge_used, has_element-used, node_used, properties_at-is}
+use Rattle.store_rules.proofs.ElementProperties.{edge_used, node_used}
 use Rattle.store_rules.proofs.GraphRows.{edges_numbered}
 use Rattle.store_rules.proofs.NodeChange.{nodes_numbered}
 use Rattle.store_rules.specs.PropertyChange.{ChangesProperties, property_from, target_in}
@@ -151,15 +151,3 @@ module _ (s t : Records) (shape : Shape) (file x : ℕ) (old new : List Property
         (λ (e : file ≡ format.nodes_file). (λ i. record { nodes = nodes_changed e i; edges = edges_stay e i; names = names_stay i; indexes = indexes_stay i }) ∙ ap (λ f. with_properties (graph_of s) (target_in f x) change) (sym e))
         (λ (e : file ≡ format.relationships_file). (λ i. record { nodes = nodes_stay e i; edges = edges_changed e i; names = names_stay i; indexes = indexes_stay i }) ∙ ap (λ f. with_properties (graph_of s) (target_in f x) change) (sym e))
         h.element
-
-  -- the element has the new properties
-  pub graph_replaced : graph_of t ≡ with_properties (graph_of s) (target_in file x) (λ _. map_of names new)
-  graph_replaced = graph_changed (λ _. map_of names new) refl
-
-  -- the element is one of the graph
-  pub element_there : has_element (graph_of s) (target_in file x) ≡ true
-  element_there = has_element-used s file x h.element h.used
-
-  -- and had the old properties
-  pub properties_before : properties_at (graph_of s) (target_in file x) ≡ map_of names old
-  properties_before = properties_at-is s file x old h.element h.used h.was

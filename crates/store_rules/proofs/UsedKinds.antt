@@ -1,9 +1,9 @@
 -- A record in use is of a kind of its file.
-use Rattle.std.proofs.Common.{◌≡◌, ◌≢◌, ◌⊎◌, ℕ, nat_eq, Bool, true, false, ◌||◌, cond, Some, None, ap, ◌∙◌, inl, inr, ⊎_elim, refl}
+use Rattle.std.proofs.Common.{◌≡◌, ◌≢◌, ◌⊎◌, ℕ, nat_eq, Bool, true, false, ◌||◌, cond, Some, None, ap, ◌∙◌, ⊎_elim, refl}
 use Rattle.rec_bytes.specs.declared.shape.Shape.{Shape}
 use Rattle.rec_bytes.specs.Format as format
 use Rattle.rec_bytes.specs.RecordFiles.{is_meta_file}
-use Rattle.store_rules.specs.Ranges.{AreInRange, Layout, free_layout, group_layout, layout_by, node_layout, relationship_layout}
+use Rattle.store_rules.specs.Ranges.{AreInRange, Layout, free_layout, group_layout, layout_by, relationship_layout}
 use Rattle.store_rules.specs.Views.{Records, high, is_group_kind, kind_at, rec_at}
 use Rattle.store_rules.proofs.NumberLaws.{eq_false, nat_cases}
 use Rattle.store_rules.proofs.ViewLaws.{kind_below, kind_low}
@@ -35,19 +35,3 @@ module _ (s : Records) (shape : Shape) (ranges : AreInRange s shape) where
       by false true r e layout h = refl
       by false false true e layout h = refl
       by false false false e layout h = cc
-
-  -- a node is sparse or dense
-  pub node_kind : (x : ℕ) → kind_at s format.nodes_file x ≢ format.free_kind → (kind_at s format.nodes_file x ≡ format.sparse) ⊎ (kind_at s format.nodes_file x ≡ format.dense)
-  node_kind x live = ⊎_elim (λ e. inl e) (λ ne. ⊎_elim (λ e. inr e)
-      (λ nd. absurd (let l = laid_out format.nodes_file x refl live in none (kind_at s format.nodes_file x) live ne nd l.0 l.1))
-      (nat_cases (kind_at s format.nodes_file x) format.dense)) (nat_cases (kind_at s format.nodes_file x) format.sparse)
-    where
-      none : (kind : ℕ) → kind ≢ 0 → kind ≢ format.sparse → kind ≢ format.dense → (layout : Layout) → layout_by format.nodes_file (rec_at s format.nodes_file x) kind ≡ Some layout → ⊥
-      none kind a b c layout is = by (nat_eq kind 0) (nat_eq kind format.sparse) (nat_eq kind format.dense) (eq_false kind 0 a) (eq_false kind format.sparse b) (eq_false kind format.dense c) is
-        where
-          by : (p q r : Bool) → p ≡ false → q ≡ false → r ≡ false
-              → cond p (free_layout format.nodes_file) (cond q (node_layout format.relationships_file) (cond r (node_layout format.groups_file) None)) ≡ Some layout → ⊥
-          by true q r e f g h = cc
-          by false true r e f g h = cc
-          by false false true e f g h = cc
-          by false false false e f g h = cc

@@ -26,20 +26,6 @@ pub data Rule : Type 0 where
   Degrees : Rule
   Indexed : Rule
 
--- the number that a damage names it by
-abbrev pub number : Rule → ℕ
-number Ranges = 1
-number (Split file) = 2
-number Linked = 3
-number Grouped = 4
-number Counts = 4
-number Properties = 5
-number Labels = 5
-number Defined = 5
-number Names = 6
-number Degrees = 7
-number Indexed = 8
-
 -- What may be otherwise in the middle of a change: so many relationships a sparse node may have,
 -- and these groups may be empty.
 pub record Slack : Type 0 where
@@ -83,10 +69,6 @@ holds Indexed records shape slack = AreIndexed records (wanted_in records)
 abbrev pub KeepsThose : (Rule → Bool) → Records → Shape → Slack → Type 0
 KeepsThose those records shape slack =
     (rule : Rule) → those rule ≡ true → holds rule records shape slack
-
--- all rules
-abbrev pub KeepsAll : Records → Shape → Slack → Type 0
-KeepsAll records shape slack = (rule : Rule) → holds rule records shape slack
 
 -- all but the eighth, as `KeepsRules` says them
 abbrev pub but_index : Rule → Bool
