@@ -3,7 +3,6 @@ use Rattle.std.proofs.Common.{◌≡◌, ◌≢◌, ◌⊎◌, ℕ, ◌+◌, ◌
 use Rattle.std.specs.Bool.{Decides}
 use Rattle.std.specs.List.{sum_by}
 use Rattle.std.proofs.lemmas.Bool.{cases_Bool, cases_lt, true≢false}
-use Rattle.std.proofs.lemmas.List.Sums.{sum_by-set}
 use Rattle.rec_bytes.specs.Format as format
 use Rattle.store_rules.specs.Breaking.{IsOnChain, IsOwnedBy}
 use Rattle.store_rules.specs.Breaking.IsOnChain.{First, Next}
@@ -18,13 +17,6 @@ use Rattle.chain_check.specs.NodeChains.{IsDense}
 -- how many have no mark
 abbrev pub unmarked : List Bool → ℕ
 unmarked marks = sum_by (λ b. cond b 0 1) marks
-
--- one less, after one more mark
-pub unmarked-set : (marks : List Bool) (at : ℕ) → at < length marks → marked marks at ≡ false → unmarked (set marks at true) < unmarked marks
-unmarked-set marks at lt none =
-    let e = sum_by-set (λ (b : Bool). cond b 0 1) marks at true false lt in
-    let one : unmarked (set marks at true) + 1 ≡ unmarked marks + 0 = subst (λ b. unmarked (set marks at true) + cond b 0 1 ≡ unmarked marks + 0) none e in
-    omega arith
 
 module _ (records : Records) where
   module _ (node from : ℕ) where

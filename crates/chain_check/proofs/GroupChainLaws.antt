@@ -8,7 +8,7 @@ use Rattle.rec_bytes.specs.Format as format
 use Rattle.rec_bytes.specs.Record.{field}
 use Rattle.store_rules.specs.Chains.{In, IsChain}
 use Rattle.store_rules.specs.Rules as rules
-use Rattle.store_rules.specs.Views.{GroupRow, Records, first_link, group_at, group_in, high, is_live, kind_at, rec_at, rel_at}
+use Rattle.store_rules.specs.Views.{GroupRow, Records, first_link, group_at, group_in, high, is_live, kind_at, rec_at}
 use Rattle.store_rules.proofs.ChainLaws.{head_once, walk_of_chain}
 use Rattle.store_rules.proofs.ChainRules.{Grouped}
 use Rattle.store_rules.proofs.GroupLaws.{same_group}

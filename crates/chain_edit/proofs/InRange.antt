@@ -8,7 +8,6 @@ use Rattle.rec_bytes.specs.Record.{field}
 use Rattle.rec_bytes.specs.Space.{State}
 use Rattle.store_rules.specs.Chains.{next_in, prev_in}
 use Rattle.store_rules.specs.Ranges.{AreInRange, Fits, Layout, Pointer, all_point, free_layout, group_layout, layout_by, may, must, node_layout, points, relationship_layout}
-use Rattle.store_rules.specs.Rules.{first_of, node_head}
 use Rattle.store_rules.specs.Views.{high, kind_at, rec_at}
 use Rattle.store_rules.proofs.GroupLaws.{IsFirstPlace}
 use Rattle.store_rules.proofs.LinkFits.{IsLow}
@@ -128,11 +127,3 @@ module _ (s : State) (ranges : AreInRange s.records s.shape) where
 
   pub right_next : (x n : ℕ) → kind_at s.records format.relationships_file x ≢ 0 → IsRightLink s (next_of s.records n x)
   right_next x n live = let f = rel_fits x live in record { low = next_low (high s.records) (rec_at s.records format.relationships_file x) n f.0 f.1; mark = mark }
-
-  pub right_first : (n : ℕ) → kind_at s.records format.nodes_file n ≡ format.sparse → IsRightLink s (first_of s.records (node_head n))
-  right_first n sparse =
-      let r = rec_at s.records format.nodes_file n in
-      let live : kind_at s.records format.nodes_file n ≢ 0 = λ e. absurd (omega (arith, e, sparse)) in
-      let lt = kind_below (high s.records format.nodes_file) r n live in
-      let kind : field 1 r format.kind ≡ format.sparse = sym (kind_low (high s.records format.nodes_file) r n lt) ∙ sparse in
-      record { low = sparse_low (high s.records) r kind (ranges.fit format.nodes_file n refl lt); mark = mark }

@@ -39,10 +39,6 @@ pub end_in : (s : Records) (x n : ℕ) (row : RelRow) → rel_at s x ≡ Some ro
 end_in s x n row live end = subst (IsEnd n) (sym (some_row (kind_at s format.relationships_file x) (rel_in (rec_at s format.relationships_file x) x) row live).1) end
 
 module _ (kind : ℕ → ℕ) (groups : ℕ → Option GroupRow) where
-  head_file : (h : Head) (n : ℕ) → Owns kind groups h n → (h.key.file ≡ format.nodes_file) ⊎ (h.key.file ≡ format.groups_file)
-  head_file h n (inl o) = inl (ap (λ (z : Head). z.key.file) o.is)
-  head_file h n (inr o) = inr (ap (λ (z : Key). z.file) o.key)
-
   place : (h : Head) (n : ℕ) → Owns kind groups h n → IsPlace h
   place h n (inl o) = subst IsPlace (sym o.is) (record { elsewhere = λ e. omega arith; whole = refl; fits = omega arith })
   place h n (inr o) = record {

@@ -1,10 +1,9 @@
 -- Walks of several chains, one after the other.
-use Rattle.std.proofs.Common.{◌≡◌, ◌<◌, ◌≤◌, ◌-◌, ◌+◌, ℕ, zero, suc, Bool, List, [], ◌∷◌, ◌++◌, drop, get_or, length, map, refl, sym, ap, ◌∙◌, subst, append_assoc, append-nil, ⊎_elim, arith}
-use Rattle.std.proofs.Common.{Err}
+use Rattle.std.proofs.Common.{◌≡◌, ◌<◌, ◌≤◌, ◌-◌, ◌+◌, ℕ, zero, suc, List, [], ◌∷◌, ◌++◌, length, map, refl, sym, ap, ◌∙◌, subst, append_assoc, append-nil, ⊎_elim, arith}
 use Rattle.std.specs.Prelude.{Vec}
 use Rattle.std.specs.declared.alloc.Global.{Global}
 use Rattle.std.proofs.lemmas.Bool.{cases_lt}
-use Rattle.std.proofs.lemmas.List.{drop_more, length-append, length-map, map-append}
+use Rattle.std.proofs.lemmas.List.{length-append, length-map, map-append}
 use Rattle.rec_bytes.specs.declared.shape.Shape.{Shape}
 use Rattle.rec_bytes.specs.Format as format
 use Rattle.rec_bytes.specs.RecordFiles.{room_of}
@@ -16,15 +15,12 @@ use Rattle.store_rules.proofs.ChainLaws.{walk_of_chain}
 use Rattle.store_rules.proofs.OnceLaws.{in_left, in_right}
 use Rattle.rel_store.specs.declared.edge_row.EdgeRow.{EdgeRow}
 use Rattle.rel_store.specs.Loading.{rel_mark, rel_room}
-use Rattle.rec_bytes.specs.declared.fault.Fault.{Fault}
 use Rattle.rec_bytes.specs.declared.fault.Fault.TheVariants as chain
-use Rattle.rec_bytes.specs.Fault as chains
 use Rattle.chain_edit.specs.Chains.{IsChainFrom, next_of, prev_of}
 use Rattle.chain_edit.specs.Walking.{HasWalked, IsSoundWalk, ReadsAtMost, edge_at}
 use Rattle.chain_edit.proofs.Walks.{mark_then, walk_is}
 use Rattle.group_store.proofs.GroupWalks.{gets_add, records_then}
-use Rattle.expand.specs.ExpandFault.{NotDamaged, of_fault}
-use Rattle.expand.specs.Walking.{AreSoundWalks, AreWalks, HaveWalked, with_node}
+use Rattle.expand.specs.Walking.{AreSoundWalks, AreWalks, HaveWalked}
 
 -- what a walk gives
 abbrev pub Rows : Type 0
@@ -78,10 +74,6 @@ all_met s node firsts left rows none met = record {
 -- walks to the end are left, of at most so many relationships
 abbrev pub AreLeft : State → ℕ → List ℕ → ℕ → Type 0
 AreLeft s node firsts left = (xs : List ℕ) × AreSoundWalks s node firsts left xs
-
--- from a place on, this chain is the next one
-pub left_here : (s : State) (node at n budget : ℕ) (firsts : List ℕ) → at < length firsts → budget ≡ rel_mark s - n → AreLeft s node (drop at firsts) (rel_mark s - n) → AreLeft s node (get_or firsts at 0 ∷ drop (at + 1) firsts) budget
-left_here s node at n budget firsts lt is left = subst (λ most. AreLeft s node (get_or firsts at 0 ∷ drop (at + 1) firsts) most) (sym is) (subst (λ fs. AreLeft s node fs (rel_mark s - n)) (drop_more firsts at 0 lt) left)
 
 -- the next chain has an end, as it is met after reads
 pub record IsNext (s now : State) (node first budget total : ℕ) : Type 0 where

@@ -1,30 +1,26 @@
 -- What walks in the chains of a dense node's groups say of the store.
-use Rattle.std.proofs.Common.{◌≡◌, ◌≢◌, ◌<◌, ◌+◌, ℕ, true, List, length, map, refl, sym, ap, ◌∙◌, subst, inr, arith}
+use Rattle.std.proofs.Common.{◌≡◌, ◌≢◌, ◌<◌, ◌+◌, ℕ, true, List, length, map, refl, sym, ap, ◌∙◌, subst, arith}
 use Rattle.std.specs.List.{Contains}
 use Rattle.std.proofs.lemmas.List.{length-map}
 use Rattle.plain_graph.specs.declared.direction.Direction.{Direction}
 use Rattle.rec_bytes.specs.Format as format
 use Rattle.rec_bytes.specs.Space.{State}
 use Rattle.store_rules.specs.Chains.{In, IsWalk}
-use Rattle.store_rules.specs.Rules.{first_of}
 use Rattle.store_rules.specs.Views.{first_link, kind_at, rec_at}
 use Rattle.store_rules.proofs.ChainLaws.{walk_of_chain}
 use Rattle.store_rules.proofs.ViewLaws.{kind_below}
 use Rattle.node_store.specs.declared.node_row.NodeRow.{NodeRow}
 use Rattle.rel_store.specs.declared.edge_row.EdgeRow.{EdgeRow}
 use Rattle.rel_store.specs.Loading.{rel_mark}
-use Rattle.chain_edit.specs.Chains.{next_of}
 use Rattle.chain_edit.specs.Walking.{ReadsAtMost, edge_at}
 use Rattle.chain_edit.proofs.Walks.{walk_is}
 use Rattle.group_store.specs.GroupChain.{next_group}
-use Rattle.group_store.specs.Sides.{group_head}
 use Rattle.group_store.specs.Walking.{group_row_at}
 use Rattle.expand.specs.Costs.{met_count, type_count}
 use Rattle.expand.specs.Expanding.{CanWalkGroups, HasDenseRows, IsStore, graph_in, name_of, rows_of}
-use Rattle.expand.specs.FirstLinks.{first_links, first_numbers}
+use Rattle.expand.specs.FirstLinks.{first_numbers}
 use Rattle.expand.specs.Matching.{IsPart, is_met}
-use Rattle.expand.specs.Walking.{AreOfGroups, AreWalks}
-use Rattle.expand.proofs.BrokenChains.{link_of, owned, stands_belongs}
+use Rattle.expand.specs.Walking.{AreWalks}
 use Rattle.expand.proofs.ChainRows.{length-part, rows_part}
 use Rattle.expand.proofs.ChainWalks.{walks_are}
 use Rattle.expand.proofs.GroupHeads.{all_met, chain, firsts_are, groups, heads_differ, heads_in, heads_own, only_met}
@@ -54,24 +50,6 @@ module _ (s : State) (store : IsStore s) (row : NodeRow) (dense : kind_at s.reco
 
   group_walk : IsWalk (next_group s.records) row.first members
   group_walk = subst (λ f. IsWalk (next_group s.records) f members) (sym first) (walk_of_chain _ _ format.nil (first_link s.records n) members (chain s.records s.shape store n dense).chain)
-
-  -- what is met in a chain belongs there
-  of_groups : AreOfGroups s n (first_links direction labels (map (group_row_at s.records) members))
-  of_groups = record {
-    dense = dense;
-    groups = map (group_row_at s.records) members;
-    listed = record {
-      members = members;
-      list = record {
-        walk = walk_of_chain _ _ format.nil (first_link s.records n) members (chain s.records s.shape store n dense).chain;
-        only = (chain s.records s.shape store n dense).only;
-      };
-      are = refl;
-    };
-    direction = direction;
-    labels = labels;
-    are = refl;
-  }
 
   -- the links lead through all of them
   pub can_walk : CanWalkGroups s row direction labels members chains.members

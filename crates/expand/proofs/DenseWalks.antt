@@ -1,5 +1,5 @@
 -- A walk of a dense node's groups, and then of chains of theirs.
-use Rattle.std.proofs.Common.{◌≡◌, ◌<◌, ◌≤◌, ℕ, List, length, map, refl, sym, ap, ◌∙◌, subst, arith}
+use Rattle.std.proofs.Common.{◌≡◌, ◌<◌, ℕ, List, length, map, refl, sym, ap, ◌∙◌, subst, arith}
 use Rattle.rec_bytes.specs.declared.damage.Damage.{Damage}
 use Rattle.rec_bytes.specs.Format as format
 use Rattle.rec_bytes.specs.Space.{State, after_gets}
@@ -14,7 +14,7 @@ use Rattle.store_rules.proofs.ViewLaws.{kind_below, some_row}
 use Rattle.node_store.specs.declared.node_row.NodeRow.{NodeRow}
 use Rattle.plain_graph.specs.declared.direction.Direction.{Direction}
 use Rattle.rel_store.specs.declared.edge_row.EdgeRow.{EdgeRow}
-use Rattle.rel_store.specs.Loading.{rel_mark, rel_room}
+use Rattle.rel_store.specs.Loading.{rel_mark}
 use Rattle.chain_edit.specs.Walking.{edge_at}
 use Rattle.chain_edit.proofs.Walks.{mark_then, walk_is}
 use Rattle.group_store.specs.declared.group_row.GroupRow.{GroupRow}
@@ -32,7 +32,7 @@ use Rattle.expand.specs.ExpandFault.{of_fault}
 use Rattle.expand.specs.Expanding.{Blames, CanWalkGroups, HasDenseRows, IsDenseRow}
 use Rattle.expand.specs.FirstLinks.{first_links, numbers_of}
 use Rattle.expand.specs.Walking.{AreOfGroups, AreSoundWalks, AreWalks, HaveWalked}
-use Rattle.expand.proofs.ChainWalks.{room_then, shape-after_gets}
+use Rattle.expand.proofs.ChainWalks.{shape-after_gets}
 
 -- what is blamed after reads breaks a rule of the space as it was
 pub blamed_then : (s mid : State) (n : ℕ) → mid ≡ after_gets n s → (fault : ExpandFault) → Blames mid fault → Blames s fault

@@ -15,4 +15,3 @@ pub mod ModelEdges
 pub mod ReadCounts
 pub mod RowCounts
 pub mod TypeCounts
-pub mod Unblamed

@@ -1,5 +1,5 @@
 -- What a load of a node and a walk of its chain say of the store.
-use Rattle.std.proofs.Common.{◌≡◌, ◌≢◌, ◌≤◌, ◌+◌, ◌<◌, ℕ, nat_eq, Bool, true, false, cond, None, Some, List, Result, Ok, Err, IfErr, IfOk, length, map, refl, sym, ap, ◌∙◌, subst, ⊎_elim, arith}
+use Rattle.std.proofs.Common.{◌≡◌, ◌≢◌, ◌+◌, ◌<◌, ℕ, nat_eq, Bool, true, false, cond, None, Some, List, Result, Ok, Err, IfErr, IfOk, length, map, refl, sym, ap, ◌∙◌, subst, ⊎_elim, arith}
 use Rattle.std.specs.List.{Contains}
 use Rattle.std.proofs.lemmas.Bool.{eqb-true, true≢false}
 use Rattle.std.proofs.lemmas.List.{length-map}
@@ -29,7 +29,7 @@ use Rattle.row_store.specs.Loading.IsRowDamage.{HighMark as HighRow, UnknownKind
 use Rattle.node_store.specs.NodeRecord.{node_key, row_of}
 use Rattle.node_store.proofs.Rows.{kind-row_at-None, kind-row_at-Some}
 use Rattle.rel_store.specs.declared.edge_row.EdgeRow.{EdgeRow}
-use Rattle.rel_store.specs.Loading.{rel_mark, rel_room}
+use Rattle.rel_store.specs.Loading.{rel_mark}
 use Rattle.rec_bytes.specs.declared.fault.Fault.{Fault}
 use Rattle.rec_bytes.specs.declared.fault.Fault.TheVariants as chain
 use Rattle.chain_edit.specs.Chains.{IsChainFrom, next_of, prev_of}

@@ -1,12 +1,12 @@
 -- Why the edges of a node are not known.
-use Rattle.std.specs.Prelude.{ℕ, Result, Ok, Err}
+use Rattle.std.specs.Prelude.{ℕ, Result}
 use Rattle.rec_bytes.specs.declared.row_fault.RowFault.{RowFault}
 use Rattle.rec_bytes.specs.declared.row_fault.RowFault.TheVariants as row
 use Rattle.rec_bytes.specs.Cause.{HasDiskCause}
 use Rattle.rec_bytes.specs.declared.fault.Fault.{Fault}
 use Rattle.rec_bytes.specs.declared.fault.Fault.TheVariants as fault
 use Rattle.expand.specs.declared.expand_fault.ExpandFault.{ExpandFault}
-use Rattle.expand.specs.declared.expand_fault.ExpandFault.TheVariants.{NoNode, Memory, Disk}
+use Rattle.expand.specs.declared.expand_fault.ExpandFault.TheVariants.{Memory, Disk}
 use Rattle.expand.specs.declared.expand_fault.ExpandFault.TheVariants.{Damaged}
 
 -- faults of the crates below as one of this crate
@@ -25,11 +25,3 @@ of_memory = Memory
 -- the disk is blamed only where it failed
 abbrev pub HasExpandCause : {T : Type 0} → ℕ → ℕ → Result T ExpandFault → Type 0
 HasExpandCause before now result = HasDiskCause Disk before now result
-
--- no record is said to be damaged
-abbrev pub NotDamaged : {T : Type 0} → Result T ExpandFault → Type 0
-NotDamaged (Ok value) = Unit {0}
-NotDamaged (Err (NoNode id)) = Unit {0}
-NotDamaged (Err Memory) = Unit {0}
-NotDamaged (Err Disk) = Unit {0}
-NotDamaged (Err (Damaged damage)) = ⊥

@@ -1,5 +1,5 @@
 -- What is found of the edges of a node, and what it costs.
-use Rattle.std.specs.Prelude.{◌≡◌, ◌<◌, ◌≤◌, ℕ, ◌+◌, Bool, true, false, Option, None, List}
+use Rattle.std.specs.Prelude.{◌≡◌, ◌<◌, ℕ, ◌+◌, Bool, true, false, Option, None, List}
 use Rattle.std.specs.Prelude.{length, map}
 use Rattle.std.specs.Prelude.{Result, Ok, Err, All}
 use Rattle.std.specs.List.{AllZip}
@@ -23,7 +23,7 @@ use Rattle.group_store.specs.Walking.{HasGroupRows, IsWalkable, group_row_at}
 use Rattle.expand.specs.declared.expand_fault.ExpandFault.{ExpandFault}
 use Rattle.expand.specs.declared.expand_fault.ExpandFault.TheVariants.{NoNode, Memory, Disk}
 use Rattle.expand.specs.declared.expand_fault.ExpandFault.TheVariants.{Damaged}
-use Rattle.expand.specs.FirstLinks.{first_links, first_numbers}
+use Rattle.expand.specs.FirstLinks.{first_numbers}
 use Rattle.expand.specs.Walking.{AreSoundWalks, HaveWalked}
 
 -- the records are those of a well-formed store

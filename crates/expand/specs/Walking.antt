@@ -1,24 +1,23 @@
 -- What walks of several chains of a node find.
-use Rattle.std.specs.Prelude.{◌≡◌, ℕ, ◌<◌, ◌≤◌, ◌&&◌, nat_eq, if◌then◌else◌, Bool, true, List}
+use Rattle.std.specs.Prelude.{◌≡◌, ℕ, ◌<◌, ◌≤◌, ◌&&◌, nat_eq, if◌then◌else◌, Bool, List}
 use Rattle.std.specs.Prelude.{[], ◌∷◌, ◌++◌, length, map}
-use Rattle.std.specs.List.{Contains}
 use Rattle.plain_graph.specs.declared.direction.Direction.{Direction}
 use Rattle.rec_bytes.specs.declared.damage.Damage.{Damage}
 use Rattle.rec_bytes.specs.declared.fault.Fault.{Fault}
 use Rattle.rec_bytes.specs.declared.fault.Fault.TheVariants as faults
 use Rattle.rec_bytes.specs.Format as format
 use Rattle.rec_bytes.specs.Space.{State}
-use Rattle.store_rules.specs.Chains.{In, IsWalk}
+use Rattle.store_rules.specs.Chains.{In}
 use Rattle.store_rules.specs.Views.{Records, first_link, kind_at}
 use Rattle.rel_store.specs.declared.edge_row.EdgeRow.{EdgeRow}
 use Rattle.rel_store.specs.Loading.{rel_mark}
-use Rattle.chain_edit.specs.Chains.{IsChainFrom, next_of}
+use Rattle.chain_edit.specs.Chains.{IsChainFrom}
 use Rattle.chain_edit.specs.Walking.{edge_at}
 use Rattle.group_store.specs.declared.group_row.GroupRow.{GroupRow}
 use Rattle.group_store.specs.Walking.{HasGroupRows}
 use Rattle.group_store.specs.Walking as groups
 use Rattle.expand.specs.declared.first_links.FirstLink.{FirstLink}
-use Rattle.expand.specs.FirstLinks.{belongs, first_links}
+use Rattle.expand.specs.FirstLinks.{first_links}
 
 -- The links of the node lead from each first one to an end and back, and these are met, one chain
 -- after the other.

@@ -1,13 +1,11 @@
 -- The steps in which a group is dropped, told by the space as it was.
-use Rattle.std.proofs.Common.{◌⊎◌, ⊎_elim, inl, inr, arith, ◌≡◌, ℕ, Bool, List, [], ◌∷◌, refl, sym, ap, ◌∙◌, subst}
+use Rattle.std.proofs.Common.{◌⊎◌, ⊎_elim, inl, inr, arith, ◌≡◌, ℕ, Bool, List, refl, sym, ap, ◌∙◌, subst}
 use Rattle.id_freelist.specs.Giving.{CanGive, HasGiven, given}
 use Rattle.rec_bytes.specs.declared.damage.Damage.{Damage}
-use Rattle.rec_bytes.specs.declared.key.Key.{Key}
 use Rattle.rec_bytes.specs.declared.record.Rec.{Rec}
 use Rattle.rec_bytes.specs.Format as format
 use Rattle.rec_bytes.specs.Record.{field}
-use Rattle.rec_bytes.specs.Space.{SameButReads, State, WritesOnly, after_get}
-use Rattle.rec_bytes.proofs.Spaces.{writes_then}
+use Rattle.rec_bytes.specs.Space.{SameButReads, State, after_get}
 use Rattle.store_rules.proofs.ChainSteps.{after_in, before_in, first_before}
 use Rattle.store_rules.specs.Chains.{In}
 use Rattle.store_rules.specs.Rules.{is_filled}
@@ -25,7 +23,6 @@ use Rattle.group_store.specs.Walking.IsMemberDamage.{HighMember, NoMember, Unkno
 use Rattle.group_store.proofs.Drops.{has_dropped, linked}
 use Rattle.group_store.proofs.GroupRecords.{group_below, owned}
 use Rattle.group_store.proofs.GroupWalks.{IsUndamaged}
-use Rattle.group_store.proofs.MakeSteps.{same_writes}
 use Rattle.group_store.proofs.UnknownKinds.{known_kind}
 
 pub member_told : (s : State) (node g : ℕ) (fault : Fault) → IsMemberFault s node g fault → IsDropFault s node g fault
@@ -49,21 +46,6 @@ filled_is records g rec test b got is e = ap is_filled (sym got) ∙ sym is ∙ 
 
 pub same_one : (s now : State) → now ≡ after_get s → SameButReads s now
 same_one s now read = subst (SameButReads s) (sym read) refl
-
--- ---- what is written
-
-pub back_writes : (s now b : State) (after lead group meta : Key) → now ≡ after_get s → WritesOnly now b (after ∷ []) → WritesOnly s b (after ∷ lead ∷ group ∷ meta ∷ [])
-back_writes s now b after lead group meta read one =
-    writes_then s b b (after ∷ []) (lead ∷ group ∷ meta ∷ []) (writes_then s now b [] (after ∷ []) (same_writes s now [] (same_one s now read)) one) (same_writes b b _ refl)
-
-pub follow_writes : (s now b f : State) (after lead group meta : Key) → now ≡ after_get s → WritesOnly now b (after ∷ []) → WritesOnly b f (lead ∷ []) → WritesOnly s f (after ∷ lead ∷ group ∷ meta ∷ [])
-follow_writes s now b f after lead group meta read one two =
-    writes_then s f f (after ∷ lead ∷ []) (group ∷ meta ∷ []) (writes_then s b f (after ∷ []) (lead ∷ []) (writes_then s now b [] (after ∷ []) (same_writes s now [] (same_one s now read)) one) two) (same_writes f f _ refl)
-
-pub give_writes : (s now b f end : State) (after lead group meta : Key) → now ≡ after_get s → WritesOnly now b (after ∷ []) → WritesOnly b f (lead ∷ []) → WritesOnly f end (group ∷ meta ∷ [])
-    → WritesOnly s end (after ∷ lead ∷ group ∷ meta ∷ [])
-give_writes s now b f end after lead group meta read one two three =
-    writes_then s f end (after ∷ lead ∷ []) (group ∷ meta ∷ []) (writes_then s b f (after ∷ []) (lead ∷ []) (writes_then s now b [] (after ∷ []) (same_writes s now [] (same_one s now read)) one) two) three
 
 -- ---- the end
 

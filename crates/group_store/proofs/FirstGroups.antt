@@ -1,5 +1,5 @@
 -- The first link of a node that was loaded, and what follows from it.
-use Rattle.std.proofs.Common.{◌≡◌, inl, inr, ℕ, ◌+◌, ◌<◌, ◌≤◌, Bool, true, false, cond, List, length, Option, None, Some, Result, Ok, Err, IfOk, IfErr, refl, sym, ap, ◌∙◌, subst, arith}
+use Rattle.std.proofs.Common.{◌≡◌, inr, ℕ, ◌+◌, ◌<◌, ◌≤◌, Bool, true, false, cond, List, length, Option, None, Some, Result, Ok, Err, IfOk, IfErr, refl, sym, ap, ◌∙◌, subst, arith}
 use Rattle.std.specs.Prelude.{◌↔◌, IfSome, ◌&&◌, nat_lt}
 use Rattle.rec_bytes.specs.declared.damage.Damage.{Damage}
 use Rattle.rec_bytes.specs.declared.row_fault.RowFault.{RowFault}
@@ -128,8 +128,3 @@ fault_then s now node first (Err (Damaged damage)) reads is told = inr (subst (�
         (let mark = mark_then s now reads.count reads.is in omega arith)
         (subst (λ (r : Records). HasNoKind r g) (records_then s now reads.count reads.is) unknown)
     by damage (HighMark above) = HighMark (let mark = mark_then s now reads.count reads.is in let room = room_then s now reads.count reads.is in omega arith)
-
-pub find_fault : (s : State) (node : ℕ) (fault : Fault) → IsNodeFault s node fault → IsFindFault s node fault
-find_fault s node Memory told = tt
-find_fault s node Disk told = tt
-find_fault s node (Damaged damage) told = inl told

@@ -144,9 +144,6 @@ module _ (m : State) (node rel g : ℕ) (row : RelRow) (groups came : List ℕ) 
   abbrev e : State
   e = tallied one_more p head
 
-  own : HasSide m.records node came g side
-  own = all_sides g here side
-
   -- its own link back is set to none
   group_t : (k : ℕ) → rec_at t.records format.groups_file k ≡ rec_at m.records format.groups_file k
   group_t k = elsewhere-set_prev m.records node rel format.nil (key_in format.groups_file k) (λ e. omega arith)

@@ -18,7 +18,7 @@ use Rattle.store_rules.proofs.ChainLaws.{walk_stays}
 use Rattle.store_rules.proofs.Changes as ch
 use Rattle.store_rules.proofs.Changes.{IsChanged}
 use Rattle.store_rules.proofs.Frames.{split_same}
-use Rattle.store_rules.proofs.LinkFits.{IsCountPlace, IsLink, IsLow, fits_count, fits_dense_first, fits_group_first, fits_group_next, fits_group_previous, fits_link}
+use Rattle.store_rules.proofs.LinkFits.{IsLink, IsLow, fits_dense_first, fits_group_first, fits_group_next, fits_group_previous, fits_link}
 use Rattle.store_rules.proofs.GroupLaws.{IsFirstPlace}
 use Rattle.store_rules.proofs.MetaLaws.{high_fits, not_meta_key}
 use Rattle.store_rules.proofs.NumberLaws.{nat_cases}
@@ -110,14 +110,6 @@ module _ (s t : Records) (shape : Shape) (node : ℕ) (h : HasStepped s t shape 
 
   group_is : (x : ℕ) → is_group_kind (kind_at t format.groups_file x) ≡ true → x < high t format.groups_file → is_group_kind (field 1 (rec_at t format.groups_file x) format.kind) ≡ true
   group_is x is lt = ap is_group_kind (sym (kind_low (high t format.groups_file) (rec_at t format.groups_file x) x lt)) ∙ is
-
-  -- a number of a counted group
-  pub step_count : (x at to : ℕ) → IsCountPlace at → kind_at t format.groups_file x ≡ format.counted → to < 2 ^ 32 → HasStepped s (set_at t (number_at format.groups_file x at) to) shape node
-  step_count x at to place is small = step_group x at to (λ e. let z = sym is ∙ e in omega arith) within.0 within.1
-      (λ lt. fits_count (high t) (rec_at t format.groups_file x) at to place small (kind_is format.groups_file x format.counted is lt))
-    where
-      within : (1 ≤ at) × (at + 4 ≤ 64)
-      within = ⊎_elim (λ (e : at ≡ 32). (omega arith, omega arith)) (λ k. ⊎_elim (λ (e : at ≡ 36). (omega arith, omega arith)) (λ (e : at ≡ 40). (omega arith, omega arith)) k) place
 
   -- the link of a group to the one before it, and the first link of one of its chains
   pub step_previous : (x to : ℕ) → is_group_kind (kind_at t format.groups_file x) ≡ true → IsLow (high t format.groups_file) to → HasStepped s (set_at t (number_at format.groups_file x format.group_previous) to) shape node

@@ -455,9 +455,6 @@ taken_shape : (s : State) (file : ℕ) → (taken s file).shape ≡ s.shape
 unfolding mark_taken free_taken
 taken_shape s file = on_test (λ (q : State). q.shape ≡ s.shape) (meta_of s file).free format.nil (mark_taken s file) (free_taken s file) (λ _. refl) (λ _. refl)
 
-pub made_shape : (s now u end : State) → now.shape ≡ s.shape → u ≡ taken now format.groups_file → end.shape ≡ u.shape → end.shape ≡ s.shape
-made_shape s now u end read took led = led ∙ ap (λ (q : State). q.shape) took ∙ taken_shape now format.groups_file ∙ read
-
 -- told by the space as it was, step by step
 pub rules_made : (s now u end : State) (node label link id : ℕ) (rec : Rec) (row : GroupRow) → now ≡ after_get s
     → ((free : List ℕ) → IsFreeList now.records format.groups_file free → HasTaken now.records u.records format.groups_file id free) → kind_at now.records format.groups_file id ≡ 0

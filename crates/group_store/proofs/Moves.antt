@@ -162,9 +162,6 @@ module _ (s : State) (node rel g : ℕ) (row : RelRow) (rest : List ℕ) (most :
   abbrev now : State
   now = joined s head node rel
 
-  group_row : views.GroupRow
-  group_row = record { id = g; label = row.label; owner = node }
-
   owned : GroupHead kind groups head node
   owned = record { dense = dense; row = record { id = g; label = row.label; owner = node }; group = group; owner = refl; key = refl; field = side_place side }
 
@@ -173,9 +170,6 @@ module _ (s : State) (node rel g : ℕ) (row : RelRow) (rest : List ℕ) (most :
 
   on_head : IsOn groups head row
   on_head = inr (refl, in_group groups g node row.label row group refl end)
-
-  own_head : IsHeadOf groups node head
-  own_head = record { file = refl; row = record { id = g; label = row.label; owner = node }; group = group; owner = refl }
 
   same_row : (a b : RelRow) → Some a ≡ Some b → a ≡ b
   same_row a b e = cc

@@ -3,7 +3,6 @@ use Rattle.std.proofs.Common.{◌≡◌, ℕ, true, List, ◌∷◌, Err, refl, 
 use Rattle.rec_bytes.specs.declared.shape.Shape.{Shape}
 use Rattle.rec_bytes.specs.Format as format
 use Rattle.rec_bytes.specs.Space.{SameButReads, State}
-use Rattle.store_rules.specs.Chains.{In}
 use Rattle.store_rules.specs.Ends.{Regroups}
 use Rattle.store_rules.specs.Rules.{KeepsRules, is_filled}
 use Rattle.store_rules.specs.Views.{Records, rec_at}
@@ -18,25 +17,6 @@ handed A B Disk h = tt
 handed A B (Damaged damage) h = h
 
 -- ---- groups that may be empty
-
--- those of a longer list may be
-pub may_be : (s : Records) (shape : Shape) (most : ℕ) (few many : List ℕ) → ((g : ℕ) → In g few → In g many) → KeepsRules s shape most few → KeepsRules s shape most many
-may_be s shape most few many more well = record {
-  ranges = well.ranges;
-  split = well.split;
-  kept = well.kept;
-  linked = well.linked;
-  grouped = record {
-    owned = well.grouped.owned;
-    each = λ n d. let h = well.grouped.each n d in record { members = h.members; chain = h.chain; only = h.only; filled = λ g i. ⊎_elim (λ k. inl k) (λ k. inr (more g k)) (h.filled g i); all = h.all; once = h.once };
-  };
-  exact = well.exact;
-  properties = well.properties;
-  named = well.named;
-  defined = well.defined;
-  names = well.names;
-  degrees = well.degrees;
-}
 
 -- one that isn't empty needn't be named
 pub is_not : (s : Records) (shape : Shape) (most g : ℕ) (empty : List ℕ) → is_filled (rec_at s format.groups_file g) ≡ true → KeepsRules s shape most (g ∷ empty) → KeepsRules s shape most empty

@@ -62,9 +62,6 @@ length_names s node g first members (Damaged damage) told = by damage told
 group_reads : (s : State) (r node : ℕ) (row : GroupRow) → IsGroupAt s node row → IsGroupAt (record s { reads = r }) node row
 group_reads s r node row at = record { dense = at.dense; member = at.member; on = at.on; is = at.is }
 
-pub group_read : (s z : State) (node : ℕ) (row : GroupRow) → SameButReads s z → IsGroupAt s node row → IsGroupAt z node row
-group_read s z node row same at = subst (λ (q : State). IsGroupAt q node row) (sym same) (group_reads s z.reads node row at)
-
 pub can_read : (s z : State) (node : ℕ) (row : GroupRow) (most : ℕ) (empty : List ℕ) → SameButReads s z → CanRaise s node row most empty → CanRaise z node row most empty
 can_read s z node row most empty same can =
     subst (λ (q : State). CanRaise q node row most empty) (sym same) (record { keeps = can.keeps; group = group_reads s z.reads node row can.group })

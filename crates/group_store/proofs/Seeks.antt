@@ -15,7 +15,7 @@ use Rattle.store_rules.proofs.ViewLaws.{kind_below, kind_low}
 use Rattle.chain_edit.proofs.Walks.{walk_is}
 use Rattle.node_store.specs.declared.node_row.NodeRow.{NodeRow}
 use Rattle.node_store.specs.Loading as nodes
-use Rattle.node_store.proofs.Rows.{kind-row_at-None, kind-row_at-Some}
+use Rattle.node_store.proofs.Rows.{kind-row_at-Some}
 use Rattle.group_store.specs.declared.group_row.GroupRow.{GroupRow}
 use Rattle.group_store.specs.Finding.{IsFound, IsGroupFound, IsSought}
 use Rattle.group_store.specs.GroupChain.{IsDense, IsGroupChain, IsGroupList, IsGroupOf, LacksGroup, LacksType, next_group, type_of, up_to_type}
@@ -89,9 +89,6 @@ not_dense records node found is sparse dense =
   where
     test_not : (k : ℕ) → nat_eq k format.dense ≡ false → k ≡ format.dense → ⊥
     test_not k h e = grind (arith, nat_tests)
-
-pub none_not_dense : (records : Records) (node : ℕ) → None ≡ nodes.row_at records node → IsDense records node → ⊥
-none_not_dense records node is dense = let kind = kind-row_at-None records node (sym is) in omega arith
 
 pub first_is : (records : Records) (node : ℕ) (found : NodeRow) → Some found ≡ nodes.row_at records node → found.first ≡ first_link records node
 first_is records node found is = ap (λ (r : NodeRow). r.first) (kind-row_at-Some records node found (sym is)).1

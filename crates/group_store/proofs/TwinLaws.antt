@@ -14,7 +14,7 @@ use Rattle.store_rules.specs.Breaking.Breaks.{OwnerGroups}
 use Rattle.store_rules.specs.Chains.{In}
 use Rattle.store_rules.specs.Rules.{Head, IsOn}
 use Rattle.store_rules.specs.Views as views
-use Rattle.store_rules.specs.Views.{Records, RelRow, first_link, group_at, group_in, high, key_in, kind_at, rec_at, rel_at}
+use Rattle.store_rules.specs.Views.{Records, RelRow, first_link, group_at, group_in, key_in, kind_at, rec_at, rel_at}
 use Rattle.store_rules.proofs.ChainLaws.{walk_of_chain}
 use Rattle.store_rules.proofs.ChainRules.{chain_head, on_dense, on_walk, same_rel}
 use Rattle.store_rules.proofs.GroupPlaces.{on_group, one_place}
@@ -193,12 +193,6 @@ pub named_breaks : (s z : State) (head : Head) (node rel : ℕ) (row : RelRow) (
 named_breaks s z head node rel row damage named same live placed breaks (inl k) =
     subst (Breaks s.records s.shape) (sym k.0) (breaks (lone_head s.records head node rel row live placed (subst (λ (r : Records). IsLoneAt r head node) (same_records s z same) k.1)))
 named_breaks s z head node rel row damage named same live placed breaks (inr k) = twin_breaks s head node named placed.owns (twin_read s z head node named same k)
-
--- a fault of the groups at a head in a group
-pub groups_twin : (s : State) (head : Head) (node : ℕ) (fault : Fault) → head.key.file ≡ format.groups_file → IsGroupsFault s node fault → IsTwinFault s head node fault
-groups_twin s head node Memory file told = tt
-groups_twin s head node Disk file told = tt
-groups_twin s head node (Damaged damage) file told = record { group = file; broken = inl told }
 
 pub reads_more_groups : (s now end : State) (m n most : ℕ) → ReadsAtMost m s now → m + (n + group_mark s) ≤ most → ReadsAtMost (n + group_mark now) now end → ReadsAtMost most s end
 reads_more_groups s now end m n most one le more =

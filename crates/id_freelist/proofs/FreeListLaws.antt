@@ -21,7 +21,7 @@ use Rattle.store_rules.proofs.ChainLaws.{walk_stays}
 use Rattle.store_rules.proofs.MetaLaws.{free_fits, high_fits, live_fits, not_meta_key}
 use Rattle.id_freelist.specs.FreeLists.{IsFreeList, free_record}
 use Rattle.id_freelist.specs.Giving.{CanGive, HasGiven, given}
-use Rattle.id_freelist.specs.Taking.{HasTaken, free_taken, mark_taken}
+use Rattle.id_freelist.specs.Taking.{HasTaken, free_taken}
 
 -- the records with other numbers in a file's meta record
 abbrev meta_put : Records → ℕ → Meta → Records
@@ -39,23 +39,6 @@ module _ (records : Records) (file : ℕ) (m : Meta) (h : m.high < 2 ^ 32) (f : 
 
   put_walk : is_meta_file file ≡ true → (from : ℕ) (free : List ℕ) → IsWalk (next_free records file) from free → IsWalk (next_free (meta_put records file m) file) from free
   put_walk is from free walk = walk_stays (next_free records file) (next_free (meta_put records file m) file) from free (λ x i. ap (λ r. field 4 r format.free_next) (put_elsewhere (key_in file x) (not_meta_key file x file is))) walk
-
--- the mark is taken where none is free
-pub has_taken_mark : (s : State) (file : ℕ) (free : List ℕ) → is_meta_file file ≡ true → (meta_of s file).free ≡ format.nil → (meta_of s file).high < format.most_ids → (meta_of s file).live < format.most_ids
-    → IsFreeList s.records file free → HasTaken s.records (mark_taken s file).records file (meta_of s file).high free
-unfolding mark_taken
-has_taken_mark s file [] is none mark live list =
-    let m : Meta = record { high = (meta_of s file).high + 1; free = format.nil; live = (meta_of s file).live + 1 } in
-    let back = put_reads_back s.records file m (omega arith) (omega arith) (omega arith) in
-    record {
-      is = refl;
-      list = ap (λ (q : Meta). q.free) back;
-      mark = ap (λ (q : Meta). q.high) back;
-      live = ap (λ (q : Meta). q.live) back;
-      meta = put_is s.records file m (omega arith) (omega arith) (omega arith);
-      others = put_elsewhere s.records file m (omega arith) (omega arith) (omega arith);
-    }
-has_taken_mark s file (x ∷ later) is none mark live list = absurd (list.1 (sym list.0 ∙ none))
 
 -- the first free one is taken
 pub has_taken_free : (s : State) (file : ℕ) (free : List ℕ) → is_meta_file file ≡ true → (meta_of s file).free ≢ format.nil → (meta_of s file).live < format.most_ids
@@ -107,11 +90,6 @@ has_given s file id free is small can =
     }
 
 -- ---- the same, by the meta record that was read
-pub mark_by : (s new : State) (file : ℕ) (meta : Meta) (free : List ℕ) → meta ≡ meta_of s file → is_meta_file file ≡ true → meta.free ≡ format.nil → meta.high < format.most_ids → meta.live < format.most_ids → new ≡ mark_taken s file
-    → IsFreeList s.records file free → HasTaken s.records new.records file meta.high free
-mark_by s new file meta free read is none mark live now list =
-    let P : Meta → Type 0 = λ m. m.free ≡ format.nil → m.high < format.most_ids → m.live < format.most_ids → HasTaken s.records new.records file m.high free in
-    subst P (sym read) (λ n h l. subst (λ (t : State). HasTaken s.records t.records file (meta_of s file).high free) (sym now) (has_taken_mark s file free is n h l list)) none mark live
 
 pub free_by : (s new : State) (file : ℕ) (meta : Meta) (free : List ℕ) → meta ≡ meta_of s file → is_meta_file file ≡ true → meta.free ≢ format.nil → meta.live < format.most_ids → new ≡ free_taken s file
     → IsFreeList s.records file free → HasTaken s.records new.records file meta.free free

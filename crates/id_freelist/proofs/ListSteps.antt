@@ -7,7 +7,7 @@ use Rattle.rec_bytes.specs.declared.record.Rec.{Rec}
 use Rattle.rec_bytes.specs.declared.shape.Shape.{Shape}
 use Rattle.rec_bytes.specs.Format as format
 use Rattle.rec_bytes.specs.Meta as metas
-use Rattle.rec_bytes.specs.Meta.{IsLinkBelow, with_meta}
+use Rattle.rec_bytes.specs.Meta.{IsLinkBelow}
 use Rattle.rec_bytes.specs.Record.{field, with_field, zeros}
 use Rattle.rec_bytes.specs.RecordFiles.{is_meta_file, meta_key_of, room_of}
 use Rattle.rec_bytes.specs.Space.{SameButReads, State, after_get, after_put, after_set, meta_of}

@@ -6,7 +6,7 @@ use Rattle.std.specs.Cmp.Lexicographic.{pointwise, same_text}
 use Rattle.std.specs.Option.{option_map}
 use Rattle.std.specs.declared.alloc.Global.{Global}
 use Rattle.std.proofs.lemmas.Cmp.{nat_list_eq_equiv}
-use Rattle.std.proofs.lemmas.List.{length-map, map_push}
+use Rattle.std.proofs.lemmas.List.{map_push}
 use Rattle.std.proofs.lemmas.List.Quantifiers.{position-Some}
 use Rattle.std.proofs.lemmas.Map.Views.{list_any-from_Contains, Contains-from_any}
 use Rattle.std.proofs.lemmas.Option.{slice_get-map, slice_get_cases}
@@ -41,9 +41,6 @@ list_any-lacks names text lacks = by (list_any (pointwise nat_eq text) names) re
 
 pub lacks-has_name : (names : List (Vec ℕ Global)) (text : List ℕ) → has_name names text ≡ false → ¬ Contains (name_bytes names) text
 lacks-has_name names text e h = absurd (true≢false (sym (list_any-Contains (name_bytes names) text h) ∙ list_any-name_bytes names text ∙ e))
-
-pub length-name_bytes : (names : List (Vec ℕ Global)) → length (name_bytes names) ≡ length names
-length-name_bytes names = length-map names (λ (x : Vec ℕ Global). x.items)
 
 -- the number that the set finds is that of the text
 pub position-name_bytes : (names : List (Vec ℕ Global)) (text : List ℕ) (id : ℕ) → position (λ stored. pointwise nat_eq text stored.items) names ≡ Some id → id < length names → slice_get (name_bytes names) id ≡ Some text

@@ -1,23 +1,10 @@
 -- What several calls that read a space leave of it.
-use Rattle.std.proofs.Common.{◌≡◌, ℕ, ◌+◌, ◌<◌, ◌≤◌, Bool, true, false, nat_lt, if◌then◌else◌, List, length, Result, Option, None, Some, is_some, true≢false, refl, sym, ap, ◌∙◌, arith}
+use Rattle.std.proofs.Common.{◌≡◌, ℕ, ◌+◌, ◌<◌, ◌≤◌, Bool, true, false, nat_lt, if◌then◌else◌, List, length, Option, None, Some, is_some, true≢false, refl, sym, ap, ◌∙◌, arith}
 use Rattle.std.proofs.lemmas.Bool.Decides.{nat_tests}
-use Rattle.fault_count.specs.Cause.{Rose}
 use Rattle.rec_bytes.specs.Space.{State, after_get, after_gets}
-use Rattle.rec_bytes.specs.RowFault.{HasRowCause}
 use Rattle.rec_bytes.proofs.Spaces.{after_gets-zero, after_gets_more, records-after_gets}
 use Rattle.name_store.specs.Again.{after_compare}
-use Rattle.rec_bytes.specs.Fault.{HasFaultCause}
 use Rattle.name_store.specs.Loading.{ReadsAtMost}
-
-rose_earlier : (a b c : ℕ) → a ≤ b → Rose b c → Rose a c
-rose_earlier a b c le rose = omega arith
-
--- the cause of a fault since an earlier count
-pub fault_earlier : {T : Type 0} (a b c : ℕ) (result : Result T _) → a ≤ b → HasFaultCause b c result → HasFaultCause a c result
-fault_earlier a b c result le cause = record { later = let more = cause.later in omega arith; disk = λ e. rose_earlier a b c le (cause.disk e) }
-
-pub row_earlier : {T : Type 0} (a b c : ℕ) (result : Result T _) → a ≤ b → HasRowCause b c result → HasRowCause a c result
-row_earlier a b c result le cause = record { later = let more = cause.later in omega arith; disk = λ e. rose_earlier a b c le (cause.disk e) }
 
 -- no read
 pub reads_none : (most : ℕ) (old new : State) → new ≡ old → ReadsAtMost most old new

@@ -1,10 +1,10 @@
 -- What a row that is found, or isn't, says of the records.
-use Rattle.std.proofs.Common.{◌≡◌, ◌≢◌, ℕ, ◌<◌, Bool, true, false, cond, nat_eq, None, Some, refl, arith}
+use Rattle.std.proofs.Common.{◌≡◌, ◌≢◌, ℕ, Bool, true, false, cond, nat_eq, None, Some, refl, arith}
 use Rattle.std.proofs.lemmas.Bool.Decides.{nat_tests}
 use Rattle.rec_bytes.specs.Format as format
 use Rattle.rec_bytes.specs.Space.{State}
 use Rattle.store_rules.specs.Ranges.{AreInRange}
-use Rattle.store_rules.specs.Views.{Records, high, kind_at, kind_in, rec_at, row_if}
+use Rattle.store_rules.specs.Views.{Records, high, kind_at, rec_at, row_if}
 use Rattle.node_store.specs.declared.node_row.NodeRow.{NodeRow}
 use Rattle.node_store.specs.Loading.{IsReadable, row_at}
 use Rattle.node_store.specs.NodeRecord.{row_of}
@@ -31,11 +31,6 @@ kind-row_at-None records id e = none_if (kind_at records format.nodes_file id) (
 pub kind-row_at-Some : (records : Records) (id : ℕ) (row : NodeRow) → row_at records id ≡ Some row
     → (kind_at records format.nodes_file id ≢ 0) × (row ≡ row_of (rec_at records format.nodes_file id) id)
 kind-row_at-Some records id row e = some_if (kind_at records format.nodes_file id) (row_of (rec_at records format.nodes_file id) id) row e
-
--- a live identifier is below the mark
-pub kind_at-below : (records : Records) (file id : ℕ) → kind_at records file id ≢ 0 → id < high records file
-unfolding kind_in
-kind_at-below records file id live = grind (arith, nat_tests)
 
 -- where all records are in range, a load says of none that it is damaged
 pub IsReadable-AreInRange : (s : State) (id : ℕ) → AreInRange s.records s.shape → IsReadable s id

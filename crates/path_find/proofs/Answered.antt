@@ -1,10 +1,9 @@
 -- What a search of a store's rows says of its graph.
-use Rattle.std.proofs.Common.{◌≡◌, ℕ, Bool, true, List, Err, IfSome, Contains, sym, subst, ◌∙◌}
+use Rattle.std.proofs.Common.{◌≡◌, ℕ, Bool, true, List, Err, Contains, sym, subst, ◌∙◌}
 use Rattle.rec_bytes.specs.Space.{SameButReads, State}
 use Rattle.rec_bytes.specs.declared.row_fault.RowFault.{RowFault}
 use Rattle.rec_bytes.specs.declared.row_fault.RowFault.TheVariants as row
 use Rattle.rec_bytes.specs.Fault as faults
-use Rattle.rec_bytes.specs.Fault.{damage_of}
 use Rattle.rec_bytes.specs.declared.fault.Fault.{Fault}
 use Rattle.rec_bytes.specs.declared.fault.Fault.TheVariants.{Memory, Disk, Damaged}
 use Rattle.node_store.specs.Loading.{IsNodeFault}

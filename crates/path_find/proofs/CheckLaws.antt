@@ -128,10 +128,6 @@ module _ (near : Adjacency) where
       let whole : length (node ∷ later) - 1 ≡ length later = omega arith in
       (first, leads_from later node to (λ k lt. let more : k + 1 ≡ suc k = omega arith in subst (λ n. IsStep near (get_or (node ∷ later) k 0) (get_or (node ∷ later) n 0)) more (steps k (omega arith))) (subst (λ n. get_or (node ∷ later) n 0 ≡ to) whole last) there)
 
-  pub first-from_walk : (from to : ℕ) (walk : List ℕ) → 0 < length walk → IsWalkOrNone near from to walk → get_or walk 0 0 ≡ from
-  first-from_walk from to [] some is = absurd (omega arith)
-  first-from_walk from to (node ∷ later) some is = is.0
-
   pub last-from_walk : (from to : ℕ) (walk : List ℕ) → 0 < length walk → IsWalkOrNone near from to walk → (get_or walk (length walk - 1) 0 ≡ to) × (near.is_node to ≡ true)
   last-from_walk from to [] some is = absurd (omega arith)
   last-from_walk from to (node ∷ later) some is = let last = last_in later node to is.1 in let whole : length later ≡ length (node ∷ later) - 1 = omega arith in (subst (λ n. get_or (node ∷ later) n 0 ≡ to) whole last.0, last.1)
@@ -139,11 +135,6 @@ module _ (near : Adjacency) where
   pub step-from_walk : (from to : ℕ) (walk : List ℕ) → IsWalkOrNone near from to walk → (k : ℕ) → k < length walk - 1 → IsStep near (get_or walk k 0) (get_or walk (k + 1) 0)
   step-from_walk from to [] is k lt = absurd (omega arith)
   step-from_walk from to (node ∷ later) is k lt = let more : suc k ≡ k + 1 = omega arith in subst (λ n. IsStep near (get_or (node ∷ later) k 0) (get_or (node ∷ later) n 0)) more (step_in later node to is.1 k (omega arith))
-
--- no nodes pass
-pub walk-from_none : (near : Adjacency) (from to : ℕ) (walk : List ℕ) → length walk ≡ 0 → IsWalkOrNone near from to walk
-walk-from_none near from to [] none = tt
-walk-from_none near from to (node ∷ later) none = absurd (omega arith)
 
 -- ---- decisions
 

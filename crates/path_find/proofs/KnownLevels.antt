@@ -7,25 +7,15 @@ use Rattle.std.proofs.lemmas.List.{get_or-map, get_or-take, length-map, length-t
 use Rattle.std.proofs.lemmas.List.Elements.{at_from_Contains}
 use Rattle.std.proofs.lemmas.List.Folds.{list_any_at}
 use Rattle.indexmap.proofs.CallerLemmas.{Contains-list_any}
-use Rattle.store_rules.proofs.Members.{contains_image, image_contains}
 use borrow.Author.Tests.{eqb-true}
 use Rattle.path_find.specs.Checking.{AreDistinct}
-use Rattle.plain_graph.specs.Levels.{HasLevel, level_of}
+use Rattle.plain_graph.specs.Levels.{level_of}
 use Rattle.path_find.specs.Reading.{node_of}
 use Rattle.plain_graph.specs.declared.node_level.NodeLevel.{NodeLevel}
 use Rattle.path_find.proofs.Lists.{places}
 
 clash : true ≡ false → ⊥
 clash e = cc
-
--- a node among the nodes of levels has one of them
-pub level_there : (levels : List NodeLevel) (node : ℕ) → Contains (map node_of levels) node → HasLevel levels node
-level_there levels node has =
-    let image = contains_image node_of levels node has in
-    (image.0.level, subst (λ n. Contains levels (level_of n image.0.level)) (sym image.2) image.1)
-
-pub node_there : (levels : List NodeLevel) (node : ℕ) → HasLevel levels node → Contains (map node_of levels) node
-node_there levels node has = image_contains node_of levels (level_of node has.0) has.1
 
 -- a node has one level
 pub one_level : (levels : List NodeLevel) → AreDistinct levels → (node a b : ℕ) → Contains levels (level_of node a) → Contains levels (level_of node b) → a ≡ b
@@ -68,10 +58,3 @@ module _ (levels : List NodeLevel) (nodes : List ℕ) (count : ℕ) (some : AreS
       let long = nodes_long in
       let lt = there.1 in
       distinct there.0 count row (omega (arith, long, lt)) short (sym (node_at_place there.0 row (omega (arith, long, lt))) ∙ there.2 0 ∙ sym (ap node_of (at row)))
-
-take_whole : {X : Type 0} (xs : List X) → take (length xs) xs ≡ xs
-take_whole [] = refl
-take_whole (x ∷ xs) = ap (λ (list : List _). x ∷ list) (take_whole xs)
-
-pub places_all : (levels : List NodeLevel) (nodes : List ℕ) → AreSomePlaces levels nodes (length levels) → nodes ≡ map node_of levels
-places_all levels nodes some = some.are ∙ ap (map node_of) (take_whole levels)

@@ -1,15 +1,14 @@
 -- The levels of the rows of a search, in their order and by ascending identifier.
-use Rattle.std.proofs.Common.{◌≡◌, ◌≢◌, ◌<◌, ℕ, ◌+◌, nat_eq, Bool, false, List, [], ◌∷◌, ◌++◌, length, get_or, Contains, refl, sym, ap, subst, ◌∙◌, arith, inl, inr}
+use Rattle.std.proofs.Common.{◌≡◌, ◌≢◌, ◌<◌, ℕ, nat_eq, Bool, false, List, length, get_or, Contains, sym, ap, subst, ◌∙◌, arith}
 use Rattle.std.specs.List.Sorted.{IsNonDecreasingBy, IsPermutation}
-use Rattle.std.proofs.lemmas.Bool.{cases_lt, eqb-false}
+use Rattle.std.proofs.lemmas.Bool.{eqb-false}
 use Rattle.std.proofs.lemmas.Bool.Decides.{nat_tests}
-use Rattle.std.proofs.lemmas.List.{get_or_append_left, get_or_push, length_push}
 use Rattle.std.proofs.lemmas.List.Elements.{Contains-get_or}
 use Rattle.std.proofs.lemmas.List.Sorted.{Contains-permutation, IsPermutation-sym}
 use Rattle.std.proofs.lemmas.Map.Keys.{IsDistinct-IsPermutation, IsDistinct-from_apart, apart_from_distinct}
 use Rattle.plain_graph.specs.Levels.{level_of}
 use Rattle.path_find.specs.Reading.{AreLevelsInOrder, AreLevelsOf, IsSomeTree, node_of}
-use Rattle.path_find.specs.Tree.{Rows, level_at, node_at, row_count}
+use Rattle.path_find.specs.Tree.{Rows, row_count}
 use Rattle.plain_graph.specs.declared.node_level.NodeLevel.{NodeLevel}
 
 -- the two have one node
@@ -24,18 +23,6 @@ apart : (a b : ℕ) → a ≢ b → nat_eq a b ≡ false
 apart a b h = grind (arith, nat_tests, h)
 
 module _ (rows : Rows) where
-  pub in_order-more : (i : ℕ) (levels : List NodeLevel) (level : NodeLevel) → AreLevelsInOrder rows i levels → level ≡ level_of (node_at rows i) (level_at rows i) → AreLevelsInOrder rows (i + 1) (levels ++ level ∷ [])
-  in_order-more i levels level old is = record {
-    long = let long = old.long in let more = length_push levels level in omega (arith, long, more);
-    each = λ j d lt. let long = old.long in elim (cases_lt j i) [
-      | inl less ↦ get_or_append_left levels (level ∷ []) d j (omega (arith, long)) ∙ old.each j d less
-      | inr ge ↦ let here : j ≡ i = omega arith in get_or_push levels level d j (long ∙ sym here) ∙ is ∙ ap (λ k. level_of (node_at rows k) (level_at rows k)) (sym here)
-    ];
-  }
-
-  pub in_order-none : AreLevelsInOrder rows 0 []
-  in_order-none = record { long = refl; each = λ i d lt. absurd (omega arith) }
-
   module _ (tree : IsSomeTree rows) (levels sorted : List NodeLevel) (are : AreLevelsInOrder rows (row_count rows) levels) (moved : IsPermutation levels sorted) (up : IsNonDecreasingBy node_of sorted) where
     differs : (i j : ℕ) (d : NodeLevel) → i < j → j < length levels → same_node (get_or levels i d) (get_or levels j d) ≡ false
     unfolding same_node

@@ -25,9 +25,6 @@ module _ (from : ℕ) where
     early = λ i pos low. absurd (omega arith);
   }
 
-  pub narrow_begin : (to : ℕ) → IsNarrow (one_row from) to
-  narrow_begin to target i low is pos short = absurd (omega arith)
-
   pub spans_begin : (near : Adjacency) → near.is_node from ≡ true → Spans near (one_row from) 0
   spans_begin near is = record {
     nodes = λ i low. by i low;

@@ -3,7 +3,6 @@ use Rattle.std.proofs.Common.{◌≡◌, ◌<◌, ℕ, List, [], ◌∷◌, ◌+
 use Rattle.std.proofs.lemmas.Bool.{cases_lt}
 use Rattle.std.proofs.lemmas.List.{reverse-append}
 use Rattle.path_find.specs.Tree.{IsTree, Rows, level_at, node_at, parent_at, row_count, way_to}
-use Rattle.path_find.proofs.TreeWalks.{row_first}
 
 module _ (rows : Rows) (done : ℕ) (tree : IsTree rows done) (at : ℕ) (low : at < row_count rows) where
   pub pos_at : 0 < level_at rows at → 0 < at
@@ -22,10 +21,3 @@ module _ (rows : Rows) (done : ℕ) (tree : IsTree rows done) (at : ℕ) (low : 
       ∙ ap (λ l. way_to rows l at ++ reverse walk) up
       ∙ append_assoc before (node_at rows at ∷ []) (reverse walk)
       ∙ ap (λ rest. before ++ rest) (sym (reverse-append walk (node_at rows at ∷ [])) ∙ ap reverse (sym more))
-
-  pub way_whole : (way walk walk' : List ℕ) → level_at rows at ≡ 0 → way ≡ way_to rows (level_at rows at) at ++ reverse walk → walk' ≡ walk ++ node_at rows at ∷ []
-      → reverse walk' ≡ node_at rows 0 ∷ way
-  way_whole way walk walk' none is more =
-      let first = row_first rows done tree at low none in
-      let rest : way ≡ reverse walk = is ∙ ap (λ l. way_to rows l at ++ reverse walk) none in
-      ap reverse more ∙ reverse-append walk (node_at rows at ∷ []) ∙ (λ i. node_at rows (first i) ∷ sym rest i)

@@ -1,12 +1,9 @@
 -- The properties of elements, by the heads of their lists.
-use Rattle.std.proofs.Common.{◌≡◌, ◌⊎◌, ℕ, ◌<◌, Bool, true, false, cond, not, Option, Some, None, List, nat_eq, sym, ap, subst, inl, inr, ⊎_elim, arith, refl}
+use Rattle.std.proofs.Common.{◌≡◌, ◌⊎◌, ℕ, ◌<◌, Bool, true, false, List, sym, subst, inl, inr, ⊎_elim, arith}
 use Rattle.std.specs.Bool.{Decides}
-use Rattle.std.proofs.lemmas.Bool.{cases_Bool, eqb-true, or_cases, true≢false}
 use Rattle.rec_bytes.specs.Format as format
-use Rattle.store_rules.specs.Rules as rules
-use Rattle.store_rules.specs.Views.{NodeRow, Records, RelRow, high, is_live, kind_at, node_at, node_in, rec_at, rel_at, rel_in}
+use Rattle.store_rules.specs.Views.{Records, high, is_live}
 use Rattle.store_rules.proofs.ElementOwners.{owner_of, owns_is}
-use Rattle.store_rules.proofs.ViewLaws.{row_some}
 use Rattle.store_check.specs.declared.elements.ElementHeads.{ElementHeads}
 use Rattle.store_rules.specs.PropertyChange.{property_from}
 use Rattle.store_rules.specs.Breaking.{ElementKeeps, HasProperty, IsPropertyList, Owns, is_element_file, label_of}

@@ -1,8 +1,8 @@
 -- The files that have meta records, and the records of the meta file, as the lists have them.
-use Rattle.std.proofs.Common.{◌≡◌, ◌≢◌, ℕ, zero, suc, ◌+◌, ◌<◌, ◌≤◌, Bool, true, false, ◌&&◌, ◌||◌, nat_eq, cond, List, length, take, get_or, ap, sym, subst, ◌∙◌, ⊎_elim, refl, arith}
+use Rattle.std.proofs.Common.{◌≡◌, ◌≢◌, ℕ, ◌+◌, ◌<◌, ◌≤◌, Bool, true, false, ◌&&◌, ◌||◌, nat_eq, cond, List, length, take, get_or, ap, sym, subst, ◌∙◌, ⊎_elim, refl, arith}
 use Rattle.std.specs.Prelude.{map}
 use Rattle.std.specs.List.{list_any}
-use Rattle.std.proofs.lemmas.Bool.{cases_lt, true≢false}
+use Rattle.std.proofs.lemmas.Bool.{true≢false}
 use Rattle.std.proofs.lemmas.Bool.Decides.{nat_tests}
 use Rattle.std.proofs.lemmas.List.{take_all}
 use Rattle.std.proofs.lemmas.List.Folds.{list_any_at, list_any_more}
@@ -15,11 +15,10 @@ use Rattle.rec_bytes.specs.Format as format
 use Rattle.rec_bytes.specs.Meta.{IsMetaInRange}
 use Rattle.rec_bytes.specs.MetaForm.{IsMetaRight, IsRightAs, form_of}
 use Rattle.rec_bytes.specs.Record.{zeros_from}
-use Rattle.rec_bytes.specs.RecordFiles.{Rooms, is_meta_file, meta_files, meta_key_of, meta_rooms, rooms_of}
+use Rattle.rec_bytes.specs.RecordFiles.{Rooms, is_meta_file, meta_files, meta_rooms, rooms_of}
 use Rattle.rec_bytes.proofs.RecordFiles.{is_among-files, passes}
-use Rattle.store_rules.specs.Ranges.{AreInRange, is_reused}
-use Rattle.store_rules.specs.Views.{Records}
-use Rattle.store_rules.proofs.NumberLaws.{and_parts, eq_false, eq_true, nat_cases}
+use Rattle.store_rules.specs.Ranges.{is_reused}
+use Rattle.store_rules.proofs.NumberLaws.{eq_false, eq_true, nat_cases}
 
 -- ---- a walk of the list
 

@@ -1,14 +1,11 @@
 -- The fifth rule of the store, and its sentences.
-use Rattle.std.proofs.Common.{◌≡◌, ℕ, ◌<◌, Bool, true, false, cond, ◌&&◌, Option, Some, None, List, [], nat_eq, sym, ◌∙◌, subst, refl}
-use Rattle.std.proofs.lemmas.Bool.{eqb-true}
+use Rattle.std.proofs.Common.{◌≡◌, ℕ, ◌<◌, Option, Some, None, List, [], sym, ◌∙◌, subst, refl}
 use Rattle.rec_bytes.specs.Format as format
 use Rattle.store_rules.specs.Chains.{In, IsWalk}
 use Rattle.store_rules.specs.Rules as rules
 use Rattle.store_rules.specs.Views.{NodeRow, Records, RelRow, high, is_live, kind_at, node_at, node_in, rec_at, rel_at, rel_in}
-use Rattle.store_rules.proofs.NumberLaws.{eq_true}
 use Rattle.store_rules.proofs.ViewLaws.{live_true, some_row}
-use Rattle.store_rules.proofs.PropertyWalks.{walk_is}
-use Rattle.store_rules.specs.Breaking.{AreProperties, HasBlock, HasProperty, IsBlockHeldOnce, IsBlockList, IsHeldOnce, IsLong, IsPropertyList, Owns, TextKeeps, first_block, next_block, next_property}
+use Rattle.store_rules.specs.Breaking.{AreProperties, HasBlock, HasProperty, IsBlockList, IsLong, IsPropertyList, first_block, next_block, next_property}
 use Rattle.store_check.specs.Holding.{AreDefinitionsRight, AreElementsRight, AreTextsRight}
 use Rattle.store_check.proofs.BlockLaws.{long_low}
 use Rattle.store_check.proofs.DefinitionLaws.{are_defined}

@@ -1,12 +1,11 @@
 -- Names that a load finds wrong.
-use Rattle.std.proofs.Common.{◌≡◌, ℕ, zero, suc, ◌<◌, Some, None, sym, ◌∙◌, arith, refl}
+use Rattle.std.proofs.Common.{◌≡◌, ℕ, zero, suc, Some, None, sym, ◌∙◌, arith, refl}
 use Rattle.rec_bytes.specs.declared.damage.Damage.{Damage}
 use Rattle.rec_bytes.specs.declared.shape.Shape.{Shape}
 use Rattle.rec_bytes.specs.Format as format
 use Rattle.rec_bytes.specs.Space.{State, after_gets}
 use Rattle.store_rules.specs.Ranges as ranges
-use Rattle.store_rules.specs.Rules as rules
-use Rattle.store_rules.specs.Views.{Records, high, rec_at}
+use Rattle.store_rules.specs.Views.{Records, high}
 use Rattle.name_store.specs.Loading.{IsNameDamage}
 use Rattle.name_store.specs.Loading.IsNameDamage.{HighMark, SameText, WrongForm, WrongText}
 use Rattle.store_rules.specs.Breaking.{NameKeeps, damage}
@@ -26,12 +25,7 @@ name_breaks records shape d keeps (WrongText x lt form bad) = breaks_by records 
 name_breaks records shape d keeps (SameText x earlier lt form below same) =
     breaks_by records shape 6 _ (damage format.names_file x 6) refl refl (WrongName x lt (λ (k : NameKeeps records x). let e = k.alone earlier (omega arith) same in absurd (omega arith)))
 
--- reads leave the shape and what was written
-pub shape-after_gets : (n : ℕ) (s : State) → (after_gets n s).shape ≡ s.shape
-unfolding after_gets
-shape-after_gets zero s = refl
-shape-after_gets (suc n) s = shape-after_gets n s
-
+-- reads leave what was written
 pub written-after_gets : (n : ℕ) (s : State) → (after_gets n s).written ≡ s.written
 unfolding after_gets
 written-after_gets zero s = refl

@@ -1,7 +1,6 @@
-use Rattle.std.proofs.Common.{◌≡◌, ◌-◌, ◌+◌, ◌<◌, ℕ, Bool, Err, false, true, List, ◌∷◌, ◌++◌, drop, get_or, length, sym, ap, ◌∙◌, subst, arith}
+use Rattle.std.proofs.Common.{◌≡◌, ◌-◌, ◌+◌, ◌<◌, ℕ, Bool, false, true, List, ◌∷◌, ◌++◌, drop, get_or, length, sym, ap, ◌∙◌, subst, arith}
 use Rattle.std.specs.List.{list_all}
 use Rattle.std.proofs.lemmas.List.{drop_all, drop_more, get_or-map, length-append, length-map}
-use Rattle.std.proofs.lemmas.Bool.{true≢false}
 use Rattle.rec_bytes.specs.declared.meta.Meta.{Meta}
 use Rattle.rec_bytes.specs.Space.{State, after_gets}
 use Rattle.store_rules.specs.Breaking.{Breaks}
@@ -9,13 +8,12 @@ use Rattle.rec_bytes.proofs.Spaces.{after_gets-zero}
 use Rattle.rel_store.specs.declared.edge_row.EdgeRow.{EdgeRow}
 use Rattle.rel_store.specs.Loading.{rel_mark}
 use Rattle.chain_edit.specs.Walking.{IsSoundWalk, ReadsAtMost}
-use Rattle.chain_edit.proofs.Walks.{mark_then}
 use Rattle.expand.specs.declared.first_links.FirstLink.{FirstLink}
 use Rattle.expand.specs.Expanding.{Blames}
-use Rattle.expand.specs.FirstLinks.{belongs, have_twins, numbers_of}
+use Rattle.expand.specs.FirstLinks.{belongs, numbers_of}
 use Rattle.expand.specs.Walking.{AreSoundWalks, AreWalks}
 use Rattle.expand.proofs.BrokenChains.{more_stood, no_link, none_stood, stray_breaks, walk_breaks}
-use Rattle.expand.proofs.ChainWalks.{AreLeft, HaveMet, Rows, all_met, chain_left, chain_met, few_met, few_more, mark_bounds, none_met, reads_more, rest_left, room_then}
+use Rattle.expand.proofs.ChainWalks.{AreLeft, HaveMet, all_met, chain_left, chain_met, few_met, few_more, mark_bounds, none_met, reads_more, rest_left}
 use Rattle.group_store.proofs.GroupWalks.{reads_none}
 use Rattle.rec_bytes.proofs.Causes.{never_ok, ok_cause}
 use Rattle.chain_edit.proofs.Causes.{same_has}

@@ -12,7 +12,7 @@ use Rattle.plain_graph.specs.Graph.{has_node}
 use Rattle.expand.specs.Expanding.{graph_in}
 use Rattle.path_find.proofs.Answered.{answered, closed_graph, ends_there, node_fault, search_fault, search_tells}
 use Rattle.path_find.proofs.Certified.{certified_answer, shortest_or_none}
-use Rattle.path_find.proofs.OnlyReads.{is_read-on, same-read, store-read}
+use Rattle.path_find.proofs.OnlyReads.{is_read-on, same-read}
 use Rattle.chain_edit.proofs.Causes.{same_has}
 use Rattle.expand.proofs.Causes.{expand_cause_passed, expand_memory_cause, row_cause_passed}
 use Rattle.path_find.proofs.Causes.{later_on}
