@@ -11,20 +11,7 @@ use Rattle.rec_bytes.specs.Shape.{is_allowed}
 use Rattle.follower.specs.Shipment.{BeginsShipment, IsNoShipment, IsShipment, StopsInHead, count_of, key_at, writes_in}
 use Rattle.follower.specs.Slot.{BeginsKey, MayStand, StopsInRecord, keys_left}
 use Rattle.follower.proofs.Completing.{are_bytes-append, are_bytes-little, are_bytes-zero_bytes, ascend_left, begins_by, length-zero_bytes, zero_bytes}
-use Rattle.follower.proofs.Reading.{
-  Decides,
-  SharesPrefix,
-  decided_next,
-  decides_first,
-  decides_more,
-  shares_less,
-  shares_self,
-  shares_take,
-  is_shipment,
-  length-writes_in,
-  little_from-shares,
-  little_from-parts,
-}
+use Rattle.follower.proofs.Reading.{Decides, SharesPrefix, decided_next, decides_first, decides_more, shares_less, shares_self, shares_take, length-writes_in, little_from-shares, little_from-parts}
 use Rattle.follower.proofs.RoundTrip.{little_from-behind}
 use Rattle.follower.proofs.Slots.{stands_small}
 
@@ -36,9 +23,6 @@ pub record HasRecords (shape : Shape) (bytes : List ℕ) (last : Option Key) (in
   pub decides : (longer : List ℕ) → SharesPrefix bytes longer (10 + 69 * index) → Decides shape longer last index
   pub whole : 10 + 69 * index ≤ length bytes
   pub left : count_of bytes - index ≤ keys_left shape last
-
-pub has_none : (shape : Shape) (bytes : List ℕ) → 10 ≤ length bytes → count_of bytes ≤ 2047 → HasRecords shape bytes None 0
-has_none shape bytes whole few = record { decides = λ longer shares. decides_first shape longer; whole = omega arith; left = omega arith }
 
 count-shares : (bytes longer : List ℕ) (n : ℕ) → 10 ≤ n → SharesPrefix bytes longer n → count_of longer ≡ count_of bytes
 count-shares bytes longer n le shares = little_from-shares bytes longer 2 8 n shares (omega arith)
@@ -58,10 +42,6 @@ has_one_more shape bytes last index more key counts is stands long has = record 
   whole = omega (arith, long);
   left = let left = stands.left in omega (arith, left, counts);
 }
-
-pub has_all : (shape : Shape) (bytes : List ℕ) (last : Option Key) (index : ℕ) → count_of bytes ≤ 2047 → index ≡ count_of bytes → length bytes ≡ 10 + 69 * index → HasRecords shape bytes last index → IsShipment shape bytes
-has_all shape bytes last index few all long has =
-    is_shipment shape bytes last index few all (omega (arith, all, long)) (has.decides bytes (shares_self bytes (10 + 69 * index) has.whole))
 
 -- ---- what is bad
 

@@ -96,9 +96,6 @@ free_by file id other =
     (λ e. let apart = other e in let zero_not = apart.0 in let seven_not = apart.1 in grind (arith, nat_tests))
     (λ gt. grind (arith, nat_tests))
 
-free_not : (file id : ℕ) → is_kept_back (record { file = file; id = id }) ≡ false → file ≡ 0 → (id ≢ 0) × (id ≢ 7)
-free_not file id free e = (λ z. grind (arith, nat_tests), λ s. grind (arith, nat_tests))
-
 -- ---- the keys that come after a key
 
 pub keys_in-below : (shape : Shape) (file : ℕ) (key : Key) → key.file < file → keys_in_after shape file key ≡ room_of shape file

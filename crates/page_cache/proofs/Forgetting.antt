@@ -19,9 +19,6 @@ pub record HasForgotten (pairs : Pairs) (i : ℕ) (start now : Pages) : Type 0 w
   pub apart : (key : Key) (bytes : List ℕ) → Contains now.entries (page_of key, bytes) → find_pair pairs key ≡ find_pair (drop i pairs) key
   pub left : without_pages (drop i pairs) now ≡ without_pages pairs start
 
-pub forgotten_none : (pairs : Pairs) (start : Pages) → HasForgotten pairs 0 start start
-forgotten_none pairs start = record { within = λ entry i. i; apart = λ key bytes i. refl; left = refl }
-
 -- the pairs from a place on begin with the one at it
 drop_at : (ps : Pairs) (i : ℕ) (write : Key × Rec) → slice_get ps i ≡ Some write → drop i ps ≡ write ∷ drop (suc i) ps
 drop_at [] i write is = absurd (false≢true (ap is_some is))
@@ -43,16 +40,6 @@ forgotten_more pairs i write start now next is out gone before =
       left = ap (λ n. without_pages (drop n pairs) next) more ∙ ap (without_pages (drop (suc i) pairs)) out
           ∙ sym (ap (λ (ps : Pairs). without_pages ps now) (drop_at pairs i write is)) ∙ before.left;
     }
-
--- after the last one
-drop_all : (ps : Pairs) (i : ℕ) → length ps ≤ i → drop i ps ≡ []
-drop_all [] zero end = refl
-drop_all [] (suc i) end = refl
-drop_all (pair ∷ rest) zero end = absurd (omega (arith, end))
-drop_all (pair ∷ rest) (suc i) end = drop_all rest i (omega (arith, end))
-
-pub forgotten_pages : (pairs : Pairs) (i : ℕ) (start now : Pages) → length pairs ≤ i → HasForgotten pairs i start now → now ≡ without_pages pairs start
-forgotten_pages pairs i start now end all = sym (ap (λ (ps : Pairs). without_pages ps now) (drop_all pairs i end)) ∙ all.left
 
 -- The pages that are left have none of the records, so they agree with a content that has others there.
 pub forgotten_agrees : (pairs : Pairs) (i : ℕ) (start now : Pages) (old new : Files) → length pairs ≤ i → HasForgotten pairs i start now → KeepsOthers pairs old new → Agrees old start → Agrees new now

@@ -3,7 +3,7 @@ use Rattle.std.proofs.Common.{◌≡◌, ◌∙◌, ap, sym, inl, inr, ⊎_elim,
 use mathlib.Core.Bool.{false≢true}
 use Rattle.std.specs.Option.{option_or}
 use Rattle.disk_model.specs.Contents.{Files, Same}
-use Rattle.disk_model.specs.Disk.{NoMore, Settled}
+use Rattle.disk_model.specs.Disk.{Settled}
 use Rattle.disk_model.specs.Spans.{IsAllSettled}
 use Rattle.disk_model.specs.declared.disk.Disk.{Ghosts}
 use Rattle.rec_bytes.specs.declared.key.Key.{Key}
@@ -20,7 +20,7 @@ use Rattle.redo_log.specs.Resetting.{HasEntriesOrNone, IsReset, SameButGate}
 use Rattle.redo_log.proofs.Appends.{HasEntries-read}
 use Rattle.record_file.specs.Records.{IsTornInRecords, SameButRecords, record_at}
 use Rattle.record_file.specs.Redone.{AreAlike, AreLogged, IsLogged, Redoes, last_of}
-use Rattle.record_file.proofs.Records.{record_at-kept, record_at-log, record_at-settled}
+use Rattle.record_file.proofs.Records.{record_at-log, record_at-settled}
 use Rattle.record_file.proofs.Written.{SameButRecords-same}
 
 -- The log of the content has these entries, and they make this space.
@@ -211,15 +211,3 @@ space-merged old new changed own merged tail finds same = λ i key. at key i
         ap (λ (o : Option Rec). unwrap_or o (record_at new key)) (finds key)
         ∙ unwrap_or-option_or (find_pair own key) (find_pair changed key) (record_at new key)
         ∙ ap (λ (r : Rec). unwrap_or (find_pair own key) (unwrap_or (find_pair changed key) r)) (record_at-log key tail (entry_bytes (length own) + 1) old new same)
-
--- reads leave both
-pub IsLogged-kept : (old new : Files) (changed : Pairs) (tail : ℕ) → IsLogged old changed tail → Same old new → IsLogged new changed tail
-IsLogged-kept old new changed tail is same = record { entries = is.entries; log = HasEntries-read is.entries tail old new is.log (same log_file); changes = is.changes }
-
-pub AreAlike-kept : (old new : Files) (changed : Pairs) (images now : Files → Type 0) → AreAlike old changed images → Same old new → NoMore images now → AreAlike new changed now
-AreAlike-kept old new changed images now alike same fewer image left =
-    let was = alike image (fewer image left) in
-    record {
-      log = λ place. was.log place ∙ sym (same log_file place);
-      others = λ key none. was.others key none ∙ sym (record_at-kept key old new same);
-    }

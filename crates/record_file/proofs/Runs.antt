@@ -13,7 +13,7 @@ use Rattle.rec_bytes.specs.Format.{log_file}
 use Rattle.rec_bytes.specs.Key.{key_eq}
 use Rattle.rec_bytes.specs.Pairs.{FindsPut, Pairs, find_pair}
 use Rattle.rec_bytes.specs.RecordFiles.{is_record_file}
-use Rattle.rec_bytes.specs.Space.{laid_over, put}
+use Rattle.rec_bytes.specs.Space.{laid_over}
 use Rattle.rec_bytes.proofs.KeyLaws.{key_eq-other, key_eq-same}
 use Rattle.rec_bytes.proofs.RecordFiles.{is_record_file-not_log}
 use Rattle.record_file.specs.Records.{SameButRecords, record_at}
@@ -154,14 +154,6 @@ FindsPut-run first n at size bytes own key rec start room is whole behind =
     ∙ ap (λ (k : Key). run_pairs first bytes n ++ (k, rec) ∷ []) (sym behind) in
     let absent : find_pair (run_pairs first bytes n) key ≡ None = run_none first bytes n key (λ _ _ end. omega (arith, end, ap (λ (k : Key). k.id) behind)) in
     subst (λ (ps : Pairs). FindsPut (run_pairs first bytes n) ps key rec) (sym now) (FindsPut-append (run_pairs first bytes n) key rec absent)
-
--- one record more over others
-pub laid_over-put : (records : Key → Rec) (old new : Pairs) (key : Key) (rec : Rec) → FindsPut old new key rec → laid_over records new ≡ put (laid_over records old) key rec
-laid_over-put records old new key rec finds = λ i q. (ap (λ (o : Option Rec). unwrap_or o (records q)) (finds q) ∙ pick (key_eq q key) (find_pair old q) (records q)) i
-  where
-    pick : (t : Bool) (o : Option Rec) (below : Rec) → unwrap_or (cond t (Some rec) o) below ≡ cond t rec (unwrap_or o below)
-    pick true o below = refl
-    pick false o below = refl
 
 -- a key that is put next behind a run: the run has these pairs, and the key stands behind them
 pub record IsReady (first : Key) (bytes : List ℕ) (n : ℕ) (key : Key) (pairs : Pairs) : Type 0 where

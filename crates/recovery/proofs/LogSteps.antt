@@ -10,7 +10,7 @@ use Rattle.rec_bytes.specs.declared.key.Key.{Key}
 use Rattle.rec_bytes.specs.declared.record.Rec.{Rec}
 use Rattle.rec_bytes.specs.Pairs.{Pairs, find_pair}
 use Rattle.rec_bytes.specs.Space.{laid_over}
-use Rattle.redo_log.specs.Entries.{HasEntries, HasEntriesFrom, IsEntry, count_at, entry_at, entry_bytes}
+use Rattle.redo_log.specs.Entries.{HasEntriesFrom, IsEntry, count_at, entry_at, entry_bytes}
 use Rattle.redo_log.specs.Reading.{IsPieceOf, Piece}
 use Rattle.redo_log.specs.Redo.{redone}
 use Rattle.redo_log.proofs.Appends.{HasEntries-read}
@@ -31,9 +31,6 @@ pub record IsRedoneTo (entries : List Pairs) (tail : ℕ) (first now : Files) (p
   pub kept : IsPieceOf now piece
   pub made : record_at now ≡ redone (record_at first) done
   pub same : SameButLogged entries first now
-
-pub SameButLogged-none : (entries : List Pairs) (content : Files) → SameButLogged entries content content
-SameButLogged-none entries content = record { log = λ place. refl; others = λ key none. refl }
 
 pub SameButLogged-then : (entries : List Pairs) (old middle new : Files) → SameButLogged entries old middle → SameButLogged entries middle new → SameButLogged entries old new
 SameButLogged-then entries old middle new before after = record {
@@ -72,10 +69,6 @@ HasEntriesFrom-read (entry ∷ later) place tail old new has same = (
   entry_at-same place old new (λ p from end. same p) ∙ has.1,
   HasEntriesFrom-read later (place + entry_bytes (length entry)) tail old new has.2 same,
 )
-
--- before the first entry
-pub IsRedoneTo-none : (entries : List Pairs) (tail : ℕ) (first : Files) (piece : Piece) → HasEntries first entries tail → IsPieceOf first piece → IsRedoneTo entries tail first first piece 0
-IsRedoneTo-none entries tail first piece has kept = record { done = []; left = entries; all = refl; rest = has; kept = kept; made = refl; same = SameButLogged-none entries first }
 
 -- after a read
 pub IsRedoneTo-read : (entries : List Pairs) (tail : ℕ) (first old now : Files) (piece next : Piece) (place : ℕ) → IsRedoneTo entries tail first old piece place → Same old now → IsPieceOf now next → IsRedoneTo entries tail first now next place

@@ -10,7 +10,7 @@ use Rattle.rec_bytes.specs.Pairs.{Pairs, IsOrdered, find_pair}
 use Rattle.rec_bytes.specs.RecordFiles.{meta_key_of}
 use Rattle.rec_bytes.specs.Space.{laid_over, put}
 use Rattle.rec_bytes.proofs.KeyLaws.{key_eq-same}
-use Rattle.redo_log.specs.Entries.{HasEntries, HasEntriesUpTo, IsDamaged, IsDamagedLog, IsEntry, count_at, entry_at, entry_bytes}
+use Rattle.redo_log.specs.Entries.{HasEntries, HasEntriesUpTo, IsEntry, count_at, entry_at, entry_bytes}
 use Rattle.redo_log.specs.Redo.{redone}
 use Rattle.redo_log.specs.Reading.{Tells}
 use Rattle.redo_log.specs.declared.entry_answer.EntryAnswer.{EntryAnswer}
@@ -69,9 +69,6 @@ pub record IsReadTo (content : Files) (place : ℕ) (records : List Rec) : Type 
   pub before : HasEntriesUpTo 0 content entries place
   pub are : AreMetasOf (redone (record_at content) entries) records
 
-pub IsReadTo-none : (content : Files) (records : List Rec) → AreMetasOf (record_at content) records → IsReadTo content 0 records
-IsReadTo-none content records are = record { entries = []; before = refl; are = are }
-
 -- one more
 pub IsReadTo-more : (content : Files) (place next : ℕ) (old new : List Rec) → (was : IsReadTo content place old) → IsEntry content place → next ≡ place + entry_bytes (count_at content place)
     → ((space : Key → Rec) → AreMetasOf space old → AreMetasOf (laid_over space (entry_at content place)) new) → IsReadTo content next new
@@ -88,10 +85,6 @@ IsReadTo-more content place next old new was entry next_is taken =
 -- up to a closed gate the entries are the log's
 pub HasEntries-read_to : (content : Files) (place : ℕ) (records : List Rec) → (was : IsReadTo content place records) → content log_file place ≢ 1 → HasEntries content was.entries place
 HasEntries-read_to content place records was closed = HasEntriesUpTo-closed was.entries 0 place content was.before closed
-
--- up to an open gate over another form the log is damaged
-pub IsDamagedLog-read_to : (content : Files) (place : ℕ) (records : List Rec) → (was : IsReadTo content place records) → IsDamaged content place → IsDamagedLog content place
-IsDamagedLog-read_to content place records was damaged = record { entries = was.entries; before = was.before; damaged = damaged }
 
 -- what stands at a place stands there in each content with the same bytes
 pub Tells-same : (old new : Files) (place : ℕ) (answer : EntryAnswer) → Same old new → Tells new place answer → Tells old place answer

@@ -7,14 +7,11 @@ use Rattle.std.specs.Prelude.{map, ◌||◌}
 use Rattle.std.specs.List.{list_any, list_all}
 use Rattle.disk_model.specs.Contents.{Files, Same, number_of_files}
 use Rattle.disk_model.specs.Disk.{NoMore, Settled}
-use Rattle.disk_model.specs.Spans.{IsAllSettled, OnlyReads}
 use Rattle.disk_model.specs.declared.disk.Disk.{Ghosts}
 use Rattle.rec_bytes.specs.declared.record_files.RecordFile.{RecordFile}
 use Rattle.rec_bytes.specs.declared.record_files.RecordRoom.TheVariants.{Limit}
-use Rattle.rec_bytes.specs.Format.{log_file}
 use Rattle.rec_bytes.specs.RecordFiles.{Rooms, record_rooms, rooms_of}
 use Rattle.rec_bytes.proofs.RecordFiles.{is_among-files}
-use Rattle.record_file.proofs.Files.{record_file_or_log}
 use Rattle.recovery.specs.Syncing.{AreRecordsSettled}
 
 -- a settled file stays so where calls only read
@@ -75,15 +72,3 @@ file_low files n d is below =
     let all = each_passes (λ f. nat_lt f number_of_files) files ∙ ap (λ (rooms : Rooms). list_all (λ room. nat_lt room.0 number_of_files) rooms) is in
     let low : nat_lt (get_or files n d).file number_of_files ≡ true = passes_at (λ f. nat_lt f number_of_files) files n d all below in
     grind (arith, nat_tests)
-
--- the files of records and the log are all files
-pub IsAllSettled-both : {D : Type 0} (g : Ghosts D) (disk : D) → AreRecordsSettled g disk → Settled log_file (g.reads disk) (g.may_leave disk) → IsAllSettled g disk
-IsAllSettled-both g disk records log file below =
-    ⊎_elim (λ has. records file has) (λ is image left place. ap (λ f. image f place) is ∙ log image left place ∙ ap (λ f. g.reads disk f place) (sym is)) (record_file_or_log file below)
-
--- files of records stay settled where calls only read
-pub AreRecordsSettled-kept : {D : Type 0} (g : Ghosts D) (old new : D) → g.tells_images → AreRecordsSettled g old → OnlyReads g old new → AreRecordsSettled g new
-AreRecordsSettled-kept g old new told settled reads file is = Settled-kept file (g.reads old) (g.reads new) (g.may_leave old) (g.may_leave new) (settled file is) reads.keeps (reads.crash told)
-
-pub IsAllSettled-kept : {D : Type 0} (g : Ghosts D) (old new : D) → g.tells_images → IsAllSettled g old → OnlyReads g old new → IsAllSettled g new
-IsAllSettled-kept g old new told settled reads file is = Settled-kept file (g.reads old) (g.reads new) (g.may_leave old) (g.may_leave new) (settled file is) reads.keeps (reads.crash told)

@@ -25,7 +25,7 @@ use Rattle.recovery.specs.declared.recover_fault.RecoverFault.TheVariants as fau
 use Rattle.recovery.specs.declared.found.Found.{Found}
 use Rattle.recovery.specs.declared.found.Found.TheVariants as founds
 use Rattle.recovery.specs.Finding.{HasMetaRight, IsFound, Refuses, RefusesRecords, Stands}
-use Rattle.recovery.specs.LoggedMetas.{HasMetas, IsLogFault}
+use Rattle.recovery.specs.LoggedMetas.{HasMetas}
 
 -- a log that ends where it begins has no entry
 no_entries : (entries : List Pairs) (content : Files) → HasEntries content entries 0 → entries ≡ []
@@ -67,12 +67,6 @@ own_read content logged has own is =
 -- the records of the meta file make the space that the content redoes to
 pub Redoes-metas : (content : Files) (logged : LoggedMetas) (has : HasMetas content logged) → Redoes content (redone (record_at content) has.entries)
 Redoes-metas content logged has = record { entries = has.entries; tail = logged.tail; log = has.log; makes = refl }
-
--- a fault of the log's form refuses the content
-pub Refuses-log : (content : Files) (fault : RecoverFault) → IsLogFault content fault → Refuses content fault
-Refuses-log content faults.Disk is = tt
-Refuses-log content faults.NotAStore is = absurd is
-Refuses-log content (faults.Damaged damage) is = inl is
 
 -- and so does one of the records
 pub Refuses-records : (content : Files) (space : Key → Rec) (fault : RecoverFault) → Redoes content space → RefusesRecords content space fault → Refuses content fault

@@ -1,5 +1,5 @@
 -- The bytes of an entry behind its gate, as they go out piece by piece.
-use Rattle.std.proofs.Common.{◌≡◌, ◌∙◌, ap, sym, subst, ℕ, ◌+◌, ◌-◌, ◌≤◌, List, [], ◌++◌, length, take, drop, arith, append_assoc, length-append}
+use Rattle.std.proofs.Common.{◌≡◌, ◌∙◌, ap, sym, subst, ℕ, ◌+◌, ◌-◌, ◌≤◌, List, ◌++◌, length, take, drop, arith, append_assoc, length-append}
 use Rattle.std.specs.List.{flat_map}
 use Rattle.std.proofs.lemmas.Grind.{flat_map-append}
 use Rattle.std.proofs.lemmas.List.{take_all}
@@ -31,12 +31,6 @@ bytes_before-more writes next later on =
     let all : take next writes ++ more ≡ take later writes = sym (take-add next (later - next) writes) ∙ ap (λ k. take k writes) n in
     append_assoc count (flat_map write_bytes (take next writes)) (flat_map write_bytes more)
     ∙ ap (λ bytes. count ++ bytes) (sym (flat_map-append write_bytes (take next writes) more) ∙ ap (flat_map write_bytes) all)
-
--- nothing is out
-pub IsSent-none : (reads : Files) (at : ℕ) (piece : List ℕ) (writes : Pairs) (next : ℕ)
-    → piece ≡ little_bytes 2 (length writes) ++ flat_map write_bytes (take (next - 0) (drop 0 writes)) → IsSent reads at at piece writes next
-IsSent-none reads at piece writes next is =
-    record { sent = []; whole = is ∙ ap (λ n. little_bytes 2 (length writes) ++ flat_map write_bytes (take n writes)) (omega arith); place_is = omega arith; stands = λ i below. absurd (omega (arith, below)) }
 
 -- one piece more is out
 pub IsSent-more : (old new : Files) (at place : ℕ) (piece : List ℕ) (next_piece : List ℕ) (writes : Pairs) (next later : ℕ)

@@ -1,15 +1,11 @@
 -- What a crash leaves while bytes of the log are written in a range.
-use Rattle.std.proofs.Common.{ℕ, ◌+◌, ◌≤◌, refl}
+use Rattle.std.proofs.Common.{ℕ, ◌+◌, ◌≤◌}
 use Rattle.disk_model.specs.Contents.{Files}
 use Rattle.disk_model.specs.Disk.{Elapses, LeavesOnly, TornIn}
-use Rattle.disk_model.proofs.Times.{leaves_at_once, leaves_then}
+use Rattle.disk_model.proofs.Times.{leaves_then}
 use Rattle.rec_bytes.specs.Format.{log_file}
 use Rattle.redo_log.specs.Appending.{IsTornFrom}
 use Rattle.disk_model.proofs.Contents.{SameOutside-within, SameOutside-then}
-
--- before the first write
-pub leaves_torn_at_once : (now : ℕ) (past : ℕ → Files → Type 0) (images : Files → Type 0) (at n : ℕ) → ((image : Files) → past now image → images image) → LeavesOnly now now past past (IsTornFrom images at n)
-leaves_torn_at_once now past images at n only = leaves_at_once now past (IsTornFrom images at n) (λ image left. (image, only image left, λ file place out. refl))
 
 -- one write more in the range
 pub leaves_torn : (first before now : ℕ) (at_first past since : ℕ → Files → Type 0) (images old new : Files → Type 0) (at n place k : ℕ)

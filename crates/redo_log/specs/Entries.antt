@@ -13,10 +13,6 @@ use Rattle.rec_bytes.specs.Pairs.{Pairs, IsOrdered}
 abbrev pub open_byte : ℕ
 open_byte = 1
 
--- a closed gate, as it is written
-abbrev pub closed_byte : ℕ
-closed_byte = 0
-
 -- the last place of the log that an entry or the gate after it may have
 abbrev pub last_place : ℕ
 last_place = 1048575

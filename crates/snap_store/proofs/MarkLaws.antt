@@ -118,7 +118,3 @@ marked_more old new layers key rec marked own others q h = by (with_kept_has lay
     by : (q ≡ key) ⊎ (is_some (kept_at layers q) ≡ true) → may_have new q ≡ true
     by (inl same) = ap (may_have new) same ∙ own
     by (inr had) = others q (marked q had)
-
--- no layers, whatever the marks are
-pub marked_none : (marks : List Bool) → AreMarked marks []
-marked_none marks q h = absurd (false≢true h)

@@ -1,7 +1,7 @@
 -- What recovery finds, and what a store begins with then.
 use Rattle.std.proofs.Common.{◌≡◌, ◌∙◌, ap, sym, subst, inl, inr, ⊎_elim, ◌⊎◌, List, [], Option, Some, is_some, Result, Ok, Err, IfOk, OnOk, refl, lit<}
 use mathlib.Core.Bool.{false≢true}
-use Rattle.disk_model.specs.Contents.{Files, Same}
+use Rattle.disk_model.specs.Contents.{Files}
 use Rattle.disk_model.specs.Spans.{AtEachMoment, IsAllSettled, OnlyReads}
 use Rattle.disk_model.specs.declared.disk.Disk.{Ghosts}
 use Rattle.disk_model.proofs.Spans.{CountsNow, at_each_moment_on, at_each_moment_read, at_each_moment_weaker}
@@ -31,10 +31,6 @@ use Rattle.txn_core.specs.declared.open_fault.OpenFault.TheVariants.{Memory, Dis
 use Rattle.txn_core.specs.declared.config.Config.{Config}
 use Rattle.txn_core.proofs.Kept.{Redoes-same, kept_settled, same_records}
 use Rattle.txn_core.proofs.Raising.{IsOldOrRaised-same}
-
--- contents of the same bytes are the same
-pub same_files : (old new : Files) → Same old new → new ≡ old
-same_files old new same = λ i file place. same file place i
 
 -- a content redoes to one space
 pub redoes_unique : (content : Files) (a b : Key → Rec) → Redoes content a → Redoes content b → a ≡ b

@@ -1,5 +1,5 @@
 -- A store of an older version, brought to the newest one by the first entry of the log.
-use Rattle.std.proofs.Common.{◌≡◌, ◌∙◌, ap, sym, subst, inl, inr, ⊎_elim, ◌<◌, ◌≤◌, Bool, true, false, cond, nat_lt, List, [], ◌∷◌, Option, Some, None, refl, arith}
+use Rattle.std.proofs.Common.{◌≡◌, ◌∙◌, ap, sym, subst, inl, inr, ⊎_elim, ◌<◌, ◌≤◌, Bool, true, cond, nat_lt, List, [], ◌∷◌, Option, Some, None, refl, arith}
 use Rattle.std.specs.Option.{option_or}
 use Rattle.std.proofs.lemmas.Bool.Decides.{nat_tests}
 use Rattle.disk_model.specs.Contents.{Files, Same}
@@ -33,21 +33,10 @@ use Rattle.record_file.proofs.MetaRecords.{with_metas-same}
 pub version_held : (metas : List Rec) (records : Key → Rec) (own : Rec) → find_meta metas own_key ≡ Some own → version_of (with_metas metas records own_key) ≡ version_of own
 version_held metas records own is = ap (λ (o : Option Rec). version_of (Rattle.std.specs.Prelude.unwrap_or o (records own_key))) is
 
--- a store of the newest version stays as it is
-pub raised_newest : (shape : Shape) (space : Key → Rec) → newest_version ≤ version_of (space own_key) → raised shape space ≡ space
-raised_newest shape space newest =
-    let test : nat_lt (version_of (space own_key)) newest_version ≡ false = grind (arith, nat_tests) in
-    ap (λ (b : Bool). cond b (laid_over space (raising_pairs shape)) space) test
-
 pub raised_old : (shape : Shape) (space : Key → Rec) → version_of (space own_key) < newest_version → raised shape space ≡ laid_over space (raising_pairs shape)
 raised_old shape space old =
     let test : nat_lt (version_of (space own_key)) newest_version ≡ true = grind (arith, nat_tests) in
     ap (λ (b : Bool). cond b (laid_over space (raising_pairs shape)) space) test
-
-pub entries_newest : (shape : Shape) (space : Key → Rec) → newest_version ≤ version_of (space own_key) → raising_entries shape space ≡ []
-entries_newest shape space newest =
-    let test : nat_lt (version_of (space own_key)) newest_version ≡ false = grind (arith, nat_tests) in
-    ap (λ (b : Bool). let entries : List Pairs = cond b (raising_pairs shape ∷ []) [] in entries) test
 
 pub entries_old : (shape : Shape) (space : Key → Rec) → version_of (space own_key) < newest_version → raising_entries shape space ≡ raising_pairs shape ∷ []
 entries_old shape space old =
