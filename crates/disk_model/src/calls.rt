@@ -30,11 +30,4 @@ impl Calls {
     {
         &self.numbers
     }
-
-    /// Gives the numbers back.
-    pub fn into_numbers(self) -> Vec<u64>
-        ensures { result.items ≡ self }
-    {
-        self.numbers
-    }
 }

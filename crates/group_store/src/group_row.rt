@@ -31,25 +31,4 @@ impl GroupRow {
     {
         self.label = label;
     }
-
-    /// Changes alone the first of the relationships that leave the owner.
-    pub fn set_first_out(&mut self, first_out: u32)
-        ensures { self.new ≡ record self.old { first_out = first_out } }
-    {
-        self.first_out = first_out;
-    }
-
-    /// Changes alone the first of those that enter it.
-    pub fn set_first_in(&mut self, first_in: u32)
-        ensures { self.new ≡ record self.old { first_in = first_in } }
-    {
-        self.first_in = first_in;
-    }
-
-    /// Changes alone the first of those that do both.
-    pub fn set_first_loop(&mut self, first_loop: u32)
-        ensures { self.new ≡ record self.old { first_loop = first_loop } }
-    {
-        self.first_loop = first_loop;
-    }
 }

@@ -39,11 +39,4 @@ impl Text {
         let bytes = Vec::from_slice(alloc, &self.bytes)?;
         Ok(Text { bytes })
     }
-
-    /// Gives the bytes back.
-    pub fn into_bytes(self) -> Vec<u8>
-        ensures { result.items ≡ self }
-    {
-        self.bytes
-    }
 }

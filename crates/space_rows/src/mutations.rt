@@ -11,7 +11,7 @@ use graph_ops::mutate;
 use name_store::Names;
 use plain_graph::{Item, Mutation, Pair, Pairs, Text};
 use rec_bytes::MapSpace;
-use std::alloc::{AllocError, Global};
+use std::alloc::Global;
 
 /// The calls of `mutate`, each with a mutating step as its verb. How many elements are shown is
 /// answered, and the weight.

@@ -8,7 +8,7 @@ ghost use Rattle.store_check.specs.Holding.{AreDefinitionsRight};
 
 use rec_bytes::{
     DEFINITION, DEFINITION_KEY, DEFINITION_LABEL, Damage, INDEX, KIND, Key, NAMES, PROPERTY_RULE,
-    Reads, Rec, SpaceFault,
+    Reads, SpaceFault,
 };
 use record_lists::{Sentence, broken, find_false};
 

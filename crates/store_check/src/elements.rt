@@ -26,7 +26,7 @@ ghost use Rattle.store_check.specs.Elements.{
 use rec_bytes::{
     Damage, FREE, KIND, Key, MOST_PROPERTIES, NAMES, NODE_FIRST_PROPERTY, NODE_LABEL, NODES,
     PROPERTIES, PROPERTY_KEY, PROPERTY_NEXT, PROPERTY_RULE, RELATIONSHIP_FIRST_PROPERTY,
-    RELATIONSHIPS, Reads, Rec, SpaceFault,
+    RELATIONSHIPS, Reads, SpaceFault,
 };
 use record_lists::{
     Broke, Found, Heads, LiveLine, Sentence, are_distinct, broken, find_false, find_unmarked,

@@ -13,8 +13,8 @@ ghost use Rattle.store_rules.specs.Views.{high};
 
 use crate::pieces::are_pieces;
 use rec_bytes::{
-    BLOCK_LENGTH, BLOCK_NEXT, Damage, FREE, KIND, Key, PROPERTIES, PROPERTY_FIRST_BLOCK,
-    PROPERTY_LENGTH, PROPERTY_RULE, Reads, Rec, STRINGS, SpaceFault, TEXT_IN_BLOCKS,
+    BLOCK_LENGTH, BLOCK_NEXT, Damage, KIND, Key, PROPERTIES, PROPERTY_FIRST_BLOCK, PROPERTY_LENGTH,
+    PROPERTY_RULE, Reads, STRINGS, SpaceFault, TEXT_IN_BLOCKS,
 };
 use record_lists::{
     Broke, Found, Heads, LiveLine, broken, find_unmarked, follow, list_heads, no_marks,

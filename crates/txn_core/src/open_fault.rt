@@ -1,7 +1,6 @@
 use crate::Config;
 use fault_count::Failed;
 use rec_bytes::{Damage, Shape};
-use std::alloc::AllocError;
 use thiserror::Error;
 
 /// Why a store is not opened.
