@@ -22,14 +22,16 @@ struct Script<'a> {
 const PROBE: &[u8] = b"@1 g.V()\nstats\ndelete edge 0\ndelete node 0\n";
 
 const NOTHING: &[u8] =
-    b"@1 error no snapshot\nnodes 0 edges 0 properties 0 blocks 0 names 0\nerror no edge 0\nerror no node 0\n";
+    b"@1 error no snapshot\nnodes 0 edges 0 properties 0 blocks 0 names 0\nerror no edge 0\n\
+    error no node 0\n";
 
 /// Node 0 alone, and node 1 alone.
 const FIRST: &[u8] =
     b"@1 error no snapshot\nnodes 1 edges 0 properties 0 blocks 0 names 1\nerror no edge 0\nok\n";
 
 const SECOND: &[u8] =
-    b"@1 error no snapshot\nnodes 1 edges 0 properties 0 blocks 0 names 2\nerror no edge 0\nerror no node 0\n";
+    b"@1 error no snapshot\nnodes 1 edges 0 properties 0 blocks 0 names 2\nerror no edge 0\n\
+    error no node 0\n";
 
 /// A change alone, a transaction that is rolled back, one that is committed, and one that is open
 /// at the end. Snapshots are taken before the second one and while it is open, and show what they
@@ -65,7 +67,8 @@ const LOOP: &[u8] =
 
 /// Edge 1 alone, from node 0 to node 1.
 const BETWEEN: &[u8] =
-    b"@1 error no snapshot\nnodes 2 edges 1 properties 0 blocks 0 names 2\nerror no edge 0\nerror node 0 has relationships\n";
+    b"@1 error no snapshot\nnodes 2 edges 1 properties 0 blocks 0 names 2\nerror no edge 0\n\
+    error node 0 has relationships\n";
 
 /// Two nodes without edges.
 const APART: &[u8] =
@@ -73,11 +76,12 @@ const APART: &[u8] =
 
 /// Edge 1 alone, from node 1 to node 0, of another type.
 const BACK: &[u8] =
-    b"@1 error no snapshot\nnodes 2 edges 1 properties 0 blocks 0 names 3\nerror no edge 0\nerror node 0 has relationships\n";
+    b"@1 error no snapshot\nnodes 2 edges 1 properties 0 blocks 0 names 3\nerror no edge 0\n\
+    error node 0 has relationships\n";
 
 /// Edge 0 beside it.
-const BOTH: &[u8] =
-    b"@1 error no snapshot\nnodes 2 edges 2 properties 0 blocks 0 names 3\nok\nerror node 0 has relationships\n";
+const BOTH: &[u8] = b"@1 error no snapshot\nnodes 2 edges 2 properties 0 blocks 0 names 3\nok\n\
+    error node 0 has relationships\n";
 
 /// Edges that come and go, alone and in transactions, of which the last is open at the end.
 const EDGES: &[Row] = &[
@@ -107,15 +111,18 @@ const TWO: &[u8] =
 
 /// Edge 2 besides, back to node 0.
 const THREE: &[u8] =
-    b"==>e[0][0-S->0]\n==>e[1][0-A->1]\n==>e[0][0-S->0]\n==>e[2][1-B->0]\nend\n==>e[2][1-B->0]\n==>e[1][0-A->1]\nend\nsound\n";
+    b"==>e[0][0-S->0]\n==>e[1][0-A->1]\n==>e[0][0-S->0]\n==>e[2][1-B->0]\nend\n==>e[2][1-B->0]\n\
+    ==>e[1][0-A->1]\nend\nsound\n";
 
 /// Edge 2 beside edge 1.
 const DOUBLE: &[u8] =
-    b"==>e[0][0-S->0]\n==>e[1][0-A->1]\n==>e[2][0-A->1]\n==>e[0][0-S->0]\nend\n==>e[1][0-A->1]\n==>e[2][0-A->1]\nend\nsound\n";
+    b"==>e[0][0-S->0]\n==>e[1][0-A->1]\n==>e[2][0-A->1]\n==>e[0][0-S->0]\nend\n==>e[1][0-A->1]\n\
+    ==>e[2][0-A->1]\nend\nsound\n";
 
 /// The same without the loop, with edge 3 back to node 0.
 const LOOPLESS: &[u8] =
-    b"==>e[1][0-A->1]\n==>e[2][0-A->1]\n==>e[3][1-A->0]\nend\n==>e[3][1-A->0]\n==>e[1][0-A->1]\n==>e[2][0-A->1]\nend\nsound\n";
+    b"==>e[1][0-A->1]\n==>e[2][0-A->1]\n==>e[3][1-A->0]\nend\n==>e[3][1-A->0]\n==>e[1][0-A->1]\n\
+    ==>e[2][0-A->1]\nend\nsound\n";
 
 /// Node 0 becomes dense and has a group less again, and then node 1 becomes dense in a transaction.
 /// The last one is open at the end. A snapshot from before sees no group.
@@ -150,22 +157,22 @@ const LOOPS_PROBE: &[u8] = b"stats\ng.V(0).outE().id()\ng.V().values('x')\ncheck
 const NO_LOOPS: &[u8] = b"nodes 0 edges 0 properties 0 blocks 0 names 0\nend\nend\nsound\n";
 
 /// A node with a text in a block.
-const LONG_TEXT: &[u8] =
-    b"nodes 1 edges 0 properties 1 blocks 1 names 2\nend\n==>'TTTTTTTTTTTTTTTTTTTTTTTTTTTTTTTTTTTTTTTTT'\nend\nsound\n";
+const LONG_TEXT: &[u8] = b"nodes 1 edges 0 properties 1 blocks 1 names 2\nend\n\
+    ==>'TTTTTTTTTTTTTTTTTTTTTTTTTTTTTTTTTTTTTTTTT'\nend\nsound\n";
 
 /// Its first loops, of three types. With the third it is dense.
-const ONE_LOOP: &[u8] =
-    b"nodes 1 edges 1 properties 1 blocks 1 names 3\n==>0\nend\n==>'TTTTTTTTTTTTTTTTTTTTTTTTTTTTTTTTTTTTTTTTT'\nend\nsound\n";
+const ONE_LOOP: &[u8] = b"nodes 1 edges 1 properties 1 blocks 1 names 3\n==>0\nend\n\
+    ==>'TTTTTTTTTTTTTTTTTTTTTTTTTTTTTTTTTTTTTTTTT'\nend\nsound\n";
 
-const TWO_LOOPS: &[u8] =
-    b"nodes 1 edges 2 properties 1 blocks 1 names 4\n==>0\n==>1\nend\n==>'TTTTTTTTTTTTTTTTTTTTTTTTTTTTTTTTTTTTTTTTT'\nend\nsound\n";
+const TWO_LOOPS: &[u8] = b"nodes 1 edges 2 properties 1 blocks 1 names 4\n==>0\n==>1\nend\n\
+    ==>'TTTTTTTTTTTTTTTTTTTTTTTTTTTTTTTTTTTTTTTTT'\nend\nsound\n";
 
-const THREE_LOOPS: &[u8] =
-    b"nodes 1 edges 3 properties 1 blocks 1 names 5\n==>0\n==>1\n==>2\nend\n==>'TTTTTTTTTTTTTTTTTTTTTTTTTTTTTTTTTTTTTTTTT'\nend\nsound\n";
+const THREE_LOOPS: &[u8] = b"nodes 1 edges 3 properties 1 blocks 1 names 5\n==>0\n==>1\n==>2\nend\n\
+    ==>'TTTTTTTTTTTTTTTTTTTTTTTTTTTTTTTTTTTTTTTTT'\nend\nsound\n";
 
 /// Without the second, with the text, and with a number in its place.
-const LOOPS_APART: &[u8] =
-    b"nodes 1 edges 2 properties 1 blocks 1 names 5\n==>0\n==>2\nend\n==>'TTTTTTTTTTTTTTTTTTTTTTTTTTTTTTTTTTTTTTTTT'\nend\nsound\n";
+const LOOPS_APART: &[u8] = b"nodes 1 edges 2 properties 1 blocks 1 names 5\n==>0\n==>2\nend\n\
+    ==>'TTTTTTTTTTTTTTTTTTTTTTTTTTTTTTTTTTTTTTTTT'\nend\nsound\n";
 
 const SHORT_VALUE: &[u8] =
     b"nodes 1 edges 2 properties 1 blocks 0 names 5\n==>0\n==>2\nend\n==>1\nend\nsound\n";
@@ -473,7 +480,8 @@ fn check_stopped_twice(
 fn an_entry_stands_over_an_old_gate(rt: HostRuntime) -> Result<(), Fail> {
     let alloc = rt.alloc();
     let script: &[u8] =
-        b"node a\ncheckpoint\nbegin\nnode a\nnode a\nnode a\nnode a\nnode a\nnode a\nnode a\ncommit\n";
+        b"node a\ncheckpoint\nbegin\nnode a\nnode a\nnode a\nnode a\nnode a\nnode a\nnode a\n\
+        commit\n";
     let mut disk = MemoryDisk::new(alloc, 16, ROOM, plan(alloc, &[], None)?)?;
     let made = run(alloc, script, &mut disk)?;
     assert!(rt; made.exit == Exit::Done);

@@ -2,7 +2,8 @@ use crate::text::{put, put_number, put_value, word_of};
 use plain_graph::{Body, BodyStep, Filter, Hop, Ids, Query, Relation, Source, Step, Text, Texts};
 use std::alloc::AllocError;
 
-/// Writes the query as a line spells it, without a blank: the maps that it asks for after its steps.
+/// Writes the query as a line spells it, without a blank: the maps that it asks for after its
+/// steps.
 pub(crate) fn put_query(out: &mut Vec<u8>, query: &Query) -> Result<(), AllocError> {
     put_source(out, &query.source)?;
     for step in query.steps.as_slice() {

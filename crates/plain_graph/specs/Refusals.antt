@@ -1,8 +1,10 @@
 -- Why the graph refuses a line: reasons in the order in which they count.
-use Rattle.std.specs.Prelude.{◌≡◌, ◌≢◌, ◌⊎◌, ℕ, ◌+◌, ◌*◌, ◌<◌, ◌≤◌, false, true, Option, None, Some, List}
+use Rattle.std.specs.Prelude.{◌≡◌, ◌≢◌, ◌⊎◌, ℕ, ◌+◌, ◌*◌, ◌<◌, ◌≤◌, false, true}
+use Rattle.std.specs.Prelude.{Option, None, Some, List}
 use Rattle.std.specs.Prelude.{[], ◌∷◌, length}
 use Rattle.std.specs.FinMap as maps
-use Rattle.plain_graph.specs.Graph.{Graph, Index, UsesNames, block_count, degree_in, has_edge, has_node}
+use Rattle.plain_graph.specs.Graph.{Graph, Index, UsesNames, block_count, degree_in}
+use Rattle.plain_graph.specs.Graph.{has_edge, has_node}
 use Rattle.plain_graph.specs.Graph.{properties_at, property_count, with_value}
 use Rattle.plain_graph.specs.Indexes.{entry_count, has_index, index_records, indexed_count}
 use Rattle.plain_graph.specs.Indexes.{most_indexed, most_indexes}

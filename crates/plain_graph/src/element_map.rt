@@ -1,5 +1,6 @@
 ghost use Rattle.std.specs.Prelude.{◌≡◌, ◌++◌, ◌∷◌, [], All, IfOk, OnOk, codes, decimal, flat_map};
-ghost use Rattle.plain_graph.specs.ElementMaps.{label_after, making_text, map_line, map_text, paired};
+ghost use Rattle.plain_graph.specs.ElementMaps.{label_after, making_text, map_line};
+ghost use Rattle.plain_graph.specs.ElementMaps.{map_text, paired};
 ghost use Rattle.plain_graph.specs.Forms.{HasKept, IsKept};
 ghost use Rattle.plain_graph.specs.Reply.{text_line};
 ghost use Rattle.plain_graph.specs.declared.pairs.Pair.{Pair as PairRow};

@@ -137,8 +137,8 @@ abbrev pub index_damage : ℕ → ℕ → Damage
 index_damage file id = record { file = file; id = id; rule = 8 }
 
 -- The record breaks the eighth rule: what the rule says of it is false. Or it was given out, a link
--- of the indexes leads to it, and it is of another kind; it stands in a bucket after as many entries
--- as were given out; or it is an entry of a bucket that isn't wanted there.
+-- of the indexes leads to it, and it is of another kind; it stands in a bucket after as many
+-- entries as were given out; or it is an entry of a bucket that isn't wanted there.
 pub data IndexBreaks (records : Records) : Damage → Type 0 where
   WrongDefinitions : ¬ HasDefinitions records
       → IndexBreaks records (index_damage format.meta_file format.index_file)
