@@ -12,7 +12,6 @@ pub mod LineLaws
 pub mod Lossless
 pub mod Opened
 mod Recorded
-pub mod Restarts
 pub mod Runs
 mod SampleStores
 mod Samples
