@@ -19,7 +19,7 @@ use Rattle.std.specs.Prelude.{
 }
 use Rattle.std.specs.List.{AllByRecursion}
 use Rattle.stream_io.specs.Lines.{InputLine, Whole, Long, line_of}
-use Rattle.stream_io.specs.Reading.{Reading, ahead, used}
+use Rattle.stream_io.specs.Reading.{HasNoneLeft, Reading, ahead, used}
 use Rattle.stream_io.specs.declared.line_reader.LineAnswer.{LineAnswer}
 use Rattle.stream_io.specs.declared.line_reader.LineAnswer.TheVariants.{
   Line,
@@ -71,7 +71,8 @@ Counts End old new = new.ended ≡ true
 Counts SourceFault old new = Stops old new × (new.taken < 2 ^ 30)
 Counts Exhausted old new = Stops old new × (new.taken ≡ 2 ^ 30)
 
--- A call of next. The source is asked only where fewer than 2^30 bytes were taken.
+-- A call of next. The source is asked only where fewer than 2^30 bytes were taken, and has nothing
+-- left once it has answered its end.
 pub record Answers (tells : Type 0) (answer : LineAnswer) (old : Reading)
     (left_before left_after : List ℕ) (new : Reading) : Type 0 where
   pub takes : tells → TakesFrom answer (ahead old left_before) (ahead new left_after) new.ended
@@ -81,3 +82,4 @@ pub record Answers (tells : Type 0) (answer : LineAnswer) (old : Reading)
   pub limit : new.taken ≤ 2 ^ 30
   pub stays_ended : new.ended ≡ false → old.ended ≡ false
   pub asked_below_limit : old.ended ≡ false → new.ended ≡ true → new.taken < 2 ^ 30
+  pub none_left : tells → HasNoneLeft old left_before → HasNoneLeft new left_after

@@ -1,5 +1,5 @@
 -- What a reader of lines has read, as contracts see it.
-use Rattle.std.specs.Prelude.{◌≡◌, ℕ, ◌-◌, Bool, false, List, [], ◌++◌, length, if◌then◌else◌}
+use Rattle.std.specs.Prelude.{◌≡◌, ℕ, ◌-◌, Bool, true, false, List, [], ◌++◌, length, if◌then◌else◌}
 
 -- The bytes that were taken from the source and not answered with yet, the line of the last answer,
 -- how many bytes were taken in all, and whether the source answered its end.
@@ -23,3 +23,7 @@ ahead r left = if r.ended then r.held else r.held ++ left
 -- how many bytes were answered with or dropped
 abbrev pub used : Reading → ℕ
 used r = r.taken - length r.held
+
+-- if the source has answered its end, it has nothing left
+abbrev pub HasNoneLeft : Reading → List ℕ → Type 0
+HasNoneLeft r left = r.ended ≡ true → left ≡ []

@@ -99,7 +99,7 @@ impl Model for LineReader {
 }
 
 impl LineReader {
-    ghost use Rattle.stream_io.specs.Reading.{IsFresh, ahead, used};
+    ghost use Rattle.stream_io.specs.Reading.{HasNoneLeft, IsFresh, ahead, used};
     ghost use Rattle.stream_io.specs.Found.{TakesPiece, TakesRest, Fills};
     ghost use Rattle.std.specs.Borrow.{sem};
     ghost use Rattle.stream_io.specs.Answers.{Answers};
@@ -204,6 +204,7 @@ impl LineReader {
         ensures source_counted { I.tells
             → self.new.taken + length (I.left source.new)
             ≡ self.old.taken + length (I.left source.old) }
+        ensures none_left { I.tells → OnOk result (HasNoneLeft self.new (I.left source.new)) }
         ensures quiet { OnOk result (I.faults source.new ≡ I.faults source.old) }
         ensures cause { HasCause (I.faults source.old) (I.faults source.new) result }
     {
@@ -254,6 +255,8 @@ impl LineReader {
         ensures source_counted { I.tells
             → self.new.taken + length (I.left source.new)
             ≡ self.old.taken + length (I.left source.old) }
+        ensures none_left { I.tells → HasNoneLeft self.old (I.left source.old)
+            → HasNoneLeft self.new (I.left source.new) }
         ensures later { I.faults source.old ≤ I.faults source.new }
         ensures told { result ≢ Step.Ended Outcome.SourceFault
             → I.faults source.new ≡ I.faults source.old }
@@ -289,6 +292,8 @@ impl LineReader {
             ≡ self.old.taken + length (I.left source.old) }
         ensures stays_ended { self.new.ended ≡ false → self.old.ended ≡ false }
         ensures asked { self.old.ended ≡ false → self.new.ended ≡ true → self.new.taken < 2 ^ 30 }
+        ensures none_left { I.tells → HasNoneLeft self.old (I.left source.old)
+            → HasNoneLeft self.new (I.left source.new) }
         ensures later { I.faults source.old ≤ I.faults source.new }
         ensures told { result ≢ Outcome.SourceFault → I.faults source.new ≡ I.faults source.old }
         ensures cause { result ≡ Outcome.SourceFault
