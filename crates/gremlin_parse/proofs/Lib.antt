@@ -20,6 +20,10 @@ pub mod Ends
 pub mod Turns
 pub mod Moves
 pub mod Walks
+pub mod TokenWalks
+pub mod TokenSteps
+pub mod TokenQueries
+pub mod TokenGoes
 pub mod Kept
 pub mod QueryPlaces
 pub mod OrderLaws
@@ -43,6 +47,7 @@ pub mod Tags
 pub mod Commands
 pub mod Lines
 pub mod Leftmost
+pub mod ProducedLines
 pub mod Making
 pub mod MutationRows
 pub mod Worked

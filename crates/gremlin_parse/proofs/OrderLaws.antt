@@ -12,7 +12,7 @@ items_from-append : (items : Items) (list : List Step) (step : Step) → items_f
 items_from-append items [] step = refl
 items_from-append items (first ∷ list) step = items_from-append (items_after items first) list step
 
-replace_last-append : (before : List Step) (last step : Step) → replace_last (before ++ last ∷ []) step ≡ before ++ step ∷ []
+pub replace_last-append : (before : List Step) (last step : Step) → replace_last (before ++ last ∷ []) step ≡ before ++ step ∷ []
 replace_last-append before last step =
     let len : length (before ++ last ∷ []) ≡ length before + 1 = length-append before (last ∷ []) in
     let n : length (before ++ last ∷ []) - 1 ≡ length before = omega (arith, len) in

@@ -21,3 +21,4 @@ pub mod Lasts
 pub mod Commands
 pub mod Tags
 pub mod Lines
+pub mod Productions

@@ -8,6 +8,7 @@ mod command;
 mod comparison;
 mod direction;
 mod draft;
+mod grammar_laws;
 mod head;
 mod keyword;
 mod last;
@@ -35,6 +36,7 @@ mod value;
 mod viewed;
 mod word;
 
+pub use grammar_laws::queries_are_produced;
 pub use laws::views_make_again;
 pub use line_fault::LineFault;
 pub use parsed::Parsed;
