@@ -1,7 +1,7 @@
 -- A record that is called damaged breaks the rule.
 use Rattle.std.specs.Cmp.Lexicographic.{pointwise}
 use Rattle.std.specs.List.{list_any}
-use Rattle.std.proofs.Common.{◌≡◌, ◌⊎◌, ℕ, nat_eq, Bool, true, false, cond, Some, List, length, sym, subst, inl, inr, arith, refl}
+use Rattle.std.proofs.Common.{◌≡◌, ℕ, nat_eq, Bool, true, false, cond, Some, List, length, sym, subst, inl, inr, arith, refl}
 use Rattle.plain_graph.specs.declared.command.Target.{Target}
 use Rattle.plain_graph.specs.declared.command.Target.TheVariants as targets
 use Rattle.rec_bytes.specs.declared.damage.Damage.{Damage}
@@ -95,14 +95,10 @@ pub node_cause : (s t : State) (id : ℕ) (fault : RowFault) → nodes.IsNodeFau
 node_cause s t id row.Disk told = tt
 node_cause s t id (row.Damaged damage) told = inl (inl (node_breaks s id damage told))
 
-pub drop_cause : (s m t : State) (id : ℕ) (node : NodeRow) → SameButReads s m → Some node ≡ nodes.row_at s.records id → node.degree ≡ 0 → (fault : Fault) → props.BlamesDropped m.records m.shape fault → IsDeleteCause s t id (of_fault fault)
-drop_cause s m t id node same found lone faults.Memory told = tt
-drop_cause s m t id node same found lone faults.Disk told = tt
-drop_cause s m t id node same found lone (faults.Damaged damage) told = by (subst (λ (z : State). props.BlamesDropped z.records z.shape (faults.Damaged damage)) same told)
-  where
-    by : Breaks s.records s.shape damage ⊎ props.SharesBlock s.records damage → IsDeleteCause s t id (of_fault (faults.Damaged damage))
-    by (inl broken) = inl (inl broken)
-    by (inr shares) = inr (inl (record { row = node; found = sym found; is = lone }, shares))
+pub drop_cause : (s m t : State) (id : ℕ) → SameButReads s m → (fault : Fault) → props.BlamesBroken m.records m.shape fault → IsDeleteCause s t id (of_fault fault)
+drop_cause s m t id same faults.Memory told = tt
+drop_cause s m t id same faults.Disk told = tt
+drop_cause s m t id same (faults.Damaged damage) told = inl (inl (subst (λ (z : State). Breaks z.records z.shape damage) same told))
 
 -- the values that the node has in indexes are read before it goes
 pub held_cause : (s t : State) (id : ℕ) (fault : ChangeFault) → IsFailure fault → BlamesBroken s fault → IsDeleteCause s t id fault
@@ -132,7 +128,7 @@ entry_cause s t id (NamesFull count) fails told = absurd fails
 entry_cause s t id (PropsFull count) fails told = absurd fails
 entry_cause s t id Memory fails told = tt
 entry_cause s t id Disk fails told = tt
-entry_cause s t id (Damaged damage) fails told = inr (inr told)
+entry_cause s t id (Damaged damage) fails told = inr told
 
 -- ---- values that are given
 
@@ -203,10 +199,11 @@ value_blamed s named t last same (sets.Damaged damage) told = inr (inl (inl (sub
 
 -- ---- in the space as a call left it
 
-pub property_left : (t : State) (fault : Fault) → props.BlamesBroken t.records t.shape fault → BlamesBroken t (of_fault fault)
-property_left t faults.Memory told = tt
-property_left t faults.Disk told = tt
-property_left t (faults.Damaged damage) told = inl told
+-- where nothing was written before
+pub unwritten_left : (s t : State) (fault : Fault) → props.BlamesBroken s.records s.shape fault → IfSome (damage_of fault) (λ _. SameButReads s t) → BlamesBroken t (of_fault fault)
+unwritten_left s t faults.Memory told same = tt
+unwritten_left s t faults.Disk told same = tt
+unwritten_left s t (faults.Damaged damage) told same = inl (subst (λ (z : State). Breaks z.records z.shape damage) (sym same) told)
 
 pub entry_left : (t : State) (fault : ChangeFault) → BlamesEntry t fault → BlamesBroken t fault
 entry_left t fault told = blames_more (IsEntryDamage t) (IsBroken t) (λ damage k. k.1) fault told

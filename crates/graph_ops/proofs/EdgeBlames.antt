@@ -94,11 +94,11 @@ close_blamed s t node g (faults.Damaged damage) told breaks same = (node, g, (dr
         by d (Astray out) = Astray out
 
 -- properties that aren't taken away
-pub drop_blamed : (s v t : State) → SameButReads s v → (fault : Fault) → props.BlamesDropped v.records v.shape fault → BlamesDeleting s t (of_fault fault)
+pub drop_blamed : (s v t : State) → SameButReads s v → (fault : Fault) → props.BlamesBroken v.records v.shape fault → BlamesDeleting s t (of_fault fault)
 drop_blamed s v t same faults.Memory told = tt
 drop_blamed s v t same faults.Disk told = tt
 drop_blamed s v t same (faults.Damaged damage) told =
-    inl (⊎_elim (λ k. inl (inl k)) (λ k. inr k) (subst (λ (z : State). props.BlamesDropped z.records z.shape (faults.Damaged damage)) same told))
+    inl (inl (subst (λ (z : State). props.BlamesBroken z.records z.shape (faults.Damaged damage)) same told))
 
 -- ---- heads
 

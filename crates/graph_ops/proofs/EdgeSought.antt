@@ -11,7 +11,6 @@ use Rattle.rec_bytes.specs.MetaForm.{IsMetaRight}
 use Rattle.rec_bytes.specs.Record.{field}
 use Rattle.rec_bytes.specs.RecordFiles.{is_meta_file, room_of}
 use Rattle.rec_bytes.specs.Space.{SameButReads, State}
-use Rattle.prop_store.specs.Fault.{SharesBlock}
 use Rattle.rel_store.specs.Loading.{mark_damage, row_at}
 use Rattle.rel_store.specs.declared.rel_row.RelRow.{RelRow}
 use Rattle.rel_store.proofs.Rows as rel_rows
@@ -290,15 +289,15 @@ module _ (s t : State) (id : ℕ) (left : LeavesEdge s t id) where
   row_later rel has = there id (with_property id rel has.0) has.1
 
 -- a record that is blamed where an edge that was found is taken out of its chains
-pub taken_told : (s t : State) (id : ℕ) (rel : RelRow) → row_at s.records id ≡ Some rel → (damage : Damage) → IsTakenDamage s t id rel damage → (IsBroken s damage ⊎ SharesBlock s.records damage) ⊎ IsUndropped t damage
+pub taken_told : (s t : State) (id : ℕ) (rel : RelRow) → row_at s.records id ≡ Some rel → (damage : Damage) → IsTakenDamage s t id rel damage → IsBroken s damage ⊎ IsUndropped t damage
 taken_told s t id rel found damage (Sought _ node mid which left told) =
-    inl (inl (sought_broke s mid id left node rel.label _ damage (rel_rows.rel_at-Some s.records id rel found) (⊎_elim (λ e. inl (sym e)) (λ e. inr (sym e)) which) refl told))
+    inl (sought_broke s mid id left node rel.label _ damage (rel_rows.rel_at-Some s.records id rel found) (⊎_elim (λ e. inl (sym e)) (λ e. inr (sym e)) which) refl told)
 taken_told s t id rel found damage (Parted _ mid left told) =
     let live = rel_rows.rel_at-Some s.records id rel found in
-    inl (inl (⊎_elim
+    inl (⊎_elim
     (λ k. end_link_breaks s id rel damage found (end_link_before s mid id rel.from rel.to damage left k))
     (λ k. ⊎_elim (λ e. subst (IsBroken s) (sym e.0) (stray_broke s mid id left _ live e.1))
-    (λ n. ⊎_elim (λ g. grouped_broke s mid id left rel.from damage g) (λ g. grouped_broke s mid id left rel.to damage g) n) k) told))
+    (λ n. ⊎_elim (λ g. grouped_broke s mid id left rel.from damage g) (λ g. grouped_broke s mid id left rel.to damage g) n) k) told)
 taken_told s t id rel found damage (Undropped _ undropped) = inr undropped
 
 -- an edge that is found has the row

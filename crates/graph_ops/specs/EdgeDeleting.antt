@@ -1,7 +1,6 @@
 -- An edge that is deleted.
 use Rattle.std.specs.Prelude.{◌≡◌, ◌≢◌, ◌⊎◌, ℕ, ◌+◌, ◌≤◌, ◌∷◌, ◌++◌, List, Some, length}
 use Rattle.plain_graph.specs.Graph.{RemovesEdge}
-use Rattle.prop_store.specs.Fault.{SharesBlock}
 use Rattle.rec_bytes.specs.declared.damage.Damage.{Damage}
 use Rattle.rec_bytes.specs.declared.key.Key.{Key}
 use Rattle.rec_bytes.specs.declared.fault.Fault.TheVariants as faults
@@ -243,10 +242,8 @@ pub data IsTakenDamage (s t : State) (id : ℕ) (rel : RelRow) : Damage → Type
       → IsPartedDamage mid id rel.from rel.to damage → IsTakenDamage s t id rel damage
   Undropped : (damage : Damage) → IsUndropped t damage → IsTakenDamage s t id rel damage
 
--- A record that is blamed where an edge is deleted breaks the rule in the space as it was, or it is
--- a property that shares a block there. Or a group of an end isn't dropped, which is told by the
--- space as it is left.
+-- A record that is blamed where an edge is deleted breaks the rule in the space as it was. Or a
+-- group of an end isn't dropped, which is told by the space as it is left.
 abbrev pub BlamesDeleting : State → State → ChangeFault → Type 0
 BlamesDeleting s t fault =
-    IfBlames (λ damage. (IsBroken s damage ⊎ SharesBlock s.records damage)
-    ⊎ IsUndropped t damage) fault
+    IfBlames (λ damage. IsBroken s damage ⊎ IsUndropped t damage) fault

@@ -8,12 +8,11 @@ use Rattle.plain_graph.specs.declared.command.Target.TheVariants as targets
 use Rattle.plain_graph.specs.declared.item.Item.{Item}
 use Rattle.plain_graph.specs.declared.refusal.Refusal.{Refusal}
 use Rattle.plain_graph.specs.declared.refusal.Refusal.TheVariants as refusals
-use Rattle.prop_store.specs.Fault.{SharesBlock}
 use Rattle.rec_bytes.specs.Space.{State}
 use Rattle.store_rules.specs.Writes.{WritesAtMost}
 use Rattle.graph_ops.specs.Causes.{IsStillCaused}
 use Rattle.graph_ops.specs.Change.{full_of}
-use Rattle.graph_ops.specs.Damage.{IfBlames, IsBroken, IsEntryDamage}
+use Rattle.graph_ops.specs.Damage.{BlamesFound}
 use Rattle.graph_ops.specs.EdgeDeleting.{BlamesDeleting}
 use Rattle.graph_ops.specs.Store.{IsStore, graph_in}
 use Rattle.graph_ops.specs.declared.change_fault.ChangeFault.{ChangeFault}
@@ -127,7 +126,5 @@ IsListCaused commands t names now fault =
 
 -- what is so of a record that is blamed where this element is taken away
 abbrev pub BlamesDeletion : State → State → Target → ChangeFault → Type 0
-BlamesDeletion s t (targets.Node id) fault =
-    IfBlames (λ damage. IsBroken s damage
-    ⊎ (SharesBlock s.records damage ⊎ IsEntryDamage t damage)) fault
+BlamesDeletion s t (targets.Node id) fault = BlamesFound s t fault
 BlamesDeletion s t (targets.Edge id) fault = BlamesDeleting s t fault

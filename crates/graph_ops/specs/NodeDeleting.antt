@@ -5,7 +5,6 @@ use Rattle.rec_bytes.specs.Space.{State}
 use Rattle.store_rules.specs.Views.{Records, kind_at}
 use Rattle.node_store.specs.declared.node_row.NodeRow.{NodeRow}
 use Rattle.node_store.specs.Loading.{row_at}
-use Rattle.prop_store.specs.Fault.{SharesBlock}
 use Rattle.graph_ops.specs.Damage.{IsBroken, IsEntryDamage}
 use Rattle.graph_ops.specs.declared.change_fault.ChangeFault.{ChangeFault}
 use Rattle.graph_ops.specs.declared.change_fault.ChangeFault.TheVariants.{NoNode, NoEdge}
@@ -43,6 +42,4 @@ IsDeleteCause s t id (NamesFull count) = ⊥
 IsDeleteCause s t id (PropsFull count) = ⊥
 IsDeleteCause s t id Memory = Unit {0}
 IsDeleteCause s t id Disk = Unit {0}
-IsDeleteCause s t id (Damaged damage) =
-    IsBroken s damage
-    ⊎ ((HasDegree s.records id 0 × SharesBlock s.records damage) ⊎ IsEntryDamage t damage)
+IsDeleteCause s t id (Damaged damage) = IsBroken s damage ⊎ IsEntryDamage t damage

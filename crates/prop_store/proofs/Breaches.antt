@@ -1,5 +1,5 @@
 -- What a property or a text is blamed for, as a breach of a rule.
-use Rattle.std.specs.Prelude.{Result, Err, nat_le}
+use Rattle.std.specs.Prelude.{Result, Err, nat_le, not}
 use Rattle.std.specs.Int.{cast_signed}
 use Rattle.std.specs.Option.{option_map}
 use mir.Syntax.{w64}
@@ -28,12 +28,12 @@ use Rattle.store_rules.specs.Rules as rules
 use Rattle.store_rules.specs.Rules.{ArePieces, property_owner}
 use Rattle.store_rules.specs.Views.{Records, high, is_live, key_in, kind_at, node_at, node_in, rec_at, rel_at, rel_in}
 use Rattle.store_rules.proofs.LinkFits.{IsLow}
-use Rattle.store_rules.proofs.NumberLaws.{and_parts}
-use Rattle.store_rules.proofs.OnceLaws.{in_parts, in_right, once_walk}
+use Rattle.store_rules.proofs.NumberLaws.{and_parts, eq_false}
+use Rattle.store_rules.proofs.OnceLaws.{in_right, once_walk}
 use Rattle.store_rules.proofs.PropertyOwners.{used_of_live}
 use Rattle.store_rules.proofs.ViewLaws.{kind_below, kind_low, row_some}
 use Rattle.prop_store.specs.Blocks as blocks
-use Rattle.prop_store.specs.Blocks.{ArePassed, AreUsedOnce, IsBlockOf, IsBlockFault, IsTextDamage, IsTextFault, IsTextOf, LeadsToAll, NoBlock, NotSuch, TooMany}
+use Rattle.prop_store.specs.Blocks.{ArePassed, AreUsedOnce, IsBlockOf, IsBlockFault, IsTextDamage, IsTextFault, IsTextOf, HasBlocks, NoBlock, NotSuch, TooMany}
 use Rattle.prop_store.specs.Fault.{BlamesBroken}
 use Rattle.prop_store.specs.Form.{form_in, form_of}
 use Rattle.prop_store.specs.GivenOut.{HighMark, IsLinkDamage, IsLinkFault, PastMark, holder_of}
@@ -267,18 +267,40 @@ passed_piece records from size bs pushed at left piece to passed more piece_is h
     let same : left - 48 ≡ left - piece = omega (arith, piece_is) in
     subst (λ zs. ArePassed records from size zs to (left - piece)) (sym is) (subst (ArePassed records from size (bs ++ at ∷ []) to) same all)
 
--- those that end are in use, and none comes twice
-pub passed_once : (records : Records) (from size : ℕ) (bs : List ℕ) (at left : ℕ) → ArePassed records from size bs at left → at ≡ format.nil → AreUsedOnce records bs
-passed_once records from size bs at left passed end = record { once = once_walk (next_block records) from bs (walk from size bs passed); used = used from size bs passed }
-  where
-    walk : (from size : ℕ) (bs : List ℕ) → ArePassed records from size bs at left → IsWalk (next_block records) from bs
-    walk from size [] p = p.0 ∙ end
-    walk from size (b ∷ bs) p = (p.0, p.2.some, walk (next_block records b) (size - 48) bs p.3)
+-- those that end are a walk
+passed_walk : (records : Records) (from size : ℕ) (bs : List ℕ) (at left : ℕ) → ArePassed records from size bs at left → at ≡ format.nil → IsWalk (next_block records) from bs
+passed_walk records from size [] at left p end = p.0 ∙ end
+passed_walk records from size (b ∷ bs) at left p end = (p.0, p.2.some, passed_walk records (next_block records b) (size - 48) bs at left p.3 end)
 
-    used : (from size : ℕ) (bs : List ℕ) → ArePassed records from size bs at left → (b : ℕ) → In b bs → kind_at records format.strings_file b ≢ format.free_kind
-    used from size [] p b i = elim i [ ]
-    used from size (x ∷ bs) p b (inl e) = subst (λ z. kind_at records format.strings_file z ≢ format.free_kind) (sym e) p.2.used
-    used from size (x ∷ bs) p b (inr i) = used (next_block records x) (size - 48) bs p.3 b i
+passed_used : (records : Records) (from size : ℕ) (bs : List ℕ) (at left : ℕ) → ArePassed records from size bs at left → (b : ℕ) → In b bs → kind_at records format.strings_file b ≢ format.free_kind
+passed_used records from size [] at left p b i = elim i [ ]
+passed_used records from size (x ∷ bs) at left p b (inl e) = subst (λ z. kind_at records format.strings_file z ≢ format.free_kind) (sym e) p.2.used
+passed_used records from size (x ∷ bs) at left p b (inr i) = passed_used records (next_block records x) (size - 48) bs at left p.3 b i
+
+-- where no byte is left they are its pieces
+passed_pieces : (records : Records) (from size : ℕ) (bs : List ℕ) (at left : ℕ) → ArePassed records from size bs at left → left ≡ 0 → ArePieces (block_size records) size bs
+passed_pieces records from size [] at left p over = p.1 ∙ over
+passed_pieces records from size (b ∷ []) at left p over = (p.2.size_is ∙ omega (arith, p.1, p.3.1, over), p.1, omega (arith, p.3.1, over))
+passed_pieces records from size (b ∷ c ∷ bs) at left p over =
+    (p.2.size_is ∙ omega (arith, p.1, p.3.1), omega (arith, p.1, p.3.1), passed_pieces records (next_block records b) (size - 48) (c ∷ bs) at left p.3 over)
+
+-- they are in use, and none comes twice
+pub passed_once : (records : Records) (from size : ℕ) (bs : List ℕ) (at left : ℕ) → ArePassed records from size bs at left → at ≡ format.nil → AreUsedOnce records bs
+passed_once records from size bs at left passed end =
+    record { once = once_walk (next_block records) from bs (passed_walk records from size bs at left passed end); used = passed_used records from size bs at left passed }
+
+-- and the property has them
+pub passed_blocks : (records : Records) (p from size : ℕ) (bs : List ℕ) (at left : ℕ) → IsTextOf records p from size → ArePassed records from size bs at left → at ≡ format.nil → left ≡ 0 → HasBlocks records p bs
+passed_blocks records p from size bs at left text passed end over b i = record {
+  long = text.long;
+  members = bs;
+  list = record {
+    walk = subst (λ f. IsWalk (next_block records) f bs) text.first_is (passed_walk records from size bs at left passed end);
+    live = λ x j. ap not (eq_false (kind_at records format.strings_file x) 0 (passed_used records from size bs at left passed x j));
+    pieces = subst (λ n. ArePieces (block_size records) n bs) text.size_is (passed_pieces records from size bs at left passed over);
+  };
+  member = i;
+}
 
 -- what is left of a list that begins there
 record TextRest (records : Records) (bs members : List ℕ) (at left : ℕ) : Type 0 where
@@ -428,9 +450,3 @@ text_of_row records row size first form_is long read =
       first_is = k.2 ∙ ap (λ r. field 4 r format.property_first_block) read.rec_is;
       size_is = k.1 ∙ ap (λ r. field 2 r format.property_length) read.rec_is;
     }
-
--- the text leads to each of its blocks so far
-pub leads_on : (records : Records) (p : ℕ) (from : Key) (ids pushed : List ℕ) (at left : ℕ) → IsLong records p → TextReached records p from at left → 0 < left → pushed ≡ ids ++ at ∷ [] → LeadsToAll records p ids → LeadsToAll records p pushed
-leads_on records p from ids pushed at left long r more is old b i = ⊎_elim (λ (j : In b ids). old b j)
-    (λ (j : In b (at ∷ [])). ⊎_elim (λ (e : b ≡ at). subst (blocks.LeadsToBlock records p) (sym e) (record { long = long; before = r.blocks; left = left; passed = r.passed; more = more })) (λ (k : ⊥). absurd k) j)
-    (in_parts b ids (at ∷ []) (subst (In b) is i))

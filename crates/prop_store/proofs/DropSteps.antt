@@ -1,21 +1,23 @@
 -- Properties given back with their blocks, one after the other.
-use Rattle.std.proofs.Common.{◌≡◌, ℕ, ◌<◌, true, List, [], ◌∷◌, length, sym, ap, ◌∙◌, subst, inl, inr, arith, refl}
+use Rattle.std.proofs.Common.{◌≡◌, ℕ, ◌<◌, true, List, [], ◌∷◌, length, sym, ap, ◌∙◌, subst, inl, inr, arith, refl, append-nil}
 use Rattle.std.proofs.lemmas.Bool.{true≢false}
 use Rattle.rec_bytes.specs.declared.key.Key.{Key}
 use Rattle.rec_bytes.specs.declared.shape.Shape.{Shape}
 use Rattle.rec_bytes.specs.Format as format
 use Rattle.rec_bytes.specs.Space.{SameButReads, State}
 use Rattle.store_rules.specs.Chains.{In}
-use Rattle.store_rules.specs.Properties.{AreBlocks, AreOnce, Property}
+use Rattle.store_rules.specs.Properties.{AreBlocks, AreOnce, AreProperties, Property, blocks_of, ids_of, property_records}
 use Rattle.store_rules.specs.PropertyChange.{ChangesFile}
 use Rattle.store_rules.specs.Views.{Records, high, is_live, kind_at, rec_at}
 use Rattle.store_rules.proofs.ViewLaws.{kind_below, live_false}
 use Rattle.id_freelist.specs.Giving.{CanGive, HasGiven}
-use Rattle.prop_store.specs.Dropping.{ChangesRecords, IsHeld}
+use Rattle.prop_store.specs.Dropping.{AreHeld, ChangesRecords, IsHeld}
 use Rattle.prop_store.specs.FileChange.{HasFewer, IsSameBeside}
 use Rattle.prop_store.specs.GivenOut.{AreGivenOut}
+use Rattle.prop_store.specs.Owner.{HasProperties, first_of}
+use Rattle.prop_store.specs.declared.owner.Owner.{Owner}
 use Rattle.prop_store.specs.declared.property_row.PropertyRow.{PropertyRow}
-use Rattle.prop_store.proofs.FileMoves.{middle}
+use Rattle.prop_store.proofs.FileMoves.{Replaces, middle}
 use Rattle.prop_store.proofs.FileSteps.{file_given, file_now, keeps_file}
 use Rattle.prop_store.proofs.RecordMoves.{properties_moved, records_then, strings_moved}
 
@@ -73,3 +75,29 @@ property_dropped s a b t row e ids held same ids_are released beside given =
     (subst (λ (id : ℕ). (free : List ℕ) → CanGive b format.properties_file id free → HasGiven b.records t.records format.properties_file id free) held.id_is given) in
     records_then s.records b.records t.records s.shape (e.id ∷ []) (e.id ∷ []) [] e.blocks [] [] (e.id ∷ []) [] [] []
     (middle [] (e.id ∷ []) [] [] ((λ i. i), tt)) (middle [] [] [] [] tt) first second
+
+-- What an element's properties have was found, and it was given back: all blocks, and then all properties.
+pub all_dropped : (s a b t : State) (es : List Property) (first : ℕ) (ids blocks : List ℕ) → AreHeld s first es → SameButReads s a → ids ≡ ids_of es → blocks ≡ blocks_of es → b.shape ≡ s.shape
+    → (AreOnce blocks → ChangesFile a.records a.records a.shape format.strings_file blocks blocks → ChangesFile a.records b.records a.shape format.strings_file blocks [] × HasFewer a b format.strings_file (length blocks))
+    → IsSameBeside format.strings_file a.records b.records
+    → (AreOnce ids → ChangesFile b.records b.records b.shape format.properties_file ids ids → ChangesFile b.records t.records b.shape format.properties_file ids [])
+    → IsSameBeside format.properties_file b.records t.records
+    → ChangesRecords s.records t.records s.shape (ids_of es) [] (blocks_of es) []
+all_dropped s a b t es first ids blocks held same ids_are blocks_are shape released beside returned aside =
+    let all = ids_of es in
+    let freed = blocks_released s a b all blocks (blocks_of es) same blocks_are held.are.blocks_once held.properties held.strings released beside in
+    let now = file_now s.records b.records s.shape format.properties_file all all freed.properties all freed.properties.live in
+    let gone : ChangesFile b.records t.records s.shape format.properties_file all []
+    = subst (λ (z : Shape). ChangesFile b.records b.records z format.properties_file all all → ChangesFile b.records t.records z format.properties_file all []) shape
+    (subst (λ (xs : List ℕ). AreOnce xs → ChangesFile b.records b.records b.shape format.properties_file xs xs → ChangesFile b.records t.records b.shape format.properties_file xs []) ids_are returned held.are.ids_once) now in
+    let last = properties_moved b.records t.records s.shape all [] [] (keeps_file s.records b.records s.shape format.strings_file (blocks_of es) [] freed.strings) aside gone in
+    records_then s.records b.records t.records s.shape all all [] (blocks_of es) [] [] all [] [] []
+    (subst (λ xs. Replaces xs all [] []) (append-nil all) (middle [] all [] [] (subst AreOnce (sym (append-nil all)) held.are.ids_once))) (middle [] [] [] [] tt) freed last
+
+-- the properties that are held were given out
+pub held_given : (s : State) (owner : Owner) (first : ℕ) (es : List Property) → first ≡ first_of s.records owner → AreHeld s first es → HasProperties s.records owner es
+held_given s owner first es first_is held = record {
+  are = subst (λ f. AreProperties (property_records s.records) f es) first_is held.are;
+  ids_low = λ x i. live_low s.records format.properties_file x (held.properties.live x i);
+  blocks_low = λ x i. live_low s.records format.strings_file x (held.strings.live x i);
+}

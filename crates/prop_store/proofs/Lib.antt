@@ -4,8 +4,6 @@ pub mod BlockRecords
 pub mod BlockSteps
 pub mod Breaches
 pub mod Causes
-pub mod ChainDrops
-pub mod Clearing
 pub mod DropSteps
 pub mod ElementChanges
 pub mod ElementCounts
@@ -17,6 +15,7 @@ pub mod Exits
 pub mod FileMoves
 pub mod FileSteps
 pub mod Followed
+pub mod HeldSteps
 pub mod Keys
 pub mod LeftElements
 pub mod LinkChanges
@@ -35,7 +34,6 @@ pub mod RecordFits
 pub mod RecordMoves
 pub mod ReleaseSteps
 pub mod SetCauses
-pub mod StillBroken
 pub mod TextSteps
 pub mod Touches
 pub mod ValueRemovals

@@ -166,6 +166,17 @@ touches_released s t blocks h = record {
       (λ q i. ⊎_elim (λ (e : q ≡ meta_key_of format.strings_file). among_right q (map (key_in format.strings_file) blocks) metas (inr (inl e))) (λ j. among_left q (map (key_in format.strings_file) blocks) metas j) i) h;
 }
 
+-- properties that are given back
+pub touches_returned : {tells : Type 0} (s t : State) (ids : List ℕ) → TouchesOnly tells s t (meta_key_of format.properties_file ∷ map (key_in format.properties_file) ids) → TouchesProperties tells [] (length ids) 0 s t
+touches_returned s t ids h = record {
+  ids = ids;
+  block_ids = [];
+  few_ids = omega arith;
+  few_blocks = omega arith;
+  only = only_more s t (meta_key_of format.properties_file ∷ map (key_in format.properties_file) ids) (property_keys ids [])
+      (λ q i. ⊎_elim (λ (e : q ≡ meta_key_of format.properties_file). among_right q (map (key_in format.properties_file) ids) metas (inl e)) (λ j. among_left q (map (key_in format.properties_file) ids) metas j) i) h;
+}
+
 -- one of several blocks
 pub only_given : {tells : Type 0} (a b c : State) (file id : ℕ) (blocks : List ℕ) → In id blocks → TouchesOnly tells a b (meta_key_of file ∷ map (key_in file) blocks) → TouchesOnly tells b c (key_in file id ∷ meta_key_of file ∷ []) → TouchesOnly tells a c (meta_key_of file ∷ map (key_in file) blocks)
 only_given a b c file id blocks i = only_then a b c (meta_key_of file ∷ map (key_in file) blocks) (key_in file id ∷ meta_key_of file ∷ []) (meta_key_of file ∷ map (key_in file) blocks) (λ q k. k)
@@ -204,6 +215,11 @@ touches_freed s a b blocks same h = touches_then [] 0 0 0 (length blocks) 0 (len
 pub touches_dropped : {tells : Type 0} (s a b t : State) (id : ℕ) (blocks : List ℕ) → SameButReads s a → TouchesOnly tells a b (meta_key_of format.strings_file ∷ map (key_in format.strings_file) blocks)
     → TouchesOnly tells b t (key_in format.properties_file id ∷ meta_key_of format.properties_file ∷ []) → TouchesProperties tells [] 1 (length blocks) s t
 touches_dropped s a b t id blocks same h g = touches_then [] 0 (length blocks) 1 0 1 (length blocks) s b t (omega arith) (omega arith) (touches_freed s a b blocks same h) (touches_given b t id g)
+
+-- and then several properties
+pub touches_all : {tells : Type 0} (s a b t : State) (ids blocks : List ℕ) → SameButReads s a → TouchesOnly tells a b (meta_key_of format.strings_file ∷ map (key_in format.strings_file) blocks)
+    → TouchesOnly tells b t (meta_key_of format.properties_file ∷ map (key_in format.properties_file) ids) → TouchesProperties tells [] (length ids) (length blocks) s t
+touches_all s a b t ids blocks same h g = touches_then [] 0 (length blocks) (length ids) 0 (length ids) (length blocks) s b t (omega arith) (omega arith) (touches_freed s a b blocks same h) (touches_returned b t ids g)
 
 -- after reads, a call
 pub touches_after : {tells : Type 0} (links : List Key) (n m : ℕ) (s a b : State) → SameButReads s a → TouchesProperties tells links n m a b → TouchesProperties tells links n m s b

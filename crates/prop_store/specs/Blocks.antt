@@ -8,8 +8,8 @@ use Rattle.rec_bytes.specs.declared.record.Rec.{Rec}
 use Rattle.rec_bytes.specs.Format as format
 use Rattle.rec_bytes.specs.Record.{field}
 use Rattle.rec_bytes.specs.Space.{State}
-use Rattle.store_rules.specs.Breaking.{IsLong, block_size, damage, first_block, next_block}
-use Rattle.store_rules.specs.Breaking.{text_size}
+use Rattle.store_rules.specs.Breaking.{HasBlock, IsLong, block_size, damage, first_block}
+use Rattle.store_rules.specs.Breaking.{next_block, text_size}
 use Rattle.store_rules.specs.Chains.{In}
 use Rattle.store_rules.specs.Properties.{AreBlocks, AreOnce, head_of}
 use Rattle.store_rules.specs.Views.{Records, key_in, kind_at}
@@ -82,17 +82,9 @@ IsTextFault s p Memory = Unit {0}
 IsTextFault s p Disk = Unit {0}
 IsTextFault s p (Damaged d) = IsLong s.records p × IsTextDamage s p d
 
--- The property's text leads to the block.
-pub record LeadsToBlock (records : Records) (p b : ℕ) : Type 0 where
-  pub long : IsLong records p
-  pub before : List ℕ
-  pub left : ℕ
-  pub passed : ArePassed records (first_block records p) (text_size records p) before b left
-  pub more : 0 < left
-
--- it leads to each of these
-abbrev pub LeadsToAll : Records → ℕ → List ℕ → Type 0
-LeadsToAll records p bs = (b : ℕ) → In b bs → LeadsToBlock records p b
+-- the property has each of these blocks
+abbrev pub HasBlocks : Records → ℕ → List ℕ → Type 0
+HasBlocks records p bs = (b : ℕ) → In b bs → HasBlock records p b
 
 -- These blocks are in use, and none comes twice.
 pub record AreUsedOnce (records : Records) (bs : List ℕ) : Type 0 where

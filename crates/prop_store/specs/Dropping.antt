@@ -1,16 +1,14 @@
 -- Properties given back with their blocks.
-use Rattle.std.specs.Prelude.{◌≡◌, ◌≢◌, ◌⊎◌, ℕ, List, [], ◌∷◌, length}
+use Rattle.std.specs.Prelude.{◌≡◌, ◌≢◌, ℕ, List, [], ◌∷◌, length}
 use Rattle.rec_bytes.specs.declared.key.Key.{Key}
 use Rattle.rec_bytes.specs.declared.shape.Shape.{Shape}
 use Rattle.rec_bytes.specs.Format as format
-use Rattle.rec_bytes.specs.Record.{field}
 use Rattle.rec_bytes.specs.RecordFiles.{meta_key_of}
 use Rattle.rec_bytes.specs.Space.{State}
 use Rattle.store_rules.specs.Properties.{AreOnce, AreProperties, Property, blocks_of, ids_of}
 use Rattle.store_rules.specs.Properties.{property_records}
 use Rattle.store_rules.specs.PropertyChange.{ChangesFile}
-use Rattle.store_rules.specs.Views.{Records, high, rec_at}
-use Rattle.prop_store.specs.Blocks.{LeadsToBlock}
+use Rattle.store_rules.specs.Views.{Records, rec_at}
 use Rattle.prop_store.specs.PropertyRow.{HasValue}
 use Rattle.prop_store.specs.declared.changing.Dropped.{Dropped}
 use Rattle.prop_store.specs.declared.property_row.PropertyRow.{PropertyRow}
@@ -52,15 +50,3 @@ pub record DropsProperties (old new : State) (es : List Property) (dropped : Dro
   pub properties : dropped.properties ≡ length es
   pub blocks : dropped.blocks ≡ length (blocks_of es)
   pub changes : ChangesRecords old.records new.records old.shape (ids_of es) [] (blocks_of es) []
-
--- Whatever the records say: that of the property is free now, and so are those of blocks that its
--- text leads to. No other of the two files changed.
-pub record HasCleared (old new : Records) (p : ℕ) : Type 0 where
-  pub property_mark : high new format.properties_file ≡ high old format.properties_file
-  pub block_mark : high new format.strings_file ≡ high old format.strings_file
-  pub gone : field 1 (rec_at new format.properties_file p) format.kind ≡ format.free_kind
-  pub property : (x : ℕ) → x ≢ p
-      → rec_at new format.properties_file x ≡ rec_at old format.properties_file x
-  pub block : (b : ℕ) → (rec_at new format.strings_file b ≡ rec_at old format.strings_file b)
-      ⊎ ((field 1 (rec_at new format.strings_file b) format.kind ≡ format.free_kind)
-      × LeadsToBlock old p b)

@@ -1,14 +1,12 @@
 -- What a change of one file of records leaves of the others.
-use Rattle.std.specs.Prelude.{◌≡◌, ◌≢◌, ◌⊎◌, ℕ, ◌+◌, ◌<◌, ◌/◌, List, [], length}
+use Rattle.std.specs.Prelude.{◌≡◌, ◌≢◌, ℕ, ◌+◌, ◌<◌, ◌/◌, List, [], length}
 use Rattle.rec_bytes.specs.declared.key.Key.{Key}
 use Rattle.rec_bytes.specs.Format as format
-use Rattle.rec_bytes.specs.Record.{field}
 use Rattle.rec_bytes.specs.RecordFiles.{meta_key_of, room_of}
 use Rattle.rec_bytes.specs.Space.{State, meta_in, meta_of}
-use Rattle.store_rules.specs.Chains.{In}
 use Rattle.store_rules.specs.Properties.{AreBlocks, AreOnce, head_of}
 use Rattle.store_rules.specs.PropertyChange.{ChangesFile}
-use Rattle.store_rules.specs.Views.{Records, high, rec_at}
+use Rattle.store_rules.specs.Views.{Records, rec_at}
 use Rattle.id_freelist.specs.declared.take_fault.TakeFault.{TakeFault}
 use Rattle.id_freelist.specs.declared.take_fault.TakeFault.TheVariants.{Damaged, Disk, Full, Memory}
 
@@ -46,9 +44,3 @@ IsWriteFault s file needed (Damaged damage) = ⊥
 abbrev pub HasFewer : State → State → ℕ → ℕ → Type 0
 HasFewer old new file count =
     (meta_in new.records file).live + count ≡ (meta_in old.records file).live
-
--- The records of these blocks are free now, and no other changed.
-pub record HasFreed (old new : Records) (blocks : List ℕ) : Type 0 where
-  pub mark : high new format.strings_file ≡ high old format.strings_file
-  pub each : (b : ℕ) → (rec_at new format.strings_file b ≡ rec_at old format.strings_file b)
-      ⊎ ((field 1 (rec_at new format.strings_file b) format.kind ≡ format.free_kind) × In b blocks)

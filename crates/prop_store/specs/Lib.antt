@@ -10,6 +10,7 @@ pub mod FileChange
 pub mod Finding
 pub mod Form
 pub mod GivenOut
+pub mod Held
 pub mod Link
 pub mod Owner
 pub mod PropertyRecord

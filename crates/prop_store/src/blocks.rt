@@ -6,9 +6,9 @@ ghost use Rattle.rec_bytes.specs.Format.{most_ids, strings_file};
 ghost use Rattle.rec_bytes.specs.Space.{after_get};
 ghost use Rattle.store_rules.specs.Properties.{long_text_from};
 ghost use Rattle.store_rules.specs.Views.{rec_at};
-ghost use Rattle.prop_store.specs.Blocks.{AreUsedOnce};
+ghost use Rattle.prop_store.specs.Blocks.{AreUsedOnce, HasBlocks};
 ghost use Rattle.prop_store.specs.Blocks.{HasBlockForm, HasText, IsBlockFault, IsBlockKind};
-ghost use Rattle.prop_store.specs.Blocks.{IsBlockOf, IsTextFault, IsTextOf, LeadsToAll};
+ghost use Rattle.prop_store.specs.Blocks.{IsBlockOf, IsTextFault, IsTextOf};
 ghost use Rattle.rec_bytes.specs.Fault.{HasFaultCause, NotDamaged};
 ghost use Rattle.prop_store.specs.GivenOut.{AreGivenOut, IsGivenOut};
 ghost use Rattle.prop_store.specs.Reading.{ReadsAtMost};
@@ -33,8 +33,8 @@ pub(crate) fn block_ids<R: Reads>(
     ensures followed { R.tells → (text blocks : List ℕ)
         → HasText (rec_at (R.state space.old).records strings_file) first size text blocks
         → IfOk result (λ ids. ids ≡ blocks) }
-    ensures leads { R.tells → IsTextOf (R.state space.old).records property first size
-        → IfOk result (LeadsToAll (R.state space.old).records property) }
+    ensures has { R.tells → IsTextOf (R.state space.old).records property first size
+        → IfOk result (HasBlocks (R.state space.old).records property) }
     ensures once { R.tells → IfOk result (AreUsedOnce (R.state space.old).records) }
     ensures damaged { R.tells → IsTextOf (R.state space.old).records property first size
         → IfErr result (IsTextFault (R.state space.old) property) }

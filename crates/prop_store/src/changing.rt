@@ -6,8 +6,9 @@ ghost use Rattle.store_rules.specs.Writes.{WritesAtMost, WritesBeside};
 ghost use Rattle.prop_store.specs.Alone.{DropsAllAlone, OwnsProperties, UnsetsAlone};
 ghost use Rattle.prop_store.specs.Changing.{DropsAll, HasElement, HasKey, UnsetsValue};
 ghost use Rattle.prop_store.specs.Changing.{released_blocks};
-ghost use Rattle.rec_bytes.specs.Fault.{HasFaultCause, NotDamaged};
-ghost use Rattle.prop_store.specs.Fault.{BlamesBroken, BlamesDropped};
+ghost use Rattle.rec_bytes.specs.Fault.{HasFaultCause, NotDamaged, OnDamage};
+ghost use Rattle.rec_bytes.specs.Space.{SameButReads};
+ghost use Rattle.prop_store.specs.Fault.{BlamesBroken};
 ghost use Rattle.prop_store.specs.Owner.{IsInUse, IsOwner};
 ghost use Rattle.prop_store.specs.Touching.{LeavesElement, TouchesProperties};
 
@@ -70,9 +71,8 @@ pub fn drop_all<S: Space>(space: &mut S, owner: Owner) -> Result<Dropped, Fault>
     ensures alone_sound { S.tells → (es : List Property)
         → OwnsProperties (S.state space.old) owner es → NotDamaged result }
     ensures damaged { S.tells → IsInUse (S.state space.old).records owner
-        → IfErr result (BlamesDropped (S.state space.old).records (S.state space.old).shape) }
-    ensures still { S.tells → IsInUse (S.state space.old).records owner
-        → IfErr result (BlamesBroken (S.state space.new).records (S.state space.new).shape) }
+        → IfErr result (BlamesBroken (S.state space.old).records (S.state space.old).shape) }
+    ensures unwritten { OnDamage result (SameButReads (S.state space.old) (S.state space.new)) }
     ensures few_properties { IfOk result (λ dropped. dropped.properties ≤ 32) }
     ensures few_blocks { IfOk result (λ dropped. dropped.blocks ≤ 704) }
     ensures writes { IfOk result (λ dropped.

@@ -1,31 +1,24 @@
 //! Properties given back with their blocks.
 
-ghost use Rattle.std.specs.Prelude.{◌≡◌, ◌≢◌, ◌≤◌, List, [], IfOk, IsOk, OnOk, ◌+◌, IfErr};
-ghost use Rattle.rec_bytes.specs.Format.{properties_file};
+ghost use Rattle.std.specs.Prelude.{◌≡◌, ◌≤◌, List, [], IfOk, IfErr};
 ghost use Rattle.rec_bytes.specs.Space.{SameButReads};
-ghost use Rattle.store_rules.specs.Views.{key_in};
 ghost use Rattle.store_rules.specs.Properties.{Property};
-ghost use Rattle.prop_store.specs.Dropping.{AreHeld, DropsProperties, DropsProperty, HasCleared};
-ghost use Rattle.prop_store.specs.Dropping.{IsHeld};
+ghost use Rattle.prop_store.specs.Dropping.{AreHeld, DropsProperties, DropsProperty, IsHeld};
 ghost use Rattle.rec_bytes.specs.Fault.{HasFaultCause, NotDamaged, OnDamage};
 ghost use Rattle.prop_store.specs.Blocks.{IsTextFault};
-ghost use Rattle.prop_store.specs.Fault.{BlamesBroken, BlamesDropped};
-ghost use Rattle.prop_store.specs.GivenOut.{IsGivenOut, IsLinkFault};
+ghost use Rattle.prop_store.specs.Fault.{BlamesBroken};
 ghost use Rattle.prop_store.specs.Owner.{IsInUse, IsOwner, first_of};
 ghost use Rattle.prop_store.specs.PropertyRow.{IsReadRow, IsRow};
 ghost use Rattle.prop_store.specs.Touching.{TouchesProperties};
 
 use crate::Owner;
 use crate::changing::Dropped;
-use crate::damaged::damaged;
-use crate::given_out::test_link;
-use crate::property_row::{PropertyRow, property_at};
-use crate::releasing::release;
+use crate::held::find_held;
+use crate::property_row::PropertyRow;
+use crate::releasing::{release, release_properties};
 use crate::values::value_blocks;
 use id_freelist::give;
-use rec_bytes::{
-    Fault, Key, MOST_PROPERTIES, NIL, PROPERTIES, PROPERTY_NEXT, PROPERTY_RULE, Reads, Space,
-};
+use rec_bytes::{Fault, PROPERTIES, Space};
 
 /// Gives a property and the blocks of its value back, and answers how many blocks those were. What
 /// leads to the property stays.
@@ -39,9 +32,6 @@ pub(crate) fn drop_property<S: Space>(space: &mut S, row: &PropertyRow) -> Resul
     ensures touches { IfOk result (λ released. TouchesProperties S.tells [] 1 released
         (S.state space.old) (S.state space.new)) }
     ensures at_most { TouchesProperties S.tells [] 1 22 (S.state space.old) (S.state space.new) }
-    ensures cleared { S.tells → IsReadRow (S.state space.old).records row.now
-        → OnOk result (HasCleared (S.state space.old).records (S.state space.new).records
-        row.now.id) }
     ensures damaged { S.tells → IsReadRow (S.state space.old).records row.now
         → IfErr result (IsTextFault (S.state space.old) row.now.id) }
     ensures unwritten { OnDamage result (SameButReads (S.state space.old) (S.state space.new)) }
@@ -55,14 +45,15 @@ pub(crate) fn drop_property<S: Space>(space: &mut S, row: &PropertyRow) -> Resul
     Ok(ids.len() as u32)
 }
 
-/// Gives the properties of an element back from its first one on, each with the blocks of its
-/// value.
+/// Gives the properties of an element back from its first one on, and the blocks of their values.
+/// All of them are found before the first is given back, so what is damaged is so as it stands.
 pub(crate) fn drop_chain<S: Space>(
     space: &mut S,
     owner: Owner,
     first: u32,
 ) -> Result<Dropped, Fault>
-    requires { IsOwner owner }
+    requires owner { IsOwner owner }
+    requires first { S.tells → first ≡ first_of (S.state space.old).records owner }
     ensures dropped { S.tells → (es : List Property) → AreHeld (S.state space.old) first es
         → IfOk result (DropsProperties (S.state space.old) (S.state space.new) es) }
     ensures sound { S.tells → (es : List Property) → AreHeld (S.state space.old) first es
@@ -73,55 +64,18 @@ pub(crate) fn drop_chain<S: Space>(
         dropped.properties dropped.blocks (S.state space.old) (S.state space.new)) }
     ensures at_most { TouchesProperties S.tells [] 32 704 (S.state space.old) (S.state space.new) }
     ensures damaged { S.tells → IsInUse (S.state space.old).records owner
-        → first ≡ first_of (S.state space.old).records owner
-        → IfErr result (BlamesDropped (S.state space.old).records (S.state space.old).shape) }
-    ensures still { S.tells → IsInUse (S.state space.old).records owner
-        → first ≡ first_of (S.state space.old).records owner
-        → IfErr result (BlamesBroken (S.state space.new).records (S.state space.new).shape) }
+        → IfErr result (BlamesBroken (S.state space.old).records (S.state space.old).shape) }
+    ensures unwritten { OnDamage result (SameButReads (S.state space.old) (S.state space.new)) }
     ensures onward { S.onward space.old space.new }
     ensures cause { HasFaultCause (S.faults space.old) (S.faults space.new) result }
 {
-    let mut from = owner.key;
-    let mut at = first;
-    let mut properties = 0;
-    let mut blocks = 0;
-    while at != NIL {
-        if properties == MOST_PROPERTIES {
-            return Err(damaged(owner.key.file, owner.key.id, PROPERTY_RULE));
-        }
-        let mut row = PropertyRow::BLANK;
-        property_at(space, owner.key, from, at, &mut row)?;
-        let next = row.rec.number(PROPERTY_NEXT);
-        // The record of the link is given back then, and tells no link any more.
-        test_next(space, at, next)?;
-        let released = drop_property(space, &row)?;
-        properties += 1;
-        blocks += released;
-        from = Key {
-            file: PROPERTIES,
-            id: at,
-        };
-        at = next;
-    }
-    Ok(Dropped { properties, blocks })
-}
-
-/// Tests the link of a property to the next one, if there is one.
-fn test_next<R: Reads>(space: &R, id: u32, next: u32) -> Result<(), Fault>
-    ensures given { OnOk result (next ≢ NIL
-        → IsGivenOut (R.state space.now).records properties_file next) }
-    ensures sound { (next ≢ NIL → IsGivenOut (R.state space.now).records properties_file next)
-        → IsOk result }
-    ensures some { IfErr result (λ _. next ≢ NIL) }
-    ensures damaged { IfErr result (IsLinkFault (R.state space.now)
-        (key_in properties_file id) properties_file next) }
-{
-    if next == NIL {
-        return Ok(());
-    }
-    let from = Key {
-        file: PROPERTIES,
-        id,
-    };
-    test_link(space, from, PROPERTIES, next)
+    let held = find_held(space, owner, first)?;
+    let ids = held.ids.as_slice();
+    let blocks = held.blocks.as_slice();
+    release(space, blocks)?;
+    release_properties(space, ids)?;
+    Ok(Dropped {
+        properties: ids.len() as u32,
+        blocks: blocks.len() as u32,
+    })
 }

@@ -14,6 +14,7 @@ mod dropping;
 mod finding;
 mod form;
 mod given_out;
+mod held;
 mod link;
 mod owner;
 mod prop;

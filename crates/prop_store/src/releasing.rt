@@ -1,5 +1,5 @@
 ghost use Rattle.std.specs.Prelude.{◌≡◌, ◌<◌, ◌∷◌, [], IfErr, OnErr, OnOk, length, map};
-ghost use Rattle.rec_bytes.specs.Format.{meta_file, strings_file};
+ghost use Rattle.rec_bytes.specs.Format.{meta_file, properties_file, strings_file};
 ghost use Rattle.rec_bytes.specs.Meta.{IsLinkBelow};
 ghost use Rattle.rec_bytes.specs.RecordFiles.{meta_key_of};
 ghost use Rattle.rec_bytes.specs.Space.{HasCause, meta_of};
@@ -9,12 +9,12 @@ ghost use Rattle.store_rules.specs.Views.{key_in};
 ghost use Rattle.id_freelist.specs.ListDamage.{HarmsNoList};
 ghost use Rattle.prop_store.specs.BlockList.{AreSmall};
 ghost use Rattle.prop_store.specs.Blocks.{AreUsedOnce};
-ghost use Rattle.prop_store.specs.FileChange.{HasFewer, HasFreed, IsSameBeside};
+ghost use Rattle.prop_store.specs.FileChange.{HasFewer, IsSameBeside};
 ghost use Rattle.prop_store.specs.Touching.{TouchesOnly};
 
 use crate::damaged::damaged;
 use id_freelist::give;
-use rec_bytes::{Fault, META, NIL, RANGE_RULE, Reads, STRINGS, Space, SpaceFault};
+use rec_bytes::{Fault, META, NIL, PROPERTIES, RANGE_RULE, Reads, STRINGS, Space, SpaceFault};
 
 /// Tests the first free block before these are given back, since they will lead to it. Else a block
 /// would be blamed for it that is taken again.
@@ -43,8 +43,6 @@ pub(crate) fn release<S: Space>(space: &mut S, blocks: &[u32]) -> Result<(), Spa
         → ChangesFile (S.state space.old).records (S.state space.new).records
         (S.state space.old).shape strings_file blocks.now []
         × HasFewer (S.state space.old) (S.state space.new) strings_file (length blocks.now)) }
-    ensures freed { S.tells → OnOk result
-        (HasFreed (S.state space.old).records (S.state space.new).records blocks.now) }
     ensures harmless { S.tells → OnOk result (AreUsedOnce (S.state space.old).records blocks.now
         → (0 < length blocks.now
         → IsLinkBelow (meta_of (S.state space.old) strings_file).free
@@ -59,6 +57,27 @@ pub(crate) fn release<S: Space>(space: &mut S, blocks: &[u32]) -> Result<(), Spa
 {
     for id in blocks {
         give(space, STRINGS, *id)?;
+    }
+    Ok(())
+}
+
+/// Gives properties back, which are live.
+pub(crate) fn release_properties<S: Space>(space: &mut S, ids: &[u32]) -> Result<(), SpaceFault>
+    requires { AreSmall ids.now }
+    ensures released { S.tells → OnOk result (AreOnce ids.now
+        → ChangesFile (S.state space.old).records (S.state space.old).records
+        (S.state space.old).shape properties_file ids.now ids.now
+        → ChangesFile (S.state space.old).records (S.state space.new).records
+        (S.state space.old).shape properties_file ids.now []) }
+    ensures beside { S.tells → OnOk result (IsSameBeside properties_file
+        (S.state space.old).records (S.state space.new).records) }
+    ensures touches { TouchesOnly S.tells (S.state space.old) (S.state space.new)
+        (meta_key_of properties_file ∷ map (key_in properties_file) ids.now) }
+    ensures onward { S.onward space.old space.new }
+    ensures cause { HasCause (S.faults space.old) (S.faults space.new) result }
+{
+    for id in ids {
+        give(space, PROPERTIES, *id)?;
     }
     Ok(())
 }

@@ -8,7 +8,7 @@ ghost use Rattle.rec_bytes.specs.Format.{strings_file};
 ghost use Rattle.store_rules.specs.Properties.{content_of, value_from};
 ghost use Rattle.store_rules.specs.Views.{rec_at};
 ghost use Rattle.rec_bytes.specs.Fault.{HasFaultCause, NotDamaged};
-ghost use Rattle.prop_store.specs.Blocks.{AreUsedOnce, IsTextFault, LeadsToAll};
+ghost use Rattle.prop_store.specs.Blocks.{AreUsedOnce, HasBlocks, IsTextFault};
 ghost use Rattle.prop_store.specs.GivenOut.{AreGivenOut};
 ghost use Rattle.prop_store.specs.PropertyRow.{HasValue, IsReadRow, IsRow};
 ghost use Rattle.prop_store.specs.Reading.{ReadsAtMost};
@@ -65,8 +65,8 @@ pub(crate) fn value_blocks<R: Reads>(space: &mut R, row: &PropertyRow) -> Result
     ensures sound { R.tells → (value : StoredValue) (blocks : List ℕ)
         → HasValue (rec_at (R.state space.old).records strings_file) row.now.rec value blocks
         → AreGivenOut (R.state space.old).records strings_file blocks → NotDamaged result }
-    ensures leads { R.tells → IsReadRow (R.state space.old).records row.now
-        → IfOk result (LeadsToAll (R.state space.old).records row.now.id) }
+    ensures has { R.tells → IsReadRow (R.state space.old).records row.now
+        → IfOk result (HasBlocks (R.state space.old).records row.now.id) }
     ensures once { R.tells → IfOk result (AreUsedOnce (R.state space.old).records) }
     ensures damaged { R.tells → IsReadRow (R.state space.old).records row.now
         → IfErr result (IsTextFault (R.state space.old) row.now.id) }

@@ -30,7 +30,7 @@ use Rattle.graph_ops.proofs.Writes.{on_any_err, touched_written}
 use Rattle.graph_ops.proofs.DiskCauses.{change_cause_passed, fault_cause_passed, later_on}
 use Rattle.prop_store.specs.Owner.{IsInUse}
 use Rattle.graph_ops.specs.Owners.{owner_of}
-use Rattle.graph_ops.proofs.Broken.{blames_more, property_left, rel_broken, rel_in_use}
+use Rattle.graph_ops.proofs.Broken.{blames_more, rel_broken, rel_in_use, unwritten_left}
 use Rattle.graph_ops.proofs.EdgeBlames.{drop_blamed}
 use Rattle.graph_ops.proofs.EdgeSought.{row_found, row_later, taken_told}
 use Rattle.graph_ops.proofs.EdgeFrames.{edge_left, edge_read, edge_then, taken_before}
@@ -215,7 +215,7 @@ returns-in_err-rel-clause-damaged g c tells =
     let s = g.S.Reads.state c.args.space.now in
     let v = g.S.Reads.state c.load.new.space in
     fault_exit of_row (BlamesDeleting s v) c.in_err-rel.field-0.0 c.from_residual.result c.from_residual.ensures.1
-    (blames_more _ _ (λ damage told. inl (inl told)) (of_row c.in_err-rel.field-0.0) (rel_broken s c.args.id c.in_err-rel.field-0.0 (c.in_err-rel.ensures.damaged tells)))
+    (blames_more _ _ (λ damage told. inl told) (of_row c.in_err-rel.field-0.0) (rel_broken s c.args.id c.in_err-rel.field-0.0 (c.in_err-rel.ensures.damaged tells)))
 
 pub returns-in_err-dropped-clause-damaged : goal.returns-in_err-dropped-clause-damaged
 returns-in_err-dropped-clause-damaged g c tells =
@@ -297,7 +297,8 @@ returns-in_err-dropped-clause-broken g c tells =
     let at = (goal.at.returns-in_err-dropped-clause-broken g c).After-drop_all in
     let used = rel_in_use s (targets.Edge c.args.id) c.args.id c.in-Some.rel refl (found g at tells) in
     fault_exit of_fault (BlamesBroken t) c.in_err-dropped.field-0.0 c.from_residual-in_err-dropped.result c.from_residual-in_err-dropped.ensures.1
-    (property_left t c.in_err-dropped.field-0.0 (c.in_err-dropped.ensures.still tells (subst (IsInUse v.records) (sym c.edge_owner.ensures) (subst (λ (z : State). IsInUse z.records (owner_of (targets.Edge c.args.id))) (sym (was_read g at)) used))))
+    (unwritten_left v t c.in_err-dropped.field-0.0 (c.in_err-dropped.ensures.damaged tells (subst (IsInUse v.records) (sym c.edge_owner.ensures) (subst (λ (z : State). IsInUse z.records (owner_of (targets.Edge c.args.id))) (sym (was_read g at)) used)))
+    c.in_err-dropped.ensures.unwritten)
 
 pub returns-in_err-take_edge-clause-broken : goal.returns-in_err-take_edge-clause-broken
 returns-in_err-take_edge-clause-broken g c tells =

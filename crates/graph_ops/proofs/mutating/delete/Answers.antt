@@ -1,9 +1,7 @@
-use Rattle.std.proofs.Common.{◌⊎◌, ℕ, [], ◌∷◌, inl, inr, ⊎_elim, sym, subst}
+use Rattle.std.proofs.Common.{ℕ, [], ◌∷◌, sym, subst}
 use Rattle.std.proofs.lemmas.Result.{IfErr-weaker}
-use Rattle.rec_bytes.specs.declared.damage.Damage.{Damage}
 use Rattle.rec_bytes.specs.Space.{State}
-use Rattle.prop_store.specs.Fault.{SharesBlock}
-use Rattle.graph_ops.specs.Damage.{IfBlames, IsBroken, IsEntryDamage}
+use Rattle.graph_ops.specs.Damage.{BlamesFound}
 use Rattle.graph_ops.specs.NodeDeleting.{IsDeleteCause}
 use Rattle.graph_ops.specs.declared.change_fault.ChangeFault.{ChangeFault}
 use Rattle.graph_ops.specs.declared.change_fault.ChangeFault.TheVariants.{NoNode, NoEdge, HasRelationships, IndexThere, TooManyIndexes, IndexTooLarge, Full, NamesFull, PropsFull, Memory, Disk, Damaged}
@@ -48,7 +46,7 @@ returns-in-Edge-clause-still g c tells =
 
 -- ---- which record is blamed
 
-found_blames : (s t : State) (id : ℕ) (fault : ChangeFault) → IsDeleteCause s t id fault → IfBlames (λ (damage : Damage). IsBroken s damage ⊎ (SharesBlock s.records damage ⊎ IsEntryDamage t damage)) fault
+found_blames : (s t : State) (id : ℕ) (fault : ChangeFault) → IsDeleteCause s t id fault → BlamesFound s t fault
 found_blames s t id (NoNode missing) why = tt
 found_blames s t id (NoEdge missing) why = absurd why
 found_blames s t id (HasRelationships of degree) why = tt
@@ -60,14 +58,14 @@ found_blames s t id (NamesFull count) why = absurd why
 found_blames s t id (PropsFull count) why = absurd why
 found_blames s t id Memory why = tt
 found_blames s t id Disk why = tt
-found_blames s t id (Damaged damage) why = ⊎_elim (λ broken. inl broken) (λ k. inr (⊎_elim (λ shares. inl shares.1) (λ entry. inr entry) k)) why
+found_blames s t id (Damaged damage) why = why
 
 pub returns-in-Node-clause-damaged : goal.returns-in-Node-clause-damaged
 returns-in-Node-clause-damaged g c tells =
     let s = g.S.Reads.state c.args.space.now in
     let t = g.S.Reads.state c.delete_node.new.space in
     subst (λ (target : Target). IfErr c.delete_node.result (BlamesDeletion s t target)) (sym c.in-Node.is)
-    (IfErr-weaker c.delete_node.result (IsDeleteCause s t c.in-Node.id) (IfBlames (λ (damage : Damage). IsBroken s damage ⊎ (SharesBlock s.records damage ⊎ IsEntryDamage t damage))) (found_blames s t c.in-Node.id) (c.delete_node.ensures.found tells))
+    (IfErr-weaker c.delete_node.result (IsDeleteCause s t c.in-Node.id) (BlamesFound s t) (found_blames s t c.in-Node.id) (c.delete_node.ensures.found tells))
 
 pub returns-in-Edge-clause-damaged : goal.returns-in-Edge-clause-damaged
 returns-in-Edge-clause-damaged g c tells =

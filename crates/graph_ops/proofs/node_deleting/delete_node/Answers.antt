@@ -21,7 +21,7 @@ use Rattle.graph_ops.proofs.Deleting.{node_joined, node_lacked}
 use Rattle.graph_ops.proofs.Elements.{node_loaded, node_missing, same_both, same_node, used_of}
 use Rattle.graph_ops.specs.Owners.{owner_of}
 use Rattle.prop_store.specs.Owner.{IsInUse}
-use Rattle.graph_ops.proofs.Broken.{blames_more, drop_cause, entry_cause, entry_left, held_cause, node_broken, node_cause, node_in_use, property_left}
+use Rattle.graph_ops.proofs.Broken.{blames_more, drop_cause, entry_cause, entry_left, held_cause, node_broken, node_cause, node_in_use, unwritten_left}
 use Rattle.graph_ops.specs.Causes.{IsCaused, IsStillCaused}
 use Rattle.graph_ops.proofs.Causes.{any_blamed, broken_left, caused_left, failure_caused}
 use Rattle.graph_ops.proofs.Adding.{space_blamed}
@@ -162,7 +162,7 @@ returns-in_err-dropped-clause-found g c tells =
     let found = sym c.in-Some.is ∙ c.in_ok-node.ensures.found tells in
     let used = node_in_use s (targets.Node c.args.id) c.args.id c.in-Some.node refl found in
     fault_exit of_fault (IsDeleteCause s t c.args.id) c.in_err-dropped.field-0.0 c.from_residual-in_err-dropped.result c.from_residual-in_err-dropped.ensures.1
-    (drop_cause s n t c.args.id c.in-Some.node (read g after) found c.if-node-ne0.false c.in_err-dropped.field-0.0
+    (drop_cause s n t c.args.id (read g after) c.in_err-dropped.field-0.0
     (c.in_err-dropped.ensures.damaged tells (subst (IsInUse n.records) (sym c.node_owner.ensures) (subst (λ (z : State). IsInUse z.records (owner_of (targets.Node c.args.id))) (sym (read g after)) used))))
 
 -- the node's record, those of its properties and their blocks
@@ -484,7 +484,8 @@ returns-in_err-dropped-clause-broken g c tells =
     let t = g.S.Reads.state c.drop_all.new.space in
     let in_use = node_in_use s (targets.Node c.args.id) c.args.id c.in-Some.node refl (sym c.in-Some.is ∙ c.in_ok-node.ensures.found tells) in
     fault_exit of_fault (BlamesBroken t) c.in_err-dropped.field-0.0 c.from_residual-in_err-dropped.result c.from_residual-in_err-dropped.ensures.1
-    (property_left t c.in_err-dropped.field-0.0 (c.in_err-dropped.ensures.still tells (subst (IsInUse n.records) (sym c.node_owner.ensures) (subst (λ (z : State). IsInUse z.records (owner_of (targets.Node c.args.id))) (sym (read g after)) in_use))))
+    (unwritten_left n t c.in_err-dropped.field-0.0 (c.in_err-dropped.ensures.damaged tells (subst (IsInUse n.records) (sym c.node_owner.ensures) (subst (λ (z : State). IsInUse z.records (owner_of (targets.Node c.args.id))) (sym (read g after)) in_use)))
+    c.in_err-dropped.ensures.unwritten)
 
 pub returns-in_err-give-clause-broken : goal.returns-in_err-give-clause-broken
 returns-in_err-give-clause-broken g c tells =

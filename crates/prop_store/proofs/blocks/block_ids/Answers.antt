@@ -7,8 +7,7 @@ use Rattle.rec_bytes.specs.Space.{State}
 use Rattle.store_rules.specs.Views.{Records, rec_at}
 use Rattle.prop_store.proofs.ListLaws.{append_one}
 use Rattle.prop_store.specs.Blocks.{ArePassed, IsBlockOf, IsTextFault}
-use Rattle.store_rules.specs.Chains.{In}
-use Rattle.prop_store.proofs.Breaches.{block_fault, leads_on, passed_once, passed_piece, text_begins, text_goes_on, text_too_long}
+use Rattle.prop_store.proofs.Breaches.{block_fault, passed_blocks, passed_once, passed_piece, text_begins, text_goes_on, text_too_long}
 use Rattle.prop_store.proofs.Exits.{same_has}
 use Rattle.prop_store.proofs.ReadCounts.{reads_none, reads_one, reads_records, reads_same, reads_then}
 use Rattle.prop_store.proofs.TextSteps.{all_left, block_here, right_here, text_after, text_over}
@@ -22,7 +21,6 @@ loop-left-init g c = record {
   sound = λ tells text blocks has given. all_left _ _ _ text blocks _ has given;
   reached = λ tells text. text_begins (g.R.Reads.state c.args.space.now).records c.args.property _ c.args.first c.args.size text refl;
   passed = λ tells. subst (λ (z : List ℕ). ArePassed (g.R.Reads.state c.args.space.now).records c.args.first c.args.size z c.args.first c.args.size) (sym c.new-ids.ensures) (refl, refl);
-  leads = λ tells text b i. elim (subst (In b) c.new-ids.ensures i) [ ];
   few = let none : length c.new-ids.result ≡ 0 = ap (λ (z : List ℕ). length z) c.new-ids.ensures in omega arith;
   reads = reads_none _ _;
   onward = search rules;
@@ -67,7 +65,6 @@ loop-left-preserved g c =
           let got = c.in_ok-rec.ensures.got tells ∙ ap (λ r. rec_at r strings_file c.loop-left.at) same in
           passed_piece old.records c.args.first c.args.size ids c.push.new.self c.loop-left.at c.loop-left.left c.piece_size-piece.result c.number-at.result (c.loop-left.invariant.passed tells) (omega (arith, c.loop-left-test.true)) c.piece_size-piece.ensures
           (subst (λ (r : Records). IsBlockOf r c.loop-left.at c.piece_size-piece.result) same (c.in_ok-rec.ensures.block tells)) (c.number-at.ensures ∙ ap (λ r. field 4 r block_next) got) c.push.ensures;
-      leads = λ tells text. leads_on old.records c.args.property c.loop-left.from ids c.push.new.self c.loop-left.at c.loop-left.left text.long (c.loop-left.invariant.reached tells text) (omega (arith, c.loop-left-test.true)) c.push.ensures (c.loop-left.invariant.leads tells text);
       few = omega (arith, c.loop-left.invariant.few, c.piece_size-piece.ensures, more);
       reads = reads_then _ 1 _ _ _ _ (omega (arith, more)) c.loop-left.invariant.reads (reads_one 1 _ _ (omega arith) c.in_ok-rec.ensures.state);
       onward = g.met.R.Reads.further_onward _ _ _ c.loop-left.invariant.onward c.in_ok-rec.ensures.onward;
@@ -112,8 +109,12 @@ returns-clause-once g c tells =
 pub returns-in_err-rec-clause-once : goal.returns-in_err-rec-clause-once
 returns-in_err-rec-clause-once g c _ = never_ok c.from_residual.result _ _ c.from_residual.ensures.1
 
-pub returns-in_err-rec-clause-leads : goal.returns-in_err-rec-clause-leads
-returns-in_err-rec-clause-leads g c _ _ = never_ok c.from_residual.result _ _ c.from_residual.ensures.1
+pub returns-clause-has : goal.returns-clause-has
+returns-clause-has g c tells text =
+    passed_blocks (g.R.Reads.state c.args.space.now).records c.args.property c.args.first c.args.size c.loop-left.ids c.loop-left.at c.loop-left.left text (c.loop-left.invariant.passed tells) c.if-at.false (omega (arith, c.loop-left-test.false))
+
+pub returns-in_err-rec-clause-has : goal.returns-in_err-rec-clause-has
+returns-in_err-rec-clause-has g c _ _ = never_ok c.from_residual.result _ _ c.from_residual.ensures.1
 
 pub returns-clause-cause : goal.returns-clause-cause
 returns-clause-cause g c = ok_cause _ _ _ _ (omega arith)

@@ -1,7 +1,7 @@
 use Rattle.std.proofs.Common.{◌≡◌, ◌≤◌, ◌+◌, ◌/◌, ◌++◌, ℕ, List, length}
 use Rattle.rec_bytes.specs.Format.{strings_file}
 use Rattle.store_rules.specs.Views.{rec_at}
-use Rattle.prop_store.specs.Blocks.{ArePassed, HasText, IsTextOf, LeadsToAll}
+use Rattle.prop_store.specs.Blocks.{ArePassed, HasText, IsTextOf}
 use Rattle.prop_store.specs.GivenOut.{AreGivenOut}
 use Rattle.prop_store.specs.Reading.{ReadsAtMost}
 use Rattle.prop_store.proofs.Breaches.{TextReached}
@@ -18,7 +18,6 @@ invariant-loop-left g l =
       sound : g.R.Reads.tells → (text blocks : List ℕ) → HasText string_file l.fn.first l.fn.size text blocks → AreGivenOut old.records strings_file blocks → TextLeft string_file l.at l.left (λ rest later. AreGivenOut old.records strings_file later);
       reached : g.R.Reads.tells → IsTextOf old.records l.fn.property l.fn.first l.fn.size → TextReached old.records l.fn.property l.from l.at l.left;
       passed : g.R.Reads.tells → ArePassed old.records l.fn.first l.fn.size l.ids l.at l.left;
-      leads : g.R.Reads.tells → IsTextOf old.records l.fn.property l.fn.first l.fn.size → LeadsToAll old.records l.fn.property l.ids;
       few : length l.ids + (l.left + 47) / 48 ≤ 22;
       reads : ReadsAtMost (length l.ids) old (g.R.Reads.state l.space);
       onward : g.R.Reads.onward l.fn.space l.space;

@@ -1,14 +1,16 @@
+use Rattle.std.specs.Prelude.{IfSome}
 use Rattle.std.proofs.Common.{◌≡◌, [], List, sym, ap, ◌∙◌, subst, arith, inl, refl, ◌∷◌, rules}
 use Rattle.std.proofs.lemmas.Result.{err_from_is_err_and}
-use Rattle.rec_bytes.specs.Space.{State}
+use Rattle.rec_bytes.specs.Fault.{damage_of}
+use Rattle.rec_bytes.specs.Space.{SameButReads, State}
 use Rattle.store_rules.specs.Properties.{Property}
 use Rattle.prop_store.specs.Alone.{OwnsProperties}
 use Rattle.prop_store.specs.Dropping.{AreHeld, DropsProperties}
 use Rattle.prop_store.proofs.ElementChanges.{all_dropped, drops_read, first_kept, first_set, held_read}
 use Rattle.prop_store.proofs.ElementGraphs.{drops_graph, owns_listed}
-use Rattle.prop_store.specs.Fault.{BlamesBroken, BlamesDropped}
+use Rattle.prop_store.specs.Fault.{BlamesBroken}
 use Rattle.prop_store.specs.Owner.{IsInUse, first_of}
-use Rattle.prop_store.proofs.Exits.{same_has, space_has}
+use Rattle.prop_store.proofs.Exits.{same_has, space_has, unwritten_after}
 use Rattle.prop_store.proofs.LeftElements.{left_after, left_read, left_set, left_then}
 use Rattle.prop_store.proofs.ReadCounts.{reads_one, reads_same}
 use Rattle.prop_store.proofs.Touches.{touches_after, touches_beside, touches_more, touches_owner, touches_reads, touches_then}
@@ -25,6 +27,10 @@ held g c tells es owns =
     let s = g.S.Reads.state c.args.space.now in
     subst (λ (z : State). AreHeld z c.in_ok-first.first es) (sym c.first.ensures.state)
     (held_read s c.in_ok-first.first es (subst (λ f. AreHeld s f es) (sym (c.in_ok-first.ensures.got tells)) owns.held))
+
+pub drop_chain-requires-clause-first : goal.drop_chain-requires-clause-first
+drop_chain-requires-clause-first g c tells =
+    subst (λ (z : State). c.in_ok-first.first ≡ first_of z.records c.args.owner) (sym c.first.ensures.state) (c.in_ok-first.ensures.got tells)
 
 -- and they were given back
 drops : (g : Over) (c : In_ok-dropped g) → g.S.Reads.tells → (es : List Property) → AreHeld (g.S.Reads.state c.first.new.space) c.in_ok-first.first es
@@ -120,29 +126,34 @@ returns-else-first-clause-writes g c = touched_beside c.in_ok-dropped.dropped.pr
 pub returns-in_err-first-clause-damaged : goal.returns-in_err-first-clause-damaged
 returns-in_err-first-clause-damaged g c tells used =
     let s = g.S.Reads.state c.args.space.now in
-    space_has (BlamesDropped s.records s.shape) tt tt c.from_residual.result c.in_err-first.field-0.0 c.from_residual.ensures.1
+    space_has (BlamesBroken s.records s.shape) tt tt c.from_residual.result c.in_err-first.field-0.0 c.from_residual.ensures.1
 
 pub returns-in_err-dropped-clause-damaged : goal.returns-in_err-dropped-clause-damaged
 returns-in_err-dropped-clause-damaged g c tells used =
     let s = g.S.Reads.state c.args.space.now in
     let fault = c.in_err-dropped.field-0.0 in
-    let said : IsInUse s.records c.args.owner → c.in_ok-first.first ≡ first_of s.records c.args.owner → BlamesDropped s.records s.shape fault
-    = subst (λ (y : State). IsInUse y.records c.args.owner → c.in_ok-first.first ≡ first_of y.records c.args.owner → BlamesDropped y.records y.shape fault) c.first.ensures.state (c.in_err-dropped.ensures.damaged tells) in
-    same_has (BlamesDropped s.records s.shape) c.from_residual-in_err-dropped.result fault c.from_residual-in_err-dropped.ensures.1 (said used (c.in_ok-first.ensures.got tells))
+    let said : IsInUse s.records c.args.owner → BlamesBroken s.records s.shape fault
+    = subst (λ (y : State). IsInUse y.records c.args.owner → BlamesBroken y.records y.shape fault) c.first.ensures.state (c.in_err-dropped.ensures.damaged tells) in
+    same_has (BlamesBroken s.records s.shape) c.from_residual-in_err-dropped.result fault c.from_residual-in_err-dropped.ensures.1 (said used)
 
-pub returns-in_err-first-clause-still : goal.returns-in_err-first-clause-still
-returns-in_err-first-clause-still g c tells used =
-    let t = g.S.Reads.state c.first.new.space in
-    space_has (BlamesBroken t.records t.shape) tt tt c.from_residual.result c.in_err-first.field-0.0 c.from_residual.ensures.1
+-- ---- where damage is told nothing is written
 
-pub returns-in_err-dropped-clause-still : goal.returns-in_err-dropped-clause-still
-returns-in_err-dropped-clause-still g c tells used =
+pub returns-in_err-first-clause-unwritten : goal.returns-in_err-first-clause-unwritten
+returns-in_err-first-clause-unwritten g c =
+    space_has (λ fault. IfSome (damage_of fault) (λ _. SameButReads (g.S.Reads.state c.args.space.now) (g.S.Reads.state c.first.new.space))) tt tt c.from_residual.result c.in_err-first.field-0.0 c.from_residual.ensures.1
+
+pub returns-in_err-dropped-clause-unwritten : goal.returns-in_err-dropped-clause-unwritten
+returns-in_err-dropped-clause-unwritten g c =
     let s = g.S.Reads.state c.args.space.now in
+    let m = g.S.Reads.state c.first.new.space in
     let t = g.S.Reads.state c.drop_chain.new.space in
-    let fault = c.in_err-dropped.field-0.0 in
-    let said : IsInUse s.records c.args.owner → c.in_ok-first.first ≡ first_of s.records c.args.owner → BlamesBroken t.records t.shape fault
-    = subst (λ (y : State). IsInUse y.records c.args.owner → c.in_ok-first.first ≡ first_of y.records c.args.owner → BlamesBroken t.records t.shape fault) c.first.ensures.state (c.in_err-dropped.ensures.still tells) in
-    same_has (BlamesBroken t.records t.shape) c.from_residual-in_err-dropped.result fault c.from_residual-in_err-dropped.ensures.1 (said used (c.in_ok-first.ensures.got tells))
+    same_has (λ fault. IfSome (damage_of fault) (λ _. SameButReads s t)) c.from_residual-in_err-dropped.result c.in_err-dropped.field-0.0 c.from_residual-in_err-dropped.ensures.1
+    (unwritten_after s m t c.in_err-dropped.field-0.0 (reads_same 1 s m (reads_one 1 s m (omega arith) c.first.ensures.state)) c.in_err-dropped.ensures.unwritten)
+
+pub returns-in_err-set_number-clause-unwritten : goal.returns-in_err-set_number-clause-unwritten
+returns-in_err-set_number-clause-unwritten g c =
+    space_has (λ fault. IfSome (damage_of fault) (λ _. SameButReads (g.S.Reads.state c.args.space.now) (g.S.Reads.state c.set_number.new.space))) tt tt c.from_residual-in_err-set_number.result c.in_err-set_number.field-0.0
+    c.from_residual-in_err-set_number.ensures.1
 
 pub returns-in_err-dropped-clause-cause : goal.returns-in_err-dropped-clause-cause
 returns-in_err-dropped-clause-cause g c =

@@ -1,16 +1,12 @@
-use Rattle.std.proofs.Common.{List, [], ℕ, length, ap, arith, subst, ◌∙◌, rules}
+use Rattle.std.proofs.Common.{List, [], ℕ, length, ap, arith, ◌∙◌, rules}
 use Rattle.std.proofs.lemmas.Result.{err_from_is_err_and}
 use Rattle.prop_store.proofs.DropSteps.{blocks_given_out, property_dropped}
-use Rattle.store_rules.specs.Chains.{In}
 use Rattle.prop_store.specs.Blocks.{IsTextFault}
-use Rattle.prop_store.proofs.Clearing.{property_cleared}
-use Rattle.prop_store.proofs.Exits.{same_has, space_exit, space_has}
-use Rattle.prop_store.proofs.ReadCounts.{reads_records, reads_same}
+use Rattle.prop_store.proofs.Exits.{same_has, space_exit, space_has, when_damaged}
+use Rattle.prop_store.proofs.ReadCounts.{reads_same}
 use Rattle.prop_store.proofs.Touches.{touches_dropped, touches_freed, touches_more, touches_reads}
 use Rattle.rec_bytes.proofs.Causes.{never_ok, ok_cause}
 use Rattle.std.specs.Prelude.{IfSome}
-use Rattle.rec_bytes.specs.declared.fault.Fault.{Fault}
-use Rattle.rec_bytes.specs.declared.fault.Fault.TheVariants.{Memory, Disk, Damaged}
 use Rattle.rec_bytes.specs.Fault.{damage_of}
 use Rattle.rec_bytes.specs.Space.{SameButReads}
 use Rattle.prop_store.proofs.dropping.drop_property.Goals as goal
@@ -75,16 +71,6 @@ pub returns-in_err-give-clause-damaged : goal.returns-in_err-give-clause-damaged
 returns-in_err-give-clause-damaged g c tells read =
     space_has (IsTextFault (g.S.Reads.state c.args.space.now) c.args.row.now.id) tt tt c.from_residual-in_err-give.result c.in_err-give.field-0.0 c.from_residual-in_err-give.ensures.1
 
-pub returns-clause-cleared : goal.returns-clause-cleared
-returns-clause-cleared g c tells read =
-    let s = g.S.Reads.state c.args.space.now in
-    let a = g.S.Reads.state c.value_blocks.new.space in
-    let b = g.S.Reads.state c.release.new.space in
-    let t = g.S.Reads.state c.give.new.space in
-    property_cleared s a b t c.args.row.now.id c.as_slice-ids.result.now (reads_records 22 s a c.value_blocks.ensures.at_most)
-    (λ x i. c.in_ok-blocks.ensures.leads tells read x (subst (In x) c.as_slice-ids.ensures.is i))
-    (c.in_ok-release.ensures.beside tells) (c.in_ok-release.ensures.freed tells) c.requires.small (c.in_ok-give.ensures.ok tells)
-
 pub returns-in_err-blocks-clause-dropped : goal.returns-in_err-blocks-clause-dropped
 returns-in_err-blocks-clause-dropped g c _ _ _ = never_ok c.from_residual.result _ _ c.from_residual.ensures.1
 
@@ -93,9 +79,6 @@ returns-in_err-blocks-clause-few g c = never_ok c.from_residual.result _ _ c.fro
 
 pub returns-in_err-blocks-clause-touches : goal.returns-in_err-blocks-clause-touches
 returns-in_err-blocks-clause-touches g c = never_ok c.from_residual.result _ _ c.from_residual.ensures.1
-
-pub returns-in_err-blocks-clause-cleared : goal.returns-in_err-blocks-clause-cleared
-returns-in_err-blocks-clause-cleared g c _ _ = never_ok c.from_residual.result _ _ c.from_residual.ensures.1
 
 pub returns-in_err-blocks-clause-onward : goal.returns-in_err-blocks-clause-onward
 returns-in_err-blocks-clause-onward g c = search rules
@@ -109,9 +92,6 @@ returns-in_err-release-clause-few g c = never_ok c.from_residual-in_err-release.
 pub returns-in_err-release-clause-touches : goal.returns-in_err-release-clause-touches
 returns-in_err-release-clause-touches g c = never_ok c.from_residual-in_err-release.result _ _ c.from_residual-in_err-release.ensures.1
 
-pub returns-in_err-release-clause-cleared : goal.returns-in_err-release-clause-cleared
-returns-in_err-release-clause-cleared g c _ _ = never_ok c.from_residual-in_err-release.result _ _ c.from_residual-in_err-release.ensures.1
-
 pub returns-in_err-give-clause-dropped : goal.returns-in_err-give-clause-dropped
 returns-in_err-give-clause-dropped g c _ _ _ = never_ok c.from_residual-in_err-give.result _ _ c.from_residual-in_err-give.ensures.1
 
@@ -120,9 +100,6 @@ returns-in_err-give-clause-few g c = never_ok c.from_residual-in_err-give.result
 
 pub returns-in_err-give-clause-touches : goal.returns-in_err-give-clause-touches
 returns-in_err-give-clause-touches g c = never_ok c.from_residual-in_err-give.result _ _ c.from_residual-in_err-give.ensures.1
-
-pub returns-in_err-give-clause-cleared : goal.returns-in_err-give-clause-cleared
-returns-in_err-give-clause-cleared g c _ _ = never_ok c.from_residual-in_err-give.result _ _ c.from_residual-in_err-give.ensures.1
 
 pub returns-clause-cause : goal.returns-clause-cause
 returns-clause-cause g c = ok_cause _ _ _ _ (omega arith)
@@ -133,12 +110,7 @@ pub returns-in_err-blocks-clause-unwritten : goal.returns-in_err-blocks-clause-u
 returns-in_err-blocks-clause-unwritten g c =
     let s = g.S.Reads.state c.args.space.now in
     let a = g.S.Reads.state c.value_blocks.new.space in
-    same_has (λ fault. IfSome (damage_of fault) (λ _. SameButReads s a)) c.from_residual.result c.in_err-blocks.field-0.0 c.from_residual.ensures.1 (when c.in_err-blocks.field-0.0 (reads_same 22 s a c.value_blocks.ensures.at_most))
-  where
-    when : {P : Type 0} (fault : Fault) → P → IfSome (damage_of fault) (λ _. P)
-    when Memory p = tt
-    when Disk p = tt
-    when (Damaged damage) p = p
+    same_has (λ fault. IfSome (damage_of fault) (λ _. SameButReads s a)) c.from_residual.result c.in_err-blocks.field-0.0 c.from_residual.ensures.1 (when_damaged c.in_err-blocks.field-0.0 (reads_same 22 s a c.value_blocks.ensures.at_most))
 
 pub returns-in_err-release-clause-unwritten : goal.returns-in_err-release-clause-unwritten
 returns-in_err-release-clause-unwritten g c =

@@ -1,6 +1,5 @@
 use Rattle.std.proofs.Common.{◌<◌, ◌+◌, length, drop, get_or, inr, arith, refl}
 use Rattle.rec_bytes.specs.Format.{strings_file}
-use Rattle.prop_store.proofs.Clearing.{freed_more}
 use Rattle.prop_store.proofs.FileSteps.{beside_then}
 use Rattle.prop_store.proofs.ListLaws.{drop_step, in_at}
 use Rattle.prop_store.proofs.ReleaseSteps.{beside_given, one_given, one_linked}
@@ -26,7 +25,6 @@ loop-id-preserved g c =
     record {
       released = λ tells once h. one_given old.records now then old.shape strings_file blocks (drop i blocks) (drop (i + 1) blocks) id i (i + 1) (inr refl) (drop_step blocks i (i + 1) refl lt) refl
           (c.in_ok-give.ensures.given tells) (c.loop-id.invariant.released tells once h);
-      freed = λ tells. freed_more old now then blocks id (in_at blocks i lt) (c.requires id (in_at blocks i lt)) (c.in_ok-give.ensures.ok tells) (c.loop-id.invariant.freed tells);
       harmless = λ tells used link. one_linked old now then blocks (drop i blocks) (drop (i + 1) blocks) id (omega arith) (drop_step blocks i (i + 1) refl lt) (c.requires id (in_at blocks i lt)) (c.in_ok-give.ensures.ok tells) (c.loop-id.invariant.harmless tells used link);
       beside = λ tells. beside_then strings_file old.records now.records then.records (c.loop-id.invariant.beside tells) (beside_given now then strings_file id (c.in_ok-give.ensures.ok tells));
       touches = only_given old now then strings_file id blocks (in_at blocks i lt) c.loop-id.invariant.touches (record { writes = c.give.ensures.writes; stays = c.give.ensures.stays });
@@ -42,9 +40,6 @@ returns-clause-harmless g c tells used link = (c.loop-id.invariant.harmless tell
 
 pub returns-in_err-give-clause-released : goal.returns-in_err-give-clause-released
 returns-in_err-give-clause-released g c _ = never_ok c.from_residual.result _ _ c.from_residual.ensures.1
-
-pub returns-in_err-give-clause-freed : goal.returns-in_err-give-clause-freed
-returns-in_err-give-clause-freed g c _ = never_ok c.from_residual.result _ _ c.from_residual.ensures.1
 
 pub returns-in_err-give-clause-beside : goal.returns-in_err-give-clause-beside
 returns-in_err-give-clause-beside g c _ = never_ok c.from_residual.result _ _ c.from_residual.ensures.1

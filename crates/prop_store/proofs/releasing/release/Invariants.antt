@@ -7,7 +7,7 @@ use Rattle.store_rules.specs.Properties.{AreOnce}
 use Rattle.store_rules.specs.PropertyChange.{ChangesFile}
 use Rattle.store_rules.specs.Views.{key_in}
 use Rattle.prop_store.specs.Blocks.{AreUsedOnce}
-use Rattle.prop_store.specs.FileChange.{HasFreed, IsSameBeside}
+use Rattle.prop_store.specs.FileChange.{IsSameBeside}
 use Rattle.prop_store.specs.Touching.{TouchesOnly}
 use Rattle.prop_store.proofs.ReleaseSteps.{HasLeft, LeavesLinked}
 use Rattle.prop_store.proofs.releasing.release.Given as goal
@@ -19,7 +19,6 @@ invariant-loop-id g l =
     let now = g.S.Reads.state l.space in
     record {
       released : g.S.Reads.tells → AreOnce l.fn.blocks → ChangesFile old.records old.records old.shape strings_file l.fn.blocks l.fn.blocks → HasLeft old.records now.records old.shape strings_file l.fn.blocks (drop l.id-index l.fn.blocks) l.id-index;
-      freed : g.S.Reads.tells → HasFreed old.records now.records l.fn.blocks;
       harmless : g.S.Reads.tells → AreUsedOnce old.records l.fn.blocks → (0 < length l.fn.blocks → IsLinkBelow (meta_of old strings_file).free (meta_of old strings_file).high) → LeavesLinked old now l.fn.blocks (drop l.id-index l.fn.blocks);
       beside : g.S.Reads.tells → IsSameBeside strings_file old.records now.records;
       touches : TouchesOnly g.S.Reads.tells old now (meta_key_of strings_file ∷ map (key_in strings_file) l.fn.blocks);

@@ -21,12 +21,12 @@ pub returns-in-Long-clause-damaged : goal.returns-in-Long-clause-damaged
 returns-in-Long-clause-damaged g c tells read =
     c.block_ids.ensures.damaged tells (text_of_row (g.R.Reads.state c.args.space.now).records c.args.row.now c.in-Long.size c.in-Long.first c.requires.form_is c.in-Long.is read)
 
-pub returns-in-Long-clause-leads : goal.returns-in-Long-clause-leads
-returns-in-Long-clause-leads g c tells read =
-    c.block_ids.ensures.leads tells (text_of_row (g.R.Reads.state c.args.space.now).records c.args.row.now c.in-Long.size c.in-Long.first c.requires.form_is c.in-Long.is read)
+pub returns-in-Long-clause-has : goal.returns-in-Long-clause-has
+returns-in-Long-clause-has g c tells read =
+    c.block_ids.ensures.has tells (text_of_row (g.R.Reads.state c.args.space.now).records c.args.row.now c.in-Long.size c.in-Long.first c.requires.form_is c.in-Long.is read)
 
-pub returns-in_default-clause-leads : goal.returns-in_default-clause-leads
-returns-in_default-clause-leads g c tells read b i = elim (subst (In b) c.new.ensures i) [ ]
+pub returns-in_default-clause-has : goal.returns-in_default-clause-has
+returns-in_default-clause-has g c tells read b i = elim (subst (In b) c.new.ensures i) [ ]
 
 pub returns-in_default-clause-once : goal.returns-in_default-clause-once
 returns-in_default-clause-once g c tells = subst (AreUsedOnce (g.R.Reads.state c.args.space.now).records) (sym c.new.ensures) (record { once = tt; used = λ b i. elim i [ ] })
