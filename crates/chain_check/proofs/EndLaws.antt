@@ -350,7 +350,7 @@ module _ (records : Records) where
       member = in_map (end_of records n) x c.members c.member;
     }
 
-    end_keeps : (x n : ℕ) (row : RelRow) → rel_at records x ≡ Some row → rules.IsEnd n row → EndHolds records n (marked marks (end_of records n x)) → EndKeeps records n x
+    end_keeps : (x n : ℕ) (row : RelRow) → rel_at records x ≡ Some row → rules.IsEnd n row → EndHolds (kind_at records format.nodes_file) n (marked marks (end_of records n x)) → EndKeeps records n x
     end_keeps x n row live end h = record {
       node = h.node;
       chain = λ has.
@@ -365,19 +365,19 @@ module _ (records : Records) where
       once = λ one other. once (end_of records n x) (in_met n x one) (in_met n x other);
     }
 
-    end_holds : (x n : ℕ) → EndKeeps records n x → EndHolds records n (marked marks (end_of records n x))
+    end_holds : (x n : ℕ) → EndKeeps records n x → EndHolds (kind_at records format.nodes_file) n (marked marks (end_of records n x))
     end_holds x n k = record {
       node = k.node;
       chain = λ has. (told (end_of records n x)).1 (in_met n x (k.chain has));
     }
 
-    pub rel_kept : (x : ℕ) → RelHolds records marks x → RelKeeps records x
+    pub rel_kept : (x : ℕ) → RelHolds (kind_at records format.nodes_file) records marks x → RelKeeps records x
     rel_kept x h = record {
       from = λ row live. end_keeps x row.from row live (inl refl) (h.from row live);
       to = λ row live. end_keeps x row.to row live (inr refl) (h.to row live);
     }
 
-    pub rel_holds : (x : ℕ) → RelKeeps records x → RelHolds records marks x
+    pub rel_holds : (x : ℕ) → RelKeeps records x → RelHolds (kind_at records format.nodes_file) records marks x
     rel_holds x k = record {
       from = λ row live. end_holds x row.from (k.from row live);
       to = λ row live. end_holds x row.to (k.to row live);
@@ -385,7 +385,7 @@ module _ (records : Records) where
 
 -- ---- the test of a relationship
 
-module _ (records : Records) (marks : List Bool) (x : ℕ) (r : Rec) (lt : x < high records format.relationships_file)
+module _ (kind : ℕ → ℕ) (records : Records) (marks : List Bool) (x : ℕ) (r : Rec) (lt : x < high records format.relationships_file)
     (e : r ≡ rec_at records format.relationships_file x) (some : field 1 r format.kind ≢ 0) where
   read_row : rel_at records x ≡ Some (rel_in r x)
   read_row =
@@ -396,23 +396,23 @@ module _ (records : Records) (marks : List Bool) (x : ℕ) (r : Rec) (lt : x < h
   one_row row live = let same : Some (rel_in r x) ≡ Some row = sym read_row ∙ live in cc
 
   abbrev pub Holds : ℕ → Type 0
-  Holds n = EndHolds records n (marked marks (end_in r n x))
+  Holds n = EndHolds kind n (marked marks (end_in r n x))
 
-  pub hold_both : Holds (field 4 r format.relationship_source) → Holds (field 4 r format.relationship_target) → RelHolds records marks x
+  pub hold_both : Holds (field 4 r format.relationship_source) → Holds (field 4 r format.relationship_target) → RelHolds kind records marks x
   hold_both a b = record {
-    from = λ row live. subst (λ (o : RelRow). EndHolds records o.from (marked marks (end_of records o.from x))) (one_row row live) (subst (λ q. EndHolds records (field 4 r format.relationship_source) (marked marks (end_in q (field 4 r format.relationship_source) x))) e a);
-    to = λ row live. subst (λ (o : RelRow). EndHolds records o.to (marked marks (end_of records o.to x))) (one_row row live) (subst (λ q. EndHolds records (field 4 r format.relationship_target) (marked marks (end_in q (field 4 r format.relationship_target) x))) e b);
+    from = λ row live. subst (λ (o : RelRow). EndHolds kind o.from (marked marks (end_of records o.from x))) (one_row row live) (subst (λ q. EndHolds kind (field 4 r format.relationship_source) (marked marks (end_in q (field 4 r format.relationship_source) x))) e a);
+    to = λ row live. subst (λ (o : RelRow). EndHolds kind o.to (marked marks (end_of records o.to x))) (one_row row live) (subst (λ q. EndHolds kind (field 4 r format.relationship_target) (marked marks (end_in q (field 4 r format.relationship_target) x))) e b);
   }
 
-  pub hold_from : RelHolds records marks x → Holds (field 4 r format.relationship_source)
-  hold_from h = subst (λ q. EndHolds records (field 4 r format.relationship_source) (marked marks (end_in q (field 4 r format.relationship_source) x))) (sym e) (h.from (rel_in r x) read_row)
+  pub hold_from : RelHolds kind records marks x → Holds (field 4 r format.relationship_source)
+  hold_from h = subst (λ q. EndHolds kind (field 4 r format.relationship_source) (marked marks (end_in q (field 4 r format.relationship_source) x))) (sym e) (h.from (rel_in r x) read_row)
 
-  pub hold_to : RelHolds records marks x → Holds (field 4 r format.relationship_target)
-  hold_to h = subst (λ q. EndHolds records (field 4 r format.relationship_target) (marked marks (end_in q (field 4 r format.relationship_target) x))) (sym e) (h.to (rel_in r x) read_row)
+  pub hold_to : RelHolds kind records marks x → Holds (field 4 r format.relationship_target)
+  hold_to h = subst (λ q. EndHolds kind (field 4 r format.relationship_target) (marked marks (end_in q (field 4 r format.relationship_target) x))) (sym e) (h.to (rel_in r x) read_row)
 
 -- a record that isn't in use is no relationship
-pub none_holds : (records : Records) (marks : List Bool) (x : ℕ) → kind_at records format.relationships_file x ≡ 0 → RelHolds records marks x
-none_holds records marks x e = record { from = λ row live. absurd (none row live); to = λ row live. absurd (none row live) }
+pub none_holds : (kind : ℕ → ℕ) (records : Records) (marks : List Bool) (x : ℕ) → kind_at records format.relationships_file x ≡ 0 → RelHolds kind records marks x
+none_holds kind records marks x e = record { from = λ row live. absurd (none row live); to = λ row live. absurd (none row live) }
   where
     none : (row : RelRow) → rel_at records x ≡ Some row → ⊥
     none row live = (some_row (kind_at records format.relationships_file x) (rel_in (rec_at records format.relationships_file x) x) row live).0 e

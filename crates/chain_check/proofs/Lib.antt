@@ -4,4 +4,5 @@ pub mod DegreeLaws
 pub mod EndLaws
 pub mod GroupChainLaws
 pub mod GroupCountLaws
+pub mod KindLaws
 pub mod SideLaws

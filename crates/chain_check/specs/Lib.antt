@@ -2,4 +2,5 @@ pub mod Chained
 pub mod Counts
 pub mod Degrees
 pub mod Groups
+pub mod Kinds
 pub mod NodeChains

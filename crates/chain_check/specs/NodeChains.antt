@@ -1,5 +1,5 @@
 -- The chains of nodes and of groups as lines, and the ends of relationships in them.
-use Rattle.std.specs.Prelude.{◌≡◌, ◌≢◌, ℕ, ◌+◌, ◌*◌, ◌/◌, ◌%◌, ◌≤◌, true, Bool, not, ◌&&◌}
+use Rattle.std.specs.Prelude.{◌≡◌, ◌≢◌, ◌⊎◌, ℕ, ◌+◌, ◌*◌, ◌/◌, ◌%◌, ◌≤◌, true, Bool, not, ◌&&◌}
 use Rattle.std.specs.Prelude.{◌||◌, cond, nat_eq, List, length, map, Some}
 use Rattle.std.specs.Bool.{Decides}
 use Rattle.rec_bytes.specs.declared.record.Rec.{Rec}
@@ -15,7 +15,7 @@ use Rattle.chain_check.specs.declared.chains.Side.{Side}
 use Rattle.chain_check.specs.declared.chains.Side.TheVariants.{Any, Into, Loop, Out}
 use Rattle.record_lists.specs.declared.heads.Found.{Found}
 use Rattle.record_lists.specs.declared.heads.Found.TheVariants.{Items, Missing, Nothing}
-use Rattle.store_rules.specs.Breaking.{GroupKeeps, HasChains, IsChainHead, IsHeadChain}
+use Rattle.store_rules.specs.Breaking.{GroupKeeps, IsChainHead, IsHeadChain}
 use Rattle.store_rules.specs.Breaking.{IsOnOwnChain, NodeKeeps}
 use Rattle.store_rules.specs.Breaking.{group_head}
 use Rattle.record_lists.specs.Lines.{IsLineIn, LineKind}
@@ -150,21 +150,20 @@ pub record AreMet (records : Records) (marks : List Bool) : Type 0 where
   pub told : (p : ℕ) → Decides (marked marks p) (IsMet records p)
   pub once : (p : ℕ) (one other : IsMet records p) → one.head ≡ other.head
 
--- the end of a relationship is a node, and met in a chain
-pub record EndHolds (records : Records) (n : ℕ) (met : Bool) : Type 0 where
-  pub node : kind_at records format.nodes_file n ≢ format.free_kind
-  pub chain : HasChains records n → met ≡ true
+-- where nodes have these kinds, the end of a relationship is a node, and met in a chain
+pub record EndHolds (kind : ℕ → ℕ) (n : ℕ) (met : Bool) : Type 0 where
+  pub node : kind n ≢ format.free_kind
+  pub chain : (kind n ≡ format.sparse) ⊎ (kind n ≡ format.dense) → met ≡ true
 
 -- so it is of both ends of a relationship, if the record is one
-pub record RelHolds (records : Records) (marks : List Bool) (x : ℕ) : Type 0 where
+pub record RelHolds (kind : ℕ → ℕ) (records : Records) (marks : List Bool) (x : ℕ) : Type 0 where
   pub from : (row : RelRow) → rel_at records x ≡ Some row
-      → EndHolds records row.from (marked marks (end_of records row.from x))
+      → EndHolds kind row.from (marked marks (end_of records row.from x))
   pub to : (row : RelRow) → rel_at records x ≡ Some row
-      → EndHolds records row.to (marked marks (end_of records row.to x))
+      → EndHolds kind row.to (marked marks (end_of records row.to x))
 
 -- there are two marks for each relationship
 pub record AreAttached (attached : Attached) (records : Records) : Type 0 where
   pub relationships : attached.relationships ≡ high records format.relationships_file
   pub few_relationships : high records format.relationships_file ≤ format.most_ids
-  pub few_nodes : high records format.nodes_file ≤ format.most_ids
   pub ends : length attached.marks.now ≡ 2 * high records format.relationships_file

@@ -7,9 +7,10 @@ ghost use Rattle.std.specs.Bool.{Decides};
 ghost use Rattle.std.specs.List.{All};
 ghost use Rattle.rec_bytes.specs.Format.{groups_file, most_ids, nodes_file, relationships_file};
 ghost use Rattle.rec_bytes.specs.Space.{HasCause};
-ghost use Rattle.store_rules.specs.Views.{high};
+ghost use Rattle.store_rules.specs.Views.{high, kind_at};
 ghost use Rattle.record_lists.specs.Heads.{FoundBelow};
 ghost use Rattle.chain_check.specs.Chained.{MarksChains};
+ghost use Rattle.chain_check.specs.Kinds.{kind_of};
 ghost use Rattle.record_lists.specs.Marks.{marked};
 ghost use Rattle.chain_check.specs.NodeChains.{
   AreAttached,
@@ -33,6 +34,7 @@ ghost use Rattle.chain_check.specs.NodeChains.{
 ghost use Rattle.record_lists.specs.Deciding.{AreMarksLow, BreaksRule, DecidesRule};
 
 use crate::chained::chained_groups;
+use crate::kinds::node_kinds;
 use rec_bytes::{
     CHAIN_RULE, DENSE, Damage, FREE, GROUP_FIRST_IN, GROUP_FIRST_OUT, GROUP_OWNER, GROUP_TYPE,
     GROUPS, KIND, Key, NODE_FIRST_LINK, NODES, RELATIONSHIP_SOURCE, RELATIONSHIP_TARGET,
@@ -246,28 +248,17 @@ impl<'a> Heads for GroupHeads<'a> {
 }
 
 /// Whether a number is that of a node, and the end was met.
-fn end_holds<R: Reads>(space: &mut R, id: u32, met: bool) -> Result<bool, SpaceFault>
-    requires { high (R.state space.old).records nodes_file ≤ most_ids }
-    ensures holds { R.tells
-        → IfOk result (λ holds. Decides holds (EndHolds (R.state space.old).records id met)) }
-    ensures same { (R.state space.new).records ≡ (R.state space.old).records }
-    ensures written { (R.state space.new).written ≡ (R.state space.old).written }
-    ensures onward { R.onward space.old space.new }
-    ensures cause { HasCause (R.faults space.old) (R.faults space.new) result }
+fn end_holds(kinds: &[u8], id: u32, met: bool) -> bool
+    ensures { Decides result (EndHolds (kind_of kinds.now) id met) }
 {
-    if id >= space.meta(NODES).high {
-        return Ok(false);
+    if id as usize >= kinds.len() {
+        return false;
     }
-    let rec = space.get(Key { file: NODES, id })?;
-    let kind = rec.byte(KIND);
+    let kind = kinds[id as usize];
     if kind == FREE {
-        return Ok(false);
+        return false;
     }
-    if kind == SPARSE || kind == DENSE {
-        Ok(met)
-    } else {
-        Ok(true)
-    }
+    met || kind != SPARSE && kind != DENSE
 }
 
 /// The number of the end of a relationship at a node.
@@ -287,6 +278,7 @@ fn end_of(rec: &Rec, node: u32, id: u32) -> usize
 #[derive(Drop)]
 pub struct Attached<'a> {
     relationships: u32,
+    kinds: &'a [u8],
     marks: &'a [bool],
 }
 
@@ -295,7 +287,8 @@ impl<'a> Sentence for Attached<'a> {
 
     ghost mark = { λ attached. attached.relationships };
 
-    ghost says = { λ attached records. RelHolds records attached.marks.now };
+    ghost says = { λ attached records.
+        RelHolds (kind_of attached.kinds.now) records attached.marks.now };
 
     fn holds<R: Reads>(&self, space: &mut R, id: u32) -> Result<bool, SpaceFault> {
         let rec = space.get(Key {
@@ -307,31 +300,39 @@ impl<'a> Sentence for Attached<'a> {
         }
         let source = rec.number(RELATIONSHIP_SOURCE);
         let target = rec.number(RELATIONSHIP_TARGET);
-        let leaves = end_holds(space, source, self.marks[end_of(&rec, source, id)])?;
-        let enters = end_holds(space, target, self.marks[end_of(&rec, target, id)])?;
+        let leaves = end_holds(self.kinds, source, self.marks[end_of(&rec, source, id)]);
+        let enters = end_holds(self.kinds, target, self.marks[end_of(&rec, target, id)]);
         Ok(leaves && enters)
     }
 }
 
 /// The first relationship of which an end doesn't hold.
-fn find_loose<R: Reads>(space: &mut R, marks: &[bool]) -> Result<Option<u32>, SpaceFault>
+fn find_loose<R: Reads>(
+    alloc: Global,
+    space: &mut R,
+    marks: &[bool],
+) -> Result<Option<u32>, SpaceFault>
     requires low { AreMarksLow (R.state space.old).records }
     requires marks { length marks.now
         ≡ 2 * high (R.state space.old).records relationships_file }
     ensures none { R.tells → IfOk result (λ found. IfNone found
         ((x : ℕ) → x < high (R.state space.old).records relationships_file
-        → RelHolds (R.state space.old).records marks.now x)) }
+        → RelHolds (kind_at (R.state space.old).records nodes_file) (R.state space.old).records
+        marks.now x)) }
     ensures found { R.tells → IfOk result (λ found. IfSome found
         (λ x. (x < high (R.state space.old).records relationships_file)
-        × (¬ RelHolds (R.state space.old).records marks.now x))) }
+        × (¬ RelHolds (kind_at (R.state space.old).records nodes_file)
+        (R.state space.old).records marks.now x))) }
     ensures same { (R.state space.new).records ≡ (R.state space.old).records }
     ensures written { (R.state space.new).written ≡ (R.state space.old).written }
     ensures onward { R.onward space.old space.new }
     ensures cause { HasCause (R.faults space.old) (R.faults space.new) result }
 {
+    let kinds = node_kinds(alloc, space)?;
     let relationships = space.meta(RELATIONSHIPS).high;
     let attached = Attached {
         relationships,
+        kinds: &kinds,
         marks,
     };
     find_false(space, &attached, relationships)
@@ -406,7 +407,7 @@ fn check_marked<R: Reads>(
     if let Some(damage) = mark_ends(alloc, space, chained, marks)? {
         return Ok(Some(damage));
     }
-    match find_loose(space, marks)? {
+    match find_loose(alloc, space, marks)? {
         Some(id) => Ok(Some(broken(RELATIONSHIPS, id, CHAIN_RULE))),
         None => Ok(None),
     }

@@ -7,6 +7,7 @@ mod chains;
 mod counts;
 mod degrees;
 mod groups;
+mod kinds;
 
 pub use chains::check_chains;
 pub use degrees::check_degrees;

@@ -1,6 +1,6 @@
 use Rattle.std.proofs.Common.{arith, rules, ◌<◌, ℕ, IfNone, IfSome, subst, refl}
-use Rattle.rec_bytes.specs.Format.{relationships_file}
-use Rattle.store_rules.specs.Views.{Records, high}
+use Rattle.rec_bytes.specs.Format.{nodes_file, relationships_file}
+use Rattle.store_rules.specs.Views.{Records, high, kind_at}
 use Rattle.store_rules.specs.Breaking.{damage}
 use Rattle.store_rules.specs.Breaking.Breaks.{RelEnds}
 use Rattle.chain_check.specs.NodeChains.{AreMet, RelHolds}
@@ -16,9 +16,9 @@ returns-in-Some-2-clause-decided g c = λ tells.
     let marks = c.mark_ends.new.marks in
     let id = c.in-Some-2.id in
     let met : AreMet s.records marks = search (rules, c.in_ok-damage.ensures.met tells) in
-    let found : IfSome c.in_ok-id.field-0 (λ x. (x < high s.records relationships_file) × (¬ RelHolds s.records marks x))
-    = subst (λ (r : Records). IfSome c.in_ok-id.field-0 (λ x. (x < high r relationships_file) × (¬ RelHolds r marks x))) c.in_ok-damage.ensures.same (c.in_ok-id.ensures.found tells) in
-    let bad : (id < high s.records relationships_file) × (¬ RelHolds s.records marks id) = search (rules, found) in
+    let found : IfSome c.in_ok-id.field-0 (λ x. (x < high s.records relationships_file) × (¬ RelHolds (kind_at s.records nodes_file) s.records marks x))
+    = subst (λ (r : Records). IfSome c.in_ok-id.field-0 (λ x. (x < high r relationships_file) × (¬ RelHolds (kind_at r nodes_file) r marks x))) c.in_ok-damage.ensures.same (c.in_ok-id.ensures.found tells) in
+    let bad : (id < high s.records relationships_file) × (¬ RelHolds (kind_at s.records nodes_file) s.records marks id) = search (rules, found) in
     breaks_by s.records s.shape 3 c.broken.result (damage 2 id 3) c.broken.ensures refl (RelEnds id bad.0 (λ k. bad.1 (rel_holds s.records marks met.told met.once id k)))
 
 pub returns-in-None-clause-decided : goal.returns-in-None-clause-decided
@@ -26,9 +26,9 @@ returns-in-None-clause-decided g c = λ tells.
     let s = g.R.Reads.state c.args.space.now in
     let marks = c.mark_ends.new.marks in
     let met : AreMet s.records marks = search (rules, c.in_ok-damage.ensures.met tells) in
-    let none : IfNone c.in_ok-id.field-0 ((x : ℕ) → x < high s.records relationships_file → RelHolds s.records marks x)
-    = subst (λ (r : Records). IfNone c.in_ok-id.field-0 ((x : ℕ) → x < high r relationships_file → RelHolds r marks x)) c.in_ok-damage.ensures.same (c.in_ok-id.ensures.none tells) in
-    let holds : (x : ℕ) → x < high s.records relationships_file → RelHolds s.records marks x = search (rules, none) in
+    let none : IfNone c.in_ok-id.field-0 ((x : ℕ) → x < high s.records relationships_file → RelHolds (kind_at s.records nodes_file) s.records marks x)
+    = subst (λ (r : Records). IfNone c.in_ok-id.field-0 ((x : ℕ) → x < high r relationships_file → RelHolds (kind_at r nodes_file) r marks x)) c.in_ok-damage.ensures.same (c.in_ok-id.ensures.none tells) in
+    let holds : (x : ℕ) → x < high s.records relationships_file → RelHolds (kind_at s.records nodes_file) s.records marks x = search (rules, none) in
     record { nodes = met.nodes; groups = met.groups; rels = all_keep s.records (λ x lt. rel_kept s.records marks met.told met.once x (holds x lt)) }
 
 pub returns-in_err-damage-clause-cause : goal.returns-in_err-damage-clause-cause

@@ -5,6 +5,7 @@ use Rattle.rec_bytes.specs.Format.{relationships_file}
 use Rattle.rec_bytes.specs.Record.{field}
 use Rattle.store_rules.specs.Views.{high}
 use Rattle.record_lists.specs.Marks.{marked}
+use Rattle.chain_check.specs.Kinds.{kind_of}
 use Rattle.chain_check.specs.NodeChains.{EndHolds, end_in}
 use Rattle.chain_check.proofs.EndLaws.{hold_both, hold_from, hold_to, none_holds}
 use Rattle.record_lists.proofs.RecordLaws.{kind_read}
@@ -16,7 +17,7 @@ returns-then-byte-eq-FREE-clause-told g c = λ tells.
     let records = (g.R.Reads.state c.args.space.now).records in
     let lt : c.args.id < high records relationships_file = omega (arith, c.requires.id, c.requires.suits.relationships) in
     let kind = kind_read records relationships_file c.args.id c.in_ok-rec.rec lt (c.in_ok-rec.ensures.got tells) in
-    ((λ _. none_holds records c.args.self.now.marks.now c.args.id (kind ∙ sym c.byte.ensures ∙ c.if-byte-eq-FREE.true)), (λ _. refl))
+    ((λ _. none_holds (kind_of c.args.self.now.kinds.now) records c.args.self.now.marks.now c.args.id (kind ∙ sym c.byte.ensures ∙ c.if-byte-eq-FREE.true)), (λ _. refl))
 
 pub returns-then-leaves-clause-told : goal.returns-then-leaves-clause-told
 returns-then-leaves-clause-told g c = λ tells.
@@ -24,11 +25,12 @@ returns-then-leaves-clause-told g c = λ tells.
     let lt : c.args.id < high records relationships_file = omega (arith, c.requires.id, c.requires.suits.relationships) in
     let r = c.in_ok-rec.rec in
     let marks = c.args.self.now.marks.now in
+    let kind = kind_of c.args.self.now.kinds.now in
     let some : field 1 r 0 ≢ 0 = λ z. c.if-byte-eq-FREE.false (c.byte.ensures ∙ z) in
     let got = c.in_ok-rec.ensures.got tells in
-    let from : Decides c.in_ok-leaves.leaves (EndHolds records (field 4 r 8) (marked marks (end_in r (field 4 r 8) c.args.id))) = search (rules, c.in_ok-leaves.ensures.holds tells) in
-    let to : Decides c.in_ok-enters.enters (EndHolds records (field 4 r 12) (marked marks (end_in r (field 4 r 12) c.args.id))) = search (rules, c.in_ok-enters.ensures.holds tells) in
-    ((λ e. hold_both records marks c.args.id r lt got some (from.0 c.if-leaves.true) (to.0 e)), (λ h. to.1 (hold_to records marks c.args.id r lt got some h)))
+    let from : Decides c.end_holds-leaves.result (EndHolds kind (field 4 r 8) (marked marks (end_in r (field 4 r 8) c.args.id))) = search rules in
+    let to : Decides c.end_holds-enters.result (EndHolds kind (field 4 r 12) (marked marks (end_in r (field 4 r 12) c.args.id))) = search rules in
+    ((λ e. hold_both kind records marks c.args.id r lt got some (from.0 c.if-leaves.true) (to.0 e)), (λ h. to.1 (hold_to kind records marks c.args.id r lt got some h)))
 
 pub returns-else-leaves-clause-told : goal.returns-else-leaves-clause-told
 returns-else-leaves-clause-told g c = λ tells.
@@ -36,46 +38,21 @@ returns-else-leaves-clause-told g c = λ tells.
     let lt : c.args.id < high records relationships_file = omega (arith, c.requires.id, c.requires.suits.relationships) in
     let r = c.in_ok-rec.rec in
     let marks = c.args.self.now.marks.now in
+    let kind = kind_of c.args.self.now.kinds.now in
     let some : field 1 r 0 ≢ 0 = λ z. c.if-byte-eq-FREE.false (c.byte.ensures ∙ z) in
     let got = c.in_ok-rec.ensures.got tells in
-    let from : Decides c.in_ok-leaves.leaves (EndHolds records (field 4 r 8) (marked marks (end_in r (field 4 r 8) c.args.id))) = search (rules, c.in_ok-leaves.ensures.holds tells) in
-    ((λ e. absurd (true≢false (sym e ∙ c.if-leaves.false))), (λ h. from.1 (hold_from records marks c.args.id r lt got some h)))
+    let from : Decides c.end_holds-leaves.result (EndHolds kind (field 4 r 8) (marked marks (end_in r (field 4 r 8) c.args.id))) = search rules in
+    ((λ e. absurd (true≢false (sym e ∙ c.if-leaves.false))), (λ h. from.1 (hold_from kind records marks c.args.id r lt got some h)))
 
 pub returns-in_err-rec-clause-cause : goal.returns-in_err-rec-clause-cause
 returns-in_err-rec-clause-cause g c =
     cause_passed _ _ _ c.from_residual.result c.in_err-rec.field-0.0 (omega arith) c.in_err-rec.ensures.cause c.from_residual.ensures.1
 
-pub returns-in_err-leaves-clause-cause : goal.returns-in_err-leaves-clause-cause
-returns-in_err-leaves-clause-cause g c =
-    cause_passed _ _ _ c.from_residual-in_err-leaves.result c.in_err-leaves.field-0.0 c.in_ok-rec.ensures.cause.later c.in_err-leaves.ensures.cause c.from_residual-in_err-leaves.ensures.1
-
-pub returns-in_err-enters-clause-cause : goal.returns-in_err-enters-clause-cause
-returns-in_err-enters-clause-cause g c =
-    let later = c.in_ok-rec.ensures.cause.later in
-    let later1 = c.in_ok-leaves.ensures.cause.later in
-    cause_passed _ _ _ c.from_residual-in_err-enters.result c.in_err-enters.field-0.0 (omega (arith, later, later1)) c.in_err-enters.ensures.cause c.from_residual-in_err-enters.ensures.1
-
-pub returns-in_err-leaves-clause-onward : goal.returns-in_err-leaves-clause-onward
-returns-in_err-leaves-clause-onward g c =
-    g.met.R.Reads.further_onward _ _ _ c.in_ok-rec.ensures.onward c.in_err-leaves.ensures.onward
-
-pub returns-in_err-enters-clause-onward : goal.returns-in_err-enters-clause-onward
-returns-in_err-enters-clause-onward g c =
-    g.met.R.Reads.further_onward _ _ _
-    (g.met.R.Reads.further_onward _ _ _ c.in_ok-rec.ensures.onward c.in_ok-leaves.ensures.onward)
-    c.in_err-enters.ensures.onward
-
 pub returns-then-leaves-clause-onward : goal.returns-then-leaves-clause-onward
-returns-then-leaves-clause-onward g c =
-    g.met.R.Reads.further_onward _ _ _
-    (g.met.R.Reads.further_onward _ _ _ c.in_ok-rec.ensures.onward c.in_ok-leaves.ensures.onward)
-    c.in_ok-enters.ensures.onward
+returns-then-leaves-clause-onward g c = c.in_ok-rec.ensures.onward
 
 pub returns-else-leaves-clause-onward : goal.returns-else-leaves-clause-onward
-returns-else-leaves-clause-onward g c =
-    g.met.R.Reads.further_onward _ _ _
-    (g.met.R.Reads.further_onward _ _ _ c.in_ok-rec.ensures.onward c.in_ok-leaves.ensures.onward)
-    c.in_ok-enters.ensures.onward
+returns-else-leaves-clause-onward g c = c.in_ok-rec.ensures.onward
 
 pub returns-in_err-rec-clause-same : goal.returns-in_err-rec-clause-same
 returns-in_err-rec-clause-same g c = search rules
@@ -85,15 +62,3 @@ returns-in_err-rec-clause-written g c = search rules
 
 pub returns-in_err-rec-clause-onward : goal.returns-in_err-rec-clause-onward
 returns-in_err-rec-clause-onward g c = search rules
-
-pub returns-in_err-leaves-clause-same : goal.returns-in_err-leaves-clause-same
-returns-in_err-leaves-clause-same g c = search rules
-
-pub returns-in_err-leaves-clause-written : goal.returns-in_err-leaves-clause-written
-returns-in_err-leaves-clause-written g c = search rules
-
-pub returns-in_err-enters-clause-same : goal.returns-in_err-enters-clause-same
-returns-in_err-enters-clause-same g c = search rules
-
-pub returns-in_err-enters-clause-written : goal.returns-in_err-enters-clause-written
-returns-in_err-enters-clause-written g c = search rules
