@@ -124,7 +124,7 @@ module _ (records : Records) (head : rules.Head) (n : ℕ) (side : Side) (fit : 
       (subst (λ f. IsChain next prev format.nil f xs) (sym is) h.chain) (λ x i. stands_low x (h.only x i)) (λ x i. of_stands x (h.only x i))
 
   -- what a line of ends says of the head
-  head_ends : (first : ℕ) (ends : List ℕ) → high records format.relationships_file ≤ format.most_ids → first ≡ rules.first_of records head
+  pub head_ends : (first : ℕ) (ends : List ℕ) → high records format.relationships_file ≤ format.most_ids → first ≡ rules.first_of records head
       → AreLineEnds records (high records format.relationships_file) side n first ends → AreHeadEnds records head n ends
   head_ends first ends room e h = record { members = h.members; chain = head_chain room first e h.members h.line; are = h.are }
 

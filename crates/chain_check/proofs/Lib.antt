@@ -5,4 +5,5 @@ pub mod EndLaws
 pub mod GroupChainLaws
 pub mod GroupCountLaws
 pub mod KindLaws
+pub mod RowLaws
 pub mod SideLaws

@@ -3,4 +3,5 @@ pub mod Counts
 pub mod Degrees
 pub mod Groups
 pub mod Kinds
+pub mod LinkRows
 pub mod NodeChains

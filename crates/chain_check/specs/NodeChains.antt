@@ -96,12 +96,11 @@ IsDense records n = kind_at records format.nodes_file n ≡ format.dense
 abbrev pub AreNodeEnds : Records → ℕ → List ℕ → Type 0
 AreNodeEnds records n ends = AreHeadEnds records (node_head n) n ends
 
--- the marks are those of the records, and low
+-- the mark is that of the records, and there are few rows
 pub record AreChainHeads (heads : ChainHeads) (records : Records) : Type 0 where
   pub nodes : heads.nodes ≡ high records format.nodes_file
-  pub relationships : heads.relationships ≡ high records format.relationships_file
   pub few_nodes : high records format.nodes_file ≤ format.most_ids
-  pub few_relationships : high records format.relationships_file ≤ format.most_ids
+  pub few_rows : length heads.rows.now ≤ format.most_ids
 
 -- ---- the chains of groups: three heads a group, by ascending place
 

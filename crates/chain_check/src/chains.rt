@@ -1,16 +1,17 @@
 //! The third rule: the chains of each node, its own or those of its groups, have just the
 //! relationships at it.
 
-ghost use Rattle.std.specs.Prelude.{◌≡◌, ◌+◌, ◌*◌, ◌%◌, ◌<◌, ◌≤◌, IfNone, IfOk, IfSome, false, map};
-ghost use Rattle.std.specs.Prelude.{length, ℕ};
+ghost use Rattle.std.specs.Prelude.{◌≡◌, ◌⊎◌, ◌+◌, ◌*◌, ◌%◌, ◌<◌, ◌≤◌, IfNone, IfOk, IfSome, false};
+ghost use Rattle.std.specs.Prelude.{length, map, true, ℕ};
 ghost use Rattle.std.specs.Bool.{Decides};
 ghost use Rattle.std.specs.List.{All};
 ghost use Rattle.rec_bytes.specs.Format.{groups_file, most_ids, nodes_file, relationships_file};
 ghost use Rattle.rec_bytes.specs.Space.{HasCause};
 ghost use Rattle.store_rules.specs.Views.{high, kind_at};
-ghost use Rattle.record_lists.specs.Heads.{FoundBelow};
+ghost use Rattle.record_lists.specs.Heads.{AmongHeads, BrokeIs, FoundBelow, HeadKeeps};
 ghost use Rattle.chain_check.specs.Chained.{MarksChains};
 ghost use Rattle.chain_check.specs.Kinds.{kind_of};
+ghost use Rattle.chain_check.specs.LinkRows.{AreRowEndsOf};
 ghost use Rattle.record_lists.specs.Marks.{marked};
 ghost use Rattle.chain_check.specs.NodeChains.{
   AreAttached,
@@ -35,6 +36,8 @@ ghost use Rattle.record_lists.specs.Deciding.{AreMarksLow, BreaksRule, DecidesRu
 
 use crate::chained::chained_groups;
 use crate::kinds::node_kinds;
+use crate::link_rows::{LinkRow, link_rows};
+use crate::row_chains::row_chain_ends;
 use rec_bytes::{
     CHAIN_RULE, DENSE, Damage, FREE, GROUP_FIRST_IN, GROUP_FIRST_OUT, GROUP_OWNER, GROUP_TYPE,
     GROUPS, KIND, Key, NODE_FIRST_LINK, NODES, RELATIONSHIP_SOURCE, RELATIONSHIP_TARGET,
@@ -157,35 +160,33 @@ fn chain_ends<R: Reads>(
     Ok(Found::Items(ends))
 }
 
-/// The sparse nodes, at which chains start.
+/// The sparse nodes, at which chains start. The rows are those of all relationships.
 #[derive(Drop)]
-pub struct ChainHeads {
+pub struct ChainHeads<'a> {
     nodes: u32,
-    relationships: u32,
+    rows: &'a [LinkRow],
 }
 
-impl Heads for ChainHeads {
+impl<'a> Heads for ChainHeads<'a> {
     ghost has = { λ _. IsSparse };
 
-    ghost lists = { λ _. AreNodeEnds };
+    ghost lists = { λ heads. AreRowEndsOf heads.rows.now };
 
     ghost suits = { AreChainHeads };
 
     ghost mark = { λ heads. heads.nodes };
 
-    ghost bound = { λ heads. 2 * heads.relationships };
+    ghost bound = { λ heads. 2 * length heads.rows.now };
 
     fn list<R: Reads>(&self, alloc: Global, space: &mut R, id: u32) -> Result<Found, SpaceFault> {
         let rec = space.get(Key { file: NODES, id })?;
         if rec.byte(KIND) != SPARSE {
             return Ok(Found::Nothing);
         }
-        let line = ChainLine {
-            node: id,
-            side: Side::Any,
-        };
         let first = rec.number(NODE_FIRST_LINK);
-        let found = chain_ends(alloc, space, &line, first, self.relationships)?;
+        let Ok(found) = row_chain_ends(alloc, self.rows, id, first) else {
+            return Err(SpaceFault::Memory);
+        };
         Ok(found)
     }
 }
@@ -338,6 +339,37 @@ fn find_loose<R: Reads>(
     find_false(space, &attached, relationships)
 }
 
+/// Marks the ends in the chains of sparse nodes, or finds a node without its chain.
+fn mark_node_ends<R: Reads>(
+    alloc: Global,
+    space: &mut R,
+    marks: &mut [bool],
+) -> Result<Option<Broke>, SpaceFault>
+    requires low { AreMarksLow (R.state space.old).records }
+    requires marks { length marks.old
+        ≡ 2 * high (R.state space.old).records relationships_file }
+    ensures keeps { R.tells → IfOk result (λ found. IfNone found
+        ((k : ℕ) → k < high (R.state space.old).records nodes_file → HeadKeeps
+        (IsSparse (R.state space.old).records) (AreNodeEnds (R.state space.old).records) k)) }
+    ensures marks { R.tells → IfOk result (λ found. IfNone found ((p : ℕ) → Decides
+        (marked marks.new p) ((marked marks.old p ≡ true) ⊎ AmongHeads
+        (IsSparse (R.state space.old).records) (AreNodeEnds (R.state space.old).records)
+        (high (R.state space.old).records nodes_file) p))) }
+    ensures broken { R.tells → IfOk result (λ found. IfSome found (BrokeIs
+        (IsSparse (R.state space.old).records) (AreNodeEnds (R.state space.old).records)
+        (high (R.state space.old).records nodes_file) marks.old)) }
+    ensures len { length marks.new ≡ length marks.old }
+    ensures same { (R.state space.new).records ≡ (R.state space.old).records }
+    ensures written { (R.state space.new).written ≡ (R.state space.old).written }
+    ensures onward { R.onward space.old space.new }
+    ensures cause { HasCause (R.faults space.old) (R.faults space.new) result }
+{
+    let rows = link_rows(alloc, space)?;
+    let nodes = space.meta(NODES).high;
+    let heads = ChainHeads { nodes, rows: &rows };
+    list_heads(alloc, space, &heads, nodes, marks)
+}
+
 /// Marks the ends in the chains of all nodes and groups, or finds what breaks the third rule.
 fn mark_ends<R: Reads>(
     alloc: Global,
@@ -361,14 +393,9 @@ fn mark_ends<R: Reads>(
     ensures onward { R.onward space.old space.new }
     ensures cause { HasCause (R.faults space.old) (R.faults space.new) result }
 {
-    let nodes = space.meta(NODES).high;
     let groups = space.meta(GROUPS).high;
     let relationships = space.meta(RELATIONSHIPS).high;
-    let heads = ChainHeads {
-        nodes,
-        relationships,
-    };
-    match list_heads(alloc, space, &heads, nodes, marks)? {
+    match mark_node_ends(alloc, space, marks)? {
         Some(Broke::Head(id)) => return Ok(Some(broken(NODES, id, CHAIN_RULE))),
         Some(Broke::Item(end)) => return Ok(Some(broken(RELATIONSHIPS, end / 2, CHAIN_RULE))),
         None => {}

@@ -8,6 +8,8 @@ mod counts;
 mod degrees;
 mod groups;
 mod kinds;
+mod link_rows;
+mod row_chains;
 
 pub use chains::check_chains;
 pub use degrees::check_degrees;

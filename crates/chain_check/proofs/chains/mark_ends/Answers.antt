@@ -20,15 +20,14 @@ pub returns-in-Some-Head-clause-broken : goal.returns-in-Some-Head-clause-broken
 returns-in-Some-Head-clause-broken g c = λ tells.
     let s = g.R.Reads.state c.args.space.now in
     let id = c.in-Some-Head.id in
-    let mark : c.meta-nodes.result.high ≡ high s.records nodes_file = ap (λ (m : Meta). m.high) c.meta-nodes.ensures in
-    let b : BrokeIs (IsSparse s.records) (AreNodeEnds s.records) c.meta-nodes.result.high c.args.marks.now (Head id) = search (rules, c.in_ok-id.ensures.broken tells) in
-    breaks_by s.records s.shape 3 c.broken.result (damage 1 id 3) (c.broken.ensures ∙ ap (λ i. damage 1 i 3) c.in-Some-Head.id-is) refl (NodeChain id (omega (arith, b.0)) (λ k. b.1 (head_of_keeps s.records id k)))
+    let b : BrokeIs (IsSparse s.records) (AreNodeEnds s.records) (high s.records nodes_file) c.args.marks.now (Head id) = search (rules, c.in_ok-id.ensures.broken tells) in
+    breaks_by s.records s.shape 3 c.broken.result (damage 1 id 3) (c.broken.ensures ∙ ap (λ i. damage 1 i 3) c.in-Some-Head.id-is) refl (NodeChain id b.0 (λ k. b.1 (head_of_keeps s.records id k)))
 
 pub returns-in-Some-Item-clause-broken : goal.returns-in-Some-Item-clause-broken
 returns-in-Some-Item-clause-broken g c = λ tells.
     let s = g.R.Reads.state c.args.space.now in
-    let b : BrokeIs (IsSparse s.records) (AreNodeEnds s.records) c.meta-nodes.result.high c.args.marks.now (Item c.in-Some-Item.end) = search (rules, c.in_ok-id.ensures.broken tells) in
-    absurd (never_twice s.records c.meta-nodes.result.high c.args.marks.now c.in-Some-Item.end c.requires.clear b)
+    let b : BrokeIs (IsSparse s.records) (AreNodeEnds s.records) (high s.records nodes_file) c.args.marks.now (Item c.in-Some-Item.end) = search (rules, c.in_ok-id.ensures.broken tells) in
+    absurd (never_twice s.records (high s.records nodes_file) c.args.marks.now c.in-Some-Item.end c.requires.clear b)
 
 pub returns-in-Some-Head-2-clause-broken : goal.returns-in-Some-Head-2-clause-broken
 returns-in-Some-Head-2-clause-broken g c = λ tells.
@@ -36,7 +35,7 @@ returns-in-Some-Head-2-clause-broken g c = λ tells.
     let id = c.in-Some-Head-2.id in
     let chained = c.args.chained.now in
     let right = c.requires.chained tells in
-    let first = c.list_heads.new.marks in
+    let first = c.mark_node_ends.new.marks in
     let groups = 3 * c.meta-groups.result.high in
     let group_mark : c.meta-groups.result.high ≡ high s.records groups_file = ap (λ (m : Meta). m.high) c.meta-groups.ensures in
     let told : IfSome c.in_ok-id-2.field-0 (BrokeIs (λ k. IsChained chained s.records (group_of k)) (AreGroupEnds s.records) groups first)
@@ -49,9 +48,9 @@ pub returns-in-Some-Item-2-clause-broken : goal.returns-in-Some-Item-2-clause-br
 returns-in-Some-Item-2-clause-broken g c = λ tells.
     let s = g.R.Reads.state c.args.space.now in
     let chained = c.args.chained.now in
-    let first = c.list_heads.new.marks in
+    let first = c.mark_node_ends.new.marks in
     let end = c.in-Some-Item-2.end in
-    let nodes = c.meta-nodes.result.high in
+    let nodes = high s.records nodes_file in
     let groups = 3 * c.meta-groups.result.high in
     let told : (p : ℕ) → Decides (marked first p) ((marked c.args.marks.now p ≡ true) ⊎ AmongHeads (IsSparse s.records) (AreNodeEnds s.records) nodes p) = search (rules, c.in_ok-id.ensures.marks tells) in
     let twice : IfSome c.in_ok-id-2.field-0 (BrokeIs (λ k. IsChained chained s.records (group_of k)) (AreGroupEnds s.records) groups first)
@@ -65,15 +64,13 @@ returns-in-None-2-clause-met g c = λ tells.
     let s = g.R.Reads.state c.args.space.now in
     let chained = c.args.chained.now in
     let right = c.requires.chained tells in
-    let first = c.list_heads.new.marks in
-    let last = c.list_heads-2.new.marks in
-    let nodes = c.meta-nodes.result.high in
+    let first = c.mark_node_ends.new.marks in
+    let last = c.list_heads.new.marks in
+    let nodes = high s.records nodes_file in
     let groups = 3 * c.meta-groups.result.high in
     let group_mark : c.meta-groups.result.high ≡ high s.records groups_file = ap (λ (m : Meta). m.high) c.meta-groups.ensures in
-    let node_mark : nodes ≡ high s.records nodes_file = ap (λ (m : Meta). m.high) c.meta-nodes.ensures in
     let told : (p : ℕ) → Decides (marked first p) ((marked c.args.marks.now p ≡ true) ⊎ AmongHeads (IsSparse s.records) (AreNodeEnds s.records) nodes p) = search (rules, c.in_ok-id.ensures.marks tells) in
-    let node_told : (p : ℕ) → Decides (marked first p) (AmongHeads (IsSparse s.records) (AreNodeEnds s.records) (high s.records nodes_file) p)
-    = subst (λ m. (p : ℕ) → Decides (marked first p) (AmongHeads (IsSparse s.records) (AreNodeEnds s.records) m p)) node_mark (told_clear (IsSparse s.records) (AreNodeEnds s.records) nodes c.args.marks.now first c.requires.clear told) in
+    let node_told : (p : ℕ) → Decides (marked first p) (AmongHeads (IsSparse s.records) (AreNodeEnds s.records) nodes p) = told_clear (IsSparse s.records) (AreNodeEnds s.records) nodes c.args.marks.now first c.requires.clear told in
     let node_heads : (k : ℕ) → k < nodes → HeadKeeps (IsSparse s.records) (AreNodeEnds s.records) k = search (rules, c.in_ok-id.ensures.keeps tells) in
     let marks : IfNone c.in_ok-id-2.field-0 ((p : ℕ) → Decides (marked last p) ((marked first p ≡ true) ⊎ AmongHeads (λ k. IsChained chained s.records (group_of k)) (AreGroupEnds s.records) groups p))
     = subst (λ (r : Records). IfNone c.in_ok-id-2.field-0 ((p : ℕ) → Decides (marked last p) ((marked first p ≡ true) ⊎ AmongHeads (λ k. IsChained chained r (group_of k)) (AreGroupEnds r) groups p))) c.in_ok-id.ensures.same (c.in_ok-id-2.ensures.marks tells) in
@@ -86,7 +83,7 @@ returns-in-None-2-clause-met g c = λ tells.
     let group_once : (p : ℕ) → IsOnce (λ k. IsChained chained s.records (group_of k)) (AreGroupEnds s.records) groups p = search (rules, once) in
     let all_told = subst (λ m. (p : ℕ) → Decides (marked last p) ((marked first p ≡ true) ⊎ AmongHeads (λ k. IsChained chained s.records (group_of k)) (AreGroupEnds s.records) (3 * m) p)) group_mark group_told in
     record {
-      nodes = nodes_keep s.records (λ n lt. keeps_of_head s.records n (node_heads n (omega arith)));
+      nodes = nodes_keep s.records (λ n lt. keeps_of_head s.records n (node_heads n lt));
       groups = keeps_of_heads s.records chained right (λ k low. group_heads k (omega arith));
       told = all_met s.records chained right first last node_told all_told;
       once = met_once s.records chained right first last node_told all_told

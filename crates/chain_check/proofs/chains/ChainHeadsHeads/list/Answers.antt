@@ -1,11 +1,9 @@
 use Rattle.std.proofs.Common.{arith, ◌≡◌, ◌<◌, ◌∙◌, ap, sym, rules}
 use Rattle.rec_bytes.specs.Format as format
 use Rattle.rec_bytes.specs.Record.{field}
-use Rattle.store_rules.specs.Rules.{node_head}
 use Rattle.store_rules.specs.Views.{first_link, high}
-use Rattle.chain_check.specs.declared.chains.Side.TheVariants.{Any}
 use Rattle.chain_check.specs.NodeChains.{IsSparse}
-use Rattle.chain_check.proofs.ChainLaws.{found_is, node_side}
+use Rattle.chain_check.proofs.RowLaws.{row_found}
 use Rattle.record_lists.proofs.RecordLaws.{kind_read}
 use Rattle.rec_bytes.proofs.Causes.{never_ok, ok_cause}
 use Rattle.record_lists.proofs.Causes.{cause_passed}
@@ -26,8 +24,7 @@ returns-clause-told g c = λ tells.
     let got = c.in_ok-rec.ensures.got tells in
     let is : IsSparse records id = kind_read records format.nodes_file id c.in_ok-rec.rec lt got ∙ sym c.byte.ensures ∙ c.if-byte-ne-SPARSE.false in
     let first : c.number-first.result ≡ first_link records id = c.number-first.ensures ∙ ap (λ r. field 4 r format.node_first_link) got in
-    found_is records (g.R.Reads.state c.get.new.self).records (node_head id) id Any c.args.self.now.relationships c.number-first.result c.in_ok-found.found (node_side records id)
-    (ap (λ s. s.records) c.in_ok-rec.ensures.state) c.requires.suits.relationships c.requires.suits.few_relationships first (IsSparse records id) is (c.in_ok-found.ensures.told tells)
+    row_found c.args.self.now.rows.now records id c.number-first.result c.in-Ok.found (IsSparse records id) c.requires.suits.few_rows first is c.in-Ok.ensures.found
 
 pub returns-in_err-rec-clause-told : goal.returns-in_err-rec-clause-told
 returns-in_err-rec-clause-told g c _ = never_ok c.from_residual.result _ _ c.from_residual.ensures.1
@@ -35,17 +32,11 @@ returns-in_err-rec-clause-told g c _ = never_ok c.from_residual.result _ _ c.fro
 pub returns-in_err-rec-clause-low : goal.returns-in_err-rec-clause-low
 returns-in_err-rec-clause-low g c = never_ok c.from_residual.result _ _ c.from_residual.ensures.1
 
-pub returns-in_err-found-clause-told : goal.returns-in_err-found-clause-told
-returns-in_err-found-clause-told g c _ = never_ok c.from_residual-in_err-found.result _ _ c.from_residual-in_err-found.ensures.1
-
-pub returns-in_err-found-clause-low : goal.returns-in_err-found-clause-low
-returns-in_err-found-clause-low g c = never_ok c.from_residual-in_err-found.result _ _ c.from_residual-in_err-found.ensures.1
-
 pub returns-then-byte-ne-SPARSE-clause-cause : goal.returns-then-byte-ne-SPARSE-clause-cause
 returns-then-byte-ne-SPARSE-clause-cause g c = ok_cause _ _ _ _ c.in_ok-rec.ensures.cause.later
 
 pub returns-clause-cause : goal.returns-clause-cause
-returns-clause-cause g c = ok_cause _ _ _ _ (omega (arith, c.in_ok-rec.ensures.cause.later, c.in_ok-found.ensures.cause.later))
+returns-clause-cause g c = ok_cause _ _ _ _ c.in_ok-rec.ensures.cause.later
 
 pub returns-in_err-rec-clause-same : goal.returns-in_err-rec-clause-same
 returns-in_err-rec-clause-same g c = search rules
@@ -59,14 +50,3 @@ returns-in_err-rec-clause-onward g c = search rules
 pub returns-in_err-rec-clause-cause : goal.returns-in_err-rec-clause-cause
 returns-in_err-rec-clause-cause g c =
     cause_passed _ _ _ c.from_residual.result c.in_err-rec.field-0.0 (omega arith) c.in_err-rec.ensures.cause c.from_residual.ensures.1
-
-pub returns-in_err-found-clause-same : goal.returns-in_err-found-clause-same
-returns-in_err-found-clause-same g c = search rules
-
-pub returns-in_err-found-clause-written : goal.returns-in_err-found-clause-written
-returns-in_err-found-clause-written g c = search rules
-
-pub returns-in_err-found-clause-cause : goal.returns-in_err-found-clause-cause
-returns-in_err-found-clause-cause g c =
-    cause_passed _ _ _ c.from_residual-in_err-found.result c.in_err-found.field-0.0 c.in_ok-rec.ensures.cause.later
-    c.in_err-found.ensures.cause c.from_residual-in_err-found.ensures.1
