@@ -1,12 +1,12 @@
 -- A run of the console, as far as the program's loop has come.
-use Rattle.std.proofs.Common.{◌≡◌, ◌≢◌, ◌⊎◌, ⊎_elim, inl, inr, ℕ, ◌+◌, ◌-◌, ◌^◌, ◌≤◌, Bool, true, false, List, [], ◌∷◌, ◌++◌, length, take, map, refl, sym, ◌∙◌, ap, subst, arith, append_assoc, length-append, Some, cond}
+use Rattle.std.proofs.Common.{◌≡◌, ◌≢◌, ◌⊎◌, ⊎_elim, inl, inr, ℕ, ◌+◌, ◌-◌, ◌^◌, ◌<◌, ◌≤◌, Bool, true, false, List, [], ◌∷◌, ◌++◌, length, take, map, refl, sym, ◌∙◌, ap, subst, arith, append_assoc, length-append, Some, cond}
 use Rattle.std.proofs.lemmas.Bool.{cases_lt}
 use Rattle.std.proofs.lemmas.List.{append-nil, map_push}
 use Rattle.std.proofs.lemmas.Grind.{flat_map-append}
 use Rattle.fault_count.specs.Cause.{Rose}
 use Rattle.stream_io.specs.Lines.{InputLine, Pieces, pieces_of, line_of, lines_of, ended_lines}
 use Rattle.stream_io.specs.Answers.{TakesLine}
-use Rattle.stream_io.specs.Reading.{Reading, ahead, IsFresh}
+use Rattle.stream_io.specs.Reading.{HasNoneLeft, Reading, ahead, IsFresh}
 use Rattle.stream_io.specs.Streams.{TakesFront}
 use Rattle.plain_graph.specs.Reply as replies
 use Rattle.plain_graph.specs.Reply.{Reply}
@@ -29,6 +29,11 @@ run_on Step first middle last (y ∷ run) x steps step = (steps.0, steps.1, run_
 no_quit_on : (lines : List InputLine) (line : InputLine) → NoQuit lines → ¬ IsQuit line → NoQuit (lines ++ line ∷ [])
 no_quit_on [] line none not_quit = (not_quit, tt)
 no_quit_on (l ∷ lines) line none not_quit = (none.0, no_quit_on lines line none.1 not_quit)
+
+-- none of a run's lines is quit, and so its last one isn't
+no_quit_last : (lines : List InputLine) (line : InputLine) → NoQuit (lines ++ line ∷ []) → ¬ IsQuit line
+no_quit_last [] line none = none.0
+no_quit_last (l ∷ lines) line none = no_quit_last lines line none.1
 
 pub run_text_on : (run : List Exchange) (x : Exchange) → run_text (run ++ x ∷ []) ≡ run_text run ++ exchange_text x
 run_text_on run x =
@@ -98,6 +103,20 @@ pub record Boundary (input ahead_of : List ℕ) (lines : List InputLine) : Type 
   pub no_rest : (pieces_of used).rest ≡ []
   pub lines_are : ended_lines used ≡ lines
 
+-- What a turn leaves of a source that answers its end: fewer than 2^30 bytes were taken, and none is left.
+pub record EndsSource (old new : Progress) : Type 0 where
+  pub below_limit : old.reader.ended ≡ false → new.reader.ended ≡ true → new.reader.taken < 2 ^ 30
+  pub none_left : HasNoneLeft old.reader old.left → HasNoneLeft new.reader new.left
+
+-- an input of whose end the source has told has fewer than 2^30 bytes
+short_input : (start old new : Progress) → (old.reader.ended ≡ true → length start.left < 2 ^ 30) → old.reader.taken + length old.left ≡ length start.left → new.reader.taken + length new.left ≡ old.reader.taken + length old.left
+    → EndsSource old new → HasNoneLeft old.reader old.left → new.reader.ended ≡ true → length start.left < 2 ^ 30
+short_input start old new was_short so_far counted source was_none ended = by old.reader.ended refl
+  where
+    by : (b : Bool) → old.reader.ended ≡ b → length start.left < 2 ^ 30
+    by true is = was_short is
+    by false is = let none : length new.left ≡ 0 = ap length (source.none_left was_none ended) in omega (arith, none, so_far, counted, source.below_limit is ended)
+
 -- A run from the first state has come from the start to here, and to a state that the session is at.
 pub record Serving {V : Type 0} (course : Course V) (first : V) (is_at : List Exchange → V → Type 0) (start now : Progress) : Type 0 where
   pub run : List Exchange
@@ -109,6 +128,8 @@ pub record Serving {V : Type 0} (course : Course V) (first : V) (is_at : List Ex
   pub lines : run_lines run ++ lines_of (bytes_ahead now) ≡ lines_of start.left
   pub boundary : now.reader.ended ≡ false → Boundary start.left (bytes_ahead now) (run_lines run)
   pub counted : now.reader.taken + length now.left ≡ length start.left
+  pub none_left : HasNoneLeft now.reader now.left
+  pub short : now.reader.ended ≡ true → length start.left < 2 ^ 30
   pub counts : CountsRises start.faults now.faults run
 
 fresh_ahead : (reader : Reading) (left : List ℕ) → reader.ended ≡ false → reader.held ≡ [] → ahead reader left ≡ left
@@ -127,6 +148,8 @@ serving_first course first is_at start at_first fresh =
       lines = ap lines_of same;
       boundary = λ _. record { used = []; input_is = sym same; no_rest = refl; lines_are = refl };
       counted = ap (λ n. n + length start.left) fresh.taken ∙ omega arith;
+      none_left = λ ended. absurd (cc (fresh.ended, ended));
+      short = λ ended. absurd (cc (fresh.ended, ended));
       counts = inl (omega arith);
     }
 
@@ -200,8 +223,8 @@ module _ {V : Type 0} (course : Course V) (blamed : AllBlame course) (first : V)
   ]
 
   pub serving_on : ¬ IsQuit e.exchange.line → new.taken ≡ old.taken ++ exchange_text e.exchange → old.faults ≤ new.faults → (new.reader.ended ≡ false → old.reader.ended ≡ false)
-      → new.reader.taken + length new.left ≡ old.reader.taken + length old.left → Serving course first is_at start new
-  serving_on not_quit text later stays counted = record {
+      → new.reader.taken + length new.left ≡ old.reader.taken + length old.left → EndsSource old new → Serving course first is_at start new
+  serving_on not_quit text later stays counted source = record {
     run = run_after;
     state = e.after;
     steps = steps_after;
@@ -211,6 +234,8 @@ module _ {V : Type 0} (course : Course V) (blamed : AllBlame course) (first : V)
     lines = sym all_lines;
     boundary = λ goes_on. boundary_after (stays goes_on) goes_on;
     counted = counted ∙ s.counted;
+    none_left = source.none_left s.none_left;
+    short = short_input start old new s.short s.counted counted source s.none_left;
     counts = counts_after later;
   }
 
@@ -232,7 +257,7 @@ module _ {V : Type 0} (course : Course V) (blamed : AllBlame course) (first : V)
     serves_quit health ends_so is_quit text = (
       run_text run_after,
       text ∙ sym text_after,
-      closed (λ run last. (course.health last ≡ health) × AreUpToQuit (lines_of start.left) (run_lines run) × (run_text run_after ≡ run_text run)) (
+      closed (λ run last. (course.health last ≡ health) × AreUpToQuit (lines_of start.left) (run_lines run) × (NoQuit (run_lines run) → length start.left < 2 ^ 30) × (run_text run_after ≡ run_text run)) (
         ends_so,
         inr (record {
           before = run_lines s.run;
@@ -243,6 +268,7 @@ module _ {V : Type 0} (course : Course V) (blamed : AllBlame course) (first : V)
           done_is = lines_after;
           lines_are = all_lines;
         }),
+        (λ none. absurd (no_quit_last (run_lines s.run) e.exchange.line (subst NoQuit lines_after none) is_quit)),
         refl,
       ),
     )
@@ -273,13 +299,13 @@ module _ {V : Type 0} (course : Course V) (first : V) (old_is_at is_at : List Ex
     says = says_so;
   }
 
-  pub serves_end : (health : Health) → course.health s.state ≡ health → bytes_ahead old ≡ [] → new.taken ≡ old.taken
+  pub serves_end : (health : Health) → course.health s.state ≡ health → bytes_ahead old ≡ [] → new.taken ≡ old.taken → length start.left < 2 ^ 30
       → Writes start.taken new.taken (ServesAll terms health start.left)
-  serves_end health ends_so none same = let all = sym (append-nil (run_lines s.run)) ∙ ap (λ (bs : List ℕ). run_lines s.run ++ lines_of bs) (sym none) ∙ s.lines in (
+  serves_end health ends_so none same short = let all = sym (append-nil (run_lines s.run)) ∙ ap (λ (bs : List ℕ). run_lines s.run ++ lines_of bs) (sym none) ∙ s.lines in (
     run_text s.run,
     same ∙ s.text,
-    closed_here (λ run last. (course.health last ≡ health) × AreUpToQuit (lines_of start.left) (run_lines run) × (run_text s.run ≡ run_text run))
-        (ends_so, inl (subst NoQuit all s.no_quit, all), refl),
+    closed_here (λ run last. (course.health last ≡ health) × AreUpToQuit (lines_of start.left) (run_lines run) × (NoQuit (run_lines run) → length start.left < 2 ^ 30) × (run_text s.run ≡ run_text run))
+        (ends_so, inl (subst NoQuit all s.no_quit, all), (λ none. short), refl),
   )
 
   module _ (b : Breaks course s.state comes_to old new) where
@@ -326,10 +352,10 @@ module _ {V : Type 0} (course : Course V) (first : V) (old_is_at is_at : List Ex
 -- What a turn that ends the run has served.
 module _ {V : Type 0} (course : Course V) (blamed : AllBlame course) (first : V) (old_is_at is_at : List Exchange → V → Type 0) (comes_to : V → Type 0) (start old new : Progress) (s : Serving course first old_is_at start old) (carries : Carries course s.run s.state comes_to is_at)
     (terms : Terms course) (begins : terms.starts first) (closes : Closes is_at (terms.ends first) start.faults new.faults) (later : old.faults ≤ new.faults)
-    (counted : new.reader.taken + length new.left ≡ old.reader.taken + length old.left) where
+    (counted : new.reader.taken + length new.left ≡ old.reader.taken + length old.left) (source : EndsSource old new) where
   serves_all : (health : Health) → Ends course s.state comes_to old new health
       → Writes start.taken new.taken (ServesAll terms health start.left)
-  serves_all health (inl at_end) = serves_end course first old_is_at is_at comes_to start old new s carries at_end.2 terms begins closes later health at_end.1 at_end.0 at_end.3
+  serves_all health (inl at_end) = serves_end course first old_is_at is_at comes_to start old new s carries at_end.2 terms begins closes later health at_end.1 at_end.0 at_end.3 (short_input start old new s.short s.counted counted source s.none_left at_end.4)
   serves_all health (inr quits) = serves_quit course blamed first old_is_at is_at comes_to start old new s carries _ quits terms begins closes later health quits.more.1 quits.more.0 quits.more.2
 
   pub served : (exit : Exit) → TurnSays course s.state comes_to old new (Some exit)

@@ -103,7 +103,7 @@ comes_none disk only session state is_at = record {
 }
 
 -- at the end of the input the run ends in the session's health
-pub says_at_end : {V : Type 0} (course : Course V) (before : V) (comes_to : V → Type 0) (old new : Progress) (health : Health) → bytes_ahead old ≡ [] → health ≡ course.health before → comes_to before → new.taken ≡ old.taken
+pub says_at_end : {V : Type 0} (course : Course V) (before : V) (comes_to : V → Type 0) (old new : Progress) (health : Health) → bytes_ahead old ≡ [] → health ≡ course.health before → comes_to before → new.taken ≡ old.taken → new.reader.ended ≡ true
     → TurnSays course before comes_to old new (Some (exit_at_end health))
-says_at_end course before comes_to old new Live none is at same = inl (none, cc, at, same)
-says_at_end course before comes_to old new Failed none is at same = inl (none, cc, at, same)
+says_at_end course before comes_to old new Live none is at same ended = inl (none, cc, at, same, ended)
+says_at_end course before comes_to old new Failed none is at same ended = inl (none, cc, at, same, ended)

@@ -1,5 +1,5 @@
 -- What a whole run of the program reads and writes, exit by exit.
-use Rattle.std.specs.Prelude.{◌≡◌, ◌⊎◌, ℕ, ◌^◌, List, [], ◌++◌, length, codes}
+use Rattle.std.specs.Prelude.{◌≡◌, ◌⊎◌, ℕ, ◌^◌, ◌<◌, List, [], ◌++◌, length, codes}
 use Rattle.fault_count.specs.Cause.{Rose}
 use Rattle.disk_model.specs.Spans.{AtEachMoment}
 use Rattle.disk_model.specs.declared.disk.Disk.{Ghosts as DiskGhosts}
@@ -80,13 +80,13 @@ pub record RunTo {V : Type 0} {course : Course V} (terms : Terms course)
   pub says : P run last
 
 -- The run took all lines of the input, or those up to quit, and ended in this health. All replies
--- were written.
+-- were written. Where none of its lines is quit, the input had fewer than 2^30 bytes.
 abbrev pub ServesAll :
     {V : Type 0} {course : Course V} → Terms course → Health → List ℕ → List ℕ → Type 0
 ServesAll {course = course} terms health input written =
     RunTo terms (λ run last.
     (course.health last ≡ health) × AreUpToQuit (lines_of input) (run_lines run)
-    × (written ≡ run_text run))
+    × (NoQuit (run_lines run) → length input < 2 ^ 30) × (written ≡ run_text run))
 
 -- What was written by a program that was asked to run, with what it had read: input is what the
 -- source had left at the start, and left what it has left at the end. Where the store was not

@@ -97,11 +97,12 @@ module _ {V : Type 0} (course : Course V) (before : V) (comes_to : V → Type 0)
     pub arrives : comes_to before
     pub output : new.taken ≡ old.taken
 
-  -- The run has come to the end of the input or to quit, in this health.
+  -- The run has come to the end of the input, which the source has answered, or to quit, in this
+  -- health.
   abbrev pub Ends : Health → Type 0
   Ends health =
       ((bytes_ahead old ≡ []) × (course.health before ≡ health) × comes_to before
-      × (new.taken ≡ old.taken))
+      × (new.taken ≡ old.taken) × (new.reader.ended ≡ true))
       ⊎ Exchanges (λ after x.
       IsQuit x.line × (course.health after ≡ health)
       × (new.taken ≡ old.taken ++ exchange_text x))

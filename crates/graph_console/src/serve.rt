@@ -1,5 +1,6 @@
-ghost use Rattle.std.specs.Prelude.{Bool, ◌≡◌, ◌+◌, ◌^◌, ◌<◌, ◌≤◌, false, length, IfNone, IfSome};
-ghost use Rattle.stream_io.specs.Reading.{IsFresh, used};
+ghost use Rattle.std.specs.Prelude.{Bool, ◌≡◌, ◌+◌, ◌^◌, ◌<◌, ◌≤◌, true, false, length};
+ghost use Rattle.std.specs.Prelude.{IfNone, IfSome};
+ghost use Rattle.stream_io.specs.Reading.{HasNoneLeft, IsFresh, used};
 ghost use Rattle.graph_session.specs.Console.{Onward};
 ghost use Rattle.graph_session.specs.Known.{as_known};
 ghost use Rattle.graph_session.specs.Session.{HaveSameDisk, shared_view, view};
@@ -66,6 +67,10 @@ fn serve_line<S: Source, K: Sink, D: Disk>(
         ≡ reader.old.taken + length (S.left input.old) }
     ensures limit { reader.new.taken ≤ 2 ^ 30 }
     ensures stays_ended { reader.new.ended ≡ false → reader.old.ended ≡ false }
+    ensures ends_below_limit { reader.old.ended ≡ false → reader.new.ended ≡ true
+        → reader.new.taken < 2 ^ 30 }
+    ensures none_left { S.tells → HasNoneLeft reader.old (S.left input.old)
+        → HasNoneLeft reader.new (S.left input.new) }
     ensures goes_on { IfNone result
         ((used reader.old < used reader.new) × (used reader.new ≤ 2 ^ 30)) }
     ensures exits { IfSome result IsRunExit }

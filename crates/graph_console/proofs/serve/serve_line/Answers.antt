@@ -54,7 +54,7 @@ returns-in-End-clause-turns g c = λ known state is_at s k.
     let new : Progress = progress g.S.Source g.K.Sink g.D.Disk (loop c.next.follows.lender-at-none c.next.new.source c.args.output.now session) in
     let comes_to : SharedState → Type 0 = SharedComesTo (as_known known g.D.Disk) session session state in
     let stays : comes_to state = comes_none (as_known known g.D.Disk) g.met.D.Disk.only_now (shared_view c.args.session.now) state is_at in
-    rw (c.exit_at_end.ensures, c.health-in-End.ensures) (says_at_end (shared_course (as_known known g.D.Disk).tells_reads) state comes_to old new session.session.console.health takes.0 is_at.writer.health stays refl)
+    rw (c.exit_at_end.ensures, c.health-in-End.ensures) (says_at_end (shared_course (as_known known g.D.Disk).tells_reads) state comes_to old new session.session.console.health takes.0 is_at.writer.health stays refl takes.2)
 
 pub returns-in-End-clause-steps : goal.returns-in-End-clause-steps
 returns-in-End-clause-steps g c = λ state is_at s k.
@@ -63,7 +63,7 @@ returns-in-End-clause-steps g c = λ state is_at s k.
     let old : Progress = progress g.S.Source g.K.Sink g.D.Disk (loop c.args.reader.now c.args.input.now c.args.output.now session) in
     let new : Progress = progress g.S.Source g.K.Sink g.D.Disk (loop c.next.follows.lender-at-none c.next.new.source c.args.output.now session) in
     rw (c.exit_at_end.ensures, c.health-in-End.ensures)
-    (says_at_end (over_disk g.D.Disk) session (IsViewedAs g.D.Disk session) old new session.session.console.health takes.0 refl (record { is = refl; state = state; is_at = is_at }) refl)
+    (says_at_end (over_disk g.D.Disk) session (IsViewedAs g.D.Disk session) old new session.session.console.health takes.0 refl (record { is = refl; state = state; is_at = is_at }) refl takes.2)
 
 pub returns-in-SourceFault-clause-turns : goal.returns-in-SourceFault-clause-turns
 returns-in-SourceFault-clause-turns g c = λ known state is_at s k. record {
