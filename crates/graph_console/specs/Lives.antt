@@ -11,8 +11,9 @@ use Rattle.txn_core.specs.declared.open_fault.OpenFault.{OpenFault}
 use Rattle.graph_session.specs.Opening.{IsUnopened}
 use Rattle.graph_session.specs.Snapshots.{SharedState}
 use Rattle.graph_session.specs.State.{Admits}
-use Rattle.graph_console.specs.Program.{EndsAs, StartsRun, config_for}
-use Rattle.graph_console.specs.Run.{ComesBy, Run}
+use Rattle.graph_console.specs.Program.{EndsAs, Serves, StartsRun, Terms, config_for}
+use Rattle.graph_console.specs.Run.{ComesBy, Run, shared_course}
+use Rattle.graph_console.specs.declared.exit.Exit.{Exit}
 
 -- a disk, and the moment at which the last run of the program began
 pub record World (D : Type 0) : Type 0 where
@@ -28,6 +29,13 @@ pub data Event (D : Type 0) : Type 0 where
   Refuses : (options : RunOptions) (why : OpenFault) (now : D) → Event D
   Stops : (now : D) → Event D
   Stops_inside : (now : D) → Event D
+
+-- the program was called in the event, with these options
+abbrev pub IsCalledBy : {D : Type 0} → RunOptions → Event D → Type 0
+IsCalledBy options (Runs given first run last now) = given ≡ options
+IsCalledBy options (Refuses given why now) = given ≡ options
+IsCalledBy options (Stops now) = ⊥
+IsCalledBy options (Stops_inside now) = ⊥
 
 module _ {D : Type 0} (g : Ghosts D) where
   -- what there is after an event
@@ -70,12 +78,35 @@ module _ {D : Type 0} (g : Ghosts D) where
   Happen begin (event ∷ earlier) end =
       (w : World D) × Happen begin earlier w × May event w × (end ≡ after event w)
 
-  -- an event may lead from the one disk to the other, whenever the run before it began
-  abbrev pub Leads : D → D → Type 0
-  Leads old new =
-      (since : ℕ) → (event : Event D) × May event (record { disk = old; since = since })
-      × (after event (record { disk = old; since = since })
-      ≡ record { disk = new; since = g.moment old })
+  -- The terms of this event alone: its run from its first state through its exchanges to its last
+  -- one, or its reason why there is none.
+  abbrev pub terms_of : Event D → Terms (shared_course g.tells_reads)
+  terms_of (Runs options first run last now) = record {
+    starts = λ state. state ≡ first;
+    ends = λ begun exchanges ended. (exchanges ≡ run) × (ended ≡ last);
+    unopened = λ reason. ⊥;
+  }
+  terms_of (Refuses options why now) = record {
+    starts = λ state. ⊥;
+    ends = λ begun exchanges ended. ⊥;
+    unopened = λ reason. reason ≡ why;
+  }
+  terms_of (Stops now) =
+      record { starts = λ state. ⊥; ends = λ begun exchanges ended. ⊥; unopened = λ reason. ⊥ }
+  terms_of (Stops_inside now) =
+      record { starts = λ state. ⊥; ends = λ begun exchanges ended. ⊥; unopened = λ reason. ⊥ }
+
+  -- The event is this call of the program: with these options, from the one disk to the other, and
+  -- with this exit. Its run took the lines of this input that the exit says, and its replies are
+  -- what was written; or its reason is the one that was written. It may happen whenever the run
+  -- before it began.
+  pub record IsCall (options : RunOptions) (old new : D) (exit : Exit)
+      (input left written : List ℕ) (event : Event D) : Type 0 where
+    pub called : IsCalledBy options event
+    pub may : (since : ℕ) → May event (record { disk = old; since = since })
+    pub leads : (since : ℕ) → after event (record { disk = old; since = since })
+        ≡ record { disk = new; since = g.moment old }
+    pub serves : Serves (terms_of event) exit input left written
 
   -- the disk before the first event
   abbrev pub start_of : D → World D

@@ -8,7 +8,7 @@ ghost use Rattle.graph_session.specs.Exchange.{Exchange};
 ghost use Rattle.graph_session.specs.Snapshots.{Sees, SharedState};
 ghost use Rattle.graph_session.specs.State.{Live};
 ghost use Rattle.graph_console.specs.History.{Transactions, last_graph};
-ghost use Rattle.graph_console.specs.Lives.{Event, Happen, IsKept, Leads, World, start_of};
+ghost use Rattle.graph_console.specs.Lives.{Event, Happen, IsCall, IsKept, World, start_of};
 ghost use Rattle.graph_console.specs.Program.{Serves, terms_for};
 ghost use Rattle.graph_console.specs.Run.{Run, no_readers};
 ghost use Rattle.graph_console.specs.TakenSnapshots.{HasTaken};
@@ -25,11 +25,13 @@ pub fn keeps_over_runs<D: Disk>()
         → (start : Graph) (shape : AShape) (disk : D) (events : List (Event D)) (end : World D)
         → ((image : Files) → D.may_leave disk image → Stands image shape start)
         → Happen D.Disk (start_of D.Disk disk) events end → IsKept D.Disk start events end }
-    // A run and a refused opening are what `graph_main` says of them.
+    // What `graph_main` says of a call is an event of such a list: the run with this input, these
+    // replies and this exit, or the refused opening with this line.
     ensures events { (options : RunOptions) (exit : AnExit) (first last : D)
         (input left written : List ℕ)
         → Serves (terms_for D.Disk options first last) exit input left written
-        → Leads D.Disk first last }
+        → (event : Event D)
+        × IsCall D.Disk options first last exit input left written event }
     // Each run from a console that has not failed has the list of its transactions, to which the
     // sessions that read add none.
     ensures recorded { D.tells_reads
