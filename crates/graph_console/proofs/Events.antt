@@ -42,6 +42,6 @@ module _ {D : Type 0} (g : Ghosts D) (options : RunOptions) (old new : D) where
       (Refuses options e.0 new, record { called = refl; may = λ since. e.1; leads = λ since. refl; serves = inr (e.0, refl, e.2) })
   served exits.NoMemory input left written e = refused exits.NoMemory input left written e (λ ends. ends)
   served exits.BadFiles input left written e = refused exits.BadFiles input left written e (λ ends. ends)
-  served exits.ConfigDiffers input left written e = refused exits.ConfigDiffers input left written e (λ ends. ends)
+  served (exits.ConfigDiffers stored asked) input left written e = refused (exits.ConfigDiffers stored asked) input left written e (λ ends. ends)
   served exits.DiskFault input left written e = refused exits.DiskFault input left written e (λ ends. ends)
   served exits.InputTooLong input left written s = ran _ s exits.InputTooLong input left written (on_its_terms _ s)

@@ -1,5 +1,5 @@
 -- The whole run, by what opening the store came to.
-use Rattle.std.proofs.Common.{◌≡◌, ◌≢◌, ◌⊎◌, ⊎_elim, inl, inr, ℕ, ◌≤◌, [], List, ◌++◌, take, refl, sym, subst, arith}
+use Rattle.std.proofs.Common.{◌≡◌, ◌≢◌, ◌⊎◌, ⊎_elim, inl, inr, ℕ, ◌≤◌, [], List, ◌++◌, take, refl, sym, ◌∙◌, subst, arith}
 use Rattle.disk_model.specs.Contents.{Files}
 use Rattle.disk_model.specs.Spans.{AtEachMoment}
 use Rattle.disk_model.specs.declared.disk.Disk.{Ghosts}
@@ -7,7 +7,7 @@ use Rattle.disk_model.proofs.Spans.{OnlyNow, at_each_moment_none, at_each_moment
 use Rattle.stream_io.specs.Streams.{TakesFront}
 use Rattle.rec_bytes.specs.declared.shape.Shape.{Shape}
 use Rattle.txn_core.specs.Config.{Suits}
-use Rattle.txn_core.specs.Opening.{IsAskedOther, IsRefusal, OnlyDiffers}
+use Rattle.txn_core.specs.Opening.{IsRefusal, OnlyDiffers}
 use Rattle.txn_core.specs.declared.config.Config.{Config}
 use Rattle.txn_core.specs.declared.open_fault.OpenFault.{OpenFault}
 use Rattle.txn_core.specs.declared.open_fault.OpenFault.TheVariants as faults
@@ -20,7 +20,7 @@ use Rattle.graph_session.specs.Stands.{IsAdmitted}
 use Rattle.graph_session.specs.State.{State}
 use Rattle.graph_session.proofs.Openings.{opens_admitted}
 use Rattle.graph_console.specs.Program.{HoldsGraph, Refuses, RunTo, Serves, Terms, Writes, config_for, terms_for, terms_from, usage_line}
-use Rattle.graph_console.specs.Unopened.{EndsUnopened, IsUnopenedExit, exit_of, line_of}
+use Rattle.graph_console.specs.Unopened.{EndsUnopened, HasOtherShape, IsUnopenedExit, exit_of, line_of}
 use Rattle.graph_console.specs.Run.{Course, IsAdmittedInRun, Run, RunBy, begins_with}
 use Rattle.graph_console.specs.declared.exit.Exit.{Exit}
 use Rattle.graph_console.specs.declared.exit.Exit.TheVariants as exits
@@ -69,7 +69,7 @@ module _ {V : Type 0} {course : Course V} (terms wider : Terms course) (begins :
   serves_wider exits.OutputFault input left written (inr e) = inr (e.0, refuses e.0 e.1, e.2)
   serves_wider exits.NoMemory input left written e = ends_wider exits.NoMemory written e
   serves_wider exits.BadFiles input left written e = ends_wider exits.BadFiles written e
-  serves_wider exits.ConfigDiffers input left written e = ends_wider exits.ConfigDiffers written e
+  serves_wider (exits.ConfigDiffers stored asked) input left written e = ends_wider (exits.ConfigDiffers stored asked) written e
   serves_wider exits.DiskFault input left written e = ends_wider exits.DiskFault written e
   serves_wider exits.InputTooLong input left written s = runs_wider _ s
 
@@ -120,7 +120,7 @@ module _ {V : Type 0} {course : Course V} (terms : Terms course) where
 unopened-not_output : (result : Exit) → result ≡ exits.OutputFault → ¬ IsUnopenedExit result
 unopened-not_output result failed (inl is) = cc
 unopened-not_output result failed (inr (inl is)) = cc
-unopened-not_output result failed (inr (inr (inl is))) = cc
+unopened-not_output result failed (inr (inr (inl (stored, asked, is)))) = cc
 unopened-not_output result failed (inr (inr (inr is))) = cc
 
 -- a program with the exit of a reason wrote the whole line of it
@@ -152,15 +152,19 @@ refuses_usage result old new (inr prefix) = (take prefix.1.0 usage_line, prefix.
 abbrev EndsFor : OpenFault → Exit → Type 0 → Type 0
 EndsFor why result rose = (result ≡ exit_of why) ⊎ ((result ≡ exits.OutputFault) × rose)
 
+-- an exit has one pair of shapes
+differs_same : (a b : Shape) (c d : Config) (result : Exit) → result ≡ exits.ConfigDiffers a c → result ≡ exits.ConfigDiffers b d → (a ≡ b) × (c ≡ d)
+differs_same a b c d result one two = (cc (one, two), cc (one, two))
+
 -- a reason that only differs is no damage, and tells that the shape doesn't suit
 pub sound_for : (shape : Shape) (config : Config) (why : OpenFault) → OnlyDiffers shape config why → (result : Exit) {rose : Type 0} → EndsFor why result rose
-    → (result ≢ exits.BadFiles) × (result ≡ exits.ConfigDiffers → ¬ Suits config shape)
-sound_for shape config why only result (inr failed) = (λ is. cc (failed.0, is), λ is. absurd (cc (failed.0, is)))
-sound_for shape config faults.Memory only result (inl ends) = (λ is. cc (ends, is), λ is. absurd (cc (ends, is)))
-sound_for shape config faults.Disk only result (inl ends) = (λ is. cc (ends, is), λ is. absurd (cc (ends, is)))
+    → (result ≢ exits.BadFiles) × ((stored : Shape) (asked : Config) → result ≡ exits.ConfigDiffers stored asked → (stored ≡ shape) × ¬ Suits config shape)
+sound_for shape config why only result (inr failed) = (λ is. cc (failed.0, is), λ stored asked is. absurd (cc (failed.0, is)))
+sound_for shape config faults.Memory only result (inl ends) = (λ is. cc (ends, is), λ stored asked is. absurd (cc (ends, is)))
+sound_for shape config faults.Disk only result (inl ends) = (λ is. cc (ends, is), λ stored asked is. absurd (cc (ends, is)))
 sound_for shape config faults.NotAStore only result (inl ends) = absurd only
 sound_for shape config (faults.Damaged damage) only result (inl ends) = absurd only
-sound_for shape config (faults.ConfigDiffers stored asked) only result (inl ends) = (λ is. cc (ends, is), λ is. only.2)
+sound_for shape config (faults.ConfigDiffers found given) only result (inl ends) = (λ is. cc (ends, is), λ stored asked is. (sym (differs_same found stored given asked result ends is).0 ∙ only.0, only.2))
 
 -- the exit of a failed disk comes of that reason
 pub disk_failed : (why : OpenFault) (result : Exit) {rose : Type 0} → EndsFor why result rose → result ≡ exits.DiskFault → why ≡ faults.Disk
@@ -185,10 +189,20 @@ pub at_equal : {T : Type 0} (P : T → Type 0) (x y : T) → P x → y ≡ x →
 at_equal P x y holds same = subst P (sym same) holds
 
 -- that of another shape comes of one that is asked for
-pub asked_other : (why : OpenFault) (result : Exit) {rose : Type 0} → EndsFor why result rose → result ≡ exits.ConfigDiffers → IsAskedOther why
-asked_other why result (inr failed) is = absurd (cc (failed.0, is))
-asked_other faults.Memory result (inl ends) is = absurd (cc (ends, is))
-asked_other faults.Disk result (inl ends) is = absurd (cc (ends, is))
-asked_other faults.NotAStore result (inl ends) is = absurd (cc (ends, is))
-asked_other (faults.Damaged damage) result (inl ends) is = absurd (cc (ends, is))
-asked_other (faults.ConfigDiffers stored asked) result (inl ends) is = tt
+pub asked_other : (why : OpenFault) (result : Exit) {rose : Type 0} → EndsFor why result rose → (stored : Shape) (asked : Config) → result ≡ exits.ConfigDiffers stored asked → why ≡ faults.ConfigDiffers stored asked
+asked_other why result (inr failed) stored asked is = absurd (cc (failed.0, is))
+asked_other faults.Memory result (inl ends) stored asked is = absurd (cc (ends, is))
+asked_other faults.Disk result (inl ends) stored asked is = absurd (cc (ends, is))
+asked_other faults.NotAStore result (inl ends) stored asked is = absurd (cc (ends, is))
+asked_other (faults.Damaged damage) result (inl ends) stored asked is = absurd (cc (ends, is))
+asked_other (faults.ConfigDiffers found given) result (inl ends) stored asked is = let same = differs_same found stored given asked result ends is in cc (same.0, same.1)
+
+-- and then the disk has a store of that shape
+pub other_shape : {D : Type 0} (g : Ghosts D) (config : Config) (old new : D) (why : OpenFault) (stored : Shape) (asked : Config) → IsUnopened g config old new why → g.tells_reads → why ≡ faults.ConfigDiffers stored asked
+    → HasOtherShape g config old new stored asked
+other_shape g config old new why stored asked unopened told is =
+    let u = subst (IsUnopened g config old new) is unopened in
+    elim (u.refused told) [
+      | inl refuses ↦ record { store = refuses.0; asked_is = refuses.1; unsuited = refuses.2; kept = λ space redoes. u.differs told space redoes tt }
+      | inr damaged ↦ absurd (cc damaged.1)
+    ]

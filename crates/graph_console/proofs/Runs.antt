@@ -367,6 +367,6 @@ module _ {V : Type 0} (course : Course V) (blamed : AllBlame course) (first : V)
   served OutputFault says = serves_short course blamed first old_is_at is_at comes_to start old new s carries _ says terms begins closes later says.more.0 says.more.1
   served NoMemory says = absurd says
   served BadFiles says = absurd says
-  served ConfigDiffers says = absurd says
+  served (ConfigDiffers stored asked) says = absurd says
   served DiskFault says = absurd says
   served InputTooLong says = serves_too_long course first old_is_at is_at comes_to start old new s carries says.0.arrives terms begins closes later says.0 says.1 counted

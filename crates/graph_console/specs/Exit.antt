@@ -14,6 +14,6 @@ status InputFault = 3
 status OutputFault = 4
 status NoMemory = 5
 status BadFiles = 6
-status ConfigDiffers = 7
+status (ConfigDiffers stored asked) = 7
 status DiskFault = 8
 status InputTooLong = 9

@@ -77,6 +77,6 @@ Follows tells options exits.StoreFailed written = ⊥
 Follows tells options exits.Usage written = ⊥
 Follows tells options exits.InputFault written = ⊥
 Follows tells options exits.BadFiles written = ⊥
-Follows tells options exits.ConfigDiffers written = ⊥
+Follows tells options (exits.ConfigDiffers stored asked) written = ⊥
 Follows tells options exits.DiskFault written = ⊥
 Follows tells options exits.InputTooLong written = ⊥

@@ -106,7 +106,8 @@ Serves terms OutputFault input left written =
     ⊎ FailsUnopened terms.unopened written
 Serves terms NoMemory input left written = EndsUnopened terms.unopened NoMemory written
 Serves terms BadFiles input left written = EndsUnopened terms.unopened BadFiles written
-Serves terms ConfigDiffers input left written = EndsUnopened terms.unopened ConfigDiffers written
+Serves terms (ConfigDiffers stored asked) input left written =
+    EndsUnopened terms.unopened (ConfigDiffers stored asked) written
 Serves terms DiskFault input left written = EndsUnopened terms.unopened DiskFault written
 Serves terms Usage input left written = ⊥
 

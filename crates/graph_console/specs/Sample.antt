@@ -206,7 +206,7 @@ Samples tells options exits.StoreFailed written = ⊥
 Samples tells options exits.Usage written = ⊥
 Samples tells options exits.InputFault written = ⊥
 Samples tells options exits.BadFiles written = ⊥
-Samples tells options exits.ConfigDiffers written = ⊥
+Samples tells options (exits.ConfigDiffers stored asked) written = ⊥
 Samples tells options exits.DiskFault written = ⊥
 Samples tells options exits.InputTooLong written = ⊥
 

@@ -120,7 +120,7 @@ module _ {V : Type 0} (course : Course V) (before : V) (comes_to : V → Type 0)
   TurnSays (Some Usage) = ⊥
   TurnSays (Some NoMemory) = ⊥
   TurnSays (Some BadFiles) = ⊥
-  TurnSays (Some ConfigDiffers) = ⊥
+  TurnSays (Some (ConfigDiffers stored asked)) = ⊥
   TurnSays (Some DiskFault) = ⊥
 
 -- The session has this view, and without knowledge of what the disk reads it is at a state.

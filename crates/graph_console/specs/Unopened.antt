@@ -1,8 +1,16 @@
 -- How the program ends where its store is not opened.
 use Rattle.std.specs.Prelude.{◌≡◌, ◌⊎◌, ℕ, List, [], codes}
+use Rattle.disk_model.specs.declared.disk.Disk.{Ghosts}
 use Rattle.stream_io.specs.Streams.{TakesFront}
 use Rattle.plain_graph.specs.Reply.{DamagedRecord, DiskFailed, NoMemory, configuration_text}
 use Rattle.plain_graph.specs.Reply.{fault_line, text_line}
+use Rattle.rec_bytes.specs.declared.key.Key.{Key}
+use Rattle.rec_bytes.specs.declared.record.Rec.{Rec}
+use Rattle.rec_bytes.specs.declared.shape.Shape.{Shape}
+use Rattle.record_file.specs.Redone.{Redoes}
+use Rattle.txn_core.specs.Config.{Suits}
+use Rattle.txn_core.specs.Opening.{IsStore, StaysAsItWas}
+use Rattle.txn_core.specs.declared.config.Config.{Config}
 use Rattle.txn_core.specs.declared.open_fault.OpenFault.{OpenFault}
 use Rattle.txn_core.specs.declared.open_fault.OpenFault.TheVariants as faults
 use Rattle.graph_console.specs.declared.exit.Exit.{Exit}
@@ -14,13 +22,27 @@ exit_of faults.Memory = exits.NoMemory
 exit_of faults.Disk = exits.DiskFault
 exit_of faults.NotAStore = exits.BadFiles
 exit_of (faults.Damaged damage) = exits.BadFiles
-exit_of (faults.ConfigDiffers stored asked) = exits.ConfigDiffers
+exit_of (faults.ConfigDiffers stored asked) = exits.ConfigDiffers stored asked
+
+-- the exit of a store of another shape than the one that is asked for
+abbrev pub IsOfOtherShape : Exit → Type 0
+IsOfOtherShape exit =
+    (stored : Shape) × (asked : Config) × (exit ≡ exits.ConfigDiffers stored asked)
 
 -- one of these exits
 abbrev pub IsUnopenedExit : Exit → Type 0
 IsUnopenedExit exit =
-    (exit ≡ exits.NoMemory) ⊎ (exit ≡ exits.BadFiles)
-    ⊎ (exit ≡ exits.ConfigDiffers) ⊎ (exit ≡ exits.DiskFault)
+    (exit ≡ exits.NoMemory) ⊎ (exit ≡ exits.BadFiles) ⊎ IsOfOtherShape exit
+    ⊎ (exit ≡ exits.DiskFault)
+
+-- The disk reads as a store of the one shape, and the other is what the options ask for, which that
+-- doesn't suit. The store keeps its records, of the version that it had.
+pub record HasOtherShape {D : Type 0} (g : Ghosts D) (config : Config) (old new : D)
+    (stored : Shape) (asked : Config) : Type 0 where
+  pub store : IsStore (g.reads old) stored
+  pub asked_is : asked ≡ config
+  pub unsuited : ¬ Suits config stored
+  pub kept : (space : Key → Rec) → Redoes (g.reads old) space → StaysAsItWas g old new space
 
 -- the one line that is written
 abbrev pub line_of : OpenFault → List ℕ

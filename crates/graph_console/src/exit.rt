@@ -1,6 +1,9 @@
 ghost use Rattle.std.specs.Prelude.{◌≡◌};
 ghost use Rattle.graph_console.specs.Exit.{status};
 
+use graph_session::Config;
+use rec_bytes::Shape;
+
 /// How the program ends. Each exit has one status, and each status one cause.
 #[derive(Clone, Copy, Debug, PartialEq, Eq)]
 pub enum Exit {
@@ -19,7 +22,7 @@ pub enum Exit {
     /// The files hold no store, or a damaged one.
     BadFiles,
     /// The store has another shape than the one that was asked for.
-    ConfigDiffers,
+    ConfigDiffers { stored: Shape, asked: Config },
     /// The disk failed while the store was opened.
     DiskFault,
     /// A run may take no more bytes of the input, and its end wasn't reached.
@@ -39,7 +42,7 @@ impl Exit {
             Exit::OutputFault => 4,
             Exit::NoMemory => 5,
             Exit::BadFiles => 6,
-            Exit::ConfigDiffers => 7,
+            Exit::ConfigDiffers { .. } => 7,
             Exit::DiskFault => 8,
             Exit::InputTooLong => 9,
         }

@@ -7,12 +7,9 @@ ghost use Rattle.console_words.specs.declared.run_options.RunOptions.{RunOptions
 ghost use Rattle.console_words.specs.declared.sample_options.SampleOptions.{SampleOptions};
 ghost use Rattle.plain_graph.specs.Graph.{Graph};
 ghost use Rattle.rec_bytes.specs.Shape.{is_allowed};
-ghost use Rattle.rec_bytes.specs.declared.key.Key.{Key as AKey};
-ghost use Rattle.rec_bytes.specs.declared.record.Rec.{Rec as ARec};
 ghost use Rattle.rec_bytes.specs.declared.shape.Shape.{Shape};
-ghost use Rattle.record_file.specs.Redone.{Redoes};
 ghost use Rattle.txn_core.specs.Config.{Suits, shape_of};
-ghost use Rattle.txn_core.specs.Opening.{StaysAsItWas};
+ghost use Rattle.txn_core.specs.declared.config.Config.{Config as AConfig};
 ghost use Rattle.recovery.specs.Finding.{IsCareful};
 ghost use Rattle.graph_session.specs.Known.{as_known};
 ghost use Rattle.graph_session.specs.Opening.{IsUnopened, LeavesRefused, StandsForOne};
@@ -22,7 +19,8 @@ ghost use Rattle.graph_console.specs.Program.{AskForNothing, AskForSample, EndsW
 ghost use Rattle.graph_console.specs.Program.{HasStreamCause, HoldsGraph, Refuses, ServesOn};
 ghost use Rattle.graph_console.specs.Program.{Writes, config_for, memory_line, streams, terms_for};
 ghost use Rattle.graph_console.specs.Sample.{IsSampleExit, Samples};
-ghost use Rattle.graph_console.specs.Unopened.{EndsUnopened, IsUnopenedExit, exit_of, line_of};
+ghost use Rattle.graph_console.specs.Unopened.{EndsUnopened, HasOtherShape, IsUnopenedExit};
+ghost use Rattle.graph_console.specs.Unopened.{exit_of, line_of};
 
 use crate::Exit;
 use crate::follow::follow;
@@ -89,11 +87,12 @@ pub fn graph_main<S: Source, K: Sink, D: Disk>(
         → AsksFor (map string_bytes words.items) (Asked.Run options) → D.tells_reads
         → result ≡ Exit.BadFiles → LeavesRefused D.Disk disk.old disk.new }
 
-    // Where another shape is asked for, the store keeps its records, of the version that it had.
-    ensures differs { (options : RunOptions) (space : AKey → ARec)
+    // Where another shape is asked for than the store has, the exit has both, and `unopened` the
+    // line of them. The store keeps its records, of the version that it had.
+    ensures differs { (options : RunOptions) (stored : Shape) (asked : AConfig)
         → AsksFor (map string_bytes words.items) (Asked.Run options) → D.tells_reads
-        → Redoes (D.reads disk.old) space → result ≡ Exit.ConfigDiffers
-        → StaysAsItWas D.Disk disk.old disk.new space }
+        → result ≡ Exit.ConfigDiffers stored asked
+        → HasOtherShape D.Disk (config_for options) disk.old disk.new stored asked }
 
     // A disk that stands for a graph is never refused as damaged, and for its shape only where
     // another is asked for.
@@ -101,7 +100,8 @@ pub fn graph_main<S: Source, K: Sink, D: Disk>(
         → AsksFor (map string_bytes words.items) (Asked.Run options) → D.tells_reads
         → Stands (D.reads disk.old) shape graph
         → (result ≢ Exit.BadFiles)
-        × (result ≡ Exit.ConfigDiffers → ¬ Suits (config_for options) shape) }
+        × ((stored : Shape) (asked : AConfig) → result ≡ Exit.ConfigDiffers stored asked
+        → (stored ≡ shape) × ¬ Suits (config_for options) shape) }
 
     // A sample writes the replies to its last lines, of a run of the console on an empty store of
     // its own, whose other lines are drawn from the seed and the replies so far.
@@ -177,12 +177,14 @@ fn run<S: Source, K: Sink, D: Disk>(
     ensures careful { IsCareful D.Disk disk.old disk.new }
     ensures untouched { D.tells_reads → result ≡ Exit.BadFiles
         → LeavesRefused D.Disk disk.old disk.new }
-    ensures differs { D.tells_reads → (space : AKey → ARec) → Redoes (D.reads disk.old) space
-        → result ≡ Exit.ConfigDiffers → StaysAsItWas D.Disk disk.old disk.new space }
+    ensures differs { (stored : Shape) (asked : AConfig) → D.tells_reads
+        → result ≡ Exit.ConfigDiffers stored asked
+        → HasOtherShape D.Disk (config_for options) disk.old disk.new stored asked }
     ensures sound { (shape : Shape) (graph : Graph) → D.tells_reads
         → Stands (D.reads disk.old) shape graph
         → (result ≢ Exit.BadFiles)
-        × (result ≡ Exit.ConfigDiffers → ¬ Suits (config_for options) shape) }
+        × ((stored : Shape) (asked : AConfig) → result ≡ Exit.ConfigDiffers stored asked
+        → (stored ≡ shape) × ¬ Suits (config_for options) shape) }
     ensures within { S.tells
         → length (S.left input.old) ≤ 2 ^ 30 + length (S.left input.new) }
     ensures known { result ≢ Exit.Usage }
@@ -241,10 +243,10 @@ fn end_unopened<K: Sink>(output: &mut K, why: OpenFault) -> Exit
             damaged(damage.file, damage.id).as_bytes(),
             Exit::BadFiles,
         ),
-        OpenFault::ConfigDiffers { stored, asked: _ } => end_with_line(
+        OpenFault::ConfigDiffers { stored, asked } => end_with_line(
             output,
             configuration(stored.threshold, stored.limit).as_bytes(),
-            Exit::ConfigDiffers,
+            Exit::ConfigDiffers { stored, asked },
         ),
     }
 }

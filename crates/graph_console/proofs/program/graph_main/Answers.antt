@@ -11,7 +11,7 @@ use Rattle.graph_console.specs.AnyDisk.{terms_over}
 use Rattle.graph_console.specs.Follow.{Follows}
 use Rattle.graph_console.specs.Program.{Serves, Writes, config_for, terms_for}
 use Rattle.graph_console.specs.Sample.{Samples}
-use Rattle.graph_console.specs.Unopened.{EndsUnopened}
+use Rattle.graph_console.specs.Unopened.{EndsUnopened, HasOtherShape}
 use Rattle.graph_console.proofs.AskedFor.{asks-not_run, asks-nothing, follow-not_run, follow-not_sample, follow_within, other_exit, run-not_follow, run-not_sample, run_allowed, same_follow, same_run, same_sample, sample-not_follow, sample-not_run, sample_within}
 use Rattle.graph_console.proofs.Follows.{lacks_follow}
 use Rattle.graph_console.proofs.Opened.{asked_other, ends_unopened, refuses_usage, serves_unopened, unopened_memory}
@@ -110,7 +110,7 @@ pub returns-in-Run-clause-sound : goal.returns-in-Run-clause-sound
 returns-in-Run-clause-sound g c = λ options shape graph asks told stands.
     let same : options ≡ c.in-Run.options = same_run options c.in-Run.options c.in-Ok.asked (rw c.deref.ensures.value at c.in-Ok.ensures.only (Run options) asks) c.in-Run.is in
     let sound = c.run.ensures.sound shape graph told stands in
-    (sound.0, λ is. subst (λ (o : RunOptions). ¬ Suits (config_for o) shape) (sym same) (sound.1 is))
+    (sound.0, λ stored asked is. let differs = sound.1 stored asked is in (differs.0, subst (λ (o : RunOptions). ¬ Suits (config_for o) shape) (sym same) differs.1))
 
 pub returns-in-Run-clause-samples : goal.returns-in-Run-clause-samples
 returns-in-Run-clause-samples g c = λ options asks k. absurd (sample-not_run options c.in-Run.options c.in-Ok.asked (rw c.deref.ensures.value at c.in-Ok.ensures.only (Sample options) asks) c.in-Run.is)
@@ -226,16 +226,18 @@ pub returns-clause-store_failed : goal.returns-clause-store_failed
 returns-clause-store_failed g c = λ options asks told stands s k is. absurd ((other_exit c.follow.result c.follow.ensures.exits).3 is)
 
 pub returns-in-Err-Usage-clause-differs : goal.returns-in-Err-Usage-clause-differs
-returns-in-Err-Usage-clause-differs g c = λ options space asks told redoes is. absurd (rw c.deref.ensures.value at (c.in-Err-Usage.ensures.usage (ap Err c.in-Err-Usage.field-0-is)) (Run options) asks)
+returns-in-Err-Usage-clause-differs g c = λ options stored asked asks told is. absurd (rw c.deref.ensures.value at (c.in-Err-Usage.ensures.usage (ap Err c.in-Err-Usage.field-0-is)) (Run options) asks)
 
 pub returns-in-Err-Memory-clause-differs : goal.returns-in-Err-Memory-clause-differs
-returns-in-Err-Memory-clause-differs g c = λ options space asks told redoes is. absurd (asked_other Memory c.end_without_memory.result c.end_without_memory.ensures.cause is)
+returns-in-Err-Memory-clause-differs g c = λ options stored asked asks told is. absurd (cc (asked_other Memory c.end_without_memory.result c.end_without_memory.ensures.cause stored asked is))
 
 pub returns-in-Run-clause-differs : goal.returns-in-Run-clause-differs
-returns-in-Run-clause-differs g c = λ options space asks told redoes is. c.run.ensures.differs told space redoes is
+returns-in-Run-clause-differs g c = λ options stored asked asks told is.
+    let same : options ≡ c.in-Run.options = same_run options c.in-Run.options c.in-Ok.asked (rw c.deref.ensures.value at c.in-Ok.ensures.only (Run options) asks) c.in-Run.is in
+    subst (λ (o : RunOptions). HasOtherShape g.D.Disk (config_for o) c.args.disk.now c.run.new.disk stored asked) (sym same) (c.run.ensures.differs stored asked told is)
 
 pub returns-in-Sample-clause-differs : goal.returns-in-Sample-clause-differs
-returns-in-Sample-clause-differs g c = λ options space asks told redoes is. absurd (run-not_sample options c.in-Sample.options c.in-Ok.asked (rw c.deref.ensures.value at c.in-Ok.ensures.only (Run options) asks) c.in-Sample.is)
+returns-in-Sample-clause-differs g c = λ options stored asked asks told is. absurd (run-not_sample options c.in-Sample.options c.in-Ok.asked (rw c.deref.ensures.value at c.in-Ok.ensures.only (Run options) asks) c.in-Sample.is)
 
 pub returns-clause-differs : goal.returns-clause-differs
-returns-clause-differs g c = λ options space asks told redoes is. absurd (run-not_follow options c.in-Follow.options c.in-Ok.asked (rw c.deref.ensures.value at c.in-Ok.ensures.only (Run options) asks) c.in-Follow.is)
+returns-clause-differs g c = λ options stored asked asks told is. absurd (run-not_follow options c.in-Follow.options c.in-Ok.asked (rw c.deref.ensures.value at c.in-Ok.ensures.only (Run options) asks) c.in-Follow.is)

@@ -3,7 +3,6 @@ use Rattle.disk_model.proofs.Spans.{only_reads_none}
 use Rattle.recovery.specs.Finding.{IsCareful}
 use Rattle.fault_count.specs.Cause.{Rose}
 use Rattle.txn_core.specs.Config.{Suits}
-use Rattle.txn_core.specs.Opening.{StaysAsItWas}
 use Rattle.txn_core.specs.Opening as store
 use Rattle.txn_core.specs.declared.config.Config.{Config}
 use Rattle.txn_core.specs.declared.open_fault.OpenFault.TheVariants.{Memory}
@@ -17,11 +16,11 @@ use Rattle.graph_console.specs.AnyDisk.{terms_over}
 use Rattle.graph_console.specs.Sending.{OpensSession}
 use Rattle.graph_console.specs.Program.{Serves, Writes, config_for, terms_for}
 use Rattle.graph_console.specs.Run.{begins_with}
-use Rattle.graph_console.specs.Unopened.{EndsUnopened}
+use Rattle.graph_console.specs.Unopened.{EndsUnopened, HasOtherShape}
 use Rattle.graph_console.proofs.AnyDisk.{walks_opened}
 use Rattle.graph_console.proofs.Failing.{failed_rose}
 use Rattle.graph_console.proofs.Lossless.{ends_over}
-use Rattle.graph_console.proofs.Opened.{asked_other, at_equal, bad_files, disk_failed, ends_unopened, serves_opened, serves_unopened, sound_for, unopened_memory}
+use Rattle.graph_console.proofs.Opened.{asked_other, at_equal, bad_files, disk_failed, ends_unopened, other_shape, serves_opened, serves_unopened, sound_for, unopened_memory}
 use Rattle.graph_console.proofs.program.run.Goals as goal
 
 pub returns-in_default-clause-serves : goal.returns-in_default-clause-serves
@@ -115,7 +114,7 @@ pub returns-clause-sound : goal.returns-clause-sound
 returns-clause-sound g c = λ shape graph told stands.
     let config_is : c.config_of.result ≡ config_for c.args.options = c.config_of.ensures in
     let sound = sound_for shape c.config_of.result c.in-Err.field-0.why (c.in-Err.ensures.unopened.sound told shape graph stands) c.end_unopened.result c.end_unopened.ensures.cause in
-    (sound.0, λ is. subst (λ (config : Config). ¬ Suits config shape) config_is (sound.1 is))
+    (sound.0, λ stored asked is. let differs = sound.1 stored asked is in (differs.0, subst (λ (config : Config). ¬ Suits config shape) config_is differs.1))
 
 pub returns-clause-disk_fault : goal.returns-clause-disk_fault
 returns-clause-disk_fault g c = λ is.
@@ -145,7 +144,7 @@ returns-in-Ok-open-clause-unread g c = λ ends. absurd (c.serve-exit.ensures.exi
 pub returns-in-Ok-open-clause-sound : goal.returns-in-Ok-open-clause-sound
 returns-in-Ok-open-clause-sound g c = λ shape graph told stands. (
   (λ is. c.serve-exit.ensures.exits.1 (inr (inl is))),
-  (λ is. absurd (c.serve-exit.ensures.exits.1 (inr (inr (inl is))))),
+  (λ stored asked is. absurd (c.serve-exit.ensures.exits.1 (inr (inr (inl (stored, asked, is)))))),
 )
 
 pub returns-in-Ok-open-clause-untouched : goal.returns-in-Ok-open-clause-untouched
@@ -157,12 +156,15 @@ returns-clause-untouched g c = λ told is.
     (c.in-Err.ensures.unopened.untouched told (bad_files c.in-Err.field-0.why c.end_unopened.result c.end_unopened.ensures.cause is)) (search rules)
 
 pub returns-in_default-clause-differs : goal.returns-in_default-clause-differs
-returns-in_default-clause-differs g c = λ told space redoes is. absurd (asked_other Memory c.end_without_memory.result c.end_without_memory.ensures.cause is)
+returns-in_default-clause-differs g c = λ stored asked told is. absurd (cc (asked_other Memory c.end_without_memory.result c.end_without_memory.ensures.cause stored asked is))
 
 pub returns-in-Ok-open-clause-differs : goal.returns-in-Ok-open-clause-differs
-returns-in-Ok-open-clause-differs g c = λ told space redoes is. absurd (c.serve-exit.ensures.exits.1 (inr (inr (inl is))))
+returns-in-Ok-open-clause-differs g c = λ stored asked told is. absurd (c.serve-exit.ensures.exits.1 (inr (inr (inl (stored, asked, is)))))
 
 pub returns-clause-differs : goal.returns-clause-differs
-returns-clause-differs g c = λ told space redoes is.
-    at_equal (λ (disk : g.row.D.Denot). StaysAsItWas g.D.Disk c.args.disk.now disk space) c.in-Err.field-0.disk.now _
-    (c.in-Err.ensures.unopened.differs told space redoes (asked_other c.in-Err.field-0.why c.end_unopened.result c.end_unopened.ensures.cause is)) (search rules)
+returns-clause-differs g c = λ stored asked told is.
+    let config_is : c.config_of.result ≡ config_for c.args.options = c.config_of.ensures in
+    at_equal (λ (disk : g.row.D.Denot). HasOtherShape g.D.Disk (config_for c.args.options) c.args.disk.now disk stored asked) c.in-Err.field-0.disk.now _
+    (subst (λ (config : Config). HasOtherShape g.D.Disk config c.args.disk.now c.in-Err.field-0.disk.now stored asked) config_is
+    (other_shape g.D.Disk c.config_of.result c.args.disk.now c.in-Err.field-0.disk.now c.in-Err.field-0.why stored asked c.in-Err.ensures.unopened told
+    (asked_other c.in-Err.field-0.why c.end_unopened.result c.end_unopened.ensures.cause stored asked is))) (search rules)
