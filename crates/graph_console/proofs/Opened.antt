@@ -164,7 +164,7 @@ sound_for shape config faults.Memory only result (inl ends) = (λ is. cc (ends, 
 sound_for shape config faults.Disk only result (inl ends) = (λ is. cc (ends, is), λ stored asked is. absurd (cc (ends, is)))
 sound_for shape config faults.NotAStore only result (inl ends) = absurd only
 sound_for shape config (faults.Damaged damage) only result (inl ends) = absurd only
-sound_for shape config (faults.ConfigDiffers found given) only result (inl ends) = (λ is. cc (ends, is), λ stored asked is. (sym (differs_same found stored given asked result ends is).0 ∙ only.0, only.2))
+sound_for shape config (faults.ConfigDiffers found given) only result (inl ends) = (λ is. cc (ends, is), λ stored asked is. let same = differs_same found stored given asked result ends is in (sym same.0 ∙ only.0, only.2))
 
 -- the exit of a failed disk comes of that reason
 pub disk_failed : (why : OpenFault) (result : Exit) {rose : Type 0} → EndsFor why result rose → result ≡ exits.DiskFault → why ≡ faults.Disk

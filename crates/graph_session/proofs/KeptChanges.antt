@@ -22,8 +22,8 @@ use Rattle.txn_core.specs.Store.{committed, drafted, state_of}
 use Rattle.graph_session.specs.Answering.{reply_of}
 use Rattle.graph_session.specs.Drafting.{BeginsChange, Drafts, EndsChange, EndsCommit, Finishes, FinishesAlone, HasStore, IsStopped, IsUnkeptAlone, OnlyDrafts, TriesCommit}
 use Rattle.graph_session.specs.MayStep.{TellsMade}
-use Rattle.graph_session.specs.Session.{shared_view}
-use Rattle.graph_session.specs.SnapshotEffects.{AreWeighed, Confirms, KeepsChange, KeepsKind, KeepsOlds, SharedView}
+use Rattle.graph_session.specs.Session.{shared_view, view}
+use Rattle.graph_session.specs.SnapshotEffects.{AreWeighed, Confirms, KeepsChange, KeepsKind, KeepsOlds, SharedView, WritesAlone}
 use Rattle.graph_session.specs.declared.answer.Answer.{Answer}
 use Rattle.graph_session.specs.declared.answer.Answer.TheVariants as answers
 use Rattle.graph_session.specs.declared.changing.Begun.{Begun}
@@ -144,15 +144,22 @@ module _ {D : Type 0} {g : Ghosts D} {command : Command} (change : IsChange comm
         (weighed-kept [] mid.store.draft.pairs start_weight made.weight (state_of begun.store) (state_of mid.store) weighed-start (λ key. ap (λ (pairs : Pairs). is_some (find_pair pairs key)) draft) (λ key. refl)
         (drafts.2 (omega (arith, light))))
 
+    -- what it has written by itself
+    pub writes-alone : (made : Drafted) → start_weight + made.weight ≤ most_weight → Drafts command begun mid (Ok made) → WritesAlone g command (view old) (merged mid.store.base.own.pairs mid.store.draft.pairs)
+    writes-alone made light drafts = record {
+      more = made.weight;
+      weighed = weighed-alone made light drafts;
+      light = light;
+      weighs = λ told store named. weighs-alone made light drafts told store named;
+    }
+
     keeps-tried : (made : Drafted) (answer : Answer) → start_weight + made.weight ≤ most_weight → Drafts command begun mid (Ok made) → TriesCommit (drafted mid.store) (merged mid.store.base.own.pairs mid.store.draft.pairs) mid new made.answer answer
         → KeepsOlds g command (shared_view old) (reply_of answer) (shared_view new)
     keeps-tried made answer light drafts tries = record {
       held = keeps-kind g (shared_view old) (reply_of answer) (shared_view new) command change (inr (
         closed,
         merged mid.store.base.own.pairs mid.store.draft.pairs,
-        made.weight,
-        weighed-alone made light drafts,
-        light,
+        writes-alone made light drafts,
         λ told confirms. is_committed told tries.ends confirms,
         record {
           ends = ends tries.ends;
@@ -161,7 +168,6 @@ module _ {D : Type 0} {g : Ghosts D} {command : Command} (change : IsChange comm
           ended = subst (λ (held : Snapshots). EndsFor (merged mid.store.base.own.pairs mid.store.draft.pairs) held new.snaps) (only.snaps ∙ snaps) tries.ended;
           held = λ weight few. subst (λ (held : Snapshots). KeepsHeld weight held new.snaps) (only.snaps ∙ snaps) (tries.held weight few);
         },
-        λ told store named. weighs-alone made light drafts told store named,
       ));
       weighed = λ none weighed opened. absurd (true≢false (sym opened ∙ closes tries.ends));
     }

@@ -174,9 +174,10 @@ module _ {D : Type 0} {g : Ghosts D} (known : Bool) {line : List ℕ} {command :
       settled-same same (λ told. same-change g old.session reply new.session (told_of known g told) (at.stored told) (was told) command (inl opened) answer) (ends-open opened kind)
   of-change kind (inl (same, inr (unconfirmed, reads))) answer =
       settled-same same (λ told. same-change g old.session reply new.session (told_of known g told) (at.stored told) (was told) command (inr reads) answer) (λ weight ends. unconfirmed)
-  of-change kind (inr (closed, written, more, weighed, light, committed, kept, weighs)) answer =
+  of-change kind (inr (closed, written, writes, committed, kept)) answer =
       let live = served-live (λ e. let clash : Change ≡ Upkeep = sym kind ∙ ap kind_of e in cc) in
-      settled-kept live written kept (start_weight + more) (length-weighed written (start_weight + more) weighed) (λ told. inr (is_closed at.writer closed, command, only.spelled, more, weighed-so told live closed more (weighs (told_of known g told)), refl))
+      settled-kept live written kept (start_weight + writes.more) (length-weighed written (start_weight + writes.more) writes.weighed)
+      (λ told. inr (is_closed at.writer closed, command, only.spelled, writes.more, weighed-so told live closed writes.more (writes.weighs (told_of known g told)), refl))
     where
       weighed-so : (told : (as_known known g).tells_reads) → old.session.console.health ≡ healths.Live → old.session.console.is_open ≡ false → (more : ℕ)
           → (IsIndexed old.session.console.committed old.session.console.shape → old.session.console.names ≡ names_of old.session.console.committed

@@ -1,9 +1,9 @@
 -- What a line leaves in the set that takes the records of its transaction.
-use Rattle.std.proofs.Common.{◌≡◌, ◌≢◌, ◌∙◌, Bool, true, Option, None, Some, List, ℕ, [], ◌∷◌, Ok, Err, Result, inl, inr, refl, sym, ap, subst, true≢false}
+use Rattle.std.proofs.Common.{◌≡◌, ◌≢◌, ◌∙◌, ◌+◌, ◌≤◌, Bool, true, false, Option, None, Some, List, ℕ, [], ◌∷◌, Ok, Err, Result, inl, inr, refl, sym, ap, subst, true≢false}
 use Rattle.disk_model.specs.declared.disk.Disk.{Ghosts as DiskGhosts}
 use Rattle.stream_io.specs.Lines.{InputLine, Whole}
 use Rattle.stream_io.specs.declared.streams.Sink.{Ghosts as SinkGhosts}
-use Rattle.plain_graph.specs.Changes.{IsChange}
+use Rattle.plain_graph.specs.Changes.{IsChange, most_weight, start_weight}
 use Rattle.plain_graph.specs.Lines.{IsQuestion, kind_of}
 use Rattle.plain_graph.specs.Kinds.{AreChanges, AreQuestions, Blanks, Bound, Change, Ending, Kind, Question, Sight, Upkeep}
 use Rattle.plain_graph.specs.Reply.{Reply}
@@ -11,7 +11,7 @@ use Rattle.plain_graph.specs.declared.command.Command.{Command}
 use Rattle.plain_graph.specs.declared.command.Command.TheVariants as commands
 use Rattle.plain_graph.specs.declared.refusal.Refusal.{Refusal}
 use Rattle.rec_bytes.specs.declared.shape.Shape.{Shape}
-use Rattle.rec_bytes.specs.Pairs.{Held, Pairs}
+use Rattle.rec_bytes.specs.Pairs.{Held, Pairs, merged}
 use Rattle.rec_bytes.specs.Space.{laid_over}
 use Rattle.gremlin_parse.specs.Lines.{Spells}
 use Rattle.gremlin_parse.specs.Tags.{session_of}
@@ -27,16 +27,17 @@ use Rattle.graph_session.specs.Refusals.{SpellsOnly, refusal_of}
 use Rattle.graph_session.specs.Session.{view}
 use Rattle.graph_session.specs.Settling.{told_by, told_of}
 use Rattle.graph_session.specs.SharedExchange.{IsOfSnapshots}
-use Rattle.graph_session.specs.SnapshotEffects.{Confirms}
-use Rattle.graph_session.specs.TapEnds.{TapsAlone, TapsChange, TapsCommit}
+use Rattle.graph_session.specs.SnapshotEffects.{AreWeighed, Confirms, WritesAlone}
+use Rattle.graph_session.specs.TapEnds.{AreTapped, TapsAlone, TapsChange, TapsCommit}
 use Rattle.graph_session.specs.Tapping.{Acknowledges, EndsOne, HasRoom, HasWritten, IsEmpty, IsTapped, Takes, Taps, TapsAnswer, TapsCommand}
 use Rattle.graph_session.specs.declared.answer.Answer.{Answer}
 use Rattle.graph_session.specs.declared.changing.Begun.{Begun}
 use Rattle.graph_session.specs.declared.changing.Drafted.{Drafted}
+use Rattle.graph_session.specs.declared.health.Health.TheVariants as healths
 use Rattle.graph_session.specs.declared.session.Session.{Session}
 use Rattle.graph_session.specs.declared.turn.Turn.{Turn}
 use Rattle.graph_session.proofs.Answering.{AnswersWith}
-use Rattle.graph_session.proofs.KeptChanges.{made-confirmed, stopped-unconfirmed, unkept-unconfirmed}
+use Rattle.graph_session.proofs.KeptChanges.{made-confirmed, stopped-unconfirmed, unkept-unconfirmed, writes-alone}
 
 -- ---- the set
 
@@ -79,9 +80,11 @@ module _ {D : Type 0} {g : DiskGhosts D} where
     committed = λ told. tapped.committed told ∙ ap (λ (records : _). laid_over records pairs) same;
   }
 
-pub commit-from : {D : Type 0} (g : DiskGhosts D) (old mid new : SessionView D) (made answer : Answer) (was tap : Option Held) → mid.console.committed ≡ old.console.committed → TapsCommit g mid new made answer was tap → TapsCommit g old new made answer was tap
-commit-from g old mid new made answer was tap same (inl (is, takes)) = inl (is, takes-weaker was tap (tapped-from old mid new same) takes)
-commit-from g old mid new made answer was tap same (inr failed) = inr failed
+pub commit-from : {D : Type 0} (g : DiskGhosts D) (old mid new : SessionView D) (written from : Pairs) (made answer : Answer) (was tap : Option Held) → mid.console.committed ≡ old.console.committed → written ≡ from
+    → TapsCommit g mid new written made answer was tap → TapsCommit g old new from made answer was tap
+commit-from g old mid new written from made answer was tap same is_from (inl (is, takes)) =
+    inl (is, takes-weaker was tap (λ pairs tapped. (tapped.0 ∙ is_from, tapped-from old mid new same pairs tapped.1)) takes)
+commit-from g old mid new written from made answer was tap same is_from (inr failed) = inr failed
 
 -- ---- a command
 
@@ -91,6 +94,7 @@ module _ {D : Type 0} {g : DiskGhosts D} {command : Command} {old new : SessionV
   taps-unconfirmed refused pairs none = record {
     taken = λ confirms ends. absurd (refused confirms);
     written = λ confirms commits. absurd (refused confirms);
+    alone = λ confirms change closed. absurd (refused confirms);
     empty = λ no. none;
   }
 
@@ -98,12 +102,14 @@ module _ {D : Type 0} {g : DiskGhosts D} {command : Command} {old new : SessionV
   taps-other other pairs none = record {
     taken = λ confirms ends. absurd (other ends);
     written = λ confirms commits. absurd (other (inl commits));
+    alone = λ confirms change closed. absurd (other (inr (closed, change)));
     empty = λ no. none;
   }
 
-  pub taps-ended : Confirms reply → EndsOne old.console.is_open command → (pairs : Pairs) → (command ≡ commands.Commit → pairs ≡ old.console.written) → IsTapped g old new pairs
+  pub taps-ended : Confirms reply → EndsOne old.console.is_open command → (pairs : Pairs) → (command ≡ commands.Commit → pairs ≡ old.console.written) → (IsChange command → WritesAlone g command old pairs) → IsTapped g old new pairs
       → TapsCommand g command old reply new pairs
-  taps-ended confirms ends pairs written tapped = record { taken = λ also so. tapped; written = λ also. written; empty = λ no. absurd (no (confirms, ends)) }
+  taps-ended confirms ends pairs written alone tapped =
+      record { taken = λ also so. tapped; written = λ also. written; alone = λ also change closed. alone change; empty = λ no. absurd (no (confirms, ends)) }
 
 -- a command of another kind ends no transaction
 pub apart-ends : (command : Command) → ¬ IsChange command → command ≢ commands.Commit → (is_open : Bool) → ¬ EndsOne is_open command
@@ -126,7 +132,7 @@ question-ends command asks is_open (inr (closed, change)) = by (kind_of command)
     by Change is change = is
     by Question is change = change
 
-commit-still : ¬ IsChange commands.Commit
+pub commit-still : ¬ IsChange commands.Commit
 commit-still change = change
 
 -- the commands that end none
@@ -164,7 +170,7 @@ inside-apart : (command : Command) → IsChange command → (is_open : Bool) →
 inside-apart command change is_open opened (inl is) = commit-still (subst IsChange is change)
 inside-apart command change is_open opened (inr (closed, also)) = true≢false (sym opened ∙ closed)
 
-module _ {D : Type 0} {g : DiskGhosts D} (command : Command) (change : IsChange command) {old mid then : Session D g} (new : Session D g) (begun : Begun) where
+module _ {D : Type 0} {g : DiskGhosts D} (command : Command) (change : IsChange command) {old : Session D g} (live : old.health ≡ healths.Live) {mid then : Session D g} (new : Session D g) (begun : Begun) where
   -- a change, from its beginning to its end
   pub taps-change : BeginsChange old mid begun → OnlyDrafts mid then → (drafted : Result Drafted Answer) → Drafts command mid then drafted → (answer : Answer) (was tap : Option Held)
       → TapsChange g begun drafted (view then) (view new) answer was tap → Takes (TapsCommand g command (view old) (reply_of answer) (view new)) was tap
@@ -175,12 +181,14 @@ module _ {D : Type 0} {g : DiskGhosts D} (command : Command) (change : IsChange 
   taps-change (counts, inr (alone, begins)) only drafted drafts answer was tap (inr (is, taps)) = by drafted drafts taps
     where
       by : (drafted : Result Drafted Answer) → Drafts command mid then drafted → TapsAlone g drafted (view then) (view new) answer was tap → Takes (TapsCommand g command (view old) (reply_of answer) (view new)) was tap
-      by (Ok made) drafts (inl (inl (told, takes))) =
+      by (Ok made) drafts (inl (light, inl (told, takes))) =
           takes-weaker was tap (λ pairs tapped.
           taps-ended (subst (λ (a : Answer). Confirms (reply_of a)) (sym told) (made-confirmed command (reply_of made.answer) drafts.0)) (inr (begins.closed, change)) pairs
           (λ commits. absurd (commit-still (subst IsChange commits change)))
-          (tapped-from (view old) (view then) (view new) (committed-read mid.store.base then.store.base only.base ∙ committed-beneath old.store.base mid.store.base begins.same) pairs tapped)) takes
-      by (Ok made) drafts (inl (inr (told, none))) = takes-weaker was tap (taps-unconfirmed (λ confirms. subst (λ (a : Answer). Confirms (reply_of a)) told confirms)) none
+          (λ also. subst (WritesAlone g command (view old)) (sym tapped.0)
+          (writes-alone change old new live begins.closed begins.idle begins.same begins.own begins.draft begins.names begins.health begins.snaps only made light drafts))
+          (tapped-from (view old) (view then) (view new) (committed-read mid.store.base then.store.base only.base ∙ committed-beneath old.store.base mid.store.base begins.same) pairs tapped.1)) takes
+      by (Ok made) drafts (inl (light, inr (told, none))) = takes-weaker was tap (taps-unconfirmed (λ confirms. subst (λ (a : Answer). Confirms (reply_of a)) told confirms)) none
       by (Ok made) drafts (inr (unkept, none)) = takes-weaker was tap (taps-unconfirmed (unkept-unconfirmed made.weight answer unkept)) none
       by (Err why) drafts (told, none) =
           takes-weaker was tap (taps-unconfirmed (subst (λ (a : Answer). ¬ Confirms (reply_of a)) (sym told) (stopped-unconfirmed command mid then.store.base.disk.now why drafts))) none
@@ -196,6 +204,11 @@ module _ {line : List ℕ} {command : Command} (only : SpellsOnly line command) 
   ends-acknowledges first confirms (inl is) = (first, confirms, inl (subst (λ (c : Command). Spells line c) is only.spelled))
   ends-acknowledges first confirms (inr (closed, change)) = (first, confirms, inr (closed, command, change, only.spelled))
 
+-- a change ends a transaction where none is open
+closed-by : {is_open : Bool} {command : Command} → IsChange command → EndsOne is_open command → is_open ≡ false
+closed-by change (inl is) = absurd (commit-still (subst IsChange is change))
+closed-by change (inr (closed, also)) = closed
+
 -- a command that ends no transaction is acknowledged by no reply
 pub unended : {line : List ℕ} {command : Command} → SpellsOnly line command → (is_open : Bool) → ¬ EndsOne is_open command → (reply : Reply) → ¬ Acknowledges is_open (Whole line) reply
 unended only is_open other reply ends = other (acknowledges-ends only is_open reply ends).1
@@ -205,6 +218,8 @@ module _ {D : Type 0} {g : DiskGhosts D} {old new : SessionView D} where
   taps-line {reply = reply} only first pairs taps = record {
     taken = λ ends. let both = acknowledges-ends only old.console.is_open reply ends in taps.taken both.0 both.1;
     written = λ ends commits. taps.written ends.1 (sym (only.only commands.Commit commits));
+    alone = λ ends other spells change. let is = only.only other spells in let both = acknowledges-ends only old.console.is_open reply ends in
+        subst (λ (c : Command). WritesAlone g c old pairs) (sym is) (taps.alone both.0 (subst IsChange is change) (closed-by (subst IsChange is change) both.1));
     empty = λ no. taps.empty (λ both. no (ends-acknowledges only old.console.is_open reply first both.0 both.1));
   }
 
@@ -212,6 +227,7 @@ module _ {D : Type 0} {g : DiskGhosts D} {old new : SessionView D} where
   taps-none never pairs none = record {
     taken = λ ends. absurd (never ends);
     written = λ ends commits. absurd (never ends);
+    alone = λ ends command spells change. absurd (never ends);
     empty = λ so. none;
   }
 

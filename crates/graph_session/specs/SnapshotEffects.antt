@@ -38,6 +38,19 @@ pub record AreWeighed (written : Pairs) (weight : ℕ) : Type 0 where
 abbrev pub IsWeighed : ConsoleView → Type 0
 IsWeighed console = console.is_open ≡ true → AreWeighed console.written console.weight
 
+-- A change by itself has written these records: beside the meta records at most so many as it
+-- weighs, which with a transaction's first weight is no more than one may. Where the store has a
+-- graph, that is what the line weighs.
+pub record WritesAlone {D : Type 0} (g : Ghosts D) (command : Command) (old : SessionView D)
+    (written : Pairs) : Type 0 where
+  pub more : ℕ
+  pub weighed : AreWeighed written (start_weight + more)
+  pub light : start_weight + more ≤ most_weight
+  pub weighs : g.tells_reads → IsIndexed old.console.committed old.console.shape
+      → old.console.names ≡ names_of old.console.committed
+      → LineWeighs old.console.shape.limit old.console.shape.threshold
+      (graph_of old.console.committed) command more
+
 -- the reply says that the line was carried out
 abbrev pub Confirms : Reply → Type 0
 Confirms Done = Unit {0}
@@ -69,20 +82,15 @@ module _ {D : Type 0} (g : Ghosts D) (old : SharedView D) (reply : Reply) (new :
       g.tells_reads → Confirms reply
       → new.session.console.committed ≡ laid_over old.session.console.committed written
 
-  -- A change outside a transaction is one by itself, whose weight is that of the line where the
-  -- store has a graph. One that is not made, or in a transaction, keeps nothing.
+  -- A change outside a transaction is one by itself. One that is not made, or in a transaction,
+  -- keeps nothing.
   abbrev pub KeepsChange : Command → Type 0
   KeepsChange command =
       ((new.held ≡ old.held)
       × ((old.session.console.is_open ≡ true)
       ⊎ ((¬ Confirms reply) × OnlyReads g old.session.disk new.session.disk)))
-      ⊎ ((old.session.console.is_open ≡ false) × (written : Pairs) × (more : ℕ)
-      × AreWeighed written (start_weight + more) × (start_weight + more ≤ most_weight)
-      × IsCommittedBy written × KeepsFor written
-      × (g.tells_reads → IsIndexed old.session.console.committed old.session.console.shape
-      → old.session.console.names ≡ names_of old.session.console.committed
-      → LineWeighs old.session.console.shape.limit old.session.console.shape.threshold
-      (graph_of old.session.console.committed) command more))
+      ⊎ ((old.session.console.is_open ≡ false) × (written : Pairs)
+      × WritesAlone g command old.session written × IsCommittedBy written × KeepsFor written)
 
   abbrev pub KeepsBound : Command → Type 0
   KeepsBound commands.Commit = KeepsCommit

@@ -1,7 +1,8 @@
 -- What the end of a change leaves in the set that takes the records of its transaction.
-use Rattle.std.specs.Prelude.{◌≡◌, ◌⊎◌, true, false, Option, Result, Ok, Err}
+use Rattle.std.specs.Prelude.{◌≡◌, ◌⊎◌, ◌+◌, ◌≤◌, true, false, Option, Result, Ok, Err}
 use Rattle.disk_model.specs.declared.disk.Disk.{Ghosts}
-use Rattle.rec_bytes.specs.Pairs.{Held}
+use Rattle.plain_graph.specs.Changes.{most_weight, start_weight}
+use Rattle.rec_bytes.specs.Pairs.{Held, Pairs, merged}
 use Rattle.graph_session.specs.Console.{SessionView}
 use Rattle.graph_session.specs.Drafting.{IsUnkeptAlone}
 use Rattle.graph_session.specs.Tapping.{IsEmpty, IsTapped, Takes}
@@ -10,20 +11,27 @@ use Rattle.graph_session.specs.declared.answer.Answer.TheVariants as answers
 use Rattle.graph_session.specs.declared.changing.Begun.{Begun}
 use Rattle.graph_session.specs.declared.changing.Drafted.{Drafted}
 
--- a commit that was to be answered so ended, with what was committed, or else with nothing
+-- what was committed are these records
+abbrev pub AreTapped :
+    {D : Type 0} → Ghosts D → SessionView D → SessionView D → Pairs → Pairs → Type 0
+AreTapped g old new written tap = (tap ≡ written) × IsTapped g old new tap
+
+-- a commit of these records that was to be answered so ended, with them, or else with nothing
 abbrev pub TapsCommit :
-    {D : Type 0} → Ghosts D → SessionView D → SessionView D → Answer → Answer → Option Held
-    → Option Held → Type 0
-TapsCommit g old new made answer was tap =
-    ((answer ≡ made) × Takes (IsTapped g old new) was tap)
+    {D : Type 0} → Ghosts D → SessionView D → SessionView D → Pairs → Answer → Answer
+    → Option Held → Option Held → Type 0
+TapsCommit g old new written made answer was tap =
+    ((answer ≡ made) × Takes (AreTapped g old new written) was tap)
     ⊎ ((answer ≡ answers.DiskFailed) × Takes IsEmpty was tap)
 
--- a change that is a transaction by itself
+-- a change that is a transaction by itself, with what is drafted then
 abbrev pub TapsAlone :
     {D : Type 0} → Ghosts D → Result Drafted Answer → SessionView D → SessionView D → Answer
     → Option Held → Option Held → Type 0
 TapsAlone g (Ok made) old new answer was tap =
-    TapsCommit g old new made.answer answer was tap
+    ((start_weight + made.weight ≤ most_weight)
+    × TapsCommit g old new (merged old.console.written old.console.draft) made.answer answer was
+    tap)
     ⊎ (IsUnkeptAlone made.weight answer × Takes IsEmpty was tap)
 TapsAlone g (Err why) old new answer was tap = (answer ≡ why) × Takes IsEmpty was tap
 

@@ -529,8 +529,8 @@ impl<'d, D: Disk> Session<'d, D> {
         requires room { HasRoom tap.old }
         ensures tries { TriesCommit (working self.old.store) self.old.store.base.own.pairs
             self.old self.new answer result }
-        ensures taps { TapsCommit D.Disk (view self.old) (view self.new) answer result
-            tap.old tap.new }
+        ensures taps { TapsCommit D.Disk (view self.old) (view self.new)
+            (view self.old).console.written answer result tap.old tap.new }
     {
         self.fill(tap);
         match self.store.commit_kept(&mut self.snaps) {

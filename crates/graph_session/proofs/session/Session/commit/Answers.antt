@@ -2,7 +2,7 @@ use Rattle.std.proofs.Common.{◌∙◌, ap, inl, inr, length, refl, sym, true�
 use Rattle.graph_session.proofs.Moves.{commit_failed, committed_one, refused-commit}
 use Rattle.graph_session.specs.Session.{view}
 use Rattle.graph_session.specs.Tapping.{HasWritten, IsEmpty}
-use Rattle.graph_session.proofs.Taps.{takes-nothing, takes-then, takes-weaker, tapped-written, taps-ended, taps-unconfirmed}
+use Rattle.graph_session.proofs.Taps.{commit-still, takes-nothing, takes-then, takes-weaker, tapped-written, taps-ended, taps-unconfirmed}
 use Rattle.graph_session.proofs.session.Session.commit.Goals as goal
 
 pub returns-then-not-in_transaction-clause-settles :
@@ -48,7 +48,7 @@ returns-then-not-in_transaction-clause-taps g c = takes-weaker c.args.tap.now c.
 pub returns-in-Ok-clause-taps : goal.returns-in-Ok-clause-taps
 returns-in-Ok-clause-taps g c =
     let done = c.in-Ok.ensures in
-    takes-weaker c.args.tap.now c.fill.new.tap (λ pairs has. taps-ended tt (inl refl) pairs (λ commits. has.is) (tapped-written (view c.args.self.now) _ pairs has done.same.shape done.done.space)) c.fill.ensures
+    takes-weaker c.args.tap.now c.fill.new.tap (λ pairs has. taps-ended tt (inl refl) pairs (λ commits. has.is) (λ change. absurd (commit-still change)) (tapped-written (view c.args.self.now) _ pairs has done.same.shape done.done.space)) c.fill.ensures
 
 pub returns-in-Err-clause-taps : goal.returns-in-Err-clause-taps
 returns-in-Err-clause-taps g c = takes-weaker c.args.tap.now c.forget.new.tap (taps-unconfirmed (λ confirms. confirms)) (takes-then (HasWritten (view c.args.self.now).console) IsEmpty c.args.tap.now c.fill.new.tap c.forget.new.tap c.fill.ensures c.forget.ensures)

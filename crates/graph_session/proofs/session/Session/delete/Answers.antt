@@ -23,8 +23,8 @@ returns-in-Edge-clause-keeps g c =
 
 pub returns-in-Node-clause-taps : goal.returns-in-Node-clause-taps
 returns-in-Node-clause-taps g c =
-    rw c.in-Node.is (taps-change (commands.Delete (targets.Node c.in-Node.id)) tt c.end_change.new.self c.begin_change-begun.result c.begin_change-begun.ensures c.draft_deletion-drafted.ensures.only c.draft_deletion-drafted.result c.draft_deletion-drafted.ensures.drafts c.end_change.result c.args.tap.now c.end_change.new.tap c.end_change.ensures.taps)
+    rw c.in-Node.is (taps-change (commands.Delete (targets.Node c.in-Node.id)) tt c.requires.live c.end_change.new.self c.begin_change-begun.result c.begin_change-begun.ensures c.draft_deletion-drafted.ensures.only c.draft_deletion-drafted.result c.draft_deletion-drafted.ensures.drafts c.end_change.result c.args.tap.now c.end_change.new.tap c.end_change.ensures.taps)
 
 pub returns-in-Edge-clause-taps : goal.returns-in-Edge-clause-taps
 returns-in-Edge-clause-taps g c =
-    rw c.in-Edge.is (taps-change (commands.Delete (targets.Edge c.in-Edge.id)) tt c.end_change-in-Edge.new.self c.begin_change-begun.result c.begin_change-begun.ensures c.draft_edge_deletion-drafted.ensures.only c.draft_edge_deletion-drafted.result c.draft_edge_deletion-drafted.ensures.drafts c.end_change-in-Edge.result c.args.tap.now c.end_change-in-Edge.new.tap c.end_change-in-Edge.ensures.taps)
+    rw c.in-Edge.is (taps-change (commands.Delete (targets.Edge c.in-Edge.id)) tt c.requires.live c.end_change-in-Edge.new.self c.begin_change-begun.result c.begin_change-begun.ensures c.draft_edge_deletion-drafted.ensures.only c.draft_edge_deletion-drafted.result c.draft_edge_deletion-drafted.ensures.drafts c.end_change-in-Edge.result c.args.tap.now c.end_change-in-Edge.new.tap c.end_change-in-Edge.ensures.taps)

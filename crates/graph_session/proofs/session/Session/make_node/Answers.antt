@@ -14,4 +14,4 @@ returns-clause-keeps g c =
 
 pub returns-clause-taps : goal.returns-clause-taps
 returns-clause-taps g c =
-    taps-change (commands.Node c.args.label.now c.args.pairs.now) tt c.end_change.new.self c.begin_change-begun.result c.begin_change-begun.ensures c.draft_node-drafted.ensures.only c.draft_node-drafted.result c.draft_node-drafted.ensures.drafts c.end_change.result c.args.tap.now c.end_change.new.tap c.end_change.ensures.taps
+    taps-change (commands.Node c.args.label.now c.args.pairs.now) tt c.requires.live c.end_change.new.self c.begin_change-begun.result c.begin_change-begun.ensures c.draft_node-drafted.ensures.only c.draft_node-drafted.result c.draft_node-drafted.ensures.drafts c.end_change.result c.args.tap.now c.end_change.new.tap c.end_change.ensures.taps

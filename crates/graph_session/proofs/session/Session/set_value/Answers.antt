@@ -14,4 +14,4 @@ returns-clause-keeps g c =
 
 pub returns-clause-taps : goal.returns-clause-taps
 returns-clause-taps g c =
-    taps-change (commands.Set c.args.target c.args.key.now c.args.value.now) tt c.end_change.new.self c.begin_change-begun.result c.begin_change-begun.ensures c.draft_value-drafted.ensures.only c.draft_value-drafted.result c.draft_value-drafted.ensures.drafts c.end_change.result c.args.tap.now c.end_change.new.tap c.end_change.ensures.taps
+    taps-change (commands.Set c.args.target c.args.key.now c.args.value.now) tt c.requires.live c.end_change.new.self c.begin_change-begun.result c.begin_change-begun.ensures c.draft_value-drafted.ensures.only c.draft_value-drafted.result c.draft_value-drafted.ensures.drafts c.end_change.result c.args.tap.now c.end_change.new.tap c.end_change.ensures.taps

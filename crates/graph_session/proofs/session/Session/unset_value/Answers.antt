@@ -14,4 +14,4 @@ returns-clause-keeps g c =
 
 pub returns-clause-taps : goal.returns-clause-taps
 returns-clause-taps g c =
-    taps-change (commands.Unset c.args.target c.args.key.now) tt c.end_change.new.self c.begin_change-begun.result c.begin_change-begun.ensures c.draft_no_value-drafted.ensures.only c.draft_no_value-drafted.result c.draft_no_value-drafted.ensures.drafts c.end_change.result c.args.tap.now c.end_change.new.tap c.end_change.ensures.taps
+    taps-change (commands.Unset c.args.target c.args.key.now) tt c.requires.live c.end_change.new.self c.begin_change-begun.result c.begin_change-begun.ensures c.draft_no_value-drafted.ensures.only c.draft_no_value-drafted.result c.draft_no_value-drafted.ensures.drafts c.end_change.result c.args.tap.now c.end_change.new.tap c.end_change.ensures.taps
