@@ -12,6 +12,7 @@ pub mod FoundSources
 pub mod HeldRows
 pub mod HeldRuns
 pub mod HeldSteps
+pub mod HopCosts
 pub mod HopEdges
 pub mod LeftRows
 pub mod Limits

@@ -5,8 +5,10 @@ ghost use Rattle.store_rules.specs.Graph.{graph_of};
 ghost use Rattle.store_rules.specs.Rules.{IsWellFormed};
 ghost use Rattle.rec_bytes.specs.Fault.{HasFaultCause};
 ghost use Rattle.prop_store.specs.Fault.{BlamesBroken};
+ghost use Rattle.prop_store.specs.Reading.{ReadsAtMost};
+ghost use Rattle.expand.specs.Costs.{most_reads};
 ghost use Rattle.traversal_run.specs.EdgeItems.{AreTyped, IsTyped, row_item};
-ghost use Rattle.traversal_run.specs.Hopping.{AreTypeNumbers};
+ghost use Rattle.traversal_run.specs.Hopping.{AreTypeNumbers, hop_reads, reads_at_vertex};
 ghost use Rattle.traversal_run.specs.Reading.{IsNamedStore, IsRead};
 
 use crate::edge_items::{edge_item, end_items};
@@ -35,6 +37,10 @@ pub(crate) fn neighbours<R: Reads>(
         ≡ neighbours (graph_of (R.state space.old).records) hop.now item.now) }
     ensures damaged { R.tells → IfErr result
         (BlamesBroken (R.state space.old).records (R.state space.old).shape) }
+    ensures reads { R.tells
+        → IsNamedStore (R.state space.old).records (R.state space.old).shape names.now.names
+        → ReadsAtMost (hop_reads (R.state space.old).records hop.now item.now)
+        (R.state space.old) (R.state space.new) }
     ensures read { IsRead R.Reads space.old space.new }
     ensures cause { HasFaultCause (R.faults space.old) (R.faults space.new) result }
 {
@@ -60,6 +66,10 @@ pub(crate) fn incident<R: Reads>(
         ≡ incident (graph_of (R.state space.old).records) hop.now item.now) }
     ensures damaged { R.tells → IfErr result
         (BlamesBroken (R.state space.old).records (R.state space.old).shape) }
+    ensures reads { R.tells
+        → IsNamedStore (R.state space.old).records (R.state space.old).shape names.now.names
+        → ReadsAtMost (hop_reads (R.state space.old).records hop.now item.now)
+        (R.state space.old) (R.state space.new) }
     ensures read { IsRead R.Reads space.old space.new }
     ensures cause { HasFaultCause (R.faults space.old) (R.faults space.new) result }
 {
@@ -83,6 +93,9 @@ fn edge_items<R: Reads>(
         → IfOk result (λ items. items ≡ map (row_item (R.state space.old).records) rows.now) }
     ensures damaged { R.tells → IfErr result
         (BlamesBroken (R.state space.old).records (R.state space.old).shape) }
+    ensures no_read { R.tells
+        → IsNamedStore (R.state space.old).records (R.state space.old).shape names.now.names
+        → AreTyped (R.state space.old).records rows.now → space.new ≡ space.old }
     ensures read { IsRead R.Reads space.old space.new }
     ensures cause { HasFaultCause (R.faults space.old) (R.faults space.new) result }
 {
@@ -108,6 +121,9 @@ fn push_edge<R: Reads>(
         (items.new ≡ items.old ++ row_item (R.state space.old).records row.now ∷ []) }
     ensures damaged { R.tells → IfErr result
         (BlamesBroken (R.state space.old).records (R.state space.old).shape) }
+    ensures no_read { R.tells
+        → IsNamedStore (R.state space.old).records (R.state space.old).shape names.now.names
+        → IsTyped (R.state space.old).records row.now → space.new ≡ space.old }
     ensures read { IsRead R.Reads space.old space.new }
     ensures cause { HasFaultCause (R.faults space.old) (R.faults space.new) result }
 {
@@ -138,6 +154,10 @@ fn rows_of<R: Reads>(
         (edges_at (graph_of (R.state space.old).records) hop.now.direction hop.now.labels id)) }
     ensures damaged { R.tells → IfErr result
         (BlamesBroken (R.state space.old).records (R.state space.old).shape) }
+    ensures reads { R.tells
+        → IsNamedStore (R.state space.old).records (R.state space.old).shape names.now.names
+        → ReadsAtMost (reads_at_vertex (R.state space.old).records hop.now id)
+        (R.state space.old) (R.state space.new) }
     ensures read { IsRead R.Reads space.old space.new }
     ensures cause { HasFaultCause (R.faults space.old) (R.faults space.new) result }
 {
@@ -164,6 +184,10 @@ fn rows_of_type<R: Reads>(
         (edges_at (graph_of (R.state space.old).records) hop.now.direction hop.now.labels id)) }
     ensures damaged { R.tells → IfErr result
         (BlamesBroken (R.state space.old).records (R.state space.old).shape) }
+    ensures reads { R.tells
+        → IsNamedStore (R.state space.old).records (R.state space.old).shape names.now.names
+        → ReadsAtMost (reads_at_vertex (R.state space.old).records hop.now id)
+        (R.state space.old) (R.state space.new) }
     ensures read { IsRead R.Reads space.old space.new }
     ensures cause { HasFaultCause (R.faults space.old) (R.faults space.new) result }
 {
@@ -189,6 +213,10 @@ fn rows_of_types<R: Reads>(
         (edges_at (graph_of (R.state space.old).records) hop.now.direction hop.now.labels id)) }
     ensures damaged { R.tells → IfErr result
         (BlamesBroken (R.state space.old).records (R.state space.old).shape) }
+    ensures reads { R.tells
+        → IsNamedStore (R.state space.old).records (R.state space.old).shape names.now.names
+        → ReadsAtMost (reads_at_vertex (R.state space.old).records hop.now id)
+        (R.state space.old) (R.state space.new) }
     ensures read { IsRead R.Reads space.old space.new }
     ensures cause { HasFaultCause (R.faults space.old) (R.faults space.new) result }
 {
@@ -214,6 +242,9 @@ fn rows_by<R: Reads>(
         (edges_at (graph_of (R.state space.old).records) hop.now.direction hop.now.labels id)) }
     ensures damaged { R.tells → IfErr result
         (BlamesBroken (R.state space.old).records (R.state space.old).shape) }
+    ensures reads { R.tells → IsWellFormed (R.state space.old).records (R.state space.old).shape
+        → ReadsAtMost (most_reads (R.state space.old) hop.now.direction numbers.now id)
+        (R.state space.old) (R.state space.new) }
     ensures read { IsRead R.Reads space.old space.new }
     ensures cause { HasFaultCause (R.faults space.old) (R.faults space.new) result }
 {

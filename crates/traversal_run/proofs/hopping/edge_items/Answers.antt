@@ -44,6 +44,10 @@ loop-row-preserved g c =
           more_edges (space.state c.args.space.now) (space.state c.loop-row.space) read.same c.args.rows.now at _ c.loop-row.items c.push_edge.new.items (omega arith) (c.loop-row.invariant.are tells store typed)
           (c.in_ok-push_edge.ensures.is tells (named-read space c.args.space.now c.loop-row.space c.args.names.now.names read store)
           (names_then (space.state c.args.space.now) (space.state c.loop-row.space) read.same _ (typed at _ (omega arith))));
+      no_read = λ tells store typed.
+          c.push_edge.ensures.no_read tells (named-read space c.args.space.now c.loop-row.space c.args.names.now.names read store)
+          (names_then (space.state c.args.space.now) (space.state c.loop-row.space) read.same _ (typed at _ (omega arith)))
+          ∙ c.loop-row.invariant.no_read tells store typed;
       read = is_read-on space g.met.R.Reads.further_onward c.args.space.now c.loop-row.space c.push_edge.new.space read c.push_edge.ensures.read;
     }
 
@@ -58,3 +62,11 @@ returns-in_err-push_edge-clause-cause g c =
 
 pub returns-in_err-push_edge-clause-are : goal.returns-in_err-push_edge-clause-are
 returns-in_err-push_edge-clause-are g c _ _ _ = never_ok c.from_residual.result _ _ c.from_residual.ensures.1
+
+pub returns-in_err-push_edge-clause-no_read : goal.returns-in_err-push_edge-clause-no_read
+returns-in_err-push_edge-clause-no_read g c = λ tells store typed.
+    let space = g.R.Reads in
+    let read = c.loop-row.invariant.read in
+    c.push_edge.ensures.no_read tells (named-read space c.args.space.now c.loop-row.space c.args.names.now.names read store)
+    (names_then (space.state c.args.space.now) (space.state c.loop-row.space) read.same _ (typed c.loop-row.row-index _ (omega arith)))
+    ∙ c.loop-row.invariant.no_read tells store typed

@@ -9,5 +9,6 @@ invariant-loop-row g l =
     record {
       are : g.R.Reads.tells → IsNamedStore old.records old.shape l.names.names → AreTyped old.records l.rows
           → l.items ≡ map (row_item old.records) (take l.row-index l.rows);
+      no_read : g.R.Reads.tells → IsNamedStore old.records old.shape l.names.names → AreTyped old.records l.rows → l.space ≡ l.fn.space;
       read : IsRead g.R.Reads l.fn.space l.space;
     }

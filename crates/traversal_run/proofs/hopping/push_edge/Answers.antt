@@ -49,3 +49,23 @@ returns-in_err-item-2-clause-is g c _ _ _ = never_ok c.from_residual-in_err-item
 
 pub returns-in_err-push-2-clause-is : goal.returns-in_err-push-2-clause-is
 returns-in_err-push-2-clause-is g c _ _ _ = never_ok c.from_residual-in_err-push-2.result _ _ c.from_residual-in_err-push-2.ensures.1
+
+pub returns-in_err-item-2-clause-no_read : goal.returns-in_err-item-2-clause-no_read
+returns-in_err-item-2-clause-no_read g c = λ tells store typed.
+    let mark = c.name_mark-mark.ensures in
+    absurd (omega (arith, c.if-row-mark.false))
+
+pub returns-in_err-push-2-clause-no_read : goal.returns-in_err-push-2-clause-no_read
+returns-in_err-push-2-clause-no_read g c = λ tells store typed.
+    let mark = c.name_mark-mark.ensures in
+    absurd (omega (arith, c.if-row-mark.false))
+
+pub returns-in_ok-push-2-clause-no_read : goal.returns-in_ok-push-2-clause-no_read
+returns-in_ok-push-2-clause-no_read g c = λ tells store typed.
+    let mark = c.name_mark-mark.ensures in
+    absurd (omega (arith, c.if-row-mark.false))
+
+pub returns-in_default-clause-no_read : goal.returns-in_default-clause-no_read
+returns-in_default-clause-no_read g c = λ tells store typed.
+    let mark = c.name_mark-mark.ensures in
+    absurd (omega (arith, c.if-row-mark.false))

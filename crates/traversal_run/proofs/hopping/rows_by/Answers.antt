@@ -40,3 +40,28 @@ returns-in-Err-Disk-clause-read g c = is_read-gets g.R.Reads c.expand.ensures.at
 
 pub returns-in-Err-Damaged-clause-read : goal.returns-in-Err-Damaged-clause-read
 returns-in-Err-Damaged-clause-read g c = is_read-gets g.R.Reads c.expand.ensures.at_most.count c.args.space.now c.expand.new.space c.expand.ensures.at_most.is c.expand.ensures.onward c.expand.ensures.cause.later
+
+pub returns-in-Ok-clause-reads : goal.returns-in-Ok-clause-reads
+returns-in-Ok-clause-reads g c = λ tells store.
+    let met = c.in-Ok.ensures.reads tells store in
+    record { count = met.count; within = met.within; is = met.is }
+
+pub returns-in-Err-NoNode-clause-reads : goal.returns-in-Err-NoNode-clause-reads
+returns-in-Err-NoNode-clause-reads g c = λ tells store.
+    let met = c.expand.ensures.reads tells store in
+    record { count = met.count; within = met.within; is = met.is }
+
+pub returns-in-Err-Memory-clause-reads : goal.returns-in-Err-Memory-clause-reads
+returns-in-Err-Memory-clause-reads g c = λ tells store.
+    let met = c.expand.ensures.reads tells store in
+    record { count = met.count; within = met.within; is = met.is }
+
+pub returns-in-Err-Disk-clause-reads : goal.returns-in-Err-Disk-clause-reads
+returns-in-Err-Disk-clause-reads g c = λ tells store.
+    let met = c.expand.ensures.reads tells store in
+    record { count = met.count; within = met.within; is = met.is }
+
+pub returns-in-Err-Damaged-clause-reads : goal.returns-in-Err-Damaged-clause-reads
+returns-in-Err-Damaged-clause-reads g c = λ tells store.
+    let met = c.expand.ensures.reads tells store in
+    record { count = met.count; within = met.within; is = met.is }
