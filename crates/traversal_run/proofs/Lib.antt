@@ -14,6 +14,7 @@ pub mod HeldRuns
 pub mod HeldSteps
 pub mod HopCosts
 pub mod HopEdges
+pub mod HopRuns
 pub mod LeftRows
 pub mod Limits
 pub mod ListedIndexes

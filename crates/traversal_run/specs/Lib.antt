@@ -5,6 +5,7 @@ pub mod Feeding
 pub mod Finding
 pub mod FoundNodes
 pub mod Held
+pub mod HopRun
 pub mod Hopping
 pub mod KeyValues
 pub mod Kept

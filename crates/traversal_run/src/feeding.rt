@@ -10,6 +10,7 @@ ghost use Rattle.traversal_run.specs.Elements.{IsRowOf};
 ghost use Rattle.plain_graph.specs.Meaning.{passes};
 ghost use Rattle.plain_graph.specs.declared.item.Item.TheVariants as items;
 ghost use Rattle.traversal_run.specs.Held.{HasDegreesUpTo, IsBatch, is_hop, is_plain};
+ghost use Rattle.traversal_run.specs.HopRun.{FeedsHop};
 ghost use Rattle.traversal_run.specs.Reading.{IsNamedStore, IsRead};
 ghost use Rattle.traversal_run.specs.Source.{left_of};
 ghost use Rattle.plain_graph.specs.Graph.{Graph};
@@ -60,6 +61,8 @@ pub(crate) fn feed<R: Reads>(
         → IsNamedStore (R.state space.old).records (R.state space.old).shape names.now.names
         → (d : ℕ) → HasDegreesUpTo (graph_of (R.state space.old).records) d
         → is_plain stage.old ≡ true → IfOk result (IsBatch d (is_hop stage.old)) }
+    ensures hop { source.old.edges ≡ false → is_hop stage.old ≡ true → FeedsHop R.Reads
+        names.now.names stage.old space.old space.new source.old source.new }
     ensures read { IsRead R.Reads space.old space.new }
     ensures cause { HasStopCause (R.faults space.old) (R.faults space.new) result }
 {
@@ -142,6 +145,8 @@ fn feed_vertices<R: Reads>(
         → IsNamedStore (R.state space.old).records (R.state space.old).shape names.now.names
         → (d : ℕ) → HasDegreesUpTo (graph_of (R.state space.old).records) d
         → is_plain stage.old ≡ true → IfOk result (IsBatch d (is_hop stage.old)) }
+    ensures hop { FeedsHop R.Reads
+        names.now.names stage.old space.old space.new source.old source.new }
     ensures read { IsRead R.Reads space.old space.new }
     ensures cause { HasFaultCause (R.faults space.old) (R.faults space.new) result }
 {

@@ -4,6 +4,7 @@ ghost use Rattle.store_rules.specs.Graph.{graph_of};
 ghost use Rattle.rec_bytes.specs.Fault.{HasFaultCause};
 ghost use Rattle.prop_store.specs.Fault.{BlamesBroken};
 ghost use Rattle.traversal_run.specs.Elements.{IsRowOf};
+ghost use Rattle.traversal_run.specs.HopRun.{ReadsAsHop};
 ghost use Rattle.traversal_run.specs.Mapping.{filtered, mapped};
 ghost use Rattle.traversal_run.specs.Reading.{IsNamedStore, IsRead};
 
@@ -49,6 +50,10 @@ pub(crate) fn mapped<R: Reads>(
         ≡ mapped (graph_of (R.state space.old).records) mapping.now item) }
     ensures damaged { R.tells → IfErr result
         (BlamesBroken (R.state space.old).records (R.state space.old).shape) }
+    // what a hop reads
+    ensures reads { R.tells
+        → IsNamedStore (R.state space.old).records (R.state space.old).shape names.now.names
+        → ReadsAsHop mapping.now item (R.state space.old) (R.state space.new) }
     ensures read { IsRead R.Reads space.old space.new }
     ensures cause { HasFaultCause (R.faults space.old) (R.faults space.new) result }
 {

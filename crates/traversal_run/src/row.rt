@@ -6,6 +6,7 @@ ghost use Rattle.plain_graph.specs.Graph.{Graph};
 ghost use Rattle.plain_graph.specs.declared.item.Item.{Item};
 ghost use Rattle.store_rules.specs.Graph.{graph_of};
 ghost use Rattle.traversal_run.specs.Held.{HasDegreesUpTo, IsBatch, is_hop, is_plain};
+ghost use Rattle.traversal_run.specs.HopRun.{IsHopAlone};
 ghost use Rattle.traversal_run.specs.Reading.{IsNamedStore, IsRead};
 ghost use Rattle.traversal_run.specs.Row.{
   Advances,
@@ -142,6 +143,7 @@ pub(crate) fn is_fed(rows: &[Row]) -> bool
     ensures some { result ≡ true → 0 < length rows.now }
     ensures limit { (most : ℕ) (waiting : List Item)
         → rows.now ≡ limit_row most waiting ∷ [] → result ≡ false }
+    ensures hop { IsHopAlone rows.now → result ≡ true }
 {
     match rows {
         [row, ..] => !matches!(row.stage, Stage::Limit { .. }),

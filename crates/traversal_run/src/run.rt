@@ -1,5 +1,5 @@
 ghost use Rattle.std.specs.Prelude.{◌≡◌, ◌≢◌, ◌↔◌, ℕ, Bool, IsTrue, [], ◌∷◌, ◌+◌, ◌<◌, ◌≤◌};
-ghost use Rattle.std.specs.Prelude.{length, take, drop, true, vec_len, None, Some, Err, IfErr};
+ghost use Rattle.std.specs.Prelude.{length, take, drop, true, vec_len, None, Some, Ok, Err, IfErr};
 ghost use Rattle.std.specs.Prelude.{IfOk, OnOk};
 ghost use Rattle.plain_graph.specs.Forms.{IsShown};
 ghost use Rattle.plain_graph.specs.Graph.{Graph};
@@ -8,7 +8,9 @@ ghost use Rattle.store_rules.specs.Graph.{graph_of};
 ghost use Rattle.std.specs.Prelude.{◌⊎◌, ◌-◌, false};
 ghost use Rattle.plain_graph.specs.declared.query.Source.TheVariants as sources;
 ghost use Rattle.plain_graph.specs.declared.query.Step.TheVariants as steps;
+ghost use Rattle.plain_graph.specs.declared.query.Hop.{Hop};
 ghost use Rattle.prop_index.specs.Looking.{BlamesBroken, HasLookupCause};
+ghost use Rattle.prop_store.specs.Reading.{ReadsAtMost};
 ghost use Rattle.traversal_run.specs.FoundNodes.{HasIndexOf, IsSourceRefusal, ReadsToBegin};
 ghost use Rattle.traversal_run.specs.Held.{
   ArePlainSteps,
@@ -18,6 +20,14 @@ ghost use Rattle.traversal_run.specs.Held.{
   as_size,
   held,
   hops_of,
+};
+ghost use Rattle.traversal_run.specs.HopRun.{
+  FeedsHop,
+  IsHop,
+  IsHopAlone,
+  IsHopQuery,
+  IsReady,
+  reads_for_hop,
 };
 ghost use Rattle.traversal_run.specs.Reading.{IsNamedStore, IsRead};
 ghost use Rattle.traversal_run.specs.Row.{AreIdle, AreQuiet, Stream, have_no_count, stages_of};
@@ -164,6 +174,9 @@ fn feed_step<R: Reads>(
     ensures allowed { OnOk result ((before after : Bool)
         → allowed_by after (stages_of rows.new) (length ready.new)
         ≡ allowed_by before (stages_of rows.old) 0) }
+    ensures hop { (alone : IsHopAlone rows.old) → source.old.edges ≡ false
+        → FeedsHop R.Reads names.now.names alone.row.stage space.old space.new
+        source.old source.new × OnOk result (IsHopAlone rows.new) }
     ensures read { IsRead R.Reads space.old space.new }
     ensures cause { HasStopCause (R.faults space.old) (R.faults space.new) result }
 {
@@ -200,6 +213,8 @@ fn feed_two<R: Reads>(
         ≡ true)) }
     ensures damaged { R.tells → IfErr result
         (StopsAtBroken (R.state space.old).records (R.state space.old).shape) }
+    ensures alone { length rows.old < 2 → (result ≡ Ok false) × (space.new ≡ space.old)
+        × (rows.new ≡ rows.old) × (source.new ≡ source.old) }
     ensures read { IsRead R.Reads space.old space.new }
     ensures cause { HasStopCause (R.faults space.old) (R.faults space.new) result }
 {
@@ -255,6 +270,9 @@ fn feed_rows<R: Reads>(
     ensures allowed { OnOk result ((before after : Bool)
         → allowed_by after (stages_of rows.new) (length ready.new)
         ≡ allowed_by before (stages_of rows.old) 0) }
+    ensures hop { (alone : IsHopAlone rows.old) → source.old.edges ≡ false
+        → FeedsHop R.Reads names.now.names alone.row.stage space.old space.new
+        source.old source.new × OnOk result (IsHopAlone rows.new) }
     ensures read { IsRead R.Reads space.old space.new }
     ensures cause { HasStopCause (R.faults space.old) (R.faults space.new) result }
 {
@@ -344,6 +362,9 @@ impl Run {
         // A limit over all vertices begins before the first.
         ensures scan { query.now.source ≡ sources.Vertices [] → (most : ℕ)
             → query.now.steps ≡ steps.Limit most ∷ [] → IfOk result (λ run. IsScan run 0) }
+        // A hop at one vertex, alone, is still to be made.
+        ensures hop { (id : ℕ) (hop : Hop) → IsHopQuery query.now id hop
+            → IfOk result (λ run. IsHop run id hop) }
     {
         let source = Source::new(alloc, space, names, &query.source)?;
         let Ok(rows) = rows_of(alloc, query.steps.as_slice()) else {
@@ -428,6 +449,10 @@ impl Run {
         ensures limit { (from most : ℕ) (item : Item)
             → IsScanWith self.old from (most + 1) (item ∷ []) []
             → OnOk result ((space.new ≡ space.old) × IsScanReady self.new from most item) }
+        ensures hop { (alone : IsHopAlone self.old.rows.items)
+            → self.old.source.edges ≡ false
+            → FeedsHop R.Reads names.now.names alone.row.stage space.old space.new
+            self.old.source self.new.source × OnOk result (IsHopAlone self.new.rows.items) }
         ensures stopped { self.new.stopped ≡ self.old.stopped }
         ensures read { IsRead R.Reads space.old space.new }
         ensures cause { HasStopCause (R.faults space.old) (R.faults space.new) result }
@@ -505,6 +530,13 @@ impl Run {
             → IsWithin d most self.old → OnOk result (IsWithin d most self.new) }
         ensures scan { (at : ℕ) → IsScan self.old at → IfOk result (λ item.
             IsScanned at (R.state space.old).reads (R.state space.new).reads item self.new) }
+        ensures hop { (id : ℕ) (hop : Hop) → IsHop self.old id hop
+            → (R.tells
+            → IsNamedStore (R.state space.old).records (R.state space.old).shape names.now.names
+            → ReadsAtMost (reads_for_hop (R.state space.old).records hop id)
+            (R.state space.old) (R.state space.new)) × IfOk result (λ _. IsReady self.new) }
+        ensures ready { IsReady self.old
+            → (space.new ≡ space.old) × IfOk result (λ _. IsReady self.new) }
         ensures allowed { OnOk result (still_allowed self.old
             ≡ with_more (still_allowed self.new) 1) }
         ensures no_read { still_allowed self.old ≡ Some 0
@@ -585,6 +617,15 @@ impl Run {
         // A limit over all vertices reads no more than each identifier up to that of its result.
         ensures scan { (at : ℕ) → IsScan self.old at → IfItem result (λ item.
             IsScanned at (R.state space.old).reads (R.state space.new).reads item self.new) }
+        // A hop at one vertex reads the vertex and what the edges of its types cost, before its first
+        // result. The others are then ready.
+        ensures hop { (id : ℕ) (hop : Hop) → IsHop self.old id hop
+            → (R.tells
+            → IsNamedStore (R.state space.old).records (R.state space.old).shape names.now.names
+            → ReadsAtMost (reads_for_hop (R.state space.old).records hop id)
+            (R.state space.old) (R.state space.new)) × IfItem result (λ _. IsReady self.new) }
+        ensures ready { IsReady self.old
+            → (space.new ≡ space.old) × IfItem result (λ _. IsReady self.new) }
 
         ensures read { IsRead R.Reads space.old space.new }
     {

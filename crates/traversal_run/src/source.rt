@@ -1,4 +1,4 @@
-ghost use Rattle.std.specs.Prelude.{◌≡◌, ◌<◌, ◌+◌, ℕ, [], IfErr, IfNone, IfOk, IfSome, None};
+ghost use Rattle.std.specs.Prelude.{◌≡◌, ◌<◌, ◌+◌, ◌∷◌, ℕ, [], IfErr, IfNone, IfOk, IfSome, None};
 ghost use Rattle.std.specs.Prelude.{false, nat_eq, true};
 ghost use Rattle.std.specs.List.{list_any};
 ghost use Rattle.plain_graph.specs.Graph.{Graph};
@@ -11,6 +11,7 @@ ghost use Rattle.store_rules.specs.Graph.{graph_of};
 ghost use Rattle.rec_bytes.specs.Fault.{HasFaultCause};
 ghost use Rattle.prop_store.specs.Fault.{BlamesBroken};
 ghost use Rattle.traversal_run.specs.FoundNodes.{HasIndexOf, IsSourceRefusal, ReadsToBegin};
+ghost use Rattle.traversal_run.specs.HopRun.{HasOnly};
 ghost use Rattle.traversal_run.specs.Reading.{IsNamedStore, IsRead};
 ghost use Rattle.traversal_run.specs.Scan.{TakesVertex, vertices_from};
 ghost use Rattle.store_rules.specs.Rules.{IsWellFormed};
@@ -122,6 +123,8 @@ impl Source {
             ≡ source_of (graph_of (R.state space.old).records) asked.now) }
         ensures from { asked.now ≡ sources.Vertices []
             → IfOk result (λ source. source ≡ vertices_from 0) }
+        ensures one { (id : ℕ) → asked.now ≡ sources.Vertices (id ∷ [])
+            → IfOk result (λ source. (source.edges ≡ false) × HasOnly source.left id) }
         ensures over { IfOk result (λ source. is_over source.left ≡ false) }
         ensures there { R.tells
             → IsNamedStore (R.state space.old).records (R.state space.old).shape names.now.names
@@ -190,6 +193,7 @@ impl Source {
         ensures edges { self.new.edges ≡ self.old.edges }
         ensures over { is_over self.new.left ≡ is_over self.old.left }
         ensures none { is_over self.old.left ≡ true → IfOk result (λ item. item ≡ None) }
+        ensures unread { is_over self.old.left ≡ true → space.new ≡ space.old }
         ensures read { IsRead R.Reads space.old space.new }
         ensures cause { HasFaultCause (R.faults space.old) (R.faults space.new) result }
     {

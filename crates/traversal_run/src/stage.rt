@@ -9,6 +9,7 @@ ghost use Rattle.rec_bytes.specs.Fault.{HasFaultCause};
 ghost use Rattle.prop_store.specs.Fault.{BlamesBroken};
 ghost use Rattle.traversal_run.specs.Elements.{IsRowOf};
 ghost use Rattle.traversal_run.specs.Held.{is_hop, is_plain};
+ghost use Rattle.traversal_run.specs.HopRun.{StageReads};
 ghost use Rattle.traversal_run.specs.Reading.{IsNamedStore, IsRead};
 ghost use Rattle.traversal_run.specs.Stage.{
   Finishes,
@@ -87,6 +88,9 @@ impl Stage {
         ensures limit { (most : ℕ) → self.old ≡ Stage.Limit most → IfOk result (λ outs.
             (outs ≡ take most (item ∷ [])) × (self.new ≡ Stage.Limit (most - 1))
             × (space.new ≡ space.old)) }
+        ensures reads { R.tells
+            → IsNamedStore (R.state space.old).records (R.state space.old).shape names.now.names
+            → StageReads self.old item (R.state space.old) (R.state space.new) }
         ensures read { IsRead R.Reads space.old space.new }
         ensures cause { HasFaultCause (R.faults space.old) (R.faults space.new) result }
     {

@@ -2,6 +2,7 @@ use Rattle.std.proofs.Common.{◌≡◌, rules, ap, subst, ◌∙◌, arith}
 use Rattle.store_rules.specs.Graph.{graph_of}
 use Rattle.traversal_run.specs.Feeding.{Feeds}
 use Rattle.traversal_run.specs.Held.{IsBatch, is_hop, is_plain}
+use Rattle.traversal_run.specs.HopRun.{FeedsHop}
 use Rattle.traversal_run.specs.Stage.{is_count, limit_left}
 use Rattle.traversal_run.specs.declared.stage.Stage.{Stage}
 use Rattle.traversal_run.proofs.Causes.{fault_stop_cause, fault_stop_has, fault_stops}
@@ -24,6 +25,7 @@ returns g c =
       hops = fed.hops ∙ ap is_hop stays;
       plain = fed.plain ∙ ap is_plain stays;
       few = λ tells store d degrees plain. subst (λ hop. IsBatch d hop outs) (ap is_hop stays) (fed.few tells store d degrees (ap is_plain stays ∙ plain));
+      hop = λ vertices hop. subst (λ (stage : Stage). FeedsHop g.R.Reads c.args.names.now.names stage c.args.space.now c.feed_vertices.new.space c.args.source.now c.feed_vertices.new.source) stays fed.hop;
       read = fed.read;
       cause = search rules;
     }
@@ -123,3 +125,8 @@ returns-in_err-outs-3-clause-read g c = c.in_err-outs-3.ensures.read
 pub returns-in_err-outs-3-clause-cause : goal.returns-in_err-outs-3-clause-cause
 returns-in_err-outs-3-clause-cause g c =
     fault_stop_cause _ _ _ c.from_residual-in_err-outs-3.result c.in_err-outs-3.field-0.0 (omega arith) c.in_err-outs-3.ensures.cause c.from_residual-in_err-outs-3.ensures.1
+
+pub returns-in_err-outs-3-clause-hop : goal.returns-in_err-outs-3-clause-hop
+returns-in_err-outs-3-clause-hop g c = λ vertices hop.
+    let stays : c.match-stage-2.stage ≡ c.args.stage.now = elim c.match-stage-2.branch [ in-Mapped+in-Neighbours-1 w ↦ search rules | in-Dedup-1 w ↦ w.stage-is ] in
+    subst (λ (stage : Stage). FeedsHop g.R.Reads c.args.names.now.names stage c.args.space.now c.feed_vertices.new.space c.args.source.now c.feed_vertices.new.source) stays c.in_err-outs-3.ensures.hop

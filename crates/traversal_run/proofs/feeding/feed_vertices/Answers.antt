@@ -1,4 +1,4 @@
-use Rattle.std.proofs.Common.{ap, false, subst, sym, ◌∙◌, ◌∷◌}
+use Rattle.std.proofs.Common.{ap, false, subst, sym, ◌∙◌, ◌∷◌, refl}
 use Rattle.plain_graph.specs.declared.item.Item.{Item}
 use Rattle.rec_bytes.specs.Space.{State}
 use Rattle.store_rules.specs.Graph.{graph_of}
@@ -15,6 +15,8 @@ use Rattle.traversal_run.proofs.Causes.{cause_passed, later_on}
 use Rattle.std.proofs.lemmas.Result.{err_from_is_err_and}
 use Rattle.prop_store.specs.Fault.{BlamesBroken}
 use Rattle.rec_bytes.proofs.Causes.{never_ok}
+use Rattle.traversal_run.proofs.HopRuns.{fed_first, fed_took, feeds_over, feeds_took, ended_none, took_row, took_step}
+use Rattle.traversal_run.specs.HopRun.{StageReads}
 use Rattle.traversal_run.proofs.feeding.feed_vertices.Goals as goal
 
 pub returns-then-not-is_empty-clause-feeds : goal.returns-then-not-is_empty-clause-feeds
@@ -69,6 +71,9 @@ loop-id-preserved-then-is_some g c =
       plain = c.take.ensures.plain ∙ inv.plain;
       edges = inv.edges;
       mark = inv.mark;
+      hop = fed_took space c.args.names.now.names c.args.stage.now c.args.space.now c.args.source.now.left c.take.new.self c.take.new.space c.take_first.new.self
+          (took_step space c.args.names.now.names c.args.stage.now c.args.space.now c.args.source.now.left c.loop-id.stage c.loop-id.space c.vertex_row.new.space c.take.new.space now.left c.take_first.new.self c.in-Some.id inv.hop c.in-Some.ensures.some c.in_ok-row.ensures.gets read
+          (λ tells store. subst (λ (item : Item). StageReads c.loop-id.stage item (space.state c.vertex_row.new.space) (space.state c.take.new.space)) c.vertex.ensures (c.take.ensures.reads tells store)));
       read = is_read-on space g.met.R.Reads.further_onward c.args.space.now c.vertex_row.new.space c.take.new.space read c.in_ok-outs.ensures.read;
     }
 
@@ -89,6 +94,8 @@ loop-id-preserved g c =
       plain = inv.plain;
       edges = inv.edges;
       mark = inv.mark;
+      hop = fed_took space c.args.names.now.names c.args.stage.now c.args.space.now c.args.source.now.left c.loop-id.stage c.vertex_row.new.space c.take_first.new.self
+          (took_row space c.args.names.now.names c.args.stage.now c.args.space.now c.args.source.now.left c.loop-id.stage c.loop-id.space c.vertex_row.new.space now.left c.take_first.new.self c.in-Some.id inv.hop c.in-Some.ensures.some c.in_ok-row.ensures.gets);
       read = read;
     }
 
@@ -159,3 +166,42 @@ returns-in_err-outs-clause-limits g c = never_ok c.from_residual-in_err-outs.res
 
 pub returns-in_err-outs-clause-few : goal.returns-in_err-outs-clause-few
 returns-in_err-outs-clause-few g c _ _ _ _ _ = never_ok c.from_residual-in_err-outs.result _ _ c.from_residual-in_err-outs.ensures.1
+
+pub returns-in_err-row-clause-hop : goal.returns-in_err-row-clause-hop
+returns-in_err-row-clause-hop g c =
+    let space = g.R.Reads in
+    let inv = c.loop-id.invariant in
+    let now = c.loop-id.source in
+    let rest : Source = record { edges = now.edges; left = c.take_first.new.self } in
+    feeds_took space c.args.names.now.names c.args.stage.now c.args.space.now c.args.source.now c.vertex_row.new.space rest inv.edges
+    (took_row space c.args.names.now.names c.args.stage.now c.args.space.now c.args.source.now.left c.loop-id.stage c.loop-id.space c.vertex_row.new.space now.left c.take_first.new.self c.in-Some.id inv.hop c.in-Some.ensures.some c.in_err-row.ensures.gets)
+
+pub returns-in_err-outs-clause-hop : goal.returns-in_err-outs-clause-hop
+returns-in_err-outs-clause-hop g c =
+    let space = g.R.Reads in
+    let inv = c.loop-id.invariant in
+    let now = c.loop-id.source in
+    let read = is_read-on space g.met.R.Reads.further_onward c.args.space.now c.loop-id.space c.vertex_row.new.space inv.read c.in_ok-row.ensures.read in
+    let rest : Source = record { edges = now.edges; left = c.take_first.new.self } in
+    feeds_took space c.args.names.now.names c.args.stage.now c.args.space.now c.args.source.now c.take.new.space rest inv.edges
+    (took_step space c.args.names.now.names c.args.stage.now c.args.space.now c.args.source.now.left c.loop-id.stage c.loop-id.space c.vertex_row.new.space c.take.new.space now.left c.take_first.new.self c.in-Some.id inv.hop c.in-Some.ensures.some c.in_ok-row.ensures.gets read
+    (λ tells store. subst (λ (item : Item). StageReads c.loop-id.stage item (space.state c.vertex_row.new.space) (space.state c.take.new.space)) c.vertex.ensures (c.take.ensures.reads tells store)))
+
+pub returns-then-not-is_empty-clause-hop : goal.returns-then-not-is_empty-clause-hop
+returns-then-not-is_empty-clause-hop g c =
+    let space = g.R.Reads in
+    let inv = c.loop-id.invariant in
+    let now = c.loop-id.source in
+    let read = is_read-on space g.met.R.Reads.further_onward c.args.space.now c.loop-id.space c.vertex_row.new.space inv.read c.in_ok-row.ensures.read in
+    let rest : Source = record { edges = now.edges; left = c.take_first.new.self } in
+    feeds_took space c.args.names.now.names c.args.stage.now c.args.space.now c.args.source.now c.take.new.space rest inv.edges
+    (took_step space c.args.names.now.names c.args.stage.now c.args.space.now c.args.source.now.left c.loop-id.stage c.loop-id.space c.vertex_row.new.space c.take.new.space now.left c.take_first.new.self c.in-Some.id inv.hop c.in-Some.ensures.some c.in_ok-row.ensures.gets read
+    (λ tells store. subst (λ (item : Item). StageReads c.loop-id.stage item (space.state c.vertex_row.new.space) (space.state c.take.new.space)) c.vertex.ensures (c.take.ensures.reads tells store)))
+
+pub returns-clause-hop : goal.returns-clause-hop
+returns-clause-hop g c =
+    let space = g.R.Reads in
+    let inv = c.loop-id.invariant in
+    let now = c.loop-id.source in
+    feeds_over space c.args.names.now.names c.args.stage.now c.args.space.now c.args.source.now c.loop-id.stage c.loop-id.space now.left c.end.new.self (ap (λ (source : Source). source.edges) c.end.ensures ∙ inv.edges)
+    (ended_none now c.end.new.self c.end.ensures) inv.hop

@@ -6,6 +6,7 @@ use Rattle.traversal_run.specs.Held.{is_hop, is_plain}
 use Rattle.traversal_run.specs.Reading.{IsNamedStore, IsRead}
 use Rattle.traversal_run.specs.Source.{left_count}
 use Rattle.traversal_run.specs.Stage.{is_count, limit_left}
+use Rattle.traversal_run.proofs.HopRuns.{FedHop}
 use Rattle.traversal_run.proofs.feeding.feed_vertices.Given as goal
 
 abbrev pub invariant-loop-id : goal.invariant-loop-id
@@ -19,6 +20,7 @@ invariant-loop-id g l =
       plain : is_plain l.stage ≡ is_plain l.fn.stage;
       edges : l.source.edges ≡ l.fn.source.edges;
       mark : l.mark ≡ element_mark old.records l.fn.source.edges;
+      hop : FedHop g.R.Reads l.names.names l.fn.stage l.stage l.fn.space l.space l.fn.source.left l.source.left;
       read : IsRead g.R.Reads l.fn.space l.space;
     }
 

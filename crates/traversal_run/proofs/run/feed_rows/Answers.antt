@@ -1,4 +1,4 @@
-use Rattle.std.proofs.Common.{◌≡◌, List, IfErr, OnOk, true, false, sym, ◌∙◌, subst, arith}
+use Rattle.std.proofs.Common.{◌≡◌, List, IfErr, OnOk, true, false, sym, ◌∙◌, subst, arith, length, ap}
 use Rattle.rec_bytes.specs.Space.{State}
 use Rattle.store_rules.specs.Graph.{graph_of}
 use Rattle.traversal_run.specs.Row.{stream, through, with_first}
@@ -10,6 +10,7 @@ use Rattle.traversal_run.proofs.Fed.{plain_no_count}
 use Rattle.traversal_run.proofs.OnlyReads.{named-read}
 use Rattle.rec_bytes.proofs.Causes.{never_ok}
 use Rattle.traversal_run.proofs.Causes.{stop_cause_passed, stop_has}
+use Rattle.traversal_run.specs.HopRun.{FeedsHop, IsHopAlone}
 use Rattle.traversal_run.proofs.run.feed_rows.Goals as goal
 
 pub returns-then-branch-clause-near : goal.returns-then-branch-clause-near
@@ -55,3 +56,23 @@ returns-in_err-feed_two-clause-read g c = c.in_err-feed_two.ensures.read
 pub returns-in_err-feed_two-clause-cause : goal.returns-in_err-feed_two-clause-cause
 returns-in_err-feed_two-clause-cause g c =
     stop_cause_passed _ _ _ c.from_residual.result c.in_err-feed_two.field-0.0 (omega arith) c.in_err-feed_two.ensures.cause c.from_residual.ensures.1
+
+pub returns-clause-hop : goal.returns-clause-hop
+returns-clause-hop g c = λ alone vertices.
+    let stays = c.in_ok-feed_two.ensures.stays c.if-branch.false in
+    let still : IsHopAlone c.feed_two.new.rows = record { row = alone.row; is = stays.0 ∙ alone.is; idle = alone.idle; hop = alone.hop } in
+    let fed = c.feed_step.ensures.hop still (ap (λ (source : Source). source.edges) stays.1 ∙ vertices) in
+    (subst (λ (t : Source × g.row.R.Denot). FeedsHop g.R.Reads c.args.names.now.names alone.row.stage t.1 c.feed_step.new.space t.0 c.feed_step.new.source) (λ i. (stays.1 i, stays.2 i)) fed.0, fed.1)
+
+pub returns-then-branch-clause-hop : goal.returns-then-branch-clause-hop
+returns-then-branch-clause-hop g c = λ alone vertices.
+    let one : length c.args.rows.now ≡ 1 = ap length alone.is in
+    let no = (c.in_ok-feed_two.ensures.alone (omega arith)).0 in
+    let yes = c.if-branch.true in
+    absurd cc
+
+pub returns-in_err-feed_two-clause-hop : goal.returns-in_err-feed_two-clause-hop
+returns-in_err-feed_two-clause-hop g c = λ alone vertices.
+    let one : length c.args.rows.now ≡ 1 = ap length alone.is in
+    let no = (c.in_err-feed_two.ensures.alone (omega arith)).0 in
+    absurd cc

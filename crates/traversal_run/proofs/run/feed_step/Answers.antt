@@ -1,9 +1,9 @@
-use Rattle.std.proofs.Common.{◌≡◌, List, true, get_or, refl, ◌∙◌, subst, arith}
+use Rattle.std.proofs.Common.{◌≡◌, List, true, get_or, refl, ◌∙◌, subst, arith, ap}
 use Rattle.std.proofs.lemmas.Result.{err_from_is_err_and}
 use Rattle.std.proofs.lemmas.List.{length-map}
 use Rattle.plain_graph.specs.declared.item.Item.{Item}
 use Rattle.store_rules.specs.Graph.{graph_of}
-use Rattle.traversal_run.specs.Held.{IsNear}
+use Rattle.traversal_run.specs.Held.{IsNear, is_hop}
 use Rattle.traversal_run.specs.Row.{stages_of, stream, through}
 use Rattle.traversal_run.specs.Source.{left_of}
 use Rattle.traversal_run.specs.Stage.{counts_past}
@@ -14,6 +14,8 @@ use Rattle.traversal_run.proofs.Limits.{allowed-row, allowed_any}
 use Rattle.traversal_run.proofs.Stops.{may_stop}
 use Rattle.rec_bytes.proofs.Causes.{never_ok}
 use Rattle.traversal_run.proofs.Causes.{stop_cause_passed, stop_has}
+use Rattle.traversal_run.proofs.HopRuns.{alone_fed}
+use Rattle.traversal_run.specs.HopRun.{FeedsHop}
 use Rattle.traversal_run.proofs.run.feed_step.Goals as goal
 
 pub returns-clause-same : goal.returns-clause-same
@@ -75,3 +77,19 @@ returns-in_err-outs-clause-read g c = c.in_err-outs.ensures.read
 pub returns-in_err-outs-clause-cause : goal.returns-in_err-outs-clause-cause
 returns-in_err-outs-clause-cause g c =
     stop_cause_passed _ _ _ c.from_residual.result c.in_err-outs.field-0.0 (omega arith) c.in_err-outs.ensures.cause c.from_residual.ensures.1
+
+pub returns-clause-hop : goal.returns-clause-hop
+returns-clause-hop g c = λ alone vertices.
+    let any = c.index-rows-0.result in
+    let first : get_or c.args.rows.now 0 any ≡ alone.row = ap (λ (rs : List Row). get_or rs 0 any) alone.is in
+    let fed = subst (λ (row : Row). FeedsHop g.R.Reads c.args.names.now.names row.stage c.args.space.now c.feed.new.space c.args.source.now c.feed.new.source) first
+    (c.feed.ensures.hop vertices (ap (λ (row : Row). is_hop row.stage) first ∙ alone.hop)) in
+    (fed, alone_fed c.args.rows.now c.put.new.rows any c.feed.new.stage c.in_ok-outs.outs alone c.feed.ensures.hops c.put.ensures.rows)
+
+pub returns-in_err-outs-clause-hop : goal.returns-in_err-outs-clause-hop
+returns-in_err-outs-clause-hop g c = λ alone vertices.
+    let any = c.index-rows-0.result in
+    let first : get_or c.args.rows.now 0 any ≡ alone.row = ap (λ (rs : List Row). get_or rs 0 any) alone.is in
+    let fed = subst (λ (row : Row). FeedsHop g.R.Reads c.args.names.now.names row.stage c.args.space.now c.feed.new.space c.args.source.now c.feed.new.source) first
+    (c.feed.ensures.hop vertices (ap (λ (row : Row). is_hop row.stage) first ∙ alone.hop)) in
+    (fed, never_ok c.from_residual.result _ _ c.from_residual.ensures.1)

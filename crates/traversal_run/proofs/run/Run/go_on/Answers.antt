@@ -14,6 +14,9 @@ use Rattle.traversal_run.proofs.OnlyReads.{is_read-on, named-read}
 use Rattle.traversal_run.proofs.Scans.{ScanState, scan_gives, scan_starts, scan_turns}
 use Rattle.traversal_run.proofs.Causes.{stop_cause_passed}
 use Rattle.rec_bytes.proofs.Causes.{never_ok}
+use Rattle.traversal_run.proofs.HopRuns.{hop_first, hop_gives, hop_stops, turn_on, turn_stops}
+use Rattle.prop_store.proofs.ReadCounts.{reads_none}
+use Rattle.traversal_run.specs.HopRun.{reads_for_hop}
 use Rattle.traversal_run.proofs.run.Run.go_on.Goals as goal
 
 pub returns-then-is_spent-clause-stops : goal.returns-then-is_spent-clause-stops
@@ -32,6 +35,7 @@ loop-init g c =
       allowed = refl;
       near = λ tells store d most degrees within. near_begins d most run within;
       scan = λ at scan. scan_starts run at scan (λ none. clash c.is_spent.result (c.is_spent.ensures.1 none) c.if-is_spent.false) (g.R.Reads.state c.args.space.now).reads;
+      hop = hop_first g.R.Reads c.args.names.now.names c.args.space.now run;
       stopped = refl;
       read = record { same = refl; onward = g.met.R.Reads.stays_onward c.args.space.now; later = omega arith };
     }
@@ -62,6 +66,7 @@ loop-preserved g c =
           scan_turns at (space.state first).reads (space.state now).reads (space.state c.turn.new.space).reads old c.turn.new.self none.1 turn.scan
           (λ from most item w. let l = turn.limit from most item w in (ap (λ (s : g.row.R.Denot). (space.state s).reads) l.0, l.1))
           (subst (λ (ready : List Item). ScanState at (space.state first).reads (space.state now).reads (record run { ready = ready })) same_ready (inv.scan at scan));
+      hop = turn_on space c.args.names.now.names first now c.args.self.now run inv.hop c.turn.new.space c.turn.new.self (λ alone vertices. (turn.hop alone vertices).0) c.turn.ensures.stopped inv.read (λ alone vertices. (turn.hop alone vertices).1);
       stopped = c.turn.ensures.stopped ∙ inv.stopped;
       read = is_read-on space g.met.R.Reads.further_onward first now c.turn.new.space inv.read c.turn.ensures.read;
     }
@@ -118,3 +123,48 @@ returns-in_err-turn-clause-scan g c _ _ = never_ok c.from_residual.result _ _ c.
 
 pub returns-in_err-turn-clause-allowed : goal.returns-in_err-turn-clause-allowed
 returns-in_err-turn-clause-allowed g c = never_ok c.from_residual.result _ _ c.from_residual.ensures.1
+
+pub returns-then-is_spent-clause-hop : goal.returns-then-is_spent-clause-hop
+returns-then-is_spent-clause-hop g c =
+    let s = g.R.Reads.state c.args.space.now in
+    λ id hop is. (λ tells store. reads_none (reads_for_hop s.records hop id) s, tt)
+
+pub returns-then-is_spent-clause-ready : goal.returns-then-is_spent-clause-ready
+returns-then-is_spent-clause-ready g c =
+    λ is. (refl, tt)
+
+pub returns-in-Some-clause-hop : goal.returns-in-Some-clause-hop
+returns-in-Some-clause-hop g c =
+    let space = g.R.Reads in
+    let run : Run = c.loop.self in
+    let takes : run.ready ≡ c.into_item.result ∷ c.take_first.new.self = c.in-Some.ensures.some ∙ ap (λ (item : Item). item ∷ c.take_first.new.self) (sym c.into_item.ensures.is) in
+    let gives = hop_gives space c.args.names.now.names c.args.space.now c.loop.space c.args.self.now run (record run { ready = c.take_first.new.self }) c.into_item.result c.take_first.new.self takes refl refl refl c.loop.invariant.hop in
+    gives.0
+
+pub returns-in-Some-clause-ready : goal.returns-in-Some-clause-ready
+returns-in-Some-clause-ready g c =
+    let space = g.R.Reads in
+    let run : Run = c.loop.self in
+    let takes : run.ready ≡ c.into_item.result ∷ c.take_first.new.self = c.in-Some.ensures.some ∙ ap (λ (item : Item). item ∷ c.take_first.new.self) (sym c.into_item.ensures.is) in
+    let gives = hop_gives space c.args.names.now.names c.args.space.now c.loop.space c.args.self.now run (record run { ready = c.take_first.new.self }) c.into_item.result c.take_first.new.self takes refl refl refl c.loop.invariant.hop in
+    gives.1
+
+pub returns-in_err-turn-clause-hop : goal.returns-in_err-turn-clause-hop
+returns-in_err-turn-clause-hop g c =
+    let stops = turn_stops g.R.Reads c.args.names.now.names c.args.space.now c.loop.space c.args.self.now c.loop.self c.loop.invariant.hop c.turn.new.space c.turn.new.self (λ alone vertices. (c.turn.ensures.hop alone vertices).0) c.turn.ensures.stopped c.loop.invariant.read in
+    λ id hop is. (stops.one id hop is, never_ok c.from_residual.result _ _ c.from_residual.ensures.1)
+
+pub returns-in_err-turn-clause-ready : goal.returns-in_err-turn-clause-ready
+returns-in_err-turn-clause-ready g c =
+    let stops = turn_stops g.R.Reads c.args.names.now.names c.args.space.now c.loop.space c.args.self.now c.loop.self c.loop.invariant.hop c.turn.new.space c.turn.new.self (λ alone vertices. (c.turn.ensures.hop alone vertices).0) c.turn.ensures.stopped c.loop.invariant.read in
+    λ is. (stops.ready is, never_ok c.from_residual.result _ _ c.from_residual.ensures.1)
+
+pub returns-clause-hop : goal.returns-clause-hop
+returns-clause-hop g c =
+    let stops = hop_stops g.R.Reads c.args.names.now.names c.args.space.now c.loop.space c.args.self.now c.loop.self c.loop.invariant.hop in
+    λ id hop is. (stops.one id hop is, tt)
+
+pub returns-clause-ready : goal.returns-clause-ready
+returns-clause-ready g c =
+    let stops = hop_stops g.R.Reads c.args.names.now.names c.args.space.now c.loop.space c.args.self.now c.loop.self c.loop.invariant.hop in
+    λ is. (stops.ready is, tt)

@@ -5,6 +5,7 @@ use Rattle.traversal_run.specs.Reading.{IsNamedStore, IsRead}
 use Rattle.traversal_run.specs.Run.{still_allowed, to_come}
 use Rattle.traversal_run.specs.Scan.{IsScan}
 use Rattle.traversal_run.proofs.Scans.{ScanState}
+use Rattle.traversal_run.proofs.HopRuns.{HopState}
 use Rattle.traversal_run.proofs.run.Run.go_on.Given as goal
 
 abbrev pub invariant-loop : goal.invariant-loop
@@ -16,6 +17,7 @@ invariant-loop g l =
       near : g.R.Reads.tells → IsNamedStore old.records old.shape l.names.names → (d most : ℕ) → HasDegreesUpTo (graph_of old.records) d
           → IsWithin d most l.fn.self → IsNear d most l.self.rows.items l.self.ready;
       scan : (at : ℕ) → IsScan l.fn.self at → ScanState at old.reads (g.R.Reads.state l.space).reads l.self;
+      hop : HopState g.R.Reads l.names.names l.fn.space l.space l.fn.self l.self;
       stopped : l.self.stopped ≡ l.fn.self.stopped;
       read : IsRead g.R.Reads l.fn.space l.space;
     }

@@ -10,6 +10,7 @@ use Rattle.traversal_run.proofs.HeldRuns.{within-begins}
 use Rattle.traversal_run.proofs.Limits.{allowed-rows_of}
 use Rattle.traversal_run.proofs.Scans.{scan_begins}
 use Rattle.rec_bytes.proofs.Causes.{never_ok}
+use Rattle.traversal_run.proofs.HopRuns.{hop_begins}
 use Rattle.traversal_run.proofs.run.Run.new.Goals as goal
 
 pub returns-clause-begins : goal.returns-clause-begins
@@ -65,3 +66,12 @@ returns-in_err-source-clause-within g c _ = never_ok c.from_residual.result _ _ 
 
 pub returns-in_err-source-clause-scan : goal.returns-in_err-source-clause-scan
 returns-in_err-source-clause-scan g c _ _ _ = never_ok c.from_residual.result _ _ c.from_residual.ensures.1
+
+pub returns-clause-hop : goal.returns-clause-hop
+returns-clause-hop g c = λ id hop is.
+    let query = c.args.query.now in
+    let rows : c.in-Ok.rows.items ≡ rows_of query.steps = c.in-Ok.ensures ∙ ap rows_of c.as_slice.ensures in
+    hop_begins _ query id hop is (c.in_ok-source.ensures.one id is.source) rows c.new-2.ensures refl
+
+pub returns-in_err-source-clause-hop : goal.returns-in_err-source-clause-hop
+returns-in_err-source-clause-hop g c _ _ _ = never_ok c.from_residual.result _ _ c.from_residual.ensures.1

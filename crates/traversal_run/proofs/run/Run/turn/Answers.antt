@@ -18,6 +18,9 @@ use Rattle.traversal_run.proofs.Rows.{ends_at}
 use Rattle.traversal_run.proofs.Scans.{cut_scan, idle_scan, quiet_scan}
 use Rattle.traversal_run.proofs.Stops.{may_stop}
 use Rattle.rec_bytes.proofs.Causes.{never_ok}
+use Rattle.traversal_run.proofs.HopRuns.{feeds_nothing, idle_alone, over_none, quiet_alone}
+use Rattle.traversal_run.specs.HopRun.{IsHopAlone}
+use Rattle.traversal_run.proofs.run.Run.turn.Goals.{else-not-is_over-via-else-not-is_over, else-not-is_over-via-then-not-is_over+else-is_fed}
 use Rattle.traversal_run.proofs.run.Run.turn.Goals as goal
 
 pub returns-clause-stops : goal.returns-clause-stops
@@ -246,3 +249,64 @@ returns-in_err-finish_row-clause-stops g c _ _ =
 
 pub returns-in_err-finish_row-clause-read : goal.returns-in_err-finish_row-clause-read
 returns-in_err-finish_row-clause-read g c = c.in_ok-item.ensures.read
+
+pub returns-in_err-advance_row-clause-hop : goal.returns-in_err-advance_row-clause-hop
+returns-in_err-advance_row-clause-hop g c = λ alone vertices.
+    absurd (idle_alone c.args.self.now.rows.items alone c.in-Some.at alone.row (subst (λ (rs : List Row). c.in-Some.at < length rs) c.deref.ensures.value c.in-Some.ensures.some.0)
+    (subst (λ (rs : List Row). ¬ ((get_or rs c.in-Some.at alone.row).waiting ≡ [])) c.deref.ensures.value (c.in-Some.ensures.waits alone.row)))
+
+pub returns-in-Some-clause-hop : goal.returns-in-Some-clause-hop
+returns-in-Some-clause-hop g c = λ alone vertices.
+    absurd (idle_alone c.args.self.now.rows.items alone c.in-Some.at alone.row (subst (λ (rs : List Row). c.in-Some.at < length rs) c.deref.ensures.value c.in-Some.ensures.some.0)
+    (subst (λ (rs : List Row). ¬ ((get_or rs c.in-Some.at alone.row).waiting ≡ [])) c.deref.ensures.value (c.in-Some.ensures.waits alone.row)))
+
+pub returns-in_err-feed_rows-clause-hop : goal.returns-in_err-feed_rows-clause-hop
+returns-in_err-feed_rows-clause-hop g c = λ alone vertices.
+    let run = c.args.self.now in
+    let rows : c.deref_mut-then-is_fed.result.now ≡ run.rows.items = c.deref_mut-then-is_fed.ensures.value in
+    let still : IsHopAlone c.deref_mut-then-is_fed.result.now = record { row = alone.row; is = rows ∙ alone.is; idle = alone.idle; hop = alone.hop } in
+    let fed = c.feed_rows.ensures.hop still vertices in
+    (fed.0, never_ok c.from_residual-in_err-feed_rows.result _ _ c.from_residual-in_err-feed_rows.ensures.1)
+
+pub returns-then-is_fed-clause-hop : goal.returns-then-is_fed-clause-hop
+returns-then-is_fed-clause-hop g c = λ alone vertices.
+    let run = c.args.self.now in
+    let rows : c.deref_mut-then-is_fed.result.now ≡ run.rows.items = c.deref_mut-then-is_fed.ensures.value in
+    let still : IsHopAlone c.deref_mut-then-is_fed.result.now = record { row = alone.row; is = rows ∙ alone.is; idle = alone.idle; hop = alone.hop } in
+    let fed = c.feed_rows.ensures.hop still vertices in
+    let back = written_back c.feed_rows.new.rows run.rows.items run.rows.len (omega (arith, c.feed_rows.auto.rows, ap length rows)) run.rows.ok.0 in
+    (fed.0, subst IsHopAlone (sym back) (c.in_ok-feed_rows.ensures.hop still vertices).1)
+
+pub returns-in_err-item-clause-hop : goal.returns-in_err-item-clause-hop
+returns-in_err-item-clause-hop g c = λ alone vertices.
+    let run = c.args.self.now in
+    let over : is_over run.source.left ≡ true = elim c.else-not-is_over.branch [
+      | else-not-is_over-via-then-not-is_over+else-is_fed w ↦
+          absurd (clash w.is_fed.result (w.is_fed.ensures.hop (record { row = alone.row; is = w.deref-then-not-is_over.ensures.value ∙ alone.is; idle = alone.idle; hop = alone.hop })) w.if-is_fed.false)
+      | else-not-is_over-via-else-not-is_over w ↦ sym c.is_over.ensures ∙ w.if-not-is_over.false
+    ] in
+    let feeds = feeds_nothing g.R.Reads c.args.names.now.names alone.row.stage c.args.space.now run.source c.next.new.space c.next.new.self
+    (c.next.ensures.unread over) c.next.ensures.edges (over_none run.source.left over) (over_none c.next.new.self.left (c.next.ensures.over ∙ over)) in
+    (feeds, never_ok c.from_residual-in_err-item.result _ _ c.from_residual-in_err-item.ensures.1)
+
+pub returns-in_err-finish_row-clause-hop : goal.returns-in_err-finish_row-clause-hop
+returns-in_err-finish_row-clause-hop g c = λ alone vertices.
+    absurd (quiet_alone c.deref-2.result.now (record { row = alone.row; is = c.deref-2.ensures.value ∙ alone.is; idle = alone.idle; hop = alone.hop }) c.in-Some-first_open.at alone.row
+    c.in-Some-first_open.ensures.some.0 (c.in-Some-first_open.ensures.opens alone.row))
+
+pub returns-in-Some-first_open-clause-hop : goal.returns-in-Some-first_open-clause-hop
+returns-in-Some-first_open-clause-hop g c = λ alone vertices.
+    absurd (quiet_alone c.deref-2.result.now (record { row = alone.row; is = c.deref-2.ensures.value ∙ alone.is; idle = alone.idle; hop = alone.hop }) c.in-Some-first_open.at alone.row
+    c.in-Some-first_open.ensures.some.0 (c.in-Some-first_open.ensures.opens alone.row))
+
+pub returns-clause-hop : goal.returns-clause-hop
+returns-clause-hop g c = λ alone vertices.
+    let run = c.args.self.now in
+    let over : is_over run.source.left ≡ true = elim c.else-not-is_over.branch [
+      | else-not-is_over-via-then-not-is_over+else-is_fed w ↦
+          absurd (clash w.is_fed.result (w.is_fed.ensures.hop (record { row = alone.row; is = w.deref-then-not-is_over.ensures.value ∙ alone.is; idle = alone.idle; hop = alone.hop })) w.if-is_fed.false)
+      | else-not-is_over-via-else-not-is_over w ↦ sym c.is_over.ensures ∙ w.if-not-is_over.false
+    ] in
+    let feeds = feeds_nothing g.R.Reads c.args.names.now.names alone.row.stage c.args.space.now run.source c.next.new.space c.next.new.self
+    (c.next.ensures.unread over) c.next.ensures.edges (over_none run.source.left over) (over_none c.next.new.self.left (c.next.ensures.over ∙ over)) in
+    (feeds, tt)

@@ -1,12 +1,14 @@
-use Rattle.std.proofs.Common.{◌≡◌, ◌∙◌, false, nat_eq, ap, sym, subst}
+use Rattle.std.proofs.Common.{◌≡◌, ◌∙◌, false, nat_eq, ap, sym, subst, List, ℕ, [], ◌∷◌, refl}
 use Rattle.std.specs.List.{list_any}
 use Rattle.plain_graph.specs.Meaning.{source_of}
 use Rattle.plain_graph.specs.declared.query.Source.{Source as Asked}
+use Rattle.plain_graph.specs.declared.query.Source.TheVariants as sources
 use Rattle.store_rules.specs.Graph.{graph_of}
 use Rattle.traversal_run.specs.FoundNodes.{ReadsToBegin}
 use Rattle.traversal_run.specs.Source.{elements_left}
 use Rattle.traversal_run.proofs.FoundSources.{found-left}
 use Rattle.rec_bytes.proofs.Causes.{never_ok}
+use Rattle.traversal_run.proofs.HopRuns.{one_asked}
 use Rattle.traversal_run.proofs.source.Source.new.Goals as goal
 
 pub returns-in_err-nodes-in-Found-clause-cost : goal.returns-in_err-nodes-in-Found-clause-cost
@@ -88,3 +90,28 @@ returns-in_err-left-in-Found-clause-over g c = never_ok c.from_residual-in_err-l
 
 pub returns-in_err-left-in-Found-clause-there : goal.returns-in_err-left-in-Found-clause-there
 returns-in_err-left-in-Found-clause-there g c _ _ = never_ok c.from_residual-in_err-left-in-Found.result _ _ c.from_residual-in_err-left-in-Found.ensures.1
+
+ids_are : (asked : Asked) (ids list : List ℕ) → asked ≡ sources.Vertices ids → asked ≡ sources.Vertices list → ids ≡ list
+ids_are asked ids list one two = cc
+
+pub returns-in_ok-left-in-Vertices-clause-one : goal.returns-in_ok-left-in-Vertices-clause-one
+returns-in_ok-left-in-Vertices-clause-one g c = λ id is.
+    (refl, one_asked c.in_ok-left-in-Vertices.left c.as_slice.result.now id (c.as_slice.ensures ∙ ids_are c.args.asked.now c.in-Vertices.ids (id ∷ []) c.in-Vertices.is is) c.in_ok-left-in-Vertices.ensures.asked)
+
+pub returns-in_ok-left-in-Edges-clause-one : goal.returns-in_ok-left-in-Edges-clause-one
+returns-in_ok-left-in-Edges-clause-one g c = λ id is. absurd (let e = sym is ∙ c.in-Edges.is in cc)
+
+pub returns-in_ok-left-in-Found-clause-one : goal.returns-in_ok-left-in-Found-clause-one
+returns-in_ok-left-in-Found-clause-one g c = λ id is. absurd (let e = sym is ∙ c.in-Found.is in cc)
+
+pub returns-in_err-left-in-Vertices-clause-one : goal.returns-in_err-left-in-Vertices-clause-one
+returns-in_err-left-in-Vertices-clause-one g c _ _ = never_ok c.from_residual.result _ _ c.from_residual.ensures.1
+
+pub returns-in_err-left-in-Edges-clause-one : goal.returns-in_err-left-in-Edges-clause-one
+returns-in_err-left-in-Edges-clause-one g c _ _ = never_ok c.from_residual-in_err-left-in-Edges.result _ _ c.from_residual-in_err-left-in-Edges.ensures.1
+
+pub returns-in_err-nodes-in-Found-clause-one : goal.returns-in_err-nodes-in-Found-clause-one
+returns-in_err-nodes-in-Found-clause-one g c _ _ = never_ok c.from_residual-in_err-nodes-in-Found.result _ _ c.from_residual-in_err-nodes-in-Found.ensures.1
+
+pub returns-in_err-left-in-Found-clause-one : goal.returns-in_err-left-in-Found-clause-one
+returns-in_err-left-in-Found-clause-one g c _ _ = never_ok c.from_residual-in_err-left-in-Found.result _ _ c.from_residual-in_err-left-in-Found.ensures.1

@@ -55,6 +55,7 @@ loop-id-preserved g c =
           (takes ∙ ap (λ found. option_list found ++ left_of (graph_of s.records) new) (sym item));
       edges = c.loop-id.invariant.edges;
       over = c.take_first.ensures.over ∙ c.loop-id.invariant.over;
+      unread = λ over. absurd (let none = sym c.in-Some.is ∙ c.take_first.ensures.nothing (c.loop-id.invariant.over ∙ over) in cc);
       vertex = λ at is.
           let v = c.loop-id.invariant.vertex at is in
           let take = c.in-Some.ensures.from v.0 v.2 in
@@ -92,3 +93,11 @@ returns-in_err-item-clause-vertex g c _ _ = never_ok c.from_residual.result _ _ 
 
 pub returns-in_err-item-clause-none : goal.returns-in_err-item-clause-none
 returns-in_err-item-clause-none g c _ = never_ok c.from_residual.result _ _ c.from_residual.ensures.1
+
+pub returns-then-is_some-clause-unread : goal.returns-then-is_some-clause-unread
+returns-then-is_some-clause-unread g c =
+    λ over. absurd (let none = sym c.in-Some.is ∙ c.take_first.ensures.nothing (c.loop-id.invariant.over ∙ over) in cc)
+
+pub returns-in_err-item-clause-unread : goal.returns-in_err-item-clause-unread
+returns-in_err-item-clause-unread g c =
+    λ over. absurd (let none = sym c.in-Some.is ∙ c.take_first.ensures.nothing (c.loop-id.invariant.over ∙ over) in cc)

@@ -1,4 +1,4 @@
-use Rattle.std.proofs.Common.{◌≡◌, ◌≤◌, ◌+◌, ◌-◌, ℕ}
+use Rattle.std.proofs.Common.{◌≡◌, ◌≤◌, ◌+◌, ◌-◌, ℕ, true}
 use Rattle.store_rules.specs.Graph.{graph_of}
 use Rattle.traversal_run.specs.Reading.{IsNamedStore, IsRead}
 use Rattle.traversal_run.specs.Scan.{vertices_from}
@@ -13,6 +13,7 @@ invariant-loop-id g l =
       same : g.R.Reads.tells → IsNamedStore old.records old.shape l.names.names → left_of (graph_of old.records) l.self ≡ left_of (graph_of old.records) l.fn.self;
       edges : l.self.edges ≡ l.fn.self.edges;
       over : is_over l.self.left ≡ is_over l.fn.self.left;
+      unread : is_over l.fn.self.left ≡ true → l.space ≡ l.fn.space;
       vertex : (at : ℕ) → l.fn.self ≡ vertices_from at → (next : ℕ) × (at ≤ next) × (l.self.left ≡ From next) × ((g.R.Reads.state l.space).reads ≤ old.reads + (next - at));
       read : IsRead g.R.Reads l.fn.space l.space;
     }
