@@ -16,6 +16,7 @@ pub mod Finishing
 pub mod FinishingAlone
 pub mod GraphIndexes
 pub mod Held
+pub mod HopQueries
 pub mod IndexQuestions
 pub mod IndexesTold
 pub mod Judged

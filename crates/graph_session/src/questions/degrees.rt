@@ -1,4 +1,7 @@
+ghost use Rattle.plain_graph.specs.Lines.{types_of};
 ghost use Rattle.plain_graph.specs.declared.command.Command.TheVariants as commands;
+ghost use Rattle.traversal_run.specs.Reading.{IsNamedStore};
+ghost use Rattle.graph_session.specs.EdgeResults.{ReadsForEdges};
 ghost use Rattle.graph_session.specs.Questions.{GivesReading};
 
 use crate::Turn;
@@ -23,8 +26,12 @@ pub(crate) fn give_degree<R: Reads, K: Sink>(
     mark: &[u8],
     output: &mut K,
 ) -> Turn
-    ensures { GivesReading R.Reads K.Sink names.now.names (commands.Degree id direction label.now)
+    ensures gives { GivesReading R.Reads K.Sink names.now.names
+        (commands.Degree id direction label.now)
         mark.now space.old space.new output.old output.new result }
+    ensures cost { R.tells → IsNamedStore (R.state space.old).records (R.state space.old).shape
+        names.now.names → ReadsForEdges id direction (types_of label.now)
+        (R.state space.old) (R.state space.new) }
 {
     match degree(alloc, space, id, direction, number_in(names, label)) {
         Ok(edges) => give_line(output, mark, degree_line(edges).as_bytes()),

@@ -1,4 +1,4 @@
-ghost use Rattle.std.specs.Prelude.{◌≡◌, ◌≤◌, IfErr, IfOk, List, ℕ, length, map};
+ghost use Rattle.std.specs.Prelude.{◌≡◌, ◌≤◌, ◌∷◌, [], IfErr, IfOk, List, ℕ, length, map};
 ghost use Rattle.plain_graph.specs.Graph.{has_node};
 ghost use Rattle.plain_graph.specs.Lines.{HasForm, expansion};
 ghost use Rattle.plain_graph.specs.Reply.{Told, end_text, item_line, marked_text};
@@ -9,7 +9,7 @@ ghost use Rattle.expand.specs.ExpandFault.{HasExpandCause};
 ghost use Rattle.expand.specs.Expanding.{IsExpandFault, TellsNode};
 ghost use Rattle.traversal_run.specs.Reading.{IsNamedStore, IsRead};
 ghost use Rattle.graph_session.specs.Answer.{Gives};
-ghost use Rattle.graph_session.specs.EdgeResults.{IsEdge, item_of, items_of};
+ghost use Rattle.graph_session.specs.EdgeResults.{IsEdge, ReadsForEdges, item_of, items_of};
 ghost use Rattle.graph_session.specs.Questions.{GivesReading};
 
 use crate::Turn;
@@ -37,8 +37,12 @@ pub(crate) fn give_edges<R: Reads, K: Sink>(
     output: &mut K,
 ) -> Turn
     requires { HasForm (commands.Expand id direction label.now) }
-    ensures { GivesReading R.Reads K.Sink names.now.names (commands.Expand id direction label.now)
+    ensures gives { GivesReading R.Reads K.Sink names.now.names
+        (commands.Expand id direction label.now)
         mark.now space.old space.new output.old output.new result }
+    ensures cost { R.tells → IsNamedStore (R.state space.old).records (R.state space.old).shape
+        names.now.names → ReadsForEdges id direction (label.now ∷ [])
+        (R.state space.old) (R.state space.new) }
 {
     let Ok(copy) = label.copy(alloc) else {
         return give_line(output, mark, no_memory());
@@ -66,6 +70,9 @@ fn edges_of<R: Reads>(
         → IsNamedStore (R.state space.old).records (R.state space.old).shape names.now.names
         → TellsNode result id (has_node (graph_of (R.state space.old).records) id) }
     ensures damaged { R.tells → IfErr result (IsExpandFault (R.state space.old) id) }
+    ensures cost { R.tells → IsNamedStore (R.state space.old).records (R.state space.old).shape
+        names.now.names → ReadsForEdges id direction (label.now ∷ [])
+        (R.state space.old) (R.state space.new) }
     ensures read { IsRead R.Reads space.old space.new }
     ensures cause { HasExpandCause (R.faults space.old) (R.faults space.new) result }
 {

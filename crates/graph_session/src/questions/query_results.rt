@@ -1,8 +1,10 @@
-ghost use Rattle.std.specs.Prelude.{IfErr, IfOk, OnOk};
+ghost use Rattle.std.specs.Prelude.{◌≡◌, ℕ, IfErr, IfOk, None, OnOk};
 ghost use Rattle.plain_graph.specs.Forms.{IsShown};
 ghost use Rattle.plain_graph.specs.declared.command.Command.TheVariants as commands;
+ghost use Rattle.plain_graph.specs.declared.query.Hop.{Hop};
 ghost use Rattle.prop_store.specs.Reading.{ReadsAtMost};
 ghost use Rattle.store_rules.specs.Graph.{graph_of};
+ghost use Rattle.traversal_run.specs.HopRun.{IsHopQuery, reads_for_hop};
 ghost use Rattle.traversal_run.specs.Reading.{IsNamedStore, IsRead};
 ghost use Rattle.graph_session.specs.Questions.{GivesReading};
 ghost use Rattle.graph_session.specs.QueryResults.{AddsNone, AddsShown, reads_to_show};
@@ -28,8 +30,14 @@ pub(crate) fn give_query<R: Reads, K: Sink>(
     mark: &[u8],
     output: &mut K,
 ) -> Turn
-    ensures { GivesReading R.Reads K.Sink names.now.names (commands.Query query.now)
+    ensures gives { GivesReading R.Reads K.Sink names.now.names (commands.Query query.now)
         mark.now space.old space.new output.old output.new result }
+    // A hop at one vertex, alone, and shown as it is.
+    ensures cost { (id : ℕ) (hop : Hop) → IsHopQuery query.now id hop → query.now.maps ≡ None
+        → R.tells
+        → IsNamedStore (R.state space.old).records (R.state space.old).shape names.now.names
+        → ReadsAtMost (reads_for_hop (R.state space.old).records hop id)
+        (R.state space.old) (R.state space.new) }
 {
     let mut run = match Run::new(alloc, space, names, query) {
         Ok(run) => run,
@@ -80,6 +88,7 @@ fn add_shown<R: Reads, K: Sink>(
         → OnOk result (ReadsAtMost
         (reads_to_show (graph_of (R.state space.old).records) maps.now item.now)
         (R.state space.old) (R.state space.new)) }
+    ensures unread { maps.now ≡ None → space.new ≡ space.old }
     ensures read { IsRead R.Reads space.old space.new }
 {
     let Some(keys) = maps else {

@@ -4,6 +4,7 @@ use Rattle.plain_graph.specs.declared.command.Command.TheVariants as commands
 use Rattle.plain_graph.specs.declared.direction.Direction.{Direction}
 use Rattle.store_rules.specs.Graph.{graph_of}
 use Rattle.store_rules.specs.Rows.{option_list}
+use Rattle.graph_session.specs.EdgeResults.ReadsForEdges.{ByNumbers}
 use Rattle.graph_session.proofs.Expansion.{is_read-gets, rows-degree}
 use Rattle.graph_session.proofs.NodeQuestions.{AsksElements, gives-told, gives-unknown, one-blamed, one-missing}
 use Rattle.graph_session.proofs.questions.degrees.give_degree.Goals as goal
@@ -11,8 +12,8 @@ use Rattle.graph_session.proofs.questions.degrees.give_degree.Goals as goal
 asks : (id : ℕ) (direction : Direction) (label : Option (List ℕ)) → AsksElements (commands.Degree id direction label)
 asks id direction label = record { question = tt; some = tt; reading = one_line (degree_text 0); formed = (0, refl) }
 
-pub returns-in-Ok : goal.returns-in-Ok
-returns-in-Ok g c =
+pub returns-in-Ok-clause-gives : goal.returns-in-Ok-clause-gives
+returns-in-Ok-clause-gives g c =
     let s = g.R.Reads.state c.args.space.now in
     let met = c.in-Ok.ensures in
     gives-told (asks c.args.id c.args.direction c.args.label.now) (is_read-gets g.R.Reads met.at_most.count met.at_most.is met.onward met.cause.later) (one_line (degree_text c.in-Ok.edges)) (c.in-Ok.edges, refl) refl
@@ -22,11 +23,25 @@ returns-in-Ok g c =
     (met.rows told store.store ∙ rows-degree s.records s.shape store.store (option_list c.number_in.result) c.args.label.now (c.number_in.ensures s.records s.shape store) c.args.direction c.args.id))
     (rw (c.as_bytes.ensures, c.degree-in-Ok.ensures) at c.give_line.ensures)
 
-pub returns-in-Err : goal.returns-in-Err
-returns-in-Err g c =
+pub returns-in-Err-clause-gives : goal.returns-in-Err-clause-gives
+returns-in-Err-clause-gives g c =
     let s = g.R.Reads.state c.args.space.now in
     let met = c.in-Err.ensures in
     gives-unknown (asks c.args.id c.args.direction c.args.label.now) (is_read-gets g.R.Reads met.at_most.count met.at_most.is met.onward met.cause.later) tt c.in-Err.fault (λ disk. met.cause.disk (ap Err disk))
     (λ told store. one-missing ℕ c.in-Err.fault c.args.id (graph_of s.records) (met.missing told store.store))
     (λ told. one-blamed s c.args.id c.in-Err.fault (met.damaged told))
     (rw c.answer_of.ensures at c.give_answer.ensures)
+
+pub returns-in-Ok-clause-cost : goal.returns-in-Ok-clause-cost
+returns-in-Ok-clause-cost g c =
+    λ tells store.
+    let s = g.R.Reads.state c.args.space.now in
+    let met = c.in-Ok.ensures.reads tells store.store in
+    ByNumbers (option_list c.number_in.result) (c.number_in.ensures s.records s.shape store) (record { count = met.count; within = met.within; is = met.is })
+
+pub returns-in-Err-clause-cost : goal.returns-in-Err-clause-cost
+returns-in-Err-clause-cost g c =
+    λ tells store.
+    let s = g.R.Reads.state c.args.space.now in
+    let met = c.in-Err.ensures.reads tells store.store in
+    ByNumbers (option_list c.number_in.result) (c.number_in.ensures s.records s.shape store) (record { count = met.count; within = met.within; is = met.is })

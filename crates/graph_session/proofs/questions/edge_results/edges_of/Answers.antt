@@ -1,6 +1,7 @@
-use Rattle.std.proofs.Common.{Vec}
+use Rattle.std.proofs.Common.{[], ◌∷◌, Vec}
 use Rattle.std.specs.declared.alloc.Global.{Global}
 use Rattle.rel_store.specs.declared.edge_row.EdgeRow.{EdgeRow}
+use Rattle.graph_session.specs.EdgeResults.ReadsForEdges.{ByNumbers}
 use Rattle.graph_session.proofs.Expansion.{is_read-gets, items-expansion, ok-then}
 use Rattle.graph_session.proofs.questions.edge_results.edges_of.Goals as goal
 
@@ -14,3 +15,10 @@ returns-clause-found g c = λ tells store.
 
 pub returns-clause-read : goal.returns-clause-read
 returns-clause-read g c = is_read-gets g.R.Reads c.expand.ensures.at_most.count c.expand.ensures.at_most.is c.expand.ensures.onward c.expand.ensures.cause.later
+
+pub returns-clause-cost : goal.returns-clause-cost
+returns-clause-cost g c =
+    λ tells store.
+    let s = g.R.Reads.state c.args.space.now in
+    let met = c.expand.ensures.reads tells store.store in
+    ByNumbers (c.number_of.result ∷ []) (c.number_of.ensures s.records s.shape store) (record { count = met.count; within = met.within; is = met.is })

@@ -1,4 +1,4 @@
-use Rattle.std.proofs.Common.{Err, List, ℕ, Option, ap, refl, subst, sym}
+use Rattle.std.proofs.Common.{◌∙◌, Err, List, ℕ, Option, ap, refl, subst, sym}
 use Rattle.std.proofs.lemmas.Result.{err_from_is_err_and}
 use Rattle.plain_graph.specs.ElementMaps.{map_line}
 use Rattle.plain_graph.specs.Reply.{item_line}
@@ -40,3 +40,15 @@ returns-clause-added g c =
       shown = λ told store. ap (λ (element : ElementMap). map_line (c.args.item.now, element)) (rw c.as_slice.ensures at c.in_ok-map.ensures.found told store);
       adds = rw (c.deref.ensures.value, c.in_ok-line.ensures) at c.add.ensures;
     })
+
+pub returns-in_err-map-clause-unread : goal.returns-in_err-map-clause-unread
+returns-in_err-map-clause-unread g c =
+    λ none. absurd (let e = sym none ∙ c.in-Some.is in cc)
+
+pub returns-in_err-line-clause-unread : goal.returns-in_err-line-clause-unread
+returns-in_err-line-clause-unread g c =
+    λ none. absurd (let e = sym none ∙ c.in-Some.is in cc)
+
+pub returns-clause-unread : goal.returns-clause-unread
+returns-clause-unread g c =
+    λ none. absurd (let e = sym none ∙ c.in-Some.is in cc)

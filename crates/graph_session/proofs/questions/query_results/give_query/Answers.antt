@@ -4,6 +4,8 @@ use Rattle.plain_graph.specs.Reply.{PastCount}
 use Rattle.rec_bytes.specs.declared.fault.Fault.TheVariants as faults
 use Rattle.store_rules.specs.Graph.{graph_of}
 use Rattle.traversal_run.specs.FoundNodes.{IsSourceRefusal}
+use Rattle.traversal_run.specs.declared.run.Next.TheVariants as nexts
+use Rattle.graph_session.proofs.HopQueries.{goes-first, goes-on, line-ends, line-next, line-shown, line-unread}
 use Rattle.graph_session.proofs.IndexQuestions.{asks-unfound}
 use Rattle.graph_session.proofs.Reasons.{index-there}
 use Rattle.graph_session.proofs.Running.{is_read-none, running-end, running-fault, running-first, running-on, running-stop, running-stopped, running-unshown, shows-past}
@@ -15,12 +17,15 @@ loop-init g c =
     let s = g.R.Reads.state c.args.space.now in
     let met = c.in-Ok.ensures in
     let query = c.args.query.now in
-    rw c.new-lines.ensures
-    (running-first c.args.names.now.names query c.args.mark.now met.read c.args.output.now _ (λ told store. met.found told store)
-    (λ told store. index-there (graph_of s.records) (index_of_source query.source) (met.there told store)) met.stopped)
+    record {
+      running = rw c.new-lines.ensures
+          (running-first c.args.names.now.names query c.args.mark.now met.read c.args.output.now _ (λ told store. met.found told store)
+          (λ told store. index-there (graph_of s.records) (index_of_source query.source) (met.there told store)) met.stopped);
+      hop = goes-first g.R.Reads c.args.names.now.names query c.args.space.now c.new.new.space _ (λ id hop is. met.no_read (ap index_of_source is.source)) met.hop;
+    }
 
-pub returns-in-Err : goal.returns-in-Err
-returns-in-Err g c =
+pub returns-in-Err-clause-gives : goal.returns-in-Err-clause-gives
+returns-in-Err-clause-gives g c =
     let s = g.R.Reads.state c.args.space.now in
     let met = c.in-Err.ensures in
     let fault = c.in-Err.fault in
@@ -31,37 +36,79 @@ returns-in-Err g c =
 
 pub loop-preserved : goal.loop-preserved
 loop-preserved g c =
-    running-on g.met.R.Reads.further_onward c.loop.invariant c.next.ensures.read c.next.new.self c.in-Item.item c.in-Item.ensures.item c.in-Ok-add_shown.ensures.added c.in-Ok-add_shown.ensures.read c.in-Go.is c.in-Item.ensures.stops
+    record {
+      running = running-on g.met.R.Reads.further_onward c.loop.invariant.running c.next.ensures.read c.next.new.self c.in-Item.item c.in-Item.ensures.item c.in-Ok-add_shown.ensures.added c.in-Ok-add_shown.ensures.read c.in-Go.is c.in-Item.ensures.stops;
+      hop = goes-on g.R.Reads c.args.names.now.names c.args.query.now c.args.space.now c.loop.space c.next.new.space c.loop.run c.next.new.self (nexts.Item c.in-Item.item) c.loop.invariant.hop c.in-Item.ensures.hop c.in-Item.ensures.ready
+          c.add_shown.new.space (λ none. c.add_shown.ensures.unread none) (λ ready. ready);
+    }
 
-pub returns-in_default : goal.returns-in_default
-returns-in_default g c =
-    running-stop g.met.R.Reads.further_onward c.loop.invariant c.next.ensures.read c.next.new.self c.in-Item.item c.in-Item.ensures.item c.in-Ok-add_shown.ensures.added c.in-Ok-add_shown.ensures.read c.in_default.not-Go
+pub returns-in_default-clause-gives : goal.returns-in_default-clause-gives
+returns-in_default-clause-gives g c =
+    running-stop g.met.R.Reads.further_onward c.loop.invariant.running c.next.ensures.read c.next.new.self c.in-Item.item c.in-Item.ensures.item c.in-Ok-add_shown.ensures.added c.in-Ok-add_shown.ensures.read c.in_default.not-Go
 
-pub returns-in-Err-add_shown : goal.returns-in-Err-add_shown
-returns-in-Err-add_shown g c =
-    running-unshown g.met.R.Reads.further_onward c.loop.invariant c.next.ensures.read c.next.new.self c.in-Item.item c.in-Item.ensures.item c.in-Err-add_shown.fault c.in-Err-add_shown.ensures.read c.in-Err-add_shown.ensures.stopped c.stop.result c.stop.ensures
+pub returns-in-Err-add_shown-clause-gives : goal.returns-in-Err-add_shown-clause-gives
+returns-in-Err-add_shown-clause-gives g c =
+    running-unshown g.met.R.Reads.further_onward c.loop.invariant.running c.next.ensures.read c.next.new.self c.in-Item.item c.in-Item.ensures.item c.in-Err-add_shown.fault c.in-Err-add_shown.ensures.read c.in-Err-add_shown.ensures.stopped c.stop.result c.stop.ensures
 
-pub returns-in-End : goal.returns-in-End
-returns-in-End g c =
-    running-end g.met.R.Reads.further_onward c.loop.invariant c.next.ensures.read (λ told store. c.in-End.ensures.end told store c.loop.invariant.goes refl) c.finish.new.output c.finish.result (rw c.end_of_results.ensures at c.finish.ensures)
+pub returns-in-End-clause-gives : goal.returns-in-End-clause-gives
+returns-in-End-clause-gives g c =
+    running-end g.met.R.Reads.further_onward c.loop.invariant.running c.next.ensures.read (λ told store. c.in-End.ensures.end told store c.loop.invariant.running.goes refl) c.finish.new.output c.finish.result (rw c.end_of_results.ensures at c.finish.ensures)
 
-pub returns-in-Memory : goal.returns-in-Memory
-returns-in-Memory g c = running-stopped g.met.R.Reads.further_onward c.loop.invariant c.next.ensures.read faults.Memory (λ e. cc) (λ told. tt) c.stop-in-Memory.new.output c.stop-in-Memory.result c.stop-in-Memory.ensures
+pub returns-in-Memory-clause-gives : goal.returns-in-Memory-clause-gives
+returns-in-Memory-clause-gives g c = running-stopped g.met.R.Reads.further_onward c.loop.invariant.running c.next.ensures.read faults.Memory (λ e. cc) (λ told. tt) c.stop-in-Memory.new.output c.stop-in-Memory.result c.stop-in-Memory.ensures
 
-pub returns-in-Disk : goal.returns-in-Disk
-returns-in-Disk g c =
-    running-stopped g.met.R.Reads.further_onward c.loop.invariant c.next.ensures.read faults.Disk (λ e. c.in-Disk.ensures.cause c.loop.invariant.goes refl) (λ told. tt) c.stop-in-Disk.new.output c.stop-in-Disk.result c.stop-in-Disk.ensures
+pub returns-in-Disk-clause-gives : goal.returns-in-Disk-clause-gives
+returns-in-Disk-clause-gives g c =
+    running-stopped g.met.R.Reads.further_onward c.loop.invariant.running c.next.ensures.read faults.Disk (λ e. c.in-Disk.ensures.cause c.loop.invariant.running.goes refl) (λ told. tt) c.stop-in-Disk.new.output c.stop-in-Disk.result c.stop-in-Disk.ensures
 
-pub returns-in-Damaged : goal.returns-in-Damaged
-returns-in-Damaged g c =
-    running-stopped g.met.R.Reads.further_onward c.loop.invariant c.next.ensures.read (faults.Damaged c.in-Damaged.damage) (λ e. cc) (λ told. c.in-Damaged.ensures.damaged told c.loop.invariant.goes) c.stop-in-Damaged.new.output c.stop-in-Damaged.result c.stop-in-Damaged.ensures
+pub returns-in-Damaged-clause-gives : goal.returns-in-Damaged-clause-gives
+returns-in-Damaged-clause-gives g c =
+    running-stopped g.met.R.Reads.further_onward c.loop.invariant.running c.next.ensures.read (faults.Damaged c.in-Damaged.damage) (λ e. cc) (λ told. c.in-Damaged.ensures.damaged told c.loop.invariant.running.goes) c.stop-in-Damaged.new.output c.stop-in-Damaged.result c.stop-in-Damaged.ensures
 
-pub returns-in-PastCount : goal.returns-in-PastCount
-returns-in-PastCount g c =
-    running-fault g.met.R.Reads.further_onward c.loop.invariant c.next.ensures.read PastCount
-    (shows-past g.met.R.Reads.further_onward c.loop.invariant (λ told-now store-now. c.in-PastCount.ensures.past told-now store-now c.loop.invariant.goes refl))
+pub returns-in-PastCount-clause-gives : goal.returns-in-PastCount-clause-gives
+returns-in-PastCount-clause-gives g c =
+    running-fault g.met.R.Reads.further_onward c.loop.invariant.running c.next.ensures.read PastCount
+    (shows-past g.met.R.Reads.further_onward c.loop.invariant.running (λ told-now store-now. c.in-PastCount.ensures.past told-now store-now c.loop.invariant.running.goes refl))
     (λ blames. absurd (blames refl)) (λ told. tt) c.finish-in-PastCount.new.output c.finish-in-PastCount.result (rw c.past_count.ensures at c.finish-in-PastCount.ensures)
 
-pub returns : goal.returns
-returns g c =
-    running-stopped g.met.R.Reads.further_onward c.loop.invariant (is_read-none g.R.Reads g.met.R.Reads.stays_onward c.loop.space) faults.Memory (λ e. cc) (λ told. tt) c.stop-2.new.output c.stop-2.result c.stop-2.ensures
+pub returns-clause-gives : goal.returns-clause-gives
+returns-clause-gives g c =
+    running-stopped g.met.R.Reads.further_onward c.loop.invariant.running (is_read-none g.R.Reads g.met.R.Reads.stays_onward c.loop.space) faults.Memory (λ e. cc) (λ told. tt) c.stop-2.new.output c.stop-2.result c.stop-2.ensures
+
+pub returns-in-Err-clause-cost : goal.returns-in-Err-clause-cost
+returns-in-Err-clause-cost g c =
+    line-unread g.R.Reads c.args.names.now.names c.args.query.now c.args.space.now c.new.new.space (λ id hop is. c.in-Err.ensures.no_read (ap index_of_source is.source))
+
+pub returns-in-End-clause-cost : goal.returns-in-End-clause-cost
+returns-in-End-clause-cost g c =
+    line-next g.R.Reads c.args.names.now.names c.args.query.now c.args.space.now c.loop.space c.next.new.space c.loop.run c.next.new.self c.next.result c.loop.invariant.hop c.next.ensures.hop c.next.ensures.ready
+
+pub returns-in-Memory-clause-cost : goal.returns-in-Memory-clause-cost
+returns-in-Memory-clause-cost g c =
+    line-next g.R.Reads c.args.names.now.names c.args.query.now c.args.space.now c.loop.space c.next.new.space c.loop.run c.next.new.self c.next.result c.loop.invariant.hop c.next.ensures.hop c.next.ensures.ready
+
+pub returns-in-Disk-clause-cost : goal.returns-in-Disk-clause-cost
+returns-in-Disk-clause-cost g c =
+    line-next g.R.Reads c.args.names.now.names c.args.query.now c.args.space.now c.loop.space c.next.new.space c.loop.run c.next.new.self c.next.result c.loop.invariant.hop c.next.ensures.hop c.next.ensures.ready
+
+pub returns-in-Damaged-clause-cost : goal.returns-in-Damaged-clause-cost
+returns-in-Damaged-clause-cost g c =
+    line-next g.R.Reads c.args.names.now.names c.args.query.now c.args.space.now c.loop.space c.next.new.space c.loop.run c.next.new.self c.next.result c.loop.invariant.hop c.next.ensures.hop c.next.ensures.ready
+
+pub returns-in-PastCount-clause-cost : goal.returns-in-PastCount-clause-cost
+returns-in-PastCount-clause-cost g c =
+    line-next g.R.Reads c.args.names.now.names c.args.query.now c.args.space.now c.loop.space c.next.new.space c.loop.run c.next.new.self c.next.result c.loop.invariant.hop c.next.ensures.hop c.next.ensures.ready
+
+pub returns-in_default-clause-cost : goal.returns-in_default-clause-cost
+returns-in_default-clause-cost g c =
+    line-shown g.R.Reads c.args.names.now.names c.args.query.now c.args.space.now c.loop.space c.next.new.space c.loop.run c.next.new.self c.next.result c.loop.invariant.hop c.next.ensures.hop c.next.ensures.ready
+    c.add_shown.new.space (λ none. c.add_shown.ensures.unread none)
+
+pub returns-in-Err-add_shown-clause-cost : goal.returns-in-Err-add_shown-clause-cost
+returns-in-Err-add_shown-clause-cost g c =
+    line-shown g.R.Reads c.args.names.now.names c.args.query.now c.args.space.now c.loop.space c.next.new.space c.loop.run c.next.new.self c.next.result c.loop.invariant.hop c.next.ensures.hop c.next.ensures.ready
+    c.add_shown.new.space (λ none. c.add_shown.ensures.unread none)
+
+pub returns-clause-cost : goal.returns-clause-cost
+returns-clause-cost g c =
+    line-ends g.R.Reads c.args.names.now.names c.args.query.now c.args.space.now c.loop.space c.loop.run c.loop.invariant.hop

@@ -1,5 +1,9 @@
+use Rattle.graph_session.proofs.HopQueries.{HopGoes}
 use Rattle.graph_session.proofs.Running.{IsRunning}
 use Rattle.graph_session.proofs.questions.query_results.give_query.Given as goal
 
 abbrev pub invariant-loop : goal.invariant-loop
-invariant-loop g l = IsRunning g.R.Reads g.K.Sink l.names.names l.query l.mark l.fn.space l.space l.initial.output l.output l.lines l.run
+invariant-loop g l = record {
+  running : IsRunning g.R.Reads g.K.Sink l.names.names l.query l.mark l.fn.space l.space l.initial.output l.output l.lines l.run;
+  hop : HopGoes g.R.Reads l.names.names l.query l.fn.space l.space l.run;
+}
