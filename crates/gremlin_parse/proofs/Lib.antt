@@ -20,6 +20,9 @@ pub mod Ends
 pub mod Turns
 pub mod Moves
 pub mod Walks
+pub mod StepNames
+pub mod KeyTokens
+pub mod Fitting
 pub mod TokenWalks
 pub mod TokenSteps
 pub mod TokenQueries

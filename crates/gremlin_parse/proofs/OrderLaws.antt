@@ -8,7 +8,7 @@ use Rattle.gremlin_parse.specs.declared.stage.Items.{Items}
 use Rattle.gremlin_parse.specs.declared.step_word.StepWord.{StepWord}
 use Rattle.gremlin_parse.specs.declared.step_word.StepWord.TheVariants as words
 
-items_from-append : (items : Items) (list : List Step) (step : Step) → items_from items (list ++ step ∷ []) ≡ items_after (items_from items list) step
+pub items_from-append : (items : Items) (list : List Step) (step : Step) → items_from items (list ++ step ∷ []) ≡ items_after (items_from items list) step
 items_from-append items [] step = refl
 items_from-append items (first ∷ list) step = items_from-append (items_after items first) list step
 
@@ -34,7 +34,7 @@ items_from-put_step items list words.By step last (key, descending, is) =
     let before_is : items_from items list ≡ items_from items before = ap (items_from items) list_is ∙ items_from-append items before plain_order in
     ap (items_from items) put ∙ items_from-append items before step ∙ ap (λ (these : Items). items_after these step) (sym before_is)
 
-steps_in-append : (list : List Step) (step : Step) → steps_in (list ++ step ∷ []) ≡ steps_in list + step_count step
+pub steps_in-append : (list : List Step) (step : Step) → steps_in (list ++ step ∷ []) ≡ steps_in list + step_count step
 steps_in-append [] step = omega arith
 steps_in-append (first ∷ list) step = let later = steps_in-append list step in omega (arith, later)
 

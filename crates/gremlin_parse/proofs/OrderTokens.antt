@@ -11,7 +11,7 @@ use Rattle.gremlin_parse.specs.Symbols.{Sign, ReadsToken, Leaves}
 use Rattle.gremlin_parse.specs.declared.stop.Stop.{Stop}
 use Rattle.gremlin_parse.specs.declared.stop.Stop.TheVariants as stops
 
-after_blanks-run : (blanks rest : List ℕ) → Passes is_blank blanks → EndsRun is_blank rest → after_blanks (blanks ++ rest) ≡ rest
+pub after_blanks-run : (blanks rest : List ℕ) → Passes is_blank blanks → EndsRun is_blank rest → after_blanks (blanks ++ rest) ≡ rest
 after_blanks-run [] [] are ends = refl
 after_blanks-run [] (b ∷ rest) are ends = ap (λ (t : Bool). cond t (after_blanks rest) (b ∷ rest)) ends
 after_blanks-run (b ∷ blanks) rest are ends = ap (λ (t : Bool). cond t (after_blanks (blanks ++ rest)) (b ∷ (blanks ++ rest))) are.0 ∙ after_blanks-run blanks rest are.1 ends
@@ -20,7 +20,7 @@ same_byte : (b : ℕ) → nat_eq b b ≡ true
 same_byte b = grind (arith, nat_tests)
 
 -- A token that stands at the head.
-after_token-append : (token rest : List ℕ) → after_token token (token ++ rest) ≡ Some (after_blanks rest)
+pub after_token-append : (token rest : List ℕ) → after_token token (token ++ rest) ≡ Some (after_blanks rest)
 after_token-append [] rest = refl
 after_token-append (b ∷ token) rest = ap (λ (t : Bool). cond t (after_token token (token ++ rest)) None) (same_byte b) ∙ after_token-append token rest
 

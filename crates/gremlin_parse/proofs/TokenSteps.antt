@@ -11,17 +11,22 @@ use Rattle.plain_graph.specs.declared.query.Query.{Query}
 use Rattle.plain_graph.specs.declared.query.Step.{Step}
 use Rattle.plain_graph.specs.declared.query.Step.TheVariants as steps
 use Rattle.plain_graph.specs.declared.value.Value.{Value}
-use Rattle.gremlin_parse.specs.Grammar.{direction_name, Times}
+use Rattle.gremlin_parse.specs.Grammar.{Times}
 use Rattle.gremlin_parse.specs.Keywords.{Entry, InTable, plain}
-use Rattle.gremlin_parse.specs.Productions.{Token, Whole, Quoted, word, dot, comma, opening, closing, literal, call, after_commas, names_of, IsCompared, IsFilter, IsBodyStep, AreBodySteps, IsAnonymous, IsDirection, IsBy, IsOrder, IsRepeat}
+use Rattle.gremlin_parse.specs.Productions.{Token, Whole, Quoted, word, dot, comma, opening, closing, literal, call, after_commas, names_of, IsCompared, IsFilter, IsBodyStep, AreBodySteps, IsAnonymous, IsDirection, IsBy, IsOrder, IsRepeat, WrittenStep, Does, takes}
 use Rattle.gremlin_parse.specs.Queries.{Into, OfQuery, OfBody, NamesFor, OfStep, OfMaps, OfHop, OfLabels, OneName, Key, Place, Steps, Opens, Closing, FirstName, AfterName, AfterKey, ValueOf, AfterP, RelationName, OpensValue, Compared, ClosesValue, ClosesFilter, OrderCloses, Ordered, ByFirst, AfterOrderKey, AfterOrderWord, DirectionName, ByCloses, Quote, BodyFirst, AfterAnonymous, BodyName, OpensBody, InBody, AfterBody, TimesWord, OpensTimes, TimesOf}
-use Rattle.gremlin_parse.specs.Queries.{Quoted as Purpose, after_filter, after_names, after_quoted, after_step, as_step_word, body_name, body_word_of, body_words, direction_of, is_descending, is_loose, opened_body, plain_order, relation_name, relation_names, relation_of, relation_filter, reordered, sort_name, sort_names, turn, value_filter, with_step}
+use Rattle.gremlin_parse.specs.Queries.{Quoted as Purpose, after_filter, after_names, after_quoted, after_step, as_step_word, body_name, body_word_of, body_words, count_before, direction_of, is_descending, is_loose, opened_body, plain_order, relation_name, relation_names, relation_of, relation_filter, reordered, sort_name, sort_names, step_of, turn, value_filter, with_step}
+use Rattle.gremlin_parse.specs.Stages.{fits}
+use Rattle.gremlin_parse.specs.declared.stage.Items.{Items}
 use Rattle.gremlin_parse.specs.declared.step_word.BodyWord.{BodyWord}
 use Rattle.gremlin_parse.specs.declared.step_word.BodyWord.TheVariants as of_body
 use Rattle.gremlin_parse.specs.declared.step_word.StepWord.{StepWord}
 use Rattle.gremlin_parse.specs.declared.step_word.StepWord.TheVariants as words
 use Rattle.gremlin_parse.proofs.OrderLaws.{replace_last-append}
-use Rattle.gremlin_parse.proofs.TokenWalks.{OtherWalk, SignTo, Walks}
+use Rattle.gremlin_parse.proofs.Fitting.{InTime, one_more}
+use Rattle.gremlin_parse.proofs.RepeatReads.{before_33rd}
+use Rattle.gremlin_parse.proofs.StepNames.{letters_of}
+use Rattle.gremlin_parse.proofs.TokenWalks.{OtherWalk, SignTo, SomeFree, Walks}
 
 -- ---- one token
 
@@ -144,7 +149,7 @@ related end into key relation tokens walks =
     let (value, (two, is, later)) = valued one at in
     let (three, closes, last) = next_is end (ClosesValue into (relation_filter key relation value)) (ClosesFilter into (relation_filter key relation value)) closing refl (λ t ts at. only at) two later in
     let (four, ends, more) = closes_filter end into (relation_filter key relation value) three last in
-    (value, four, and_then {rest = one} opens (and_then {rest = two} is (and_then {rest = three} closes ends)), more)
+    (value, four, and_then {tokens = tokens} {rest = one} opens (and_then {tokens = one} {rest = two} is (and_then {tokens = two} {rest = three} closes ends)), more)
   where
     valued : (tokens : List Token) → Walks end (Compared into key relation) tokens → (value : Value) × Next end (literal value) (ClosesValue into (relation_filter key relation value)) tokens
     valued [] walks = cc
@@ -202,25 +207,23 @@ has_walk end into tokens walks = let (key, rest, is, later) = next_name end (Key
 
 -- ---- steps of a body
 
--- how the word is written
-abbrev pub letters_of : BodyWord → List ℕ
-letters_of (of_body.Neighbours direction) = direction_name direction
-letters_of of_body.HasLabel = codes "hasLabel"
-letters_of of_body.Has = codes "has"
+-- The step takes what its name takes.
+abbrev pub TakesAs : StepWord → WrittenStep → Type 0
+TakesAs this step = (these : Items) (bytes : List ℕ) → takes these step ≡ fits these this bytes
 
 abbrev pub NextStep : Command → Into → BodyWord → List Token → Type 0
-NextStep end into body tokens = (step : BodyStep) × (text : List Token) × (rest : List Token) × (tokens ≡ text ++ rest) × IsBodyStep step (word (letters_of body) ∷ opening ∷ text) × Walks end (after_step into step) rest
+NextStep end into body tokens = (step : BodyStep) × (text : List Token) × (rest : List Token) × (tokens ≡ text ++ rest) × IsBodyStep step (word (letters_of body) ∷ opening ∷ text) × TakesAs (words.Body body) (Does (step_of step)) × Walks end (after_step into step) rest
 
 pub body_walk : (end : Command) (into : Into) (body : BodyWord) (tokens : List Token) → Walks end (opened_body into body) tokens → NextStep end into body tokens
 body_walk end into (of_body.Neighbours direction) tokens walks =
     let (names, rest, whole, at) = next_names end (OfHop into direction) tokens walks in
-    (bodies.Neighbours (record { direction = direction; labels = names }), names_of names ++ closing ∷ [], rest, whole, refl, at)
+    (bodies.Neighbours (record { direction = direction; labels = names }), names_of names ++ closing ∷ [], rest, whole, refl, (λ these bytes. refl), at)
 body_walk end into of_body.HasLabel tokens walks =
     let (names, rest, some, whole, at) = some_names end (OfLabels into) tokens walks in
-    (bodies.Filter (filters.HasLabel names), names_of names ++ closing ∷ [], rest, whole, (some, refl), at)
+    (bodies.Filter (filters.HasLabel names), names_of names ++ closing ∷ [], rest, whole, (some, refl), (λ these bytes. refl), at)
 body_walk end into of_body.Has tokens walks =
     let (filter, text, rest, whole, is, at) = has_walk end into tokens walks in
-    (bodies.Filter filter, text, rest, whole, is, at)
+    (bodies.Filter filter, text, rest, whole, is, (λ these bytes. refl), at)
 
 -- ---- repeats
 
@@ -242,15 +245,15 @@ body_letters entry (inr (inr (inr (inr (inl same))))) = subst (λ (e : Entry Ste
 body_letters entry (inr (inr (inr (inr (inr none))))) = absurd none
 
 abbrev NamedStep : Command → Query → List BodyStep → List Token → Type 0
-NamedStep end query body tokens = (step : BodyStep) × (text : List Token) × (rest : List Token) × (tokens ≡ text ++ rest) × IsBodyStep step text × Walks end (InBody query (body ++ step ∷ [])) rest
+NamedStep end query body tokens = (step : BodyStep) × (text : List Token) × (rest : List Token) × (tokens ≡ text ++ rest) × IsBodyStep step text × InTime query (body ++ step ∷ []) × Walks end (InBody query (body ++ step ∷ [])) rest
 
-named_step : (end : Command) (query : Query) (body : List BodyStep) (t : Token) (ts : List Token) → OtherWalk (body_name query body) (λ next. Walks end next ts) t → NamedStep end query body (t ∷ ts)
-named_step end query body t ts (entry, within, same, later) =
+named_step : (end : Command) (query : Query) (body : List BodyStep) (t : Token) (ts : List Token) → OtherWalk (body_name query body) (SomeFree (t ∷ ts)) (λ next. Walks end next ts) t → NamedStep end query body (t ∷ ts)
+named_step end query body t ts (entry, within, same, (bytes, from, none), later) =
     let this = body_word_of entry.1 in
     let (one, opens, at) = next_is end (OpensBody query body this) (opened_body (OfBody query body) this) opening refl (λ u us at. plain_sign 40 (opened_body (OfBody query body) this) (λ next. Walks end next us) u (loose_body (OfBody query body) this) (only at)) ts later in
-    let (step, text, rest, whole, is, last) = body_walk end (OfBody query body) this one at in
+    let (step, text, rest, whole, is, fit, last) = body_walk end (OfBody query body) this one at in
     let name : t ≡ word (letters_of this) = same ∙ ap (λ (l : List ℕ). word l) (sym (body_letters entry within)) in
-    (step, word (letters_of this) ∷ opening ∷ text, rest, (λ i. name i ∷ and_then opens whole i), is, last)
+    (step, word (letters_of this) ∷ opening ∷ text, rest, (λ i. name i ∷ and_then opens whole i), is, one_more query body step (before_33rd (count_before query body) none), last)
 
 next_step : (end : Command) (query : Query) (body : List BodyStep) (tokens : List Token) → Walks end (BodyName query body) tokens → NamedStep end query body tokens
 next_step end query body [] walks = cc
@@ -260,44 +263,45 @@ pub rest_within : (tokens text rest : List Token) → tokens ≡ text ++ rest �
 rest_within tokens text rest whole = let len : length tokens ≡ length text + length rest = ap length whole ∙ length-append text rest in omega (arith, len)
 
 abbrev LaterBody : Command → Query → List BodyStep → List Token → Type 0
-LaterBody end query body tokens = (more : List BodyStep) × (text : List Token) × (rest : List Token) × (tokens ≡ text ++ closing ∷ rest) × AreBodySteps more text × Walks end (AfterBody query (body ++ more)) rest
+LaterBody end query body tokens = (more : List BodyStep) × (text : List Token) × (rest : List Token) × (tokens ≡ text ++ closing ∷ rest) × AreBodySteps more text × InTime query (body ++ more) × Walks end (AfterBody query (body ++ more)) rest
 
-later_body : (k : ℕ) (end : Command) (query : Query) (body : List BodyStep) (tokens : List Token) → length tokens ≤ k → Walks end (InBody query body) tokens → LaterBody end query body tokens
-later_body k end query body [] within walks = cc
-later_body zero end query body (t ∷ ts) within walks = absurd (omega (arith, within))
-later_body (suc k) end query body (t ∷ ts) within (inl (inl (same, at))) =
-    let (step, text, rest, whole, is, later) = next_step end query body ts at in
+later_body : (k : ℕ) (end : Command) (query : Query) (body : List BodyStep) (tokens : List Token) → length tokens ≤ k → InTime query body → Walks end (InBody query body) tokens → LaterBody end query body tokens
+later_body k end query body [] within early walks = cc
+later_body zero end query body (t ∷ ts) within early walks = absurd (omega (arith, within))
+later_body (suc k) end query body (t ∷ ts) within early (inl (inl (same, at))) =
+    let (step, text, rest, whole, is, next, later) = next_step end query body ts at in
     let short = rest_within ts text rest whole in
     let less : length rest ≤ k = omega (arith, short, within) in
-    let (more, texts, last, wholes, are, final) = later_body k end query (body ++ step ∷ []) rest less later in
+    let (more, texts, last, wholes, are, all_early, final) = later_body k end query (body ++ step ∷ []) rest less next later in
     let all : ts ≡ (text ++ texts) ++ closing ∷ last = whole ∙ ap (λ (r : List Token). text ++ r) wholes ∙ sym (append_assoc text texts (closing ∷ last)) in
-    (step ∷ more, dot ∷ text ++ texts, last, (λ i. same i ∷ all i), (text, texts, refl, is, are), subst (λ b. Walks end (AfterBody query b) last) (append_assoc body (step ∷ []) more) final)
-later_body (suc k) end query body (t ∷ ts) within (inl (inr (inl (same, at)))) = ([], [], ts, (λ i. same i ∷ ts), refl, subst (λ b. Walks end (AfterBody query b) ts) (sym (append-nil body)) at)
-later_body (suc k) end query body (t ∷ ts) within (inl (inr (inr none))) = absurd none
-later_body (suc k) end query body (t ∷ ts) within (inr none) = absurd none
+    (step ∷ more, dot ∷ text ++ texts, last, (λ i. same i ∷ all i), (text, texts, refl, is, are), subst (InTime query) (append_assoc body (step ∷ []) more) all_early, subst (λ b. Walks end (AfterBody query b) last) (append_assoc body (step ∷ []) more) final)
+later_body (suc k) end query body (t ∷ ts) within early (inl (inr (inl (same, at)))) =
+    ([], [], ts, (λ i. same i ∷ ts), refl, subst (InTime query) (sym (append-nil body)) early, subst (λ b. Walks end (AfterBody query b) ts) (sym (append-nil body)) at)
+later_body (suc k) end query body (t ∷ ts) within early (inl (inr (inr none))) = absurd none
+later_body (suc k) end query body (t ∷ ts) within early (inr none) = absurd none
 
 abbrev SomeBody : Command → Query → List Token → Type 0
-SomeBody end query tokens = (body : List BodyStep) × (text : List Token) × (rest : List Token) × (tokens ≡ text ++ closing ∷ rest) × (AreBodySteps body (dot ∷ text)) × Walks end (AfterBody query body) rest
+SomeBody end query tokens = (body : List BodyStep) × (text : List Token) × (rest : List Token) × (tokens ≡ text ++ closing ∷ rest) × (AreBodySteps body (dot ∷ text)) × InTime query body × Walks end (AfterBody query body) rest
 
 some_body : (end : Command) (query : Query) (tokens : List Token) → NamedStep end query [] tokens → SomeBody end query tokens
-some_body end query tokens (step, text, rest, whole, is, later) =
-    let (more, texts, last, wholes, are, final) = later_body (length rest) end query (step ∷ []) rest (omega arith) later in
+some_body end query tokens (step, text, rest, whole, is, early, later) =
+    let (more, texts, last, wholes, are, all_early, final) = later_body (length rest) end query (step ∷ []) rest (omega arith) early later in
     let all : tokens ≡ (text ++ texts) ++ closing ∷ last = whole ∙ ap (λ (r : List Token). text ++ r) wholes ∙ sym (append_assoc text texts (closing ∷ last)) in
-    (step ∷ more, text ++ texts, last, all, (text, texts, refl, is, are), final)
+    (step ∷ more, text ++ texts, last, all, (text, texts, refl, is, are), all_early, final)
 
 abbrev FirstBody : Command → Query → List Token → Type 0
-FirstBody end query tokens = (front : List Token) × (body : List BodyStep) × (text : List Token) × (rest : List Token) × (tokens ≡ front ++ (text ++ (closing ∷ rest))) × IsAnonymous front × (AreBodySteps body (dot ∷ text)) × Walks end (AfterBody query body) rest
+FirstBody end query tokens = (front : List Token) × (body : List BodyStep) × (text : List Token) × (rest : List Token) × (tokens ≡ front ++ (text ++ (closing ∷ rest))) × IsAnonymous front × (AreBodySteps body (dot ∷ text)) × InTime query body × Walks end (AfterBody query body) rest
 
 first_body : (end : Command) (query : Query) (tokens : List Token) → Walks end (BodyFirst query) tokens → FirstBody end query tokens
 first_body end query [] walks = cc
 first_body end query (t ∷ ts) (inl (inl (same, at))) =
     let (one, dots, later) = next_is end (AfterAnonymous query) (BodyName query []) dot refl (λ u us at. only at) ts at in
-    let (body, text, rest, whole, are, last) = some_body end query one (next_step end query [] one later) in
-    (word (codes "__") ∷ dot ∷ [], body, text, rest, (λ i. same i ∷ and_then dots whole i), inr refl, are, last)
+    let (body, text, rest, whole, are, early, last) = some_body end query one (next_step end query [] one later) in
+    (word (codes "__") ∷ dot ∷ [], body, text, rest, (λ i. same i ∷ and_then dots whole i), inr refl, are, early, last)
 first_body end query (t ∷ ts) (inl (inr none)) = absurd none
 first_body end query (t ∷ ts) (inr other) =
-    let (body, text, rest, whole, are, last) = some_body end query (t ∷ ts) (named_step end query [] t ts other) in
-    ([], body, text, rest, whole, inl refl, are, last)
+    let (body, text, rest, whole, are, early, last) = some_body end query (t ∷ ts) (named_step end query [] t ts other) in
+    ([], body, text, rest, whole, inl refl, are, early, last)
 
 times_of : (end : Command) (query : Query) (body : List BodyStep) (tokens : List Token) → Walks end (TimesOf query body) tokens → (times : ℕ) × Next end (Whole (Times times)) (Closing query (steps.Repeat body times)) tokens
 times_of end query body [] walks = cc
@@ -320,15 +324,15 @@ regroup : (front text tail rest : List Token) → (((front ++ text) ++ closing �
 regroup front text tail rest = append_assoc ((front ++ text) ++ closing ∷ []) tail rest ∙ append_assoc (front ++ text) (closing ∷ []) (tail ++ rest) ∙ append_assoc front text (closing ∷ (tail ++ rest))
 
 abbrev pub NextRepeat : Command → Query → List Token → Type 0
-NextRepeat end query tokens = (body : List BodyStep) × (times : ℕ) × (text : List Token) × (rest : List Token) × (tokens ≡ text ++ rest) × IsRepeat body times (word (codes "repeat") ∷ opening ∷ text) × Walks end (Steps (with_step query (steps.Repeat body times))) rest
+NextRepeat end query tokens = (body : List BodyStep) × (times : ℕ) × (text : List Token) × (rest : List Token) × (tokens ≡ text ++ rest) × IsRepeat body times (word (codes "repeat") ∷ opening ∷ text) × InTime query body × Walks end (Steps (with_step query (steps.Repeat body times))) rest
 
 pub repeat_walk : (end : Command) (query : Query) (tokens : List Token) → Walks end (BodyFirst query) tokens → NextRepeat end query tokens
 repeat_walk end query tokens walks =
-    let (front, body, text, one, whole, anonymous, are, at) = first_body end query tokens walks in
+    let (front, body, text, one, whole, anonymous, are, early, at) = first_body end query tokens walks in
     let (times, rest, is, later) = times_walk end query body one at in
     let tail : List Token = dot ∷ call (codes "times") (Whole (Times times) ∷ []) in
     let all : tokens ≡ (((front ++ text) ++ closing ∷ []) ++ tail) ++ rest = whole ∙ ap (λ (r : List Token). front ++ (text ++ (closing ∷ r))) is ∙ sym (regroup front text tail rest) in
-    (body, times, ((front ++ text) ++ closing ∷ []) ++ tail, rest, all, (front, text, anonymous, are, refl), later)
+    (body, times, ((front ++ text) ++ closing ∷ []) ++ tail, rest, all, (front, text, anonymous, are, refl), early, later)
 
 -- ---- orders
 
@@ -340,7 +344,7 @@ sort_named letters (inr (inr none)) = absurd none
 abbrev NextDirection : Command → Query → Option (List ℕ) → List Token → Type 0
 NextDirection end query key tokens = (descending : Bool) × (text : List Token) × (rest : List Token) × (tokens ≡ text ++ rest) × IsDirection descending text × Walks end (ByCloses query key descending) rest
 
-direction_walk : (end : Command) (query : Query) (key : Option (List ℕ)) (t : Token) (ts : List Token) → OtherWalk (direction_of query key) (λ next. Walks end next ts) t → NextDirection end query key (t ∷ ts)
+direction_walk : (end : Command) (query : Query) (key : Option (List ℕ)) (t : Token) (ts : List Token) → OtherWalk (direction_of query key) (SomeFree (t ∷ ts)) (λ next. Walks end next ts) t → NextDirection end query key (t ∷ ts)
 direction_walk end query key t ts (inl (letters, within, same, later)) =
     let name : t ≡ word (sort_name (is_descending letters)) = same ∙ ap (λ (l : List ℕ). word l) (sym (sort_named letters within)) in
     (is_descending letters, word (sort_name (is_descending letters)) ∷ [], ts, (λ i. name i ∷ ts), inl refl, later)
@@ -389,10 +393,10 @@ ordered_walk : (end : Command) (query : Query) (tokens : List Token) → Walks e
 ordered_walk end query [] walks = inl walks
 ordered_walk end query (t ∷ []) (inl (inl (same, at))) = cc
 ordered_walk end query (t ∷ u ∷ us) (inl (inl (same, inl none))) = absurd none
-ordered_walk end query (t ∷ u ∷ us) (inl (inl (same, inr (entry, inl by, is, later)))) =
+ordered_walk end query (t ∷ u ∷ us) (inl (inl (same, inr (entry, inl by, is, free, later)))) =
     let name : u ≡ word (codes "by") = is ∙ ap (λ (e : Entry StepWord). word e.0) by in
     inr (us, (λ i. same i ∷ name i ∷ us), subst (λ (e : Entry StepWord). Walks end (Opens query e.1) us) by later)
-ordered_walk end query (t ∷ u ∷ us) (inl (inl (same, inr (entry, inr within, is, later)))) = inl (inl (inl (same, inr (entry, within, is, later))))
+ordered_walk end query (t ∷ u ∷ us) (inl (inl (same, inr (entry, inr within, is, free, later)))) = inl (inl (inl (same, inr (entry, within, is, free, later))))
 ordered_walk end query (t ∷ ts) (inl (inr none)) = absurd none
 ordered_walk end query (t ∷ ts) (inr none) = absurd none
 

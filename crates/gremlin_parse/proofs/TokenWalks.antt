@@ -1,5 +1,5 @@
 -- Queries by their tokens: tokens that lead from a place to a line's end, and that what the table of places makes of bytes they make of tokens.
-use Rattle.std.proofs.Common.{◌≡◌, ◌⊎◌, inl, inr, ℕ, zero, suc, nat_eq, cond, Bool, true, false, Some, None, List, [], ◌∷◌, ◌++◌, codes, refl, sym, ap, ◌∙◌, subst}
+use Rattle.std.proofs.Common.{◌≡◌, ◌⊎◌, inl, inr, ℕ, zero, suc, nat_eq, cond, Bool, true, false, Option, Some, None, List, [], ◌∷◌, ◌++◌, codes, refl, sym, ap, ◌∙◌, subst}
 use Rattle.plain_graph.specs.declared.command.Command.{Command}
 use Rattle.gremlin_parse.specs.Grammar.{Blanks, Exactly, Closed, IsBounded, quote_byte}
 use Rattle.gremlin_parse.specs.Keywords.{Entry, InTable}
@@ -12,6 +12,7 @@ use Rattle.plain_graph.specs.declared.value.Value.{Value}
 use Rattle.gremlin_parse.specs.Reading.{Then}
 use Rattle.gremlin_parse.specs.Symbols.{Content, Allows, part}
 use Rattle.gremlin_parse.specs.Turns.{Other, Nothing, Words, Token as Symbolic, Either, AtTurn, ThenSign, ThenOther, Loosely, Leads, sign_at}
+use Rattle.gremlin_parse.specs.declared.bad_token.BadToken.{BadToken}
 use Rattle.gremlin_parse.specs.declared.source.SourceKind.{SourceKind}
 use Rattle.gremlin_parse.specs.declared.source.SourceKind.TheVariants as sources
 use Rattle.gremlin_parse.specs.declared.step_word.BodyWord.{BodyWord}
@@ -35,17 +36,22 @@ abbrev pub SignWalk : List (ℕ × Place) → (Place → Type 0) → Token → T
 SignWalk [] After token = ⊥
 SignWalk (sign ∷ signs) After token = SignTo sign.0 sign.1 After token ⊎ SignWalk signs After token
 
-abbrev pub OtherWalk : Other StepWord Place → (Place → Type 0) → Token → Type 0
-OtherWalk Nothing After token = ⊥
-OtherWalk (Words table fault to) After token = (entry : Entry StepWord) × InTable entry table × (token ≡ word entry.0) × After (to entry.1)
-OtherWalk (Symbolic symbol to) After token = (content : Content symbol) × Allows symbol content × (token ≡ Whole (part symbol content)) × After (to content)
-OtherWalk (Either one two) After token = OtherWalk one After token ⊎ OtherWalk two After token
+-- the token of another part, where the fault of a word is free: none at its bytes
+abbrev pub OtherWalk : Other StepWord Place → ((List ℕ → Option BadToken) → Type 0) → (Place → Type 0) → Token → Type 0
+OtherWalk Nothing Free After token = ⊥
+OtherWalk (Words table fault to) Free After token = (entry : Entry StepWord) × InTable entry table × (token ≡ word entry.0) × Free (fault entry.1) × After (to entry.1)
+OtherWalk (Symbolic symbol to) Free After token = (content : Content symbol) × Allows symbol content × (token ≡ Whole (part symbol content)) × After (to content)
+OtherWalk (Either one two) Free After token = OtherWalk one Free After token ⊎ OtherWalk two Free After token
+
+-- There is no such fault at some bytes of these tokens.
+abbrev pub SomeFree : List Token → (List ℕ → Option BadToken) → Type 0
+SomeFree tokens fault = (bytes : List ℕ) × AreFrom tokens bytes × (fault bytes ≡ None)
 
 -- The tokens lead from the place to a line's end, which is this.
 abbrev pub Walks : Command → Place → List Token → Type 0
 Walks end place [] = (turn place).ends ≡ Some end
 Walks end place (token ∷ tokens) =
-    SignWalk (turn place).signs (λ next. Walks end next tokens) token ⊎ OtherWalk (turn place).other (λ next. Walks end next tokens) token
+    SignWalk (turn place).signs (λ next. Walks end next tokens) token ⊎ OtherWalk (turn place).other (SomeFree (token ∷ tokens)) (λ next. Walks end next tokens) token
 
 -- ---- what each place has
 
@@ -217,6 +223,10 @@ after_sign end b to is rest at =
     let (blanks, last, cut, are, (tokens, walks, from)) = at in
     (word (b ∷ []), tokens, (refl, walks), (b ∷ [], rest, refl, (refl, tt), (blanks, last, cut, are, from)))
 
+-- the same of another part
+abbrev OtherFound : Other StepWord Place → Command → List ℕ → Type 0
+OtherFound other end bytes = (token : Token) × (tokens : List Token) × OtherWalk other (SomeFree (token ∷ tokens)) (λ next. Walks end next tokens) token × AreFrom (token ∷ tokens) bytes
+
 sign_walk : (end : Command) (signs : List (ℕ × Place)) → AreSigns signs → (b : ℕ) (next : Place) → sign_at signs b ≡ Some next → (rest : List ℕ) → LooselySpelled end next rest → Found (SignWalk signs) end (b ∷ rest)
 sign_walk end [] all b next is rest at = cc
 sign_walk end (sign ∷ signs) all b next is rest at = here (λ later. sign_walk end signs all.1 b next later rest at) (nat_eq sign.0 b) refl is
@@ -228,11 +238,12 @@ sign_walk end (sign ∷ signs) all b next is rest at = here (λ later. sign_walk
         subst (λ c. Found (SignWalk (sign ∷ signs)) end (c ∷ rest)) (eqb-true sign.0 b same) (token, tokens, inl walk, from)
     here later false same found = let (token, tokens, walk, from) = later found in (token, tokens, inr walk, from)
 
-other_walk : (end : Command) (other : Other StepWord Place) → IsLooseAfter other → (bytes : List ℕ) → ThenOther IsBounded other (LooselySpelled end) bytes → Found (OtherWalk other) end bytes
+other_walk : (end : Command) (other : Other StepWord Place) → IsLooseAfter other → (bytes : List ℕ) → ThenOther IsBounded other (LooselySpelled end) bytes → OtherFound other end bytes
 other_walk end Nothing loose bytes none = absurd none
 other_walk end (Words table fault to) loose bytes (entry, within, bound, (prefix, rest, whole, same, after)) =
     let (blanks, last, cut, are, (tokens, walks, from)) = loosened end (to entry.1) (loose entry.1) rest after in
-    (word entry.0, tokens, (entry, within, refl, walks), (prefix, rest, whole, (same, tt), (blanks, last, cut, are, from)))
+    let these : AreFrom (word entry.0 ∷ tokens) bytes = (prefix, rest, whole, (same, tt), (blanks, last, cut, are, from)) in
+    (word entry.0, tokens, (entry, within, refl, (bytes, these, bound), walks), these)
 other_walk end (Symbolic symbol to) loose bytes (content, allows, bound, (prefix, rest, whole, is, after)) =
     let (blanks, last, cut, are, (tokens, walks, from)) = loosened end (to content) (loose content) rest after in
     (Whole (part symbol content), tokens, (content, allows, refl, walks), (prefix, rest, whole, (is, bound), (blanks, last, cut, are, from)))

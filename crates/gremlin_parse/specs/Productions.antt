@@ -1,7 +1,7 @@
 -- The grammar of queries by its productions: which tokens spell a query, and which bytes are these
 -- tokens. Above each definition stands its production, as the documents have it.
-use Rattle.std.specs.Prelude.{◌≡◌, ◌≢◌, ◌⊎◌, ℕ, ◌≤◌, Bool, false, Option, Some, None}
-use Rattle.std.specs.Prelude.{List, [], ◌∷◌, ◌++◌, length, map, codes}
+use Rattle.std.specs.Prelude.{◌≡◌, ◌≢◌, ◌⊎◌, ℕ, ◌+◌, ◌≤◌, Bool, true, false, not}
+use Rattle.std.specs.Prelude.{Option, Some, None, List, [], ◌∷◌, ◌++◌, length, map, codes}
 use Rattle.plain_graph.specs.Names.{IsName}
 use Rattle.plain_graph.specs.declared.command.Command.{Command}
 use Rattle.plain_graph.specs.declared.command.Command.TheVariants as commands
@@ -28,7 +28,11 @@ use Rattle.gremlin_parse.specs.Lines.{AfterFront, AfterG}
 use Rattle.gremlin_parse.specs.Queries.{query_from, relation_name, shown, sort_name, with_maps}
 use Rattle.gremlin_parse.specs.Queries.{with_step}
 use Rattle.gremlin_parse.specs.Reading.{Then}
+use Rattle.gremlin_parse.specs.Stages.{are_edges, are_elements, are_maps, are_vertices}
+use Rattle.gremlin_parse.specs.Stages.{first_items, items_after, step_count}
 use Rattle.gremlin_parse.specs.Tags.{after_tag}
+use Rattle.gremlin_parse.specs.declared.stage.Items.{Items}
+use Rattle.gremlin_parse.specs.declared.stage.Items.TheVariants as items
 
 -- A token of a query: a word, a sign, a number or a value, as a part of a line has it, or a name
 -- between two quotes.
@@ -220,6 +224,49 @@ AreSteps (step ∷ list) tokens =
     (text : List Token) × (later : List Token) × (tokens ≡ dot ∷ text ++ later)
     × IsWrittenStep step text × AreSteps list later
 
+-- The step takes these results.
+abbrev pub takes : Items → WrittenStep → Bool
+takes these (Does (steps.Neighbours hop)) = are_vertices these
+takes these (Does (steps.Incident hop)) = are_vertices these
+takes these (Does steps.OutV) = are_edges these
+takes these (Does steps.InV) = are_edges these
+takes these (Does (steps.Filter filter)) = are_elements these
+takes these (Does (steps.Values keys)) = are_elements these
+takes these (Does steps.Id) = are_elements these
+takes these (Does steps.Label) = are_elements these
+takes these (Does steps.Dedup) = not (are_maps these)
+takes these (Does steps.Count) = true
+takes these (Does (steps.Limit most)) = true
+takes these (Does (steps.Order None descending)) = not (are_maps these)
+takes these (Does (steps.Order (Some key) descending)) = are_elements these
+takes these (Does (steps.Repeat body times)) = are_vertices these
+takes these (Maps keys) = are_elements these
+
+-- what it gives of them
+abbrev pub gives : Items → WrittenStep → Items
+gives these (Does step) = items_after these step
+gives these (Maps keys) = items.Maps
+
+-- how many steps it counts: a repeat, and each step of its body
+abbrev pub counts : WrittenStep → ℕ
+counts (Does step) = step_count step
+counts (Maps keys) = 1
+
+-- Each step takes what those before it give.
+abbrev pub Fit : Items → List WrittenStep → Type 0
+Fit these [] = Unit {0}
+Fit these (step ∷ list) = (takes these step ≡ true) × Fit (gives these step) list
+
+-- what they give, one after the other
+abbrev pub given : Items → List WrittenStep → Items
+given these [] = these
+given these (step ∷ list) = given (gives these step) list
+
+-- how many steps they count
+abbrev pub count_all : List WrittenStep → ℕ
+count_all [] = 0
+count_all (step ∷ list) = counts step + count_all list
+
 -- the query with this step after the others
 abbrev pub with_written : Query → WrittenStep → Query
 with_written query (Does step) = with_step query step
@@ -230,12 +277,13 @@ abbrev pub with_all : Query → List WrittenStep → Query
 with_all query [] = query
 with_all query (step ∷ list) = with_all (with_written query step) list
 
--- reading = source { "." step }
-abbrev pub IsReading : Query → List Token → Type 0
-IsReading query tokens =
+-- reading = source { "." step }: steps that fit, which give these results and count so many
+abbrev pub IsReading : Query → Items → ℕ → List Token → Type 0
+IsReading query these count tokens =
     (source : Source) × (list : List WrittenStep) × (text : List Token)
-    × (tokens ≡ source_of source ++ text) × AreSteps list text
-    × (query ≡ with_all (query_from source) list)
+    × (tokens ≡ source_of source ++ text) × AreSteps list text × Fit (first_items source) list
+    × (query ≡ with_all (query_from source) list) × (these ≡ given (first_items source) list)
+    × (count ≡ count_all list)
 
 -- property = "property" "(" name "," VALUE ")"
 abbrev pub property_of : Pair → List Token
@@ -262,19 +310,40 @@ IsChange (mutations.AddE label to pairs) tokens =
 IsChange (mutations.Property pairs) tokens = dot ∷ tokens ≡ properties_of pairs
 IsChange mutations.Drop tokens = tokens ≡ call (codes "drop") []
 
+-- The change takes these results; `addV` is made of none.
+abbrev pub takes_change : Items → Mutation → Bool
+takes_change these (mutations.AddV label pairs) = false
+takes_change these (mutations.AddE label to pairs) = are_vertices these
+takes_change these (mutations.Property pairs) = are_elements these
+takes_change these mutations.Drop = are_elements these
+
+-- how many steps it counts: `addV` and `to` are no steps
+abbrev pub change_count : Mutation → ℕ
+change_count (mutations.AddV label pairs) = length pairs
+change_count (mutations.AddE label to pairs) = 1 + length pairs
+change_count (mutations.Property pairs) = length pairs
+change_count mutations.Drop = 1
+
+-- how many steps a line has at most
+abbrev pub most_steps : ℕ
+most_steps = 32
+
 -- mutating = "addV" "(" name ")" { "." property } | reading "." change
 abbrev pub IsMutating : Option Query → Mutation → List Token → Type 0
 IsMutating None (mutations.AddV label pairs) tokens =
-    tokens ≡ call (codes "addV") (Quoted label ∷ []) ++ properties_of pairs
+    (tokens ≡ call (codes "addV") (Quoted label ∷ []) ++ properties_of pairs)
+    × (change_count (mutations.AddV label pairs) ≤ most_steps)
 IsMutating None mutation tokens = ⊥
 IsMutating (Some query) mutation tokens =
-    (text : List Token) × (last : List Token) × (tokens ≡ text ++ dot ∷ last)
-    × IsReading query text × IsChange mutation last
+    (these : Items) × (count : ℕ) × (text : List Token) × (last : List Token)
+    × (tokens ≡ text ++ dot ∷ last) × IsReading query these count text × IsChange mutation last
+    × (takes_change these mutation ≡ true) × (count + change_count mutation ≤ most_steps)
 
 -- query = "g" "." ( reading | mutating ), from its dot on
 abbrev pub IsQueryOf : Command → List Token → Type 0
 IsQueryOf (commands.Query query) tokens =
-    (reading : Query) × (text : List Token) × (tokens ≡ dot ∷ text) × IsReading reading text
+    (reading : Query) × (these : Items) × (count : ℕ) × (text : List Token)
+    × (tokens ≡ dot ∷ text) × IsReading reading these count text × (count ≤ most_steps)
     × (query ≡ shown reading)
 IsQueryOf (commands.Mutate reading mutation) tokens =
     (text : List Token) × (tokens ≡ dot ∷ text) × IsMutating reading mutation text
