@@ -1,4 +1,5 @@
 pub mod Exits
+pub mod LeftWords
 pub mod Runs
 pub mod Stops
 pub mod Differing

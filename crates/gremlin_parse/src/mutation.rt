@@ -226,8 +226,7 @@ fn read_property_word(before: usize, bytes: &[u8]) -> Result<(StepWord, &[u8]), 
             left: bytes.len(),
         });
     }
-    let (word, rest) = read_keyword(bytes, &PROPERTY)?;
-    Ok((word, rest))
+    read_keyword(bytes, &PROPERTY)
 }
 
 /// The fault of the word that stands whole at the head, if it has one.

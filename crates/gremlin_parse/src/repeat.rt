@@ -123,8 +123,7 @@ fn read_body_word(before: usize, bytes: &[u8]) -> Result<(BodyWord, &[u8]), Stop
             left: bytes.len(),
         });
     }
-    let (word, rest) = read_keyword(bytes, &BODY)?;
-    Ok((word, rest))
+    read_keyword(bytes, &BODY)
 }
 
 /// The fault of the name that stands whole at the head, if it has one.

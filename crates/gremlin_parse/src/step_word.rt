@@ -123,8 +123,7 @@ pub(crate) fn read_step_word(
             left: bytes.len(),
         });
     }
-    let (word, rest) = read_keyword(bytes, words_after(is_ordered))?;
-    Ok((word, rest))
+    read_keyword(bytes, words_after(is_ordered))
 }
 
 /// The fault of the name that stands whole at the head, if it has one.

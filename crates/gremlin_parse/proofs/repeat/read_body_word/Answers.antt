@@ -1,12 +1,15 @@
+use Rattle.std.proofs.lemmas.Result.{IfErr-weaker, IfOk-weaker}
+use Rattle.gremlin_parse.specs.Queries.{body_words}
+use Rattle.gremlin_parse.specs.Stages.{late_fault}
+use Rattle.gremlin_parse.proofs.LeftWords.{words_left}
 use Rattle.gremlin_parse.proofs.RepeatReads.{read_early}
-use Rattle.gremlin_parse.proofs.Exits.{never_ok}
 use Rattle.gremlin_parse.proofs.repeat.read_body_word.Goals as goal
 
+pub returns-clause-ok : goal.returns-clause-ok
+returns-clause-ok c = c.read_keyword.ensures.ok
+
 pub returns-clause-no_fault : goal.returns-clause-no_fault
-returns-clause-no_fault c = read_early c.args.before c.args.bytes.now c.in_ok-word.rest.now c.in_ok-word.word c.in_default.ensures.none c.in_ok-word.ensures.ok
+returns-clause-no_fault c = IfOk-weaker c.read_keyword.result _ _ (λ r takes. read_early c.args.before c.args.bytes.now r.1.now r.0 c.in_default.ensures.none takes) c.read_keyword.ensures.ok
 
-pub returns-in_err-word-clause-ok : goal.returns-in_err-word-clause-ok
-returns-in_err-word-clause-ok c = never_ok c.from_residual.result _ _ c.from_residual.ensures.1
-
-pub returns-in_err-word-clause-no_fault : goal.returns-in_err-word-clause-no_fault
-returns-in_err-word-clause-no_fault c = never_ok c.from_residual.result _ _ c.from_residual.ensures.1
+pub returns-clause-err : goal.returns-clause-err
+returns-clause-err c = IfErr-weaker c.read_keyword.result _ _ (words_left body_words (λ _ _. late_fault c.args.before) c.args.bytes.now c.in_default.ensures.none) c.read_keyword.ensures.err
