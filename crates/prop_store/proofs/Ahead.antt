@@ -11,7 +11,7 @@ use Rattle.store_rules.specs.Views.{Records, rec_at}
 use Rattle.store_rules.proofs.NumberLaws.{eq_false, eq_true}
 use Rattle.prop_store.specs.Finding.{MetAt, property_of, value_of}
 use Rattle.prop_store.specs.Reading.{prop_of, properties_met}
-use Rattle.prop_store.specs.declared.finding.Spot.{Spot}
+use Rattle.prop_store.specs.declared.property_row.PropertyRow.{PropertyRow}
 use Rattle.prop_store.specs.declared.owner.Owner.{Owner}
 use Rattle.prop_store.specs.declared.prop.Prop.{Prop}
 use Rattle.prop_store.proofs.Followed.{followed_none, followed_one}
@@ -83,21 +83,21 @@ passed_by records key at count to rec found some few rec_is to_is other before =
     sym step ∙ ap (λ es. property_of es key) (sym (ahead_one records at count to rec some few rec_is to_is)) ∙ before
 
 -- and one of the key is found
-pub met_here : (records : Records) (owner : Owner) (key at count : ℕ) (spot : Spot) → at ≢ format.nil → count < 32 → spot.row.id ≡ at → spot.row.rec ≡ rec_at records format.properties_file at → field 4 spot.row.rec format.property_key ≡ key
-    → property_of (ahead records at count) key ≡ property_of (properties_met records owner) key → MetAt records owner key spot
-met_here records owner key at count spot some few id_is rec_is same before =
-    let test : nat_eq (property_at (property_records records) at).key key ≡ true = eq_true _ key (key_read records at spot.row.rec rec_is ∙ same) in
-    let later = ahead records (field 4 spot.row.rec format.property_next) (count + 1) in
+pub met_here : (records : Records) (owner : Owner) (key at count : ℕ) (row : PropertyRow) → at ≢ format.nil → count < 32 → row.id ≡ at → row.rec ≡ rec_at records format.properties_file at → field 4 row.rec format.property_key ≡ key
+    → property_of (ahead records at count) key ≡ property_of (properties_met records owner) key → MetAt records owner key row
+met_here records owner key at count row some few id_is rec_is same before =
+    let test : nat_eq (property_at (property_records records) at).key key ≡ true = eq_true _ key (key_read records at row.rec rec_is ∙ same) in
+    let later = ahead records (field 4 row.rec format.property_next) (count + 1) in
     let step : property_of (property_at (property_records records) at ∷ later) key ≡ Some (property_at (property_records records) at) = rw test refl in
     record {
       rec_is = rec_is ∙ ap (rec_at records format.properties_file) (sym id_is);
-      is = sym before ∙ ap (λ es. property_of es key) (ahead_one records at count _ spot.row.rec some few rec_is refl) ∙ step ∙ ap (λ p. Some (property_at (property_records records) p)) (sym id_is);
+      is = sym before ∙ ap (λ es. property_of es key) (ahead_one records at count _ row.rec some few rec_is refl) ∙ step ∙ ap (λ p. Some (property_at (property_records records) p)) (sym id_is);
     }
 
 -- its value is the one that is read, also after other reads
-pub value_found : (records now : Records) (owner : Owner) (key : ℕ) (spot : Spot) (value : Value) → now ≡ records → MetAt records owner key spot → value ≡ value_from (rec_at now format.strings_file) (content_of spot.row.rec)
+pub value_found : (records now : Records) (owner : Owner) (key : ℕ) (row : PropertyRow) (value : Value) → now ≡ records → MetAt records owner key row → value ≡ value_from (rec_at now format.strings_file) (content_of row.rec)
     → Some value ≡ value_of (properties_met records owner) key
-value_found records now owner key spot value same met is =
-    let value_is : value ≡ value_from (rec_at records format.strings_file) (content_of (rec_at records format.properties_file spot.row.id))
-    = is ∙ ap (λ (r : Records). value_from (rec_at r format.strings_file) (content_of spot.row.rec)) same ∙ ap (λ r. value_from (rec_at records format.strings_file) (content_of r)) met.rec_is in
+value_found records now owner key row value same met is =
+    let value_is : value ≡ value_from (rec_at records format.strings_file) (content_of (rec_at records format.properties_file row.id))
+    = is ∙ ap (λ (r : Records). value_from (rec_at r format.strings_file) (content_of row.rec)) same ∙ ap (λ r. value_from (rec_at records format.strings_file) (content_of r)) met.rec_is in
     ap (λ v. Some v) value_is ∙ sym (ap (option_map (λ (e : Property). e.value)) met.is)

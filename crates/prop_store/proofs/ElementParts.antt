@@ -44,8 +44,8 @@ module _ (s : State) (owner : Owner) (es : List Property) (owns : OwnsProperties
     block_in_use x i = owns.held.strings.live x (subst (In x) (sym (ap blocks_of all ∙ blocks_parts front e back)) i)
 
     -- the property is in use
-    pub held_spot : (row : PropertyRow) → row.id ≡ e.id → row.rec ≡ rec_at s.records format.properties_file e.id → IsHeld s row e
-    held_spot row id_is rec_is =
+    pub held_row : (row : PropertyRow) → row.id ≡ e.id → row.rec ≡ rec_at s.records format.properties_file e.id → IsHeld s row e
+    held_row row id_is rec_is =
         let apart = blocks_apart (property_records s.records) (property_records s.records) first front e back are_parts in
         record {
           id_is = id_is;

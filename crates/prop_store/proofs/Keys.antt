@@ -9,7 +9,7 @@ use Rattle.store_rules.proofs.NumberLaws.{eq_false, eq_true, nat_cases}
 use Rattle.prop_store.specs.Alone.{HasKeyAt}
 use Rattle.prop_store.specs.Finding.{FoundAt, property_of}
 use Rattle.prop_store.specs.Link.{link_after, link_of, next_link}
-use Rattle.prop_store.specs.declared.finding.Spot.{Spot}
+use Rattle.prop_store.specs.declared.property_row.PropertyRow.{PropertyRow}
 use Rattle.prop_store.specs.declared.link.Link.{Link}
 use Rattle.prop_store.specs.declared.owner.Owner.{Owner}
 use Rattle.prop_store.proofs.WalkSteps.{WalkHere}
@@ -59,10 +59,10 @@ link_after-one link [] e = refl
 link_after-one link (p ∷ before) e = link_after-one (next_link p.id) before e
 
 -- the property of the key is at hand
-pub found_here : (records : Records) (owner : Owner) (es : List Property) (at count key : ℕ) (link : Link) (spot : Spot)
+pub found_here : (records : Records) (owner : Owner) (es : List Property) (at count key : ℕ) (link : Link) (row : PropertyRow)
     → WalkHere (property_records records) es at count (λ passed. (link ≡ link_after (link_of owner) passed) × (In key (keys_of passed) → ⊥))
-    → spot.link ≡ link → spot.row.id ≡ at → spot.row.rec ≡ rec_at records format.properties_file at → field 4 spot.row.rec format.property_key ≡ key → FoundAt records owner es key spot
-found_here records owner es at count key link spot here link_is id_is rec_is key_is =
+    → row.id ≡ at → row.rec ≡ rec_at records format.properties_file at → field 4 row.rec format.property_key ≡ key → FoundAt records owner es key link row
+found_here records owner es at count key link row here id_is rec_is key_is =
     let rec = rec_is ∙ ap (rec_at records format.properties_file) here.at_is in
     let its : here.property.key ≡ key = sym here.is.key ∙ ap (λ r. field 4 r format.property_key) (sym rec) ∙ key_is in
     record {
@@ -70,7 +70,7 @@ found_here records owner es at count key link spot here link_is id_is rec_is key
       property = here.property;
       after = here.later;
       all = here.all;
-      link_is = link_is ∙ here.kept.0;
+      link_is = here.kept.0;
       id_is = id_is ∙ here.at_is;
       rec_is = rec;
       is = here.is;

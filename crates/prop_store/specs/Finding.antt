@@ -13,8 +13,9 @@ use Rattle.prop_store.specs.PropertyRow.{IsReadRow, IsRow}
 use Rattle.prop_store.specs.Reading.{properties_met}
 use Rattle.prop_store.specs.declared.finding.Search.{Search}
 use Rattle.prop_store.specs.declared.finding.Search.TheVariants.{Absent, Found}
-use Rattle.prop_store.specs.declared.finding.Spot.{Spot}
+use Rattle.prop_store.specs.declared.link.Link.{Link}
 use Rattle.prop_store.specs.declared.owner.Owner.{Owner}
+use Rattle.prop_store.specs.declared.property_row.PropertyRow.{PropertyRow}
 
 -- the property of a key, and its value
 abbrev pub property_of : List Property → ℕ → Option Property
@@ -27,49 +28,50 @@ value_of es key = option_map (λ (e : Property). e.value) (property_of es key)
 -- It is one of these, between those before it and those after it, and its link and its record are
 -- known.
 pub record FoundAt (records : Records) (owner : Owner) (es : List Property) (key : ℕ)
-    (spot : Spot) : Type 0 where
+    (link : Link) (row : PropertyRow) : Type 0 where
   pub before : List Property
   pub property : Property
   pub after : List Property
   pub all : es ≡ before ++ property ∷ after
-  pub link_is : spot.link ≡ link_after (link_of owner) before
-  pub id_is : spot.row.id ≡ property.id
-  pub rec_is : spot.row.rec ≡ rec_at records format.properties_file property.id
+  pub link_is : link ≡ link_after (link_of owner) before
+  pub id_is : row.id ≡ property.id
+  pub rec_is : row.rec ≡ rec_at records format.properties_file property.id
   pub is : IsProperty (property_records records) property (first_property after)
   pub key_is : property.key ≡ key
   pub found : property_of es key ≡ Some property
 
 -- the property of the key was found, or there is none among so many
-abbrev pub IsSought : Records → Owner → List Property → ℕ → Search → Type 0
-IsSought records owner es key (Found spot) = FoundAt records owner es key spot
-IsSought records owner es key (Absent count) = (count ≡ length es) × (property_of es key ≡ None)
+abbrev pub IsSought : Records → Owner → List Property → ℕ → PropertyRow → Search → Type 0
+IsSought records owner es key row (Found link) = FoundAt records owner es key link row
+IsSought records owner es key row (Absent count) =
+    (count ≡ length es) × (property_of es key ≡ None)
 
 -- what was found is linked from its element, has the key and can be written
-pub record IsSpot (owner : Owner) (key : ℕ) (spot : Spot) : Type 0 where
-  pub link : IsLink spot.link
-  pub from : IsLinkOf owner spot.link
-  pub row : IsRow spot.row.id spot.row
-  pub key_is : field 4 spot.row.rec format.property_key ≡ key
+pub record IsPlacedAt (owner : Owner) (key : ℕ) (link : Link) (row : PropertyRow) : Type 0 where
+  pub links : IsLink link
+  pub from : IsLinkOf owner link
+  pub is_row : IsRow row.id row
+  pub key_is : field 4 row.rec format.property_key ≡ key
 
 -- so it is, or there are no more properties than there may be
-abbrev pub IsPlaced : Owner → ℕ → Search → Type 0
-IsPlaced owner key (Found spot) = IsSpot owner key spot
-IsPlaced owner key (Absent count) = count ≤ 32
+abbrev pub IsPlaced : Owner → ℕ → PropertyRow → Search → Type 0
+IsPlaced owner key row (Found link) = IsPlacedAt owner key link row
+IsPlaced owner key row (Absent count) = count ≤ 32
 
 -- It is the first one with the key that the records lead to.
-pub record MetAt (records : Records) (owner : Owner) (key : ℕ) (spot : Spot) : Type 0 where
-  pub rec_is : spot.row.rec ≡ rec_at records format.properties_file spot.row.id
+pub record MetAt (records : Records) (owner : Owner) (key : ℕ) (row : PropertyRow) : Type 0 where
+  pub rec_is : row.rec ≡ rec_at records format.properties_file row.id
   pub is : property_of (properties_met records owner) key
-      ≡ Some (property_at (property_records records) spot.row.id)
+      ≡ Some (property_at (property_records records) row.id)
 
 -- they lead to none with the key
 abbrev pub LacksMet : Records → Owner → ℕ → Type 0
 LacksMet records owner key = property_of (properties_met records owner) key ≡ None
 
 -- so it was found, or they lead to none, and to so many others
-abbrev pub IsMet : Records → Owner → ℕ → Search → Type 0
-IsMet records owner key (Found spot) = MetAt records owner key spot
-IsMet records owner key (Absent count) =
+abbrev pub IsMet : Records → Owner → ℕ → PropertyRow → Search → Type 0
+IsMet records owner key row (Found link) = MetAt records owner key row
+IsMet records owner key row (Absent count) =
     LacksMet records owner key × (count ≡ length (properties_met records owner))
 
 -- they lead to as many as an element may have, none of which has the key
@@ -78,6 +80,6 @@ IsCrowded records owner key =
     LacksMet records owner key × (length (properties_met records owner) ≡ 32)
 
 -- what was found is what the records say
-abbrev pub IsReadAt : Records → Search → Type 0
-IsReadAt records (Found spot) = IsReadRow records spot.row
-IsReadAt records (Absent count) = Unit {0}
+abbrev pub IsReadAt : Records → PropertyRow → Search → Type 0
+IsReadAt records row (Found link) = IsReadRow records row
+IsReadAt records row (Absent count) = Unit {0}

@@ -46,6 +46,7 @@ pub(crate) fn block_ids<R: Reads>(
     ensures cause { HasFaultCause (R.faults space.old) (R.faults space.new) result }
 {
     let mut ids = BlockList::new();
+    let mut rec = Rec::ZEROS;
     let mut from = Key {
         file: PROPERTIES,
         id: property,
@@ -54,7 +55,7 @@ pub(crate) fn block_ids<R: Reads>(
     let mut left = size;
     while left > 0 {
         let piece = piece_size(left);
-        let rec = read_block(space, property, from, at, piece)?;
+        read_block(space, property, from, at, piece, &mut rec)?;
         ids.push(at);
         left -= piece as u16;
         from = Key {
@@ -91,6 +92,7 @@ pub(crate) fn read_text<R: Reads>(
     ensures cause { HasFaultCause (R.faults space.old) (R.faults space.new) result }
 {
     let mut bytes = Vec::new(alloc);
+    let mut rec = Rec::ZEROS;
     let mut from = Key {
         file: PROPERTIES,
         id: property,
@@ -99,7 +101,7 @@ pub(crate) fn read_text<R: Reads>(
     let mut left = size;
     while left > 0 {
         let piece = piece_size(left);
-        let rec = read_block(space, property, from, at, piece)?;
+        read_block(space, property, from, at, piece, &mut rec)?;
         bytes.extend_from_slice(rec.text(BLOCK_TEXT, piece))?;
         left -= piece as u16;
         from = Key {
@@ -125,8 +127,8 @@ fn piece_size(left: u16) -> u8
     }
 }
 
-/// The block that a link of this record leads to, which is to have so many bytes of a property's
-/// text. The record is damaged where the link leads past the mark, the block where it is of no
+/// Reads the block that a link of this record leads to, which is to have so many bytes of a
+/// property's text, into the caller's record. The record of the link is damaged where the link leads past the mark, the block where it is of no
 /// known kind, and else the property.
 fn read_block<R: Reads>(
     space: &mut R,
@@ -134,11 +136,12 @@ fn read_block<R: Reads>(
     from: Key,
     id: u32,
     size: u8,
-) -> Result<Rec, Fault>
+    rec: &mut Rec,
+) -> Result<(), Fault>
     ensures got { R.tells
-        → IfOk result (λ rec. rec ≡ rec_at (R.state space.old).records strings_file id) }
+        → OnOk result (rec.new ≡ rec_at (R.state space.old).records strings_file id) }
     ensures small { OnOk result (id < most_ids) }
-    ensures form { IfOk result (λ rec. HasBlockForm rec size) }
+    ensures form { OnOk result (HasBlockForm rec.new size) }
     ensures sound { R.tells → IsGivenOut (R.state space.old).records strings_file id
         → HasBlockForm (rec_at (R.state space.old).records strings_file id) size
         → NotDamaged result }
@@ -154,14 +157,14 @@ fn read_block<R: Reads>(
         return Err(damaged(PROPERTIES, property, PROPERTY_RULE));
     }
     test_link(space, from, STRINGS, id)?;
-    let rec = space.get(Key { file: STRINGS, id })?;
+    space.get_into(Key { file: STRINGS, id }, rec)?;
     if !is_known(rec.byte(KIND)) {
         return Err(damaged(STRINGS, id, RANGE_RULE));
     }
-    if !has_form(&rec, size) {
+    if !has_form(rec, size) {
         return Err(damaged(PROPERTIES, property, PROPERTY_RULE));
     }
-    Ok(rec)
+    Ok(())
 }
 
 /// Whether the kind is one of a record of a block, in use or not.

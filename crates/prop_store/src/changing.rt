@@ -14,6 +14,7 @@ ghost use Rattle.prop_store.specs.Touching.{LeavesElement, TouchesProperties};
 
 use crate::dropping::{drop_chain, drop_property};
 use crate::finding::{Search, find};
+use crate::property_row::PropertyRow;
 use crate::{Owner, SetFault};
 use plain_graph::Value;
 use rec_bytes::{Fault, NIL, PROPERTY_NEXT, Reads, Space, set_number};
@@ -49,12 +50,13 @@ pub fn unset<S: Space>(space: &mut S, owner: Owner, key: u32) -> Result<Option<u
     ensures onward { S.onward space.old space.new }
     ensures cause { HasFaultCause (S.faults space.old) (S.faults space.new) result }
 {
-    match find(space, owner, key)? {
+    let mut row = PropertyRow::BLANK;
+    match find(space, owner, key, &mut row)? {
         Search::Absent(_) => Ok(None),
-        Search::Found(spot) => {
-            let released = drop_property(space, &spot.row)?;
-            let next = spot.row.rec.number(PROPERTY_NEXT);
-            set_number(space, spot.link.key, spot.link.field, next)?;
+        Search::Found(link) => {
+            let released = drop_property(space, &row)?;
+            let next = row.rec.number(PROPERTY_NEXT);
+            set_number(space, link.key, link.field, next)?;
             Ok(Some(released))
         }
     }

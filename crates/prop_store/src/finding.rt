@@ -12,34 +12,33 @@ use crate::link::Link;
 use crate::property_row::{PropertyRow, property_at};
 use rec_bytes::{Fault, MOST_PROPERTIES, NIL, PROPERTY_KEY, PROPERTY_NEXT, PROPERTY_RULE, Reads};
 
-/// A property that was found: the link to it, and what its record says.
-#[derive(Clone, Copy)]
-pub(crate) struct Spot {
-    pub link: Link,
-    pub row: PropertyRow,
-}
-
-/// What came of a search for a key: where it is, or how many properties there are without it.
+/// What came of a search for a key: the link to its property, or how many properties there are
+/// without it.
 #[derive(Clone, Copy)]
 pub(crate) enum Search {
-    Found(Spot),
+    Found(Link),
     Absent(u32),
 }
 
-/// Finds the property of a key.
-pub(crate) fn find<R: Reads>(space: &mut R, owner: Owner, key: u32) -> Result<Search, Fault>
+/// Finds the property of a key, and reads it into the caller's row.
+pub(crate) fn find<R: Reads>(
+    space: &mut R,
+    owner: Owner,
+    key: u32,
+    row: &mut PropertyRow,
+) -> Result<Search, Fault>
     requires { IsOwner owner }
     ensures found { R.tells → (es : List Property)
         → AreProperties (property_records (R.state space.old).records)
         (first_of (R.state space.old).records owner) es
-        → IfOk result (IsSought (R.state space.old).records owner es key) }
-    ensures met { R.tells → IfOk result (IsMet (R.state space.old).records owner key) }
+        → IfOk result (IsSought (R.state space.old).records owner es key row.new) }
+    ensures met { R.tells → IfOk result (IsMet (R.state space.old).records owner key row.new) }
     ensures sound { R.tells → (es : List Property)
         → HasProperties (R.state space.old).records owner es → NotDamaged result }
-    ensures read { R.tells → IfOk result (IsReadAt (R.state space.old).records) }
+    ensures read { R.tells → IfOk result (IsReadAt (R.state space.old).records row.new) }
     ensures damaged { R.tells → IsInUse (R.state space.old).records owner
         → IfErr result (BlamesBroken (R.state space.old).records (R.state space.old).shape) }
-    ensures placed { IfOk result (IsPlaced owner key) }
+    ensures placed { IfOk result (IsPlaced owner key row.new) }
     ensures cost { R.tells → (es : List Property)
         → AreProperties (property_records (R.state space.old).records)
         (first_of (R.state space.old).records owner) es
@@ -49,7 +48,7 @@ pub(crate) fn find<R: Reads>(space: &mut R, owner: Owner, key: u32) -> Result<Se
     ensures cause { HasFaultCause (R.faults space.old) (R.faults space.new) result }
 {
     let first = owner.first(space)?;
-    find_from(space, owner, first, key)
+    find_from(space, owner, first, key, row)
 }
 
 /// The same of an element whose first property is known, or `NIL` where it has none. It costs no
@@ -59,20 +58,21 @@ pub(crate) fn find_from<R: Reads>(
     owner: Owner,
     first: u32,
     key: u32,
+    row: &mut PropertyRow,
 ) -> Result<Search, Fault>
     requires owner { IsOwner owner }
     requires first { R.tells → first ≡ first_of (R.state space.old).records owner }
     ensures found { R.tells → (es : List Property)
         → AreProperties (property_records (R.state space.old).records)
         (first_of (R.state space.old).records owner) es
-        → IfOk result (IsSought (R.state space.old).records owner es key) }
-    ensures met { R.tells → IfOk result (IsMet (R.state space.old).records owner key) }
+        → IfOk result (IsSought (R.state space.old).records owner es key row.new) }
+    ensures met { R.tells → IfOk result (IsMet (R.state space.old).records owner key row.new) }
     ensures sound { R.tells → (es : List Property)
         → HasProperties (R.state space.old).records owner es → NotDamaged result }
-    ensures read { R.tells → IfOk result (IsReadAt (R.state space.old).records) }
+    ensures read { R.tells → IfOk result (IsReadAt (R.state space.old).records row.new) }
     ensures damaged { R.tells → IsInUse (R.state space.old).records owner
         → IfErr result (BlamesBroken (R.state space.old).records (R.state space.old).shape) }
-    ensures placed { IfOk result (IsPlaced owner key) }
+    ensures placed { IfOk result (IsPlaced owner key row.new) }
     ensures cost { R.tells → (es : List Property)
         → AreProperties (property_records (R.state space.old).records)
         (first_of (R.state space.old).records owner) es
@@ -87,10 +87,9 @@ pub(crate) fn find_from<R: Reads>(
         if at == NIL {
             return Ok(Search::Absent(count));
         }
-        let mut row = PropertyRow::BLANK;
-        property_at(space, owner.key, link.key, at, &mut row)?;
+        property_at(space, owner.key, link.key, at, row)?;
         if row.rec.number(PROPERTY_KEY) == key {
-            return Ok(Search::Found(Spot { link, row }));
+            return Ok(Search::Found(link));
         }
         link = Link::after(at);
         at = row.rec.number(PROPERTY_NEXT);

@@ -69,6 +69,7 @@ pub(crate) fn find_held<R: Reads>(space: &mut R, owner: Owner, first: u32) -> Re
 {
     let mut held = HeldIds::new();
     let mut shared = None;
+    let mut row = PropertyRow::BLANK;
     let mut from = owner.key;
     let mut at = first;
     while at != NIL {
@@ -76,7 +77,6 @@ pub(crate) fn find_held<R: Reads>(space: &mut R, owner: Owner, first: u32) -> Re
         if count == MOST_PROPERTIES as usize {
             return Err(damaged(owner.key.file, owner.key.id, PROPERTY_RULE));
         }
-        let mut row = PropertyRow::BLANK;
         property_at(space, owner.key, from, at, &mut row)?;
         let blocks = value_blocks(space, &row)?;
         let own = blocks.as_slice();

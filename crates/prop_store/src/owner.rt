@@ -2,7 +2,7 @@ ghost use Rattle.std.specs.Prelude.{◌≡◌, IfErr, IfOk};
 ghost use Rattle.rec_bytes.specs.Space.{HasCause, after_get};
 ghost use Rattle.prop_store.specs.Owner.{IsOwner, first_of};
 
-use rec_bytes::{Key, Reads, SpaceFault};
+use rec_bytes::{Key, Reads, Rec, SpaceFault};
 
 /// The place of an element's first property: its record, and the field.
 #[derive(Clone, Copy)]
@@ -22,7 +22,8 @@ impl Owner {
         ensures onward { R.onward space.old space.new }
         ensures cause { HasCause (R.faults space.old) (R.faults space.new) result }
     {
-        let rec = space.get(self.key)?;
+        let mut rec = Rec::ZEROS;
+        space.get_into(self.key, &mut rec)?;
         Ok(rec.number(self.field))
     }
 }

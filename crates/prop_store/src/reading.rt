@@ -86,10 +86,11 @@ pub fn read_key_from<R: Reads>(
     ensures onward { R.onward space.old space.new }
     ensures cause { HasFaultCause (R.faults space.old) (R.faults space.new) result }
 {
-    match find_from(space, owner, first, key)? {
+    let mut row = PropertyRow::BLANK;
+    match find_from(space, owner, first, key, &mut row)? {
         Search::Absent(_) => Ok(None),
-        Search::Found(spot) => {
-            let value = read_value(alloc, space, &spot.row)?;
+        Search::Found(_) => {
+            let value = read_value(alloc, space, &row)?;
             Ok(Some(value))
         }
     }
@@ -151,13 +152,13 @@ pub fn read_all_from<R: Reads>(
     ensures cause { HasFaultCause (R.faults space.old) (R.faults space.new) result }
 {
     let mut props = Vec::new(alloc);
+    let mut row = PropertyRow::BLANK;
     let mut from = owner.key;
     let mut at = first;
     for _ in 0..MOST_PROPERTIES {
         if at == NIL {
             return Ok(props);
         }
-        let mut row = PropertyRow::BLANK;
         property_at(space, owner.key, from, at, &mut row)?;
         let value = read_value(alloc, space, &row)?;
         let key = row.rec.number(PROPERTY_KEY);

@@ -131,7 +131,8 @@ pub fn set<S: Space>(space: &mut S, owner: Owner, key: u32, value: &Value) -> Re
     ensures onward { S.onward space.old space.new }
     ensures cause { HasSetCause (S.faults space.old) (S.faults space.new) result }
 {
-    match find(space, owner, key)? {
+    let mut row = PropertyRow::BLANK;
+    match find(space, owner, key, &mut row)? {
         Search::Absent(count) => {
             if count >= MOST_PROPERTIES {
                 return Err(SetFault::PropsFull { count });
@@ -139,7 +140,7 @@ pub fn set<S: Space>(space: &mut S, owner: Owner, key: u32, value: &Value) -> Re
             add(space, owner, key, value)?;
             Ok(0)
         }
-        Search::Found(spot) => put_again(space, &spot.row, value),
+        Search::Found(_) => put_again(space, &row, value),
     }
 }
 

@@ -23,17 +23,17 @@ returns-then-id-eq-NIL-clause-at_most g c = reads_none 1 _
 pub returns-in_err-test_link-clause-at_most : goal.returns-in_err-test_link-clause-at_most
 returns-in_err-test_link-clause-at_most g c = reads_none 1 _
 
-pub returns-in_err-rec-clause-at_most : goal.returns-in_err-rec-clause-at_most
-returns-in_err-rec-clause-at_most g c = reads_one 1 _ _ (omega arith) c.in_err-rec.ensures.state
+pub returns-in_err-get_into-clause-at_most : goal.returns-in_err-get_into-clause-at_most
+returns-in_err-get_into-clause-at_most g c = reads_one 1 _ _ (omega arith) c.in_err-get_into.ensures.state
 
 pub returns-then-not-is_known-clause-at_most : goal.returns-then-not-is_known-clause-at_most
-returns-then-not-is_known-clause-at_most g c = reads_one 1 _ _ (omega arith) c.in_ok-rec.ensures.state
+returns-then-not-is_known-clause-at_most g c = reads_one 1 _ _ (omega arith) c.in_ok-get_into.ensures.state
 
 pub returns-then-not-has_form-clause-at_most : goal.returns-then-not-has_form-clause-at_most
-returns-then-not-has_form-clause-at_most g c = reads_one 1 _ _ (omega arith) c.in_ok-rec.ensures.state
+returns-then-not-has_form-clause-at_most g c = reads_one 1 _ _ (omega arith) c.in_ok-get_into.ensures.state
 
 pub returns-clause-at_most : goal.returns-clause-at_most
-returns-clause-at_most g c = reads_one 1 _ _ (omega arith) c.in_ok-rec.ensures.state
+returns-clause-at_most g c = reads_one 1 _ _ (omega arith) c.in_ok-get_into.ensures.state
 
 -- ---- which record is blamed
 
@@ -72,28 +72,28 @@ returns-then-not-is_known-clause-damaged g c tells =
     let s = g.R.Reads.state c.args.space.now in
     subst (IsBlockFault s c.args.property c.args.from c.args.id c.args.size) (sym c.damaged-then-not-is_known.ensures)
     (Unknown (λ k. fails c.is_known.result _ c.is_known.ensures c.if-not-is_known.true
-    (subst IsBlockKind (kind_read s c.args.id c.in_ok-rec.rec c.in_ok-test_link.ensures.given.low (c.in_ok-rec.ensures.got tells) ∙ sym c.byte.ensures) k)))
+    (subst IsBlockKind (kind_read s c.args.id c.get_into.new.rec c.in_ok-test_link.ensures.given.low (c.in_ok-get_into.ensures.got tells) ∙ sym c.byte.ensures) k)))
 
 pub returns-then-not-has_form-clause-damaged : goal.returns-then-not-has_form-clause-damaged
 returns-then-not-has_form-clause-damaged g c tells =
     let s = g.R.Reads.state c.args.space.now in
-    let got = c.in_ok-rec.ensures.got tells in
-    let kind_is = kind_read s c.args.id c.in_ok-rec.rec c.in_ok-test_link.ensures.given.low got in
-    let known : IsBlockKind (field 1 c.in_ok-rec.rec kind) = subst IsBlockKind c.byte.ensures (holds c.is_known.result _ c.is_known.ensures c.if-not-is_known.false) in
+    let got = c.in_ok-get_into.ensures.got tells in
+    let kind_is = kind_read s c.args.id c.get_into.new.rec c.in_ok-test_link.ensures.given.low got in
+    let known : IsBlockKind (field 1 c.get_into.new.rec kind) = subst IsBlockKind c.byte.ensures (holds c.is_known.result _ c.is_known.ensures c.if-not-is_known.false) in
     subst (IsBlockFault s c.args.property c.args.from c.args.id c.args.size) (sym c.damaged-then-not-has_form.ensures)
     (NotSuch (λ k. fails c.has_form.result _ c.has_form.ensures c.if-not-has_form.true (record {
-      kind = ⊎_elim (λ (e : field 1 c.in_ok-rec.rec kind ≡ free_kind). absurd (k.used (kind_is ∙ e))) (λ (e : field 1 c.in_ok-rec.rec kind ≡ block). e) known;
+      kind = ⊎_elim (λ (e : field 1 c.get_into.new.rec kind ≡ free_kind). absurd (k.used (kind_is ∙ e))) (λ (e : field 1 c.get_into.new.rec kind ≡ block). e) known;
       length_is = ap (λ r. field 1 r block_length) got ∙ k.size_is;
     })))
 
 pub returns-clause-block : goal.returns-clause-block
 returns-clause-block g c tells =
     let s = g.R.Reads.state c.args.space.now in
-    let got = c.in_ok-rec.ensures.got tells in
-    let form : HasBlockForm c.in_ok-rec.rec c.args.size = holds c.has_form.result _ c.has_form.ensures c.if-not-has_form.false in
+    let got = c.in_ok-get_into.ensures.got tells in
+    let form : HasBlockForm c.get_into.new.rec c.args.size = holds c.has_form.result _ c.has_form.ensures c.if-not-has_form.false in
     record {
       some = c.if-id-eq-NIL.false;
-      used = λ e. absurd (let z : block ≡ free_kind = sym form.kind ∙ sym (kind_read s c.args.id c.in_ok-rec.rec c.in_ok-test_link.ensures.given.low got) ∙ e in omega arith);
+      used = λ e. absurd (let z : block ≡ free_kind = sym form.kind ∙ sym (kind_read s c.args.id c.get_into.new.rec c.in_ok-test_link.ensures.given.low got) ∙ e in omega arith);
       size_is = ap (λ r. field 1 r block_length) (sym got) ∙ form.length_is;
     }
 
@@ -115,20 +115,20 @@ returns-in_err-test_link-clause-state g c = never_ok c.from_residual.result _ _ 
 pub returns-in_err-test_link-clause-onward : goal.returns-in_err-test_link-clause-onward
 returns-in_err-test_link-clause-onward g c = search rules
 
-pub returns-in_err-rec-clause-got : goal.returns-in_err-rec-clause-got
-returns-in_err-rec-clause-got g c _ = never_ok c.from_residual-in_err-rec.result _ _ c.from_residual-in_err-rec.ensures.1
+pub returns-in_err-get_into-clause-got : goal.returns-in_err-get_into-clause-got
+returns-in_err-get_into-clause-got g c _ = never_ok c.from_residual-in_err-get_into.result _ _ c.from_residual-in_err-get_into.ensures.1
 
-pub returns-in_err-rec-clause-small : goal.returns-in_err-rec-clause-small
-returns-in_err-rec-clause-small g c = never_ok c.from_residual-in_err-rec.result _ _ c.from_residual-in_err-rec.ensures.1
+pub returns-in_err-get_into-clause-small : goal.returns-in_err-get_into-clause-small
+returns-in_err-get_into-clause-small g c = never_ok c.from_residual-in_err-get_into.result _ _ c.from_residual-in_err-get_into.ensures.1
 
-pub returns-in_err-rec-clause-form : goal.returns-in_err-rec-clause-form
-returns-in_err-rec-clause-form g c = never_ok c.from_residual-in_err-rec.result _ _ c.from_residual-in_err-rec.ensures.1
+pub returns-in_err-get_into-clause-form : goal.returns-in_err-get_into-clause-form
+returns-in_err-get_into-clause-form g c = never_ok c.from_residual-in_err-get_into.result _ _ c.from_residual-in_err-get_into.ensures.1
 
-pub returns-in_err-rec-clause-block : goal.returns-in_err-rec-clause-block
-returns-in_err-rec-clause-block g c _ = never_ok c.from_residual-in_err-rec.result _ _ c.from_residual-in_err-rec.ensures.1
+pub returns-in_err-get_into-clause-block : goal.returns-in_err-get_into-clause-block
+returns-in_err-get_into-clause-block g c _ = never_ok c.from_residual-in_err-get_into.result _ _ c.from_residual-in_err-get_into.ensures.1
 
-pub returns-in_err-rec-clause-state : goal.returns-in_err-rec-clause-state
-returns-in_err-rec-clause-state g c = never_ok c.from_residual-in_err-rec.result _ _ c.from_residual-in_err-rec.ensures.1
+pub returns-in_err-get_into-clause-state : goal.returns-in_err-get_into-clause-state
+returns-in_err-get_into-clause-state g c = never_ok c.from_residual-in_err-get_into.result _ _ c.from_residual-in_err-get_into.ensures.1
 
 pub returns-clause-cause : goal.returns-clause-cause
 returns-clause-cause g c = ok_cause _ _ _ _ (omega arith)

@@ -13,7 +13,7 @@ use Rattle.prop_store.specs.Finding.{FoundAt, IsPlaced, IsReadAt, IsSought}
 use Rattle.prop_store.specs.PropertyRow.{IsReadRow}
 use Rattle.prop_store.proofs.ElementChanges.{has_properties}
 use Rattle.prop_store.proofs.ElementGraphs.{absent_value, owns_listed, removes_graph}
-use Rattle.prop_store.proofs.ElementParts.{drops_same, held_same, held_spot}
+use Rattle.prop_store.proofs.ElementParts.{drops_same, held_same, held_row}
 use Rattle.prop_store.proofs.Breaches.{text_blames, text_fault_same}
 use Rattle.prop_store.proofs.Exits.{same_has, space_has}
 use Rattle.prop_store.proofs.ReadCounts.{reads_records, reads_same, reads_one}
@@ -27,18 +27,18 @@ use Rattle.prop_store.proofs.changing.unset.Goals.{In-Found}
 use Rattle.prop_store.proofs.changing.unset.Given.{Over}
 
 -- where the property of the key is
-spot : (g : Over) (c : In-Found g) → g.S.Reads.tells → (es : List Property) → OwnsProperties (g.S.Reads.state c.args.space.now) c.args.owner es
-    → FoundAt (g.S.Reads.state c.args.space.now).records c.args.owner es c.args.key c.in-Found.spot
-spot g c tells es owns = subst (IsSought (g.S.Reads.state c.args.space.now).records c.args.owner es c.args.key) c.in-Found.is (c.in_ok-find.ensures.found tells es owns.held.are)
+found : (g : Over) (c : In-Found g) → g.S.Reads.tells → (es : List Property) → OwnsProperties (g.S.Reads.state c.args.space.now) c.args.owner es
+    → FoundAt (g.S.Reads.state c.args.space.now).records c.args.owner es c.args.key c.in-Found.link c.find.new.row
+found g c tells es owns = subst (IsSought (g.S.Reads.state c.args.space.now).records c.args.owner es c.args.key c.find.new.row) c.in-Found.is (c.in_ok-find.ensures.found tells es owns.held.are)
 
 -- it is in use
 held : (g : Over) (c : In-Found g) (tells : g.S.Reads.tells) (es : List Property) (owns : OwnsProperties (g.S.Reads.state c.args.space.now) c.args.owner es)
-    → IsHeld (g.S.Reads.state c.find.new.space) c.in-Found.spot.row (spot g c tells es owns).property
+    → IsHeld (g.S.Reads.state c.find.new.space) c.find.new.row (found g c tells es owns).property
 held g c tells es owns =
     let s = g.S.Reads.state c.args.space.now in
-    let f = spot g c tells es owns in
-    held_same s (g.S.Reads.state c.find.new.space) c.in-Found.spot.row f.property (reads_same 33 _ _ c.find.ensures.at_most)
-    (held_spot s c.args.owner es owns f.before f.property f.after f.all c.in-Found.spot.row f.id_is f.rec_is)
+    let f = found g c tells es owns in
+    held_same s (g.S.Reads.state c.find.new.space) c.find.new.row f.property (reads_same 33 _ _ c.find.ensures.at_most)
+    (held_row s c.args.owner es owns f.before f.property f.after f.all c.find.new.row f.id_is f.rec_is)
 
 pub returns-in_err-find-clause-alone_sound : goal.returns-in_err-find-clause-alone_sound
 returns-in_err-find-clause-alone_sound g c tells es owns =
@@ -51,7 +51,7 @@ returns-in_err-find-clause-sound g c tells has =
 
 pub returns-in-Absent-clause-alone : goal.returns-in-Absent-clause-alone
 returns-in-Absent-clause-alone g c tells es owns =
-    let f = subst (IsSought (g.S.Reads.state c.args.space.now).records c.args.owner es c.args.key) c.in-Absent.is (c.in_ok-find.ensures.found tells es owns.held.are) in
+    let f = subst (IsSought (g.S.Reads.state c.args.space.now).records c.args.owner es c.args.key c.find.new.row) c.in-Absent.is (c.in_ok-find.ensures.found tells es owns.held.are) in
     (f.1, reads_same 33 _ _ c.find.ensures.at_most)
 
 pub returns-in-Absent-clause-unset : goal.returns-in-Absent-clause-unset
@@ -67,7 +67,7 @@ pub returns-in_err-released-in-Found-clause-alone_sound : goal.returns-in_err-re
 returns-in_err-released-in-Found-clause-alone_sound g c tells es owns =
     let p = err_from_is_err_and c.from_residual-in_err-released-in-Found.result c.from_residual-in_err-released-in-Found.ensures.1 in
     let at = (goal.at.returns-in_err-released-in-Found-clause-alone_sound g c).In-Found in
-    rw (p.1, p.2) (c.in_err-released-in-Found.ensures.sound tells (spot g at tells es owns).property (held g at tells es owns))
+    rw (p.1, p.2) (c.in_err-released-in-Found.ensures.sound tells (found g at tells es owns).property (held g at tells es owns))
 
 pub returns-in_err-released-in-Found-clause-sound : goal.returns-in_err-released-in-Found-clause-sound
 returns-in_err-released-in-Found-clause-sound g c tells has =
@@ -79,12 +79,12 @@ returns-in_ok-set_number-in-Found-clause-alone g c tells es owns =
     let m = g.S.Reads.state c.drop_property.new.space in
     let t = g.S.Reads.state c.set_number.new.space in
     let at = (goal.at.returns-in_ok-set_number-in-Found-clause-alone g c).In-Found in
-    let f = spot g at tells es owns in
+    let f = found g at tells es owns in
     let drops = drops_same s (g.S.Reads.state c.find.new.space) m f.property c.in_ok-released-in-Found.released (reads_same 33 _ _ c.find.ensures.at_most) (c.in_ok-released-in-Found.ensures.dropped tells f.property (held g at tells es owns)) in
     let next = c.number-next.ensures ∙ ap (λ r. field 4 r property_next) f.rec_is ∙ f.is.next_is in
     value_removed s c.args.owner c.requires.owner es owns f.before f.property f.after f.all m t c.in_ok-released-in-Found.released c.number-next.result drops next
-    (subst (λ n. n < 2 ^ 32) (sym c.number-next.ensures) (field-lt 4 c.in-Found.spot.row.rec property_next))
-    c.in-Found.spot.link c.args.key f.key_is f.link_is (c.in_ok-set_number-in-Found.ensures.ok tells)
+    (subst (λ n. n < 2 ^ 32) (sym c.number-next.ensures) (field-lt 4 c.find.new.row.rec property_next))
+    c.in-Found.link c.args.key f.key_is f.link_is (c.in_ok-set_number-in-Found.ensures.ok tells)
 
 pub returns-in_ok-set_number-in-Found-clause-unset : goal.returns-in_ok-set_number-in-Found-clause-unset
 returns-in_ok-set_number-in-Found-clause-unset g c tells has =
@@ -100,10 +100,10 @@ returns-in_ok-set_number-in-Found-clause-writes g c =
     let m = g.S.Reads.state c.drop_property.new.space in
     let t = g.S.Reads.state c.set_number.new.space in
     let n = c.in_ok-released-in-Found.released in
-    let placed = subst (IsPlaced c.args.owner c.args.key) c.in-Found.is c.in_ok-find.ensures.placed in
+    let placed = subst (IsPlaced c.args.owner c.args.key c.find.new.row) c.in-Found.is c.in_ok-find.ensures.placed in
     at_most_then (1 + n) 1 (2 + n) s m t (omega arith)
     (at_most_then 0 (1 + n) (1 + n) s r m (omega arith) (reads_write 0 s r (reads_same 33 _ _ c.find.ensures.at_most)) (touched_count 1 n (1 + n) r m (omega arith) c.in_ok-released-in-Found.ensures.touches))
-    (one_writes m t c.in-Found.spot.link.key placed.link.own c.set_number.ensures.writes)
+    (one_writes m t c.in-Found.link.key placed.links.own c.set_number.ensures.writes)
 
 pub returns-in_err-find-clause-at_most : goal.returns-in_err-find-clause-at_most
 returns-in_err-find-clause-at_most g c = touches_reads _ 2 22 _ _ (reads_same 33 _ _ c.find.ensures.at_most)
@@ -128,10 +128,10 @@ pub returns-in_ok-set_number-in-Found-clause-touches : goal.returns-in_ok-set_nu
 returns-in_ok-set_number-in-Found-clause-touches g c =
     let n = c.in_ok-released-in-Found.released in
     let dropped = touches_beside (c.args.owner.key ∷ []) 1 n (g.S.Reads.state c.find.new.space) (g.S.Reads.state c.drop_property.new.space) c.in_ok-released-in-Found.ensures.touches in
-    let placed = subst (IsPlaced c.args.owner c.args.key) c.in-Found.is c.in_ok-find.ensures.placed in
+    let placed = subst (IsPlaced c.args.owner c.args.key c.find.new.row) c.in-Found.is c.in_ok-find.ensures.placed in
     touches_after _ 2 n _ _ _ (reads_same 33 _ _ c.find.ensures.at_most)
     (touches_then _ 1 n 1 0 2 n _ _ _ (omega arith) (omega arith) dropped
-    (touches_link c.args.owner c.in-Found.spot.link _ _ 4 c.in-Found.spot.link.field c.number-next.result placed.from c.set_number.ensures.writes c.in_ok-set_number-in-Found.ensures.ok))
+    (touches_link c.args.owner c.in-Found.link _ _ 4 c.in-Found.link.field c.number-next.result placed.from c.set_number.ensures.writes c.in_ok-set_number-in-Found.ensures.ok))
 
 pub returns-in_ok-set_number-in-Found-clause-at_most : goal.returns-in_ok-set_number-in-Found-clause-at_most
 returns-in_ok-set_number-in-Found-clause-at_most g c =
@@ -164,10 +164,10 @@ returns-in_ok-set_number-in-Found-clause-few_writes g c =
     let r = g.S.Reads.state c.find.new.space in
     let m = g.S.Reads.state c.drop_property.new.space in
     let t = g.S.Reads.state c.set_number.new.space in
-    let placed = subst (IsPlaced c.args.owner c.args.key) c.in-Found.is c.in_ok-find.ensures.placed in
+    let placed = subst (IsPlaced c.args.owner c.args.key c.find.new.row) c.in-Found.is c.in_ok-find.ensures.placed in
     at_most_then 23 1 24 _ m t (omega arith)
     (at_most_then 0 23 23 _ r m (omega arith) (reads_write 0 _ r (reads_same 33 _ _ c.find.ensures.at_most)) (touched_count 1 22 23 r m (omega arith) c.drop_property.ensures.at_most))
-    (one_writes m t c.in-Found.spot.link.key placed.link.own c.set_number.ensures.writes)
+    (one_writes m t c.in-Found.link.key placed.links.own c.set_number.ensures.writes)
 
 -- ---- which record is blamed
 
@@ -181,10 +181,10 @@ returns-in_err-released-in-Found-clause-damaged g c tells used =
     let s = g.S.Reads.state c.args.space.now in
     let r = g.S.Reads.state c.find.new.space in
     let reads = c.in_ok-find.ensures.at_most in
-    let read = subst (λ (z : Records). IsReadRow z c.in-Found.spot.row) (sym (reads_records 33 s r reads)) (subst (IsReadAt s.records) c.in-Found.is (c.in_ok-find.ensures.read tells)) in
+    let read = subst (λ (z : Records). IsReadRow z c.find.new.row) (sym (reads_records 33 s r reads)) (subst (IsReadAt s.records c.find.new.row) c.in-Found.is (c.in_ok-find.ensures.read tells)) in
     same_has (BlamesBroken s.records s.shape) c.from_residual-in_err-released-in-Found.result c.in_err-released-in-Found.field-0.0 c.from_residual-in_err-released-in-Found.ensures.1
-    (text_blames s c.in-Found.spot.row.id c.in_err-released-in-Found.field-0.0
-    (text_fault_same s r (reads_records 33 s r reads) (ap (λ (z : State). z.shape) (reads_same 33 s r reads)) c.in-Found.spot.row.id c.in_err-released-in-Found.field-0.0 (c.in_err-released-in-Found.ensures.damaged tells read)))
+    (text_blames s c.find.new.row.id c.in_err-released-in-Found.field-0.0
+    (text_fault_same s r (reads_records 33 s r reads) (ap (λ (z : State). z.shape) (reads_same 33 s r reads)) c.find.new.row.id c.in_err-released-in-Found.field-0.0 (c.in_err-released-in-Found.ensures.damaged tells read)))
 
 pub returns-in_err-set_number-in-Found-clause-damaged : goal.returns-in_err-set_number-in-Found-clause-damaged
 returns-in_err-set_number-in-Found-clause-damaged g c tells used =

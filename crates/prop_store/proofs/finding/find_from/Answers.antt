@@ -64,7 +64,7 @@ returns-then-number-key-clause-found g c tells es are =
     let now = g.R.Reads.state c.loop-count.space in
     let here = walk_here _ es _ _ _ c.if-at.false (c.loop-count.invariant.told tells es are) in
     let rec_is = c.in_ok-property_at.ensures.got tells ∙ ap (λ r. rec_at r properties_file c.loop-count.at) (reads_records _ old now c.loop-count.invariant.reads) in
-    found_here old.records c.args.owner es c.loop-count.at c.loop-count.count c.args.key c.loop-count.link _ here refl c.in_ok-property_at.ensures.row.id_is rec_is (sym c.number.ensures ∙ c.if-number-key.true)
+    found_here old.records c.args.owner es c.loop-count.at c.loop-count.count c.args.key c.loop-count.link _ here c.in_ok-property_at.ensures.row.id_is rec_is (sym c.number.ensures ∙ c.if-number-key.true)
 
 pub returns-then-number-key-clause-met : goal.returns-then-number-key-clause-met
 returns-then-number-key-clause-met g c tells =

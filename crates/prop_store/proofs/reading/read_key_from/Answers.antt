@@ -25,9 +25,9 @@ returns-in_err-value-in-Found-clause-sound g c tells es has =
     let old = g.R.Reads.state c.args.space.now in
     let now = g.R.Reads.state c.find_from.new.space in
     let p = err_from_is_err_and c.from_residual-in_err-value-in-Found.result c.from_residual-in_err-value-in-Found.ensures.1 in
-    let f = subst (IsSought old.records c.args.owner es c.args.key) c.in-Found.is (c.in_ok-find_from.ensures.found tells es has.are) in
+    let f = subst (IsSought old.records c.args.owner es c.args.key c.find_from.new.row) c.in-Found.is (c.in_ok-find_from.ensures.found tells es has.are) in
     let same = reads_records 32 old now c.in_ok-find_from.ensures.at_most in
-    let value = has_value old.records now.records f.property (first_property f.after) c.in-Found.spot.row.rec same f.is f.rec_is in
+    let value = has_value old.records now.records f.property (first_property f.after) c.find_from.new.row.rec same f.is f.rec_is in
     rw (p.1, p.2) (c.in_err-value-in-Found.ensures.sound tells f.property.value f.property.blocks value (blocks_given old.records now.records c.args.owner es f.before f.property f.after same has f.all f.is.blocks))
 
 pub returns-in_err-value-in-Found-clause-at_most : goal.returns-in_err-value-in-Found-clause-at_most
@@ -36,8 +36,8 @@ returns-in_err-value-in-Found-clause-at_most g c = reads_then 32 22 54 _ _ _ (om
 pub returns-in_ok-value-in-Found-clause-met : goal.returns-in_ok-value-in-Found-clause-met
 returns-in_ok-value-in-Found-clause-met g c tells =
     let old = g.R.Reads.state c.args.space.now in
-    value_found old.records (g.R.Reads.state c.find_from.new.space).records c.args.owner c.args.key c.in-Found.spot c.in_ok-value-in-Found.value (reads_records 32 old _ c.in_ok-find_from.ensures.at_most)
-    (subst (IsMet old.records c.args.owner c.args.key) c.in-Found.is (c.in_ok-find_from.ensures.met tells)) (c.in_ok-value-in-Found.ensures.met tells)
+    value_found old.records (g.R.Reads.state c.find_from.new.space).records c.args.owner c.args.key c.find_from.new.row c.in_ok-value-in-Found.value (reads_records 32 old _ c.in_ok-find_from.ensures.at_most)
+    (subst (IsMet old.records c.args.owner c.args.key c.find_from.new.row) c.in-Found.is (c.in_ok-find_from.ensures.met tells)) (c.in_ok-value-in-Found.ensures.met tells)
 
 pub returns-in_ok-value-in-Found-clause-read : goal.returns-in_ok-value-in-Found-clause-read
 returns-in_ok-value-in-Found-clause-read g c tells es are =
@@ -64,10 +64,10 @@ returns-in_err-value-in-Found-clause-damaged g c tells used =
     let old = g.R.Reads.state c.args.space.now in
     let now = g.R.Reads.state c.find_from.new.space in
     let reads = c.in_ok-find_from.ensures.at_most in
-    let read = subst (λ (r : Records). IsReadRow r c.in-Found.spot.row) (sym (reads_records 32 old now reads)) (subst (IsReadAt old.records) c.in-Found.is (c.in_ok-find_from.ensures.read tells)) in
+    let read = subst (λ (r : Records). IsReadRow r c.find_from.new.row) (sym (reads_records 32 old now reads)) (subst (IsReadAt old.records c.find_from.new.row) c.in-Found.is (c.in_ok-find_from.ensures.read tells)) in
     same_has (BlamesBroken old.records old.shape) c.from_residual-in_err-value-in-Found.result c.in_err-value-in-Found.field-0.0 c.from_residual-in_err-value-in-Found.ensures.1
-    (text_blames old c.in-Found.spot.row.id c.in_err-value-in-Found.field-0.0
-    (text_fault_same old now (reads_records 32 old now reads) (ap (λ (z : State). z.shape) (reads_same 32 old now reads)) c.in-Found.spot.row.id c.in_err-value-in-Found.field-0.0 (c.in_err-value-in-Found.ensures.damaged tells read)))
+    (text_blames old c.find_from.new.row.id c.in_err-value-in-Found.field-0.0
+    (text_fault_same old now (reads_records 32 old now reads) (ap (λ (z : State). z.shape) (reads_same 32 old now reads)) c.find_from.new.row.id c.in_err-value-in-Found.field-0.0 (c.in_err-value-in-Found.ensures.damaged tells read)))
 
 pub returns-in_err-value-in-Found-clause-cause : goal.returns-in_err-value-in-Found-clause-cause
 returns-in_err-value-in-Found-clause-cause g c =

@@ -20,7 +20,7 @@ use Rattle.prop_store.specs.declared.set_fault.SetFault.TheVariants.{PropsFull}
 use Rattle.prop_store.proofs.ElementSteps.{meta_of_element}
 use Rattle.prop_store.proofs.ElementChanges.{has_properties, owns_read}
 use Rattle.prop_store.proofs.ElementGraphs.{owns_listed, refusal_graph, sets_graph}
-use Rattle.prop_store.proofs.ElementParts.{held_same, held_spot}
+use Rattle.prop_store.proofs.ElementParts.{held_same, held_row}
 use Rattle.prop_store.proofs.ElementSets.{next_leads, no_other_blocks, put_read_fault, puts_read, read_refusal, refusal_read, sets_read, value_replaced}
 use Rattle.prop_store.proofs.Midway.{set_caused_fault, set_caused_more, set_has, set_read, set_still_fault}
 use Rattle.prop_store.proofs.ReadCounts.{reads_records, reads_same, same_then}
@@ -53,18 +53,18 @@ same : (g : Over) (c : After-put_again g) → SameButReads (g.S.Reads.state c.ar
 same g c = reads_same 33 _ _ c.find.ensures.at_most
 
 -- where the property of the key is
-spot : (g : Over) (c : After-put_again g) → g.S.Reads.tells → (es : List Property) → OwnsProperties (g.S.Reads.state c.args.space.now) c.args.owner es
-    → FoundAt (g.S.Reads.state c.args.space.now).records c.args.owner es c.args.key c.in-Found.spot
-spot g c tells es owns = subst (IsSought (g.S.Reads.state c.args.space.now).records c.args.owner es c.args.key) c.in-Found.is (c.in_ok-count.ensures.found tells es owns.held.are)
+found : (g : Over) (c : After-put_again g) → g.S.Reads.tells → (es : List Property) → OwnsProperties (g.S.Reads.state c.args.space.now) c.args.owner es
+    → FoundAt (g.S.Reads.state c.args.space.now).records c.args.owner es c.args.key c.in-Found.field-0 c.find.new.row
+found g c tells es owns = subst (IsSought (g.S.Reads.state c.args.space.now).records c.args.owner es c.args.key c.find.new.row) c.in-Found.is (c.in_ok-count.ensures.found tells es owns.held.are)
 
 -- it is in use
 held : (g : Over) (c : After-put_again g) (tells : g.S.Reads.tells) (es : List Property) (owns : OwnsProperties (g.S.Reads.state c.args.space.now) c.args.owner es)
-    → IsHeld (g.S.Reads.state c.find.new.space) c.in-Found.spot.row (spot g c tells es owns).property
+    → IsHeld (g.S.Reads.state c.find.new.space) c.find.new.row (found g c tells es owns).property
 held g c tells es owns =
     let s = g.S.Reads.state c.args.space.now in
-    let f = spot g c tells es owns in
-    held_same s (g.S.Reads.state c.find.new.space) c.in-Found.spot.row f.property (same g c)
-    (held_spot s c.args.owner es owns f.before f.property f.after f.all c.in-Found.spot.row f.id_is f.rec_is)
+    let f = found g c tells es owns in
+    held_same s (g.S.Reads.state c.find.new.space) c.find.new.row f.property (same g c)
+    (held_row s c.args.owner es owns f.before f.property f.after f.all c.find.new.row f.id_is f.rec_is)
 
 pub returns-in_err-count-clause-alone_refused : goal.returns-in_err-count-clause-alone_refused
 returns-in_err-count-clause-alone_refused g c tells es owns known =
@@ -81,7 +81,7 @@ returns-in_err-count-clause-refused g c tells has =
 pub returns-then-count-ge-MOST_PROPERTIES-clause-alone_refused :
     goal.returns-then-count-ge-MOST_PROPERTIES-clause-alone_refused
 returns-then-count-ge-MOST_PROPERTIES-clause-alone_refused g c tells es owns known =
-    let f = subst (IsSought (g.S.Reads.state c.args.space.now).records c.args.owner es c.args.key) c.in-Absent.is (c.in_ok-count.ensures.found tells es owns.held.are) in
+    let f = subst (IsSought (g.S.Reads.state c.args.space.now).records c.args.owner es c.args.key c.find.new.row) c.in-Absent.is (c.in_ok-count.ensures.found tells es owns.held.are) in
     let few = owns.held.are.few in
     let a = f.0 in
     let b = c.if-count-ge-MOST_PROPERTIES.true in
@@ -100,7 +100,7 @@ returns-in_err-add-in-Absent-clause-alone_refused g c tells es owns known =
     let s = g.S.Reads.state c.args.space.now in
     let z = g.S.Reads.state c.find.new.space in
     let same = reads_same 33 s z c.find.ensures.at_most in
-    let f = subst (IsSought s.records c.args.owner es c.args.key) c.in-Absent.is (c.in_ok-count.ensures.found tells es owns.held.are) in
+    let f = subst (IsSought s.records c.args.owner es c.args.key c.find.new.row) c.in-Absent.is (c.in_ok-count.ensures.found tells es owns.held.are) in
     rw (p.1, p.2) (refusal_read s z es c.args.key c.args.value.now c.in_err-add-in-Absent.field-0.0 same
     (c.in_err-add-in-Absent.ensures.alone_refused tells es (owns_read s c.args.owner es owns z same) (known_read s z c.args.key same known) f.1 (fewer es c.in-Absent.count f.0 c.if-count-ge-MOST_PROPERTIES.false)))
 
@@ -115,7 +115,7 @@ returns-in_ok-add-in-Absent-clause-alone g c tells es owns known =
     let s = g.S.Reads.state c.args.space.now in
     let z = g.S.Reads.state c.find.new.space in
     let same = reads_same 33 s z c.find.ensures.at_most in
-    let f = subst (IsSought s.records c.args.owner es c.args.key) c.in-Absent.is (c.in_ok-count.ensures.found tells es owns.held.are) in
+    let f = subst (IsSought s.records c.args.owner es c.args.key c.find.new.row) c.in-Absent.is (c.in_ok-count.ensures.found tells es owns.held.are) in
     sets_read s z (g.S.Reads.state c.add.new.space) c.args.owner es c.args.key c.args.value.now 0 same
     (c.in_ok-add-in-Absent.ensures.alone tells es (owns_read s c.args.owner es owns z same) (known_read s z c.args.key same known) f.1 (fewer es c.in-Absent.count f.0 c.if-count-ge-MOST_PROPERTIES.false))
 
@@ -131,8 +131,8 @@ returns-in-Found-clause-alone g c tells es owns known =
     let s = g.S.Reads.state c.args.space.now in
     let z = g.S.Reads.state c.find.new.space in
     let m = g.S.Reads.state c.put_again.new.space in
-    let row = c.in-Found.spot.row in
-    let f = spot g c tells es owns in
+    let row = c.find.new.row in
+    let f = found g c tells es owns in
     let next_is = ap (λ r. field 4 r property_next) f.rec_is ∙ f.is.next_is in
     let key_is = ap (λ r. field 4 r property_key) f.rec_is ∙ f.is.key ∙ f.key_is in
     let may = next_leads s c.args.owner es owns z (same g c) f.before f.property f.after f.all (field 4 row.rec property_next) next_is in
@@ -157,7 +157,7 @@ pub returns-in-Found-clause-alone_refused : goal.returns-in-Found-clause-alone_r
 returns-in-Found-clause-alone_refused g c tells es owns known =
     let s = g.S.Reads.state c.args.space.now in
     let z = g.S.Reads.state c.find.new.space in
-    let f = spot g c tells es owns in
+    let f = found g c tells es owns in
     IfErr-weaker c.put_again.result (IsPutFault z (length f.property.blocks) (blocks_of c.args.value.now)) (IsSetRefusalAlone s es c.args.key c.args.value.now)
     (λ fault put. no_other_blocks s c.args.owner es owns c.args.key c.args.value.now f.property fault f.found (put_read_fault s z (length f.property.blocks) (blocks_of c.args.value.now) fault (same g c) put))
     (c.put_again.ensures.refused tells f.property (held g c tells es owns))
@@ -232,7 +232,7 @@ pub returns-in-Found-clause-damaged : goal.returns-in-Found-clause-damaged
 returns-in-Found-clause-damaged g c tells used =
     let s = g.S.Reads.state c.args.space.now in
     let z = g.S.Reads.state c.find.new.space in
-    let read = subst (λ (r : Records). IsReadRow r c.in-Found.spot.row) (sym (reads_records 33 s z c.find.ensures.at_most)) (subst (IsReadAt s.records) c.in-Found.is (c.in_ok-count.ensures.read tells)) in
+    let read = subst (λ (r : Records). IsReadRow r c.find.new.row) (sym (reads_records 33 s z c.find.ensures.at_most)) (subst (IsReadAt s.records c.find.new.row) c.in-Found.is (c.in_ok-count.ensures.read tells)) in
     IfErr-weaker c.put_again.result (SetBlamesBroken z) (SetBlamesBroken s) (λ fault why. set_read s z fault (same g c) why) (c.put_again.ensures.damaged tells read)
 
 -- ---- what a refusal carries
@@ -249,8 +249,8 @@ returns-in_err-count-clause-caused g c tells =
 pub returns-then-count-ge-MOST_PROPERTIES-clause-caused : goal.returns-then-count-ge-MOST_PROPERTIES-clause-caused
 returns-then-count-ge-MOST_PROPERTIES-clause-caused g c tells =
     let s = g.S.Reads.state c.args.space.now in
-    let few = subst (IsPlaced c.args.owner c.args.key) c.in-Absent.is c.in_ok-count.ensures.placed in
-    let met = subst (IsMet s.records c.args.owner c.args.key) c.in-Absent.is (c.in_ok-count.ensures.met tells) in
+    let few = subst (IsPlaced c.args.owner c.args.key c.find.new.row) c.in-Absent.is c.in_ok-count.ensures.placed in
+    let met = subst (IsMet s.records c.args.owner c.args.key c.find.new.row) c.in-Absent.is (c.in_ok-count.ensures.met tells) in
     let all : c.in-Absent.count ≡ 32 = omega (arith, few, c.if-count-ge-MOST_PROPERTIES.true) in
     (all, ((met.0, sym met.1 ∙ all), reads_same 33 s (g.S.Reads.state c.find.new.space) c.find.ensures.at_most))
 
@@ -262,7 +262,7 @@ returns-in_err-add-in-Absent-clause-caused g c tells =
     let n = blocks_of c.args.value.now in
     let crowded = IsCrowded s.records c.args.owner c.args.key × SameButReads s t in
     let lacks = LacksMet s.records c.args.owner c.args.key × SameButReads s t in
-    let met = subst (IsMet s.records c.args.owner c.args.key) c.in-Absent.is (c.in_ok-count.ensures.met tells) in
+    let met = subst (IsMet s.records c.args.owner c.args.key c.find.new.row) c.in-Absent.is (c.in_ok-count.ensures.met tells) in
     let fault = c.in_err-add-in-Absent.field-0.0 in
     set_has (IsSetCause crowded lacks n t) c.from_residual-in_err-add-in-Absent.result fault c.from_residual-in_err-add-in-Absent.ensures.1
     (set_caused_more crowded (SameButReads z t) lacks (λ same. (met.0, same_then s z t (reads_same 33 s z c.find.ensures.at_most) same)) t n fault (c.in_err-add-in-Absent.ensures.caused tells))
@@ -293,7 +293,7 @@ pub returns-in-Found-clause-still : goal.returns-in-Found-clause-still
 returns-in-Found-clause-still g c tells used =
     let s = g.S.Reads.state c.args.space.now in
     let z = g.S.Reads.state c.find.new.space in
-    let read = subst (λ (r : Records). IsReadRow r c.in-Found.spot.row) (sym (reads_records 33 s z c.find.ensures.at_most)) (subst (IsReadAt s.records) c.in-Found.is (c.in_ok-count.ensures.read tells)) in
+    let read = subst (λ (r : Records). IsReadRow r c.find.new.row) (sym (reads_records 33 s z c.find.ensures.at_most)) (subst (IsReadAt s.records c.find.new.row) c.in-Found.is (c.in_ok-count.ensures.read tells)) in
     c.put_again.ensures.still tells read
 
 pub returns-in_err-add-in-Absent-clause-cause : goal.returns-in_err-add-in-Absent-clause-cause
