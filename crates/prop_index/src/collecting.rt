@@ -96,7 +96,8 @@ fn hash_at<R: Reads>(
     ensures cause { HasFaultCause (R.faults space.old) (R.faults space.new) result }
 {
     let owner = owner_of(space, node, out_of_range(node))?;
-    let rec = space.get(owner.key)?;
+    let mut rec = Rec::ZEROS;
+    space.get_into(owner.key, &mut rec)?;
     if is_labelled(&rec, label) {
         return value_hash(alloc, space, owner, key);
     }

@@ -47,18 +47,19 @@ pub(crate) fn find_definition<R: Reads>(
     ensures onward { R.onward space.old space.new }
     ensures cause { HasFaultCause (R.faults space.old) (R.faults space.new) result }
 {
-    let meta = space.get(meta_key(INDEX))?;
+    let mut rec = Rec::ZEROS;
+    space.get_into(meta_key(INDEX), &mut rec)?;
     let mut named = Damage {
         file: META,
         id: INDEX as u32,
         rule: RANGE_RULE,
     };
-    let mut at = meta.number(META_DEFINITION);
+    let mut at = rec.number(META_DEFINITION);
     for _ in 0..MOST_DEFINITIONS {
         if at == NIL {
             return Ok(None);
         }
-        let rec = record_at(space, at, DEFINITION, named)?;
+        record_at(space, at, DEFINITION, named, &mut rec)?;
         if is_of_pair(&rec, label, key) {
             return Ok(Some(Definition { id: at, rec }));
         }

@@ -59,13 +59,14 @@ pub(crate) fn gather<R: Reads>(
     ensures cause { HasFaultCause (R.faults space.old) (R.faults space.new) result }
 {
     let mut nodes = Vec::new(alloc);
+    let mut rec = Rec::ZEROS;
     let mut named = named;
     let mut at = first;
     for _ in 0..space.meta(INDEX).high {
         if at == NIL {
             return Ok(nodes);
         }
-        let rec = record_at(space, at, INDEXED, named)?;
+        record_at(space, at, INDEXED, named, &mut rec)?;
         add_node(alloc, space, &rec, sought, value, at, &mut nodes)?;
         named = out_of_range(at);
         at = rec.number(INDEXED_NEXT);

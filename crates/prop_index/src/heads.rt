@@ -19,7 +19,7 @@ ghost use Rattle.store_rules.specs.Views.{key_in, kind_at};
 use crate::finding::{Definition, find_definition};
 use crate::hashing::bucket_of;
 use crate::reading::{out_of_range, record_at};
-use rec_bytes::{DEFINITION_HEADS, Fault, HEADS, HEADS_COUNT, HEADS_FIRST, Reads};
+use rec_bytes::{DEFINITION_HEADS, Fault, HEADS, HEADS_COUNT, HEADS_FIRST, Reads, Rec};
 
 /// The place of a first entry: a record of heads, and the place in it.
 #[derive(Clone, Copy)]
@@ -65,7 +65,8 @@ pub(crate) fn read_bucket<R: Reads>(
     ensures cause { HasFaultCause (R.faults space.old) (R.faults space.new) result }
 {
     let slot = slot_of(definition, number);
-    let rec = record_at(space, slot.id, HEADS, out_of_range(definition.id))?;
+    let mut rec = Rec::ZEROS;
+    record_at(space, slot.id, HEADS, out_of_range(definition.id), &mut rec)?;
     Ok(Bucket {
         slot,
         first: rec.number(slot.place),

@@ -18,7 +18,7 @@ use plain_graph::Value;
 use prop_store::{Owner, read_key_from};
 use rec_bytes::{
     Damage, FREE, Fault, INDEX, INDEX_RULE, KIND, Key, META, NODE_FIRST_PROPERTY, NODES,
-    RANGE_RULE, Reads, room_of,
+    RANGE_RULE, Reads, Rec, room_of,
 };
 use std::alloc::Global;
 use std::cmp::Ordering;
@@ -73,7 +73,8 @@ pub(crate) fn holds<R: Reads>(
     ensures cause { HasFaultCause (R.faults space.old) (R.faults space.new) result }
 {
     let owner = owner_of(space, node, out_of_range(entry))?;
-    let rec = space.get(owner.key)?;
+    let mut rec = Rec::ZEROS;
+    space.get_into(owner.key, &mut rec)?;
     if rec.byte(KIND) == FREE {
         return Err(damaged(INDEX, entry, INDEX_RULE));
     }

@@ -169,13 +169,14 @@ fn find_entry<R: Reads>(
     ensures onward { R.onward space.old space.new }
     ensures cause { HasFaultCause (R.faults space.old) (R.faults space.new) result }
 {
+    let mut rec = Rec::ZEROS;
     let mut named = named;
     let mut at = first;
     for _ in 0..space.meta(INDEX).high {
         if at == NIL {
             return Ok(None);
         }
-        let rec = record_at(space, at, INDEXED, named)?;
+        record_at(space, at, INDEXED, named, &mut rec)?;
         if is_of(&rec, content) {
             return Ok(Some(EntryRow { id: at, rec }));
         }

@@ -14,7 +14,7 @@ use crate::finding::MOST_DEFINITIONS;
 use crate::reading::{damaged, out_of_range, record_at};
 use rec_bytes::{
     DEFINITION, DEFINITION_KEY, DEFINITION_LABEL, DEFINITION_NEXT, Damage, Fault, INDEX,
-    INDEX_RULE, META, META_DEFINITION, NIL, RANGE_RULE, Reads, meta_key,
+    INDEX_RULE, META, META_DEFINITION, NIL, RANGE_RULE, Reads, Rec, meta_key,
 };
 use std::alloc::Global;
 
@@ -44,18 +44,19 @@ pub fn indexes<R: Reads>(alloc: Global, space: &mut R) -> Result<Vec<IndexPair>,
     ensures cause { HasFaultCause (R.faults space.old) (R.faults space.new) result }
 {
     let mut pairs = Vec::new(alloc);
-    let meta = space.get(meta_key(INDEX))?;
+    let mut rec = Rec::ZEROS;
+    space.get_into(meta_key(INDEX), &mut rec)?;
     let mut named = Damage {
         file: META,
         id: INDEX as u32,
         rule: RANGE_RULE,
     };
-    let mut at = meta.number(META_DEFINITION);
+    let mut at = rec.number(META_DEFINITION);
     for _ in 0..MOST_DEFINITIONS {
         if at == NIL {
             return Ok(pairs);
         }
-        let rec = record_at(space, at, DEFINITION, named)?;
+        record_at(space, at, DEFINITION, named, &mut rec)?;
         let label = rec.number(DEFINITION_LABEL);
         let key = rec.number(DEFINITION_KEY);
         pairs.push(IndexPair { label, key })?;

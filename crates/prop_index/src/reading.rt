@@ -1,6 +1,6 @@
 //! Records of the index that are read.
 
-ghost use Rattle.std.specs.Prelude.{◌≡◌, ◌≢◌, IfErr, IfOk, OnOk};
+ghost use Rattle.std.specs.Prelude.{◌≡◌, ◌≢◌, IfErr, OnOk};
 ghost use Rattle.prop_index.specs.Reading.{HasRoom, IsReadFault, damage_of};
 ghost use Rattle.prop_store.specs.Reading.{ReadsAtMost};
 ghost use Rattle.rec_bytes.specs.Fault.{HasFaultCause, NotDamaged};
@@ -14,18 +14,20 @@ use rec_bytes::{
     Damage, Fault, INDEX, INDEX_RULE, KIND, Key, META, RANGE_RULE, Reads, Rec, room_of,
 };
 
-/// Reads a record of this kind. Where there can be none, a record that leads to it is named.
+/// Reads a record of this kind into the caller's, so that it is not copied. Where there can be
+/// none, a record that leads to it is named.
 #[tactic(auto, unfolding(store_rules::specs::Views::kind_in))]
 pub(crate) fn record_at<R: Reads>(
     space: &mut R,
     id: u32,
     kind: u8,
     named: Damage,
-) -> Result<Rec, Fault>
+    rec: &mut Rec,
+) -> Result<(), Fault>
     requires { kind ≢ 0 }
     ensures key { OnOk result (IsKey (key_in index_file id)) }
     ensures got { R.tells
-        → IfOk result (λ rec. rec ≡ index_rec (R.state space.old).records id) }
+        → OnOk result (rec.new ≡ index_rec (R.state space.old).records id) }
     ensures used { R.tells
         → OnOk result (kind_at (R.state space.old).records index_file id ≡ kind) }
     ensures sound { R.tells → HasRoom (R.state space.old) index_file
@@ -43,11 +45,11 @@ pub(crate) fn record_at<R: Reads>(
     if id as u64 >= room_of(INDEX, space.shape()) {
         return Err(damaged(META, INDEX as u32, RANGE_RULE));
     }
-    let rec = space.get(Key { file: INDEX, id })?;
+    space.get_into(Key { file: INDEX, id }, rec)?;
     if rec.byte(KIND) != kind {
         return Err(damaged(INDEX, id, INDEX_RULE));
     }
-    Ok(rec)
+    Ok(())
 }
 
 /// The record of the identifier breaks the rule.

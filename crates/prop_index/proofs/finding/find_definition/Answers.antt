@@ -19,46 +19,46 @@ use Rattle.prop_store.proofs.Causes.{cause_passed}
 use Rattle.rec_bytes.proofs.Causes.{never_ok, ok_cause}
 use Rattle.prop_index.proofs.finding.find_definition.Goals as goal
 
-pub returns-in_err-meta-clause-at_most : goal.returns-in_err-meta-clause-at_most
-returns-in_err-meta-clause-at_most g c = reads_one 17 _ _ (omega arith) c.get.ensures.state
+pub returns-in_err-get_into-clause-at_most : goal.returns-in_err-get_into-clause-at_most
+returns-in_err-get_into-clause-at_most g c = reads_one 17 _ _ (omega arith) c.get_into.ensures.state
 
-pub returns-in_err-meta-clause-cost : goal.returns-in_err-meta-clause-cost
-returns-in_err-meta-clause-cost g c tells ds are = reads_one (1 + length ds) _ _ (omega arith) c.get.ensures.state
+pub returns-in_err-get_into-clause-cost : goal.returns-in_err-get_into-clause-cost
+returns-in_err-get_into-clause-cost g c tells ds are = reads_one (1 + length ds) _ _ (omega arith) c.get_into.ensures.state
 
 pub loop-init : goal.loop-init
 loop-init g c =
     let s = g.R.Reads.state c.args.space.now in
     let first_is : g.R.Reads.tells → c.number-at.result ≡ first_definition s.records
-    = λ tells. c.number-at.ensures ∙ ap (λ (r : Rec). field 4 r format.meta_definition) (c.in_ok-meta.ensures.got tells ∙ ap (λ k. s.records k) c.meta_key.ensures) in
+    = λ tells. c.number-at.ensures ∙ ap (λ (r : Rec). field 4 r format.meta_definition) (c.in_ok-get_into.ensures.got tells ∙ ap (λ k. s.records k) c.meta_key.ensures) in
     record {
       told = λ tells ds are. search_begins _ _ ds c.number-at.result (subst (λ (n : ℕ). IsWalk (next_definition s.records) n ds) (sym (first_is tells)) are.walk);
       named_is = inr (refl, refl);
       at = λ tells. definition_begins s c.number-at.result (first_is tells);
       others = λ tells. others_begin s.records c.args.label c.args.key c.number-at.result (first_is tells);
-      reads = reads_one 1 _ _ (omega arith) c.get.ensures.state;
-      onward = c.get.ensures.onward;
-      later = c.get.ensures.cause.later;
+      reads = reads_one 1 _ _ (omega arith) c.get_into.ensures.state;
+      onward = c.get_into.ensures.onward;
+      later = c.get_into.ensures.cause.later;
     }
 
 pub returns-then-at-clause-found : goal.returns-then-at-clause-found
 returns-then-at-clause-found g c tells ds are = search_over _ _ ds c.loop.at c.loop.counter (c.loop.invariant.told tells ds are) c.if-at.true
 
-pub returns-in_err-rec-clause-sound : goal.returns-in_err-rec-clause-sound
-returns-in_err-rec-clause-sound g c tells ds are room =
+pub returns-in_err-record_at-clause-sound : goal.returns-in_err-record_at-clause-sound
+returns-in_err-record_at-clause-sound g c tells ds are room =
     let s = g.R.Reads.state c.args.space.now in
     let now = g.R.Reads.state c.loop.space in
     let here = search_here _ _ ds c.loop.at c.loop.counter (c.loop.invariant.told tells ds are) c.if-at.false in
-    let p = err_from_is_err_and c.from_residual-in_err-rec.result c.from_residual-in_err-rec.ensures.1 in
-    rw (p.1, p.2) (c.in_err-rec.ensures.sound tells (room_after s now format.index_file (reads_same _ s now c.loop.invariant.reads) room)
+    let p = err_from_is_err_and c.from_residual-in_err-record_at.result c.from_residual-in_err-record_at.ensures.1 in
+    rw (p.1, p.2) (c.in_err-record_at.ensures.sound tells (room_after s now format.index_file (reads_same _ s now c.loop.invariant.reads) room)
     (ap (λ (r : Records). kind_at r format.index_file c.loop.at) (reads_records _ s now c.loop.invariant.reads) ∙ are.defined c.loop.at here.0))
 
-pub returns-in_err-rec-clause-cost : goal.returns-in_err-rec-clause-cost
-returns-in_err-rec-clause-cost g c tells ds are =
+pub returns-in_err-record_at-clause-cost : goal.returns-in_err-record_at-clause-cost
+returns-in_err-record_at-clause-cost g c tells ds are =
     let few = (search_here _ _ ds c.loop.at c.loop.counter (c.loop.invariant.told tells ds are) c.if-at.false).1 in
-    reads_then _ 1 _ _ _ _ (omega (arith, few)) c.loop.invariant.reads c.in_err-rec.ensures.at_most
+    reads_then _ 1 _ _ _ _ (omega (arith, few)) c.loop.invariant.reads c.in_err-record_at.ensures.at_most
 
-pub returns-in_err-rec-clause-at_most : goal.returns-in_err-rec-clause-at_most
-returns-in_err-rec-clause-at_most g c = reads_then _ 1 17 _ _ _ (omega arith) c.loop.invariant.reads c.in_err-rec.ensures.at_most
+pub returns-in_err-record_at-clause-at_most : goal.returns-in_err-record_at-clause-at_most
+returns-in_err-record_at-clause-at_most g c = reads_then _ 1 17 _ _ _ (omega arith) c.loop.invariant.reads c.in_err-record_at.ensures.at_most
 
 pub returns-then-is_of_pair-clause-found : goal.returns-then-is_of_pair-clause-found
 returns-then-is_of_pair-clause-found g c tells ds are = (search_here _ _ ds c.loop.at c.loop.counter (c.loop.invariant.told tells ds are) c.if-at.false).0
@@ -68,33 +68,33 @@ returns-then-is_of_pair-clause-defined g c tells =
     let s = g.R.Reads.state c.args.space.now in
     let now = g.R.Reads.state c.loop.space in
     let same = reads_records _ s now c.loop.invariant.reads in
-    let rec_is : c.in_ok-rec.rec ≡ index_rec s.records c.loop.at = c.in_ok-rec.ensures.got tells ∙ ap (λ (r : Records). index_rec r c.loop.at) same in
+    let rec_is : c.record_at.new.rec ≡ index_rec s.records c.loop.at = c.in_ok-record_at.ensures.got tells ∙ ap (λ (r : Records). index_rec r c.loop.at) same in
     let says = c.is_of_pair.ensures.0 c.if-is_of_pair.true in
     record {
       rec_is = rec_is;
       leads = (c.loop.invariant.at tells).leads c.if-at.false;
-      used = ap (λ (r : Records). kind_at r format.index_file c.loop.at) (sym same) ∙ c.in_ok-rec.ensures.used tells;
+      used = ap (λ (r : Records). kind_at r format.index_file c.loop.at) (sym same) ∙ c.in_ok-record_at.ensures.used tells;
       pair = (ap (λ (r : Rec). field 4 r format.definition_label) (sym rec_is) ∙ says.0, ap (λ (r : Rec). field 4 r format.definition_key) (sym rec_is) ∙ says.1);
     }
 
 pub returns-then-is_of_pair-clause-cost : goal.returns-then-is_of_pair-clause-cost
 returns-then-is_of_pair-clause-cost g c tells ds are =
     let few = (search_here _ _ ds c.loop.at c.loop.counter (c.loop.invariant.told tells ds are) c.if-at.false).1 in
-    reads_then _ 1 _ _ _ _ (omega (arith, few)) c.loop.invariant.reads c.in_ok-rec.ensures.at_most
+    reads_then _ 1 _ _ _ _ (omega (arith, few)) c.loop.invariant.reads c.in_ok-record_at.ensures.at_most
 
 pub returns-then-is_of_pair-clause-at_most : goal.returns-then-is_of_pair-clause-at_most
-returns-then-is_of_pair-clause-at_most g c = reads_then _ 1 17 _ _ _ (omega arith) c.loop.invariant.reads c.in_ok-rec.ensures.at_most
+returns-then-is_of_pair-clause-at_most g c = reads_then _ 1 17 _ _ _ (omega arith) c.loop.invariant.reads c.in_ok-record_at.ensures.at_most
 
 pub loop-preserved : goal.loop-preserved
 loop-preserved g c =
     let s = g.R.Reads.state c.args.space.now in
     let now = g.R.Reads.state c.loop.space in
     let same = reads_records _ s now c.loop.invariant.reads in
-    let rec_is : g.R.Reads.tells → c.in_ok-rec.rec ≡ index_rec s.records c.loop.at = λ tells. c.in_ok-rec.ensures.got tells ∙ ap (λ (r : Records). index_rec r c.loop.at) same in
+    let rec_is : g.R.Reads.tells → c.record_at.new.rec ≡ index_rec s.records c.loop.at = λ tells. c.in_ok-record_at.ensures.got tells ∙ ap (λ (r : Records). index_rec r c.loop.at) same in
     let next_is : g.R.Reads.tells → c.number-at-in-loop.result ≡ next_definition s.records c.loop.at
     = λ tells. c.number-at-in-loop.ensures ∙ ap (λ (r : Rec). field 4 r format.definition_next) (rec_is tells) in
     let used : g.R.Reads.tells → kind_at s.records format.index_file c.loop.at ≡ format.definition
-    = λ tells. ap (λ (r : Records). kind_at r format.index_file c.loop.at) (sym same) ∙ c.in_ok-rec.ensures.used tells in
+    = λ tells. ap (λ (r : Records). kind_at r format.index_file c.loop.at) (sym same) ∙ c.in_ok-record_at.ensures.used tells in
     let other : g.R.Reads.tells → ¬ IsPair s.records c.args.label c.args.key c.loop.at
     = λ tells pair. true≢false (sym (c.is_of_pair.ensures.1 (ap (λ (r : Rec). field 4 r format.definition_label) (rec_is tells) ∙ pair.0, ap (λ (r : Rec). field 4 r format.definition_key) (rec_is tells) ∙ pair.1)) ∙ c.if-is_of_pair.false) in
     record {
@@ -103,18 +103,18 @@ loop-preserved g c =
       at = λ tells. subst (IsDefinitionAt s c.number-at-in-loop.result) (sym c.out_of_range-named.ensures)
           (definition_goes_on s c.loop.at c.loop.named (c.loop.invariant.at tells) c.if-at.false c.number-at-in-loop.result (used tells) (next_is tells));
       others = λ tells. others_go_on s.records c.args.label c.args.key c.loop.at c.number-at-in-loop.result (c.loop.invariant.others tells) c.if-at.false (used tells) (next_is tells) (other tells);
-      reads = reads_then _ 1 _ _ _ _ (omega arith) c.loop.invariant.reads c.in_ok-rec.ensures.at_most;
-      onward = g.met.R.Reads.further_onward _ _ _ c.loop.invariant.onward c.in_ok-rec.ensures.onward;
-      later = omega (arith, c.loop.invariant.later, c.in_ok-rec.ensures.cause.later);
+      reads = reads_then _ 1 _ _ _ _ (omega arith) c.loop.invariant.reads c.in_ok-record_at.ensures.at_most;
+      onward = g.met.R.Reads.further_onward _ _ _ c.loop.invariant.onward c.in_ok-record_at.ensures.onward;
+      later = omega (arith, c.loop.invariant.later, c.in_ok-record_at.ensures.cause.later);
     }
 
-pub returns-in_err-rec-clause-damaged : goal.returns-in_err-rec-clause-damaged
-returns-in_err-rec-clause-damaged g c tells =
+pub returns-in_err-record_at-clause-damaged : goal.returns-in_err-record_at-clause-damaged
+returns-in_err-record_at-clause-damaged g c tells =
     let s = g.R.Reads.state c.args.space.now in
     let now = g.R.Reads.state c.loop.space in
-    same_has (BlamesBroken s.records s.shape) c.from_residual-in_err-rec.result c.in_err-rec.field-0.0 c.from_residual-in_err-rec.ensures.1
-    (definition_blames s c.loop.at c.loop.named (c.loop.invariant.at tells) c.if-at.false c.in_err-rec.field-0.0
-    (read_fault_same s now c.loop.at format.definition c.loop.named (reads_same _ s now c.loop.invariant.reads) c.in_err-rec.field-0.0 (c.in_err-rec.ensures.damaged tells)))
+    same_has (BlamesBroken s.records s.shape) c.from_residual-in_err-record_at.result c.in_err-record_at.field-0.0 c.from_residual-in_err-record_at.ensures.1
+    (definition_blames s c.loop.at c.loop.named (c.loop.invariant.at tells) c.if-at.false c.in_err-record_at.field-0.0
+    (read_fault_same s now c.loop.at format.definition c.loop.named (reads_same _ s now c.loop.invariant.reads) c.in_err-record_at.field-0.0 (c.in_err-record_at.ensures.damaged tells)))
 
 pub returns-then-at-2-clause-cost : goal.returns-then-at-2-clause-cost
 returns-then-at-2-clause-cost g c tells ds are =
@@ -128,11 +128,11 @@ returns-then-at-2-clause-damaged g c tells =
     let here = search_here _ _ has.members c.loop.at c.loop.counter (c.loop.invariant.told tells has.members has.list) c.if-at-2.true in
     omega (arith, here.1, has.list.few)))
 
-pub returns-in_err-rec-clause-names : goal.returns-in_err-rec-clause-names
-returns-in_err-rec-clause-names g c tells =
+pub returns-in_err-record_at-clause-names : goal.returns-in_err-record_at-clause-names
+returns-in_err-record_at-clause-names g c tells =
     let now = g.R.Reads.state c.loop.space in
-    same_has NamesIndexes c.from_residual-in_err-rec.result c.in_err-rec.field-0.0 c.from_residual-in_err-rec.ensures.1
-    (read_names now c.loop.at format.definition c.loop.named c.in_err-rec.field-0.0 c.loop.invariant.named_is (c.in_err-rec.ensures.damaged tells))
+    same_has NamesIndexes c.from_residual-in_err-record_at.result c.in_err-record_at.field-0.0 c.from_residual-in_err-record_at.ensures.1
+    (read_names now c.loop.at format.definition c.loop.named c.in_err-record_at.field-0.0 c.loop.invariant.named_is (c.in_err-record_at.ensures.damaged tells))
 
 pub returns-then-at-2-clause-names : goal.returns-then-at-2-clause-names
 returns-then-at-2-clause-names g c tells = subst NamesIndexes (sym c.damaged.ensures) (inr (refl, refl))
@@ -143,31 +143,31 @@ returns-then-at-clause-defined g c tells = others_end (g.R.Reads.state c.args.sp
 pub returns-clause-defined : goal.returns-clause-defined
 returns-clause-defined g c tells = others_end (g.R.Reads.state c.args.space.now).records c.args.label c.args.key c.loop.at (c.loop.invariant.others tells) c.if-at-2.false
 
-pub returns-in_err-rec-clause-onward : goal.returns-in_err-rec-clause-onward
-returns-in_err-rec-clause-onward g c =
-    g.met.R.Reads.further_onward _ _ _ c.loop.invariant.onward c.in_err-rec.ensures.onward
+pub returns-in_err-record_at-clause-onward : goal.returns-in_err-record_at-clause-onward
+returns-in_err-record_at-clause-onward g c =
+    g.met.R.Reads.further_onward _ _ _ c.loop.invariant.onward c.in_err-record_at.ensures.onward
 
 pub returns-then-is_of_pair-clause-onward : goal.returns-then-is_of_pair-clause-onward
 returns-then-is_of_pair-clause-onward g c =
-    g.met.R.Reads.further_onward _ _ _ c.loop.invariant.onward c.in_ok-rec.ensures.onward
+    g.met.R.Reads.further_onward _ _ _ c.loop.invariant.onward c.in_ok-record_at.ensures.onward
 
-pub returns-in_err-rec-clause-cause : goal.returns-in_err-rec-clause-cause
-returns-in_err-rec-clause-cause g c =
-    cause_passed _ _ _ c.from_residual-in_err-rec.result c.in_err-rec.field-0.0
-    c.loop.invariant.later c.in_err-rec.ensures.cause
-    c.from_residual-in_err-rec.ensures.1
+pub returns-in_err-record_at-clause-cause : goal.returns-in_err-record_at-clause-cause
+returns-in_err-record_at-clause-cause g c =
+    cause_passed _ _ _ c.from_residual-in_err-record_at.result c.in_err-record_at.field-0.0
+    c.loop.invariant.later c.in_err-record_at.ensures.cause
+    c.from_residual-in_err-record_at.ensures.1
 
-pub returns-in_err-meta-clause-found : goal.returns-in_err-meta-clause-found
-returns-in_err-meta-clause-found g c _ _ _ = never_ok c.from_residual.result _ _ c.from_residual.ensures.1
+pub returns-in_err-get_into-clause-found : goal.returns-in_err-get_into-clause-found
+returns-in_err-get_into-clause-found g c _ _ _ = never_ok c.from_residual.result _ _ c.from_residual.ensures.1
 
-pub returns-in_err-meta-clause-defined : goal.returns-in_err-meta-clause-defined
-returns-in_err-meta-clause-defined g c _ = never_ok c.from_residual.result _ _ c.from_residual.ensures.1
+pub returns-in_err-get_into-clause-defined : goal.returns-in_err-get_into-clause-defined
+returns-in_err-get_into-clause-defined g c _ = never_ok c.from_residual.result _ _ c.from_residual.ensures.1
 
-pub returns-in_err-rec-clause-found : goal.returns-in_err-rec-clause-found
-returns-in_err-rec-clause-found g c _ _ _ = never_ok c.from_residual-in_err-rec.result _ _ c.from_residual-in_err-rec.ensures.1
+pub returns-in_err-record_at-clause-found : goal.returns-in_err-record_at-clause-found
+returns-in_err-record_at-clause-found g c _ _ _ = never_ok c.from_residual-in_err-record_at.result _ _ c.from_residual-in_err-record_at.ensures.1
 
-pub returns-in_err-rec-clause-defined : goal.returns-in_err-rec-clause-defined
-returns-in_err-rec-clause-defined g c _ = never_ok c.from_residual-in_err-rec.result _ _ c.from_residual-in_err-rec.ensures.1
+pub returns-in_err-record_at-clause-defined : goal.returns-in_err-record_at-clause-defined
+returns-in_err-record_at-clause-defined g c _ = never_ok c.from_residual-in_err-record_at.result _ _ c.from_residual-in_err-record_at.ensures.1
 
 pub returns-clause-cause : goal.returns-clause-cause
 returns-clause-cause g c = ok_cause _ _ _ _ (omega arith)

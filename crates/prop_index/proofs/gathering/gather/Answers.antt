@@ -41,13 +41,13 @@ returns-then-at-2-clause-cost g c tells xs are = gather_cost _ _ _ _ _ xs _ _ _ 
 pub returns-clause-cost : goal.returns-clause-cost
 returns-clause-cost g c tells xs are = gather_cost _ _ _ _ _ xs _ _ _ (c.loop.invariant.told tells xs are)
 
-pub returns-in_err-rec-clause-cost : goal.returns-in_err-rec-clause-cost
-returns-in_err-rec-clause-cost g c tells xs are =
+pub returns-in_err-record_at-clause-cost : goal.returns-in_err-record_at-clause-cost
+returns-in_err-record_at-clause-cost g c tells xs are =
     let s = g.R.Reads.state c.args.space.now in
     let now = g.R.Reads.state c.loop.space in
     let after = g.R.Reads.state c.record_at.new.space in
     gather_cost _ _ _ _ _ xs _ _ _ (gather_on s now _ _ _ xs c.loop.at c.loop.counter _ (c.loop.invariant.told tells xs are) after _ _ c.if-at.false refl refl
-    (reads_more 1 _ now after (omega arith) c.in_err-rec.ensures.at_most))
+    (reads_more 1 _ now after (omega arith) c.in_err-record_at.ensures.at_most))
 
 pub returns-in_err-add_node-clause-cost : goal.returns-in_err-add_node-clause-cost
 returns-in_err-add_node-clause-cost g c tells xs are =
@@ -55,21 +55,21 @@ returns-in_err-add_node-clause-cost g c tells xs are =
     let now = g.R.Reads.state c.loop.space in
     let then = g.R.Reads.state c.record_at.new.space in
     let after = g.R.Reads.state c.add_node.new.space in
-    let same_now : SameButReads s then = same_then s now then c.loop.invariant.same (reads_same 1 now then c.in_ok-rec.ensures.at_most) in
+    let same_now : SameButReads s then = same_then s now then c.loop.invariant.same (reads_same 1 now then c.in_ok-record_at.ensures.at_most) in
     let gone = same_records s then same_now in
-    let rec_then : c.in_ok-rec.rec ≡ index_rec then.records c.loop.at = c.in_ok-rec.ensures.got tells ∙ ap (λ (r : Records). index_rec r c.loop.at) (sym (same_records now then (reads_same 1 now then c.in_ok-rec.ensures.at_most))) in
+    let rec_then : c.record_at.new.rec ≡ index_rec then.records c.loop.at = c.in_ok-record_at.ensures.got tells ∙ ap (λ (r : Records). index_rec r c.loop.at) (sym (same_records now then (reads_same 1 now then c.in_ok-record_at.ensures.at_most))) in
     gather_cost _ _ _ _ _ xs _ _ _ (gather_on s now _ _ _ xs c.loop.at c.loop.counter _ (c.loop.invariant.told tells xs are) after _ _ c.if-at.false refl refl
-    (reads_then 1 _ _ now then after (omega arith) c.in_ok-rec.ensures.at_most
+    (reads_then 1 _ _ now then after (omega arith) c.in_ok-record_at.ensures.at_most
     (subst (λ (r : Records). ReadsAtMost (55 * cond (is_hashed r c.args.sought.hash c.loop.at) 1 0) then after) gone (c.in_err-add_node.ensures.cost c.loop.at rec_then))))
 
-pub returns-in_err-rec-clause-sound : goal.returns-in_err-rec-clause-sound
-returns-in_err-rec-clause-sound g c tells xs are readable =
+pub returns-in_err-record_at-clause-sound : goal.returns-in_err-record_at-clause-sound
+returns-in_err-record_at-clause-sound g c tells xs are readable =
     let s = g.R.Reads.state c.args.space.now in
     let now = g.R.Reads.state c.loop.space in
     let same = c.loop.invariant.same in
     let here = gather_here _ _ _ _ _ xs _ _ _ (c.loop.invariant.told tells xs are) c.if-at.false in
     let p = err_from_is_err_and c.from_residual.result c.from_residual.ensures.1 in
-    rw (p.1, p.2) (c.in_err-rec.ensures.sound tells (room_after s now format.index_file same readable.room)
+    rw (p.1, p.2) (c.in_err-record_at.ensures.sound tells (room_after s now format.index_file same readable.room)
     (ap (λ (r : Records). kind_at r format.index_file c.loop.at) (same_records s now same) ∙ are.kind c.loop.at here.0))
 
 pub returns-in_err-add_node-clause-sound : goal.returns-in_err-add_node-clause-sound
@@ -78,20 +78,20 @@ returns-in_err-add_node-clause-sound g c tells xs are readable =
     let now = g.R.Reads.state c.loop.space in
     let then = g.R.Reads.state c.record_at.new.space in
     let same = c.loop.invariant.same in
-    let same_now : SameButReads s then = same_then s now then same (reads_same 1 now then c.in_ok-rec.ensures.at_most) in
+    let same_now : SameButReads s then = same_then s now then same (reads_same 1 now then c.in_ok-record_at.ensures.at_most) in
     let here = gather_here _ _ _ _ _ xs _ _ _ (c.loop.invariant.told tells xs are) c.if-at.false in
-    let rec_is : c.in_ok-rec.rec ≡ index_rec then.records c.loop.at = c.in_ok-rec.ensures.got tells ∙ ap (λ (r : Records). index_rec r c.loop.at) (sym (same_records now then (reads_same 1 now then c.in_ok-rec.ensures.at_most))) in
+    let rec_is : c.record_at.new.rec ≡ index_rec then.records c.loop.at = c.in_ok-record_at.ensures.got tells ∙ ap (λ (r : Records). index_rec r c.loop.at) (sym (same_records now then (reads_same 1 now then c.in_ok-record_at.ensures.at_most))) in
     let p = err_from_is_err_and c.from_residual-in_err-add_node.result c.from_residual-in_err-add_node.ensures.1 in
     let gone = same_records s then same_now in
     rw (p.1, p.2) (c.in_err-add_node.ensures.sound tells c.loop.at rec_is
     (λ e. node_after s then _ same_now (subst (λ (r : Records). IsListedNode s (entry_node r c.loop.at)) (sym gone) (readable.nodes c.loop.at here.0 (ap (λ (r : Records). entry_hash r c.loop.at) (sym gone) ∙ e)))))
 
-pub returns-in_err-rec-clause-same : goal.returns-in_err-rec-clause-same
-returns-in_err-rec-clause-same g c =
+pub returns-in_err-record_at-clause-same : goal.returns-in_err-record_at-clause-same
+returns-in_err-record_at-clause-same g c =
     let s = g.R.Reads.state c.args.space.now in
     let now = g.R.Reads.state c.loop.space in
     let then = g.R.Reads.state c.record_at.new.space in
-    same_then s now then c.loop.invariant.same (reads_same 1 now then c.in_err-rec.ensures.at_most)
+    same_then s now then c.loop.invariant.same (reads_same 1 now then c.in_err-record_at.ensures.at_most)
 
 pub returns-in_err-add_node-clause-same : goal.returns-in_err-add_node-clause-same
 returns-in_err-add_node-clause-same g c =
@@ -99,7 +99,7 @@ returns-in_err-add_node-clause-same g c =
     let now = g.R.Reads.state c.loop.space in
     let then = g.R.Reads.state c.record_at.new.space in
     let after = g.R.Reads.state c.add_node.new.space in
-    same_then s then after (same_then s now then c.loop.invariant.same (reads_same 1 now then c.in_ok-rec.ensures.at_most)) (reads_same 55 then after c.in_err-add_node.ensures.at_most)
+    same_then s then after (same_then s now then c.loop.invariant.same (reads_same 1 now then c.in_ok-record_at.ensures.at_most)) (reads_same 55 then after c.in_err-add_node.ensures.at_most)
 
 pub loop-preserved : goal.loop-preserved
 loop-preserved g c =
@@ -107,56 +107,56 @@ loop-preserved g c =
     let now = g.R.Reads.state c.loop.space in
     let then = g.R.Reads.state c.record_at.new.space in
     let after = g.R.Reads.state c.add_node.new.space in
-    let first = reads_same 1 now then c.in_ok-rec.ensures.at_most in
+    let first = reads_same 1 now then c.in_ok-record_at.ensures.at_most in
     let same_now : SameButReads s then = same_then s now then c.loop.invariant.same first in
     record {
       told = λ tells xs are.
           let told = c.loop.invariant.told tells xs are in
           let was = same_records s now c.loop.invariant.same in
-          let rec_is : c.in_ok-rec.rec ≡ index_rec s.records c.loop.at = c.in_ok-rec.ensures.got tells ∙ ap (λ (r : Records). index_rec r c.loop.at) was in
+          let rec_is : c.record_at.new.rec ≡ index_rec s.records c.loop.at = c.in_ok-record_at.ensures.got tells ∙ ap (λ (r : Records). index_rec r c.loop.at) was in
           let gone = same_records s then same_now in
-          let rec_then : c.in_ok-rec.rec ≡ index_rec then.records c.loop.at = rec_is ∙ ap (λ (r : Records). index_rec r c.loop.at) (sym gone) in
+          let rec_then : c.record_at.new.rec ≡ index_rec then.records c.loop.at = rec_is ∙ ap (λ (r : Records). index_rec r c.loop.at) (sym gone) in
           gather_on s now _ _ _ xs c.loop.at c.loop.counter _ told after c.number-at.result _ c.if-at.false
           (c.number-at.ensures ∙ ap (λ (r : Rec). field 4 r format.indexed_next) rec_is)
           (subst (λ (r : Records). c.add_node.new.nodes.items ≡ c.loop.nodes.items ++ cond (is_picked r c.args.sought.key c.args.sought.hash c.args.value.now c.loop.at) (entry_node r c.loop.at ∷ []) []) gone
           (c.in_ok-add_node.ensures.added tells c.loop.at rec_then))
-          (reads_then 1 _ _ now then after (omega arith) c.in_ok-rec.ensures.at_most
+          (reads_then 1 _ _ now then after (omega arith) c.in_ok-record_at.ensures.at_most
           (subst (λ (r : Records). ReadsAtMost (55 * cond (is_hashed r c.args.sought.hash c.loop.at) 1 0) then after) gone (c.in_ok-add_node.ensures.cost c.loop.at rec_then)));
       at = λ tells d b h.
           let was = same_records s now c.loop.invariant.same in
-          let rec_is : c.in_ok-rec.rec ≡ index_rec s.records c.loop.at = c.in_ok-rec.ensures.got tells ∙ ap (λ (r : Records). index_rec r c.loop.at) was in
+          let rec_is : c.record_at.new.rec ≡ index_rec s.records c.loop.at = c.in_ok-record_at.ensures.got tells ∙ ap (λ (r : Records). index_rec r c.loop.at) was in
           subst (IsEntryAt s d b (c.loop.counter + 1) c.number-at.result) (sym c.out_of_range-named.ensures)
           (entry_goes_on s d b c.loop.counter c.loop.at c.loop.named (c.loop.invariant.at tells d b h) c.if-at.false c.number-at.result
-          (ap (λ (r : Records). kind_at r format.index_file c.loop.at) (sym was) ∙ c.in_ok-rec.ensures.used tells)
+          (ap (λ (r : Records). kind_at r format.index_file c.loop.at) (sym was) ∙ c.in_ok-record_at.ensures.used tells)
           (c.number-at.ensures ∙ ap (λ (r : Rec). field 4 r format.indexed_next) rec_is));
       same = same_then s then after same_now (reads_same 55 then after c.in_ok-add_node.ensures.at_most);
-      onward = g.met.R.Reads.further_onward _ _ _ (g.met.R.Reads.further_onward _ _ _ c.loop.invariant.onward c.in_ok-rec.ensures.onward) c.in_ok-add_node.ensures.onward;
-      later = omega (arith, c.loop.invariant.later, c.in_ok-rec.ensures.cause.later, c.in_ok-add_node.ensures.cause.later);
+      onward = g.met.R.Reads.further_onward _ _ _ (g.met.R.Reads.further_onward _ _ _ c.loop.invariant.onward c.in_ok-record_at.ensures.onward) c.in_ok-add_node.ensures.onward;
+      later = omega (arith, c.loop.invariant.later, c.in_ok-record_at.ensures.cause.later, c.in_ok-add_node.ensures.cause.later);
     }
 
-pub returns-in_err-rec-clause-damaged : goal.returns-in_err-rec-clause-damaged
-returns-in_err-rec-clause-damaged g c tells d b h =
+pub returns-in_err-record_at-clause-damaged : goal.returns-in_err-record_at-clause-damaged
+returns-in_err-record_at-clause-damaged g c tells d b h =
     let s = g.R.Reads.state c.args.space.now in
     let now = g.R.Reads.state c.loop.space in
-    same_has (BlamesBroken s.records s.shape) c.from_residual.result c.in_err-rec.field-0.0 c.from_residual.ensures.1
-    (entry_blames s d b c.loop.counter c.loop.at c.loop.named (c.loop.invariant.at tells d b h) c.if-at.false c.in_err-rec.field-0.0
-    (read_fault_same s now c.loop.at format.indexed c.loop.named c.loop.invariant.same c.in_err-rec.field-0.0 (c.in_err-rec.ensures.damaged tells)))
+    same_has (BlamesBroken s.records s.shape) c.from_residual.result c.in_err-record_at.field-0.0 c.from_residual.ensures.1
+    (entry_blames s d b c.loop.counter c.loop.at c.loop.named (c.loop.invariant.at tells d b h) c.if-at.false c.in_err-record_at.field-0.0
+    (read_fault_same s now c.loop.at format.indexed c.loop.named c.loop.invariant.same c.in_err-record_at.field-0.0 (c.in_err-record_at.ensures.damaged tells)))
 
 pub returns-in_err-add_node-clause-damaged : goal.returns-in_err-add_node-clause-damaged
 returns-in_err-add_node-clause-damaged g c tells d b h =
     let s = g.R.Reads.state c.args.space.now in
     let now = g.R.Reads.state c.loop.space in
     let then = g.R.Reads.state c.record_at.new.space in
-    let same : SameButReads s then = same_then s now then c.loop.invariant.same (reads_same 1 now then c.in_ok-rec.ensures.at_most) in
+    let same : SameButReads s then = same_then s now then c.loop.invariant.same (reads_same 1 now then c.in_ok-record_at.ensures.at_most) in
     let was = same_records s now c.loop.invariant.same in
-    let met : IsEntryMet s.records d b c.loop.counter c.loop.at c.in_ok-rec.rec = record {
+    let met : IsEntryMet s.records d b c.loop.counter c.loop.at c.record_at.new.rec = record {
       leads = (c.loop.invariant.at tells d b h).leads c.if-at.false;
-      used = ap (λ (r : Records). kind_at r format.index_file c.loop.at) (sym was) ∙ c.in_ok-rec.ensures.used tells;
-      rec_is = c.in_ok-rec.ensures.got tells ∙ ap (λ (r : Records). index_rec r c.loop.at) was;
+      used = ap (λ (r : Records). kind_at r format.index_file c.loop.at) (sym was) ∙ c.in_ok-record_at.ensures.used tells;
+      rec_is = c.in_ok-record_at.ensures.got tells ∙ ap (λ (r : Records). index_rec r c.loop.at) was;
     } in
     same_has (BlamesBroken s.records s.shape) c.from_residual-in_err-add_node.result c.in_err-add_node.field-0.0 c.from_residual-in_err-add_node.ensures.1
     (blames_before s then c.in_err-add_node.field-0.0 same
-    (c.in_err-add_node.ensures.damaged tells d b c.loop.counter (subst (λ (r : Records). IsEntryMet r d b c.loop.counter c.loop.at c.in_ok-rec.rec) (sym (same_records s then same)) met)))
+    (c.in_err-add_node.ensures.damaged tells d b c.loop.counter (subst (λ (r : Records). IsEntryMet r d b c.loop.counter c.loop.at c.record_at.new.rec) (sym (same_records s then same)) met)))
 
 pub returns-then-at-2-clause-damaged : goal.returns-then-at-2-clause-damaged
 returns-then-at-2-clause-damaged g c tells d b h =
@@ -164,28 +164,28 @@ returns-then-at-2-clause-damaged g c tells d b h =
     let late : high s.records format.index_file ≤ c.loop.counter = subst (λ (m : Meta). m.high ≤ c.loop.counter) c.meta-end.ensures (omega arith) in
     subst (BlamesBroken s.records s.shape) (sym c.damaged.ensures) (late_breaks s d b c.loop.counter c.loop.at c.loop.named (c.loop.invariant.at tells d b h) c.if-at-2.true late)
 
-pub returns-in_err-rec-clause-onward : goal.returns-in_err-rec-clause-onward
-returns-in_err-rec-clause-onward g c =
-    g.met.R.Reads.further_onward _ _ _ c.loop.invariant.onward c.in_err-rec.ensures.onward
+pub returns-in_err-record_at-clause-onward : goal.returns-in_err-record_at-clause-onward
+returns-in_err-record_at-clause-onward g c =
+    g.met.R.Reads.further_onward _ _ _ c.loop.invariant.onward c.in_err-record_at.ensures.onward
 
 pub returns-in_err-add_node-clause-onward : goal.returns-in_err-add_node-clause-onward
 returns-in_err-add_node-clause-onward g c =
     g.met.R.Reads.further_onward _ _ _
-    (g.met.R.Reads.further_onward _ _ _ c.loop.invariant.onward c.in_ok-rec.ensures.onward)
+    (g.met.R.Reads.further_onward _ _ _ c.loop.invariant.onward c.in_ok-record_at.ensures.onward)
     c.in_err-add_node.ensures.onward
 
-pub returns-in_err-rec-clause-cause : goal.returns-in_err-rec-clause-cause
-returns-in_err-rec-clause-cause g c =
-    cause_passed _ _ _ c.from_residual.result c.in_err-rec.field-0.0 c.loop.invariant.later c.in_err-rec.ensures.cause c.from_residual.ensures.1
+pub returns-in_err-record_at-clause-cause : goal.returns-in_err-record_at-clause-cause
+returns-in_err-record_at-clause-cause g c =
+    cause_passed _ _ _ c.from_residual.result c.in_err-record_at.field-0.0 c.loop.invariant.later c.in_err-record_at.ensures.cause c.from_residual.ensures.1
 
 pub returns-in_err-add_node-clause-cause : goal.returns-in_err-add_node-clause-cause
 returns-in_err-add_node-clause-cause g c =
     cause_passed _ _ _ c.from_residual-in_err-add_node.result c.in_err-add_node.field-0.0
-    (later_on c.loop.invariant.later c.in_ok-rec.ensures.cause.later) c.in_err-add_node.ensures.cause
+    (later_on c.loop.invariant.later c.in_ok-record_at.ensures.cause.later) c.in_err-add_node.ensures.cause
     c.from_residual-in_err-add_node.ensures.1
 
-pub returns-in_err-rec-clause-found : goal.returns-in_err-rec-clause-found
-returns-in_err-rec-clause-found g c _ _ _ = never_ok c.from_residual.result _ _ c.from_residual.ensures.1
+pub returns-in_err-record_at-clause-found : goal.returns-in_err-record_at-clause-found
+returns-in_err-record_at-clause-found g c _ _ _ = never_ok c.from_residual.result _ _ c.from_residual.ensures.1
 
 pub returns-in_err-add_node-clause-found : goal.returns-in_err-add_node-clause-found
 returns-in_err-add_node-clause-found g c _ _ _ = never_ok c.from_residual-in_err-add_node.result _ _ c.from_residual-in_err-add_node.ensures.1

@@ -25,21 +25,21 @@ use Rattle.prop_index.proofs.holding.holds.Goals as goal
 pub returns-in_err-owner-clause-at_most : goal.returns-in_err-owner-clause-at_most
 returns-in_err-owner-clause-at_most g c = reads_none 55 _
 
-pub returns-in_err-rec-clause-at_most : goal.returns-in_err-rec-clause-at_most
-returns-in_err-rec-clause-at_most g c = reads_one 55 _ _ (omega arith) c.get.ensures.state
+pub returns-in_err-get_into-clause-at_most : goal.returns-in_err-get_into-clause-at_most
+returns-in_err-get_into-clause-at_most g c = reads_one 55 _ _ (omega arith) c.get_into.ensures.state
 
 pub returns-then-byte-eq-FREE-clause-at_most : goal.returns-then-byte-eq-FREE-clause-at_most
-returns-then-byte-eq-FREE-clause-at_most g c = reads_one 55 _ _ (omega arith) c.get.ensures.state
+returns-then-byte-eq-FREE-clause-at_most g c = reads_one 55 _ _ (omega arith) c.get_into.ensures.state
 
 pub returns-in_err-held-clause-at_most : goal.returns-in_err-held-clause-at_most
-returns-in_err-held-clause-at_most g c = reads_after 54 55 _ _ _ (omega arith) c.get.ensures.state c.in_err-held.ensures.at_most
+returns-in_err-held-clause-at_most g c = reads_after 54 55 _ _ _ (omega arith) c.get_into.ensures.state c.in_err-held.ensures.at_most
 
 pub returns-clause-at_most : goal.returns-clause-at_most
-returns-clause-at_most g c = reads_after 54 55 _ _ _ (omega arith) c.get.ensures.state c.in_ok-held.ensures.at_most
+returns-clause-at_most g c = reads_after 54 55 _ _ _ (omega arith) c.get_into.ensures.state c.in_ok-held.ensures.at_most
 
 pub returns-clause-met : goal.returns-clause-met
 returns-clause-met g c tells =
-    let gone : (g.R.Reads.state c.get.new.self).records ≡ (g.R.Reads.state c.args.space.now).records = ap (λ (z : State). z.records) c.get.ensures.state in
+    let gone : (g.R.Reads.state c.get_into.new.self).records ≡ (g.R.Reads.state c.args.space.now).records = ap (λ (z : State). z.records) c.get_into.ensures.state in
     c.is_value.ensures
     ∙ ap (has_value c.args.value.now) (c.in_ok-held.ensures.met tells ∙ (λ i. value_of (properties_met (gone i) (c.in_ok-owner.ensures.is i)) c.args.key)
     ∙ sym (value_in-is _ c.args.key))
@@ -47,13 +47,13 @@ returns-clause-met g c tells =
 pub returns-then-byte-eq-FREE-clause-sound : goal.returns-then-byte-eq-FREE-clause-sound
 returns-then-byte-eq-FREE-clause-sound g c tells listed =
     let s = (g.R.Reads.state c.args.space.now).records in
-    let rec_is : c.in_ok-rec.rec ≡ rec_at s format.nodes_file c.args.node = c.in_ok-rec.ensures.got tells ∙ ap (λ (o : Owner). s o.key) c.in_ok-owner.ensures.is in
-    absurd (in_use s c.args.node c.in_ok-rec.rec rec_is listed.low listed.used (sym c.byte.ensures ∙ c.if-byte-eq-FREE.true))
+    let rec_is : c.get_into.new.rec ≡ rec_at s format.nodes_file c.args.node = c.in_ok-get_into.ensures.got tells ∙ ap (λ (o : Owner). s o.key) c.in_ok-owner.ensures.is in
+    absurd (in_use s c.args.node c.get_into.new.rec rec_is listed.low listed.used (sym c.byte.ensures ∙ c.if-byte-eq-FREE.true))
 
 pub returns-in_err-held-clause-sound : goal.returns-in_err-held-clause-sound
 returns-in_err-held-clause-sound g c tells listed =
-    let now = g.R.Reads.state c.get.new.self in
-    let gone : now.records ≡ (g.R.Reads.state c.args.space.now).records = ap (λ (z : State). z.records) c.get.ensures.state in
+    let now = g.R.Reads.state c.get_into.new.self in
+    let gone : now.records ≡ (g.R.Reads.state c.args.space.now).records = ap (λ (z : State). z.records) c.get_into.ensures.state in
     let p = err_from_is_err_and c.from_residual-in_err-held.result c.from_residual-in_err-held.ensures.1 in
     rw (p.1, p.2) (c.in_err-held.ensures.sound tells listed.properties (subst (λ (o : Owner). HasProperties now.records o listed.properties) (sym c.in_ok-owner.ensures.is)
     (subst (λ (r : Records). HasProperties r (node_owner c.args.node) listed.properties) (sym gone) listed.has)))
@@ -64,28 +64,28 @@ returns-in_err-owner-clause-damaged g c tells d b count rec met node_is =
     same_has (BlamesBroken s.records s.shape) c.from_residual.result (Damaged c.in_err-owner.field-0.0) c.from_residual.ensures.1
     (entry_owner_blames s d b count c.args.entry rec met c.args.node node_is c.out_of_range.result c.out_of_range.ensures c.in_err-owner.field-0.0 c.in_err-owner.ensures.damaged)
 
-pub returns-in_err-rec-clause-damaged : goal.returns-in_err-rec-clause-damaged
-returns-in_err-rec-clause-damaged g c tells d b count rec met node_is =
+pub returns-in_err-get_into-clause-damaged : goal.returns-in_err-get_into-clause-damaged
+returns-in_err-get_into-clause-damaged g c tells d b count rec met node_is =
     let s = g.R.Reads.state c.args.space.now in
-    space_has (BlamesBroken s.records s.shape) tt tt c.from_residual-in_err-rec.result c.in_err-rec.field-0.0 c.from_residual-in_err-rec.ensures.1
+    space_has (BlamesBroken s.records s.shape) tt tt c.from_residual-in_err-get_into.result c.in_err-get_into.field-0.0 c.from_residual-in_err-get_into.ensures.1
 
 pub returns-then-byte-eq-FREE-clause-damaged : goal.returns-then-byte-eq-FREE-clause-damaged
 returns-then-byte-eq-FREE-clause-damaged g c tells d b count rec met node_is =
     let s = g.R.Reads.state c.args.space.now in
-    let rec_is : c.in_ok-rec.rec ≡ rec_at s.records format.nodes_file c.args.node = c.in_ok-rec.ensures.got tells ∙ ap (λ (o : Owner). s.records o.key) c.in_ok-owner.ensures.is in
+    let rec_is : c.get_into.new.rec ≡ rec_at s.records format.nodes_file c.args.node = c.in_ok-get_into.ensures.got tells ∙ ap (λ (o : Owner). s.records o.key) c.in_ok-owner.ensures.is in
     subst (BlamesBroken s.records s.shape) (sym c.damaged.ensures) (entry_unwanted s d b count c.args.entry rec met c.args.node node_is
     (ap (λ (r : Rec). field 1 r format.kind) (sym rec_is) ∙ sym c.byte.ensures ∙ c.if-byte-eq-FREE.true))
 
 pub returns-in_err-held-clause-damaged : goal.returns-in_err-held-clause-damaged
 returns-in_err-held-clause-damaged g c tells d b count rec met node_is =
     let s = g.R.Reads.state c.args.space.now in
-    let now = g.R.Reads.state c.get.new.self in
-    let gone : now.records ≡ s.records = ap (λ (z : State). z.records) c.get.ensures.state in
-    let rec_is : c.in_ok-rec.rec ≡ rec_at s.records format.nodes_file c.args.node = c.in_ok-rec.ensures.got tells ∙ ap (λ (o : Owner). s.records o.key) c.in_ok-owner.ensures.is in
+    let now = g.R.Reads.state c.get_into.new.self in
+    let gone : now.records ≡ s.records = ap (λ (z : State). z.records) c.get_into.ensures.state in
+    let rec_is : c.get_into.new.rec ≡ rec_at s.records format.nodes_file c.args.node = c.in_ok-get_into.ensures.got tells ∙ ap (λ (o : Owner). s.records o.key) c.in_ok-owner.ensures.is in
     let low : c.args.node < high s.records format.nodes_file = c.in_ok-owner.ensures.low in
     let used : kind_at s.records format.nodes_file c.args.node ≢ format.free_kind = λ e. c.if-byte-eq-FREE.false (c.byte.ensures ∙ ap (λ (r : Rec). field 1 r format.kind) rec_is ∙ sym (kind_low (high s.records format.nodes_file) (rec_at s.records format.nodes_file c.args.node) c.args.node low) ∙ e) in
     same_has (BlamesBroken s.records s.shape) c.from_residual-in_err-held.result c.in_err-held.field-0.0 c.from_residual-in_err-held.ensures.1
-    (blames_before s now c.in_err-held.field-0.0 (reads_same 1 s now (reads_one 1 s now (omega arith) c.get.ensures.state))
+    (blames_before s now c.in_err-held.field-0.0 (reads_same 1 s now (reads_one 1 s now (omega arith) c.get_into.ensures.state))
     (any_read now.records now.shape c.in_err-held.field-0.0 (c.in_err-held.ensures.damaged tells (subst (λ (o : Owner). IsInUse now.records o) (sym c.in_ok-owner.ensures.is) (subst (λ (r : Records). IsInUse r (node_owner c.args.node)) (sym gone) used)))))
 
 pub returns-in_err-owner-clause-met : goal.returns-in_err-owner-clause-met
@@ -94,8 +94,8 @@ returns-in_err-owner-clause-met g c _ = never_ok c.from_residual.result _ _ c.fr
 pub returns-in_err-owner-clause-onward : goal.returns-in_err-owner-clause-onward
 returns-in_err-owner-clause-onward g c = search rules
 
-pub returns-in_err-rec-clause-met : goal.returns-in_err-rec-clause-met
-returns-in_err-rec-clause-met g c _ = never_ok c.from_residual-in_err-rec.result _ _ c.from_residual-in_err-rec.ensures.1
+pub returns-in_err-get_into-clause-met : goal.returns-in_err-get_into-clause-met
+returns-in_err-get_into-clause-met g c _ = never_ok c.from_residual-in_err-get_into.result _ _ c.from_residual-in_err-get_into.ensures.1
 
 pub returns-in_err-held-clause-met : goal.returns-in_err-held-clause-met
 returns-in_err-held-clause-met g c _ = never_ok c.from_residual-in_err-held.result _ _ c.from_residual-in_err-held.ensures.1

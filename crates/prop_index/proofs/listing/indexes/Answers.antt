@@ -19,14 +19,14 @@ use Rattle.prop_store.proofs.Causes.{cause_passed, later_on, memory_cause}
 use Rattle.rec_bytes.proofs.Causes.{never_ok, ok_cause}
 use Rattle.prop_index.proofs.listing.indexes.Goals as goal
 
-pub returns-in_err-meta-clause-at_most : goal.returns-in_err-meta-clause-at_most
-returns-in_err-meta-clause-at_most g c = reads_one 17 _ _ (omega arith) c.get.ensures.state
+pub returns-in_err-get_into-clause-at_most : goal.returns-in_err-get_into-clause-at_most
+returns-in_err-get_into-clause-at_most g c = reads_one 17 _ _ (omega arith) c.get_into.ensures.state
 
 pub loop-init : goal.loop-init
 loop-init g c =
     let s = g.R.Reads.state c.args.space.now in
     let first_is : g.R.Reads.tells → c.number-at.result ≡ first_definition s.records
-    = λ tells. c.number-at.ensures ∙ ap (λ (r : Rec). field 4 r format.meta_definition) (c.in_ok-meta.ensures.got tells ∙ ap (λ k. s.records k) c.meta_key.ensures) in
+    = λ tells. c.number-at.ensures ∙ ap (λ (r : Rec). field 4 r format.meta_definition) (c.in_ok-get_into.ensures.got tells ∙ ap (λ k. s.records k) c.meta_key.ensures) in
     record {
       told = λ tells ds are. (
         [],
@@ -37,9 +37,9 @@ loop-init g c =
       at = λ tells. definition_begins s c.number-at.result (first_is tells);
       met = λ tells. pairs_begin s.records c.number-at.result _ (first_is tells) c.new-pairs.ensures.items;
       few = ap length c.new-pairs.ensures.items;
-      reads = reads_one 1 _ _ (omega arith) c.get.ensures.state;
-      onward = c.get.ensures.onward;
-      later = c.get.ensures.cause.later;
+      reads = reads_one 1 _ _ (omega arith) c.get_into.ensures.state;
+      onward = c.get_into.ensures.onward;
+      later = c.get_into.ensures.cause.later;
     }
 
 pub returns-then-at-clause-listed : goal.returns-then-at-clause-listed
@@ -48,27 +48,27 @@ returns-then-at-clause-listed g c tells wanted ix =
     let told = c.loop.invariant.told tells ix.definitions (definitions_of s.records wanted ix) in
     told.2 ∙ ap (map (pair_of s.records)) (walk_over _ ix.definitions c.loop.at told.0 told.1 c.if-at.true)
 
-pub returns-in_err-rec-clause-sound : goal.returns-in_err-rec-clause-sound
-returns-in_err-rec-clause-sound g c tells wanted ix room =
+pub returns-in_err-record_at-clause-sound : goal.returns-in_err-record_at-clause-sound
+returns-in_err-record_at-clause-sound g c tells wanted ix room =
     let s = g.R.Reads.state c.args.space.now in
     let now = g.R.Reads.state c.loop.space in
     let told = c.loop.invariant.told tells ix.definitions (definitions_of s.records wanted ix) in
     let here = walk_here _ ix.definitions c.loop.at told.0 told.1 c.if-at.false in
-    let p = err_from_is_err_and c.from_residual-in_err-rec.result c.from_residual-in_err-rec.ensures.1 in
-    rw (p.1, p.2) (c.in_err-rec.ensures.sound tells (room_after s now format.index_file (reads_same _ s now c.loop.invariant.reads) room)
+    let p = err_from_is_err_and c.from_residual-in_err-record_at.result c.from_residual-in_err-record_at.ensures.1 in
+    rw (p.1, p.2) (c.in_err-record_at.ensures.sound tells (room_after s now format.index_file (reads_same _ s now c.loop.invariant.reads) room)
     (ap (λ (r : Records). kind_at r format.index_file c.loop.at) (reads_records _ s now c.loop.invariant.reads) ∙ ix.defined c.loop.at here.0))
 
-pub returns-in_err-rec-clause-at_most : goal.returns-in_err-rec-clause-at_most
-returns-in_err-rec-clause-at_most g c = reads_then _ 1 17 _ _ _ (omega arith) c.loop.invariant.reads c.in_err-rec.ensures.at_most
+pub returns-in_err-record_at-clause-at_most : goal.returns-in_err-record_at-clause-at_most
+returns-in_err-record_at-clause-at_most g c = reads_then _ 1 17 _ _ _ (omega arith) c.loop.invariant.reads c.in_err-record_at.ensures.at_most
 
 pub loop-preserved : goal.loop-preserved
 loop-preserved g c =
     let s = g.R.Reads.state c.args.space.now in
     let now = g.R.Reads.state c.loop.space in
     let same = reads_records _ s now c.loop.invariant.reads in
-    let rec_is : g.R.Reads.tells → c.in_ok-rec.rec ≡ index_rec s.records c.loop.at = λ tells. c.in_ok-rec.ensures.got tells ∙ ap (λ (r : Records). index_rec r c.loop.at) same in
+    let rec_is : g.R.Reads.tells → c.record_at.new.rec ≡ index_rec s.records c.loop.at = λ tells. c.in_ok-record_at.ensures.got tells ∙ ap (λ (r : Records). index_rec r c.loop.at) same in
     let used : g.R.Reads.tells → kind_at s.records format.index_file c.loop.at ≡ format.definition
-    = λ tells. ap (λ (r : Records). kind_at r format.index_file c.loop.at) (sym same) ∙ c.in_ok-rec.ensures.used tells in
+    = λ tells. ap (λ (r : Records). kind_at r format.index_file c.loop.at) (sym same) ∙ c.in_ok-record_at.ensures.used tells in
     let next_is : g.R.Reads.tells → c.number-at-in-loop.result ≡ next_definition s.records c.loop.at
     = λ tells. c.number-at-in-loop.ensures ∙ ap (λ (r : Rec). field 4 r format.definition_next) (rec_is tells) in
     let pair_is : g.R.Reads.tells → record { label = c.number-label.result; key = c.number-key.result } ≡ pair_of s.records c.loop.at
@@ -85,9 +85,9 @@ loop-preserved g c =
           (definition_goes_on s c.loop.at c.loop.named (c.loop.invariant.at tells) c.if-at.false c.number-at-in-loop.result (used tells) (next_is tells));
       met = λ tells. pairs_go_on s.records c.loop.at c.number-at-in-loop.result c.loop.pairs.items _ _ (c.loop.invariant.met tells) c.if-at.false (used tells) (next_is tells) c.in_ok-push.ensures.items (pair_is tells);
       few = ap length c.in_ok-push.ensures.items ∙ length-append c.loop.pairs.items _ ∙ ap (λ n. n + 1) c.loop.invariant.few;
-      reads = reads_then _ 1 _ _ _ _ (omega arith) c.loop.invariant.reads c.in_ok-rec.ensures.at_most;
-      onward = g.met.R.Reads.further_onward _ _ _ c.loop.invariant.onward c.in_ok-rec.ensures.onward;
-      later = omega (arith, c.loop.invariant.later, c.in_ok-rec.ensures.cause.later);
+      reads = reads_then _ 1 _ _ _ _ (omega arith) c.loop.invariant.reads c.in_ok-record_at.ensures.at_most;
+      onward = g.met.R.Reads.further_onward _ _ _ c.loop.invariant.onward c.in_ok-record_at.ensures.onward;
+      later = omega (arith, c.loop.invariant.later, c.in_ok-record_at.ensures.cause.later);
     }
 
 pub returns-clause-listed : goal.returns-clause-listed
@@ -97,7 +97,7 @@ returns-clause-listed g c tells wanted ix =
     told.2 ∙ ap (map (pair_of s.records)) (walk_over _ ix.definitions c.loop.at told.0 told.1 c.if-at-2.false)
 
 pub returns-in_err-push-clause-at_most : goal.returns-in_err-push-clause-at_most
-returns-in_err-push-clause-at_most g c = reads_then _ 1 17 _ _ _ (omega arith) c.loop.invariant.reads c.in_ok-rec.ensures.at_most
+returns-in_err-push-clause-at_most g c = reads_then _ 1 17 _ _ _ (omega arith) c.loop.invariant.reads c.in_ok-record_at.ensures.at_most
 
 pub returns-then-at-clause-walked : goal.returns-then-at-clause-walked
 returns-then-at-clause-walked g c tells =
@@ -109,13 +109,13 @@ returns-clause-walked g c tells =
     let s = g.R.Reads.state c.args.space.now in
     pairs_end s.records c.loop.at c.loop.pairs.items (c.loop.invariant.met tells) c.if-at-2.false
 
-pub returns-in_err-rec-clause-damaged : goal.returns-in_err-rec-clause-damaged
-returns-in_err-rec-clause-damaged g c tells =
+pub returns-in_err-record_at-clause-damaged : goal.returns-in_err-record_at-clause-damaged
+returns-in_err-record_at-clause-damaged g c tells =
     let s = g.R.Reads.state c.args.space.now in
     let now = g.R.Reads.state c.loop.space in
-    same_has (BlamesBroken s.records s.shape) c.from_residual-in_err-rec.result c.in_err-rec.field-0.0 c.from_residual-in_err-rec.ensures.1
-    (definition_blames s c.loop.at c.loop.named (c.loop.invariant.at tells) c.if-at.false c.in_err-rec.field-0.0
-    (read_fault_same s now c.loop.at format.definition c.loop.named (reads_same _ s now c.loop.invariant.reads) c.in_err-rec.field-0.0 (c.in_err-rec.ensures.damaged tells)))
+    same_has (BlamesBroken s.records s.shape) c.from_residual-in_err-record_at.result c.in_err-record_at.field-0.0 c.from_residual-in_err-record_at.ensures.1
+    (definition_blames s c.loop.at c.loop.named (c.loop.invariant.at tells) c.if-at.false c.in_err-record_at.field-0.0
+    (read_fault_same s now c.loop.at format.definition c.loop.named (reads_same _ s now c.loop.invariant.reads) c.in_err-record_at.field-0.0 (c.in_err-record_at.ensures.damaged tells)))
 
 pub returns-then-at-2-clause-damaged : goal.returns-then-at-2-clause-damaged
 returns-then-at-2-clause-damaged g c tells =
@@ -126,51 +126,51 @@ returns-then-at-2-clause-damaged g c tells =
     let passed : length told.0 ≡ 16 = sym (ap length told.2 ∙ length-map told.0 (pair_of s.records)) ∙ c.loop.invariant.few ∙ omega arith in
     omega (arith, here.1, passed, has.list.few)))
 
-pub returns-in_err-rec-clause-names : goal.returns-in_err-rec-clause-names
-returns-in_err-rec-clause-names g c tells =
+pub returns-in_err-record_at-clause-names : goal.returns-in_err-record_at-clause-names
+returns-in_err-record_at-clause-names g c tells =
     let now = g.R.Reads.state c.loop.space in
-    same_has NamesIndexes c.from_residual-in_err-rec.result c.in_err-rec.field-0.0 c.from_residual-in_err-rec.ensures.1
-    (read_names now c.loop.at format.definition c.loop.named c.in_err-rec.field-0.0 c.loop.invariant.named_is (c.in_err-rec.ensures.damaged tells))
+    same_has NamesIndexes c.from_residual-in_err-record_at.result c.in_err-record_at.field-0.0 c.from_residual-in_err-record_at.ensures.1
+    (read_names now c.loop.at format.definition c.loop.named c.in_err-record_at.field-0.0 c.loop.invariant.named_is (c.in_err-record_at.ensures.damaged tells))
 
 pub returns-then-at-2-clause-names : goal.returns-then-at-2-clause-names
 returns-then-at-2-clause-names g c tells = subst NamesIndexes (sym c.damaged.ensures) (inr (refl, refl))
 
-pub returns-in_err-rec-clause-onward : goal.returns-in_err-rec-clause-onward
-returns-in_err-rec-clause-onward g c =
-    g.met.R.Reads.further_onward _ _ _ c.loop.invariant.onward c.in_err-rec.ensures.onward
+pub returns-in_err-record_at-clause-onward : goal.returns-in_err-record_at-clause-onward
+returns-in_err-record_at-clause-onward g c =
+    g.met.R.Reads.further_onward _ _ _ c.loop.invariant.onward c.in_err-record_at.ensures.onward
 
 pub returns-in_err-push-clause-onward : goal.returns-in_err-push-clause-onward
 returns-in_err-push-clause-onward g c =
-    g.met.R.Reads.further_onward _ _ _ c.loop.invariant.onward c.in_ok-rec.ensures.onward
+    g.met.R.Reads.further_onward _ _ _ c.loop.invariant.onward c.in_ok-record_at.ensures.onward
 
-pub returns-in_err-rec-clause-cause : goal.returns-in_err-rec-clause-cause
-returns-in_err-rec-clause-cause g c =
-    cause_passed _ _ _ c.from_residual-in_err-rec.result c.in_err-rec.field-0.0
-    c.loop.invariant.later c.in_err-rec.ensures.cause
-    c.from_residual-in_err-rec.ensures.1
+pub returns-in_err-record_at-clause-cause : goal.returns-in_err-record_at-clause-cause
+returns-in_err-record_at-clause-cause g c =
+    cause_passed _ _ _ c.from_residual-in_err-record_at.result c.in_err-record_at.field-0.0
+    c.loop.invariant.later c.in_err-record_at.ensures.cause
+    c.from_residual-in_err-record_at.ensures.1
 
 pub returns-in_err-push-clause-cause : goal.returns-in_err-push-clause-cause
 returns-in_err-push-clause-cause g c =
-    memory_cause _ _ c.from_residual-in_err-push.result (later_on c.loop.invariant.later c.in_ok-rec.ensures.cause.later)
+    memory_cause _ _ c.from_residual-in_err-push.result (later_on c.loop.invariant.later c.in_ok-record_at.ensures.cause.later)
     c.from_residual-in_err-push.ensures.1
 
-pub returns-in_err-meta-clause-listed : goal.returns-in_err-meta-clause-listed
-returns-in_err-meta-clause-listed g c _ _ _ = never_ok c.from_residual.result _ _ c.from_residual.ensures.1
+pub returns-in_err-get_into-clause-listed : goal.returns-in_err-get_into-clause-listed
+returns-in_err-get_into-clause-listed g c _ _ _ = never_ok c.from_residual.result _ _ c.from_residual.ensures.1
 
-pub returns-in_err-meta-clause-walked : goal.returns-in_err-meta-clause-walked
-returns-in_err-meta-clause-walked g c _ = never_ok c.from_residual.result _ _ c.from_residual.ensures.1
+pub returns-in_err-get_into-clause-walked : goal.returns-in_err-get_into-clause-walked
+returns-in_err-get_into-clause-walked g c _ = never_ok c.from_residual.result _ _ c.from_residual.ensures.1
 
-pub returns-in_err-meta-clause-few : goal.returns-in_err-meta-clause-few
-returns-in_err-meta-clause-few g c = never_ok c.from_residual.result _ _ c.from_residual.ensures.1
+pub returns-in_err-get_into-clause-few : goal.returns-in_err-get_into-clause-few
+returns-in_err-get_into-clause-few g c = never_ok c.from_residual.result _ _ c.from_residual.ensures.1
 
-pub returns-in_err-rec-clause-listed : goal.returns-in_err-rec-clause-listed
-returns-in_err-rec-clause-listed g c _ _ _ = never_ok c.from_residual-in_err-rec.result _ _ c.from_residual-in_err-rec.ensures.1
+pub returns-in_err-record_at-clause-listed : goal.returns-in_err-record_at-clause-listed
+returns-in_err-record_at-clause-listed g c _ _ _ = never_ok c.from_residual-in_err-record_at.result _ _ c.from_residual-in_err-record_at.ensures.1
 
-pub returns-in_err-rec-clause-walked : goal.returns-in_err-rec-clause-walked
-returns-in_err-rec-clause-walked g c _ = never_ok c.from_residual-in_err-rec.result _ _ c.from_residual-in_err-rec.ensures.1
+pub returns-in_err-record_at-clause-walked : goal.returns-in_err-record_at-clause-walked
+returns-in_err-record_at-clause-walked g c _ = never_ok c.from_residual-in_err-record_at.result _ _ c.from_residual-in_err-record_at.ensures.1
 
-pub returns-in_err-rec-clause-few : goal.returns-in_err-rec-clause-few
-returns-in_err-rec-clause-few g c = never_ok c.from_residual-in_err-rec.result _ _ c.from_residual-in_err-rec.ensures.1
+pub returns-in_err-record_at-clause-few : goal.returns-in_err-record_at-clause-few
+returns-in_err-record_at-clause-few g c = never_ok c.from_residual-in_err-record_at.result _ _ c.from_residual-in_err-record_at.ensures.1
 
 pub returns-in_err-push-clause-listed : goal.returns-in_err-push-clause-listed
 returns-in_err-push-clause-listed g c _ _ _ = never_ok c.from_residual-in_err-push.result _ _ c.from_residual-in_err-push.ensures.1

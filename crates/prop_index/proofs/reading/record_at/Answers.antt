@@ -30,38 +30,38 @@ returns-then-id-room_of-clause-damaged g c tells =
 pub returns-then-id-room_of-clause-at_most : goal.returns-then-id-room_of-clause-at_most
 returns-then-id-room_of-clause-at_most g c = reads_none 1 _
 
-pub returns-in_err-rec-clause-at_most : goal.returns-in_err-rec-clause-at_most
-returns-in_err-rec-clause-at_most g c = reads_one 1 _ _ (omega arith) c.get.ensures.state
+pub returns-in_err-get_into-clause-at_most : goal.returns-in_err-get_into-clause-at_most
+returns-in_err-get_into-clause-at_most g c = reads_one 1 _ _ (omega arith) c.get_into.ensures.state
 
 pub returns-then-byte-kind-clause-damaged : goal.returns-then-byte-kind-clause-damaged
 returns-then-byte-kind-clause-damaged g c tells =
     let s = g.R.Reads.state c.args.space.now in
     let low : c.args.id < high s.records format.index_file = subst (λ (m : Meta). c.args.id < m.high) c.meta.ensures c.if-id-meta.false in
-    let got : c.in_ok-rec.rec ≡ index_rec s.records c.args.id = c.in_ok-rec.ensures.got tells in
+    let got : c.get_into.new.rec ≡ index_rec s.records c.args.id = c.in_ok-get_into.ensures.got tells in
     let other : kind_at s.records format.index_file c.args.id ≢ c.args.kind = λ e. c.if-byte-kind.true
     (c.byte.ensures ∙ ap (λ (r : Rec). field 1 r format.kind) got ∙ sym (kind_low (high s.records format.index_file) (index_rec s.records c.args.id) c.args.id low) ∙ e) in
     subst (IsReadFault s c.args.id c.args.kind c.args.named) (sym c.damaged-then-byte-kind.ensures) (OtherKind low other)
 
 pub returns-then-byte-kind-clause-at_most : goal.returns-then-byte-kind-clause-at_most
-returns-then-byte-kind-clause-at_most g c = reads_one 1 _ _ (omega arith) c.get.ensures.state
+returns-then-byte-kind-clause-at_most g c = reads_one 1 _ _ (omega arith) c.get_into.ensures.state
 
 pub returns-clause-at_most : goal.returns-clause-at_most
-returns-clause-at_most g c = reads_one 1 _ _ (omega arith) c.get.ensures.state
+returns-clause-at_most g c = reads_one 1 _ _ (omega arith) c.get_into.ensures.state
 
-pub returns-in_err-rec-clause-key : goal.returns-in_err-rec-clause-key
-returns-in_err-rec-clause-key g c = never_ok c.from_residual.result _ _ c.from_residual.ensures.1
+pub returns-in_err-get_into-clause-key : goal.returns-in_err-get_into-clause-key
+returns-in_err-get_into-clause-key g c = never_ok c.from_residual.result _ _ c.from_residual.ensures.1
 
-pub returns-in_err-rec-clause-got : goal.returns-in_err-rec-clause-got
-returns-in_err-rec-clause-got g c _ = never_ok c.from_residual.result _ _ c.from_residual.ensures.1
+pub returns-in_err-get_into-clause-got : goal.returns-in_err-get_into-clause-got
+returns-in_err-get_into-clause-got g c _ = never_ok c.from_residual.result _ _ c.from_residual.ensures.1
 
-pub returns-in_err-rec-clause-used : goal.returns-in_err-rec-clause-used
-returns-in_err-rec-clause-used g c _ = never_ok c.from_residual.result _ _ c.from_residual.ensures.1
+pub returns-in_err-get_into-clause-used : goal.returns-in_err-get_into-clause-used
+returns-in_err-get_into-clause-used g c _ = never_ok c.from_residual.result _ _ c.from_residual.ensures.1
 
-pub returns-in_err-rec-clause-state : goal.returns-in_err-rec-clause-state
-returns-in_err-rec-clause-state g c = never_ok c.from_residual.result _ _ c.from_residual.ensures.1
+pub returns-in_err-get_into-clause-state : goal.returns-in_err-get_into-clause-state
+returns-in_err-get_into-clause-state g c = never_ok c.from_residual.result _ _ c.from_residual.ensures.1
 
-pub returns-in_err-rec-clause-onward : goal.returns-in_err-rec-clause-onward
-returns-in_err-rec-clause-onward g c = search rules
+pub returns-in_err-get_into-clause-onward : goal.returns-in_err-get_into-clause-onward
+returns-in_err-get_into-clause-onward g c = search rules
 
 pub returns-clause-cause : goal.returns-clause-cause
 returns-clause-cause g c = ok_cause _ _ _ _ (omega arith)
