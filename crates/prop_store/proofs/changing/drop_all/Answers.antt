@@ -10,7 +10,7 @@ use Rattle.prop_store.proofs.ElementChanges.{all_dropped, drops_read, first_kept
 use Rattle.prop_store.proofs.ElementGraphs.{drops_graph, owns_listed}
 use Rattle.prop_store.specs.Fault.{BlamesBroken}
 use Rattle.prop_store.specs.Owner.{IsInUse, first_of}
-use Rattle.prop_store.proofs.Exits.{same_has, space_has, unwritten_after}
+use Rattle.prop_store.proofs.Exits.{same_has, space_exit, space_has, unwritten_after}
 use Rattle.prop_store.proofs.LeftElements.{left_after, left_read, left_set, left_then}
 use Rattle.prop_store.proofs.ReadCounts.{reads_one, reads_same}
 use Rattle.prop_store.proofs.Touches.{touches_after, touches_beside, touches_more, touches_owner, touches_reads, touches_then}
@@ -266,3 +266,38 @@ returns-in_ok-set_number-clause-cause g c = ok_cause _ _ _ _ (omega arith)
 
 pub returns-else-first-clause-cause : goal.returns-else-first-clause-cause
 returns-else-first-clause-cause g c = ok_cause _ _ _ _ (omega arith)
+
+pub returns-in_err-first-clause-cause : goal.returns-in_err-first-clause-cause
+returns-in_err-first-clause-cause g c = space_cause_passed _ _ _ c.from_residual.result c.in_err-first.field-0.0 (omega arith) c.in_err-first.ensures.cause c.from_residual.ensures.1
+
+pub returns-in_err-first-clause-sound : goal.returns-in_err-first-clause-sound
+returns-in_err-first-clause-sound g c tells has = space_exit c.from_residual.result c.in_err-first.field-0.0 c.from_residual.ensures.1
+
+pub returns-in_err-first-clause-alone_sound : goal.returns-in_err-first-clause-alone_sound
+returns-in_err-first-clause-alone_sound g c tells es owns = space_exit c.from_residual.result c.in_err-first.field-0.0 c.from_residual.ensures.1
+
+pub returns-in_err-set_number-clause-sound : goal.returns-in_err-set_number-clause-sound
+returns-in_err-set_number-clause-sound g c tells has = space_exit c.from_residual-in_err-set_number.result c.in_err-set_number.field-0.0 c.from_residual-in_err-set_number.ensures.1
+
+pub returns-in_err-set_number-clause-alone_sound : goal.returns-in_err-set_number-clause-alone_sound
+returns-in_err-set_number-clause-alone_sound g c tells es owns = space_exit c.from_residual-in_err-set_number.result c.in_err-set_number.field-0.0 c.from_residual-in_err-set_number.ensures.1
+
+pub returns-in_err-set_number-clause-damaged : goal.returns-in_err-set_number-clause-damaged
+returns-in_err-set_number-clause-damaged g c tells used =
+    let s = g.S.Reads.state c.args.space.now in
+    space_has (BlamesBroken s.records s.shape) tt tt c.from_residual-in_err-set_number.result c.in_err-set_number.field-0.0 c.from_residual-in_err-set_number.ensures.1
+
+pub returns-in_ok-set_number-clause-few_properties : goal.returns-in_ok-set_number-clause-few_properties
+returns-in_ok-set_number-clause-few_properties g c = c.in_ok-dropped.ensures.few_properties
+
+pub returns-in_ok-set_number-clause-few_blocks : goal.returns-in_ok-set_number-clause-few_blocks
+returns-in_ok-set_number-clause-few_blocks g c = c.in_ok-dropped.ensures.few_blocks
+
+pub returns-else-first-clause-few_properties : goal.returns-else-first-clause-few_properties
+returns-else-first-clause-few_properties g c = c.in_ok-dropped.ensures.few_properties
+
+pub returns-else-first-clause-few_blocks : goal.returns-else-first-clause-few_blocks
+returns-else-first-clause-few_blocks g c = c.in_ok-dropped.ensures.few_blocks
+
+pub drop_chain-requires-clause-owner : goal.drop_chain-requires-clause-owner
+drop_chain-requires-clause-owner g c = c.requires.owner

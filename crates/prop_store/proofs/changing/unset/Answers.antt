@@ -15,7 +15,7 @@ use Rattle.prop_store.proofs.ElementChanges.{has_properties}
 use Rattle.prop_store.proofs.ElementGraphs.{absent_value, owns_listed, removes_graph}
 use Rattle.prop_store.proofs.ElementParts.{drops_same, held_same, held_row}
 use Rattle.prop_store.proofs.Breaches.{text_blames, text_fault_same}
-use Rattle.prop_store.proofs.Exits.{same_has, space_has}
+use Rattle.prop_store.proofs.Exits.{same_has, space_exit, space_has}
 use Rattle.prop_store.proofs.ReadCounts.{reads_records, reads_same, reads_one}
 use Rattle.prop_store.proofs.Touches.{touches_after, touches_beside, touches_link, touches_more, touches_reads, touches_then}
 use Rattle.prop_store.proofs.ValueRemovals.{value_removed}
@@ -280,3 +280,18 @@ returns-in-Absent-clause-cause g c = ok_cause _ _ _ _ (omega arith)
 
 pub returns-in_ok-set_number-in-Found-clause-cause : goal.returns-in_ok-set_number-in-Found-clause-cause
 returns-in_ok-set_number-in-Found-clause-cause g c = ok_cause _ _ _ _ (omega arith)
+
+pub returns-in_err-find-clause-cause : goal.returns-in_err-find-clause-cause
+returns-in_err-find-clause-cause g c = cause_passed _ _ _ c.from_residual.result c.in_err-find.field-0.0 (omega arith) c.in_err-find.ensures.cause c.from_residual.ensures.1
+
+pub returns-in_err-set_number-in-Found-clause-sound : goal.returns-in_err-set_number-in-Found-clause-sound
+returns-in_err-set_number-in-Found-clause-sound g c tells has = space_exit c.from_residual-in_err-set_number-in-Found.result c.in_err-set_number-in-Found.field-0.0 c.from_residual-in_err-set_number-in-Found.ensures.1
+
+pub returns-in_err-set_number-in-Found-clause-alone_sound : goal.returns-in_err-set_number-in-Found-clause-alone_sound
+returns-in_err-set_number-in-Found-clause-alone_sound g c tells es owns = space_exit c.from_residual-in_err-set_number-in-Found.result c.in_err-set_number-in-Found.field-0.0 c.from_residual-in_err-set_number-in-Found.ensures.1
+
+pub returns-in-Absent-clause-onward : goal.returns-in-Absent-clause-onward
+returns-in-Absent-clause-onward g c = c.in_ok-find.ensures.onward
+
+pub returns-in_ok-set_number-in-Found-clause-few : goal.returns-in_ok-set_number-in-Found-clause-few
+returns-in_ok-set_number-in-Found-clause-few g c = c.in_ok-released-in-Found.ensures.few

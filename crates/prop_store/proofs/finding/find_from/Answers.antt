@@ -1,4 +1,4 @@
-use Rattle.std.proofs.Common.{length, zero-add, arith, ap, sym, ◌∙◌, ◌≡◌, ◌≢◌, ◌<◌, ℕ, refl, inl, inr, subst}
+use Rattle.std.proofs.Common.{length, zero-add, arith, ap, sym, ◌∙◌, ◌≡◌, ◌≢◌, ◌<◌, ℕ, refl, inl, inr, subst, length-append}
 use Rattle.std.proofs.lemmas.Result.{err_from_is_err_and}
 use Rattle.rec_bytes.specs.Format.{free_kind, most_ids, properties_file, property_key, property_next}
 use Rattle.rec_bytes.specs.Record.{field}
@@ -8,7 +8,7 @@ use Rattle.store_rules.specs.Views.{Records, kind_at, rec_at}
 use Rattle.prop_store.specs.Link.{IsLink, IsLinkOf, link_of, next_link}
 use Rattle.prop_store.specs.Fault.{BlamesBroken}
 use Rattle.prop_store.specs.Finding.{property_of}
-use Rattle.prop_store.specs.PropertyRow.{IsReadRow}
+use Rattle.prop_store.specs.PropertyRow.{IsReadRow, IsRow}
 use Rattle.prop_store.specs.declared.link.Link.{Link}
 use Rattle.prop_store.proofs.Ahead.{ahead, ahead_none, ahead_over, all_passed, met_here, passed_by, passed_one}
 use Rattle.prop_store.proofs.Breaches.{reached_first, reached_next, row_blames, row_fault_same, too_many}
@@ -16,7 +16,7 @@ use Rattle.prop_store.proofs.Exits.{same_has}
 use Rattle.prop_store.proofs.ElementSteps.{meta_of_element}
 use Rattle.prop_store.proofs.Keys.{absent_key, found_here, keys_passed, link_after-one}
 use Rattle.prop_store.proofs.OwnerPlaces.{place_within}
-use Rattle.prop_store.proofs.ReadCounts.{reads_none, reads_records, reads_same, reads_then}
+use Rattle.prop_store.proofs.ReadCounts.{reads_more, reads_none, reads_records, reads_same, reads_then}
 use Rattle.prop_store.proofs.WalkSteps.{fewer_passed, right_property, walk_after, walk_begins, walk_here, walk_over}
 use Rattle.prop_store.proofs.Causes.{cause_passed}
 use Rattle.rec_bytes.proofs.Causes.{never_ok, ok_cause}
@@ -179,3 +179,42 @@ returns-then-number-key-clause-cause g c = ok_cause _ _ _ _ (omega arith)
 
 pub returns-clause-cause : goal.returns-clause-cause
 returns-clause-cause g c = ok_cause _ _ _ _ (omega arith)
+
+pub returns-then-at-clause-onward : goal.returns-then-at-clause-onward
+returns-then-at-clause-onward g c = c.loop-count.invariant.onward
+
+pub returns-then-at-2-clause-onward : goal.returns-then-at-2-clause-onward
+returns-then-at-2-clause-onward g c = c.loop-count.invariant.onward
+
+pub returns-clause-onward : goal.returns-clause-onward
+returns-clause-onward g c = c.loop-count.invariant.onward
+
+pub returns-then-number-key-clause-onward : goal.returns-then-number-key-clause-onward
+returns-then-number-key-clause-onward g c = g.met.R.Reads.further_onward _ _ _ c.loop-count.invariant.onward c.in_ok-property_at.ensures.onward
+
+pub returns-then-at-clause-at_most : goal.returns-then-at-clause-at_most
+returns-then-at-clause-at_most g c = reads_more _ 32 _ _ (omega arith) c.loop-count.invariant.reads
+
+pub returns-then-at-2-clause-at_most : goal.returns-then-at-2-clause-at_most
+returns-then-at-2-clause-at_most g c = reads_more _ 32 _ _ (omega arith) c.loop-count.invariant.reads
+
+pub returns-clause-at_most : goal.returns-clause-at_most
+returns-clause-at_most g c = reads_more _ 32 _ _ (omega arith) c.loop-count.invariant.reads
+
+pub returns-then-at-clause-cost : goal.returns-then-at-clause-cost
+returns-then-at-clause-cost g c tells es are =
+    let told = c.loop-count.invariant.told tells es are in
+    reads_more _ _ _ _ (omega (arith, told.count_is, ap length told.all, length-append told.passed told.left)) c.loop-count.invariant.reads
+
+pub returns-clause-cost : goal.returns-clause-cost
+returns-clause-cost g c tells es are =
+    let told = c.loop-count.invariant.told tells es are in
+    reads_more _ _ _ _ (omega (arith, told.count_is, ap length told.all, length-append told.passed told.left)) c.loop-count.invariant.reads
+
+pub returns-then-number-key-clause-placed : goal.returns-then-number-key-clause-placed
+returns-then-number-key-clause-placed g c = record {
+  links = c.loop-count.invariant.link;
+  from = c.loop-count.invariant.from;
+  is_row = subst (λ (id : ℕ). IsRow id c.property_at.new.row) (sym c.in_ok-property_at.ensures.row.id_is) c.in_ok-property_at.ensures.row;
+  key_is = sym c.number.ensures ∙ c.if-number-key.true;
+}

@@ -19,10 +19,13 @@ use Rattle.prop_store.proofs.Ahead.{ahead, all_answered, answered_one}
 use Rattle.prop_store.proofs.Answered.{block_total-one, few_blocks}
 use Rattle.prop_store.proofs.Breaches.{reached_first, reached_next, row_blames, row_fault_same, text_blames, text_fault_same, too_many}
 use Rattle.prop_store.proofs.Exits.{same_has}
-use Rattle.prop_store.proofs.ReadCounts.{reads_none, reads_records, reads_same, reads_then}
+use Rattle.prop_store.proofs.ReadCounts.{reads_more, reads_none, reads_records, reads_same, reads_then}
 use Rattle.prop_store.proofs.WalkSteps.{blocks_given, has_value, right_property, walk_after, walk_begins, walk_here}
 use Rattle.prop_store.proofs.Causes.{cause_passed, memory_cause}
 use Rattle.rec_bytes.proofs.Causes.{never_ok, ok_cause}
+use Rattle.std.specs.Prelude.{IfSome}
+use Rattle.rec_bytes.specs.Fault.{damage_of}
+use Rattle.rec_bytes.specs.declared.fault.Fault.TheVariants as faults
 use Rattle.prop_store.proofs.reading.read_all_from.Goals as goal
 
 pub loop-init : goal.loop-init
@@ -236,3 +239,47 @@ returns-in_err-push-clause-reads g c = never_ok c.from_residual-in_err-push.resu
 
 pub returns-clause-cause : goal.returns-clause-cause
 returns-clause-cause g c = ok_cause _ _ _ _ (omega arith)
+
+pub returns-in_err-push-clause-damaged : goal.returns-in_err-push-clause-damaged
+returns-in_err-push-clause-damaged g c tells used =
+    let old = g.R.Reads.state c.args.space.now in
+    same_has (BlamesBroken old.records old.shape) c.from_residual-in_err-push.result faults.Memory c.from_residual-in_err-push.ensures.1 tt
+
+pub returns-in_err-push-clause-sound : goal.returns-in_err-push-clause-sound
+returns-in_err-push-clause-sound g c tells es has = same_has (λ fault. IfSome (damage_of fault) (λ _. ⊥)) c.from_residual-in_err-push.result faults.Memory c.from_residual-in_err-push.ensures.1 tt
+
+pub returns-then-at-clause-at_most : goal.returns-then-at-clause-at_most
+returns-then-at-clause-at_most g c = reads_more _ 736 _ _ (omega (arith, c.loop.invariant.few, c.loop.invariant.count)) c.loop.invariant.reads
+
+pub returns-then-at-2-clause-at_most : goal.returns-then-at-2-clause-at_most
+returns-then-at-2-clause-at_most g c = reads_more _ 736 _ _ (omega (arith, c.loop.invariant.few, c.loop.invariant.count)) c.loop.invariant.reads
+
+pub returns-clause-at_most : goal.returns-clause-at_most
+returns-clause-at_most g c = reads_more _ 736 _ _ (omega (arith, c.loop.invariant.few, c.loop.invariant.count)) c.loop.invariant.reads
+
+pub returns-then-at-clause-few : goal.returns-then-at-clause-few
+returns-then-at-clause-few g c = omega (arith, c.loop.invariant.count)
+
+pub returns-clause-few : goal.returns-clause-few
+returns-clause-few g c = omega (arith, c.loop.invariant.count)
+
+pub returns-then-at-clause-kept : goal.returns-then-at-clause-kept
+returns-then-at-clause-kept g c = c.loop.invariant.kept
+
+pub returns-clause-kept : goal.returns-clause-kept
+returns-clause-kept g c = c.loop.invariant.kept
+
+pub returns-then-at-clause-reads : goal.returns-then-at-clause-reads
+returns-then-at-clause-reads g c = c.loop.invariant.reads
+
+pub returns-clause-reads : goal.returns-clause-reads
+returns-clause-reads g c = c.loop.invariant.reads
+
+pub returns-then-at-clause-onward : goal.returns-then-at-clause-onward
+returns-then-at-clause-onward g c = c.loop.invariant.onward
+
+pub returns-then-at-2-clause-onward : goal.returns-then-at-2-clause-onward
+returns-then-at-2-clause-onward g c = c.loop.invariant.onward
+
+pub returns-clause-onward : goal.returns-clause-onward
+returns-clause-onward g c = c.loop.invariant.onward

@@ -1,16 +1,21 @@
-use Rattle.std.proofs.Common.{◌≡◌, ◌≢◌, ◌<◌, [], length, ap, sym, subst, ◌∙◌, inl, arith, ◌+◌, ◌∷◌, refl, rules}
+use Rattle.std.proofs.Common.{◌≡◌, ◌≢◌, ◌<◌, [], length, ap, sym, subst, ◌∙◌, inl, arith, ◌+◌, ◌∷◌, refl, rules, List, ℕ}
 use Rattle.std.proofs.lemmas.Result.{IfErr-weaker, err_from_is_err_and}
 use Rattle.std.specs.FinMap as maps
 use Rattle.plain_graph.specs.Properties.{blocks_of}
+use Rattle.plain_graph.specs.declared.value.Value.{Value}
+use Rattle.rec_bytes.specs.declared.space.SpaceFault.{SpaceFault}
+use Rattle.rec_bytes.specs.declared.space.SpaceFault.TheVariants as spaces
+use Rattle.store_rules.specs.Properties.{Property}
 use Rattle.rec_bytes.specs.declared.meta.Meta.{Meta}
 use Rattle.rec_bytes.specs.declared.shape.Shape.{Shape}
 use Rattle.rec_bytes.specs.Format.{properties_file, strings_file}
 use Rattle.rec_bytes.specs.RecordFiles.{room_of}
 use Rattle.rec_bytes.specs.Space.{SameButReads, State, meta_of}
-use Rattle.prop_store.specs.Changing.{HasKey, properties_of}
+use Rattle.prop_store.specs.Alone.{IsSetRefusalAlone}
+use Rattle.prop_store.specs.Changing.{HasKey, IsSetRefusal, properties_of}
 use Rattle.prop_store.specs.FileChange.{KeepsFile}
 use Rattle.prop_store.specs.Owner.{IsOwner}
-use Rattle.prop_store.specs.SetFault.{IsSetCause}
+use Rattle.prop_store.specs.SetFault.{IsSetCause, of_space}
 use Rattle.prop_store.specs.Setting.{BlamesLists, SetBlamesBroken, IsPutFault, MayLead}
 use Rattle.prop_store.specs.declared.owner.Owner.{Owner}
 use Rattle.prop_store.specs.declared.set_fault.SetFault.TheVariants.{Full}
@@ -271,3 +276,38 @@ returns-in_err-set_number-clause-writes g c = never_ok c.from_residual-in_err-se
 
 pub returns-clause-cause : goal.returns-clause-cause
 returns-clause-cause g c = ok_cause _ _ _ _ (omega arith)
+
+-- a fault of the space is no refusal that a store makes
+space_refused : (s : State) (es : List Property) (key : ℕ) (value : Value) (fault : SpaceFault) → IsSetRefusalAlone s es key value (of_space fault)
+space_refused s es key value spaces.Memory = tt
+space_refused s es key value spaces.Disk = tt
+
+space_refused_graph : (s : State) (owner : Owner) (key : ℕ) (value : Value) (fault : SpaceFault) → IsSetRefusal s owner key value (of_space fault)
+space_refused_graph s owner key value spaces.Memory = tt
+space_refused_graph s owner key value spaces.Disk = tt
+
+pub returns-in_err-next-clause-cause : goal.returns-in_err-next-clause-cause
+returns-in_err-next-clause-cause g c = space_set_cause _ _ _ c.from_residual.result c.in_err-next.field-0.0 (omega arith) c.in_err-next.ensures.cause c.from_residual.ensures.1
+
+pub returns-in_err-next-clause-alone_refused : goal.returns-in_err-next-clause-alone_refused
+returns-in_err-next-clause-alone_refused g c tells es owns known lacks few =
+    let s = g.S.Reads.state c.args.space.now in
+    set_has (IsSetRefusalAlone s es c.args.key c.args.value.now) c.from_residual.result _ c.from_residual.ensures.1 (space_refused s es c.args.key c.args.value.now c.in_err-next.field-0.0)
+
+pub returns-in_err-next-clause-refused : goal.returns-in_err-next-clause-refused
+returns-in_err-next-clause-refused g c tells has none few =
+    let s = g.S.Reads.state c.args.space.now in
+    set_has (IsSetRefusal s c.args.owner c.args.key c.args.value.now) c.from_residual.result _ c.from_residual.ensures.1 (space_refused_graph s c.args.owner c.args.key c.args.value.now c.in_err-next.field-0.0)
+
+pub returns-in_err-set_number-clause-alone_refused : goal.returns-in_err-set_number-clause-alone_refused
+returns-in_err-set_number-clause-alone_refused g c tells es owns known lacks few =
+    let s = g.S.Reads.state c.args.space.now in
+    set_has (IsSetRefusalAlone s es c.args.key c.args.value.now) c.from_residual-in_err-set_number.result _ c.from_residual-in_err-set_number.ensures.1 (space_refused s es c.args.key c.args.value.now c.in_err-set_number.field-0.0)
+
+pub returns-in_err-set_number-clause-refused : goal.returns-in_err-set_number-clause-refused
+returns-in_err-set_number-clause-refused g c tells has none few =
+    let s = g.S.Reads.state c.args.space.now in
+    set_has (IsSetRefusal s c.args.owner c.args.key c.args.value.now) c.from_residual-in_err-set_number.result _ c.from_residual-in_err-set_number.ensures.1 (space_refused_graph s c.args.owner c.args.key c.args.value.now c.in_err-set_number.field-0.0)
+
+pub set_number-requires-clause-key : goal.set_number-requires-clause-key
+set_number-requires-clause-key g c = c.requires.owner.key

@@ -20,7 +20,7 @@ use Rattle.prop_store.proofs.PutTouches.{touches_new, touches_texts}
 use Rattle.prop_store.proofs.ReadCounts.{reads_records, reads_same}
 use Rattle.prop_store.proofs.Touches.{touches_freed, touches_more, touches_reads, touches_same}
 use Rattle.prop_store.proofs.Causes.{later_on}
-use Rattle.prop_store.proofs.SetCauses.{space_set_cause}
+use Rattle.prop_store.proofs.SetCauses.{fault_set_cause, space_set_cause, take_set_cause}
 use Rattle.rec_bytes.proofs.Causes.{never_ok, ok_cause}
 use Rattle.prop_store.proofs.setting.put_again.Goals as goal
 
@@ -265,3 +265,35 @@ returns-in_err-put-clause-touches g c = never_ok c.from_residual-in_err-put.resu
 
 pub returns-clause-cause : goal.returns-clause-cause
 returns-clause-cause g c = ok_cause _ _ _ _ (omega arith)
+
+pub returns-in_err-blocks-clause-cause : goal.returns-in_err-blocks-clause-cause
+returns-in_err-blocks-clause-cause g c = fault_set_cause _ _ _ c.from_residual.result c.in_err-blocks.field-0.0 (omega arith) c.in_err-blocks.ensures.cause c.from_residual.ensures.1
+
+pub returns-in_err-first-clause-cause : goal.returns-in_err-first-clause-cause
+returns-in_err-first-clause-cause g c =
+    take_set_cause _ _ _ c.from_residual-in_err-first.result c.in_err-first.field-0.0 (later_on c.in_ok-blocks.ensures.cause.later c.in_ok-release.ensures.cause.later) c.in_err-first.ensures.cause c.from_residual-in_err-first.ensures.1
+
+pub returns-in_err-test_free-clause-onward : goal.returns-in_err-test_free-clause-onward
+returns-in_err-test_free-clause-onward g c = c.in_ok-blocks.ensures.onward
+
+pub returns-in_err-release-clause-onward : goal.returns-in_err-release-clause-onward
+returns-in_err-release-clause-onward g c = g.met.S.Reads.further_onward _ _ _ c.in_ok-blocks.ensures.onward c.in_err-release.ensures.onward
+
+pub returns-in_err-first-clause-onward : goal.returns-in_err-first-clause-onward
+returns-in_err-first-clause-onward g c = g.met.S.Reads.further_onward _ _ _ (g.met.S.Reads.further_onward _ _ _ c.in_ok-blocks.ensures.onward c.in_ok-release.ensures.onward) c.in_err-first.ensures.onward
+
+pub returns-in_err-put-clause-onward : goal.returns-in_err-put-clause-onward
+returns-in_err-put-clause-onward g c =
+    g.met.S.Reads.further_onward _ _ _ (g.met.S.Reads.further_onward _ _ _ (g.met.S.Reads.further_onward _ _ _ c.in_ok-blocks.ensures.onward c.in_ok-release.ensures.onward) c.in_ok-first.ensures.onward) c.in_err-put.ensures.onward
+
+pub returns-clause-onward : goal.returns-clause-onward
+returns-clause-onward g c =
+    g.met.S.Reads.further_onward _ _ _ (g.met.S.Reads.further_onward _ _ _ (g.met.S.Reads.further_onward _ _ _ c.in_ok-blocks.ensures.onward c.in_ok-release.ensures.onward) c.in_ok-first.ensures.onward) c.in_ok-put.ensures.onward
+
+pub returns-in_err-put-clause-refused : goal.returns-in_err-put-clause-refused
+returns-in_err-put-clause-refused g c tells e held =
+    let p = err_from_is_err_and c.from_residual-in_err-put.result c.from_residual-in_err-put.ensures.1 in
+    rw (p.1, p.2) (space_put_fault (g.S.Reads.state c.args.space.now) (length e.blocks) (blocks_of c.args.value.now) c.in_err-put.field-0.0)
+
+pub returns-clause-few : goal.returns-clause-few
+returns-clause-few g c = c.as_slice-ids.ensures.few

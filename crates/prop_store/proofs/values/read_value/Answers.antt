@@ -7,6 +7,14 @@ use Rattle.prop_store.proofs.Breaches.{text_of_row}
 use Rattle.prop_store.proofs.Exits.{same_has}
 use Rattle.prop_store.proofs.ReadCounts.{reads_none}
 use Rattle.rec_bytes.proofs.Causes.{never_ok, ok_cause}
+use Rattle.std.specs.Prelude.{IfSome}
+use Rattle.rec_bytes.specs.Fault.{damage_of}
+use Rattle.rec_bytes.specs.Format.{strings_file}
+use Rattle.rec_bytes.specs.declared.fault.Fault.TheVariants as faults
+use Rattle.store_rules.specs.Views.{rec_at}
+use Rattle.prop_store.specs.declared.form.Form.TheVariants as forms
+use Rattle.prop_store.proofs.Causes.{cause_passed, memory_cause}
+use Rattle.prop_store.proofs.Meanings.{means}
 use Rattle.prop_store.proofs.values.read_value.Goals as goal
 
 pub returns-in_err-bytes-in-Inline-clause-at_most : goal.returns-in_err-bytes-in-Inline-clause-at_most
@@ -75,3 +83,36 @@ returns-in_ok-bytes-in-Inline-clause-cause g c = ok_cause _ _ _ _ (omega arith)
 
 pub returns-in_ok-bytes-in-Long-clause-cause : goal.returns-in_ok-bytes-in-Long-clause-cause
 returns-in_ok-bytes-in-Long-clause-cause g c = ok_cause _ _ _ _ (omega arith)
+
+pub returns-in_err-bytes-in-Inline-clause-cause : goal.returns-in_err-bytes-in-Inline-clause-cause
+returns-in_err-bytes-in-Inline-clause-cause g c = memory_cause _ _ c.from_residual.result (omega arith) c.from_residual.ensures.1
+
+pub returns-in_err-bytes-in-Inline-clause-damaged : goal.returns-in_err-bytes-in-Inline-clause-damaged
+returns-in_err-bytes-in-Inline-clause-damaged g c tells read = same_has (IsTextFault (g.R.Reads.state c.args.space.now) c.args.row.now.id) c.from_residual.result faults.Memory c.from_residual.ensures.1 tt
+
+pub returns-in_err-bytes-in-Inline-clause-sound : goal.returns-in_err-bytes-in-Inline-clause-sound
+returns-in_err-bytes-in-Inline-clause-sound g c tells value blocks has given = same_has (λ fault. IfSome (damage_of fault) (λ _. ⊥)) c.from_residual.result faults.Memory c.from_residual.ensures.1 tt
+
+pub returns-in_err-bytes-in-Long-clause-cause : goal.returns-in_err-bytes-in-Long-clause-cause
+returns-in_err-bytes-in-Long-clause-cause g c = cause_passed _ _ _ c.from_residual-in_err-bytes-in-Long.result c.in_err-bytes-in-Long.field-0.0 (omega arith) c.in_err-bytes-in-Long.ensures.cause c.from_residual-in_err-bytes-in-Long.ensures.1
+
+pub returns-in_err-bytes-in-Long-clause-onward : goal.returns-in_err-bytes-in-Long-clause-onward
+returns-in_err-bytes-in-Long-clause-onward g c = c.in_err-bytes-in-Long.ensures.onward
+
+pub returns-in_err-bytes-in-Long-clause-sound : goal.returns-in_err-bytes-in-Long-clause-sound
+returns-in_err-bytes-in-Long-clause-sound g c tells value blocks has given =
+    let string_file = rec_at (g.R.Reads.state c.args.space.now).records strings_file in
+    let m = means string_file c.args.row.now.rec value blocks (forms.Long c.in-Long.size c.in-Long.first) has (c.requires.form_is ∙ ap Some c.in-Long.is) in
+    same_has (λ fault. IfSome (damage_of fault) (λ _. ⊥)) c.from_residual-in_err-bytes-in-Long.result c.in_err-bytes-in-Long.field-0.0 c.from_residual-in_err-bytes-in-Long.ensures.1 (c.in_err-bytes-in-Long.ensures.sound tells m.0 blocks m.2 given)
+
+pub returns-in_ok-bytes-in-Long-clause-onward : goal.returns-in_ok-bytes-in-Long-clause-onward
+returns-in_ok-bytes-in-Long-clause-onward g c = c.in_ok-bytes-in-Long.ensures.onward
+
+pub returns-in-Number-clause-onward : goal.returns-in-Number-clause-onward
+returns-in-Number-clause-onward g c = g.met.R.Reads.stays_onward _
+
+pub returns-in-Truth-clause-onward : goal.returns-in-Truth-clause-onward
+returns-in-Truth-clause-onward g c = g.met.R.Reads.stays_onward _
+
+pub returns-in_ok-bytes-in-Inline-clause-onward : goal.returns-in_ok-bytes-in-Inline-clause-onward
+returns-in_ok-bytes-in-Inline-clause-onward g c = g.met.R.Reads.stays_onward _
