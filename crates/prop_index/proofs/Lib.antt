@@ -1,5 +1,6 @@
 mod Ascending
 mod Buckets
+mod Causes
 mod Changed
 mod Collects
 pub mod ContentsWanted

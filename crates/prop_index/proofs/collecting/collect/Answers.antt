@@ -2,6 +2,7 @@ use Rattle.std.proofs.Common.{◌≡◌, ◌≤◌, ◌<◌, ◌+◌, Some, ap, 
 use Rattle.rec_bytes.specs.Format as format
 use Rattle.rec_bytes.specs.Space.{SameButReads}
 use Rattle.store_rules.specs.Views.{Records, high}
+use Rattle.prop_store.proofs.Causes.{later_on}
 use Rattle.prop_store.proofs.ReadCounts.{reads_same}
 use Rattle.prop_index.specs.Collecting.{contents_in, hash_at}
 use Rattle.std.proofs.lemmas.Result.{err_from_is_err_and}
@@ -12,6 +13,9 @@ use Rattle.prop_index.proofs.MakeFaults.{collect_exit}
 use Rattle.prop_index.proofs.Collects.{contents-more, contents-skip, length-contents-more}
 use Rattle.prop_index.proofs.Reread.{readable_after, same_records, same_then}
 use Rattle.rec_bytes.proofs.Causes.{never_ok, ok_cause}
+use Rattle.prop_index.proofs.Causes.{make_cause_passed, make_memory_cause, make_other_cause}
+use Rattle.rec_bytes.specs.declared.fault.Fault.{Fault}
+use Rattle.prop_index.specs.MakeFault.{IsCollectFault, of_fault}
 use Rattle.prop_index.proofs.collecting.collect.Goals as goal
 use Rattle.prop_index.proofs.collecting.collect.Goals.{in-Some, then-count-lt-MOST_ENTRIES+in_ok-push, else-count-lt-MOST_ENTRIES, in_default}
 
@@ -147,3 +151,52 @@ returns-in_err-push-clause-few g c = never_ok c.from_residual-in_err-push.result
 
 pub returns-clause-cause : goal.returns-clause-cause
 returns-clause-cause g c = ok_cause _ _ _ _ (omega arith)
+
+pub returns-in_err-hash-clause-cause : goal.returns-in_err-hash-clause-cause
+returns-in_err-hash-clause-cause g c = make_cause_passed _ _ _ c.from_residual.result c.in_err-hash.field-0.0 c.loop-node.invariant.later c.in_err-hash.ensures.cause c.from_residual.ensures.1
+
+pub returns-in_err-push-clause-cause : goal.returns-in_err-push-clause-cause
+returns-in_err-push-clause-cause g c =
+    make_memory_cause _ _ c.from_residual-in_err-push.result c.in_err-push.field-0.0 (later_on c.loop-node.invariant.later c.in_ok-hash.ensures.cause.later) c.in_err-push.ensures.memory c.from_residual-in_err-push.ensures.1
+
+pub returns-in_err-push-clause-refused : goal.returns-in_err-push-clause-refused
+returns-in_err-push-clause-refused g c tells readable =
+    let s = g.R.Reads.state c.args.space.now in
+    let p = err_from_is_err_and c.from_residual-in_err-push.result c.from_residual-in_err-push.ensures.1 in
+    rw (p.1, p.2) (subst (λ (f : Fault). IsCollectFault s.records c.args.label c.args.key (of_fault f)) (sym c.in_err-push.ensures.memory) tt)
+
+pub returns-then-count-gt-MOST_ENTRIES-clause-cause : goal.returns-then-count-gt-MOST_ENTRIES-clause-cause
+returns-then-count-gt-MOST_ENTRIES-clause-cause g c = make_other_cause _ _ _ c.loop-node.invariant.later (λ e. absurd cc)
+
+pub returns-then-count-gt-MOST_ENTRIES-clause-caused : goal.returns-then-count-gt-MOST_ENTRIES-clause-caused
+returns-then-count-gt-MOST_ENTRIES-clause-caused g c tells =
+    let s = g.R.Reads.state c.args.space.now in
+    let at : c.loop-node.node ≡ high s.records format.nodes_file = omega (arith, c.loop-node.invariant.end, c.loop-node.auto.node-end, c.loop-node-test.false) in
+    (subst (λ n. c.loop-node.count ≡ length (contents_in s.records c.args.label c.args.key n)) at (c.loop-node.invariant.counted tells), c.if-count-gt-MOST_ENTRIES.true)
+
+pub returns-then-count-gt-MOST_ENTRIES-clause-refused : goal.returns-then-count-gt-MOST_ENTRIES-clause-refused
+returns-then-count-gt-MOST_ENTRIES-clause-refused g c tells readable =
+    let s = g.R.Reads.state c.args.space.now in
+    let at : c.loop-node.node ≡ high s.records format.nodes_file = omega (arith, c.loop-node.invariant.end, c.loop-node.auto.node-end, c.loop-node-test.false) in
+    (subst (λ n. c.loop-node.count ≡ length (contents_in s.records c.args.label c.args.key n)) at (c.loop-node.invariant.counted tells), c.if-count-gt-MOST_ENTRIES.true)
+
+pub returns-then-count-gt-MOST_ENTRIES-clause-same : goal.returns-then-count-gt-MOST_ENTRIES-clause-same
+returns-then-count-gt-MOST_ENTRIES-clause-same g c = c.loop-node.invariant.same
+
+pub returns-then-count-gt-MOST_ENTRIES-clause-onward : goal.returns-then-count-gt-MOST_ENTRIES-clause-onward
+returns-then-count-gt-MOST_ENTRIES-clause-onward g c = c.loop-node.invariant.onward
+
+pub returns-clause-found : goal.returns-clause-found
+returns-clause-found g c tells =
+    let s = g.R.Reads.state c.args.space.now in
+    let at : c.loop-node.node ≡ high s.records format.nodes_file = omega (arith, c.loop-node.invariant.end, c.loop-node.auto.node-end, c.loop-node-test.false) in
+    subst (λ n. c.loop-node.contents.items ≡ contents_in s.records c.args.label c.args.key n) at (c.loop-node.invariant.found tells c.if-count-gt-MOST_ENTRIES.false)
+
+pub returns-clause-few : goal.returns-clause-few
+returns-clause-few g c = c.loop-node.invariant.few
+
+pub returns-clause-same : goal.returns-clause-same
+returns-clause-same g c = c.loop-node.invariant.same
+
+pub returns-clause-onward : goal.returns-clause-onward
+returns-clause-onward g c = c.loop-node.invariant.onward

@@ -9,16 +9,18 @@ use Rattle.rec_bytes.proofs.Numbers.{field-with_field_other}
 use Rattle.id_freelist.specs.ListDamage.{BlamesList}
 use Rattle.id_freelist.proofs.ListSteps.{blames_before, keeps_none, keeps_then}
 use Rattle.prop_store.specs.Touching.{TouchesOnly}
-use Rattle.prop_index.specs.Defining.{AreHeadsAdded, IsRecordAdded, PutsHeads}
+use Rattle.prop_index.specs.Defining.{AreHeadsAdded, CountsMore, IsRecordAdded, PutsHeads}
 use Rattle.prop_index.specs.DefinitionRecord.{head_ids, head_of}
 use Rattle.prop_index.specs.Touching.{index_keys}
-use Rattle.prop_index.specs.Entering.{IsNotFull}
+use Rattle.prop_index.specs.Entering.{IsMishap, IsNotFull}
 use Rattle.prop_index.proofs.Counting.{counts_left, counts_then}
 use Rattle.prop_index.proofs.IndexBlames.{take_has}
 use Rattle.prop_index.proofs.HeadsAdded.{head-other, head-same, head_ids-more, heads-more, heads-none, length-head_ids, with_head}
 use Rattle.prop_index.proofs.IndexTouches.{index_then, only_join}
 use Rattle.prop_index.proofs.RecordFits.{empty_heads-kind}
 use Rattle.rec_bytes.proofs.Causes.{never_ok}
+use Rattle.prop_index.proofs.Causes.{take_cause_passed, take_ok_cause}
+use Rattle.prop_index.specs.Blaming.{TakeBlamesBroken}
 use Rattle.prop_index.proofs.defining.add_heads.Goals as goal
 
 pub returns-in_err-id-clause-touches : goal.returns-in_err-id-clause-touches
@@ -123,3 +125,73 @@ returns-in_err-id-clause-heads g c = never_ok c.from_residual.result _ _ c.from_
 
 pub returns-in_err-id-clause-touched : goal.returns-in_err-id-clause-touched
 returns-in_err-id-clause-touched g c = never_ok c.from_residual.result _ _ c.from_residual.ensures.1
+
+pub returns-in_err-id-clause-cause : goal.returns-in_err-id-clause-cause
+returns-in_err-id-clause-cause g c =
+    take_cause_passed _ _ _ c.from_residual.result c.in_err-id.field-0.0 c.loop-number.invariant.later c.in_err-id.ensures.cause c.from_residual.ensures.1
+
+pub returns-in_err-id-clause-mishap : goal.returns-in_err-id-clause-mishap
+returns-in_err-id-clause-mishap g c tells store left =
+    let s = g.S.Reads.state c.args.space.now in
+    let m = g.S.Reads.state c.loop-number.space in
+    let test = c.loop-number-test.true in
+    take_has IsMishap c.from_residual.result c.in_err-id.field-0.0 c.from_residual.ensures.1
+    (c.in_err-id.ensures.mishap tells (c.loop-number.invariant.added tells store).kept (counts_left s m c.loop-number.number 1 12 (c.loop-number.invariant.counted tells) (omega (arith, test)) left))
+
+pub returns-in_err-id-clause-still : goal.returns-in_err-id-clause-still
+returns-in_err-id-clause-still g c tells =
+    let t = g.S.Reads.state c.add_record.new.space in
+    take_has (TakeBlamesBroken t.records t.shape) c.from_residual.result c.in_err-id.field-0.0 c.from_residual.ensures.1 (c.in_err-id.ensures.still tells)
+
+pub returns-clause-added : goal.returns-clause-added
+returns-clause-added g c tells store =
+    let s = g.S.Reads.state c.args.space.now in
+    let t = g.S.Reads.state c.loop-number.space in
+    let rec = c.loop-number.rec in
+    let full : c.loop-number.number ≡ 12 = omega (arith, c.loop-number.auto.number-end) in
+    subst (λ n. AreHeadsAdded s t c.args.start n rec) full (c.loop-number.invariant.added tells store)
+
+pub returns-clause-kept : goal.returns-clause-kept
+returns-clause-kept g c tells =
+    let s = g.S.Reads.state c.args.space.now in
+    let t = g.S.Reads.state c.loop-number.space in
+    let rec = c.loop-number.rec in
+    let full : c.loop-number.number ≡ 12 = omega (arith, c.loop-number.auto.number-end) in
+    subst (λ n. PutsHeads s t n rec) full (c.loop-number.invariant.kept tells)
+
+pub returns-clause-counted : goal.returns-clause-counted
+returns-clause-counted g c tells =
+    let s = g.S.Reads.state c.args.space.now in
+    let t = g.S.Reads.state c.loop-number.space in
+    let rec = c.loop-number.rec in
+    let full : c.loop-number.number ≡ 12 = omega (arith, c.loop-number.auto.number-end) in
+    subst (λ n. CountsMore s t n) full (c.loop-number.invariant.counted tells)
+
+pub returns-clause-kind : goal.returns-clause-kind
+returns-clause-kind g c = c.loop-number.invariant.kind
+
+pub returns-clause-heads : goal.returns-clause-heads
+returns-clause-heads g c k lt =
+    let full : c.loop-number.number ≡ 12 = omega (arith, c.loop-number.auto.number-end) in
+    c.loop-number.invariant.heads k (omega (arith, lt, full))
+
+pub returns-clause-touched : goal.returns-clause-touched
+returns-clause-touched g c =
+    let s = g.S.Reads.state c.args.space.now in
+    let t = g.S.Reads.state c.loop-number.space in
+    let rec = c.loop-number.rec in
+    let full : c.loop-number.number ≡ 12 = omega (arith, c.loop-number.auto.number-end) in
+    subst (λ n. TouchesOnly g.S.Reads.tells s t (index_keys (head_ids n rec))) full c.loop-number.invariant.touched
+
+pub returns-clause-touches : goal.returns-clause-touches
+returns-clause-touches g c =
+    let n = c.loop-number.number in
+    let few = length-head_ids n c.loop-number.rec in
+    let full : c.loop-number.number ≡ 12 = omega (arith, c.loop-number.auto.number-end) in
+    record { ids = head_ids n c.loop-number.rec; few = omega (arith, few, full); only = c.loop-number.invariant.touched }
+
+pub returns-clause-onward : goal.returns-clause-onward
+returns-clause-onward g c = c.loop-number.invariant.onward
+
+pub returns-clause-cause : goal.returns-clause-cause
+returns-clause-cause g c = take_ok_cause _ _ _ c.loop-number.invariant.later

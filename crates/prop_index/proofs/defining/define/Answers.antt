@@ -16,17 +16,20 @@ use Rattle.prop_store.specs.Touching.{TouchesOnly}
 use Rattle.prop_store.proofs.ReadCounts.{reads_one, reads_same}
 use Rattle.prop_index.specs.Defining.{AreHeadsAdded, CountsMore, HasLeft, IsRecordAdded}
 use Rattle.prop_index.specs.DefinitionRecord.{definition_start, head_ids}
-use Rattle.prop_index.specs.Entering.{IsNotFull}
+use Rattle.prop_index.specs.Entering.{IsMishap, IsNotFull}
 use Rattle.std.proofs.lemmas.Result.{err_from_is_err_and}
 use Rattle.prop_index.proofs.Counting.{counts_left, counts_then, first_live, space_roomy}
 use Rattle.prop_index.proofs.RecordsAdded.{space_mishap}
-use Rattle.prop_index.proofs.IndexBlames.{take_has}
+use Rattle.prop_index.proofs.IndexBlames.{space_take, take_has}
 use Rattle.prop_index.specs.Reading.{KeepsStore}
 use Rattle.prop_index.specs.Touching.{index_keys}
 use Rattle.prop_index.proofs.DefinitionAdded.{definition_added, definition_reread, start-kind}
 use Rattle.prop_index.proofs.HeadsAdded.{length-head_ids}
 use Rattle.prop_index.proofs.IndexTouches.{index_read, index_then, only_join, then_meta}
 use Rattle.rec_bytes.proofs.Causes.{never_ok}
+use Rattle.prop_index.proofs.Causes.{space_take_cause, take_cause_passed, take_ok_cause}
+use Rattle.prop_index.specs.Blaming.{TakeBlamesBroken}
+use Rattle.prop_store.proofs.Causes.{later_on}
 use Rattle.prop_index.proofs.defining.define.Goals as goal
 
 pub returns-in_err-rec-clause-touches : goal.returns-in_err-rec-clause-touches
@@ -289,3 +292,71 @@ returns-in_err-set_number-clause-heads g c = never_ok c.from_residual-in_err-set
 
 pub returns-in_err-set_number-clause-touched : goal.returns-in_err-set_number-clause-touched
 returns-in_err-set_number-clause-touched g c = never_ok c.from_residual-in_err-set_number.result _ _ c.from_residual-in_err-set_number.ensures.1
+
+pub returns-in_err-meta-clause-cause : goal.returns-in_err-meta-clause-cause
+returns-in_err-meta-clause-cause g c = space_take_cause _ _ _ c.from_residual.result c.in_err-meta.field-0.0 (omega arith) c.in_err-meta.ensures.cause c.from_residual.ensures.1
+
+pub returns-in_err-meta-clause-mishap : goal.returns-in_err-meta-clause-mishap
+returns-in_err-meta-clause-mishap g c tells store left = take_has IsMishap c.from_residual.result _ c.from_residual.ensures.1 (space_mishap c.in_err-meta.field-0.0)
+
+pub returns-in_err-meta-clause-roomy : goal.returns-in_err-meta-clause-roomy
+returns-in_err-meta-clause-roomy g c tells left = take_has IsNotFull c.from_residual.result _ c.from_residual.ensures.1 (space_roomy c.in_err-meta.field-0.0)
+
+pub returns-in_err-meta-clause-still : goal.returns-in_err-meta-clause-still
+returns-in_err-meta-clause-still g c tells =
+    let t = g.S.Reads.state c.get.new.self in
+    space_take t.records t.shape c.from_residual.result c.in_err-meta.field-0.0 c.from_residual.ensures.1
+
+pub returns-in_err-meta-clause-touches : goal.returns-in_err-meta-clause-touches
+returns-in_err-meta-clause-touches g c = index_read 13 1 _ _ (reads_one 1 _ _ (omega arith) c.get.ensures.state)
+
+pub returns-in_err-rec-clause-cause : goal.returns-in_err-rec-clause-cause
+returns-in_err-rec-clause-cause g c =
+    take_cause_passed _ _ _ c.from_residual-in_err-rec.result c.in_err-rec.field-0.0 c.in_ok-meta.ensures.cause.later c.in_err-rec.ensures.cause c.from_residual-in_err-rec.ensures.1
+
+pub returns-in_err-rec-clause-mishap : goal.returns-in_err-rec-clause-mishap
+returns-in_err-rec-clause-mishap g c tells store left =
+    let s = g.S.Reads.state c.args.space.now in
+    let a = g.S.Reads.state c.get.new.self in
+    let fewer : HasLeft s 12 = omega (arith, left) in
+    take_has IsMishap c.from_residual-in_err-rec.result c.in_err-rec.field-0.0 c.from_residual-in_err-rec.ensures.1 (c.in_err-rec.ensures.mishap tells (subst KeepsStore (sym c.get.ensures.state) store) (left_read s a 12 c.get.ensures.state fewer))
+
+pub returns-in_err-rec-clause-still : goal.returns-in_err-rec-clause-still
+returns-in_err-rec-clause-still g c tells =
+    let t = g.S.Reads.state c.add_heads.new.space in
+    take_has (TakeBlamesBroken t.records t.shape) c.from_residual-in_err-rec.result c.in_err-rec.field-0.0 c.from_residual-in_err-rec.ensures.1 (c.in_err-rec.ensures.still tells)
+
+pub returns-in_err-id-clause-cause : goal.returns-in_err-id-clause-cause
+returns-in_err-id-clause-cause g c =
+    take_cause_passed _ _ _ c.from_residual-in_err-id.result c.in_err-id.field-0.0 (later_on c.in_ok-meta.ensures.cause.later c.in_ok-rec.ensures.cause.later) c.in_err-id.ensures.cause c.from_residual-in_err-id.ensures.1
+
+pub returns-in_err-id-clause-mishap : goal.returns-in_err-id-clause-mishap
+returns-in_err-id-clause-mishap g c tells store left =
+    let s = g.S.Reads.state c.args.space.now in
+    let a = g.S.Reads.state c.get.new.self in
+    let m = g.S.Reads.state c.add_heads.new.space in
+    let heads = c.in_ok-rec.ensures.added tells (subst KeepsStore (sym c.get.ensures.state) store) in
+    take_has IsMishap c.from_residual-in_err-id.result c.in_err-id.field-0.0 c.from_residual-in_err-id.ensures.1
+    (c.in_err-id.ensures.mishap tells heads.kept (counts_left a m 12 1 13 (c.in_ok-rec.ensures.counted tells) (omega arith) (left_read s a 13 c.get.ensures.state left)))
+
+pub returns-in_err-id-clause-still : goal.returns-in_err-id-clause-still
+returns-in_err-id-clause-still g c tells =
+    let t = g.S.Reads.state c.add_record.new.space in
+    take_has (TakeBlamesBroken t.records t.shape) c.from_residual-in_err-id.result c.in_err-id.field-0.0 c.from_residual-in_err-id.ensures.1 (c.in_err-id.ensures.still tells)
+
+pub returns-in_err-set_number-clause-cause : goal.returns-in_err-set_number-clause-cause
+returns-in_err-set_number-clause-cause g c =
+    space_take_cause _ _ _ c.from_residual-in_err-set_number.result c.in_err-set_number.field-0.0 (later_on (later_on c.in_ok-meta.ensures.cause.later c.in_ok-rec.ensures.cause.later) c.in_ok-id.ensures.cause.later)
+    c.in_err-set_number.ensures.cause c.from_residual-in_err-set_number.ensures.1
+
+pub returns-in_err-set_number-clause-still : goal.returns-in_err-set_number-clause-still
+returns-in_err-set_number-clause-still g c tells =
+    let t = g.S.Reads.state c.set_number.new.space in
+    space_take t.records t.shape c.from_residual-in_err-set_number.result c.in_err-set_number.field-0.0 c.from_residual-in_err-set_number.ensures.1
+
+pub returns-clause-heads : goal.returns-clause-heads
+returns-clause-heads g c = c.in_ok-rec.ensures.heads
+
+pub returns-clause-cause : goal.returns-clause-cause
+returns-clause-cause g c =
+    take_ok_cause _ _ _ (later_on (later_on (later_on c.in_ok-meta.ensures.cause.later c.in_ok-rec.ensures.cause.later) c.in_ok-id.ensures.cause.later) c.in_ok-set_number.ensures.cause.later)

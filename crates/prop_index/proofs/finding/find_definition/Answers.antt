@@ -9,14 +9,15 @@ use Rattle.store_rules.specs.Indexes.{first_definition, index_rec, next_definiti
 use Rattle.store_rules.specs.Views.{Records, kind_at}
 use Rattle.prop_store.proofs.ReadCounts.{reads_more, reads_one, reads_records, reads_same, reads_then}
 use Rattle.prop_index.specs.Blaming.{BlamesBroken}
-use Rattle.prop_store.proofs.Exits.{same_has}
+use Rattle.prop_store.proofs.Exits.{same_has, space_exit, space_has}
 use Rattle.prop_index.specs.Blaming.{IsDefinitionAt, IsOfIndexes, NamesIndexes}
 use Rattle.prop_index.specs.Finding.{IsPair}
 use Rattle.prop_index.proofs.IndexBlames.{definition_begins, definition_blames, definition_goes_on, many_break, others_begin, others_end, others_go_on, read_fault_same, read_names}
 use Rattle.prop_index.proofs.Reread.{room_after}
 use Rattle.prop_index.proofs.Searches.{search_begins, search_here, search_on, search_over}
-use Rattle.prop_store.proofs.Causes.{cause_passed}
+use Rattle.prop_store.proofs.Causes.{cause_passed, later_on, space_cause_passed}
 use Rattle.rec_bytes.proofs.Causes.{never_ok, ok_cause}
+use Rattle.prop_index.proofs.Causes.{told_cause}
 use Rattle.prop_index.proofs.finding.find_definition.Goals as goal
 
 pub returns-in_err-get_into-clause-at_most : goal.returns-in_err-get_into-clause-at_most
@@ -171,3 +172,62 @@ returns-in_err-record_at-clause-defined g c _ = never_ok c.from_residual-in_err-
 
 pub returns-clause-cause : goal.returns-clause-cause
 returns-clause-cause g c = ok_cause _ _ _ _ (omega arith)
+
+pub returns-in_err-get_into-clause-cause : goal.returns-in_err-get_into-clause-cause
+returns-in_err-get_into-clause-cause g c = space_cause_passed _ _ _ c.from_residual.result c.in_err-get_into.field-0.0 (omega arith) c.in_err-get_into.ensures.cause c.from_residual.ensures.1
+
+pub returns-in_err-get_into-clause-damaged : goal.returns-in_err-get_into-clause-damaged
+returns-in_err-get_into-clause-damaged g c tells =
+    let s = g.R.Reads.state c.args.space.now in
+    space_has (BlamesBroken s.records s.shape) tt tt c.from_residual.result c.in_err-get_into.field-0.0 c.from_residual.ensures.1
+
+pub returns-in_err-get_into-clause-names : goal.returns-in_err-get_into-clause-names
+returns-in_err-get_into-clause-names g c tells = space_has NamesIndexes tt tt c.from_residual.result c.in_err-get_into.field-0.0 c.from_residual.ensures.1
+
+pub returns-in_err-get_into-clause-sound : goal.returns-in_err-get_into-clause-sound
+returns-in_err-get_into-clause-sound g c tells ds are room = space_exit c.from_residual.result c.in_err-get_into.field-0.0 c.from_residual.ensures.1
+
+pub returns-in_err-get_into-clause-onward : goal.returns-in_err-get_into-clause-onward
+returns-in_err-get_into-clause-onward g c = c.get_into.ensures.onward
+
+pub returns-clause-at_most : goal.returns-clause-at_most
+returns-clause-at_most g c = reads_more _ 17 _ _ (omega arith) c.loop.invariant.reads
+
+pub returns-then-at-clause-at_most : goal.returns-then-at-clause-at_most
+returns-then-at-clause-at_most g c = reads_more _ 17 _ _ (omega arith) c.loop.invariant.reads
+
+pub returns-then-at-2-clause-at_most : goal.returns-then-at-2-clause-at_most
+returns-then-at-2-clause-at_most g c = reads_more _ 17 _ _ (omega arith) c.loop.invariant.reads
+
+pub returns-clause-cost : goal.returns-clause-cost
+returns-clause-cost g c tells ds are =
+    let counted = (c.loop.invariant.told tells ds are).counted in
+    reads_more _ _ _ _ (omega (arith, counted)) c.loop.invariant.reads
+
+pub returns-then-at-clause-cost : goal.returns-then-at-clause-cost
+returns-then-at-clause-cost g c tells ds are =
+    let counted = (c.loop.invariant.told tells ds are).counted in
+    reads_more _ _ _ _ (omega (arith, counted)) c.loop.invariant.reads
+
+pub returns-clause-onward : goal.returns-clause-onward
+returns-clause-onward g c = c.loop.invariant.onward
+
+pub returns-then-at-clause-onward : goal.returns-then-at-clause-onward
+returns-then-at-clause-onward g c = c.loop.invariant.onward
+
+pub returns-then-at-2-clause-onward : goal.returns-then-at-2-clause-onward
+returns-then-at-2-clause-onward g c = c.loop.invariant.onward
+
+pub returns-then-at-clause-cause : goal.returns-then-at-clause-cause
+returns-then-at-clause-cause g c = ok_cause _ _ _ _ c.loop.invariant.later
+
+pub returns-then-is_of_pair-clause-cause : goal.returns-then-is_of_pair-clause-cause
+returns-then-is_of_pair-clause-cause g c = ok_cause _ _ _ _ (later_on c.loop.invariant.later c.in_ok-record_at.ensures.cause.later)
+
+pub returns-then-at-2-clause-cause : goal.returns-then-at-2-clause-cause
+returns-then-at-2-clause-cause g c = told_cause _ _ _ _ c.loop.invariant.later c.damaged.ensures
+
+pub returns-then-at-2-clause-sound : goal.returns-then-at-2-clause-sound
+returns-then-at-2-clause-sound g c tells ds are room =
+    let here = search_here _ _ ds c.loop.at c.loop.counter (c.loop.invariant.told tells ds are) c.if-at-2.true in
+    absurd (omega (arith, here.1, are.few))

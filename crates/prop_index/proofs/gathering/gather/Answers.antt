@@ -18,6 +18,7 @@ use Rattle.prop_index.proofs.Gathers.{gather_begins, gather_cost, gather_here, g
 use Rattle.prop_index.proofs.Reread.{node_after, room_after, same_records, same_then}
 use Rattle.prop_store.proofs.Causes.{cause_passed, later_on}
 use Rattle.rec_bytes.proofs.Causes.{never_ok, ok_cause}
+use Rattle.prop_index.proofs.Causes.{told_cause}
 use Rattle.prop_index.proofs.gathering.gather.Goals as goal
 
 pub loop-init : goal.loop-init
@@ -192,3 +193,27 @@ returns-in_err-add_node-clause-found g c _ _ _ = never_ok c.from_residual-in_err
 
 pub returns-clause-cause : goal.returns-clause-cause
 returns-clause-cause g c = ok_cause _ _ _ _ (omega arith)
+
+pub returns-then-at-clause-cause : goal.returns-then-at-clause-cause
+returns-then-at-clause-cause g c = ok_cause _ _ _ _ c.loop.invariant.later
+
+pub returns-then-at-2-clause-cause : goal.returns-then-at-2-clause-cause
+returns-then-at-2-clause-cause g c = told_cause _ _ _ _ c.loop.invariant.later c.damaged.ensures
+
+pub returns-clause-onward : goal.returns-clause-onward
+returns-clause-onward g c = c.loop.invariant.onward
+
+pub returns-then-at-clause-onward : goal.returns-then-at-clause-onward
+returns-then-at-clause-onward g c = c.loop.invariant.onward
+
+pub returns-then-at-2-clause-onward : goal.returns-then-at-2-clause-onward
+returns-then-at-2-clause-onward g c = c.loop.invariant.onward
+
+pub returns-clause-same : goal.returns-clause-same
+returns-clause-same g c = c.loop.invariant.same
+
+pub returns-then-at-clause-same : goal.returns-then-at-clause-same
+returns-then-at-clause-same g c = c.loop.invariant.same
+
+pub returns-then-at-2-clause-same : goal.returns-then-at-2-clause-same
+returns-then-at-2-clause-same g c = c.loop.invariant.same

@@ -5,7 +5,7 @@ use Rattle.rec_bytes.specs.Space.{SameButReads, State, meta_of}
 use Rattle.store_rules.specs.Breaking.{BreaksAny}
 use Rattle.prop_index.specs.Blaming.{BlamesBroken}
 use Rattle.prop_store.specs.GivenOut.{IsLinkDamage}
-use Rattle.prop_store.proofs.Exits.{same_has, space_has}
+use Rattle.prop_store.proofs.Exits.{same_has, space_exit, space_has}
 use Rattle.prop_index.specs.Blaming.{IsEntryAt, IsOfIndexes, NamesIndexes}
 use Rattle.prop_index.proofs.IndexBlames.{beside_blames, blames_reread, breaks_before, link_names}
 use Rattle.std.specs.Prelude.{IfSome}
@@ -33,8 +33,10 @@ use Rattle.prop_index.proofs.LiveCounts.{unlinked_live}
 use Rattle.prop_index.proofs.Unlinked.{entry_unlinked}
 use Rattle.std.proofs.lemmas.Bool.{true≢false}
 use Rattle.std.proofs.lemmas.Result.{err_from_is_err_and}
-use Rattle.prop_store.proofs.Causes.{space_cause_passed}
+use Rattle.prop_store.proofs.Causes.{cause_passed, space_cause_passed}
 use Rattle.rec_bytes.proofs.Causes.{never_ok, ok_cause}
+use Rattle.prop_index.proofs.Causes.{damage_cause}
+use Rattle.prop_index.proofs.IndexTouches.{index_same, index_then}
 use Rattle.prop_index.proofs.leaving.drop_entry.Goals as goal
 
 pub returns-in_default-clause-dropped : goal.returns-in_default-clause-dropped
@@ -379,3 +381,60 @@ returns-in_err-unlink-clause-gone g c _ _ _ _ _ _ = never_ok c.from_residual-in_
 
 pub returns-clause-cause : goal.returns-clause-cause
 returns-clause-cause g c = ok_cause _ _ _ _ (omega arith)
+
+pub returns-in_err-row-clause-touches : goal.returns-in_err-row-clause-touches
+returns-in_err-row-clause-touches g c = index_same 3 _ _ c.in_err-row.ensures.same
+
+pub returns-in_default-clause-touches : goal.returns-in_default-clause-touches
+returns-in_default-clause-touches g c = index_same 3 _ _ c.in_ok-row.ensures.same
+
+pub returns-in_err-test_link-clause-touches : goal.returns-in_err-test_link-clause-touches
+returns-in_err-test_link-clause-touches g c = index_same 3 _ _ c.in_ok-row.ensures.same
+
+pub returns-in_err-test_link-2-clause-touches : goal.returns-in_err-test_link-2-clause-touches
+returns-in_err-test_link-2-clause-touches g c = index_same 3 _ _ c.in_ok-row.ensures.same
+
+pub returns-in_err-unlink-clause-touches : goal.returns-in_err-unlink-clause-touches
+returns-in_err-unlink-clause-touches g c = index_then 0 3 3 _ _ _ (omega arith) (index_same 0 _ _ c.in_ok-row.ensures.same) c.in_err-unlink.ensures.touches
+
+pub returns-clause-touches : goal.returns-clause-touches
+returns-clause-touches g c = index_then 0 3 3 _ _ _ (omega arith) (index_same 0 _ _ c.in_ok-row.ensures.same) c.in_ok-unlink.ensures.touches
+
+pub returns-in_err-row-clause-cause : goal.returns-in_err-row-clause-cause
+returns-in_err-row-clause-cause g c = cause_passed _ _ _ c.from_residual.result c.in_err-row.field-0.0 (omega arith) c.in_err-row.ensures.cause c.from_residual.ensures.1
+
+pub returns-in_default-clause-cause : goal.returns-in_default-clause-cause
+returns-in_default-clause-cause g c = ok_cause _ _ _ _ c.in_ok-row.ensures.cause.later
+
+pub returns-in_default-clause-onward : goal.returns-in_default-clause-onward
+returns-in_default-clause-onward g c = c.in_ok-row.ensures.onward
+
+pub returns-in_err-test_link-clause-cause : goal.returns-in_err-test_link-clause-cause
+returns-in_err-test_link-clause-cause g c = damage_cause _ _ c.from_residual-in_err-test_link.result c.in_err-test_link.field-0.0 c.in_ok-row.ensures.cause.later c.from_residual-in_err-test_link.ensures.1
+
+pub returns-in_err-test_link-2-clause-cause : goal.returns-in_err-test_link-2-clause-cause
+returns-in_err-test_link-2-clause-cause g c = damage_cause _ _ c.from_residual-in_err-test_link-2.result c.in_err-test_link-2.field-0.0 c.in_ok-row.ensures.cause.later c.from_residual-in_err-test_link-2.ensures.1
+
+pub returns-in_err-test_link-clause-onward : goal.returns-in_err-test_link-clause-onward
+returns-in_err-test_link-clause-onward g c = c.in_ok-row.ensures.onward
+
+pub returns-in_err-test_link-2-clause-onward : goal.returns-in_err-test_link-2-clause-onward
+returns-in_err-test_link-2-clause-onward g c = c.in_ok-row.ensures.onward
+
+pub returns-in_err-unlink-clause-sound : goal.returns-in_err-unlink-clause-sound
+returns-in_err-unlink-clause-sound g c tells xs chain room = space_exit c.from_residual-in_err-unlink.result c.in_err-unlink.field-0.0 c.from_residual-in_err-unlink.ensures.1
+
+pub unlink-requires-clause-slot : goal.unlink-requires-clause-slot
+unlink-requires-clause-slot g c = c.requires.key
+
+pub unlink-requires-clause-place : goal.unlink-requires-clause-place
+unlink-requires-clause-place g c = c.requires.place
+
+pub unlink-requires-clause-id : goal.unlink-requires-clause-id
+unlink-requires-clause-id g c = subst (λ (o : Option EntryRow). IfSome o (λ row. IsKey (key_in format.index_file row.id))) c.in-Some.is c.in_ok-row.ensures.key
+
+pub unlink-requires-clause-before : goal.unlink-requires-clause-before
+unlink-requires-clause-before g c = c.in_ok-test_link.ensures.key
+
+pub unlink-requires-clause-after : goal.unlink-requires-clause-after
+unlink-requires-clause-after g c = c.in_ok-test_link-2.ensures.key

@@ -15,6 +15,8 @@ use Rattle.prop_index.proofs.Reread.{same_records, same_then, room_after}
 use Rattle.prop_index.proofs.Searches.{search_begins, search_here, search_on, search_over}
 use Rattle.std.proofs.lemmas.Result.{err_from_is_err_and}
 use Rattle.rec_bytes.proofs.Causes.{never_ok, ok_cause}
+use Rattle.prop_index.proofs.Causes.{told_cause}
+use Rattle.prop_store.proofs.Causes.{cause_passed, later_on}
 use Rattle.prop_index.proofs.leaving.find_entry.Goals as goal
 
 pub loop-init : goal.loop-init
@@ -124,3 +126,42 @@ returns-in_err-record_at-clause-key g c = never_ok c.from_residual.result _ _ c.
 
 pub returns-clause-cause : goal.returns-clause-cause
 returns-clause-cause g c = ok_cause _ _ _ _ (omega arith)
+
+pub returns-in_err-record_at-clause-cause : goal.returns-in_err-record_at-clause-cause
+returns-in_err-record_at-clause-cause g c = cause_passed _ _ _ c.from_residual.result c.in_err-record_at.field-0.0 c.loop.invariant.later c.in_err-record_at.ensures.cause c.from_residual.ensures.1
+
+pub returns-in_err-record_at-clause-onward : goal.returns-in_err-record_at-clause-onward
+returns-in_err-record_at-clause-onward g c = g.met.R.Reads.further_onward _ _ _ c.loop.invariant.onward c.in_err-record_at.ensures.onward
+
+pub returns-then-is_of-clause-onward : goal.returns-then-is_of-clause-onward
+returns-then-is_of-clause-onward g c = g.met.R.Reads.further_onward _ _ _ c.loop.invariant.onward c.in_ok-record_at.ensures.onward
+
+pub returns-then-is_of-clause-cause : goal.returns-then-is_of-clause-cause
+returns-then-is_of-clause-cause g c = ok_cause _ _ _ _ (later_on c.loop.invariant.later c.in_ok-record_at.ensures.cause.later)
+
+pub returns-then-is_of-clause-key : goal.returns-then-is_of-clause-key
+returns-then-is_of-clause-key g c = c.in_ok-record_at.ensures.key
+
+pub returns-then-at-clause-cause : goal.returns-then-at-clause-cause
+returns-then-at-clause-cause g c = ok_cause _ _ _ _ c.loop.invariant.later
+
+pub returns-then-at-2-clause-cause : goal.returns-then-at-2-clause-cause
+returns-then-at-2-clause-cause g c = told_cause _ _ _ _ c.loop.invariant.later c.damaged.ensures
+
+pub returns-clause-onward : goal.returns-clause-onward
+returns-clause-onward g c = c.loop.invariant.onward
+
+pub returns-then-at-clause-onward : goal.returns-then-at-clause-onward
+returns-then-at-clause-onward g c = c.loop.invariant.onward
+
+pub returns-then-at-2-clause-onward : goal.returns-then-at-2-clause-onward
+returns-then-at-2-clause-onward g c = c.loop.invariant.onward
+
+pub returns-clause-same : goal.returns-clause-same
+returns-clause-same g c = c.loop.invariant.same
+
+pub returns-then-at-clause-same : goal.returns-then-at-clause-same
+returns-then-at-clause-same g c = c.loop.invariant.same
+
+pub returns-then-at-2-clause-same : goal.returns-then-at-2-clause-same
+returns-then-at-2-clause-same g c = c.loop.invariant.same

@@ -7,16 +7,18 @@ use Rattle.rec_bytes.specs.Record.{field}
 use Rattle.store_rules.specs.Chains.{IsWalk}
 use Rattle.store_rules.specs.Indexes.{first_definition, index_rec, next_definition}
 use Rattle.store_rules.specs.Views.{Records, kind_at}
-use Rattle.prop_store.proofs.ReadCounts.{reads_one, reads_records, reads_same, reads_then}
+use Rattle.prop_store.proofs.ReadCounts.{reads_more, reads_one, reads_records, reads_same, reads_then}
 use Rattle.prop_index.specs.Blaming.{BlamesBroken}
-use Rattle.prop_store.proofs.Exits.{same_has}
+use Rattle.prop_store.proofs.Exits.{same_has, space_exit, space_has}
 use Rattle.prop_index.specs.Blaming.{IsDefinitionAt, IsOfIndexes, NamesIndexes}
 use Rattle.prop_index.specs.Listing.{pair_of}
 use Rattle.prop_index.proofs.IndexBlames.{definition_begins, definition_blames, definition_goes_on, many_break, pairs_begin, pairs_end, pairs_go_on, read_fault_same, read_names}
 use Rattle.prop_index.proofs.Reread.{definitions_of, room_after}
 use Rattle.prop_index.proofs.Walks.{walk_begins, walk_here, walk_on, walk_over}
-use Rattle.prop_store.proofs.Causes.{cause_passed, later_on, memory_cause}
+use Rattle.prop_store.proofs.Causes.{cause_passed, later_on, memory_cause, space_cause_passed}
 use Rattle.rec_bytes.proofs.Causes.{never_ok, ok_cause}
+use Rattle.prop_index.proofs.Causes.{told_cause}
+use Rattle.rec_bytes.specs.declared.fault.Fault.TheVariants as faults
 use Rattle.prop_index.proofs.listing.indexes.Goals as goal
 
 pub returns-in_err-get_into-clause-at_most : goal.returns-in_err-get_into-clause-at_most
@@ -183,3 +185,67 @@ returns-in_err-push-clause-few g c = never_ok c.from_residual-in_err-push.result
 
 pub returns-clause-cause : goal.returns-clause-cause
 returns-clause-cause g c = ok_cause _ _ _ _ (omega arith)
+
+pub returns-in_err-get_into-clause-cause : goal.returns-in_err-get_into-clause-cause
+returns-in_err-get_into-clause-cause g c = space_cause_passed _ _ _ c.from_residual.result c.in_err-get_into.field-0.0 (omega arith) c.in_err-get_into.ensures.cause c.from_residual.ensures.1
+
+pub returns-in_err-get_into-clause-damaged : goal.returns-in_err-get_into-clause-damaged
+returns-in_err-get_into-clause-damaged g c tells =
+    let s = g.R.Reads.state c.args.space.now in
+    space_has (BlamesBroken s.records s.shape) tt tt c.from_residual.result c.in_err-get_into.field-0.0 c.from_residual.ensures.1
+
+pub returns-in_err-get_into-clause-names : goal.returns-in_err-get_into-clause-names
+returns-in_err-get_into-clause-names g c tells = space_has NamesIndexes tt tt c.from_residual.result c.in_err-get_into.field-0.0 c.from_residual.ensures.1
+
+pub returns-in_err-get_into-clause-sound : goal.returns-in_err-get_into-clause-sound
+returns-in_err-get_into-clause-sound g c tells wanted ix room = space_exit c.from_residual.result c.in_err-get_into.field-0.0 c.from_residual.ensures.1
+
+pub returns-in_err-get_into-clause-onward : goal.returns-in_err-get_into-clause-onward
+returns-in_err-get_into-clause-onward g c = c.get_into.ensures.onward
+
+pub returns-in_err-push-clause-damaged : goal.returns-in_err-push-clause-damaged
+returns-in_err-push-clause-damaged g c tells =
+    let s = g.R.Reads.state c.args.space.now in
+    same_has (BlamesBroken s.records s.shape) c.from_residual-in_err-push.result faults.Memory c.from_residual-in_err-push.ensures.1 tt
+
+pub returns-in_err-push-clause-names : goal.returns-in_err-push-clause-names
+returns-in_err-push-clause-names g c tells = same_has NamesIndexes c.from_residual-in_err-push.result faults.Memory c.from_residual-in_err-push.ensures.1 tt
+
+pub returns-clause-at_most : goal.returns-clause-at_most
+returns-clause-at_most g c = reads_more _ 17 _ _ (omega arith) c.loop.invariant.reads
+
+pub returns-then-at-clause-at_most : goal.returns-then-at-clause-at_most
+returns-then-at-clause-at_most g c = reads_more _ 17 _ _ (omega arith) c.loop.invariant.reads
+
+pub returns-then-at-2-clause-at_most : goal.returns-then-at-2-clause-at_most
+returns-then-at-2-clause-at_most g c = reads_more _ 17 _ _ (omega arith) c.loop.invariant.reads
+
+pub returns-clause-few : goal.returns-clause-few
+returns-clause-few g c = omega (arith, c.loop.invariant.few)
+
+pub returns-then-at-clause-few : goal.returns-then-at-clause-few
+returns-then-at-clause-few g c = omega (arith, c.loop.invariant.few)
+
+pub returns-clause-onward : goal.returns-clause-onward
+returns-clause-onward g c = c.loop.invariant.onward
+
+pub returns-then-at-clause-onward : goal.returns-then-at-clause-onward
+returns-then-at-clause-onward g c = c.loop.invariant.onward
+
+pub returns-then-at-2-clause-onward : goal.returns-then-at-2-clause-onward
+returns-then-at-2-clause-onward g c = c.loop.invariant.onward
+
+pub returns-then-at-clause-cause : goal.returns-then-at-clause-cause
+returns-then-at-clause-cause g c = ok_cause _ _ _ _ c.loop.invariant.later
+
+pub returns-then-at-2-clause-cause : goal.returns-then-at-2-clause-cause
+returns-then-at-2-clause-cause g c = told_cause _ _ _ _ c.loop.invariant.later c.damaged.ensures
+
+pub returns-then-at-2-clause-sound : goal.returns-then-at-2-clause-sound
+returns-then-at-2-clause-sound g c tells wanted ix room =
+    let s = g.R.Reads.state c.args.space.now in
+    let are = definitions_of s.records wanted ix in
+    let told = c.loop.invariant.told tells ix.definitions are in
+    let here = walk_here _ ix.definitions c.loop.at told.0 told.1 c.if-at-2.true in
+    let passed : length told.0 ≡ 16 = sym (ap length told.2 ∙ length-map told.0 (pair_of s.records)) ∙ c.loop.invariant.few ∙ omega arith in
+    absurd (omega (arith, here.1, passed, are.few))

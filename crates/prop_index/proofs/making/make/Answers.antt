@@ -28,6 +28,8 @@ use Rattle.prop_index.proofs.MakeFaults.{collect_refusal, mishap_refusal, pair_r
 use Rattle.prop_index.proofs.Reread.{readable_after, same_records, same_then}
 use Rattle.prop_index.specs.Touching.{TouchesIndex}
 use Rattle.rec_bytes.proofs.Causes.{never_ok}
+use Rattle.prop_index.proofs.Causes.{make_other_cause, make_passed}
+use Rattle.prop_store.proofs.Causes.{later_on}
 use Rattle.prop_index.proofs.making.make.Goals as goal
 
 pub returns-in_err-test_pair-clause-refused : goal.returns-in_err-test_pair-clause-refused
@@ -362,3 +364,18 @@ returns-in_err-contents-clause-written g c = never_ok c.from_residual-in_err-con
 
 pub returns-in_err-contents-clause-few : goal.returns-in_err-contents-clause-few
 returns-in_err-contents-clause-few g c = never_ok c.from_residual-in_err-contents.result _ _ c.from_residual-in_err-contents.ensures.1
+
+pub returns-in_err-test_pair-clause-cause : goal.returns-in_err-test_pair-clause-cause
+returns-in_err-test_pair-clause-cause g c = make_passed _ _ _ c.from_residual.result c.in_err-test_pair.field-0.0 (omega arith) c.in_err-test_pair.ensures.cause c.from_residual.ensures.1
+
+pub returns-in_err-contents-clause-cause : goal.returns-in_err-contents-clause-cause
+returns-in_err-contents-clause-cause g c = make_passed _ _ _ c.from_residual-in_err-contents.result c.in_err-contents.field-0.0 c.in_ok-test_pair.ensures.cause.later c.in_err-contents.ensures.cause c.from_residual-in_err-contents.ensures.1
+
+pub returns-in_err-contents-clause-onward : goal.returns-in_err-contents-clause-onward
+returns-in_err-contents-clause-onward g c = g.met.S.Reads.further_onward _ _ _ c.in_ok-test_pair.ensures.onward c.in_err-contents.ensures.onward
+
+pub returns-then-not-has_room-clause-onward : goal.returns-then-not-has_room-clause-onward
+returns-then-not-has_room-clause-onward g c = g.met.S.Reads.further_onward _ _ _ c.in_ok-test_pair.ensures.onward c.in_ok-contents.ensures.onward
+
+pub returns-then-not-has_room-clause-cause : goal.returns-then-not-has_room-clause-cause
+returns-then-not-has_room-clause-cause g c = make_other_cause _ _ _ (later_on c.in_ok-test_pair.ensures.cause.later c.in_ok-contents.ensures.cause.later) (λ e. absurd cc)
