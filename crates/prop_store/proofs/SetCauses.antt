@@ -1,7 +1,7 @@
 -- A fault that is passed on as one of a property that is not set has its cause.
 use Rattle.std.specs.Prelude.{Result, Err}
 use Rattle.std.specs.Result.{IsErrAnd}
-use Rattle.std.proofs.Common.{◌≡◌, ◌≤◌, ℕ, refl}
+use Rattle.std.proofs.Common.{◌≡◌, ◌≤◌, ℕ, arith, refl}
 use Rattle.rec_bytes.specs.Space.{HasCause}
 use Rattle.rec_bytes.specs.declared.space.SpaceFault.{SpaceFault}
 use Rattle.rec_bytes.specs.declared.space.SpaceFault.TheVariants as spaces
@@ -43,3 +43,10 @@ take_blames_disk (takes.Damaged damage) e = absurd cc
 pub take_set_cause : {T U : Type 0} (before mid now : ℕ) (r : Result T SetFault) (fault : TakeFault) → before ≤ mid → HasTakeCause {T = U} mid now (Err fault) → IsErrAnd r (λ f. f ≡ of_take fault) → HasSetCause before now r
 take_set_cause {U = U} before mid now r fault early cause is =
     passed {U = U} of_take takes.Disk sets.Disk before mid now r fault (take_blames_disk fault) early (record { later = cause.later; disk = cause.disk }) is
+
+-- a call that came after others has its cause also seen from before them
+pub set_cause_after : {T : Type 0} (before mid now : ℕ) (r : Result T SetFault) → before ≤ mid → HasSetCause mid now r → HasSetCause before now r
+set_cause_after before mid now r early cause = record {
+  later = let later = cause.later in omega (arith, early, later);
+  disk = λ blamed. let rose = cause.disk blamed in omega (arith, early, rose);
+}

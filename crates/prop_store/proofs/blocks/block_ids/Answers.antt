@@ -9,7 +9,7 @@ use Rattle.prop_store.proofs.ListLaws.{append_one}
 use Rattle.prop_store.specs.Blocks.{ArePassed, IsBlockOf, IsTextFault}
 use Rattle.prop_store.proofs.Breaches.{block_fault, passed_blocks, passed_once, passed_piece, text_begins, text_goes_on, text_too_long}
 use Rattle.prop_store.proofs.Exits.{same_has}
-use Rattle.prop_store.proofs.ReadCounts.{reads_none, reads_one, reads_records, reads_same, reads_then}
+use Rattle.prop_store.proofs.ReadCounts.{reads_more, reads_none, reads_one, reads_records, reads_same, reads_then}
 use Rattle.prop_store.proofs.TextSteps.{all_left, block_here, right_here, text_after, text_over}
 use Rattle.prop_store.proofs.Causes.{cause_passed}
 use Rattle.rec_bytes.proofs.Causes.{never_ok, ok_cause}
@@ -118,3 +118,15 @@ returns-in_err-read_block-clause-has g c _ _ = never_ok c.from_residual.result _
 
 pub returns-clause-cause : goal.returns-clause-cause
 returns-clause-cause g c = ok_cause _ _ _ _ (omega arith)
+
+pub returns-then-at-clause-onward : goal.returns-then-at-clause-onward
+returns-then-at-clause-onward g c = c.loop-left.invariant.onward
+
+pub returns-clause-onward : goal.returns-clause-onward
+returns-clause-onward g c = c.loop-left.invariant.onward
+
+pub returns-then-at-clause-at_most : goal.returns-then-at-clause-at_most
+returns-then-at-clause-at_most g c = reads_more _ 22 _ _ (omega (arith, c.loop-left.invariant.few)) c.loop-left.invariant.reads
+
+pub returns-clause-at_most : goal.returns-clause-at_most
+returns-clause-at_most g c = reads_more _ 22 _ _ (omega (arith, c.loop-left.invariant.few)) c.loop-left.invariant.reads

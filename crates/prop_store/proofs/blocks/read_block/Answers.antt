@@ -15,6 +15,8 @@ use Rattle.prop_store.specs.GivenOut.{IsLinkFault}
 use Rattle.prop_store.proofs.Breaches.{link_cause}
 use Rattle.prop_store.proofs.ReadCounts.{reads_none, reads_one}
 use Rattle.rec_bytes.proofs.Causes.{never_ok, ok_cause}
+use Rattle.prop_store.proofs.Causes.{space_cause_passed}
+use Rattle.prop_store.proofs.Exits.{space_exit, space_has}
 use Rattle.prop_store.proofs.blocks.read_block.Goals as goal
 
 pub returns-then-id-eq-NIL-clause-at_most : goal.returns-then-id-eq-NIL-clause-at_most
@@ -132,3 +134,36 @@ returns-in_err-get_into-clause-state g c = never_ok c.from_residual-in_err-get_i
 
 pub returns-clause-cause : goal.returns-clause-cause
 returns-clause-cause g c = ok_cause _ _ _ _ (omega arith)
+
+pub returns-in_err-get_into-clause-cause : goal.returns-in_err-get_into-clause-cause
+returns-in_err-get_into-clause-cause g c = space_cause_passed _ _ _ c.from_residual-in_err-get_into.result c.in_err-get_into.field-0.0 (omega arith) c.in_err-get_into.ensures.cause c.from_residual-in_err-get_into.ensures.1
+
+pub returns-in_err-get_into-clause-damaged : goal.returns-in_err-get_into-clause-damaged
+returns-in_err-get_into-clause-damaged g c tells = space_has (IsBlockFault (g.R.Reads.state c.args.space.now) c.args.property c.args.from c.args.id c.args.size) tt tt c.from_residual-in_err-get_into.result c.in_err-get_into.field-0.0 c.from_residual-in_err-get_into.ensures.1
+
+pub returns-in_err-get_into-clause-onward : goal.returns-in_err-get_into-clause-onward
+returns-in_err-get_into-clause-onward g c = c.get_into.ensures.onward
+
+pub returns-in_err-get_into-clause-sound : goal.returns-in_err-get_into-clause-sound
+returns-in_err-get_into-clause-sound g c tells given has = space_exit c.from_residual-in_err-get_into.result c.in_err-get_into.field-0.0 c.from_residual-in_err-get_into.ensures.1
+
+pub returns-then-not-is_known-clause-onward : goal.returns-then-not-is_known-clause-onward
+returns-then-not-is_known-clause-onward g c = c.in_ok-get_into.ensures.onward
+
+pub returns-then-not-has_form-clause-onward : goal.returns-then-not-has_form-clause-onward
+returns-then-not-has_form-clause-onward g c = c.in_ok-get_into.ensures.onward
+
+pub returns-clause-onward : goal.returns-clause-onward
+returns-clause-onward g c = c.in_ok-get_into.ensures.onward
+
+pub returns-clause-got : goal.returns-clause-got
+returns-clause-got g c = c.in_ok-get_into.ensures.got
+
+pub returns-clause-state : goal.returns-clause-state
+returns-clause-state g c = c.in_ok-get_into.ensures.state
+
+pub returns-clause-form : goal.returns-clause-form
+returns-clause-form g c = holds c.has_form.result _ c.has_form.ensures c.if-not-has_form.false
+
+pub returns-clause-small : goal.returns-clause-small
+returns-clause-small g c = c.in_ok-test_link.ensures.given.small

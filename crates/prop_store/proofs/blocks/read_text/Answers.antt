@@ -9,9 +9,13 @@ use Rattle.store_rules.specs.Views.{Records, rec_at}
 use Rattle.prop_store.specs.Blocks.{IsBlockOf, IsTextFault}
 use Rattle.prop_store.proofs.Breaches.{block_fault, text_begins, text_goes_on, text_too_long}
 use Rattle.prop_store.proofs.Exits.{same_has}
-use Rattle.prop_store.proofs.ReadCounts.{reads_none, reads_one, reads_records, reads_same, reads_then}
+use Rattle.prop_store.proofs.ReadCounts.{reads_more, reads_none, reads_one, reads_records, reads_same, reads_then}
 use Rattle.prop_store.proofs.TextSteps.{all_left, block_here, piece_read, right_here, text_after, text_over, text_read}
 use Rattle.rec_bytes.proofs.Causes.{never_ok, ok_cause}
+use Rattle.std.specs.Prelude.{IfSome}
+use Rattle.rec_bytes.specs.Fault.{damage_of}
+use Rattle.rec_bytes.specs.declared.fault.Fault.TheVariants as faults
+use Rattle.prop_store.proofs.Causes.{cause_passed, later_on, memory_cause}
 use Rattle.prop_store.proofs.blocks.read_text.Goals as goal
 
 pub loop-left-init : goal.loop-left-init
@@ -109,3 +113,36 @@ returns-in_err-extend_from_slice-clause-size g c =
 
 pub returns-clause-cause : goal.returns-clause-cause
 returns-clause-cause g c = ok_cause _ _ _ _ (omega arith)
+
+pub returns-in_err-read_block-clause-cause : goal.returns-in_err-read_block-clause-cause
+returns-in_err-read_block-clause-cause g c = cause_passed _ _ _ c.from_residual.result c.in_err-read_block.field-0.0 c.loop-left.invariant.later c.in_err-read_block.ensures.cause c.from_residual.ensures.1
+
+pub returns-in_err-read_block-clause-onward : goal.returns-in_err-read_block-clause-onward
+returns-in_err-read_block-clause-onward g c = g.met.R.Reads.further_onward _ _ _ c.loop-left.invariant.onward c.in_err-read_block.ensures.onward
+
+pub returns-in_err-extend_from_slice-clause-cause : goal.returns-in_err-extend_from_slice-clause-cause
+returns-in_err-extend_from_slice-clause-cause g c = memory_cause _ _ c.from_residual-in_err-extend_from_slice.result (later_on c.loop-left.invariant.later c.in_ok-read_block.ensures.cause.later) c.from_residual-in_err-extend_from_slice.ensures.1
+
+pub returns-in_err-extend_from_slice-clause-onward : goal.returns-in_err-extend_from_slice-clause-onward
+returns-in_err-extend_from_slice-clause-onward g c = g.met.R.Reads.further_onward _ _ _ c.loop-left.invariant.onward c.in_ok-read_block.ensures.onward
+
+pub returns-in_err-extend_from_slice-clause-damaged : goal.returns-in_err-extend_from_slice-clause-damaged
+returns-in_err-extend_from_slice-clause-damaged g c tells text = same_has (IsTextFault (g.R.Reads.state c.args.space.now) c.args.property) c.from_residual-in_err-extend_from_slice.result faults.Memory c.from_residual-in_err-extend_from_slice.ensures.1 tt
+
+pub returns-in_err-extend_from_slice-clause-sound : goal.returns-in_err-extend_from_slice-clause-sound
+returns-in_err-extend_from_slice-clause-sound g c tells text blocks has given = same_has (λ fault. IfSome (damage_of fault) (λ _. ⊥)) c.from_residual-in_err-extend_from_slice.result faults.Memory c.from_residual-in_err-extend_from_slice.ensures.1 tt
+
+pub returns-then-at-clause-onward : goal.returns-then-at-clause-onward
+returns-then-at-clause-onward g c = c.loop-left.invariant.onward
+
+pub returns-clause-onward : goal.returns-clause-onward
+returns-clause-onward g c = c.loop-left.invariant.onward
+
+pub returns-clause-size : goal.returns-clause-size
+returns-clause-size g c = omega (arith, c.loop-left.invariant.size, c.loop-left-test.false)
+
+pub returns-then-at-clause-at_most : goal.returns-then-at-clause-at_most
+returns-then-at-clause-at_most g c = reads_more _ _ _ _ (omega (arith, c.loop-left.invariant.size)) c.loop-left.invariant.reads
+
+pub returns-clause-at_most : goal.returns-clause-at_most
+returns-clause-at_most g c = reads_more _ _ _ _ (omega (arith, c.loop-left.invariant.size)) c.loop-left.invariant.reads

@@ -4,6 +4,8 @@ use Rattle.store_rules.specs.Properties.{AreProperties, property_records}
 use Rattle.prop_store.specs.Owner.{first_of}
 use Rattle.prop_store.proofs.Causes.{cause_after, space_cause_passed}
 use Rattle.prop_store.proofs.ReadCounts.{costs_after, reads_after, reads_one}
+use Rattle.prop_store.specs.Fault.{BlamesBroken}
+use Rattle.prop_store.proofs.Exits.{space_exit, space_has}
 use Rattle.prop_store.proofs.finding.find.Goals as goal
 
 pub returns-in_err-first-clause-at_most : goal.returns-in_err-first-clause-at_most
@@ -44,3 +46,20 @@ returns-clause-onward g c = g.met.R.Reads.further_onward _ _ _ c.in_ok-first.ens
 
 pub returns-clause-cause : goal.returns-clause-cause
 returns-clause-cause g c = cause_after _ _ _ c.find_from.result c.in_ok-first.ensures.cause.later c.find_from.ensures.cause
+
+pub returns-in_err-first-clause-damaged : goal.returns-in_err-first-clause-damaged
+returns-in_err-first-clause-damaged g c tells used =
+    let s = g.R.Reads.state c.args.space.now in
+    space_has (BlamesBroken s.records s.shape) tt tt c.from_residual.result c.in_err-first.field-0.0 c.from_residual.ensures.1
+
+pub returns-in_err-first-clause-sound : goal.returns-in_err-first-clause-sound
+returns-in_err-first-clause-sound g c tells es has = space_exit c.from_residual.result c.in_err-first.field-0.0 c.from_residual.ensures.1
+
+pub returns-in_err-first-clause-onward : goal.returns-in_err-first-clause-onward
+returns-in_err-first-clause-onward g c = c.in_err-first.ensures.onward
+
+pub returns-clause-placed : goal.returns-clause-placed
+returns-clause-placed g c = c.find_from.ensures.placed
+
+pub find_from-requires-clause-owner : goal.find_from-requires-clause-owner
+find_from-requires-clause-owner g c = c.requires

@@ -225,3 +225,12 @@ returns-in_err-blocks-clause-found g c _ _ _ = never_ok c.from_residual-in_err-b
 
 pub returns-in_err-blocks-clause-fits : goal.returns-in_err-blocks-clause-fits
 returns-in_err-blocks-clause-fits g c = never_ok c.from_residual-in_err-blocks.result _ _ c.from_residual-in_err-blocks.ensures.1
+
+pub returns-in-None-clause-onward : goal.returns-in-None-clause-onward
+returns-in-None-clause-onward g c = c.loop-at.invariant.onward
+
+pub returns-in-Some-clause-onward : goal.returns-in-Some-clause-onward
+returns-in-Some-clause-onward g c = c.loop-at.invariant.onward
+
+pub returns-then-count-clause-onward : goal.returns-then-count-clause-onward
+returns-then-count-clause-onward g c = c.loop-at.invariant.onward

@@ -15,6 +15,8 @@ use Rattle.prop_store.proofs.Breaches.{link_cause}
 use Rattle.prop_store.proofs.Meanings.{no_form}
 use Rattle.prop_store.proofs.ReadCounts.{reads_none, reads_one}
 use Rattle.rec_bytes.proofs.Causes.{never_ok, ok_cause}
+use Rattle.prop_store.proofs.Causes.{space_cause_passed}
+use Rattle.prop_store.proofs.Exits.{space_exit, space_has}
 use Rattle.prop_store.proofs.property_row.property_at.Goals as goal
 
 pub returns-in_err-test_link-clause-at_most : goal.returns-in_err-test_link-clause-at_most
@@ -100,3 +102,30 @@ returns-in_err-get_into-clause-state g c = never_ok c.from_residual-in_err-get_i
 
 pub returns-in-Some-clause-cause : goal.returns-in-Some-clause-cause
 returns-in-Some-clause-cause g c = ok_cause _ _ _ _ (omega arith)
+
+pub returns-in_err-get_into-clause-cause : goal.returns-in_err-get_into-clause-cause
+returns-in_err-get_into-clause-cause g c = space_cause_passed _ _ _ c.from_residual-in_err-get_into.result c.in_err-get_into.field-0.0 (omega arith) c.in_err-get_into.ensures.cause c.from_residual-in_err-get_into.ensures.1
+
+pub returns-in_err-get_into-clause-damaged : goal.returns-in_err-get_into-clause-damaged
+returns-in_err-get_into-clause-damaged g c tells = space_has (IsRowFault (g.R.Reads.state c.args.space.now) c.args.element c.args.from c.args.id) tt tt c.from_residual-in_err-get_into.result c.in_err-get_into.field-0.0 c.from_residual-in_err-get_into.ensures.1
+
+pub returns-in_err-get_into-clause-onward : goal.returns-in_err-get_into-clause-onward
+returns-in_err-get_into-clause-onward g c = c.get_into.ensures.onward
+
+pub returns-in_err-get_into-clause-sound : goal.returns-in_err-get_into-clause-sound
+returns-in_err-get_into-clause-sound g c tells given has = space_exit c.from_residual-in_err-get_into.result c.in_err-get_into.field-0.0 c.from_residual-in_err-get_into.ensures.1
+
+pub returns-then-byte-eq-FREE-clause-onward : goal.returns-then-byte-eq-FREE-clause-onward
+returns-then-byte-eq-FREE-clause-onward g c = c.in_ok-get_into.ensures.onward
+
+pub returns-in-None-clause-onward : goal.returns-in-None-clause-onward
+returns-in-None-clause-onward g c = c.in_ok-get_into.ensures.onward
+
+pub returns-in-Some-clause-onward : goal.returns-in-Some-clause-onward
+returns-in-Some-clause-onward g c = c.in_ok-get_into.ensures.onward
+
+pub returns-in-Some-clause-got : goal.returns-in-Some-clause-got
+returns-in-Some-clause-got g c = c.in_ok-get_into.ensures.got
+
+pub returns-in-Some-clause-state : goal.returns-in-Some-clause-state
+returns-in-Some-clause-state g c = c.in_ok-get_into.ensures.state

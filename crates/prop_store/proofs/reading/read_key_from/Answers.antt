@@ -15,6 +15,8 @@ use Rattle.prop_store.proofs.ReadCounts.{reads_more, reads_records, reads_same, 
 use Rattle.prop_store.proofs.WalkSteps.{blocks_given, has_value}
 use Rattle.prop_store.proofs.Causes.{cause_passed}
 use Rattle.rec_bytes.proofs.Causes.{never_ok, ok_cause}
+use Rattle.std.specs.Prelude.{IfSome}
+use Rattle.rec_bytes.specs.Fault.{damage_of}
 use Rattle.prop_store.proofs.reading.read_key_from.Goals as goal
 
 pub returns-in-Absent-clause-cost : goal.returns-in-Absent-clause-cost
@@ -119,3 +121,24 @@ returns-in-Absent-clause-cause g c = ok_cause _ _ _ _ (omega arith)
 
 pub returns-in_ok-value-in-Found-clause-cause : goal.returns-in_ok-value-in-Found-clause-cause
 returns-in_ok-value-in-Found-clause-cause g c = ok_cause _ _ _ _ (omega arith)
+
+pub returns-in_err-find_from-clause-cause : goal.returns-in_err-find_from-clause-cause
+returns-in_err-find_from-clause-cause g c = cause_passed _ _ _ c.from_residual.result c.in_err-find_from.field-0.0 (omega arith) c.in_err-find_from.ensures.cause c.from_residual.ensures.1
+
+pub returns-in_err-find_from-clause-at_most : goal.returns-in_err-find_from-clause-at_most
+returns-in_err-find_from-clause-at_most g c = reads_more 32 54 _ _ (omega arith) c.in_err-find_from.ensures.at_most
+
+pub returns-in_err-find_from-clause-sound : goal.returns-in_err-find_from-clause-sound
+returns-in_err-find_from-clause-sound g c tells es has = same_has (λ fault. IfSome (damage_of fault) (λ _. ⊥)) c.from_residual.result c.in_err-find_from.field-0.0 c.from_residual.ensures.1 (c.in_err-find_from.ensures.sound tells es has)
+
+pub returns-in-Absent-clause-at_most : goal.returns-in-Absent-clause-at_most
+returns-in-Absent-clause-at_most g c = reads_more 32 54 _ _ (omega arith) c.in_ok-find_from.ensures.at_most
+
+pub returns-in-Absent-clause-reads : goal.returns-in-Absent-clause-reads
+returns-in-Absent-clause-reads g c = c.in_ok-find_from.ensures.at_most
+
+pub returns-in-Absent-clause-onward : goal.returns-in-Absent-clause-onward
+returns-in-Absent-clause-onward g c = c.in_ok-find_from.ensures.onward
+
+pub returns-in_ok-value-in-Found-clause-kept : goal.returns-in_ok-value-in-Found-clause-kept
+returns-in_ok-value-in-Found-clause-kept g c = c.in_ok-value-in-Found.ensures.kept

@@ -4,7 +4,8 @@ use Rattle.prop_store.proofs.FileSteps.{beside_then}
 use Rattle.prop_store.proofs.ListLaws.{drop_step, in_at}
 use Rattle.prop_store.proofs.ReleaseSteps.{beside_given, one_given, one_linked}
 use Rattle.prop_store.proofs.Touches.{only_given}
-use Rattle.rec_bytes.proofs.Causes.{never_ok, ok_cause}
+use Rattle.rec_bytes.proofs.Causes.{never_ok, ok_cause, passed}
+use Rattle.rec_bytes.specs.declared.space.SpaceFault.TheVariants as spaces
 use Rattle.prop_store.proofs.releasing.release.Goals as goal
 
 pub give-requires-clause-key : goal.give-requires-clause-key
@@ -46,3 +47,19 @@ returns-in_err-give-clause-beside g c _ = never_ok c.from_residual.result _ _ c.
 
 pub returns-clause-cause : goal.returns-clause-cause
 returns-clause-cause g c = ok_cause _ _ _ _ (omega arith)
+
+pub returns-in_err-give-clause-cause : goal.returns-in_err-give-clause-cause
+returns-in_err-give-clause-cause g c =
+    passed (λ f. f) spaces.Disk spaces.Disk _ _ _ c.from_residual.result c.in_err-give.field-0.0 (λ e. e) c.loop-id.invariant.later c.in_err-give.ensures.cause c.from_residual.ensures.1
+
+pub returns-in_err-give-clause-onward : goal.returns-in_err-give-clause-onward
+returns-in_err-give-clause-onward g c = g.met.S.Reads.further_onward _ _ _ c.loop-id.invariant.onward c.in_err-give.ensures.onward
+
+pub returns-clause-onward : goal.returns-clause-onward
+returns-clause-onward g c = c.loop-id.invariant.onward
+
+pub returns-clause-beside : goal.returns-clause-beside
+returns-clause-beside g c = c.loop-id.invariant.beside
+
+pub returns-clause-touches : goal.returns-clause-touches
+returns-clause-touches g c = c.loop-id.invariant.touches

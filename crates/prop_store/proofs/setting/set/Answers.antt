@@ -26,7 +26,7 @@ use Rattle.prop_store.proofs.Midway.{set_caused_fault, set_caused_more, set_has,
 use Rattle.prop_store.proofs.ReadCounts.{reads_records, reads_same, same_then}
 use Rattle.prop_store.proofs.Touches.{touches_after, touches_beside, touches_more, touches_reads}
 use Rattle.prop_store.proofs.WriteCounts.{beside_writes, touched_beside}
-use Rattle.prop_store.proofs.SetCauses.{set_cause_passed}
+use Rattle.prop_store.proofs.SetCauses.{fault_set_cause, set_cause_after, set_cause_passed}
 use Rattle.rec_bytes.proofs.Causes.{never_ok, ok_cause}
 use Rattle.prop_store.proofs.setting.set.Goals as goal
 use Rattle.prop_store.proofs.setting.set.Goals.{After-put_again}
@@ -343,3 +343,21 @@ returns-in_err-add-in-Absent-clause-touches g c = never_ok c.from_residual-in_er
 
 pub returns-in_ok-add-in-Absent-clause-cause : goal.returns-in_ok-add-in-Absent-clause-cause
 returns-in_ok-add-in-Absent-clause-cause g c = ok_cause _ _ _ _ (omega arith)
+
+pub returns-in_err-count-clause-cause : goal.returns-in_err-count-clause-cause
+returns-in_err-count-clause-cause g c = fault_set_cause _ _ _ c.from_residual.result c.in_err-count.field-0.0 (omega arith) c.in_err-count.ensures.cause c.from_residual.ensures.1
+
+pub returns-in-Found-clause-cause : goal.returns-in-Found-clause-cause
+returns-in-Found-clause-cause g c = set_cause_after _ _ _ c.put_again.result c.in_ok-count.ensures.cause.later c.put_again.ensures.cause
+
+pub returns-in-Found-clause-onward : goal.returns-in-Found-clause-onward
+returns-in-Found-clause-onward g c = g.met.S.Reads.further_onward _ _ _ c.in_ok-count.ensures.onward c.put_again.ensures.onward
+
+pub returns-in-Found-clause-few : goal.returns-in-Found-clause-few
+returns-in-Found-clause-few g c = c.put_again.ensures.few
+
+pub returns-then-count-ge-MOST_PROPERTIES-clause-onward : goal.returns-then-count-ge-MOST_PROPERTIES-clause-onward
+returns-then-count-ge-MOST_PROPERTIES-clause-onward g c = c.in_ok-count.ensures.onward
+
+pub put_again-requires-clause-row : goal.put_again-requires-clause-row
+put_again-requires-clause-row g c = (subst (IsPlaced c.args.owner c.args.key c.find.new.row) c.in-Found.is c.in_ok-count.ensures.placed).is_row
