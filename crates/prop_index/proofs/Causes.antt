@@ -52,6 +52,13 @@ space_take_cause {T} before mid now r fault early cause is =
 pub take_ok_cause : {T : Type 0} (before now : ℕ) (x : T) → before ≤ now → HasTakeCause {T = T} before now (Ok x)
 take_ok_cause before now x later = record { later = later; disk = λ blamed. absurd cc }
 
+-- a call that came after others has its cause also seen from before them
+pub take_cause_after : {T : Type 0} (before mid now : ℕ) (r : Result T TakeFault) → before ≤ mid → HasTakeCause mid now r → HasTakeCause before now r
+take_cause_after before mid now r early cause = record {
+  later = let later = cause.later in omega (arith, early, later);
+  disk = λ blamed. let rose = cause.disk blamed in omega (arith, early, rose);
+}
+
 -- ---- where an index is made
 
 read_blames_disk : (fault : Fault) → of_fault fault ≡ make.Disk → fault ≡ faults.Disk

@@ -16,11 +16,13 @@ use Rattle.prop_store.proofs.ReadCounts.{reads_after, reads_none, reads_one, rea
 use Rattle.prop_index.specs.Gathering.{node_owner}
 use Rattle.rec_bytes.specs.declared.fault.Fault.TheVariants.{Damaged}
 use Rattle.prop_index.specs.Blaming.{BlamesBroken}
-use Rattle.prop_store.proofs.Exits.{same_has, space_has}
+use Rattle.prop_store.proofs.Exits.{same_has, space_exit, space_has}
 use Rattle.prop_index.proofs.Counting.{owner_blames}
 use Rattle.prop_index.proofs.IndexBlames.{blames_before, if_err}
 use Rattle.prop_index.proofs.Collects.{hash_at-labelled, hash_at-none}
 use Rattle.rec_bytes.proofs.Causes.{never_ok, ok_cause}
+use Rattle.prop_store.proofs.Causes.{cause_after, space_cause_passed}
+use Rattle.prop_index.proofs.Causes.{damage_cause}
 use Rattle.prop_index.proofs.collecting.hash_at.Goals as goal
 
 pub returns-clause-found : goal.returns-clause-found
@@ -99,3 +101,24 @@ returns-in_err-get_into-clause-found g c _ _ = never_ok c.from_residual-in_err-g
 
 pub returns-clause-cause : goal.returns-clause-cause
 returns-clause-cause g c = ok_cause _ _ _ _ (omega arith)
+
+pub returns-in_err-owner-clause-cause : goal.returns-in_err-owner-clause-cause
+returns-in_err-owner-clause-cause g c = damage_cause _ _ c.from_residual.result c.in_err-owner.field-0.0 (omega arith) c.from_residual.ensures.1
+
+pub returns-in_err-get_into-clause-cause : goal.returns-in_err-get_into-clause-cause
+returns-in_err-get_into-clause-cause g c = space_cause_passed _ _ _ c.from_residual-in_err-get_into.result c.in_err-get_into.field-0.0 (omega arith) c.in_err-get_into.ensures.cause c.from_residual-in_err-get_into.ensures.1
+
+pub returns-in_err-get_into-clause-onward : goal.returns-in_err-get_into-clause-onward
+returns-in_err-get_into-clause-onward g c = c.get_into.ensures.onward
+
+pub returns-in_err-get_into-clause-sound : goal.returns-in_err-get_into-clause-sound
+returns-in_err-get_into-clause-sound g c tells low readable = space_exit c.from_residual-in_err-get_into.result c.in_err-get_into.field-0.0 c.from_residual-in_err-get_into.ensures.1
+
+pub returns-then-is_labelled-clause-cause : goal.returns-then-is_labelled-clause-cause
+returns-then-is_labelled-clause-cause g c = cause_after _ _ _ c.value_hash.result c.in_ok-get_into.ensures.cause.later c.value_hash.ensures.cause
+
+pub returns-then-is_labelled-clause-onward : goal.returns-then-is_labelled-clause-onward
+returns-then-is_labelled-clause-onward g c = g.met.R.Reads.further_onward _ _ _ c.in_ok-get_into.ensures.onward c.value_hash.ensures.onward
+
+pub returns-clause-onward : goal.returns-clause-onward
+returns-clause-onward g c = c.in_ok-get_into.ensures.onward

@@ -29,6 +29,7 @@ use Rattle.prop_index.proofs.FillTouches.{beside_more}
 use Rattle.prop_index.proofs.HeadsAdded.{head-in}
 use Rattle.prop_index.proofs.LinkRules.{free_list, store_takes}
 use Rattle.rec_bytes.proofs.Causes.{never_ok}
+use Rattle.prop_index.proofs.Causes.{take_cause_passed, take_ok_cause}
 use Rattle.prop_index.proofs.filling.fill.Goals as goal
 
 pub loop-content-init : goal.loop-content-init
@@ -183,3 +184,15 @@ returns-in_err-firsts-clause-still g c tells =
 
 pub returns-in_err-firsts-clause-filled : goal.returns-in_err-firsts-clause-filled
 returns-in_err-firsts-clause-filled g c _ _ _ _ _ _ _ _ = never_ok c.from_residual.result _ _ c.from_residual.ensures.1
+
+pub returns-in_err-firsts-clause-cause : goal.returns-in_err-firsts-clause-cause
+returns-in_err-firsts-clause-cause g c = take_cause_passed _ _ _ c.from_residual.result c.in_err-firsts.field-0.0 c.loop-content.invariant.later c.in_err-firsts.ensures.cause c.from_residual.ensures.1
+
+pub returns-in_err-firsts-clause-onward : goal.returns-in_err-firsts-clause-onward
+returns-in_err-firsts-clause-onward g c = g.met.S.Reads.further_onward _ _ _ c.loop-content.invariant.onward c.in_err-firsts.ensures.onward
+
+pub returns-clause-cause : goal.returns-clause-cause
+returns-clause-cause g c = take_ok_cause _ _ _ c.loop-content.invariant.later
+
+pub returns-clause-onward : goal.returns-clause-onward
+returns-clause-onward g c = c.loop-content.invariant.onward

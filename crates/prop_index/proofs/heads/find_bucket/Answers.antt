@@ -201,3 +201,18 @@ returns-in_err-bucket-clause-place g c = never_ok c.from_residual-in_err-bucket.
 
 pub returns-clause-cause : goal.returns-clause-cause
 returns-clause-cause g c = ok_cause _ _ _ _ (omega arith)
+
+pub returns-in_err-definition-clause-cause : goal.returns-in_err-definition-clause-cause
+returns-in_err-definition-clause-cause g c = cause_passed _ _ _ c.from_residual.result c.in_err-definition.field-0.0 (omega arith) c.in_err-definition.ensures.cause c.from_residual.ensures.1
+
+pub returns-in_err-definition-clause-at_most : goal.returns-in_err-definition-clause-at_most
+returns-in_err-definition-clause-at_most g c = reads_more 17 18 _ _ (omega arith) c.in_err-definition.ensures.at_most
+
+pub returns-in_default-clause-at_most : goal.returns-in_default-clause-at_most
+returns-in_default-clause-at_most g c = reads_more 17 18 _ _ (omega arith) c.in_ok-definition.ensures.at_most
+
+pub returns-in_default-clause-cause : goal.returns-in_default-clause-cause
+returns-in_default-clause-cause g c = ok_cause _ _ _ _ c.in_ok-definition.ensures.cause.later
+
+pub returns-in_default-clause-onward : goal.returns-in_default-clause-onward
+returns-in_default-clause-onward g c = c.in_ok-definition.ensures.onward

@@ -13,13 +13,15 @@ use Rattle.prop_store.specs.Finding.{value_of}
 use Rattle.prop_store.specs.Owner.{HasProperties, IsInUse}
 use Rattle.prop_store.specs.Reading.{properties_met}
 use Rattle.prop_store.specs.declared.owner.Owner.{Owner}
-use Rattle.prop_store.proofs.Exits.{same_has, space_has}
+use Rattle.prop_store.proofs.Exits.{same_has, space_exit, space_has}
 use Rattle.prop_store.proofs.ReadCounts.{reads_after, reads_none, reads_one, reads_same}
 use Rattle.prop_index.specs.Gathering.{node_owner}
 use Rattle.prop_index.proofs.EntryNodes.{entry_owner_blames, entry_unwanted, in_use}
 use Rattle.prop_index.proofs.IndexBlames.{any_read, blames_before}
 use Rattle.prop_index.proofs.Values.{value_in-is}
 use Rattle.rec_bytes.proofs.Causes.{never_ok, ok_cause}
+use Rattle.prop_store.proofs.Causes.{cause_passed, space_cause_passed}
+use Rattle.prop_index.proofs.Causes.{damage_cause, told_cause}
 use Rattle.prop_index.proofs.holding.holds.Goals as goal
 
 pub returns-in_err-owner-clause-at_most : goal.returns-in_err-owner-clause-at_most
@@ -102,3 +104,31 @@ returns-in_err-held-clause-met g c _ = never_ok c.from_residual-in_err-held.resu
 
 pub returns-clause-cause : goal.returns-clause-cause
 returns-clause-cause g c = ok_cause _ _ _ _ (omega arith)
+
+pub returns-in_err-owner-clause-cause : goal.returns-in_err-owner-clause-cause
+returns-in_err-owner-clause-cause g c = damage_cause _ _ c.from_residual.result c.in_err-owner.field-0.0 (omega arith) c.from_residual.ensures.1
+
+pub returns-in_err-get_into-clause-cause : goal.returns-in_err-get_into-clause-cause
+returns-in_err-get_into-clause-cause g c = space_cause_passed _ _ _ c.from_residual-in_err-get_into.result c.in_err-get_into.field-0.0 (omega arith) c.in_err-get_into.ensures.cause c.from_residual-in_err-get_into.ensures.1
+
+pub returns-in_err-get_into-clause-onward : goal.returns-in_err-get_into-clause-onward
+returns-in_err-get_into-clause-onward g c = c.get_into.ensures.onward
+
+pub returns-in_err-get_into-clause-sound : goal.returns-in_err-get_into-clause-sound
+returns-in_err-get_into-clause-sound g c tells listed = space_exit c.from_residual-in_err-get_into.result c.in_err-get_into.field-0.0 c.from_residual-in_err-get_into.ensures.1
+
+pub returns-in_err-held-clause-cause : goal.returns-in_err-held-clause-cause
+returns-in_err-held-clause-cause g c =
+    cause_passed _ _ _ c.from_residual-in_err-held.result c.in_err-held.field-0.0 c.in_ok-get_into.ensures.cause.later c.in_err-held.ensures.cause c.from_residual-in_err-held.ensures.1
+
+pub returns-in_err-held-clause-onward : goal.returns-in_err-held-clause-onward
+returns-in_err-held-clause-onward g c = g.met.R.Reads.further_onward _ _ _ c.in_ok-get_into.ensures.onward c.in_err-held.ensures.onward
+
+pub returns-then-byte-eq-FREE-clause-cause : goal.returns-then-byte-eq-FREE-clause-cause
+returns-then-byte-eq-FREE-clause-cause g c = told_cause _ _ _ _ c.in_ok-get_into.ensures.cause.later c.damaged.ensures
+
+pub returns-then-byte-eq-FREE-clause-onward : goal.returns-then-byte-eq-FREE-clause-onward
+returns-then-byte-eq-FREE-clause-onward g c = c.in_ok-get_into.ensures.onward
+
+pub returns-clause-onward : goal.returns-clause-onward
+returns-clause-onward g c = g.met.R.Reads.further_onward _ _ _ c.in_ok-get_into.ensures.onward c.in_ok-held.ensures.onward

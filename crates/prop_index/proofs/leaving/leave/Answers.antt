@@ -21,7 +21,8 @@ use Rattle.prop_index.proofs.Changed.{left_in, none_wanted, unlisted_left}
 use Rattle.prop_index.proofs.Reread.{can_after, kept_after, same_records, same_then, room_after}
 use Rattle.prop_index.proofs.IndexTouches.{index_read, index_then}
 use Rattle.std.proofs.lemmas.Result.{err_from_is_err_and}
-use Rattle.rec_bytes.proofs.Causes.{never_ok}
+use Rattle.prop_store.proofs.Causes.{cause_after, cause_passed}
+use Rattle.rec_bytes.proofs.Causes.{never_ok, ok_cause}
 use Rattle.prop_index.proofs.leaving.leave.Goals as goal
 
 on_ok : {T E : Type 0} {P Q : Type 0} (r : Result T E) → (P → Q) → OnOk r P → OnOk r Q
@@ -264,3 +265,18 @@ returns-in_err-bucket-clause-gone g c _ _ _ _ _ _ _ = never_ok c.from_residual.r
 
 pub returns-in_err-bucket-clause-onward : goal.returns-in_err-bucket-clause-onward
 returns-in_err-bucket-clause-onward g c = search rules
+
+pub returns-in_err-bucket-clause-cause : goal.returns-in_err-bucket-clause-cause
+returns-in_err-bucket-clause-cause g c = cause_passed _ _ _ c.from_residual.result c.in_err-bucket.field-0.0 (omega arith) c.in_err-bucket.ensures.cause c.from_residual.ensures.1
+
+pub returns-in_default-clause-cause : goal.returns-in_default-clause-cause
+returns-in_default-clause-cause g c = ok_cause _ _ _ _ c.in_ok-bucket.ensures.cause.later
+
+pub returns-in_default-clause-onward : goal.returns-in_default-clause-onward
+returns-in_default-clause-onward g c = c.in_ok-bucket.ensures.onward
+
+pub returns-clause-cause : goal.returns-clause-cause
+returns-clause-cause g c = cause_after _ _ _ c.drop_entry.result c.in_ok-bucket.ensures.cause.later c.drop_entry.ensures.cause
+
+pub returns-clause-onward : goal.returns-clause-onward
+returns-clause-onward g c = g.met.S.Reads.further_onward _ _ _ c.in_ok-bucket.ensures.onward c.drop_entry.ensures.onward

@@ -1,4 +1,4 @@
-use Rattle.std.proofs.Common.{◌<◌, ◌^◌, ◌≡◌, ap, sym, ◌∙◌, subst, rules}
+use Rattle.std.proofs.Common.{◌<◌, ◌^◌, ◌≡◌, ap, sym, ◌∙◌, subst, rules, arith}
 use Rattle.rec_bytes.specs.declared.record.Rec.{Rec}
 use Rattle.rec_bytes.specs.Format as format
 use Rattle.rec_bytes.specs.Meta as metas
@@ -22,6 +22,8 @@ use Rattle.std.proofs.lemmas.Result.{err_from_is_err_and}
 use Rattle.prop_index.specs.Blaming.{TakeNamesIndexes}
 use Rattle.prop_index.specs.Touching.{front_ids}
 use Rattle.rec_bytes.proofs.Causes.{never_ok}
+use Rattle.prop_index.proofs.Causes.{space_take_cause, take_cause_passed, take_ok_cause}
+use Rattle.prop_store.proofs.Causes.{later_on}
 use Rattle.prop_index.proofs.linking.put_in_front.Goals as goal
 
 pub returns-clause-made : goal.returns-clause-made
@@ -165,3 +167,33 @@ returns-in_err-link-clause-key g c = never_ok c.from_residual-in_err-link.result
 
 pub returns-in_err-link-clause-touched : goal.returns-in_err-link-clause-touched
 returns-in_err-link-clause-touched g c = never_ok c.from_residual-in_err-link.result _ _ c.from_residual-in_err-link.ensures.1
+
+pub returns-in_err-id-clause-cause : goal.returns-in_err-id-clause-cause
+returns-in_err-id-clause-cause g c = take_cause_passed _ _ _ c.from_residual.result c.in_err-id.field-0.0 (omega arith) c.in_err-id.ensures.cause c.from_residual.ensures.1
+
+pub returns-in_err-link-clause-cause : goal.returns-in_err-link-clause-cause
+returns-in_err-link-clause-cause g c = space_take_cause _ _ _ c.from_residual-in_err-link.result c.in_err-link.field-0.0 c.in_ok-id.ensures.cause.later c.in_err-link.ensures.cause c.from_residual-in_err-link.ensures.1
+
+pub returns-in_err-link-clause-onward : goal.returns-in_err-link-clause-onward
+returns-in_err-link-clause-onward g c = g.met.S.Reads.further_onward _ _ _ c.in_ok-id.ensures.onward c.in_err-link.ensures.onward
+
+pub returns-clause-onward : goal.returns-clause-onward
+returns-clause-onward g c = g.met.S.Reads.further_onward _ _ _ c.in_ok-id.ensures.onward c.in_ok-link.ensures.onward
+
+pub returns-clause-key : goal.returns-clause-key
+returns-clause-key g c = c.in_ok-id.ensures.key
+
+pub returns-clause-cause : goal.returns-clause-cause
+returns-clause-cause g c = take_ok_cause _ _ _ (later_on c.in_ok-id.ensures.cause.later c.in_ok-link.ensures.cause.later)
+
+pub link-requires-clause-slot : goal.link-requires-clause-slot
+link-requires-clause-slot g c = c.requires.key
+
+pub link-requires-clause-place : goal.link-requires-clause-place
+link-requires-clause-place g c = c.requires.place
+
+pub link-requires-clause-first : goal.link-requires-clause-first
+link-requires-clause-first g c = c.requires.first
+
+pub link-requires-clause-id : goal.link-requires-clause-id
+link-requires-clause-id g c = c.in_ok-id.ensures.key

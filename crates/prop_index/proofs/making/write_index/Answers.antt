@@ -13,6 +13,7 @@ use Rattle.prop_index.specs.Entering.{IsNotFull}
 use Rattle.prop_index.proofs.Counting.{counts_left}
 use Rattle.prop_index.proofs.IndexBlames.{if_err, take_has}
 use Rattle.rec_bytes.proofs.Causes.{never_ok}
+use Rattle.prop_index.proofs.Causes.{take_cause_after, take_cause_passed}
 use Rattle.prop_index.proofs.making.write_index.Goals as goal
 
 on_ok : {T E : Type 0} {P Q : Type 0} (r : Result T E) → (P → Q) → OnOk r P → OnOk r Q
@@ -86,3 +87,12 @@ returns-clause-damaged g c tells =
     let m = g.S.Reads.state c.define.new.space in
     let kept = c.in_ok-definition.ensures.kept tells in
     if_err c.fill.result (λ fault why. blames_before s m format.index_file fault kept.keeps.harmless why) (c.fill.ensures.damaged tells kept.used)
+
+pub returns-in_err-definition-clause-cause : goal.returns-in_err-definition-clause-cause
+returns-in_err-definition-clause-cause g c = take_cause_passed _ _ _ c.from_residual.result c.in_err-definition.field-0.0 (omega arith) c.in_err-definition.ensures.cause c.from_residual.ensures.1
+
+pub returns-clause-cause : goal.returns-clause-cause
+returns-clause-cause g c = take_cause_after _ _ _ c.fill.result c.in_ok-definition.ensures.cause.later c.fill.ensures.cause
+
+pub returns-clause-onward : goal.returns-clause-onward
+returns-clause-onward g c = g.met.S.Reads.further_onward _ _ _ c.in_ok-definition.ensures.onward c.fill.ensures.onward
