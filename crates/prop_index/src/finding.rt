@@ -27,15 +27,16 @@ pub(crate) struct Definition {
     pub rec: Rec,
 }
 
-/// Finds the definition of a label and a key.
+/// Finds the definition of a label and a key, and reads it into the caller's record.
 pub(crate) fn find_definition<R: Reads>(
     space: &mut R,
     label: u32,
     key: u32,
-) -> Result<Option<Definition>, Fault>
+    rec: &mut Rec,
+) -> Result<Option<u32>, Fault>
     ensures found { R.tells → (ds : List ℕ) → AreDefinitions (R.state space.old).records ds
         → IfOk result (IsFound (R.state space.old).records ds label key) }
-    ensures defined { R.tells → IfOk result (IsDefined (R.state space.old).records label key) }
+    ensures defined { R.tells → IfOk result (IsDefined (R.state space.old).records label key rec.new) }
     ensures sound { R.tells → (ds : List ℕ) → AreDefinitions (R.state space.old).records ds
         → HasRoom (R.state space.old) index_file → NotDamaged result }
     ensures damaged { R.tells → IfErr result
@@ -47,8 +48,7 @@ pub(crate) fn find_definition<R: Reads>(
     ensures onward { R.onward space.old space.new }
     ensures cause { HasFaultCause (R.faults space.old) (R.faults space.new) result }
 {
-    let mut rec = Rec::ZEROS;
-    space.get_into(meta_key(INDEX), &mut rec)?;
+    space.get_into(meta_key(INDEX), rec)?;
     let mut named = Damage {
         file: META,
         id: INDEX as u32,
@@ -59,9 +59,9 @@ pub(crate) fn find_definition<R: Reads>(
         if at == NIL {
             return Ok(None);
         }
-        record_at(space, at, DEFINITION, named, &mut rec)?;
-        if is_of_pair(&rec, label, key) {
-            return Ok(Some(Definition { id: at, rec }));
+        record_at(space, at, DEFINITION, named, rec)?;
+        if is_of_pair(rec, label, key) {
+            return Ok(Some(at));
         }
         named = out_of_range(at);
         at = rec.number(DEFINITION_NEXT);

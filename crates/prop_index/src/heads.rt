@@ -120,9 +120,11 @@ pub(crate) fn find_bucket<R: Reads>(
     ensures onward { R.onward space.old space.new }
     ensures cause { HasFaultCause (R.faults space.old) (R.faults space.new) result }
 {
-    let Some(definition) = find_definition(space, label, key)? else {
+    let mut rec = Rec::ZEROS;
+    let Some(id) = find_definition(space, label, key, &mut rec)? else {
         return Ok(None);
     };
+    let definition = Definition { id, rec };
     let bucket = read_bucket(space, &definition, bucket_of(hash))?;
     Ok(Some(bucket))
 }

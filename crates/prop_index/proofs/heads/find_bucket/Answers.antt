@@ -13,6 +13,7 @@ use Rattle.prop_index.proofs.IndexBlames.{blames_before}
 use Rattle.prop_index.specs.Blaming.{NamesIndexes}
 use Rattle.prop_index.specs.Finding.{IsDefined, IsFound}
 use Rattle.prop_index.specs.Heads.{IsBucketOf}
+use Rattle.prop_index.specs.declared.finding.Definition.{Definition}
 use Rattle.prop_index.proofs.Reread.{definitions_of, room_after, same_records}
 use Rattle.prop_store.proofs.Causes.{cause_passed}
 use Rattle.rec_bytes.proofs.Causes.{never_ok, ok_cause}
@@ -21,19 +22,19 @@ use Rattle.prop_index.proofs.heads.find_bucket.Goals as goal
 pub returns-in_default-clause-found : goal.returns-in_default-clause-found
 returns-in_default-clause-found g c tells wanted ix =
     let s = g.R.Reads.state c.args.space.now in
-    subst (IsFound s.records ix.definitions c.args.label c.args.key) c.in_default.is (c.in_ok-definition.ensures.found tells ix.definitions (definitions_of s.records wanted ix))
+    subst (IsFound s.records ix.definitions c.args.label c.args.key) c.in_default.is (c.in_ok-id.ensures.found tells ix.definitions (definitions_of s.records wanted ix))
 
 pub returns-clause-found : goal.returns-clause-found
 returns-clause-found g c tells wanted ix =
     let s = g.R.Reads.state c.args.space.now in
     let now = g.R.Reads.state c.find_definition.new.space in
-    let records = same_records s now (reads_same 17 s now c.in_ok-definition.ensures.at_most) in
-    let definition = c.in-Some.definition in
-    let pair = subst (IsDefined s.records c.args.label c.args.key) c.in-Some.is (c.in_ok-definition.ensures.defined tells) in
+    let records = same_records s now (reads_same 17 s now c.in_ok-id.ensures.at_most) in
+    let definition : Definition = record { id = c.in-Some.id; rec = c.find_definition.new.rec } in
+    let pair = subst (IsDefined s.records c.args.label c.args.key c.find_definition.new.rec) c.in-Some.is (c.in_ok-id.ensures.defined tells) in
     let rec_is : definition.rec ≡ index_rec now.records definition.id = pair.rec_is ∙ ap (λ (r : Records). index_rec r definition.id) (sym records) in
     record {
       definition = definition.id;
-      listed = subst (IsFound s.records ix.definitions c.args.label c.args.key) c.in-Some.is (c.in_ok-definition.ensures.found tells ix.definitions (definitions_of s.records wanted ix));
+      listed = subst (IsFound s.records ix.definitions c.args.label c.args.key) c.in-Some.is (c.in_ok-id.ensures.found tells ix.definitions (definitions_of s.records wanted ix));
       pair = pair.pair;
       is = subst (λ (p : Records × ℕ). IsBucketOf p.0 definition.id p.1 c.in_ok-bucket.bucket) (λ i. (records i, c.bucket_of.ensures.is i)) (c.in_ok-bucket.ensures.is tells rec_is);
     }
@@ -42,11 +43,11 @@ pub returns-in_err-bucket-clause-sound : goal.returns-in_err-bucket-clause-sound
 returns-in_err-bucket-clause-sound g c tells wanted ix room =
     let s = g.R.Reads.state c.args.space.now in
     let now = g.R.Reads.state c.find_definition.new.space in
-    let same : SameButReads s now = reads_same 17 s now c.in_ok-definition.ensures.at_most in
+    let same : SameButReads s now = reads_same 17 s now c.in_ok-id.ensures.at_most in
     let records = same_records s now same in
-    let definition = c.in-Some.definition in
-    let pair = subst (IsDefined s.records c.args.label c.args.key) c.in-Some.is (c.in_ok-definition.ensures.defined tells) in
-    let listed : In definition.id ix.definitions = subst (IsFound s.records ix.definitions c.args.label c.args.key) c.in-Some.is (c.in_ok-definition.ensures.found tells ix.definitions (definitions_of s.records wanted ix)) in
+    let definition : Definition = record { id = c.in-Some.id; rec = c.find_definition.new.rec } in
+    let pair = subst (IsDefined s.records c.args.label c.args.key c.find_definition.new.rec) c.in-Some.is (c.in_ok-id.ensures.defined tells) in
+    let listed : In definition.id ix.definitions = subst (IsFound s.records ix.definitions c.args.label c.args.key) c.in-Some.is (c.in_ok-id.ensures.found tells ix.definitions (definitions_of s.records wanted ix)) in
     let low = c.bucket_of.ensures.low in
     let heads : kind_at now.records format.index_file (heads_of now.records definition.id (c.bucket_of.result / 15)) ≡ format.heads
     = ap (λ (r : Records). kind_at r format.index_file (heads_of r definition.id (c.bucket_of.result / 15))) records ∙ ix.heads definition.id (c.bucket_of.result / 15) listed (omega (arith, low)) in
@@ -54,52 +55,52 @@ returns-in_err-bucket-clause-sound g c tells wanted ix room =
     rw (p.1, p.2) (c.in_err-bucket.ensures.sound tells (pair.rec_is ∙ ap (λ (r : Records). index_rec r definition.id) (sym records)) (room_after s now format.index_file same room) heads)
 
 pub returns-in_err-bucket-clause-at_most : goal.returns-in_err-bucket-clause-at_most
-returns-in_err-bucket-clause-at_most g c = reads_then 17 1 18 _ _ _ (omega arith) c.in_ok-definition.ensures.at_most c.in_err-bucket.ensures.at_most
+returns-in_err-bucket-clause-at_most g c = reads_then 17 1 18 _ _ _ (omega arith) c.in_ok-id.ensures.at_most c.in_err-bucket.ensures.at_most
 
-pub returns-in_err-definition-clause-cost : goal.returns-in_err-definition-clause-cost
-returns-in_err-definition-clause-cost g c tells wanted ix =
+pub returns-in_err-id-clause-cost : goal.returns-in_err-id-clause-cost
+returns-in_err-id-clause-cost g c tells wanted ix =
     let s = g.R.Reads.state c.args.space.now in
-    reads_more (1 + length ix.definitions) (2 + length ix.definitions) _ _ (omega arith) (c.in_err-definition.ensures.cost tells ix.definitions (definitions_of s.records wanted ix))
+    reads_more (1 + length ix.definitions) (2 + length ix.definitions) _ _ (omega arith) (c.in_err-id.ensures.cost tells ix.definitions (definitions_of s.records wanted ix))
 
 pub returns-in_default-clause-cost : goal.returns-in_default-clause-cost
 returns-in_default-clause-cost g c tells wanted ix =
     let s = g.R.Reads.state c.args.space.now in
-    reads_more (1 + length ix.definitions) (2 + length ix.definitions) _ _ (omega arith) (c.in_ok-definition.ensures.cost tells ix.definitions (definitions_of s.records wanted ix))
+    reads_more (1 + length ix.definitions) (2 + length ix.definitions) _ _ (omega arith) (c.in_ok-id.ensures.cost tells ix.definitions (definitions_of s.records wanted ix))
 
 pub returns-in_err-bucket-clause-cost : goal.returns-in_err-bucket-clause-cost
 returns-in_err-bucket-clause-cost g c tells wanted ix =
     let s = g.R.Reads.state c.args.space.now in
-    reads_then (1 + length ix.definitions) 1 (2 + length ix.definitions) _ _ _ (omega arith) (c.in_ok-definition.ensures.cost tells ix.definitions (definitions_of s.records wanted ix)) c.in_err-bucket.ensures.at_most
+    reads_then (1 + length ix.definitions) 1 (2 + length ix.definitions) _ _ _ (omega arith) (c.in_ok-id.ensures.cost tells ix.definitions (definitions_of s.records wanted ix)) c.in_err-bucket.ensures.at_most
 
-pub returns-in_err-definition-clause-cost_of_none : goal.returns-in_err-definition-clause-cost_of_none
-returns-in_err-definition-clause-cost_of_none g c tells wanted ix others =
-    c.in_err-definition.ensures.cost tells ix.definitions (definitions_of (g.R.Reads.state c.args.space.now).records wanted ix)
+pub returns-in_err-id-clause-cost_of_none : goal.returns-in_err-id-clause-cost_of_none
+returns-in_err-id-clause-cost_of_none g c tells wanted ix others =
+    c.in_err-id.ensures.cost tells ix.definitions (definitions_of (g.R.Reads.state c.args.space.now).records wanted ix)
 
 pub returns-in_default-clause-cost_of_none : goal.returns-in_default-clause-cost_of_none
 returns-in_default-clause-cost_of_none g c tells wanted ix others =
-    c.in_ok-definition.ensures.cost tells ix.definitions (definitions_of (g.R.Reads.state c.args.space.now).records wanted ix)
+    c.in_ok-id.ensures.cost tells ix.definitions (definitions_of (g.R.Reads.state c.args.space.now).records wanted ix)
 
 pub returns-in_err-bucket-clause-cost_of_none : goal.returns-in_err-bucket-clause-cost_of_none
 returns-in_err-bucket-clause-cost_of_none g c tells wanted ix others =
     let s = g.R.Reads.state c.args.space.now in
-    let pair = subst (IsDefined s.records c.args.label c.args.key) c.in-Some.is (c.in_ok-definition.ensures.defined tells) in
-    let listed = subst (IsFound s.records ix.definitions c.args.label c.args.key) c.in-Some.is (c.in_ok-definition.ensures.found tells ix.definitions (definitions_of s.records wanted ix)) in
-    absurd (others c.in-Some.definition.id listed pair.pair)
+    let pair = subst (IsDefined s.records c.args.label c.args.key c.find_definition.new.rec) c.in-Some.is (c.in_ok-id.ensures.defined tells) in
+    let listed = subst (IsFound s.records ix.definitions c.args.label c.args.key) c.in-Some.is (c.in_ok-id.ensures.found tells ix.definitions (definitions_of s.records wanted ix)) in
+    absurd (others c.in-Some.id listed pair.pair)
 
 pub returns-clause-cost_of_none : goal.returns-clause-cost_of_none
 returns-clause-cost_of_none g c tells wanted ix others =
     let s = g.R.Reads.state c.args.space.now in
-    let pair = subst (IsDefined s.records c.args.label c.args.key) c.in-Some.is (c.in_ok-definition.ensures.defined tells) in
-    let listed = subst (IsFound s.records ix.definitions c.args.label c.args.key) c.in-Some.is (c.in_ok-definition.ensures.found tells ix.definitions (definitions_of s.records wanted ix)) in
-    absurd (others c.in-Some.definition.id listed pair.pair)
+    let pair = subst (IsDefined s.records c.args.label c.args.key c.find_definition.new.rec) c.in-Some.is (c.in_ok-id.ensures.defined tells) in
+    let listed = subst (IsFound s.records ix.definitions c.args.label c.args.key) c.in-Some.is (c.in_ok-id.ensures.found tells ix.definitions (definitions_of s.records wanted ix)) in
+    absurd (others c.in-Some.id listed pair.pair)
 
 pub returns-clause-cost : goal.returns-clause-cost
 returns-clause-cost g c tells wanted ix =
     let s = g.R.Reads.state c.args.space.now in
-    reads_then (1 + length ix.definitions) 1 (2 + length ix.definitions) _ _ _ (omega arith) (c.in_ok-definition.ensures.cost tells ix.definitions (definitions_of s.records wanted ix)) c.in_ok-bucket.ensures.at_most
+    reads_then (1 + length ix.definitions) 1 (2 + length ix.definitions) _ _ _ (omega arith) (c.in_ok-id.ensures.cost tells ix.definitions (definitions_of s.records wanted ix)) c.in_ok-bucket.ensures.at_most
 
 pub returns-clause-at_most : goal.returns-clause-at_most
-returns-clause-at_most g c = reads_then 17 1 18 _ _ _ (omega arith) c.in_ok-definition.ensures.at_most c.in_ok-bucket.ensures.at_most
+returns-clause-at_most g c = reads_then 17 1 18 _ _ _ (omega arith) c.in_ok-id.ensures.at_most c.in_ok-bucket.ensures.at_most
 
 pub returns-in_default-clause-met : goal.returns-in_default-clause-met
 returns-in_default-clause-met g c tells = tt
@@ -108,9 +109,9 @@ pub returns-clause-met : goal.returns-clause-met
 returns-clause-met g c tells =
     let s = g.R.Reads.state c.args.space.now in
     let now = g.R.Reads.state c.find_definition.new.space in
-    let records = same_records s now (reads_same 17 s now c.in_ok-definition.ensures.at_most) in
-    let definition = c.in-Some.definition in
-    let pair = subst (IsDefined s.records c.args.label c.args.key) c.in-Some.is (c.in_ok-definition.ensures.defined tells) in
+    let records = same_records s now (reads_same 17 s now c.in_ok-id.ensures.at_most) in
+    let definition : Definition = record { id = c.in-Some.id; rec = c.find_definition.new.rec } in
+    let pair = subst (IsDefined s.records c.args.label c.args.key c.find_definition.new.rec) c.in-Some.is (c.in_ok-id.ensures.defined tells) in
     let rec_is : definition.rec ≡ index_rec now.records definition.id = pair.rec_is ∙ ap (λ (r : Records). index_rec r definition.id) (sym records) in
     let is = subst (λ (p : Records × ℕ). IsBucketOf p.0 definition.id p.1 c.in_ok-bucket.bucket) (λ i. (records i, c.bucket_of.ensures.is i)) (c.in_ok-bucket.ensures.is tells rec_is) in
     let low = c.bucket_of.ensures.low in
@@ -125,64 +126,64 @@ returns-clause-met g c tells =
       is = is;
     }
 
-pub returns-in_err-definition-clause-damaged : goal.returns-in_err-definition-clause-damaged
-returns-in_err-definition-clause-damaged g c tells =
+pub returns-in_err-id-clause-damaged : goal.returns-in_err-id-clause-damaged
+returns-in_err-id-clause-damaged g c tells =
     let s = g.R.Reads.state c.args.space.now in
-    same_has (BlamesBroken s.records s.shape) c.from_residual.result c.in_err-definition.field-0.0 c.from_residual.ensures.1 (c.in_err-definition.ensures.damaged tells)
+    same_has (BlamesBroken s.records s.shape) c.from_residual.result c.in_err-id.field-0.0 c.from_residual.ensures.1 (c.in_err-id.ensures.damaged tells)
 
 pub returns-in_err-bucket-clause-damaged : goal.returns-in_err-bucket-clause-damaged
 returns-in_err-bucket-clause-damaged g c tells =
     let s = g.R.Reads.state c.args.space.now in
     let now = g.R.Reads.state c.find_definition.new.space in
-    let same : SameButReads s now = reads_same 17 s now c.in_ok-definition.ensures.at_most in
+    let same : SameButReads s now = reads_same 17 s now c.in_ok-id.ensures.at_most in
     let records = same_records s now same in
-    let definition = c.in-Some.definition in
-    let pair = subst (IsDefined s.records c.args.label c.args.key) c.in-Some.is (c.in_ok-definition.ensures.defined tells) in
+    let definition : Definition = record { id = c.in-Some.id; rec = c.find_definition.new.rec } in
+    let pair = subst (IsDefined s.records c.args.label c.args.key c.find_definition.new.rec) c.in-Some.is (c.in_ok-id.ensures.defined tells) in
     same_has (BlamesBroken s.records s.shape) c.from_residual-in_err-bucket.result c.in_err-bucket.field-0.0 c.from_residual-in_err-bucket.ensures.1
     (blames_before s now c.in_err-bucket.field-0.0 same (c.in_err-bucket.ensures.damaged tells (pair.rec_is ∙ ap (λ (r : Records). index_rec r definition.id) (sym records))
     (subst (λ (r : Records). LeadsToDefinition r definition.id) (sym records) pair.leads) (ap (λ (r : Records). kind_at r format.index_file definition.id) records ∙ pair.used)))
 
-pub returns-in_err-definition-clause-names : goal.returns-in_err-definition-clause-names
-returns-in_err-definition-clause-names g c tells = same_has NamesIndexes c.from_residual.result c.in_err-definition.field-0.0 c.from_residual.ensures.1 (c.in_err-definition.ensures.names tells)
+pub returns-in_err-id-clause-names : goal.returns-in_err-id-clause-names
+returns-in_err-id-clause-names g c tells = same_has NamesIndexes c.from_residual.result c.in_err-id.field-0.0 c.from_residual.ensures.1 (c.in_err-id.ensures.names tells)
 
 pub returns-in_err-bucket-clause-names : goal.returns-in_err-bucket-clause-names
 returns-in_err-bucket-clause-names g c tells = same_has NamesIndexes c.from_residual-in_err-bucket.result c.in_err-bucket.field-0.0 c.from_residual-in_err-bucket.ensures.1 (c.in_err-bucket.ensures.names tells)
 
 pub returns-in_default-clause-lacks : goal.returns-in_default-clause-lacks
 returns-in_default-clause-lacks g c tells =
-    subst (IsDefined (g.R.Reads.state c.args.space.now).records c.args.label c.args.key) c.in_default.is (c.in_ok-definition.ensures.defined tells)
+    subst (IsDefined (g.R.Reads.state c.args.space.now).records c.args.label c.args.key c.find_definition.new.rec) c.in_default.is (c.in_ok-id.ensures.defined tells)
 
 pub returns-in_err-bucket-clause-onward : goal.returns-in_err-bucket-clause-onward
 returns-in_err-bucket-clause-onward g c =
-    g.met.R.Reads.further_onward _ _ _ c.in_ok-definition.ensures.onward c.in_err-bucket.ensures.onward
+    g.met.R.Reads.further_onward _ _ _ c.in_ok-id.ensures.onward c.in_err-bucket.ensures.onward
 
 pub returns-clause-onward : goal.returns-clause-onward
 returns-clause-onward g c =
-    g.met.R.Reads.further_onward _ _ _ c.in_ok-definition.ensures.onward c.in_ok-bucket.ensures.onward
+    g.met.R.Reads.further_onward _ _ _ c.in_ok-id.ensures.onward c.in_ok-bucket.ensures.onward
 
 pub returns-in_err-bucket-clause-cause : goal.returns-in_err-bucket-clause-cause
 returns-in_err-bucket-clause-cause g c =
     cause_passed _ _ _ c.from_residual-in_err-bucket.result c.in_err-bucket.field-0.0
-    c.in_ok-definition.ensures.cause.later c.in_err-bucket.ensures.cause
+    c.in_ok-id.ensures.cause.later c.in_err-bucket.ensures.cause
     c.from_residual-in_err-bucket.ensures.1
 
-pub returns-in_err-definition-clause-found : goal.returns-in_err-definition-clause-found
-returns-in_err-definition-clause-found g c _ _ _ = never_ok c.from_residual.result _ _ c.from_residual.ensures.1
+pub returns-in_err-id-clause-found : goal.returns-in_err-id-clause-found
+returns-in_err-id-clause-found g c _ _ _ = never_ok c.from_residual.result _ _ c.from_residual.ensures.1
 
-pub returns-in_err-definition-clause-lacks : goal.returns-in_err-definition-clause-lacks
-returns-in_err-definition-clause-lacks g c _ = never_ok c.from_residual.result _ _ c.from_residual.ensures.1
+pub returns-in_err-id-clause-lacks : goal.returns-in_err-id-clause-lacks
+returns-in_err-id-clause-lacks g c _ = never_ok c.from_residual.result _ _ c.from_residual.ensures.1
 
-pub returns-in_err-definition-clause-met : goal.returns-in_err-definition-clause-met
-returns-in_err-definition-clause-met g c _ = never_ok c.from_residual.result _ _ c.from_residual.ensures.1
+pub returns-in_err-id-clause-met : goal.returns-in_err-id-clause-met
+returns-in_err-id-clause-met g c _ = never_ok c.from_residual.result _ _ c.from_residual.ensures.1
 
-pub returns-in_err-definition-clause-key : goal.returns-in_err-definition-clause-key
-returns-in_err-definition-clause-key g c = never_ok c.from_residual.result _ _ c.from_residual.ensures.1
+pub returns-in_err-id-clause-key : goal.returns-in_err-id-clause-key
+returns-in_err-id-clause-key g c = never_ok c.from_residual.result _ _ c.from_residual.ensures.1
 
-pub returns-in_err-definition-clause-place : goal.returns-in_err-definition-clause-place
-returns-in_err-definition-clause-place g c = never_ok c.from_residual.result _ _ c.from_residual.ensures.1
+pub returns-in_err-id-clause-place : goal.returns-in_err-id-clause-place
+returns-in_err-id-clause-place g c = never_ok c.from_residual.result _ _ c.from_residual.ensures.1
 
-pub returns-in_err-definition-clause-onward : goal.returns-in_err-definition-clause-onward
-returns-in_err-definition-clause-onward g c = search rules
+pub returns-in_err-id-clause-onward : goal.returns-in_err-id-clause-onward
+returns-in_err-id-clause-onward g c = search rules
 
 pub returns-in_err-bucket-clause-found : goal.returns-in_err-bucket-clause-found
 returns-in_err-bucket-clause-found g c _ _ _ = never_ok c.from_residual-in_err-bucket.result _ _ c.from_residual-in_err-bucket.ensures.1
@@ -202,17 +203,17 @@ returns-in_err-bucket-clause-place g c = never_ok c.from_residual-in_err-bucket.
 pub returns-clause-cause : goal.returns-clause-cause
 returns-clause-cause g c = ok_cause _ _ _ _ (omega arith)
 
-pub returns-in_err-definition-clause-cause : goal.returns-in_err-definition-clause-cause
-returns-in_err-definition-clause-cause g c = cause_passed _ _ _ c.from_residual.result c.in_err-definition.field-0.0 (omega arith) c.in_err-definition.ensures.cause c.from_residual.ensures.1
+pub returns-in_err-id-clause-cause : goal.returns-in_err-id-clause-cause
+returns-in_err-id-clause-cause g c = cause_passed _ _ _ c.from_residual.result c.in_err-id.field-0.0 (omega arith) c.in_err-id.ensures.cause c.from_residual.ensures.1
 
-pub returns-in_err-definition-clause-at_most : goal.returns-in_err-definition-clause-at_most
-returns-in_err-definition-clause-at_most g c = reads_more 17 18 _ _ (omega arith) c.in_err-definition.ensures.at_most
+pub returns-in_err-id-clause-at_most : goal.returns-in_err-id-clause-at_most
+returns-in_err-id-clause-at_most g c = reads_more 17 18 _ _ (omega arith) c.in_err-id.ensures.at_most
 
 pub returns-in_default-clause-at_most : goal.returns-in_default-clause-at_most
-returns-in_default-clause-at_most g c = reads_more 17 18 _ _ (omega arith) c.in_ok-definition.ensures.at_most
+returns-in_default-clause-at_most g c = reads_more 17 18 _ _ (omega arith) c.in_ok-id.ensures.at_most
 
 pub returns-in_default-clause-cause : goal.returns-in_default-clause-cause
-returns-in_default-clause-cause g c = ok_cause _ _ _ _ c.in_ok-definition.ensures.cause.later
+returns-in_default-clause-cause g c = ok_cause _ _ _ _ c.in_ok-id.ensures.cause.later
 
 pub returns-in_default-clause-onward : goal.returns-in_default-clause-onward
-returns-in_default-clause-onward g c = c.in_ok-definition.ensures.onward
+returns-in_default-clause-onward g c = c.in_ok-id.ensures.onward
