@@ -9,6 +9,7 @@ use Rattle.prop_index.specs.Blaming.{IsOfIndexes, NamesIndexes}
 use Rattle.prop_index.specs.Reading.{IsReadFault}
 use Rattle.prop_index.proofs.IndexBlames.{heads_blames, read_names}
 use Rattle.rec_bytes.proofs.Causes.{never_ok, ok_cause}
+use Rattle.prop_store.proofs.Causes.{cause_passed}
 use Rattle.prop_index.proofs.heads.read_bucket.Goals as goal
 
 pub returns-in_err-record_at-clause-damaged : goal.returns-in_err-record_at-clause-damaged
@@ -43,3 +44,15 @@ returns-in_err-record_at-clause-onward g c = search rules
 
 pub returns-clause-cause : goal.returns-clause-cause
 returns-clause-cause g c = ok_cause _ _ _ _ (omega arith)
+
+pub returns-in_err-record_at-clause-cause : goal.returns-in_err-record_at-clause-cause
+returns-in_err-record_at-clause-cause g c = cause_passed _ _ _ c.from_residual.result c.in_err-record_at.field-0.0 (omega arith) c.in_err-record_at.ensures.cause c.from_residual.ensures.1
+
+pub returns-in_err-record_at-clause-at_most : goal.returns-in_err-record_at-clause-at_most
+returns-in_err-record_at-clause-at_most g c = c.in_err-record_at.ensures.at_most
+
+pub returns-clause-at_most : goal.returns-clause-at_most
+returns-clause-at_most g c = c.in_ok-record_at.ensures.at_most
+
+pub returns-clause-onward : goal.returns-clause-onward
+returns-clause-onward g c = c.in_ok-record_at.ensures.onward

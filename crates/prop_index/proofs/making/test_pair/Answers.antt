@@ -9,6 +9,7 @@ use Rattle.std.proofs.lemmas.List.{length-map}
 use Rattle.prop_index.specs.Listing.{pair_of}
 use Rattle.prop_index.proofs.MakeFaults.{has_listed, lacks_listed, pair_exit}
 use Rattle.rec_bytes.proofs.Causes.{never_ok, ok_cause}
+use Rattle.prop_index.proofs.Causes.{make_cause_passed, make_other_cause}
 use Rattle.prop_index.proofs.making.test_pair.Goals as goal
 
 pub returns-in_err-pairs-clause-refused : goal.returns-in_err-pairs-clause-refused
@@ -79,3 +80,33 @@ returns-in_err-pairs-clause-onward g c = search rules
 
 pub returns-clause-cause : goal.returns-clause-cause
 returns-clause-cause g c = ok_cause _ _ _ _ (omega arith)
+
+pub returns-in_err-pairs-clause-cause : goal.returns-in_err-pairs-clause-cause
+returns-in_err-pairs-clause-cause g c = make_cause_passed _ _ _ c.from_residual.result c.in_err-pairs.field-0.0 (omega arith) c.in_err-pairs.ensures.cause c.from_residual.ensures.1
+
+pub returns-in_err-pairs-clause-reads : goal.returns-in_err-pairs-clause-reads
+returns-in_err-pairs-clause-reads g c = c.in_err-pairs.ensures.at_most
+
+pub returns-then-has_pair-clause-cause : goal.returns-then-has_pair-clause-cause
+returns-then-has_pair-clause-cause g c = make_other_cause _ _ _ c.in_ok-pairs.ensures.cause.later (λ e. absurd cc)
+
+pub returns-then-has_pair-clause-reads : goal.returns-then-has_pair-clause-reads
+returns-then-has_pair-clause-reads g c = c.in_ok-pairs.ensures.at_most
+
+pub returns-then-has_pair-clause-onward : goal.returns-then-has_pair-clause-onward
+returns-then-has_pair-clause-onward g c = c.in_ok-pairs.ensures.onward
+
+pub returns-then-len-clause-cause : goal.returns-then-len-clause-cause
+returns-then-len-clause-cause g c = make_other_cause _ _ _ c.in_ok-pairs.ensures.cause.later (λ e. absurd cc)
+
+pub returns-then-len-clause-reads : goal.returns-then-len-clause-reads
+returns-then-len-clause-reads g c = c.in_ok-pairs.ensures.at_most
+
+pub returns-then-len-clause-onward : goal.returns-then-len-clause-onward
+returns-then-len-clause-onward g c = c.in_ok-pairs.ensures.onward
+
+pub returns-clause-reads : goal.returns-clause-reads
+returns-clause-reads g c = c.in_ok-pairs.ensures.at_most
+
+pub returns-clause-onward : goal.returns-clause-onward
+returns-clause-onward g c = c.in_ok-pairs.ensures.onward

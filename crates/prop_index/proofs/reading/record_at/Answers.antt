@@ -1,4 +1,4 @@
-use Rattle.std.proofs.Common.{◌≡◌, ◌≢◌, ◌<◌, ◌≤◌, ℕ, sym, ap, ◌∙◌, subst, arith, rules}
+use Rattle.std.proofs.Common.{◌≡◌, ◌≢◌, ◌<◌, ◌≤◌, ℕ, sym, ap, ◌∙◌, subst, arith, rules, refl}
 use Rattle.rec_bytes.specs.declared.meta.Meta.{Meta}
 use Rattle.rec_bytes.specs.declared.record.Rec.{Rec}
 use Rattle.rec_bytes.specs.declared.shape.Shape.{Shape}
@@ -11,6 +11,9 @@ use Rattle.store_rules.proofs.ViewLaws.{kind_low}
 use Rattle.prop_store.proofs.ReadCounts.{reads_none, reads_one}
 use Rattle.prop_index.specs.Reading.{HighMark, IsReadFault, LeadsNowhere, OtherKind}
 use Rattle.rec_bytes.proofs.Causes.{never_ok, ok_cause}
+use Rattle.prop_store.proofs.Causes.{space_cause_passed}
+use Rattle.prop_store.proofs.Exits.{space_exit, space_has}
+use Rattle.prop_index.proofs.Causes.{told_cause}
 use Rattle.prop_index.proofs.reading.record_at.Goals as goal
 
 pub returns-then-id-meta-clause-damaged : goal.returns-then-id-meta-clause-damaged
@@ -65,3 +68,39 @@ returns-in_err-get_into-clause-onward g c = search rules
 
 pub returns-clause-cause : goal.returns-clause-cause
 returns-clause-cause g c = ok_cause _ _ _ _ (omega arith)
+
+pub returns-in_err-get_into-clause-cause : goal.returns-in_err-get_into-clause-cause
+returns-in_err-get_into-clause-cause g c = space_cause_passed _ _ _ c.from_residual.result c.in_err-get_into.field-0.0 (omega arith) c.in_err-get_into.ensures.cause c.from_residual.ensures.1
+
+pub returns-in_err-get_into-clause-damaged : goal.returns-in_err-get_into-clause-damaged
+returns-in_err-get_into-clause-damaged g c tells = space_has (IsReadFault (g.R.Reads.state c.args.space.now) c.args.id c.args.kind c.args.named) tt tt c.from_residual.result c.in_err-get_into.field-0.0 c.from_residual.ensures.1
+
+pub returns-in_err-get_into-clause-sound : goal.returns-in_err-get_into-clause-sound
+returns-in_err-get_into-clause-sound g c tells room used = space_exit c.from_residual.result c.in_err-get_into.field-0.0 c.from_residual.ensures.1
+
+pub returns-then-byte-kind-clause-onward : goal.returns-then-byte-kind-clause-onward
+returns-then-byte-kind-clause-onward g c = c.in_ok-get_into.ensures.onward
+
+pub returns-then-byte-kind-clause-cause : goal.returns-then-byte-kind-clause-cause
+returns-then-byte-kind-clause-cause g c = told_cause _ _ _ _ c.in_ok-get_into.ensures.cause.later c.damaged-then-byte-kind.ensures
+
+pub returns-then-id-meta-clause-cause : goal.returns-then-id-meta-clause-cause
+returns-then-id-meta-clause-cause g c = told_cause _ _ _ _ (omega arith) refl
+
+pub returns-then-id-meta-clause-onward : goal.returns-then-id-meta-clause-onward
+returns-then-id-meta-clause-onward g c = g.met.R.Reads.stays_onward _
+
+pub returns-then-id-room_of-clause-cause : goal.returns-then-id-room_of-clause-cause
+returns-then-id-room_of-clause-cause g c = told_cause _ _ _ _ (omega arith) c.damaged.ensures
+
+pub returns-then-id-room_of-clause-onward : goal.returns-then-id-room_of-clause-onward
+returns-then-id-room_of-clause-onward g c = g.met.R.Reads.stays_onward _
+
+pub returns-clause-got : goal.returns-clause-got
+returns-clause-got g c = c.in_ok-get_into.ensures.got
+
+pub returns-clause-state : goal.returns-clause-state
+returns-clause-state g c = c.in_ok-get_into.ensures.state
+
+pub returns-clause-onward : goal.returns-clause-onward
+returns-clause-onward g c = c.in_ok-get_into.ensures.onward

@@ -7,7 +7,7 @@ use Rattle.rec_bytes.specs.Space.{SameButReads}
 use Rattle.store_rules.specs.Properties.{Property}
 use Rattle.prop_store.specs.BlockList.{AreSmall}
 use Rattle.prop_store.specs.Fault.{BlamesBroken}
-use Rattle.prop_store.proofs.Causes.{space_cause_passed}
+use Rattle.prop_store.proofs.Causes.{cause_passed, space_cause_passed}
 use Rattle.prop_store.proofs.DropSteps.{all_dropped, held_given}
 use Rattle.prop_store.proofs.Exits.{same_has, space_exit, space_has, when_damaged}
 use Rattle.prop_store.proofs.ReadCounts.{reads_same}
@@ -170,3 +170,12 @@ returns-in_err-release_properties-clause-few_blocks g c = never_ok c.from_residu
 
 pub returns-in_err-release_properties-clause-touches : goal.returns-in_err-release_properties-clause-touches
 returns-in_err-release_properties-clause-touches g c = never_ok c.from_residual-in_err-release_properties.result _ _ c.from_residual-in_err-release_properties.ensures.1
+
+pub returns-in_err-held-clause-cause : goal.returns-in_err-held-clause-cause
+returns-in_err-held-clause-cause g c = cause_passed _ _ _ c.from_residual.result c.in_err-held.field-0.0 (omega arith) c.in_err-held.ensures.cause c.from_residual.ensures.1
+
+pub returns-in_err-held-clause-onward : goal.returns-in_err-held-clause-onward
+returns-in_err-held-clause-onward g c = c.in_err-held.ensures.onward
+
+pub find_held-requires-clause-owner : goal.find_held-requires-clause-owner
+find_held-requires-clause-owner g c = c.requires.owner
