@@ -1,5 +1,6 @@
 -- The two directions: the words that clap takes ask for something, and the words that do are taken.
-use Rattle.std.proofs.Common.{◌≡◌, ◌≢◌, ◌∙◌, ◌||◌, Bool, true, false, codes, inl, inr, refl, sym, ap, subst, List, [], ◌∷◌, Option, Some, None, ◌-◌, arith, drop, length, map, take}
+use Rattle.std.proofs.Common.{◌≡◌, ◌≢◌, ◌∙◌, ◌||◌, Bool, true, false, codes, inl, inr, refl, sym, ap, subst, List, []}
+use Rattle.std.proofs.Common.{◌∷◌, Option, Some, None, ◌-◌, arith, drop, length, map, take}
 use Rattle.std.specs.Prelude.{Err, IsErrOf, option_map}
 use Rattle.std.specs.List.{list_any}
 use Rattle.std.specs.Str.{bytes_eq}
@@ -241,12 +242,14 @@ module _ (words : List Text) (sub : Option (Text × List Row)) (t : IsTaken word
   pub sample_is_given : name_in sub ≡ Some (codes "sample") → SampleAnswers rows None → ⊥
   sample_is_given name_is answers =
       let sample = is_that samples name_is in
-      sample_is_read (codes "sample") 20000 (omega arith) s.rest (sample_from (codes "sample") 20000 s.rest s.lacks sample.2) (subst (λ (rows : List Row). SampleAnswers rows None) sample.0 answers)
+      sample_is_read (codes "sample") 20000 (omega arith) s.rest (sample_from (codes "sample") 20000 s.rest s.lacks sample.2)
+      (subst (λ (rows : List Row). SampleAnswers rows None) sample.0 answers)
 
   pub follow_is_given : name_in sub ≡ Some (codes "follow") → SampleAnswers rows None → ⊥
   follow_is_given name_is answers =
       let follow = is_that follows name_is in
-      sample_is_read (codes "follow") 2000 (omega arith) s.rest (sample_from (codes "follow") 2000 s.rest s.lacks follow.2) (subst (λ (rows : List Row). SampleAnswers rows None) follow.0 answers)
+      sample_is_read (codes "follow") 2000 (omega arith) s.rest (sample_from (codes "follow") 2000 s.rest s.lacks follow.2)
+      (subst (λ (rows : List Row). SampleAnswers rows None) follow.0 answers)
 
 pub same_error : (a b : WordsFault) → IsErrOf {T = Asked} (Err a) b → a ≡ b
 same_error a b e = cc

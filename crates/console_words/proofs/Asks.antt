@@ -1,5 +1,6 @@
 -- The uses of options that pass are what `AsksForRun` says, both ways.
-use Rattle.std.proofs.Common.{◌≡◌, ◌⊎◌, ◌∙◌, ◌<◌, ◌≤◌, ◌^◌, ℕ, Bool, true, false, codes, refl, sym, ap, subst, arith, inl, inr, List, [], ◌∷◌, ◌++◌, Option, Some, None, append-nil}
+use Rattle.std.proofs.Common.{◌≡◌, ◌⊎◌, ◌∙◌, ◌<◌, ◌≤◌, ◌^◌, ℕ, Bool, true, false, codes, refl, sym, ap, subst, arith}
+use Rattle.std.proofs.Common.{inl, inr, List, [], ◌∷◌, ◌++◌, Option, Some, None, append-nil}
 use Rattle.std.specs.Str.Parse.{digits_value, without_leading_plus}
 use Rattle.clap.specs.Lexer.{without_minus}
 use Rattle.clap.specs.Walk.{Row, Text, has_row, one_of}
@@ -21,7 +22,8 @@ dashed which = 45 ∷ 45 ∷ name_of which
 abbrev GivesOption : Bool → Option ℕ → List Text → Type 0
 GivesOption which n words = Gives (dashed which) (least_of which) (most_of which) n words
 
-written_as : (joined which : Bool) (text : Text) → (spelled joined which text ≡ dashed which ∷ text ∷ []) ⊎ (spelled joined which text ≡ (dashed which ++ codes "=" ++ text) ∷ [])
+written_as : (joined which : Bool) (text : Text) → (spelled joined which text ≡ dashed which ∷ text ∷ [])
+    ⊎ (spelled joined which text ≡ (dashed which ++ codes "=" ++ text) ∷ [])
 written_as true true text = inr refl
 written_as true false text = inr refl
 written_as false which text = inl refl
@@ -128,7 +130,8 @@ no_third true joined text false joined2 text2 false text3 f g = let first = g.is
 no_third false joined text true joined2 text2 true text3 f g = let first = g.is_first in cc
 no_third false joined text true joined2 text2 false text3 f g = let first = g.is_first in cc
 
-pub asks_for : (name : Text) (us : List Use) (asked : RunOptions) → AllPass us [] → RunAnswers (rows_after_uses us []) asked → AsksForRun (name ∷ codes "run" ∷ words_of us) asked
+pub asks_for : (name : Text) (us : List Use) (asked : RunOptions) → AllPass us [] → RunAnswers (rows_after_uses us []) asked
+    → AsksForRun (name ∷ codes "run" ∷ words_of us) asked
 asks_for name [] asked pass a = record {
   name = name;
   threshold_words = [];
@@ -152,7 +155,8 @@ bits_of false = 32
 -- the words of an option are no use of it, or one, and this is what the getter reads
 pub data Given (which : Bool) (n : Option ℕ) (words : List Text) : Type 0 where
   absent : n ≡ None → words ≡ [] → Given which n words
-  used_once : (joined : Bool) (text : Text) → IsOptionText which text → ReadsNumber (bits_of which) (Some (without_minus text)) n → words ≡ spelled joined which text → Given which n words
+  used_once : (joined : Bool) (text : Text) → IsOptionText which text → ReadsNumber (bits_of which) (Some (without_minus text)) n
+      → words ≡ spelled joined which text → Given which n words
 
 given_back : (which : Bool) (n : Option ℕ) (words : List Text) → GivesOption which n words → Given which n words
 given_back which None words h = absent refl h
@@ -166,7 +170,8 @@ given_back which (Some n) words h = go h.written
     small false t = let most = t.most in let fits = limit_fits in omega arith
 
     reads : ReadsNumber (bits_of which) (Some (without_minus h.text)) (Some n)
-    reads = subst (λ u. ReadsNumber (bits_of which) (Some u) (Some n)) (sym (without_minus-text h.text is_text)) ((h.number.number.0, small which is_text), sym h.number.number.1)
+    reads = subst (λ u. ReadsNumber (bits_of which) (Some u) (Some n)) (sym (without_minus-text h.text is_text))
+        ((h.number.number.0, small which is_text), sym h.number.number.1)
 
     go : (words ≡ dashed which ∷ h.text ∷ []) ⊎ (words ≡ (dashed which ++ codes "=" ++ h.text) ∷ []) → Given which (Some n) words
     go (inl apart) = used_once false h.text is_text reads apart
@@ -183,7 +188,8 @@ other : Bool → Bool
 other true = false
 other false = true
 
-second_first : (which : Bool) (joined : Bool) (text : Text) → has_row (name_of (other which)) (rows_after_uses (record { which = which; text = text; is_joined = joined } ∷ []) []) ≡ false
+second_first : (which : Bool) (joined : Bool) (text : Text) → has_row (name_of (other which))
+    (rows_after_uses (record { which = which; text = text; is_joined = joined } ∷ []) []) ≡ false
 unfolding other
 second_first true joined text = refl
 second_first false joined text = refl
@@ -257,6 +263,7 @@ asks_back words asked a = go a.are
     limit : Given false asked.limit a.limit_words
     limit = given_back false asked.limit a.limit_words a.limit
 
-    go : (words ≡ a.name ∷ codes "run" ∷ a.threshold_words ++ a.limit_words) ⊎ (words ≡ a.name ∷ codes "run" ∷ a.limit_words ++ a.threshold_words) → AsksBack asked words
+    go : (words ≡ a.name ∷ codes "run" ∷ a.threshold_words ++ a.limit_words) ⊎ (words ≡ a.name ∷ codes "run" ∷ a.limit_words ++ a.threshold_words)
+        → AsksBack asked words
     go (inl are) = record { name = a.name; rest = a.threshold_words ++ a.limit_words; words_are = are; passes = passing true asked a.threshold_words a.limit_words threshold limit }
     go (inr are) = record { name = a.name; rest = a.limit_words ++ a.threshold_words; words_are = are; passes = passing false asked a.limit_words a.threshold_words limit threshold }

@@ -1,13 +1,16 @@
 -- Where clap takes the program's words: those of `run`, of `sample` and of `follow`, and no others.
-use Rattle.std.proofs.Common.{◌≡◌, ◌∙◌, ◌||◌, Bool, true, false, cond, codes, refl, sym, ap, subst, List, [], ◌∷◌, ◌++◌, Option, Some, None, is_some, append_assoc, append-nil}
+use Rattle.std.proofs.Common.{◌≡◌, ◌∙◌, ◌||◌, Bool, true, false, cond, codes, refl, sym, ap, subst, List, [], ◌∷◌, ◌++◌}
+use Rattle.std.proofs.Common.{Option, Some, None, is_some, append_assoc, append-nil}
 use Rattle.std.specs.Prelude.{fold, option_map}
 use Rattle.std.specs.Str.{bytes_eq}
 use Rattle.std.proofs.lemmas.Slice.Eq.{bytes_eq-Decides}
 use Rattle.clap.specs.Lexer.{long_of}
 use Rattle.clap.specs.Kinds.{Kinds, or_else}
-use Rattle.clap.specs.Walk.{Held, Names, Row, Step, Text, Walk, finished, idle, long_or_other, nothing_held, settled, subcommand_or_other, trailing, walk, walk_from, walked}
+use Rattle.clap.specs.Walk.{Held, Names, Row, Step, Text, Walk, finished, idle, long_or_other, nothing_held, settled}
+use Rattle.clap.specs.Walk.{subcommand_or_other, trailing, walk, walk_from, walked}
 use Rattle.clap.specs.Simple.{App, Shape, built, entered, names_of, subcommand_of}
-use Rattle.clap.specs.Faults.{built_fault, check_fault, defaults_fault, entered_fault, flag_word_fault, level_fault, other_fault, settle_fault, step_fault, stray_fault, turn_fault, walk_fault}
+use Rattle.clap.specs.Faults.{built_fault, check_fault, defaults_fault, entered_fault, flag_word_fault, level_fault}
+use Rattle.clap.specs.Faults.{other_fault, settle_fault, step_fault, stray_fault, turn_fault, walk_fault}
 use Rattle.clap.proofs.FaultLemmas.{stopped_fault}
 use Rattle.console_words.specs.Command.{program_app}
 use Rattle.console_words.proofs.Turns.{escape, idle_at, leaf, options, or_else-both, or_else-first, or_else-second, plain_only}
@@ -41,7 +44,8 @@ leaf_of follows = sample_leaf (codes "follow") 2000
 
 -- ---- the walk stops at a subcommand
 
-stopped_walk : (w : Walk) (name : Text) (front ws : List Text) → fold (walked [] subcommands) (record w { stopped = Some (name, front) }) ws ≡ record w { stopped = Some (name, front ++ ws) }
+stopped_walk : (w : Walk) (name : Text) (front ws : List Text) → fold (walked [] subcommands) (record w { stopped = Some (name, front) }) ws ≡ record w
+    { stopped = Some (name, front ++ ws) }
 unfolding walked
 stopped_walk w name front [] = ap (λ t. record w { stopped = Some (name, t) }) (sym (append-nil front))
 stopped_walk w name front (x ∷ xs) = stopped_walk w name (front ++ x ∷ []) xs ∙ ap (λ t. record w { stopped = Some (name, t) }) (append_assoc front (x ∷ []) xs)
@@ -83,13 +87,15 @@ after_sub runs ws = refl
 after_sub samples ws = refl
 after_sub follows ws = refl
 
-pub sub_from : (which : Sub) (ws : List Text) → built_fault program nothing_held (sub_name which ∷ ws) ≡ [] → level_fault (leaf_of which) [] nothing_held ws false [] ≡ []
+pub sub_from : (which : Sub) (ws : List Text) → built_fault program nothing_held (sub_name which ∷ ws) ≡ []
+    → level_fault (leaf_of which) [] nothing_held ws false [] ≡ []
 sub_from which ws e =
     let first = walk_fault top subcommands (walk_from nothing_held) (sub_name which ∷ ws) in
     let level = level_fault (leaf_of which) [] nothing_held ws false [] in
     or_else-first level [] (or_else-second first (or_else level []) (sym (sub_fault which ws ∙ after_sub which ws) ∙ e))
 
-pub sub_back : (which : Sub) (ws : List Text) → level_fault (leaf_of which) [] nothing_held ws false [] ≡ [] → built_fault program nothing_held (sub_name which ∷ ws) ≡ []
+pub sub_back : (which : Sub) (ws : List Text) → level_fault (leaf_of which) [] nothing_held ws false [] ≡ []
+    → built_fault program nothing_held (sub_name which ∷ ws) ≡ []
 sub_back which ws e =
     let first = walk_fault top subcommands (walk_from nothing_held) (sub_name which ∷ ws) in
     let level = level_fault (leaf_of which) [] nothing_held ws false [] in
@@ -160,7 +166,8 @@ begins_sub (w ∷ ws) lacks e = go (bytes_eq (sub_name runs) w) (bytes_eq (sub_n
       words_are = ap (λ t. t ∷ ws) (sym ((bytes_eq-Decides (sub_name which) w).0 is));
     }
 
-    go : (run sample follow : Bool) → bytes_eq (sub_name runs) w ≡ run → bytes_eq (sub_name samples) w ≡ sample → bytes_eq (sub_name follows) w ≡ follow → BeginsSub (w ∷ ws)
+    go : (run sample follow : Bool) → bytes_eq (sub_name runs) w ≡ run → bytes_eq (sub_name samples) w ≡ sample → bytes_eq (sub_name follows) w ≡ follow
+        → BeginsSub (w ∷ ws)
     go true sample follow is is2 is3 = begins runs is
     go false true follow is is2 is3 = begins samples is2
     go false false true is is2 is3 = begins follows is3
@@ -173,7 +180,8 @@ sub_rows samples ws = rows_at_end (codes "sample") 20000 ws
 sub_rows follows ws = rows_at_end (codes "follow") 2000 ws
 
 -- what the program's words come to
-pub subcommand_at : (which : Sub) (name : Text) (ws : List Text) → subcommand_of program_app (name ∷ sub_name which ∷ ws) ≡ Some (sub_name which, sub_rows which ws)
+pub subcommand_at : (which : Sub) (name : Text) (ws : List Text) → subcommand_of program_app (name ∷ sub_name which ∷ ws) ≡ Some
+    (sub_name which, sub_rows which ws)
 subcommand_at runs name ws = ap (λ (w : Walk). entered program w.stopped) (walk_at_sub runs ws)
     ∙ ap (λ rows. Some (sub_name runs, rows)) (finished-rows (end_of (idle_at [] None) ws).held)
 subcommand_at samples name ws = ap (λ (w : Walk). entered program w.stopped) (walk_at_sub samples ws)

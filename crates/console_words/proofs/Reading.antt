@@ -6,7 +6,9 @@ use Rattle.console_words.proofs.Values.{IsPlainWord, number_is_plain, use_text}
 use Rattle.clap.specs.Kinds.{Kinds, or_else}
 use Rattle.clap.specs.Walk.{Held, Row, Text, Walk, finished, has_row, nothing_held, settled, used, walked, with_default}
 use Rattle.clap.specs.Faults.{check_fault, default_fault, defaults_fault, given_default_fault, level_fault, settle_fault, turn_fault, use_fault, walk_fault}
-use Rattle.console_words.proofs.Turns.{Begins, IsTurn, Joins, chosen, escape, held_at, idle_at, idle_turn, leaf, name_of, no_value, options, or_else-both, or_else-first, or_else-second, settle_fault-given, settled-given, settled_at, waiting_at, waiting_turn}
+use Rattle.console_words.proofs.Turns.{Begins, IsTurn, Joins, chosen, escape, held_at, idle_at, idle_turn, leaf}
+use Rattle.console_words.proofs.Turns.{name_of, no_value, options, or_else-both, or_else-first, or_else-second}
+use Rattle.console_words.proofs.Turns.{settle_fault-given, settled-given, settled_at, waiting_at, waiting_turn}
 
 -- one use of an option, with its text; joined is `--name=text`, and else the text is the next word
 pub record Use : Type 0 where
@@ -63,7 +65,8 @@ pub record Follows (rows : List Row) (which : Bool) (words : List Text) (end : W
   pub words_are : words ≡ value ∷ rest
   pub reads : Reads rows (Some (name_of which, value ∷ [])) rest end
 
-with_joined : (rows : List Row) (pending : Option (Text × List Text)) (word : Text) (next : Walk) (ws : List Text) (end : Walk) (j : Joins rows pending word next)
+with_joined : (rows : List Row) (pending : Option (Text × List Text)) (word : Text) (next : Walk) (ws : List Text) (end : Walk)
+    (j : Joins rows pending word next)
     → Reads (used (chosen j.which) (j.value ∷ []) (settled_at rows pending)) None ws end → Reads rows pending (word ∷ ws) end
 with_joined rows pending word next ws end j r = record {
   uses = record { which = j.which; text = j.value; is_joined = true } ∷ r.uses;
@@ -73,7 +76,8 @@ with_joined rows pending word next ws end j r = record {
   ends = r.ends;
 }
 
-with_value : (rows : List Row) (pending : Option (Text × List Text)) (word : Text) (next : Walk) (ws : List Text) (end : Walk) (b : Begins rows pending word next)
+with_value : (rows : List Row) (pending : Option (Text × List Text)) (word : Text) (next : Walk) (ws : List Text) (end : Walk)
+    (b : Begins rows pending word next)
     → Follows (settled_at rows pending) b.which ws end → Reads rows pending (word ∷ ws) end
 with_value rows pending word next ws end b f =
     let now = settled_at rows pending in
@@ -110,7 +114,8 @@ reads (w ∷ ws) lacks = (idle_case (reads ws lacks.1), waiting_case (reads ws l
         or_else-both more last (or_else-second turn more (or_else-first (or_else turn more) last e)) (or_else-second (or_else turn more) last e)
 
     waiting_case : ((rows : List Row) (pending : Option (Text × List Text)) → rest_fault (idle_at rows pending) ws ≡ [] → Reads rows pending ws (end_of (idle_at rows pending) ws))
-        → (rows : List Row) (which : Bool) → rest_fault (waiting_at rows which) (w ∷ ws) ≡ [] → Follows rows which (w ∷ ws) (end_of (waiting_at rows which) (w ∷ ws))
+        → (rows : List Row) (which : Bool) → rest_fault (waiting_at rows which) (w ∷ ws) ≡ []
+        → Follows rows which (w ∷ ws) (end_of (waiting_at rows which) (w ∷ ws))
     waiting_case more rows which e =
         let next = waiting_turn rows which w lacks.0 (turn_of (waiting_at rows which) e) in
         let rest = subst (λ (s : Walk). rest_fault s ws ≡ []) next (rest_of (waiting_at rows which) e) in
@@ -123,7 +128,8 @@ reads (w ∷ ws) lacks = (idle_case (reads ws lacks.1), waiting_case (reads ws l
 
     idle_case : ((rows : List Row) (pending : Option (Text × List Text)) → rest_fault (idle_at rows pending) ws ≡ [] → Reads rows pending ws (end_of (idle_at rows pending) ws))
         × ((rows : List Row) (which : Bool) → rest_fault (waiting_at rows which) ws ≡ [] → Follows rows which ws (end_of (waiting_at rows which) ws))
-        → (rows : List Row) (pending : Option (Text × List Text)) → rest_fault (idle_at rows pending) (w ∷ ws) ≡ [] → Reads rows pending (w ∷ ws) (end_of (idle_at rows pending) (w ∷ ws))
+        → (rows : List Row) (pending : Option (Text × List Text)) → rest_fault (idle_at rows pending) (w ∷ ws) ≡ []
+        → Reads rows pending (w ∷ ws) (end_of (idle_at rows pending) (w ∷ ws))
     idle_case more rows pending e = by (idle_turn rows pending w lacks.0 (turn_of (idle_at rows pending) e))
       where
         by : IsTurn rows pending w (walked options [] (idle_at rows pending) w) → Reads rows pending (w ∷ ws) (end_of (idle_at rows pending) (w ∷ ws))
@@ -165,7 +171,8 @@ value_turn : (which : Bool) (rows : List Row) (word : Text) → IsPlainWord word
 value_turn true rows word p = rw (p.other, p.no_long, p.no_short) refl
 value_turn false rows word p = rw (p.other, p.no_long, p.no_short) refl
 
-value_next : (which : Bool) (rows : List Row) (word : Text) → IsPlainWord word → walked options [] (waiting_at rows which) word ≡ idle_at rows (Some (name_of which, word ∷ []))
+value_next : (which : Bool) (rows : List Row) (word : Text) → IsPlainWord word
+    → walked options [] (waiting_at rows which) word ≡ idle_at rows (Some (name_of which, word ∷ []))
 unfolding walked
 value_next true rows word p = rw (p.other, p.no_long, p.no_short) refl
 value_next false rows word p = rw (p.other, p.no_long, p.no_short) refl
@@ -206,7 +213,8 @@ back (u ∷ us) rows pending settles pass = go u.is_joined (back us)
 -- uses that pass have no word `--`
 pub LacksEscape-words_of : (us : List Use) (rows : List Row) → AllPass us rows → LacksEscape (words_of us)
 LacksEscape-words_of [] rows pass = tt
-LacksEscape-words_of (u ∷ us) rows pass = go u.is_joined u.which (number_is_plain u.text (use_text u.which rows u.text pass.0)) (LacksEscape-words_of us (rows_after_use u rows) pass.1)
+LacksEscape-words_of (u ∷ us) rows pass = go u.is_joined u.which (number_is_plain u.text (use_text u.which rows u.text pass.0))
+    (LacksEscape-words_of us (rows_after_use u rows) pass.1)
   where
     go : (joined which : Bool) → IsPlainWord u.text → LacksEscape (words_of us) → LacksEscape (spelled joined which u.text ++ words_of us)
     go true true plain rest = (refl, rest)
@@ -225,7 +233,8 @@ unfolding defaults_fault
 no_defaults rows =
     let next = with_default rows (chosen true) in
     let last = or_else-both (default_fault next (chosen false)) [] (no_default (has_row (name_of false) next) (given_default_fault (chosen false) [])) refl in
-    or_else-both (default_fault rows (chosen true)) (or_else (default_fault next (chosen false)) []) (no_default (has_row (name_of true) rows) (given_default_fault (chosen true) [])) last
+    or_else-both (default_fault rows (chosen true)) (or_else (default_fault next (chosen false)) [])
+    (no_default (has_row (name_of true) rows) (given_default_fault (chosen true) [])) last
 
 module _ (ws : List Text) where
   abbrev last : Held

@@ -62,7 +62,8 @@ pub record SampleBack (word : Text) (most : ℕ) (words : List Text) : Type 0 wh
   pub lacks : LacksEscape rest
   pub level : level_fault (sample_leaf word most) [] nothing_held rest false [] ≡ []
 
-pub sample_asked : (word : Text) (most : ℕ) → most < 2 ^ 63 → (words : List Text) (options : SampleOptions) → AsksForLines word most words options → SampleBack word most words
+pub sample_asked : (word : Text) (most : ℕ) → most < 2 ^ 63 → (words : List Text) (options : SampleOptions) → AsksForLines word most words options
+    → SampleBack word most words
 sample_asked word most small words options a =
     let seed = number_given a.seed in
     let count = number_given a.count in
@@ -73,5 +74,6 @@ sample_asked word most small words options a =
       rest = a.seed_text ∷ a.count_text ∷ [];
       words_are = a.are;
       lacks = (seed_plain.other, (count_plain.other, tt));
-      level = sample_back word most a.seed_text a.count_text seed_plain count_plain (seed_back word most a.seed_text seed) (count_back word most a.seed_text a.count_text small count);
+      level = sample_back word most a.seed_text a.count_text seed_plain count_plain (seed_back word most a.seed_text seed)
+          (count_back word most a.seed_text a.count_text small count);
     }

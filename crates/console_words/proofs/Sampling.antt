@@ -7,7 +7,8 @@ use Rattle.clap.specs.Kinds.{Kinds, or_else}
 use Rattle.clap.specs.Lexer.{long_of}
 use Rattle.clap.specs.Values.{refused_kind}
 use Rattle.clap.specs.ValueTests.{accepts}
-use Rattle.clap.specs.Walk.{Held, Row, Rule, Step, Text, Walk, after_step, finished, idle, settled, long_or_other, nothing_held, trailing, used, value, walk_from, walked}
+use Rattle.clap.specs.Walk.{Held, Row, Rule, Step, Text, Walk, after_step, finished, idle, settled, long_or_other}
+use Rattle.clap.specs.Walk.{nothing_held, trailing, used, value, walk_from, walked}
 use Rattle.clap.specs.Simple.{Shape}
 use Rattle.clap.specs.Faults.{check_fault, defaults_fault, flag_word_fault, level_fault, settle_fault, step_fault, turn_fault, use_fault, walk_fault}
 use Rattle.clap.specs.declared.builder.value_parser.ValueParser.TheVariants as parsers
@@ -82,7 +83,8 @@ module _ (name : Text) (most : ℕ) where
     next_is : next ≡ after_value position rows pending word
 
   is_value : (position : ℕ) (rows : List Row) (pending : Option (Text × List Text)) (word : Text) → bytes_eq word escape ≡ false
-      → turn_fault sample_leaf [] (word_at position rows pending) word ≡ [] → IsValue position rows pending word (walked numbers [] (word_at position rows pending) word)
+      → turn_fault sample_leaf [] (word_at position rows pending) word ≡ []
+      → IsValue position rows pending word (walked numbers [] (word_at position rows pending) word)
   unfolding walked
   is_value position rows pending word other e = go (bytes_eq word escape) (long_of word) other e
     where

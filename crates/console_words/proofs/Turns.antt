@@ -1,14 +1,18 @@
 -- What clap's walk over the words of `run` comes to, word by word.
-use Rattle.std.proofs.Common.{◌≡◌, ◌⊎◌, ◌∙◌, ◌||◌, ℕ, Bool, true, false, cond, refl, sym, ap, subst, codes, List, [], ◌∷◌, ◌++◌, Option, Some, None, inl, inr, is_some, length, zero, suc}
+use Rattle.std.proofs.Common.{◌≡◌, ◌⊎◌, ◌∙◌, ◌||◌, ℕ, Bool, true, false, cond, refl, sym, ap, subst, codes, List, []}
+use Rattle.std.proofs.Common.{◌∷◌, ◌++◌, Option, Some, None, inl, inr, is_some, length, zero, suc}
 use Rattle.std.specs.Prelude.{slice_get}
 use Rattle.std.specs.Str.{bytes_eq, chars}
 use Rattle.std.specs.Option.{option_map_or}
 use Rattle.std.proofs.lemmas.Slice.Eq.{bytes_eq-Decides}
 use Rattle.clap.specs.Lexer.{long_of, short_of}
 use Rattle.clap.specs.Kinds.{Kinds, or_else}
-use Rattle.clap.specs.Walk.{Held, Row, Rule, Step, Text, Waiting, Walk, after_flag, after_step, arg_by_long, arg_by_short, bundle_met, bundle_step, idle, long_met, long_or_other, option, plain, plain_word, settled_rows, short_or_plain, trailing, takes_values, used, walk_from, walked}
+use Rattle.clap.specs.Walk.{Held, Row, Rule, Step, Text, Waiting, Walk, after_flag, after_step, arg_by_long}
+use Rattle.clap.specs.Walk.{arg_by_short, bundle_met, bundle_step, idle, long_met, long_or_other, option, plain}
+use Rattle.clap.specs.Walk.{plain_word, settled_rows, short_or_plain, trailing, takes_values, used, walk_from, walked}
 use Rattle.clap.specs.Simple.{Shape}
-use Rattle.clap.specs.Faults.{bundle_fault, bundle_step_fault, flag_word_fault, flags_fault, long_fault, option_fault, react_fault, settle_fault, short_fault, step_fault, stray_fault, turn_fault, use_fault}
+use Rattle.clap.specs.Faults.{bundle_fault, bundle_step_fault, flag_word_fault, flags_fault, long_fault, option_fault}
+use Rattle.clap.specs.Faults.{react_fault, settle_fault, short_fault, step_fault, stray_fault, turn_fault, use_fault}
 use Rattle.clap.specs.declared.error.kind.ErrorKind.TheVariants.{TooManyValues}
 use Rattle.console_words.specs.Command.{number_option, run_app}
 use Rattle.console_words.proofs.Spelling.{IsSpelled, long_of-spelled}
@@ -150,7 +154,8 @@ fault_by is_escape long w word = or_else (cond is_escape [] (flag_word_fault opt
 abbrev next_by : Bool → Option (Text × Option Text) → Walk → Text → Walk
 next_by is_escape long w word = after_step options word w (met_by is_escape long w word).0 (met_by is_escape long w word).1
 
-unknown_short : (c : List Rule) (found : Option Rule) (rest : Text) (h : Held) (next : Held → Kinds) → found ≡ None → short_fault c false found rest h next ≡ [] → ⊥
+unknown_short : (c : List Rule) (found : Option Rule) (rest : Text) (h : Held) (next : Held → Kinds) → found ≡ None → short_fault c false found rest h next ≡ []
+    → ⊥
 unknown_short c None rest h next n e = cc
 unknown_short c (Some a) rest h next n e = cc
 
@@ -158,7 +163,8 @@ unknown_short c (Some a) rest h next n e = cc
 abbrev pub LacksShorts : List Rule → Type 0
 LacksShorts c = (x : ℕ) → arg_by_short c x ≡ None
 
-no_bundle : (c : List Rule) → LacksShorts c → (k : ℕ) (flags : Text) (h : Held) → flags_fault c false k flags 0 h ≡ [] → bundle_met c k flags 0 plain h ≡ (h, plain)
+no_bundle : (c : List Rule) → LacksShorts c → (k : ℕ) (flags : Text) (h : Held) → flags_fault c false k flags 0 h ≡ []
+    → bundle_met c k flags 0 plain h ≡ (h, plain)
 unfolding flags_fault bundle_met
 no_bundle c lacks zero flags h e = refl
 no_bundle c lacks (suc k) flags h e = go (slice_get (chars flags) 0) e

@@ -1,5 +1,6 @@
 -- Words ask for one thing at most.
-use Rattle.std.proofs.Common.{◌≡◌, ◌∙◌, ◌<◌, ℕ, Bool, true, false, zero, suc, arith, codes, refl, sym, ap, ap₂, subst, List, [], ◌∷◌, ◌++◌, Option, Some, None, drop}
+use Rattle.std.proofs.Common.{◌≡◌, ◌∙◌, ◌<◌, ℕ, Bool, true, false, zero, suc, arith, codes, refl, sym, ap, ap₂, subst}
+use Rattle.std.proofs.Common.{List, [], ◌∷◌, ◌++◌, Option, Some, None, drop}
 use Rattle.std.specs.Str.Parse.{digits_value, without_leading_plus}
 use Rattle.clap.specs.Walk.{Row, Text, one_of}
 use Rattle.console_words.specs.Numbers.{ReadsNumber}
@@ -111,7 +112,8 @@ lines_one word most words a b p q =
     ap₂ (λ (m n : ℕ). record { seed = m; count = n }) seed count
 
 -- the word after the name is not `run`
-run_is_no_sample : (word : Text) (most : ℕ) → (byte_at 0 word ≡ 114 → ⊥) → (words : List Text) (a : RunOptions) (b : SampleOptions) → AsksForRun words a → AsksForLines word most words b → ⊥
+run_is_no_sample : (word : Text) (most : ℕ) → (byte_at 0 word ≡ 114 → ⊥) → (words : List Text) (a : RunOptions) (b : SampleOptions) → AsksForRun words a
+    → AsksForLines word most words b → ⊥
 unfolding byte_of byte_at
 run_is_no_sample word most other words a b p q =
     let run = asks_back words a p in

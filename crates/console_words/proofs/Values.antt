@@ -101,7 +101,8 @@ abbrev fault_by : Bool → Bool → Bool → Kinds
 fault_by which again fits = or_else (cond (again && true) (ArgumentConflict ∷ []) [])
     (or_else (cond fits [] (refused_kind (parsers.Signed (pos (least_of which)) (pos (most_of which))) ∷ [])) [])
 
-use_fault_is : (which : Bool) (rows : List Row) (text : Text) → use_fault false (chosen which) (text ∷ []) rows ≡ fault_by which (has_row (name_of which) rows) (takes_text which text)
+use_fault_is : (which : Bool) (rows : List Row) (text : Text) → use_fault false (chosen which) (text ∷ []) rows ≡ fault_by which (has_row (name_of which) rows)
+    (takes_text which text)
 use_fault_is true rows text = refl
 use_fault_is false rows text = refl
 
@@ -121,7 +122,9 @@ use_fits which rows text e = go (has_row (name_of which) rows) (takes_text which
 pub use_text : (which : Bool) (rows : List Row) (text : Text) → use_fault false (chosen which) (text ∷ []) rows ≡ [] → IsOptionText which text
 use_text which rows text e = (use_fits which rows text e).is_text
 
-pub use_from : (which : Bool) (rows : List Row) (text : Text) → has_row (name_of which) rows ≡ false → IsOptionText which text → use_fault false (chosen which) (text ∷ []) rows ≡ []
+pub use_from : (which : Bool) (rows : List Row) (text : Text) → has_row (name_of which) rows ≡ false → IsOptionText which text
+    → use_fault false (chosen which) (text ∷ []) rows ≡ []
 use_from which rows text first t =
-    let fits = Accepts-accepts false (parsers.Signed (pos (least_of which)) (pos (most_of which))) text (signed_back (least_of which) (most_of which) text (small which) t) in
+    let fits = Accepts-accepts false (parsers.Signed (pos (least_of which)) (pos (most_of which))) text
+    (signed_back (least_of which) (most_of which) text (small which) t) in
     use_fault_is which rows text ∙ (ap (λ b. fault_by which b (takes_text which text)) first ∙ ap (fault_by which false) fits)

@@ -1,5 +1,6 @@
 -- An identifier given back: one record less in use.
-use Rattle.std.proofs.Common.{get_or, None, ◌≡◌, ◌≢◌, ◌⊎◌, ℕ, ◌+◌, ◌<◌, ◌≤◌, ◌^◌, nat_lt, Bool, true, false, ◌&&◌, ◌||◌, Some, List, [], ◌∷◌, length, sym, ap, ◌∙◌, subst, inl, inr, ⊎_elim, arith, refl}
+use Rattle.std.proofs.Common.{get_or, None, ◌≡◌, ◌≢◌, ◌⊎◌, ℕ, ◌+◌, ◌<◌, ◌≤◌, ◌^◌, nat_lt, Bool, true, false, ◌&&◌, ◌||◌}
+use Rattle.std.proofs.Common.{Some, List, [], ◌∷◌, length, sym, ap, ◌∙◌, subst, inl, inr, ⊎_elim, arith, refl}
 use Rattle.std.specs.List.{list_any}
 use Rattle.std.specs.Prelude.{nat_le, cond}
 use Rattle.std.proofs.lemmas.Bool.{cases_lt, true≢false}
@@ -32,12 +33,14 @@ pub byte_of_zeros : (i : ℕ) → i < 64 → field 1 zeros i ≡ 0
 byte_of_zeros i lt = let z : get_or zeros.bytes i 0 ≡ 0 = get_or-replicate 64 i 0 0 lt in sym (byte-is zeros i (omega arith)) ∙ z
 
 free_byte : (next i : ℕ) → i < 64 → (i < 4) ⊎ (8 ≤ i) → field 1 (free_record next) i ≡ 0
-free_byte next i lt out = field-with_field_other 4 zeros format.free_next next 1 i (omega arith) (⊎_elim (λ h. inr (omega arith)) (λ h. inl (omega arith)) out) ∙ byte_of_zeros i lt
+free_byte next i lt out = field-with_field_other 4 zeros format.free_next next 1 i (omega arith) (⊎_elim (λ h. inr (omega arith)) (λ h. inl (omega arith)) out)
+    ∙ byte_of_zeros i lt
 
 pub free_is_free : (next : ℕ) → field 1 (free_record next) format.kind ≡ format.free_kind
 free_is_free next = free_byte next 0 (omega arith) (inl (omega arith))
 
-pub free_fits_file : (marks : ℕ → ℕ) (file next : ℕ) → is_reused file ≡ true → next < 2 ^ 32 → (next ≡ format.nil) ⊎ (next < marks file) → Fits marks file (free_record next)
+pub free_fits_file : (marks : ℕ → ℕ) (file next : ℕ) → is_reused file ≡ true → next < 2 ^ 32 → (next ≡ format.nil) ⊎ (next < marks file)
+    → Fits marks file (free_record next)
 free_fits_file marks file next is small low = record {
   layout = free_table;
   is = ap (layout_by file (free_record next)) (free_is_free next) ∙ of_file (is_reused file) is;
@@ -70,7 +73,8 @@ free_fits_file marks file next is small low = record {
 pub not_free_id : (s : Records) (file id : ℕ) (free : List ℕ) → IsSplit s file (is_live s file) free → kind_at s file id ≢ format.free_kind → In id free → ⊥
 not_free_id s file id free split used i = true≢false (sym (live_true (kind_at s file id) used) ∙ split.only id i)
 
-module _ (s t : Records) (shape : Shape) (file id : ℕ) (free : List ℕ) (is_file : is_reused file ≡ true) (split : IsSplit s file (is_live s file) free) (used : kind_at s file id ≢ format.free_kind)
+module _ (s t : Records) (shape : Shape) (file id : ℕ) (free : List ℕ) (is_file : is_reused file ≡ true) (split : IsSplit s file (is_live s file) free)
+    (used : kind_at s file id ≢ format.free_kind)
     (given : HasGiven s t file id free) (room : room_of shape file < 2 ^ 32) (range : IsMetaInRange shape file (s (meta_key_of file))) where
   id_low : id < high s file
   id_low = kind_below (high s file) (rec_at s file id) id used
@@ -90,17 +94,20 @@ module _ (s t : Records) (shape : Shape) (file id : ℕ) (free : List ℕ) (is_f
   }
 
   gone : kind_at t file id ≡ format.free_kind
-  gone = let m = given.mark in let l = id_low in kind_low (high t file) (rec_at t file id) id (omega arith) ∙ ap (λ r. field 1 r format.kind) given.here ∙ free_is_free (meta_in s file).free
+  gone = let m = given.mark in let l = id_low in kind_low (high t file) (rec_at t file id) id (omega arith) ∙ ap (λ r. field 1 r format.kind) given.here
+      ∙ free_is_free (meta_in s file).free
 
   split_gone : IsSplit t file (is_live t file) (id ∷ free)
   split_gone = record {
     walk = given.list;
     low = λ x i. let m = given.mark in ⊎_elim (λ (e : x ≡ id). let l = id_low in omega arith) (λ j. let b = split.low x j in omega arith) i;
-    only = λ x i. ⊎_elim (λ (e : x ≡ id). ap (is_live t file) e ∙ live_false (kind_at t file id) gone) (λ j. live_other s t file id change x (λ e. not_free (subst (λ z. In z free) e j)) ∙ split.only x j) i;
+    only = λ x i. ⊎_elim (λ (e : x ≡ id). ap (is_live t file) e ∙ live_false (kind_at t file id) gone)
+        (λ j. live_other s t file id change x (λ e. not_free (subst (λ z. In z free) e j)) ∙ split.only x j) i;
     all = λ x lt out. ⊎_elim (λ (e : x ≡ id). inl e) (λ (ne : x ≢ id). inr (split.all x (let m = given.mark in omega arith) (sym (live_other s t file id change x ne) ∙ out))) (nat_cases x id);
     exact =
         let more : length (ids (is_live s file) (high s file)) ≡ length (ids (is_live t file) (high s file)) + 1
-        = ids_with (is_live t file) (is_live s file) (high s file) (high s file) id (live_false (kind_at t file id) gone) live_old (λ x ne. sym (live_other s t file id change x ne)) id_low (inl refl) in
+        = ids_with (is_live t file) (is_live s file) (high s file) (high s file) id (live_false (kind_at t file id) gone) live_old
+        (λ x ne. sym (live_other s t file id change x ne)) id_low (inl refl) in
         let e = split.exact in
         let l = given.live in
         let here : (meta_in t file).live ≡ length (ids (is_live t file) (high s file)) = omega arith in

@@ -1,5 +1,6 @@
 -- What is wrong with a free list after a change was wrong with it before.
-use Rattle.std.proofs.Common.{◌≡◌, ◌≢◌, ◌⊎◌, ℕ, ◌+◌, ◌-◌, ◌<◌, Bool, false, cond, None, Some, List, [], ◌∷◌, sym, ap, ◌∙◌, subst, inl, inr, ⊎_elim, arith, refl, length}
+use Rattle.std.proofs.Common.{◌≡◌, ◌≢◌, ◌⊎◌, ℕ, ◌+◌, ◌-◌, ◌<◌, Bool, false, cond, None, Some, List, [], ◌∷◌, sym, ap}
+use Rattle.std.proofs.Common.{◌∙◌, subst, inl, inr, ⊎_elim, arith, refl, length}
 use Rattle.std.proofs.lemmas.Bool.{true≢false}
 use Rattle.rec_bytes.specs.declared.damage.Damage.{Damage}
 use Rattle.rec_bytes.specs.declared.meta.Meta.{Meta}
@@ -54,14 +55,16 @@ module _ (s t : Records) (shape : Shape) (file id : ℕ) (k : IsTakenUp s t shap
   below : id < high t file
   below = kind_below (high t file) (rec_at t file id) id k.used
 
-  counted : (n : ℕ) → (meta_in s file).live ≡ length (ids (is_live s file) (high s file)) → (high t file ≡ high s file) ⊎ ((id ≡ high s file) × (high t file ≡ high s file + 1)) → (meta_in t file).live ≡ length (ids (is_live t file) (high t file))
+  counted : (n : ℕ) → (meta_in s file).live ≡ length (ids (is_live s file) (high s file)) → (high t file ≡ high s file)
+      ⊎ ((id ≡ high s file) × (high t file ≡ high s file + 1)) → (meta_in t file).live ≡ length (ids (is_live t file) (high t file))
   counted n exact way = k.live ∙ ap (λ n. n + 1) exact
       ∙ sym (ids_with (is_live s file) (is_live t file) (high s file) (high t file) id (live_false (kind_at s file id) k.fresh) (live_true (kind_at t file id) k.used) (live_other s t file id k.change) below way)
 
   list_taken : HasFreeList s file → HasFreeList t file
   list_taken h = ⊎_elim (first h.members h.list.walk h.list.low h.list.only) (mark h.members h.list.walk) k.way
     where
-      first : (xs : List ℕ) → IsWalk (next_free s file) (meta_in s file).free xs → ((x : ℕ) → In x xs → x < high s file) → ((x : ℕ) → In x xs → is_live s file x ≡ false) → IsFirstFree s t file id → HasFreeList t file
+      first : (xs : List ℕ) → IsWalk (next_free s file) (meta_in s file).free xs → ((x : ℕ) → In x xs → x < high s file)
+          → ((x : ℕ) → In x xs → is_live s file x ≡ false) → IsFirstFree s t file id → HasFreeList t file
       first [] walk low only w = absurd (w.some walk)
       first (y ∷ later) walk low only w =
           let same : id ≡ y = w.is ∙ walk.0 in
@@ -69,7 +72,8 @@ module _ (s t : Records) (shape : Shape) (file id : ℕ) (k : IsTakenUp s t shap
           record {
             members = later;
             list = record {
-              walk = subst (λ f. IsWalk (next_free t file) f later) (sym (w.next ∙ ap (next_free s file) same)) (walk_stays (next_free s file) (next_free t file) (next_free s file y) later (λ x i. link_stays x (out x i)) walk.2);
+              walk = subst (λ f. IsWalk (next_free t file) f later) (sym (w.next ∙ ap (next_free s file) same))
+                  (walk_stays (next_free s file) (next_free t file) (next_free s file y) later (λ x i. link_stays x (out x i)) walk.2);
               low = λ x i. let lt = low x (inr i) in let m = w.mark in omega arith;
               only = λ x i. live_other s t file id k.change x (out x i) ∙ only x (inr i);
             };
@@ -81,7 +85,8 @@ module _ (s t : Records) (shape : Shape) (file id : ℕ) (k : IsTakenUp s t shap
       mark [] walk w = record { members = []; list = record { walk = w.still; low = λ x i. elim i [ ]; only = λ x i. elim i [ ] }; exact = counted 0 h.exact (inr (w.is, w.mark)) }
 
   reached_taken : (x : ℕ) → IsReached s file x → (x ≡ id) ⊎ IsReached t file x
-  reached_taken _ First = ⊎_elim (λ (w : IsFirstFree s t file id). inl (sym w.is)) (λ (w : IsFreshMark s t file id). inr (subst (IsReached t file) (w.still ∙ sym w.none) First)) k.way
+  reached_taken _ First = ⊎_elim (λ (w : IsFirstFree s t file id). inl (sym w.is))
+      (λ (w : IsFreshMark s t file id). inr (subst (IsReached t file) (w.still ∙ sym w.none) First)) k.way
   reached_taken _ (Next p r u) = ⊎_elim
       (λ (e : p ≡ id). ⊎_elim
       (λ (w : IsFirstFree s t file id). inr (subst (IsReached t file) (w.next ∙ ap (next_free s file) (sym e)) First))
@@ -127,17 +132,20 @@ module _ (s t : Records) (shape : Shape) (file id : ℕ) (k : IsGivenBack s t fi
 
   list_given : HasFreeList s file → HasFreeList t file
   list_given h =
-      let out : (x : ℕ) → In x h.members → x ≢ id = λ x i e. true≢false (sym (live_true (kind_at s file id) k.used) ∙ ap (is_live s file) (sym e) ∙ h.list.only x i) in
+      let out : (x : ℕ) → In x h.members → x ≢ id = λ x i e. true≢false
+      (sym (live_true (kind_at s file id) k.used) ∙ ap (is_live s file) (sym e) ∙ h.list.only x i) in
       record {
         members = id ∷ h.members;
         list = record {
           walk = (k.first, k.some, subst (λ f. IsWalk (next_free t file) f h.members) (sym k.next) (walk_stays (next_free s file) (next_free t file) (meta_in s file).free h.members (λ x i. link_kept x (out x i)) h.list.walk));
           low = λ x i. let m = k.mark in ⊎_elim (λ (e : x ≡ id). let l = given_low in omega arith) (λ j. let l = h.list.low x j in omega arith) i;
-          only = λ x i. ⊎_elim (λ (e : x ≡ id). ap (is_live t file) e ∙ live_false (kind_at t file id) k.gone) (λ j. live_other s t file id k.change x (out x j) ∙ h.list.only x j) i;
+          only = λ x i. ⊎_elim (λ (e : x ≡ id). ap (is_live t file) e ∙ live_false (kind_at t file id) k.gone)
+              (λ j. live_other s t file id k.change x (out x j) ∙ h.list.only x j) i;
         };
         exact =
             let more : length (ids (is_live s file) (high s file)) ≡ length (ids (is_live t file) (high s file)) + 1
-            = ids_with (is_live t file) (is_live s file) (high s file) (high s file) id (live_false (kind_at t file id) k.gone) (live_true (kind_at s file id) k.used) (λ x ne. sym (live_other s t file id k.change x ne)) given_low (inl refl) in
+            = ids_with (is_live t file) (is_live s file) (high s file) (high s file) id (live_false (kind_at t file id) k.gone)
+            (live_true (kind_at s file id) k.used) (λ x ne. sym (live_other s t file id k.change x ne)) given_low (inl refl) in
             let e = h.exact in
             let l = k.live in
             let here : (meta_in t file).live ≡ length (ids (is_live t file) (high s file)) = omega arith in
@@ -168,7 +176,9 @@ module _ (s t : Records) (shape : Shape) (file id : ℕ) (k : IsGivenBack s t fi
       BadLink x (unused_but x ne u) (λ n. some (link_kept x ne ∙ n)) (let e = link_kept x ne in let m = k.mark in omega arith)
     where
       by : x ≡ id → ⊥
-      by e = let next : next_free t file x ≡ (meta_in s file).free = ap (next_free t file) e ∙ k.next in ⊎_elim (λ (n : (meta_in s file).free ≡ format.nil). some (next ∙ n)) (λ (lt : (meta_in s file).free < high s file). let m = k.mark in omega arith) k.link
+      by e = let next : next_free t file x ≡ (meta_in s file).free = ap (next_free t file) e
+          ∙ k.next in ⊎_elim (λ (n : (meta_in s file).free ≡ format.nil). some (next ∙ n))
+          (λ (lt : (meta_in s file).free < high s file). let m = k.mark in omega arith) k.link
 
 -- ---- other changes
 
@@ -189,7 +199,8 @@ module _ (s t : Records) (shape : Shape) (file : ℕ) (k : HasSameList s t file)
   unused_then x u = record { low = let l = u.low in let m = high_same in omega arith; free = not_live (kind_at s file x) (sym (k.live x) ∙ live_false (kind_at t file x) u.free) }
 
   alike : ids (is_live t file) (high s file) ≡ ids (is_live s file) (high s file)
-  alike = collect_same (λ (e : ℕ). e) (if_test (is_live s file)) (if_test (is_live t file)) (high s file) (λ x _. ap (λ (b : Bool). cond b (Some x) None) (k.live x))
+  alike = collect_same (λ (e : ℕ). e) (if_test (is_live s file)) (if_test (is_live t file)) (high s file)
+      (λ x _. ap (λ (b : Bool). cond b (Some x) None) (k.live x))
 
   list_kept : HasFreeList s file → HasFreeList t file
   list_kept h = record {

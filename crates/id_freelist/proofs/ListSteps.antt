@@ -66,19 +66,24 @@ meta-free_taken s file counted =
     mark (field-lt 4 (rec_at s.records file (meta_of s file).free) format.free_next) (omega (arith, mark, counted))
 
 -- the identifier was taken of a list that no take blames
-module _ (s a t : State) (file id : ℕ) (is_file : is_meta_file file ≡ true) (now : a ≡ taken s file) (is : id ≡ taken_id (meta_of s file)) (right : IsUndamaged s file)
+module _ (s a t : State) (file id : ℕ) (is_file : is_meta_file file ≡ true) (now : a ≡ taken s file) (is : id ≡ taken_id (meta_of s file))
+    (right : IsUndamaged s file)
     (fresh : kind_at s.records file id ≡ format.free_kind) (few : id < format.most_ids) (small : id < room_of s.shape file)
-    (shape : t.shape ≡ s.shape) (others : (key : Key) → key ≢ key_in file id → t.records key ≡ a.records key) (used : field 1 (rec_at t.records file id) format.kind ≢ format.free_kind) where
+    (shape : t.shape ≡ s.shape) (others : (key : Key) → key ≢ key_in file id → t.records key ≡ a.records key)
+    (used : field 1 (rec_at t.records file id) format.kind ≢ format.free_kind) where
   meta_then : meta_of t file ≡ meta_of a file
   meta_then = ap metas.meta_of (others (meta_key_of file) (λ e. not_meta_key file id file is_file (sym e)))
 
   mark_fits : (meta_of s file).high ≤ room_of s.shape file
-  mark_fits = ⊎_elim (λ (lt : room_of s.shape file < (meta_of s file).high). absurd (right _ (Unranged (λ r. let le = r.mark in omega arith)))) (λ (le : (meta_of s file).high ≤ room_of s.shape file). le) (cases_lt (room_of s.shape file) (meta_of s file).high)
+  mark_fits = ⊎_elim (λ (lt : room_of s.shape file < (meta_of s file).high). absurd (right _ (Unranged (λ r. let le = r.mark in omega arith))))
+      (λ (le : (meta_of s file).high ≤ room_of s.shape file). le) (cases_lt (room_of s.shape file) (meta_of s file).high)
 
   never_over : (meta_of s file).live ≤ (meta_of s file).high
-  never_over = ⊎_elim (λ (over : (meta_of s file).high < (meta_of s file).live). absurd (right _ (Overcounted (omega (arith, over)) (λ e. over)))) (λ (le : (meta_of s file).live ≤ (meta_of s file).high). le) (cases_lt (meta_of s file).high (meta_of s file).live)
+  never_over = ⊎_elim (λ (over : (meta_of s file).high < (meta_of s file).live). absurd (right _ (Overcounted (omega (arith, over)) (λ e. over))))
+      (λ (le : (meta_of s file).live ≤ (meta_of s file).high). le) (cases_lt (meta_of s file).high (meta_of s file).live)
 
-  change_by : (high s.records file ≤ high t.records file) → ((x : ℕ) → x < high t.records file → x ≢ id → x < high s.records file) → IsChanged s.records t.records file id
+  change_by : (high s.records file ≤ high t.records file) → ((x : ℕ) → x < high t.records file → x ≢ id → x < high s.records file)
+      → IsChanged s.records t.records file id
   change_by more covers = record {
     is_file = is_file;
     others = λ key other ne. others key ne ∙ ap (λ (z : State). z.records key) now ∙ records-taken s file key other;
@@ -94,7 +99,8 @@ module _ (s a t : State) (file id : ℕ) (is_file : is_meta_file file ≡ true) 
       let m : Meta = meta_of s file in
       let id_is : id ≡ m.high = is ∙ ap (λ b. cond b m.high m.free) (eq_true m.free format.nil none) in
       let meta : meta_of t file ≡ record { high = m.high + 1; free = format.nil; live = m.live + 1 }
-      = meta_then ∙ ap (λ (z : State). meta_of z file) now ∙ ap (λ b. meta_of (cond b (mark_taken s file) (free_taken s file)) file) (eq_true m.free format.nil none) ∙ meta-mark_taken s file (omega arith) never_over in
+      = meta_then ∙ ap (λ (z : State). meta_of z file) now ∙ ap (λ b. meta_of (cond b (mark_taken s file) (free_taken s file)) file)
+      (eq_true m.free format.nil none) ∙ meta-mark_taken s file (omega arith) never_over in
       let mark : high t.records file ≡ high s.records file + 1 = ap (λ (q : Meta). q.high) meta in
       let free : (meta_of t file).free ≡ format.nil = ap (λ (q : Meta). q.free) meta in
       record {
@@ -113,14 +119,16 @@ module _ (s a t : State) (file id : ℕ) (is_file : is_meta_file file ≡ true) 
       let counted : m.live < m.high = ⊎_elim
       (λ (lt : m.live < m.high). lt) (λ (le : m.high ≤ m.live). absurd (right _ (Overcounted le (λ e. absurd (some e))))) (cases_lt m.live m.high) in
       let low : m.free < m.high = ⊎_elim
-      (λ (lt : m.free < m.high). lt) (λ (le : m.high ≤ m.free). absurd (right _ (Unranged (λ r. ⊎_elim some (λ (lt : m.free < m.high). omega arith) r.first)))) (cases_lt m.free m.high) in
+      (λ (lt : m.free < m.high). lt) (λ (le : m.high ≤ m.free). absurd (right _ (Unranged (λ r. ⊎_elim some (λ (lt : m.free < m.high). omega arith) r.first))))
+      (cases_lt m.free m.high) in
       let next : ℕ = next_free s.records file m.free in
       let unused : IsUnused s.records file m.free = record { low = low; free = ap (kind_at s.records file) (sym id_is) ∙ fresh } in
       let link : (next ≡ format.nil) ⊎ (next < m.high) = ⊎_elim
       (λ (e : next ≡ format.nil). inl e)
       (λ (ne : next ≢ format.nil). inr (⊎_elim (λ (lt : next < m.high). lt) (λ (le : m.high ≤ next). absurd (right _ (BadNext some unused ne le))) (cases_lt next m.high))) (nat_cases next format.nil) in
       let meta : meta_of t file ≡ record { high = m.high; free = next; live = m.live + 1 }
-      = meta_then ∙ ap (λ (z : State). meta_of z file) now ∙ ap (λ b. meta_of (cond b (mark_taken s file) (free_taken s file)) file) (eq_false m.free format.nil some) ∙ meta-free_taken s file counted in
+      = meta_then ∙ ap (λ (z : State). meta_of z file) now ∙ ap (λ b. meta_of (cond b (mark_taken s file) (free_taken s file)) file)
+      (eq_false m.free format.nil some) ∙ meta-free_taken s file counted in
       let mark : high t.records file ≡ high s.records file = ap (λ (q : Meta). q.high) meta in
       let free : (meta_of t file).free ≡ next = ap (λ (q : Meta). q.free) meta in
       record {
@@ -149,8 +157,10 @@ module _ (s a t : State) (file id : ℕ) (is_file : is_meta_file file ≡ true) 
   taken_is_used = taken_up.used
 
 -- it is put in use by one record
-module _ (s a t : State) (file id : ℕ) (rec : Rec) (is_file : is_meta_file file ≡ true) (now : a ≡ taken s file) (is : id ≡ taken_id (meta_of s file)) (right : IsUndamaged s file)
-    (fresh : kind_at s.records file id ≡ format.free_kind) (few : id < format.most_ids) (small : id < room_of s.shape file) (put : t ≡ after_put a (key_in file id) rec) (used : field 1 rec format.kind ≢ format.free_kind) where
+module _ (s a t : State) (file id : ℕ) (rec : Rec) (is_file : is_meta_file file ≡ true) (now : a ≡ taken s file) (is : id ≡ taken_id (meta_of s file))
+    (right : IsUndamaged s file)
+    (fresh : kind_at s.records file id ≡ format.free_kind) (few : id < format.most_ids) (small : id < room_of s.shape file)
+    (put : t ≡ after_put a (key_in file id) rec) (used : field 1 rec format.kind ≢ format.free_kind) where
   put_shape : t.shape ≡ s.shape
   put_shape = ap (λ (z : State). z.shape) put ∙ ap (λ (z : State). z.shape) now ∙ shape-taken s file
 
@@ -158,7 +168,8 @@ module _ (s a t : State) (file id : ℕ) (rec : Rec) (is_file : is_meta_file fil
   put_others key ne = ap (λ (z : State). z.records key) put ∙ put_other a.records (key_in file id) rec key ne
 
   put_used : field 1 (rec_at t.records file id) format.kind ≢ format.free_kind
-  put_used e = let here : rec_at t.records file id ≡ rec = ap (λ (z : State). z.records (key_in file id)) put ∙ put_same a.records (key_in file id) rec in used (ap (λ r. field 1 r format.kind) (sym here) ∙ e)
+  put_used e = let here : rec_at t.records file id ≡ rec = ap (λ (z : State). z.records (key_in file id)) put
+      ∙ put_same a.records (key_in file id) rec in used (ap (λ r. field 1 r format.kind) (sym here) ∙ e)
 
   pub put_harms_none : HarmsNoList s t file
   put_harms_none = take_harms_none s a t file id is_file now is right fresh few small put_shape put_others put_used
@@ -171,7 +182,8 @@ module _ (s a t : State) (file id : ℕ) (rec : Rec) (is_file : is_meta_file fil
 
 -- ---- an identifier given back
 
-module _ (s t : State) (file id : ℕ) (is_file : is_meta_file file ≡ true) (now : t ≡ given s file id) (few : id < format.most_ids) (used : kind_at s.records file id ≢ format.free_kind) (link : IsLinkBelow (meta_of s file).free (meta_of s file).high) where
+module _ (s t : State) (file id : ℕ) (is_file : is_meta_file file ≡ true) (now : t ≡ given s file id) (few : id < format.most_ids)
+    (used : kind_at s.records file id ≢ format.free_kind) (link : IsLinkBelow (meta_of s file).free (meta_of s file).high) where
   abbrev old : Meta
   old = meta_of s file
 
@@ -182,7 +194,8 @@ module _ (s t : State) (file id : ℕ) (is_file : is_meta_file file ≡ true) (n
   meta_given =
       let h = high_fits s.records file in
       let l = live_fits s.records file in
-      ap (λ (z : State). meta_of z file) now ∙ meta_of-after_meta one file (record { high = old.high; free = id; live = old.live - 1 }) h (omega arith) (omega arith)
+      ap (λ (z : State). meta_of z file) now ∙ meta_of-after_meta one file (record { high = old.high; free = id; live = old.live - 1 }) h (omega arith)
+      (omega arith)
 
   others_given : (key : Key) → key ≢ meta_key_of file → t.records key ≡ one.records key
   others_given key ne = ap (λ (z : State). z.records key) now ∙ put_other one.records (meta_key_of file) _ key ne
@@ -215,11 +228,13 @@ module _ (s t : State) (file id : ℕ) (is_file : is_meta_file file ≡ true) (n
   }
 
   pub give_harms_none : HarmsNoList s t file
-  give_harms_none d why = give_back s.records t.records s.shape file id given_back d (subst (λ (h : Shape). IsListDamage t.records h file d) (ap (λ (z : State). z.shape) now) why)
+  give_harms_none d why = give_back s.records t.records s.shape file id given_back d
+      (subst (λ (h : Shape). IsListDamage t.records h file d) (ap (λ (z : State). z.shape) now) why)
 
   -- it is the first one, and the others in use are so still
   pub give_link : IsLinkBelow (meta_of t file).free (meta_of t file).high
-  give_link = let lt = kind_below (high s.records file) (rec_at s.records file id) id used in let m = mark_given in let e = given_back.first in inr (omega arith)
+  give_link = let lt = kind_below (high s.records file) (rec_at s.records file id) id used in let m = mark_given in let e = given_back.first in
+      inr (omega arith)
 
   pub give_used : (x : ℕ) → x ≢ id → kind_at s.records file x ≢ format.free_kind → kind_at t.records file x ≢ format.free_kind
   give_used x ne was e = was (sym (kind_other s.records t.records file id given_back.change x ne) ∙ e)
@@ -227,13 +242,16 @@ module _ (s t : State) (file id : ℕ) (is_file : is_meta_file file ≡ true) (n
 -- ---- other changes
 
 pub reads_harm_none : (s t : State) (file : ℕ) → SameButReads s t → HarmsNoList s t file
-reads_harm_none s t file same d why = subst (λ (r : Records). IsListDamage r s.shape file d) (ap (λ (z : State). z.records) same) (subst (λ (h : Shape). IsListDamage t.records h file d) (ap (λ (z : State). z.shape) same) why)
+reads_harm_none s t file same d why = subst (λ (r : Records). IsListDamage r s.shape file d) (ap (λ (z : State). z.records) same)
+    (subst (λ (h : Shape). IsListDamage t.records h file d) (ap (λ (z : State). z.shape) same) why)
 
 pub harms_none_then : (a b c : State) (file : ℕ) → HarmsNoList a b file → HarmsNoList b c file → HarmsNoList a c file
 harms_none_then a b c file first later d why = first d (later d why)
 
 -- a record in use is written, and is in use still
-pub used_harms_none : (s t : State) (file id : ℕ) → is_meta_file file ≡ true → t.shape ≡ s.shape → ((key : Key) → key ≢ key_in file id → t.records key ≡ s.records key) → kind_at s.records file id ≢ format.free_kind → field 1 (rec_at t.records file id) format.kind ≢ format.free_kind
+pub used_harms_none : (s t : State) (file id : ℕ) → is_meta_file file ≡ true → t.shape ≡ s.shape
+    → ((key : Key) → key ≢ key_in file id → t.records key ≡ s.records key) → kind_at s.records file id ≢ format.free_kind
+    → field 1 (rec_at t.records file id) format.kind ≢ format.free_kind
     → HarmsNoList s t file
 used_harms_none s t file id is_file shape others was used d why =
     same_back s.records t.records s.shape file
@@ -255,7 +273,8 @@ used_harms_none s t file id is_file shape others was used d why =
     change = record { is_file = is_file; others = λ key _ ne. others key ne; more = let m = mark in omega arith; covers = λ x lt ne. let m = mark in omega arith }
 
     still : kind_at t.records file id ≢ format.free_kind
-    still e = let lt = kind_below (high s.records file) (rec_at s.records file id) id was in let m = mark in used (sym (kind_low (high t.records file) (rec_at t.records file id) id (omega arith)) ∙ e)
+    still e = let lt = kind_below (high s.records file) (rec_at s.records file id) id was in let m = mark in
+        used (sym (kind_low (high t.records file) (rec_at t.records file id) id (omega arith)) ∙ e)
 
 -- ---- what was in use is so still
 
@@ -272,10 +291,12 @@ reads_keep s t file same = record {
 }
 
 -- the file's meta record says the same, and its records are the same
-pub meta_keeps : (s t : State) (file : ℕ) → t.shape ≡ s.shape → meta_of t file ≡ meta_of s file → ((x : ℕ) → rec_at t.records file x ≡ rec_at s.records file x) → KeepsInUse s t file
+pub meta_keeps : (s t : State) (file : ℕ) → t.shape ≡ s.shape → meta_of t file ≡ meta_of s file → ((x : ℕ) → rec_at t.records file x ≡ rec_at s.records file x)
+    → KeepsInUse s t file
 meta_keeps s t file shape meta each = record {
   harmless = λ d why. same_back s.records t.records s.shape file
-      (record { meta = meta; live = λ x. ap (λ k. not (nat_eq k 0)) (kinds x); links = λ x u. ap (λ r. field 4 r format.free_next) (each x) }) d (subst (λ (h : Shape). IsListDamage t.records h file d) shape why);
+      (record { meta = meta; live = λ x. ap (λ k. not (nat_eq k 0)) (kinds x); links = λ x u. ap (λ r. field 4 r format.free_next) (each x) }) d
+      (subst (λ (h : Shape). IsListDamage t.records h file d) shape why);
   used = λ x was e. was (sym (kinds x) ∙ e);
 }
   where
@@ -283,11 +304,13 @@ meta_keeps s t file shape meta each = record {
     kinds x = ap (λ (m : Meta). kind_in m.high (rec_at t.records file x) x) meta ∙ ap (λ r. kind_in (high s.records file) r x) (each x)
 
 -- the file's records are the same
-pub beside_harms_none : (s t : State) (file : ℕ) → t.shape ≡ s.shape → t.records (meta_key_of file) ≡ s.records (meta_key_of file) → ((x : ℕ) → rec_at t.records file x ≡ rec_at s.records file x) → HarmsNoList s t file
+pub beside_harms_none : (s t : State) (file : ℕ) → t.shape ≡ s.shape → t.records (meta_key_of file) ≡ s.records (meta_key_of file)
+    → ((x : ℕ) → rec_at t.records file x ≡ rec_at s.records file x) → HarmsNoList s t file
 beside_harms_none s t file shape meta each = (meta_keeps s t file shape (ap metas.meta_of meta) each).harmless
 
 -- a number behind the kind of a record in use is set
-pub set_keeps : (s t : State) (file id at value : ℕ) → is_meta_file file ≡ true → 0 < at → kind_at s.records file id ≢ format.free_kind → t ≡ after_set s (key_in file id) 4 at value → KeepsInUse s t file
+pub set_keeps : (s t : State) (file id at value : ℕ) → is_meta_file file ≡ true → 0 < at → kind_at s.records file id ≢ format.free_kind
+    → t ≡ after_set s (key_in file id) 4 at value → KeepsInUse s t file
 set_keeps s t file id at value is_file some was now = record {
   harmless = used_harms_none s t file id is_file (ap (λ (z : State). z.shape) now) others was (λ e. was (low ∙ sym kind ∙ e));
   used = λ x old e. ⊎_elim
@@ -299,7 +322,8 @@ set_keeps s t file id at value is_file some was now = record {
     others key ne = ap (λ (z : State). z.records key) now ∙ put_other s.records (key_in file id) (with_field 4 (s.records (key_in file id)) at value) key ne
 
     kind : field 1 (rec_at t.records file id) format.kind ≡ field 1 (rec_at s.records file id) format.kind
-    kind = ap (λ (z : State). field 1 (z.records (key_in file id)) format.kind) now ∙ ap (λ (r : Rec). field 1 r format.kind) (put_same s.records (key_in file id) (with_field 4 (s.records (key_in file id)) at value))
+    kind = ap (λ (z : State). field 1 (z.records (key_in file id)) format.kind) now
+        ∙ ap (λ (r : Rec). field 1 r format.kind) (put_same s.records (key_in file id) (with_field 4 (s.records (key_in file id)) at value))
         ∙ field-with_field_other 4 (s.records (key_in file id)) at value 1 format.kind (omega arith) (inr (omega arith))
 
     low : kind_at s.records file id ≡ field 1 (rec_at s.records file id) format.kind

@@ -22,7 +22,8 @@ use Rattle.store_rules.proofs.MetaLaws.{live_fits, meta_in_range, not_meta_key}
 use Rattle.store_rules.proofs.ViewLaws.{kind_high, kind_low, live_false, live_true, not_live}
 use Rattle.id_freelist.specs.Taking.{HasTaken, first_of, mark_after, rest_of}
 
-module _ (s m t : Records) (shape : Shape) (file id : ℕ) (free : List ℕ) (rec : Rec) (is_file : is_meta_file file ≡ true) (split : IsSplit s file (is_live s file) free) (taken : HasTaken s m file id free)
+module _ (s m t : Records) (shape : Shape) (file id : ℕ) (free : List ℕ) (rec : Rec) (is_file : is_meta_file file ≡ true)
+    (split : IsSplit s file (is_live s file) free) (taken : HasTaken s m file id free)
     (here : rec_at t file id ≡ rec) (others : (key : Key) → key ≢ key_in file id → t key ≡ m key) (used : field 1 rec format.kind ≢ format.free_kind)
     (small : id < room_of shape file) (room : room_of shape file < 2 ^ 32) (range : IsMetaInRange shape file (s (meta_key_of file))) where
   meta_stays : t (meta_key_of file) ≡ m (meta_key_of file)
@@ -40,7 +41,8 @@ module _ (s m t : Records) (shape : Shape) (file id : ℕ) (free : List ℕ) (re
   way (y ∷ later) e = inl (subst (In id) (sym e) (inl (taken.is ∙ ap (λ l. first_of l (high s file)) e)), high_is ∙ ap (λ l. mark_after l (high s file)) e)
 
   by_way : {P : Type 0} → (In id free → high t file ≡ high s file → P) → (id ≡ high s file → high t file ≡ high s file + 1 → P) → P
-  by_way again fresh = ⊎_elim (λ (k : In id free × (high t file ≡ high s file)). again k.0 k.1) (λ (k : (id ≡ high s file) × (high t file ≡ high s file + 1)). fresh k.0 k.1) (way free refl)
+  by_way again fresh = ⊎_elim (λ (k : In id free × (high t file ≡ high s file)). again k.0 k.1)
+      (λ (k : (id ≡ high s file) × (high t file ≡ high s file + 1)). fresh k.0 k.1) (way free refl)
 
   below : id < high t file
   below = by_way (λ i q. let b = split.low id i in omega arith) (λ p q. omega arith)

@@ -8,7 +8,8 @@ use Rattle.store_rules.proofs.Counts.{ids_all, ids_fewer}
 use Rattle.store_rules.proofs.ViewLaws.{not_live}
 use Rattle.id_freelist.specs.Taking.{CanTake, IsCounted}
 
-pub can_take : (s : State) (file : ℕ) (free : List ℕ) → high s.records file ≤ room_of s.shape file → IsSplit s.records file (is_live s.records file) free → CanTake s file free
+pub can_take : (s : State) (file : ℕ) (free : List ℕ) → high s.records file ≤ room_of s.shape file → IsSplit s.records file (is_live s.records file) free
+    → CanTake s file free
 can_take s file free mark split = record {
   list = split.walk;
   low = split.low;
@@ -23,4 +24,5 @@ can_take s file free mark split = record {
 
     counted : (xs : List ℕ) → IsSplit s.records file (is_live s.records file) xs → IsCounted xs (meta_of s file).live (high s.records file)
     counted [] k = k.exact ∙ ids_all (is_live s.records file) (high s.records file) (λ x lt. in_use x (is_live s.records file x) (λ e. elim (k.all x lt e) [ ]))
-    counted (y ∷ later) k = let e = k.exact in let lt = ids_fewer (is_live s.records file) (high s.records file) y (k.low y (inl refl)) (k.only y (inl refl)) in omega arith
+    counted (y ∷ later) k = let e = k.exact in let lt = ids_fewer (is_live s.records file) (high s.records file) y (k.low y (inl refl)) (k.only y (inl refl)) in
+        omega arith

@@ -1,6 +1,7 @@
 -- What a take says is damaged breaks the rule.
 use Rattle.std.specs.Prelude.{Result, Ok, Err, IfErr, nat_lt}
-use Rattle.std.proofs.Common.{◌≡◌, ◌≢◌, ℕ, ◌<◌, ◌≤◌, nat_eq, Bool, true, false, cond, ◌&&◌, ◌||◌, None, Some, List, [], ◌∷◌, sym, ap, ◌∙◌, subst, inl, inr, arith, refl}
+use Rattle.std.proofs.Common.{◌≡◌, ◌≢◌, ℕ, ◌<◌, ◌≤◌, nat_eq, Bool, true, false, cond, ◌&&◌, ◌||◌, None, Some, List, []}
+use Rattle.std.proofs.Common.{◌∷◌, sym, ap, ◌∙◌, subst, inl, inr, arith, refl}
 use Rattle.std.proofs.lemmas.Bool.{true≢false}
 use Rattle.rec_bytes.specs.declared.damage.Damage.{Damage}
 use Rattle.rec_bytes.specs.declared.meta_form.MetaForm.{MetaForm}
@@ -38,7 +39,8 @@ counts Counts = true
 counts Taken = false
 counts Index = true
 
-in_range_as : (form : MetaForm) (shape : Shape) (file : ℕ) (r : Rec) → counts form ≡ true → IsRightAs form format.newest_version shape file r → IsMetaInRange shape file r
+in_range_as : (form : MetaForm) (shape : Shape) (file : ℕ) (r : Rec) → counts form ≡ true → IsRightAs form format.newest_version shape file r
+    → IsMetaInRange shape file r
 in_range_as Own shape file r c h = absurd cc
 in_range_as Counts shape file r c h = h
 in_range_as Taken shape file r c h = absurd cc
@@ -54,18 +56,22 @@ module _ (records : Records) (file : ℕ) where
   all_counted used k = k.exact ∙ ids_all (is_live records file) (high records file) (λ x lt. live_true (kind_at records file x) (used x lt))
 
   -- the count is no higher than the mark, and lower where something is free
-  never_over : HasFreeList records file → high records file ≤ (meta_in records file).live → ((meta_in records file).free ≡ format.nil → high records file < (meta_in records file).live) → ⊥
+  never_over : HasFreeList records file → high records file ≤ (meta_in records file).live
+      → ((meta_in records file).free ≡ format.nil → high records file < (meta_in records file).live) → ⊥
   never_over k le more = by k.members k.list.walk k.list.low k.list.only
     where
-      by : (xs : List ℕ) → IsWalk (next_free records file) (meta_in records file).free xs → ((x : ℕ) → In x xs → x < high records file) → ((x : ℕ) → In x xs → is_live records file x ≡ false) → ⊥
+      by : (xs : List ℕ) → IsWalk (next_free records file) (meta_in records file).free xs → ((x : ℕ) → In x xs → x < high records file)
+          → ((x : ℕ) → In x xs → is_live records file x ≡ false) → ⊥
       by [] walk low only = let e = k.exact in let most = length-ids (is_live records file) (high records file) in let lt = more walk in omega arith
-      by (y ∷ ys) walk low only = let e = k.exact in let fewer = ids_fewer (is_live records file) (high records file) y (low y (inl refl)) (only y (inl refl)) in omega arith
+      by (y ∷ ys) walk low only = let e = k.exact in let fewer = ids_fewer (is_live records file) (high records file) y (low y (inl refl))
+          (only y (inl refl)) in omega arith
 
   -- the first on the list is not in use
   first_free : HasFreeList records file → (meta_in records file).free ≢ format.nil → kind_at records file (meta_in records file).free ≡ format.free_kind
   first_free k some = by k.members k.list.walk k.list.only
     where
-      by : (xs : List ℕ) → IsWalk (next_free records file) (meta_in records file).free xs → ((x : ℕ) → In x xs → is_live records file x ≡ false) → kind_at records file (meta_in records file).free ≡ format.free_kind
+      by : (xs : List ℕ) → IsWalk (next_free records file) (meta_in records file).free xs → ((x : ℕ) → In x xs → is_live records file x ≡ false)
+          → kind_at records file (meta_in records file).free ≡ format.free_kind
       by [] walk only = absurd (some walk)
       by (y ∷ ys) walk only = ap (kind_at records file) walk.0 ∙ not_live (kind_at records file y) (only y (inl refl))
 
@@ -80,12 +86,14 @@ module _ (records : Records) (file : ℕ) where
   listed_reached : (x : ℕ) → IsOnFreeList records file x → IsReached records file x
   listed_reached x on = by on.members (meta_in records file).free First on.list.walk on.list.low on.list.only on.member
     where
-      by : (xs : List ℕ) (from : ℕ) → IsReached records file from → IsWalk (next_free records file) from xs → ((y : ℕ) → In y xs → y < high records file) → ((y : ℕ) → In y xs → is_live records file y ≡ false) → In x xs → IsReached records file x
+      by : (xs : List ℕ) (from : ℕ) → IsReached records file from → IsWalk (next_free records file) from xs → ((y : ℕ) → In y xs → y < high records file)
+          → ((y : ℕ) → In y xs → is_live records file y ≡ false) → In x xs → IsReached records file x
       by [] from r walk low only i = elim i [ ]
       by (y ∷ ys) from r walk low only (inl e) = subst (IsReached records file) (walk.0 ∙ sym e) r
       by (y ∷ ys) from r walk low only (inr i) =
           let here : IsReached records file y = subst (IsReached records file) walk.0 r in
-          by ys (next_free records file y) (Next y here (record { low = low y (inl refl); free = not_live (kind_at records file y) (only y (inl refl)) })) walk.2 (λ z j. low z (inr j)) (λ z j. only z (inr j)) i
+          by ys (next_free records file y) (Next y here (record { low = low y (inl refl); free = not_live (kind_at records file y) (only y (inl refl)) }))
+          walk.2 (λ z j. low z (inr j)) (λ z j. only z (inr j)) i
 
   -- ---- a free record whose next one can't stand there
   module _ (x : ℕ) (is : is_reused file ≡ true) (unused : IsUnused records file x) where
@@ -109,7 +117,8 @@ module _ (records : Records) (file : ℕ) where
     low_next some le fits =
         let point : all_point (high records) (rec_at records file x) free_table.pointers ≡ true
         = subst (λ (l : Layout). all_point (high records) (rec_at records file x) l.pointers ≡ true) (laid_free fits.layout fits.is) fits.point in
-        by (nat_lt (next_free records file x) (high records file)) (nat_eq (next_free records file x) format.nil) (lt_false (next_free records file x) (high records file) le) (eq_false (next_free records file x) format.nil some) point
+        by (nat_lt (next_free records file x) (high records file)) (nat_eq (next_free records file x) format.nil)
+        (lt_false (next_free records file x) (high records file) le) (eq_false (next_free records file x) format.nil some) point
       where
         by : (a b : Bool) → a ≡ false → b ≡ false → ((a || (true && b)) && true) ≡ true → ⊥
         by true b p q h = absurd cc
@@ -119,13 +128,17 @@ module _ (records : Records) (file : ℕ) where
 -- ---- what is said to be damaged
 
 -- by what is wrong with the list
-pub list_breaks : (records : Records) (shape : Shape) (file : ℕ) → is_reused file ≡ true → (d : Damage) → IsListDamage records shape file d → Breaks records shape d
+pub list_breaks : (records : Records) (shape : Shape) (file : ℕ) → is_reused file ≡ true → (d : Damage) → IsListDamage records shape file d
+    → Breaks records shape d
 list_breaks records shape file is _ (OutOfRange f) =
     let known = meta_of_reused file is in
-    WrongMeta file (is_record_file-low file (is_meta_file-record file known)) (λ k. let right = in_range shape file (records (meta_key_of file)) known k in f (record { mark = right.high; first = right.free }))
+    WrongMeta file (is_record_file-low file (is_meta_file-record file known))
+    (λ k. let right = in_range shape file (records (meta_key_of file)) known k in f (record { mark = right.high; first = right.free }))
 list_breaks records shape file is _ (NoList f) = FreeList file is f
-list_breaks records shape file is _ (NotReached x unused f) = OffFreeList file x is unused.low (live_false (kind_at records file x) unused.free) (λ on. f (listed_reached records file x on))
-list_breaks records shape file is _ (BadLink x unused some le) = RecordRange file x (meta_of_reused file is) unused.low (low_next records file x is unused some le)
+list_breaks records shape file is _ (NotReached x unused f) = OffFreeList file x is unused.low (live_false (kind_at records file x) unused.free)
+    (λ on. f (listed_reached records file x on))
+list_breaks records shape file is _ (BadLink x unused some le) = RecordRange file x (meta_of_reused file is) unused.low
+    (low_next records file x is unused some le)
 
 -- something is wrong with the list
 pub list_damage : (s : State) (file : ℕ) (d : Damage) → IsTakeDamage s file d → IsListDamage s.records s.shape file d
@@ -139,7 +152,8 @@ list_damage s file _ (BadNext ne unused some le) = BadLink (meta_of s file).free
 pub breaks_of : (s : State) (file : ℕ) → is_reused file ≡ true → (d : Damage) → IsTakeDamage s file d → Breaks s.records s.shape d
 breaks_of s file is d why = list_breaks s.records s.shape file is d (list_damage s file d why)
 
-pub blames_broken : (s : State) (file : ℕ) → is_reused file ≡ true → (r : Result ℕ TakeFault) → IfErr r (IsTakeFault s file) → IfErr r (BlamesBroken s.records s.shape)
+pub blames_broken : (s : State) (file : ℕ) → is_reused file ≡ true → (r : Result ℕ TakeFault) → IfErr r (IsTakeFault s file)
+    → IfErr r (BlamesBroken s.records s.shape)
 blames_broken s file is (Ok id) why = tt
 blames_broken s file is (Err (Full full live)) why = tt
 blames_broken s file is (Err Memory) why = tt

@@ -1,5 +1,6 @@
 -- A set of texts whose equality is that of their bytes holds names as a list does.
-use Rattle.std.proofs.Common.{◌≡◌, ℕ, ◌<◌, Bool, true, false, not, ◌||◌, if◌then◌else◌, nat_eq, List, [], ◌∷◌, ◌++◌, Vec, Some, slice_get, inl, inr, refl, sym, ap, ◌∙◌, true≢false, Contains, length, arith}
+use Rattle.std.proofs.Common.{◌≡◌, ℕ, ◌<◌, Bool, true, false, not, ◌||◌, if◌then◌else◌, nat_eq, List, [], ◌∷◌, ◌++◌}
+use Rattle.std.proofs.Common.{Vec, Some, slice_get, inl, inr, refl, sym, ap, ◌∙◌, true≢false, Contains, length, arith}
 use Rattle.std.specs.Bool.{IsTrue}
 use Rattle.std.specs.List.{list_any, position}
 use Rattle.std.specs.Cmp.Lexicographic.{pointwise, same_text}
@@ -43,13 +44,15 @@ pub lacks-has_name : (names : List (Vec ℕ Global)) (text : List ℕ) → has_n
 lacks-has_name names text e h = absurd (true≢false (sym (list_any-Contains (name_bytes names) text h) ∙ list_any-name_bytes names text ∙ e))
 
 -- the number that the set finds is that of the text
-pub position-name_bytes : (names : List (Vec ℕ Global)) (text : List ℕ) (id : ℕ) → position (λ stored. pointwise nat_eq text stored.items) names ≡ Some id → id < length names → slice_get (name_bytes names) id ≡ Some text
+pub position-name_bytes : (names : List (Vec ℕ Global)) (text : List ℕ) (id : ℕ) → position (λ stored. pointwise nat_eq text stored.items) names ≡ Some id
+    → id < length names → slice_get (name_bytes names) id ≡ Some text
 position-name_bytes names text id at within =
     elim (slice_get_cases names id).1 [
       | inl found ↦
           let passes = (position-Some (λ (stored : Vec ℕ Global). pointwise nat_eq text stored.items) names id found.0 at).1 in
           let same = rw found.3 at passes in
-          slice_get-map (λ (x : Vec ℕ Global). x.items) names id ∙ ap (option_map (λ (x : Vec ℕ Global). x.items)) found.2 ∙ ap Some (sym (same_text text found.0.items (sym same)))
+          slice_get-map (λ (x : Vec ℕ Global). x.items) names id ∙ ap (option_map (λ (x : Vec ℕ Global). x.items)) found.2
+          ∙ ap Some (sym (same_text text found.0.items (sym same)))
       | inr past ↦ absurd (omega arith)
     ]
 
@@ -74,9 +77,11 @@ known-insert_key names name is_new = by (list_any (same_name name) names) refl
     by false e is old = absurd (true≢false (sym is ∙ old))
 
 -- a text that the list lacks goes after the others
-pub absent-insert_key : (names : List (Vec ℕ Global)) (name : Vec ℕ Global) → ¬ Contains (name_bytes names) name.items → name_bytes (insert_key same_name names name) ≡ name_bytes names ++ name.items ∷ []
+pub absent-insert_key : (names : List (Vec ℕ Global)) (name : Vec ℕ Global) → ¬ Contains (name_bytes names) name.items
+    → name_bytes (insert_key same_name names name) ≡ name_bytes names ++ name.items ∷ []
 absent-insert_key names name lacks = by (list_any (same_name name) names) refl
   where
-    by : (known : Bool) → list_any (same_name name) names ≡ known → name_bytes (if known then names else names ++ name ∷ []) ≡ name_bytes names ++ name.items ∷ []
+    by : (known : Bool) → list_any (same_name name) names ≡ known → name_bytes (if known then names else names ++ name ∷ []) ≡ name_bytes
+        names ++ name.items ∷ []
     by true e = absurd (lacks (Contains-list_any (name_bytes names) name.items (list_any-name_bytes names name.items ∙ e)))
     by false e = map_push (λ (x : Vec ℕ Global). x.items) names name

@@ -1,5 +1,6 @@
 -- Names that are kept stay names with one more, and with the last ones cut off.
-use Rattle.std.proofs.Common.{◌≡◌, ℕ, zero, suc, Bool, true, false, if◌then◌else◌, Vec, ◌<◌, List, [], ◌∷◌, ◌++◌, Some, slice_get, take, length, Contains, inl, inr, refl, sym, subst, ◌∙◌, length-append, arith}
+use Rattle.std.proofs.Common.{◌≡◌, ℕ, zero, suc, Bool, true, false, if◌then◌else◌, Vec, ◌<◌, List, [], ◌∷◌, ◌++◌, Some}
+use Rattle.std.proofs.Common.{slice_get, take, length, Contains, inl, inr, refl, sym, subst, ◌∙◌, length-append, arith}
 use Rattle.std.specs.List.{AllByRecursion, list_any}
 use Rattle.std.specs.declared.alloc.Global.{Global}
 use Rattle.indexmap.specs.IndexSet.{insert_key}
@@ -52,7 +53,8 @@ AreDistinct-take (suc n) [] distinct = tt
 AreDistinct-take (suc n) (text ∷ texts) distinct = (λ has. distinct.0 (Contains-take n texts text has), AreDistinct-take n texts distinct.1)
 
 -- one more name
-pub AreHeldNames-push : (names : List (List ℕ)) (name : List ℕ) → AreHeldNames names → IsShortName name → ¬ Contains names name → length names < most_names → AreHeldNames (names ++ name ∷ [])
+pub AreHeldNames-push : (names : List (List ℕ)) (name : List ℕ) → AreHeldNames names → IsShortName name → ¬ Contains names name → length names < most_names
+    → AreHeldNames (names ++ name ∷ [])
 AreHeldNames-push names name held short new few = record {
   distinct = AreDistinct-push names name held.distinct new;
   short = AllByRecursion-push IsShortName names name held.short short;
@@ -71,9 +73,11 @@ pub short_at : (names : List (List ℕ)) (id : ℕ) (text : List ℕ) → AreHel
 short_at names id text held is = AllByRecursion-at IsShortName names id text held.short is
 
 -- a text that is put into the set
-pub AreHeldNames-insert_key : (names : List (Vec ℕ Global)) (name : Vec ℕ Global) → AreHeldNames (name_bytes names) → IsShortName name.items → length (name_bytes names) < most_names → AreHeldNames (name_bytes (insert_key same_name names name))
+pub AreHeldNames-insert_key : (names : List (Vec ℕ Global)) (name : Vec ℕ Global) → AreHeldNames (name_bytes names) → IsShortName name.items
+    → length (name_bytes names) < most_names → AreHeldNames (name_bytes (insert_key same_name names name))
 AreHeldNames-insert_key names name held short few = by (list_any (same_name name) names) refl
   where
     by : (known : Bool) → list_any (same_name name) names ≡ known → AreHeldNames (name_bytes (if known then names else names ++ name ∷ []))
     by true e = held
-    by false e = subst AreHeldNames (sym (map_push (λ (x : Vec ℕ Global). x.items) names name)) (AreHeldNames-push (name_bytes names) name.items held short (lacks-has_name names name.items e) few)
+    by false e = subst AreHeldNames (sym (map_push (λ (x : Vec ℕ Global). x.items) names name))
+        (AreHeldNames-push (name_bytes names) name.items held short (lacks-has_name names name.items e) few)

@@ -38,24 +38,29 @@ IsFirstDamage-at records n loads.Disk before at = tt
 IsFirstDamage-at records n (loads.Damaged damage) before at = λ file. subst (AreLoadableTo records) (sym at) before
 
 -- a name of the space that is the one kept
-kept_name : (records : Records) (names rest : List (List ℕ)) (id : ℕ) → names ≡ names_of records ++ rest → id < name_mark records → slice_get names id ≡ Some (text_at records id)
+kept_name : (records : Records) (names rest : List (List ℕ)) (id : ℕ) → names ≡ names_of records ++ rest → id < name_mark records
+    → slice_get names id ≡ Some (text_at records id)
 kept_name records names rest id is lt =
     let long = length-names_of records in
     ap (λ ns. slice_get ns id) is ∙ slice_get-get_or (names_of records ++ rest) id [] (omega (arith, length-append (names_of records) rest))
-    ∙ ap Some (get_or_append_left (names_of records) rest [] id (omega arith)) ∙ sym (slice_get-get_or (names_of records) id [] (omega arith)) ∙ first-names_of records id lt
+    ∙ ap Some (get_or_append_left (names_of records) rest [] id (omega arith)) ∙ sym (slice_get-get_or (names_of records) id [] (omega arith))
+    ∙ first-names_of records id lt
 
-pub NotDamaged-prefix : (records : Records) (names rest : List (List ℕ)) (fault : RowFault) → names ≡ names_of records ++ rest → IsAgainFault records names fault → rows.NotDamaged {T = Unit {0}} (Err fault)
+pub NotDamaged-prefix : (records : Records) (names rest : List (List ℕ)) (fault : RowFault) → names ≡ names_of records ++ rest
+    → IsAgainFault records names fault → rows.NotDamaged {T = Unit {0}} (Err fault)
 NotDamaged-prefix records names rest compares.Disk is fault = tt
 NotDamaged-prefix records names rest (compares.Damaged damage) is fault = fault.other (kept_name records names rest fault.id is fault.below)
 
 -- the first name that isn't the one kept
-pub IsAgainFault-other : (records : Records) (names : List (List ℕ)) (id : ℕ) (fault : RowFault) → id < name_mark records → ((x : ℕ) → x < id → slice_get names x ≡ Some (text_at records x)) → HasOther records names id fault
+pub IsAgainFault-other : (records : Records) (names : List (List ℕ)) (id : ℕ) (fault : RowFault) → id < name_mark records
+    → ((x : ℕ) → x < id → slice_get names x ≡ Some (text_at records x)) → HasOther records names id fault
     → IsAgainFault records names fault
 IsAgainFault-other records names id compares.Disk lt before other = tt
 IsAgainFault-other records names id (compares.Damaged damage) lt before other = record { id = id; is = other.0; below = lt; before = before; other = other.1 }
 
 -- names that keep the first and the sixth rule are loaded
-pub AreLoadable-AreInRange : (records : Records) (shape : Shape) → AreInRange records shape → AreNames (rec_at records format.names_file) (name_mark records) → AreLoadable records
+pub AreLoadable-AreInRange : (records : Records) (shape : Shape) → AreInRange records shape → AreNames (rec_at records format.names_file) (name_mark records)
+    → AreLoadable records
 AreLoadable-AreInRange records shape ranges names = record {
   mark = (ranges.metas format.names_file refl).high;
   form = λ id lt none. let fits = ranges.fit format.names_file id refl lt in absurd cc;

@@ -1,5 +1,6 @@
 -- The records of a space after a new name got its number.
-use Rattle.std.proofs.Common.{◌≡◌, ◌≢◌, ◌⊎◌, ⊎_elim, inl, inr, ℕ, suc, ◌+◌, ◌^◌, ◌<◌, ◌≤◌, if◌then◌else◌, cond, List, [], ◌∷◌, ◌++◌, length, Contains, refl, sym, ap, ◌∙◌, arith}
+use Rattle.std.proofs.Common.{◌≡◌, ◌≢◌, ◌⊎◌, ⊎_elim, inl, inr, ℕ, suc, ◌+◌, ◌^◌, ◌<◌, ◌≤◌, if◌then◌else◌, cond, List}
+use Rattle.std.proofs.Common.{[], ◌∷◌, ◌++◌, length, Contains, refl, sym, ap, ◌∙◌, arith}
 use Rattle.plain_graph.specs.Names.{IsShortName}
 use Rattle.rec_bytes.specs.declared.key.Key.{Key}
 use Rattle.rec_bytes.specs.declared.meta.Meta.{Meta}
@@ -53,11 +54,13 @@ pub here-named : (s : State) (id : ℕ) (text : List ℕ) → rec_at (named s id
 unfolding named
 here-named s id text = ap (λ b. cond b (name_record text) (rec_at s.records format.names_file id)) (key_eq-same (key_in format.names_file id))
 
-pub other-named : (s : State) (id : ℕ) (text : List ℕ) (key : Key) → key ≢ meta_key_of format.names_file → key ≢ key_in format.names_file id → (named s id text).records key ≡ s.records key
+pub other-named : (s : State) (id : ℕ) (text : List ℕ) (key : Key) → key ≢ meta_key_of format.names_file → key ≢ key_in format.names_file id
+    → (named s id text).records key ≡ s.records key
 unfolding named
 other-named s id text key meta name =
     let named_key = key_in format.names_file id in
-    put_other (put s.records named_key (name_record text)) (meta_key_of format.names_file) (metas.with_meta (s.records (meta_key_of format.names_file)) (counted (meta_of s format.names_file))) key meta
+    put_other (put s.records named_key (name_record text)) (meta_key_of format.names_file)
+    (metas.with_meta (s.records (meta_key_of format.names_file)) (counted (meta_of s format.names_file))) key meta
     ∙ put_other s.records named_key (name_record text) key name
 
 -- another name's text
@@ -65,30 +68,37 @@ old_text : (s : State) (id : ℕ) (text : List ℕ) (x : ℕ) → x ≢ id → t
 old_text s id text x ne = ap text_of (other-named s id text (key_in format.names_file x) (λ e. let file = ap (λ (k : Key). k.file) e in omega arith) (λ e. ne (ap (λ (k : Key). k.id) e)))
 
 -- the names are one more
-pub names_of-named : (s : State) (names : List (List ℕ)) (text : List ℕ) → length text ≤ 48 → length names < 4096 → names ≡ names_of s.records → names ++ text ∷ [] ≡ names_of (named s (length names) text).records
+pub names_of-named : (s : State) (names : List (List ℕ)) (text : List ℕ) → length text ≤ 48 → length names < 4096 → names ≡ names_of s.records
+    → names ++ text ∷ [] ≡ names_of (named s (length names) text).records
 names_of-named s names text short few is =
     let n = length names in
     let t = (named s n text).records in
     let long : n ≡ name_mark s.records = ap length is ∙ length-names_of s.records in
     let mark : name_mark t ≡ suc n = mark-named s n text ∙ ap one_more (sym long) ∙ below few in
     let last : text_at t n ≡ text = ap text_of (here-named s n text) ∙ text_of-name_record text short in
-    let old : all_rows (text_at t) n ≡ names = rows_same (text_at s.records) (text_at t) n (λ x lt. old_text s n text x (λ e. omega arith)) ∙ ap (all_rows (text_at s.records)) long ∙ sym is in
+    let old : all_rows (text_at t) n ≡ names = rows_same (text_at s.records) (text_at t) n (λ x lt. old_text s n text x (λ e. omega arith))
+    ∙ ap (all_rows (text_at s.records)) long ∙ sym is in
     sym (ap (all_rows (text_at t)) mark ∙ ap (λ xs. xs ++ text_at t n ∷ []) old ∙ ap (λ x. names ++ x ∷ []) last)
   where
     below : {m : ℕ} → m < 4096 → one_more m ≡ suc m
     below lt = omega arith
 
-meta_there : (s : State) (shape : Shape) (text : List ℕ) → IsMetaInRange shape format.names_file (s.records (meta_key_of format.names_file)) → name_mark s.records < 4096 → AreAllLive s.records format.names_file
+meta_there : (s : State) (shape : Shape) (text : List ℕ) → IsMetaInRange shape format.names_file (s.records (meta_key_of format.names_file))
+    → name_mark s.records < 4096 → AreAllLive s.records format.names_file
     → IsMetaInRange shape format.names_file ((named s (name_mark s.records) text).records (meta_key_of format.names_file))
 unfolding named
 meta_there s shape text meta few live =
     let m = meta_of s format.names_file in
-    let free : (m.free ≡ format.nil) ⊎ (m.free < one_more m.high) = ⊎_elim (λ (none : m.free ≡ format.nil). inl none) (λ (lt : m.free < m.high). inr (omega arith)) meta.free in
-    meta_in_range shape format.names_file (s.records (meta_key_of format.names_file)) (counted m) meta (omega arith) (omega arith) (omega arith) free (small m.live)
+    let free : (m.free ≡ format.nil) ⊎ (m.free < one_more m.high) = ⊎_elim (λ (none : m.free ≡ format.nil). inl none)
+    (λ (lt : m.free < m.high). inr (omega arith)) meta.free in
+    meta_in_range shape format.names_file (s.records (meta_key_of format.names_file)) (counted m) meta (omega arith) (omega arith) (omega arith) free
+    (small m.live)
 
 -- A new name is what the rules ask of one: its record fits, and the meta record counts it.
-pub IsNamed-named : (s : State) (shape : Shape) (text : List ℕ) → IsMetaInRange shape format.names_file (s.records (meta_key_of format.names_file)) → AreAllLive s.records format.names_file
-    → name_mark s.records < 4096 → IsShortName text → ¬ Contains (names_of s.records) text → IsNamed s.records (named s (name_mark s.records) text).records shape (name_record text) text
+pub IsNamed-named : (s : State) (shape : Shape) (text : List ℕ) → IsMetaInRange shape format.names_file (s.records (meta_key_of format.names_file))
+    → AreAllLive s.records format.names_file
+    → name_mark s.records < 4096 → IsShortName text → ¬ Contains (names_of s.records) text
+    → IsNamed s.records (named s (name_mark s.records) text).records shape (name_record text) text
 IsNamed-named s shape text meta live few short new =
     let n = name_mark s.records in
     let t = (named s n text).records in

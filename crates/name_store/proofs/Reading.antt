@@ -1,5 +1,6 @@
 -- What several calls that read a space leave of it.
-use Rattle.std.proofs.Common.{◌≡◌, ℕ, ◌+◌, ◌<◌, ◌≤◌, Bool, true, false, nat_lt, if◌then◌else◌, List, length, Option, None, Some, is_some, true≢false, refl, sym, ap, ◌∙◌, arith}
+use Rattle.std.proofs.Common.{◌≡◌, ℕ, ◌+◌, ◌<◌, ◌≤◌, Bool, true, false, nat_lt, if◌then◌else◌, List, length, Option}
+use Rattle.std.proofs.Common.{None, Some, is_some, true≢false, refl, sym, ap, ◌∙◌, arith}
 use Rattle.std.proofs.lemmas.Bool.Decides.{nat_tests}
 use Rattle.rec_bytes.specs.Space.{State, after_get, after_gets}
 use Rattle.rec_bytes.proofs.Spaces.{after_gets-zero, after_gets_more, records-after_gets}
@@ -15,7 +16,8 @@ pub reads_next : (most n : ℕ) (old mid new : State) → n < most → mid ≡ a
 reads_next most n old mid new lt first next = record { count = n + 1; within = omega arith; is = next ∙ ap after_get first ∙ sym (after_gets_more n (n + 1) old refl) }
 
 -- one more comparison
-pub reads_compared : (names : List (List ℕ)) (n : ℕ) (old mid new : State) → n ≤ length names → mid ≡ after_gets n old → new ≡ after_compare mid names n → ReadsAtMost (length names) old new
+pub reads_compared : (names : List (List ℕ)) (n : ℕ) (old mid new : State) → n ≤ length names → mid ≡ after_gets n old → new ≡ after_compare mid names n
+    → ReadsAtMost (length names) old new
 reads_compared names n old mid new le first next = by (nat_lt n (length names)) refl
   where
     by : (b : Bool) → nat_lt n (length names) ≡ b → ReadsAtMost (length names) old new
@@ -38,5 +40,7 @@ pub state_next : (n m : ℕ) (old mid new : State) → mid ≡ after_gets n old 
 state_next n m old mid new first next more = next ∙ ap after_get first ∙ sym (after_gets_more n m old more)
 
 -- a comparison with a name that is kept is a read
-pub after_compare-kept : (mid : State) (names : List (List ℕ)) (id : ℕ) (new : State) → id < length names → new ≡ after_compare mid names id → new ≡ after_get mid
-after_compare-kept mid names id new lt is = let here : nat_lt id (length names) ≡ true = grind (arith, nat_tests) in is ∙ ap (λ b. if b then after_get mid else mid) here
+pub after_compare-kept : (mid : State) (names : List (List ℕ)) (id : ℕ) (new : State) → id < length names → new ≡ after_compare mid names id
+    → new ≡ after_get mid
+after_compare-kept mid names id new lt is = let here : nat_lt id (length names) ≡ true = grind (arith, nat_tests) in is
+    ∙ ap (λ b. if b then after_get mid else mid) here

@@ -1,5 +1,6 @@
 -- The record of a node is read back, and it fits.
-use Rattle.std.proofs.Common.{◌≡◌, ◌⊎◌, ⊎_elim, inr, ℕ, ◌+◌, ◌%◌, ◌^◌, ◌<◌, ◌≤◌, Bool, true, false, ◌&&◌, nat_eq, List, [], ◌∷◌, Some, get_or, drop, refl, ap, ◌∙◌, arith}
+use Rattle.std.proofs.Common.{◌≡◌, ◌⊎◌, ⊎_elim, inr, ℕ, ◌+◌, ◌%◌, ◌^◌, ◌<◌, ◌≤◌, Bool, true, false, ◌&&◌, nat_eq, List}
+use Rattle.std.proofs.Common.{[], ◌∷◌, Some, get_or, drop, refl, ap, ◌∙◌, arith}
 use Rattle.std.specs.List.{list_any}
 use Rattle.std.specs.Prelude.{replicate}
 use Rattle.std.proofs.lemmas.Bool.{cases_lt}
@@ -84,7 +85,8 @@ pub blank-node_record : (row : NodeRow) → IsBlankOutside used (node_record row
 blank-node_record row = λ i lt out. field-with_fields_other 1 zeros (node_fields row) i (omega arith) (outside row i out) ∙ byte-zeros i lt
 
 -- a number that is none or below its mark
-points_there : (marks : ℕ → ℕ) (rec : Rec) (place into : ℕ) → (field 4 rec place < marks into) ⊎ (field 4 rec place ≡ format.nil) → points marks rec (may place into) ≡ true
+points_there : (marks : ℕ → ℕ) (rec : Rec) (place into : ℕ) → (field 4 rec place < marks into) ⊎ (field 4 rec place ≡ format.nil)
+    → points marks rec (may place into) ≡ true
 points_there marks rec place into there = ⊎_elim
     (λ (low : field 4 rec place < marks into). grind (arith, nat_tests))
     (λ (none : field 4 rec place ≡ format.nil). grind (arith, nat_tests)) there
@@ -101,7 +103,8 @@ Fits-node_record marks row small first props =
     record {
       layout = record { pointers = may format.node_first_link (link_file row.dense) ∷ may format.node_first_property format.properties_file ∷ []; used = used };
       is = layout-node_record row small;
-      point = ap (λ b. b && (points marks rec (may format.node_first_property format.properties_file) && true)) (points_there marks rec format.node_first_link (link_file row.dense) first_there)
+      point = ap (λ b. b && (points marks rec (may format.node_first_property format.properties_file) && true))
+          (points_there marks rec format.node_first_link (link_file row.dense) first_there)
           ∙ ap (λ b. b && true) (points_there marks rec format.node_first_property format.properties_file props_there);
       blank = blank-node_record row;
     }

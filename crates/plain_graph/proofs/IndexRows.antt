@@ -31,7 +31,8 @@ has_none = get-empty (slice_cmp nat_cmp) (120 ∷ [])
 -- two nodes `p` with x, one without, a node `q` with x, and an index of `p` by x
 abbrev four_nodes : Graph
 four_nodes = record {
-  nodes = record { id = 0; label = 112 ∷ []; properties = x_is 1 } ∷ record { id = 1; label = 112 ∷ []; properties = x_is 2 } ∷ record { id = 2; label = 112 ∷ []; properties = no_properties }
+  nodes = record { id = 0; label = 112 ∷ []; properties = x_is 1 } ∷ record { id = 1; label = 112 ∷ []; properties = x_is 2 } ∷ record
+      { id = 2; label = 112 ∷ []; properties = no_properties }
       ∷ record { id = 3; label = 113 ∷ []; properties = x_is 2 } ∷ [];
   edges = [];
   names = (112 ∷ []) ∷ (120 ∷ []) ∷ (113 ∷ []) ∷ [];
@@ -76,4 +77,5 @@ in_place = refl
 
 -- Where 28 records fit, an index of one node is one too many beside one of two.
 full : index_full 14 four_nodes (commands.Index (113 ∷ []) (120 ∷ [])) refusals.FullIndex
-full = let records = records_counted in let count : indexed_count four_nodes (113 ∷ []) (120 ∷ []) ≡ 1 = simp (has_x 2) refl in (omega (arith, records, count), refl)
+full = let records = records_counted in let count : indexed_count four_nodes (113 ∷ []) (120 ∷ []) ≡ 1 = simp (has_x 2) refl in
+    (omega (arith, records, count), refl)

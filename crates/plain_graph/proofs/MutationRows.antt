@@ -41,12 +41,15 @@ drop_asks : asked_changes two_nodes all_nodes mutations.Drop ≡ commands.Delete
 drop_asks = refl
 
 -- what is met twice is deleted once, and a value stands for no element
-drop_once : changes_of mutations.Drop (items.Vertex 1 ∷ items.Edge 1 (116 ∷ []) 1 1 ∷ items.Vertex 1 ∷ items.Value (values.Bool true) ∷ []) ≡ commands.Delete (targets.Node 1) ∷ commands.Delete (targets.Edge 1) ∷ []
+drop_once : changes_of mutations.Drop (items.Vertex 1 ∷ items.Edge 1 (116 ∷ []) 1 1 ∷ items.Vertex 1 ∷ items.Value (values.Bool true) ∷ []) ≡ commands.Delete
+    (targets.Node 1) ∷ commands.Delete (targets.Edge 1) ∷ []
 drop_once = refl
 
 -- the pairs of an element come before the next element
-pairs_in_turn : changes_of (mutations.Property (record { key = 97 ∷ []; value = values.Bool true } ∷ record { key = 98 ∷ []; value = values.Bool false } ∷ [])) (items.Vertex 0 ∷ items.Vertex 0 ∷ [])
-    ≡ commands.Set (targets.Node 0) (97 ∷ []) (values.Bool true) ∷ commands.Set (targets.Node 0) (98 ∷ []) (values.Bool false) ∷ commands.Set (targets.Node 0) (97 ∷ []) (values.Bool true)
+pairs_in_turn : changes_of (mutations.Property (record { key = 97 ∷ []; value = values.Bool true } ∷ record { key = 98 ∷ []; value = values.Bool false } ∷ []))
+    (items.Vertex 0 ∷ items.Vertex 0 ∷ [])
+    ≡ commands.Set (targets.Node 0) (97 ∷ []) (values.Bool true) ∷ commands.Set (targets.Node 0) (98 ∷ []) (values.Bool false) ∷ commands.Set (targets.Node 0)
+    (97 ∷ []) (values.Bool true)
     ∷ commands.Set (targets.Node 0) (98 ∷ []) (values.Bool false)
     ∷ []
 pairs_in_turn = refl

@@ -41,14 +41,16 @@ not_found : (k x : List ℕ) (es : Entries) → order k x ≡ Less → T (entrie
 not_found k x [] lt below = refl
 not_found k x (e ∷ es) lt below =
     let parts = both_true (is_lt (order x e.0)) (entries.below_all order x es) below in
-    ap (λ r. cond (is_eq r) (Some e.1) (entries.find order k es)) (nat_list_cmp_total.trans k x e.0 lt (is_less (order x e.0) parts.0)) ∙ not_found k x es lt parts.1
+    ap (λ r. cond (is_eq r) (Some e.1) (entries.find order k es)) (nat_list_cmp_total.trans k x e.0 lt (is_less (order x e.0) parts.0))
+    ∙ not_found k x es lt parts.1
 
 -- those of one entry more
 blocks_under-cons : (e : List ℕ × Value) (es : Entries) → blocks_under (e ∷ es) ≡ blocks_of e.1 + blocks_under es
 blocks_under-cons e es = sum_by-cons blocks_of e.1 (map (λ (d : List ℕ × Value). d.1) es)
 
 -- where an entry is put, the blocks of its value count in place of those that its key had
-blocks_put : (k : List ℕ) (v : Value) (es : Entries) → T (entries.is_sorted order es) → blocks_under (entries.put order k v es) + blocks_if (entries.find order k es) ≡ blocks_under es + blocks_of v
+blocks_put : (k : List ℕ) (v : Value) (es : Entries) → T (entries.is_sorted order es)
+    → blocks_under (entries.put order k v es) + blocks_if (entries.find order k es) ≡ blocks_under es + blocks_of v
 blocks_put k v [] sorted = let n = blocks_under-cons (k, v) [] in omega arith
 blocks_put k v (e ∷ es) sorted =
     let parts = both_true (entries.below_all order e.0 es) (entries.is_sorted order es) sorted in
@@ -115,7 +117,8 @@ blocks_in-empty = ap blocks_under (none (maps.entries no_properties) (sym (maps.
     none (e ∷ es) h = absurd (omega arith)
 
 -- and its values take what the entries' take together
-pub blocks_in-from_entries : (es : List (List ℕ × Value)) → AreApart es → blocks_in (maps.from_entries es) ≡ sum_by blocks_of (map (λ (e : List ℕ × Value). e.1) es)
+pub blocks_in-from_entries : (es : List (List ℕ × Value)) → AreApart es
+    → blocks_in (maps.from_entries es) ≡ sum_by blocks_of (map (λ (e : List ℕ × Value). e.1) es)
 blocks_in-from_entries [] apart = blocks_in-empty
 blocks_in-from_entries (e ∷ es) apart =
     let none = ap blocks_if (maps.get-from_entries nat_list_cmp_total es e.0 ∙ apart.0) in

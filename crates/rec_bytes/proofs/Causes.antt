@@ -6,7 +6,8 @@ use Rattle.std.proofs.lemmas.Result.{err_from_is_err_and}
 use Rattle.rec_bytes.specs.Cause.{HasDiskCause}
 
 -- of a call that came after others, where no fault was blamed before
-pub passed : {T U E F : Type 0} (into : E → F) (one : E) (other : F) (before mid now : ℕ) (r : Result T F) (fault : E) → (into fault ≡ other → fault ≡ one) → before ≤ mid → HasDiskCause {T = U} one mid now (Err fault) → IsErrAnd r (λ f. f ≡ into fault) → HasDiskCause other before now r
+pub passed : {T U E F : Type 0} (into : E → F) (one : E) (other : F) (before mid now : ℕ) (r : Result T F) (fault : E) → (into fault ≡ other → fault ≡ one)
+    → before ≤ mid → HasDiskCause {T = U} one mid now (Err fault) → IsErrAnd r (λ f. f ≡ into fault) → HasDiskCause other before now r
 passed {T} {U} {E} {F} into one other before mid now r fault blames early cause is =
     let p = err_from_is_err_and r is in
     let here : HasDiskCause {T = T} other before now (Err (into fault)) = record {

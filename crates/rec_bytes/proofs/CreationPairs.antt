@@ -30,7 +30,8 @@ unfolding with_pair
 creation_pairs-merged shape files e = ap (λ (rooms : Rooms). merged (with_pair [] own_key (shape_record shape)) (map (λ room. (meta_key_of room.0, first_meta room.0)) rooms)) e
 
 -- the two records of the raise, put one by one
-pub raising_pairs-put : (shape : Shape) → with_pair (with_pair [] own_key (shape_record shape)) (meta_key_of index_file) (first_meta index_file) ≡ raising_pairs shape
+pub raising_pairs-put : (shape : Shape) → with_pair (with_pair [] own_key (shape_record shape)) (meta_key_of index_file) (first_meta index_file) ≡ raising_pairs
+    shape
 unfolding with_pair
 raising_pairs-put shape = refl
 
@@ -39,13 +40,16 @@ pub creation_pairs-ordered : (shape : Shape) → IsOrdered (creation_pairs shape
 creation_pairs-ordered shape = search rules
 
 -- a meta record for each file
-pub find_pair-creation_meta : (shape : Shape) (file : ℕ) → is_meta_file file ≡ true → find_pair (creation_pairs shape) (meta_key_of file) ≡ Some (first_meta file)
+pub find_pair-creation_meta : (shape : Shape) (file : ℕ) → is_meta_file file ≡ true
+    → find_pair (creation_pairs shape) (meta_key_of file) ≡ Some (first_meta file)
 find_pair-creation_meta shape file h =
     let ne = is_meta_file-not_meta file h in
     let other : nat_eq file own_id ≡ false = grind (arith, nat_tests) in
-    ap (λ (t : Bool). cond t (Some (shape_record shape)) (find_pair (map (λ (f : ℕ). (meta_key_of f, first_meta f)) meta_files) (meta_key_of file))) other ∙ each meta_files h
+    ap (λ (t : Bool). cond t (Some (shape_record shape)) (find_pair (map (λ (f : ℕ). (meta_key_of f, first_meta f)) meta_files) (meta_key_of file))) other
+    ∙ each meta_files h
   where
-    each : (files : List ℕ) → list_any (nat_eq file) files ≡ true → find_pair (map (λ (f : ℕ). (meta_key_of f, first_meta f)) files) (meta_key_of file) ≡ Some (first_meta file)
+    each : (files : List ℕ) → list_any (nat_eq file) files ≡ true → find_pair (map (λ (f : ℕ). (meta_key_of f, first_meta f)) files) (meta_key_of file) ≡ Some
+        (first_meta file)
     each [] any = absurd cc
     each (one ∷ rest) any = pick (nat_eq file one) (λ e. let same : one ≡ file = grind (arith, nat_tests) in ap (λ f. Some (first_meta f)) same) (each rest) any
       where

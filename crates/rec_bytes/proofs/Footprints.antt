@@ -1,5 +1,6 @@
 -- Laws of what calls write.
-use Rattle.std.proofs.Common.{◌≡◌, ◌⊎◌, ℕ, ◌+◌, ◌-◌, ◌≤◌, true, false, Bool, cond, ◌||◌, List, [], ◌∷◌, ◌++◌, sym, ap, ◌∙◌, subst, inl, inr, ⊎_elim, arith, refl, length-append}
+use Rattle.std.proofs.Common.{◌≡◌, ◌⊎◌, ℕ, ◌+◌, ◌-◌, ◌≤◌, true, false, Bool, cond, ◌||◌, List, [], ◌∷◌, ◌++◌, sym, ap}
+use Rattle.std.proofs.Common.{◌∙◌, subst, inl, inr, ⊎_elim, arith, refl, length-append}
 use Rattle.rec_bytes.specs.declared.key.Key.{Key}
 use Rattle.rec_bytes.specs.declared.record.Rec.{Rec}
 use Rattle.rec_bytes.specs.Key.{key_eq}
@@ -78,11 +79,13 @@ wrote_within s t xs ys files n m w are le = record {
   others = w.others;
   few = let f = w.few in omega arith;
   own = w.own;
-  each = λ q. ⊎_elim inl (λ i. inr (among_either q w.others xs (λ k. among_left q w.others ys k) (λ k. among_right q w.others ys (among_more q xs ys are k)) i)) (w.each q);
+  each = λ q. ⊎_elim inl (λ i. inr (among_either q w.others xs (λ k. among_left q w.others ys k) (λ k. among_right q w.others ys (among_more q xs ys are k)) i))
+      (w.each q);
 }
 
 -- a call, and then others
-pub wrote_then : (s t u : State) (xs ys : List Key) (files : List ℕ) (n m : ℕ) → Wrote s t xs files n → AreAmong xs ys → n ≤ m → Wrote t u ys files (m - n) → Wrote s u ys files m
+pub wrote_then : (s t u : State) (xs ys : List Key) (files : List ℕ) (n m : ℕ) → Wrote s t xs files n → AreAmong xs ys → n ≤ m → Wrote t u ys files (m - n)
+    → Wrote s u ys files m
 wrote_then s t u xs ys files n m w are le v = record {
   others = w.others ++ v.others;
   few = let f = w.few in let g = v.few in omega (arith, length-append w.others v.others);
@@ -98,7 +101,8 @@ wrote_later s t u ys files m same v = record {
   others = v.others;
   few = v.few;
   own = v.own;
-  each = λ q. ⊎_elim (λ e. inl (record { written = e.written ∙ ap (λ (z : State). z.written q) same; held = e.held ∙ ap (λ (z : State). z.records q) same })) inr (v.each q);
+  each = λ q. ⊎_elim (λ e. inl (record { written = e.written ∙ ap (λ (z : State). z.written q) same; held = e.held ∙ ap (λ (z : State). z.records q) same }))
+      inr (v.each q);
 }
 
 pub ruleset writing = (wrote_none, wrote_put, wrote_edit, wrote_fixed, wrote_within, wrote_then, wrote_later)

@@ -1,6 +1,8 @@
 -- What the slots of a write set say of its keys.
 use mathlib.Core.Bool.{false≢true}
-use Rattle.std.proofs.Common.{◌≡◌, ℕ, zero, suc, ◌+◌, ◌*◌, ◌/◌, ◌-◌, ◌<◌, ◌≤◌, Bool, true, false, cond, List, [], ◌∷◌, ◌++◌, length, get_or, set, Option, Some, None, is_some, unwrap_or, inl, inr, ⊎_elim, IsSome, IfSome, IfNone, sym, ap, ◌∙◌, subst, arith, refl}
+use Rattle.std.proofs.Common.{◌≡◌, ℕ, zero, suc, ◌+◌, ◌*◌, ◌/◌, ◌-◌, ◌<◌, ◌≤◌, Bool, true, false, cond, List, [], ◌∷◌}
+use Rattle.std.proofs.Common.{◌++◌, length, get_or, set, Option, Some, None, is_some, unwrap_or, inl, inr, ⊎_elim}
+use Rattle.std.proofs.Common.{IsSome, IfSome, IfNone, sym, ap, ◌∙◌, subst, arith, refl}
 use Rattle.std.specs.List.{insert, AllByRecursion}
 use Rattle.std.proofs.lemmas.Bool.{cases_lt}
 use Rattle.std.proofs.lemmas.List.{length-append, length-set, get_or_default}
@@ -56,7 +58,8 @@ pair_at_place ps order hints key place is lt same =
     }
 
 -- a place that a search found
-pub pair_searched : (ps : Pairs) (order : List ℕ) (key : Key) (i place : ℕ) → IsPlaceOf (in_order ps order) key i → get_or order i 0 ≡ place → IsPairOf ps order key place
+pub pair_searched : (ps : Pairs) (order : List ℕ) (key : Key) (i place : ℕ) → IsPlaceOf (in_order ps order) key i → get_or order i 0 ≡ place
+    → IsPairOf ps order key place
 pair_searched ps order key i place here stands = record { i = i; here = here; stands = stands }
 
 pub pair_index : (ps : Pairs) (order : List ℕ) (key : Key) (place : ℕ) (of : IsPairOf ps order key place) → of.i < length order
@@ -66,19 +69,22 @@ pub pair_within : (ps : Pairs) (order : List ℕ) (key : Key) (place : ℕ) → 
 pair_within ps order key place is of =
     subst (λ n. n < length ps) of.stands (all_at (λ n. n < length ps) order of.i 0 is.places (pair_index ps order key place of))
 
-same_pair : (ps : Pairs) (order : List ℕ) (key : Key) (place : ℕ) (of : IsPairOf ps order key place) → get_or (in_order ps order) of.i no_pair ≡ get_or ps place no_pair
+same_pair : (ps : Pairs) (order : List ℕ) (key : Key) (place : ℕ) (of : IsPairOf ps order key place)
+    → get_or (in_order ps order) of.i no_pair ≡ get_or ps place no_pair
 same_pair ps order key place of = get_or-in_order ps order of.i no_pair (pair_index ps order key place of) ∙ ap (λ n. get_or ps n no_pair) of.stands
 
 pub pair_key : (ps : Pairs) (order : List ℕ) (key : Key) (place : ℕ) → IsPairOf ps order key place → (get_or ps place no_pair).0 ≡ key
 pair_key ps order key place of =
     ap (λ (p : Key × Rec). p.0) (sym (same_pair ps order key place of)) ∙ key_of_place (in_order ps order) key of.i no_pair of.here
 
-pub pair_found : (ps : Pairs) (order : List ℕ) (key : Key) (place : ℕ) → IsPairOf ps order key place → find_pair (in_order ps order) key ≡ Some (get_or ps place no_pair).1
+pub pair_found : (ps : Pairs) (order : List ℕ) (key : Key) (place : ℕ) → IsPairOf ps order key place
+    → find_pair (in_order ps order) key ≡ Some (get_or ps place no_pair).1
 pair_found ps order key place of =
     find_at (in_order ps order) key of.i no_pair of.here ∙ ap (λ (p : Key × Rec). Some p.1) (same_pair ps order key place of)
 
 -- what a look for a place says of what is found
-pub some_found : (ps : Pairs) (order : List ℕ) (key : Key) (r : Option ℕ) → IfSome r (IsPairOf ps order key) → IfNone r (find_pair (in_order ps order) key ≡ None)
+pub some_found : (ps : Pairs) (order : List ℕ) (key : Key) (r : Option ℕ) → IfSome r (IsPairOf ps order key)
+    → IfNone r (find_pair (in_order ps order) key ≡ None)
     → is_some r ≡ is_some (find_pair (in_order ps order) key)
 some_found ps order key (Some place) found absent = sym (ap is_some (pair_found ps order key place found))
 some_found ps order key None found absent = sym (ap is_some absent)
@@ -135,7 +141,8 @@ marked_here old new key hint positive is =
     (subst (λ n. 0 < get_or (set old slot hint) (slot_of n key) 1) (sym (length-set old slot hint)) (written_here old slot hint positive))
 
 -- a new pair, with its slot written
-pub hinted_added : (ps : Pairs) (order old new : List ℕ) (key : Key) (rec : Rec) (i hint : ℕ) → IsHinted ps order old → IsGapFor (in_order ps order) key i → IsKey key
+pub hinted_added : (ps : Pairs) (order old new : List ℕ) (key : Key) (rec : Rec) (i hint : ℕ) → IsHinted ps order old → IsGapFor (in_order ps order) key i
+    → IsKey key
     → length ps < most_pairs → 0 < hint → new ≡ set old (slot_of (length old) key) hint → IsHinted (ps ++ (key, rec) ∷ []) (insert order i (length ps)) new
 hinted_added ps order old new key rec i hint is gap valid few positive written =
     let longer : length (ps ++ (key, rec) ∷ []) ≡ length ps + 1 = simp length-append in

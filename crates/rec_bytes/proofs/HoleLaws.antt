@@ -1,10 +1,13 @@
 -- What filling a hole in the order of a write set leaves.
-use Rattle.std.proofs.Common.{◌≡◌, ℕ, ◌+◌, ◌-◌, ◌<◌, ◌≤◌, cond, is_some, List, [], ◌∷◌, ◌++◌, length, get_or, set, take, drop, replicate, sym, ap, ◌∙◌, subst, arith, append_assoc, append-nil, ⊎_elim}
+use Rattle.std.proofs.Common.{◌≡◌, ℕ, ◌+◌, ◌-◌, ◌<◌, ◌≤◌, cond, is_some, List, [], ◌∷◌, ◌++◌, length, get_or, set, take}
+use Rattle.std.proofs.Common.{drop, replicate, sym, ap, ◌∙◌, subst, arith, append_assoc, append-nil, ⊎_elim}
 use lib.Seq.{paste}
 use Rattle.std.specs.List.{insert}
 use Rattle.std.specs.declared.cmp.Ordering.TheVariants.{Less}
 use Rattle.std.proofs.lemmas.Bool.{cases_lt}
-use Rattle.std.proofs.lemmas.List.{length-append, length-drop, length-replicate, length-take-le, take-append-drop, take_at, drop_at, drop_all, drop-drop, drop-set-lt, get_or-drop, get_or-append_right, get_or-set_same, length-set, take_more_set}
+use Rattle.std.proofs.lemmas.List.{length-append, length-drop, length-replicate, length-take-le, take-append-drop}
+use Rattle.std.proofs.lemmas.List.{take_at, drop_at, drop_all, drop-drop, drop-set-lt, get_or-drop, get_or-append_right}
+use Rattle.std.proofs.lemmas.List.{get_or-set_same, length-set, take_more_set}
 use Rattle.std.proofs.lemmas.List.Edits.{length-paste, take-paste, drop-paste, insert-append_right, get_or-insert_at}
 use Rattle.rec_bytes.specs.declared.record.Rec.{Rec}
 use Rattle.rec_bytes.specs.declared.key.Key.{Key}
@@ -14,7 +17,8 @@ use Rattle.rec_bytes.specs.Pairs.{Pairs, most_pairs, with_pair, growth, IsOrdere
 use Rattle.rec_bytes.specs.PairOrder.{no_pair, in_order}
 use Rattle.rec_bytes.specs.PlaceHints.{slot_of, IsHinted, IsPairOf}
 use Rattle.rec_bytes.specs.OrderHole.{around, AreBelow, IsOpen}
-use Rattle.rec_bytes.proofs.PairLaws.{keys_total, same_cmp, key_of_place, rises, set_place, insert_gap, ordered_with, length-with_gap, place_in_range, gap_in_range}
+use Rattle.rec_bytes.proofs.PairLaws.{keys_total, same_cmp, key_of_place, rises, set_place, insert_gap, ordered_with}
+use Rattle.rec_bytes.proofs.PairLaws.{length-with_gap, place_in_range, gap_in_range}
 use Rattle.rec_bytes.proofs.OrderLaws.{added, gap_within, place_read}
 use Rattle.rec_bytes.proofs.HintLaws.{hinted_added, hinted_set, hinted_replaced, pair_found, pair_searched}
 
@@ -32,7 +36,8 @@ length-around order hole within =
     omega (arith, both, front, back)
 
 -- behind the hole a place stands further on by the hole
-pub get_or-around : (order : List ℕ) (hole : Hole) (i d : ℕ) → hole.start + hole.size ≤ length order → hole.start ≤ i → get_or (around order hole) i d ≡ get_or order (i + hole.size) d
+pub get_or-around : (order : List ℕ) (hole : Hole) (i d : ℕ) → hole.start + hole.size ≤ length order → hole.start ≤ i
+    → get_or (around order hole) i d ≡ get_or order (i + hole.size) d
 get_or-around order hole i d within from =
     let at : hole.start + hole.size + (i - hole.start) ≡ i + hole.size = omega arith in
     get_or-append_right (take hole.start order) (drop (hole.start + hole.size) order) hole.start i d (length-take-le hole.start order (omega arith)) from
@@ -86,7 +91,8 @@ around_filled old new hole next i place n from some within count starts sized ma
     ∙ sym (insert-append_right front back hole.start i place (length-take-le hole.start old (omega arith)) from)
 
 -- what stands up to a key is smaller than a greater one
-pub below_next : (ps : Pairs) (i count : ℕ) (key next : Key) → IsOrdered ps → i < length ps → (get_or ps i no_pair).0 ≡ key → count ≤ i + 1 → key_cmp key next ≡ Less
+pub below_next : (ps : Pairs) (i count : ℕ) (key next : Key) → IsOrdered ps → i < length ps → (get_or ps i no_pair).0 ≡ key → count ≤ i + 1
+    → key_cmp key next ≡ Less
     → AreBelow ps count next
 below_next ps i count key next rising within here few less k lt = ⊎_elim
     (λ (before : k < i). keys_total.trans (get_or ps k no_pair).0 key next
@@ -125,7 +131,8 @@ not_before ps start key i below found = ⊎_elim
     (cases_lt i start)
 
 -- the place that is read there
-pub pair_behind : (ps : Pairs) (order hints : List ℕ) (hole : Hole) (key : Key) (i place : ℕ) → IsOpen ps order hints hole → AreBelow (in_order ps (around order hole)) hole.start key
+pub pair_behind : (ps : Pairs) (order hints : List ℕ) (hole : Hole) (key : Key) (i place : ℕ) → IsOpen ps order hints hole
+    → AreBelow (in_order ps (around order hole)) hole.start key
     → IsPlaceOf (in_order ps (around order hole)) key i → place ≡ get_or order (i + hole.size) place → IsPairOf ps (around order hole) key place
 pair_behind ps order hints hole key i place is below found read =
     let pairs = in_order ps (around order hole) in
@@ -134,7 +141,8 @@ pair_behind ps order hints hole key i place is below found read =
     (read ∙ sym (get_or-around order hole i place is.within (not_before pairs hole.start key i below found))))
 
 -- a record that is written over leaves the hole as it is
-pub open_set : (ps : Pairs) (order hints : List ℕ) (hole : Hole) (key : Key) (rec : Rec) (place : ℕ) → IsOpen ps order hints hole → IsPairOf ps (around order hole) key place
+pub open_set : (ps : Pairs) (order hints : List ℕ) (hole : Hole) (key : Key) (rec : Rec) (place : ℕ) → IsOpen ps order hints hole
+    → IsPairOf ps (around order hole) key place
     → IsOpen (set ps place (key, rec)) order hints hole
 open_set ps order hints hole key rec place is of = record {
   hinted = hinted_set ps (around order hole) hints key rec place is.hinted of;
@@ -152,7 +160,8 @@ below_set ps order hints hole key next rec place is below of less =
     let from = not_before old hole.start key of.i below of.here in
     subst (λ (p : Pairs). AreBelow p hole.start next) (sym put)
     (below_next (with_pair old key rec) of.i hole.start key next (ordered_with old key rec is.hinted.ordered.rising)
-    (let same = length-found_put old key rec of.i of.here in omega (arith, same, place_in_range old key of.i of.here)) (found_put old key rec of.i of.here) (omega (arith, from)) less)
+    (let same = length-found_put old key rec of.i of.here in omega (arith, same, place_in_range old key of.i of.here)) (found_put old key rec of.i of.here)
+    (omega (arith, from)) less)
 
 -- a new pair takes the last place of the hole, which goes behind it
 pub open_added : (ps : Pairs) (order hints order_new hints_new : List ℕ) (hole next : Hole) (key : Key) (rec : Rec) (i hint : ℕ) → IsOpen ps order hints hole
@@ -179,7 +188,8 @@ pairs_added ps order hints order_new hole next key rec i is gap filled =
     ap (in_order (ps ++ (key, rec) ∷ [])) filled ∙ added ps (around order hole) key rec i is.hinted.ordered gap
 
 pub below_added : (ps now : Pairs) (order hints : List ℕ) (hole : Hole) (key next : Key) (rec : Rec) (i start : ℕ) → IsOpen ps order hints hole
-    → IsGapFor (in_order ps (around order hole)) key i → now ≡ with_pair (in_order ps (around order hole)) key rec → start ≡ i + 1 → key_cmp key next ≡ Less → AreBelow now start next
+    → IsGapFor (in_order ps (around order hole)) key i → now ≡ with_pair (in_order ps (around order hole)) key rec → start ≡ i + 1 → key_cmp key next ≡ Less
+    → AreBelow now start next
 below_added ps now order hints hole key next rec i start is gap put starts less =
     let old = in_order ps (around order hole) in
     subst (λ (p : Pairs). AreBelow p start next) (sym put)

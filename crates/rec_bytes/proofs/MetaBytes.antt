@@ -18,7 +18,8 @@ unfolding as_64
 length-as_64 xs = length-take-le 64 (xs ++ replicate 64 0) (omega (arith, length-append xs (replicate 64 0), length-replicate {A = ℕ} 64 0))
 
 -- bytes written behind a part of a list
-write_behind : (part rest bs : List ℕ) (at : ℕ) → at ≡ length part → length bs ≤ length rest → with_bytes (part ++ rest) at bs ≡ (part ++ bs) ++ drop (length bs) rest
+write_behind : (part rest bs : List ℕ) (at : ℕ) → at ≡ length part → length bs ≤ length rest
+    → with_bytes (part ++ rest) at bs ≡ (part ++ bs) ++ drop (length bs) rest
 write_behind part rest bs at e fits =
     ap (λ n. with_bytes (part ++ rest) n bs) e ∙ with_bytes-is (part ++ rest) (length part) bs (omega (arith, length-append part rest))
     ∙ ap (λ xs. xs ++ (bs ++ drop (length part + length bs) (part ++ rest))) (take-append_seam part rest)
@@ -47,12 +48,16 @@ with_meta-is r m =
     let d4 : length (drop 4 xs) ≡ 60 = length-drop 4 xs ∙ omega arith in
     let long1 : length (([] ++ a) ++ drop 4 xs) ≡ 64 = omega (arith, length-append a (drop 4 xs)) in
     let whole1 : as_64 (with_bytes xs 0 a) ≡ ([] ++ a) ++ drop 4 xs = ap as_64 one ∙ as_64-whole (([] ++ a) ++ drop 4 xs) long1 in
-    let two : with_bytes (([] ++ a) ++ drop 4 xs) 4 b ≡ (([] ++ a) ++ b) ++ drop 8 xs = write_behind ([] ++ a) (drop 4 xs) b 4 (sym la) (omega arith) ∙ ap (λ n. (([] ++ a) ++ b) ++ drop n (drop 4 xs)) lb ∙ ap (λ ys. (([] ++ a) ++ b) ++ ys) (drop-drop 4 4 xs) in
+    let two : with_bytes (([] ++ a) ++ drop 4 xs) 4 b ≡ (([] ++ a) ++ b) ++ drop 8 xs = write_behind ([] ++ a) (drop 4 xs) b 4 (sym la) (omega arith)
+    ∙ ap (λ n. (([] ++ a) ++ b) ++ drop n (drop 4 xs)) lb ∙ ap (λ ys. (([] ++ a) ++ b) ++ ys) (drop-drop 4 4 xs) in
     let lab : length (([] ++ a) ++ b) ≡ 8 = omega (arith, length-append a b) in
     let d8 : length (drop 8 xs) ≡ 56 = length-drop 8 xs ∙ omega arith in
     let long2 : length ((([] ++ a) ++ b) ++ drop 8 xs) ≡ 64 = omega (arith, length-append (([] ++ a) ++ b) (drop 8 xs)) in
-    let whole2 : as_64 (with_bytes (as_64 (with_bytes xs 0 a)) 4 b) ≡ (([] ++ a) ++ b) ++ drop 8 xs = ap (λ ys. as_64 (with_bytes ys 4 b)) whole1 ∙ ap as_64 two ∙ as_64-whole ((([] ++ a) ++ b) ++ drop 8 xs) long2 in
-    let three : with_bytes ((([] ++ a) ++ b) ++ drop 8 xs) 8 c ≡ ((([] ++ a) ++ b) ++ c) ++ drop 12 xs = write_behind (([] ++ a) ++ b) (drop 8 xs) c 8 (sym lab) (omega arith) ∙ ap (λ n. ((([] ++ a) ++ b) ++ c) ++ drop n (drop 8 xs)) lc ∙ ap (λ ys. ((([] ++ a) ++ b) ++ c) ++ ys) (drop-drop 4 8 xs) in
+    let whole2 : as_64 (with_bytes (as_64 (with_bytes xs 0 a)) 4 b) ≡ (([] ++ a) ++ b) ++ drop 8 xs = ap (λ ys. as_64 (with_bytes ys 4 b)) whole1 ∙ ap as_64 two
+    ∙ as_64-whole ((([] ++ a) ++ b) ++ drop 8 xs) long2 in
+    let three : with_bytes ((([] ++ a) ++ b) ++ drop 8 xs) 8 c ≡ ((([] ++ a) ++ b) ++ c) ++ drop 12 xs =
+    write_behind (([] ++ a) ++ b) (drop 8 xs) c 8 (sym lab) (omega arith) ∙ ap (λ n. ((([] ++ a) ++ b) ++ c) ++ drop n (drop 8 xs)) lc
+    ∙ ap (λ ys. ((([] ++ a) ++ b) ++ c) ++ ys) (drop-drop 4 8 xs) in
     ap (λ ys. record { bytes = with_bytes ys 8 c }) whole2 ∙ ap (λ ys. record { bytes = ys }) three
 
 -- what stands behind the three numbers stays
@@ -78,7 +83,8 @@ zeros_from-with_meta at r m behind zeros =
     ∙ zeros
 
 -- zeros behind a number that is written stay
-pub zeros_from-with_field : (n : ℕ) (r : Rec) (at value place : ℕ) → at + n ≤ place → place ≤ 64 → zeros_from place r ≡ true → zeros_from place (with_field n r at value) ≡ true
+pub zeros_from-with_field : (n : ℕ) (r : Rec) (at value place : ℕ) → at + n ≤ place → place ≤ 64 → zeros_from place r ≡ true
+    → zeros_from place (with_field n r at value) ≡ true
 unfolding zeros_from with_field
 zeros_from-with_field n r at value place behind inside zeros =
     let xs = as_64 r.bytes in
@@ -88,7 +94,8 @@ zeros_from-with_field n r at value place behind inside zeros =
     let front = take at xs ++ bs in
     let la : length front ≡ at + n = omega (arith, length-append (take at xs) bs, length-take-le at xs (omega (arith, long, behind, inside)), lb) in
     let is : with_bytes xs at bs ≡ front ++ drop (at + n) xs
-    = with_bytes-is xs at bs (omega (arith, lb, long, behind, inside)) ∙ ap (λ k. take at xs ++ (bs ++ drop (at + k) xs)) lb ∙ sym (append_assoc (take at xs) bs (drop (at + n) xs)) in
+    = with_bytes-is xs at bs (omega (arith, lb, long, behind, inside)) ∙ ap (λ k. take at xs ++ (bs ++ drop (at + k) xs)) lb
+    ∙ sym (append_assoc (take at xs) bs (drop (at + n) xs)) in
     let whole : length (front ++ drop (at + n) xs) ≡ 64 = omega (arith, length-append front (drop (at + n) xs), la, length-drop (at + n) xs, long, behind, inside) in
     let split : at + n + (place - (at + n)) ≡ place = omega (arith, behind) in
     let same : drop place (as_64 (with_bytes xs at bs)) ≡ drop place xs

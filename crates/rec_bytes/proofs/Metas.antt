@@ -11,7 +11,8 @@ pub meta_reads_back : (r : Rec) (m : Meta) → m.high < 2 ^ 32 → m.free < 2 ^ 
 meta_reads_back r m high free live =
     let one = with_field 4 r 0 m.high in
     let two = with_field 4 one 4 m.free in
-    let a = field-with_field_other 4 two 8 m.live 4 0 (omega arith) (inr (omega arith)) ∙ field-with_field_other 4 one 4 m.free 4 0 (omega arith) (inr (omega arith)) ∙ field-with_field_same 4 r 0 m.high (omega arith) (omega arith) in
+    let a = field-with_field_other 4 two 8 m.live 4 0 (omega arith) (inr (omega arith))
+    ∙ field-with_field_other 4 one 4 m.free 4 0 (omega arith) (inr (omega arith)) ∙ field-with_field_same 4 r 0 m.high (omega arith) (omega arith) in
     let b = field-with_field_other 4 two 8 m.live 4 4 (omega arith) (inr (omega arith)) ∙ field-with_field_same 4 one 4 m.free (omega arith) (omega arith) in
     let c = field-with_field_same 4 two 8 m.live (omega arith) (omega arith) in
     ap (λ x. record { high = x; free = field 4 (with_meta r m) 4; live = field 4 (with_meta r m) 8 }) a
@@ -34,4 +35,5 @@ pub definition-with_meta : (r : Rec) (m : Meta) → field 4 (with_meta r m) 12 �
 definition-with_meta r m =
     let one = with_field 4 r 0 m.high in
     let two = with_field 4 one 4 m.free in
-    field-with_field_other 4 two 8 m.live 4 12 (omega arith) (inl (omega arith)) ∙ field-with_field_other 4 one 4 m.free 4 12 (omega arith) (inl (omega arith)) ∙ field-with_field_other 4 r 0 m.high 4 12 (omega arith) (inl (omega arith))
+    field-with_field_other 4 two 8 m.live 4 12 (omega arith) (inl (omega arith)) ∙ field-with_field_other 4 one 4 m.free 4 12 (omega arith) (inl (omega arith))
+    ∙ field-with_field_other 4 r 0 m.high 4 12 (omega arith) (inl (omega arith))

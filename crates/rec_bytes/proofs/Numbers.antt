@@ -1,7 +1,11 @@
 -- Laws of the numbers in a record, for every width.
-use Rattle.std.proofs.Common.{◌≡◌, ℕ, zero, suc, ◌+◌, ◌*◌, ◌-◌, ◌^◌, ◌%◌, ◌<◌, ◌≤◌, ◌⊎◌, List, [], ◌∷◌, ◌++◌, length, take, drop, get_or, set, sym, ap, ◌∙◌, inl, inr, arith, ⊎_elim, refl}
+use Rattle.std.proofs.Common.{◌≡◌, ℕ, zero, suc, ◌+◌, ◌*◌, ◌-◌, ◌^◌, ◌%◌, ◌<◌, ◌≤◌, ◌⊎◌, List, [], ◌∷◌, ◌++◌, length}
+use Rattle.std.proofs.Common.{take, drop, get_or, set, sym, ap, ◌∙◌, inl, inr, arith, ⊎_elim, refl}
 use Rattle.std.specs.Prelude.{replicate}
-use Rattle.std.proofs.lemmas.List.{drop_at, get_or-drop, length-take-le, get_or-set_other, length-set, append_assoc, append-nil, take_all, drop_all, drop-drop, length-drop, drop-set-lt, take_at, get_or-take, get_or_append_left, get_or-append_right, get_or_past, get_or-replicate, length-append, length-replicate}
+use Rattle.std.proofs.lemmas.List.{drop_at, get_or-drop, length-take-le, get_or-set_other, length-set, append_assoc}
+use Rattle.std.proofs.lemmas.List.{append-nil, take_all, drop_all, drop-drop, length-drop, drop-set-lt, take_at}
+use Rattle.std.proofs.lemmas.List.{get_or-take, get_or_append_left, get_or-append_right, get_or_past, get_or-replicate}
+use Rattle.std.proofs.lemmas.List.{length-append, length-replicate}
 use Rattle.std.proofs.lemmas.Bool.{cases_lt}
 use native.Mathlib.Nat.{mod-eq_of_lt, mod-lt, one-le-pow}
 use Rattle.std.proofs.Math.Seq.{take-suc-set}
@@ -78,10 +82,12 @@ field-with_field_same n r at value fits small =
     let front : length (take at xs) ≡ at = length-take-le at xs (omega arith) in
     let is = with_bytes-is xs at (little_bytes n value) (omega arith) in
     let got = little_number-reads_back n value (drop (at + length (little_bytes n value)) xs) small in
-    rw (is, drop_at (take at xs) (little_bytes n value ++ drop (at + length (little_bytes n value)) xs) at front) (ap (λ k. k % 256 ^ n) got ∙ mod-eq_of_lt small)
+    rw (is, drop_at (take at xs) (little_bytes n value ++ drop (at + length (little_bytes n value)) xs) at front)
+    (ap (λ k. k % 256 ^ n) got ∙ mod-eq_of_lt small)
 
 -- the other numbers stay, of whatever width
-pub field-with_field_other : (n : ℕ) (r : Rec) (at value m other : ℕ) → other + m ≤ 64 → Apart n at m other → field m (with_field n r at value) other ≡ field m r other
+pub field-with_field_other : (n : ℕ) (r : Rec) (at value m other : ℕ) → other + m ≤ 64 → Apart n at m other
+    → field m (with_field n r at value) other ≡ field m r other
 unfolding field with_field
 field-with_field_other n r at value m other fits apart =
     let new = with_bytes (as_64 r.bytes) at (little_bytes n value) in
@@ -99,14 +105,17 @@ unfolding with_field
 put_mid-field n r at value rest fits long is =
     let bytes : length (little_bytes n value) ≡ n = length-bytes_low_first 0 n value in
     let end : drop (64 - at) (drop at r.bytes) ≡ [] = drop_all (64 - at) (drop at r.bytes) (simp length-drop (omega arith)) in
-    let tail : drop n (take (64 - at) (drop at r.bytes)) ≡ drop (at + n) r.bytes = ap (drop n) (take_all (64 - at) (drop at r.bytes) (simp length-drop (omega arith))) ∙ drop-drop n at r.bytes in
-    let all : rest ++ drop (64 - at) (drop at r.bytes) ≡ little_bytes n value ++ drop (at + n) r.bytes = ap (λ e. rest ++ e) end ∙ append-nil rest ∙ is ∙ ap (λ e. little_bytes n value ++ e) tail in
+    let tail : drop n (take (64 - at) (drop at r.bytes)) ≡ drop (at + n) r.bytes =
+    ap (drop n) (take_all (64 - at) (drop at r.bytes) (simp length-drop (omega arith))) ∙ drop-drop n at r.bytes in
+    let all : rest ++ drop (64 - at) (drop at r.bytes) ≡ little_bytes n value ++ drop (at + n) r.bytes = ap (λ e. rest ++ e) end ∙ append-nil rest ∙ is
+    ∙ ap (λ e. little_bytes n value ++ e) tail in
     let mid : with_bytes r.bytes at (little_bytes n value) ≡ take at r.bytes ++ (little_bytes n value ++ drop (at + n) r.bytes)
     = with_bytes-is r.bytes at (little_bytes n value) (omega arith) ∙ ap (λ k. take at r.bytes ++ (little_bytes n value ++ drop (at + k) r.bytes)) bytes in
     ap (λ b. record { bytes = b }) (ap (λ e. take at r.bytes ++ e) all ∙ sym mid ∙ ap (λ xs. with_bytes xs at (little_bytes n value)) (sym (as_64-whole r.bytes long)))
 
 -- a number that was read from the rest of the bytes
-pub field-read : (n : ℕ) (r : Rec) (at value : ℕ) → length r.bytes ≡ 64 → value ≡ little_number n (take (64 - at) (drop at r.bytes)) → value < 256 ^ n → value ≡ field n r at
+pub field-read : (n : ℕ) (r : Rec) (at value : ℕ) → length r.bytes ≡ 64 → value ≡ little_number n (take (64 - at) (drop at r.bytes)) → value < 256 ^ n
+    → value ≡ field n r at
 unfolding field
 field-read n r at value long is small =
     let whole = ap (little_number n) (take_all (64 - at) (drop at r.bytes) (simp length-drop (omega arith))) in

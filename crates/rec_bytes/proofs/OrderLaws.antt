@@ -1,5 +1,6 @@
 -- Pairs in the order of first put, seen along their places.
-use Rattle.std.proofs.Common.{◌≡◌, ◌≢◌, ℕ, zero, suc, ◌+◌, ◌<◌, ◌≤◌, List, [], ◌∷◌, ◌++◌, length, get_or, set, Ordering, get_or-set_same, get_or-set_other, sym, ap, ◌∙◌, subst, arith, refl}
+use Rattle.std.proofs.Common.{◌≡◌, ◌≢◌, ℕ, zero, suc, ◌+◌, ◌<◌, ◌≤◌, List, [], ◌∷◌, ◌++◌, length, get_or, set, Ordering}
+use Rattle.std.proofs.Common.{get_or-set_same, get_or-set_other, sym, ap, ◌∙◌, subst, arith, refl}
 use Rattle.std.specs.List.{insert, AllByRecursion}
 use Rattle.std.specs.declared.cmp.Ordering.TheVariants.{Less, Equal, Greater}
 use Rattle.std.proofs.lemmas.List.{length-append, length-set, get_or_append_left, get_or_default}
@@ -29,7 +30,8 @@ all_at P (x ∷ xs) zero d all lt = all.0
 all_at P (x ∷ xs) (suc i) d all lt = all_at P xs i d all.1 (omega arith)
 
 -- a pair behind the others has no place yet
-in_order-push : (ps : Pairs) (order : List ℕ) (pair : Key × Rec) → AllByRecursion (λ place. place < length ps) order → in_order (ps ++ pair ∷ []) order ≡ in_order ps order
+in_order-push : (ps : Pairs) (order : List ℕ) (pair : Key × Rec) → AllByRecursion (λ place. place < length ps) order
+    → in_order (ps ++ pair ∷ []) order ≡ in_order ps order
 in_order-push ps [] pair places = refl
 in_order-push ps (place ∷ order) pair places =
     ap (λ p. p ∷ in_order (ps ++ pair ∷ []) order) (get_or_append_left ps (pair ∷ []) no_pair place places.0)
@@ -62,7 +64,8 @@ in_order-above ps (p ∷ order) place pair below =
     ap (λ z. z ∷ in_order (set ps place pair) order) (get_or-set_other ps place p pair no_pair (other_place ps place p Less (λ e. cc) below.0))
     ∙ ap (λ z. get_or ps p no_pair ∷ z) (in_order-above ps order place pair below.1)
 
-in_order-set : (ps : Pairs) (order : List ℕ) (key : Key) (pair : Key × Rec) (i : ℕ) → AllByRecursion (λ place. place < length ps) order → IsOrdered (in_order ps order)
+in_order-set : (ps : Pairs) (order : List ℕ) (key : Key) (pair : Key × Rec) (i : ℕ) → AllByRecursion (λ place. place < length ps) order
+    → IsOrdered (in_order ps order)
     → IsPlaceOf (in_order ps order) key i → in_order (set ps (get_or order i 0) pair) order ≡ set (in_order ps order) i pair
 in_order-set ps [] key pair i places rising h = absurd h
 in_order-set ps (p ∷ order) key pair zero places rising h =

@@ -1,5 +1,7 @@
 -- What an edit of ordered pairs leaves, and what a search of them finds.
-use Rattle.std.proofs.Common.{◌≡◌, ◌≢◌, ℕ, zero, suc, ◌<◌, ◌≤◌, Bool, true, false, cond, [], ◌∷◌, length, get_or, set, Option, Some, None, is_some, ◌+◌, drop, add-one, drop-cons, ⊎_elim, below_more, Ordering, sym, ap, ◌∙◌, subst, arith, refl}
+use Rattle.std.proofs.Common.{◌≡◌, ◌≢◌, ℕ, zero, suc, ◌<◌, ◌≤◌, Bool, true, false, cond, [], ◌∷◌, length, get_or, set}
+use Rattle.std.proofs.Common.{Option, Some, None, is_some, ◌+◌, drop, add-one, drop-cons, ⊎_elim, below_more, Ordering}
+use Rattle.std.proofs.Common.{sym, ap, ◌∙◌, subst, arith, refl}
 use Rattle.std.specs.declared.cmp.Ordering.TheVariants.{Less, Equal, Greater}
 use mathlib.Core.Bool.{false≢true}
 use Rattle.std.specs.Option.{option_or}
@@ -101,7 +103,8 @@ find_with (pair ∷ rest) key rec q = by_cmp key pair.0 (find_pair (with_pair (p
     (λ e. rw (step pair rest key rec Less e) refl)
     (λ e. rw (step pair rest key rec Equal e) (subst (λ z. cond (key_eq q key) (Some rec) (find_pair rest q) ≡ cond (key_eq q key) (Some rec) (cond (key_eq q z) (Some pair.1) (find_pair rest q))) (exact_keys key pair.0 e) (twice (key_eq q key) (Some rec) (Some pair.1) (find_pair rest q))))
     (λ e. rw (step pair rest key rec Greater e) (ap (cond (key_eq q pair.0) (Some pair.1)) (find_with rest key rec q)
-    ∙ swap (key_eq q pair.0) (key_eq q key) (Some pair.1) (Some rec) (find_pair rest q) (λ h. subst (λ z. key_eq z key ≡ false) (sym (key_eq_true q pair.0 h)) (apart pair.0 key Less (reverse key pair.0 Greater e) (λ x. cc)))))
+    ∙ swap (key_eq q pair.0) (key_eq q key) (Some pair.1) (Some rec) (find_pair rest q)
+    (λ h. subst (λ z. key_eq z key ≡ false) (sym (key_eq_true q pair.0 h)) (apart pair.0 key Less (reverse key pair.0 Greater e) (λ x. cc)))))
   where
     swap : {X : Type 0} (a b : Bool) (x y z : X) → (a ≡ true → b ≡ false) → cond a x (cond b y z) ≡ cond b y (cond a x z)
     swap true b x y z h = rw (h refl) refl
@@ -149,7 +152,8 @@ pub record IsSearching (ps : Pairs) (key : Key) (d : Key × Rec) (low high : ℕ
   pub below : (k : ℕ) → k < low → key_cmp (get_or ps k d).0 key ≡ Less
   pub above : (k : ℕ) → high ≤ k → k < length ps → key_cmp (get_or ps k d).0 key ≡ Greater
 
-pub search_from : (ps : Pairs) (key : Key) (d : Key × Rec) (low high : ℕ) → low ≤ high → high ≡ length ps → ((k : ℕ) → k < low → key_cmp (get_or ps k d).0 key ≡ Less)
+pub search_from : (ps : Pairs) (key : Key) (d : Key × Rec) (low high : ℕ) → low ≤ high → high ≡ length ps
+    → ((k : ℕ) → k < low → key_cmp (get_or ps k d).0 key ≡ Less)
     → IsSearching ps key d low high
 search_from ps key d low high meets all below = record {
   meets = meets;
@@ -213,7 +217,8 @@ find_merged ps [] q h = refl
 find_merged ps (pair ∷ rest) q h =
     find_merged (with_pair ps pair.0 pair.1) rest q h.1
     ∙ ap (option_or (find_pair rest q)) (find_with ps pair.0 pair.1 q)
-    ∙ pick (key_eq q pair.0) (Some pair.1) (find_pair rest q) (find_pair ps q) (λ e. subst (λ k. find_pair rest k ≡ None) (sym (key_eq_true q pair.0 e)) (below_out rest pair.0 h.0)) refl
+    ∙ pick (key_eq q pair.0) (Some pair.1) (find_pair rest q) (find_pair ps q)
+    (λ e. subst (λ k. find_pair rest k ≡ None) (sym (key_eq_true q pair.0 e)) (below_out rest pair.0 h.0)) refl
   where
     pick : {X : Type 0} (b : Bool) (x y z : Option X) → (b ≡ true → y ≡ None) → is_some x ≡ true → option_or y (cond b x z) ≡ option_or (cond b x y) z
     pick true None y z h some = absurd (false≢true some)
@@ -271,7 +276,8 @@ growth_by-same ps qs key (pair ∷ rest) below h same =
     some_of false x y z e = e
 
 -- each key of the other list counts by itself
-pub growth_by-step : (ps : Pairs) (pair : Key × Rec) (rest : Pairs) → IsOrdered (pair ∷ rest) → growth_by ps (pair ∷ rest) ≡ growth ps pair.0 + growth_by ps rest
+pub growth_by-step : (ps : Pairs) (pair : Key × Rec) (rest : Pairs) → IsOrdered (pair ∷ rest)
+    → growth_by ps (pair ∷ rest) ≡ growth ps pair.0 + growth_by ps rest
 growth_by-step ps pair rest h =
     ap (λ n. growth ps pair.0 + n) (growth_by-same (with_pair ps pair.0 pair.1) ps pair.0 rest h.0 h.1
     (λ q greater. ap is_some (find_with ps pair.0 pair.1 q)

@@ -19,7 +19,8 @@ record_files_are = refl
 -- what is true of each number of a list is true of one that is among them
 pub passes : (test : ℕ → Bool) (files : List ℕ) (file : ℕ) → list_all test files ≡ true → list_any (nat_eq file) files ≡ true → test file ≡ true
 passes test [] file all any = absurd cc
-passes test (one ∷ rest) file all any = pick (nat_eq file one) (test one) (λ e. let same : file ≡ one = grind (arith, nat_tests) in ap test same) (passes test rest file) all any
+passes test (one ∷ rest) file all any = pick (nat_eq file one) (test one) (λ e. let same : file ≡ one = grind (arith, nat_tests) in ap test same)
+    (passes test rest file) all any
   where
     pick : (here ok : Bool) → (here ≡ true → test file ≡ ok) → (list_all test rest ≡ true → list_any (nat_eq file) rest ≡ true → test file ≡ true)
         → (ok && list_all test rest) ≡ true → (here || list_any (nat_eq file) rest) ≡ true → test file ≡ true
@@ -68,12 +69,14 @@ IsKey-room_of shape key allowed h = record {
     among [] h = absurd (omega arith)
     among (room ∷ rest) h = pick (nat_eq key.file room.0) (records_of room.1 shape) h (among rest)
       where
-        pick : (here : Bool) (n : ℕ) → key.id < cond here n (room_in rest shape key.file) → (key.id < room_in rest shape key.file → list_any (nat_eq key.file) (map (λ r. r.0) rest) ≡ true)
+        pick : (here : Bool) (n : ℕ) → key.id < cond here n (room_in rest shape key.file)
+            → (key.id < room_in rest shape key.file → list_any (nat_eq key.file) (map (λ r. r.0) rest) ≡ true)
             → (here || list_any (nat_eq key.file) (map (λ r. r.0) rest)) ≡ true
         pick true n h later = refl
         pick false n h later = later h
 
 -- the tests of the code
-pub is_among-files : (files : List RecordFile) (file : ℕ) → list_any (λ (entry : RecordFile). nat_eq file entry.file) files ≡ list_any (nat_eq file) (map (λ room. room.0) (rooms_of files))
+pub is_among-files : (files : List RecordFile) (file : ℕ) → list_any (λ (entry : RecordFile). nat_eq file entry.file) files ≡ list_any (nat_eq file)
+    (map (λ room. room.0) (rooms_of files))
 is_among-files [] file = refl
 is_among-files (entry ∷ rest) file = ap (λ b. nat_eq file entry.file || b) (is_among-files rest file)

@@ -13,7 +13,8 @@ numbers_read_back : (r : Rec) (s : Shape) → s.threshold < 2 ^ 16 → s.limit <
 numbers_read_back r s threshold limit =
     let one = with_field 2 (with_mark r) 4 3 in
     let two = with_field 2 one 6 s.threshold in
-    let a = field-with_field_other 4 two 8 s.limit 2 6 (omega arith) (inr (omega arith)) ∙ field-with_field_same 2 one 6 s.threshold (omega arith) (omega arith) in
+    let a = field-with_field_other 4 two 8 s.limit 2 6 (omega arith) (inr (omega arith))
+    ∙ field-with_field_same 2 one 6 s.threshold (omega arith) (omega arith) in
     let b = field-with_field_same 4 two 8 s.limit (omega arith) (omega arith) in
     ap (λ x. record { threshold = x; limit = field 4 (with_shape r s) 8 }) a ∙ ap (λ x. record { threshold = s.threshold; limit = x }) b
 
@@ -34,4 +35,6 @@ pub version_reads_back : (r : Rec) (s : Shape) → version_of (with_shape r s) �
 version_reads_back r s =
     let one = with_field 2 (with_mark r) 4 3 in
     let two = with_field 2 one 6 s.threshold in
-    field-with_field_other 4 two 8 s.limit 2 4 (omega arith) (inr (omega arith)) ∙ field-with_field_other 2 one 6 s.threshold 2 4 (omega arith) (inr (omega arith)) ∙ field-with_field_same 2 (with_mark r) 4 3 (omega arith) (omega arith)
+    field-with_field_other 4 two 8 s.limit 2 4 (omega arith) (inr (omega arith))
+    ∙ field-with_field_other 2 one 6 s.threshold 2 4 (omega arith) (inr (omega arith))
+    ∙ field-with_field_same 2 (with_mark r) 4 3 (omega arith) (omega arith)

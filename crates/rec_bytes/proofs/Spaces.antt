@@ -1,5 +1,7 @@
 -- Laws of the records of a space, and of what calls leave of it.
-use Rattle.std.proofs.Common.{◌≡◌, ◌≢◌, ◌⊎◌, ⊎_elim, inl, inr, ℕ, zero, suc, ◌+◌, ◌<◌, ◌^◌, add-one, Bool, true, false, cond, ◌||◌, List, [], ◌∷◌, ◌++◌, Option, Some, None, is_some, unwrap_or, Result, Ok, refl, ap, sym, subst, ◌∙◌, arith}
+use Rattle.std.proofs.Common.{◌≡◌, ◌≢◌, ◌⊎◌, ⊎_elim, inl, inr, ℕ, zero, suc, ◌+◌, ◌<◌, ◌^◌, add-one, Bool, true, false}
+use Rattle.std.proofs.Common.{cond, ◌||◌, List, [], ◌∷◌, ◌++◌, Option, Some, None, is_some, unwrap_or, Result, Ok, refl}
+use Rattle.std.proofs.Common.{ap, sym, subst, ◌∙◌, arith}
 use Rattle.std.specs.Option.{option_or}
 use Rattle.rec_bytes.specs.declared.record.Rec.{Rec}
 use Rattle.rec_bytes.specs.declared.key.Key.{Key}
@@ -10,7 +12,8 @@ use Rattle.rec_bytes.specs.RecordFiles.{meta_key_of}
 use Rattle.rec_bytes.specs.declared.meta.Meta.{Meta}
 use Rattle.rec_bytes.proofs.Metas.{meta_reads_back}
 use Rattle.rec_bytes.specs.Pairs.{Pairs, IsOrdered, find_pair, merged, with_pair}
-use Rattle.rec_bytes.specs.Space.{HasCause, IsAmong, State, WritesOnly, after_get, after_gets, after_meta, after_put, laid_over, laid_state, marked, meta_in, meta_of, put}
+use Rattle.rec_bytes.specs.Space.{HasCause, IsAmong, State, WritesOnly, after_get, after_gets, after_meta, after_put}
+use Rattle.rec_bytes.specs.Space.{laid_over, laid_state, marked, meta_in, meta_of, put}
 use Rattle.rec_bytes.proofs.KeyLaws.{key_eq-same, key_eq-other, key_eq_true}
 use Rattle.rec_bytes.proofs.PairLaws.{find_with, find_merged}
 
@@ -25,10 +28,12 @@ pub put_other_file : (records : Key → Rec) (key : Key) (rec : Rec) (q : Key) �
 put_other_file records key rec q ne = put_other records key rec q (λ e. ne (ap (λ (k : Key). k.file) e))
 
 -- what the meta records say stays where another record is put
-pub meta_in-put_other : (records : Key → Rec) (key : Key) (rec : Rec) (file : ℕ) → meta_key_of file ≢ key → meta_in (put records key rec) file ≡ meta_in records file
+pub meta_in-put_other : (records : Key → Rec) (key : Key) (rec : Rec) (file : ℕ) → meta_key_of file ≢ key
+    → meta_in (put records key rec) file ≡ meta_in records file
 meta_in-put_other records key rec file ne = ap (λ (r : Rec). metas.meta_of r) (put_other records key rec (meta_key_of file) ne)
 
-pub meta_of-after_meta : (s : State) (file : ℕ) (meta : Meta) → meta.high < 2 ^ 32 → meta.free < 2 ^ 32 → meta.live < 2 ^ 32 → meta_of (after_meta s file meta) file ≡ meta
+pub meta_of-after_meta : (s : State) (file : ℕ) (meta : Meta) → meta.high < 2 ^ 32 → meta.free < 2 ^ 32 → meta.live < 2 ^ 32
+    → meta_of (after_meta s file meta) file ≡ meta
 meta_of-after_meta s file meta high free live =
     let old = s.records (meta_key_of file) in
     ap (λ (r : Rec). metas.meta_of r) (put_same s.records (meta_key_of file) (metas.with_meta old meta)) ∙ meta_reads_back old meta high free live
@@ -54,14 +59,16 @@ put_held records key rec e = λ i q. held q (key_eq q key) (λ t. ap records (ke
     held q false h = refl
 
 -- written records over others: one more, and those of another set
-pub laid_over-with_pair : (records : Key → Rec) (pairs : Pairs) (key : Key) (rec : Rec) → laid_over records (with_pair pairs key rec) ≡ put (laid_over records pairs) key rec
+pub laid_over-with_pair : (records : Key → Rec) (pairs : Pairs) (key : Key) (rec : Rec)
+    → laid_over records (with_pair pairs key rec) ≡ put (laid_over records pairs) key rec
 laid_over-with_pair records pairs key rec = λ i q. (ap (λ (o : Option Rec). unwrap_or o (records q)) (find_with pairs key rec q) ∙ same (key_eq q key) (find_pair pairs q) (records q)) i
   where
     same : (t : Bool) (o : Option Rec) (below : Rec) → unwrap_or (cond t (Some rec) o) below ≡ cond t rec (unwrap_or o below)
     same true o below = refl
     same false o below = refl
 
-pub laid_over-merged : (records : Key → Rec) (pairs later : Pairs) → IsOrdered later → laid_over records (merged pairs later) ≡ laid_over (laid_over records pairs) later
+pub laid_over-merged : (records : Key → Rec) (pairs later : Pairs) → IsOrdered later
+    → laid_over records (merged pairs later) ≡ laid_over (laid_over records pairs) later
 laid_over-merged records pairs later rises = λ i q. (ap (λ (o : Option Rec). unwrap_or o (records q)) (find_merged pairs later q rises) ∙ same (find_pair later q) (find_pair pairs q) (records q)) i
   where
     same : (o p : Option Rec) (below : Rec) → unwrap_or (option_or o p) below ≡ unwrap_or o (unwrap_or p below)
@@ -76,7 +83,8 @@ pub laid_over-at : (records : Key → Rec) (pairs : Pairs) (key : Key) (rec : Re
 laid_over-at records pairs key rec some = ap (λ (o : Option Rec). unwrap_or o (records key)) some
 
 -- a put to a space of written records over another
-pub laid_state-with_pair : (base : State) (pairs : Pairs) (key : Key) (rec : Rec) → laid_state base (with_pair pairs key rec) ≡ after_put (laid_state base pairs) key rec
+pub laid_state-with_pair : (base : State) (pairs : Pairs) (key : Key) (rec : Rec)
+    → laid_state base (with_pair pairs key rec) ≡ after_put (laid_state base pairs) key rec
 laid_state-with_pair base pairs key rec =
     let records = laid_over-with_pair base.records pairs key rec in
     let written : (q : Key) → is_some (find_pair (with_pair pairs key rec) q) ≡ marked (λ k. is_some (find_pair pairs k)) key q
@@ -87,7 +95,8 @@ laid_state-with_pair base pairs key rec =
     same true o = refl
     same false o = refl
 
-pub laid_state-put : (base : State) (old new : Pairs) (key : Key) (rec : Rec) → new ≡ with_pair old key rec → laid_state base new ≡ after_put (laid_state base old) key rec
+pub laid_state-put : (base : State) (old new : Pairs) (key : Key) (rec : Rec) → new ≡ with_pair old key rec
+    → laid_state base new ≡ after_put (laid_state base old) key rec
 laid_state-put base old new key rec e = ap (laid_state base) e ∙ laid_state-with_pair base old key rec
 
 -- reads change no record, and come one by one

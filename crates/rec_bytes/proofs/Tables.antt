@@ -1,5 +1,6 @@
 -- What stands in a record after several numbers were written.
-use Rattle.std.proofs.Common.{◌≡◌, ◌⊎◌, ⊎_elim, inl, inr, ℕ, ◌+◌, ◌≤◌, Bool, true, false, ◌&&◌, ◌||◌, cond, nat_eq, [], ◌∷◌, Some, sym, ap, ◌∙◌, subst, arith, refl}
+use Rattle.std.proofs.Common.{◌≡◌, ◌⊎◌, ⊎_elim, inl, inr, ℕ, ◌+◌, ◌≤◌, Bool, true, false, ◌&&◌, ◌||◌, cond, nat_eq, []}
+use Rattle.std.proofs.Common.{◌∷◌, Some, sym, ap, ◌∙◌, subst, arith, refl}
 use Rattle.std.specs.Prelude.{nat_le}
 use Rattle.std.proofs.lemmas.Bool.Decides.{nat_tests}
 use Rattle.rec_bytes.specs.declared.record.Rec.{Rec}
@@ -22,7 +23,8 @@ within : (a b : ℕ) → nat_le a b ≡ true → a ≤ b
 within a b h = grind (arith, nat_tests)
 
 apart : (at n other m : ℕ) → are_apart at n other m ≡ true → Apart m other n at
-apart at n other m h = ⊎_elim (λ (k : nat_le (at + n) other ≡ true). inr (within (at + n) other k)) (λ (k : nat_le (other + m) at ≡ true). inl (within (other + m) at k))
+apart at n other m h = ⊎_elim (λ (k : nat_le (at + n) other ≡ true). inr (within (at + n) other k))
+    (λ (k : nat_le (other + m) at ≡ true). inl (within (other + m) at k))
     (either (nat_le (at + n) other) (nat_le (other + m) at) h)
 
 -- the number at any place that stands apart stays
@@ -34,7 +36,8 @@ field-with_fields_other n r (f ∷ fs) at fits clear =
     field-with_fields_other n (with_field f.1 r f.0 f.2) fs at fits t.1 ∙ field-with_field_other f.1 r f.0 f.2 n at fits (apart at n f.0 f.1 t.0)
 
 -- the number at each place of the table is the table's
-pub field-with_fields : (n : ℕ) (r : Rec) (fs : Fields) (at value : ℕ) → is_table fs ≡ true → AllFit fs → field_at fs n at ≡ Some value → field n (with_fields r fs) at ≡ value
+pub field-with_fields : (n : ℕ) (r : Rec) (fs : Fields) (at value : ℕ) → is_table fs ≡ true → AllFit fs → field_at fs n at ≡ Some value
+    → field n (with_fields r fs) at ≡ value
 unfolding with_fields
 field-with_fields n r [] at value ok fit is = absurd cc
 field-with_fields n r (f ∷ fs) at value ok fit is =

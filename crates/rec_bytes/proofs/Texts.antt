@@ -1,5 +1,6 @@
 -- Laws of the texts in a record.
-use Rattle.std.proofs.Common.{◌≡◌, ℕ, suc, ◌+◌, ◌-◌, ◌<◌, ◌≤◌, ◌⊎◌, List, [], ◌∷◌, ◌++◌, length, take, drop, get_or, sym, ap, ◌∙◌, inl, inr, arith, ⊎_elim, refl, ◌%◌, ◌^◌, set}
+use Rattle.std.proofs.Common.{◌≡◌, ℕ, suc, ◌+◌, ◌-◌, ◌<◌, ◌≤◌, ◌⊎◌, List, [], ◌∷◌, ◌++◌, length, take, drop, get_or}
+use Rattle.std.proofs.Common.{sym, ap, ◌∙◌, inl, inr, arith, ⊎_elim, refl, ◌%◌, ◌^◌, set}
 use Rattle.std.proofs.lemmas.List.{drop_at, take_at, get_or-drop, get_or-take, length-take-le, length-drop, length-set, ext_get_or, drop-drop}
 use borrow.Rule.Slice.PartMut.{put_mid}
 use Rattle.byteorder.specs.Endian.{little_bytes}
@@ -19,7 +20,8 @@ length-text_in r at n fits = length-take-le n (drop at (as_64 r.bytes)) (omega (
 
 get_or-text_in : (r : Rec) (at n i : ℕ) → at + n ≤ 64 → i < n → get_or (text_in r at n) i 0 ≡ get_or r.bytes (at + i) 0
 unfolding text_in
-get_or-text_in r at n i fits lt = get_or-take n (drop at (as_64 r.bytes)) i 0 lt ∙ get_or-drop at (as_64 r.bytes) i 0 ∙ get_or-as_64 r.bytes (at + i) (omega arith)
+get_or-text_in r at n i fits lt = get_or-take n (drop at (as_64 r.bytes)) i 0 lt ∙ get_or-drop at (as_64 r.bytes) i 0
+    ∙ get_or-as_64 r.bytes (at + i) (omega arith)
 
 -- records with the same bytes there have the same text
 same_text : (r s : Rec) (at n : ℕ) → at + n ≤ 64 → ((i : ℕ) → i < n → get_or r.bytes (at + i) 0 ≡ get_or s.bytes (at + i) 0) → text_in r at n ≡ text_in s at n
@@ -41,7 +43,8 @@ text_in-with_text_same r at text fits =
     ∙ take_at text (drop (at + length text) xs) (length text) refl
 
 -- what a write of a number leaves of a text elsewhere
-pub text_in-with_field_other : (n : ℕ) (r : Rec) (at value other m : ℕ) → other + m ≤ 64 → Apart n at m other → text_in (with_field n r at value) other m ≡ text_in r other m
+pub text_in-with_field_other : (n : ℕ) (r : Rec) (at value other m : ℕ) → other + m ≤ 64 → Apart n at m other
+    → text_in (with_field n r at value) other m ≡ text_in r other m
 unfolding with_field
 text_in-with_field_other n r at value other m fits apart =
     let bytes : length (little_bytes n value) ≡ n = length-bytes_low_first 0 n value in
@@ -50,7 +53,8 @@ text_in-with_field_other n r at value other m fits apart =
     ∙ get_or-as_64 r.bytes (other + i) (omega arith))
 
 -- what a write of a text leaves of a number elsewhere
-pub field-with_text_other : (r : Rec) (at : ℕ) (text : List ℕ) (m other : ℕ) → other + m ≤ 64 → (other + m ≤ at) ⊎ (at + length text ≤ other) → field m (with_text r at text) other ≡ field m r other
+pub field-with_text_other : (r : Rec) (at : ℕ) (text : List ℕ) (m other : ℕ) → other + m ≤ 64 → (other + m ≤ at) ⊎ (at + length text ≤ other)
+    → field m (with_text r at text) other ≡ field m r other
 unfolding field with_text
 field-with_text_other r at text m other fits apart =
     let new = with_bytes (as_64 r.bytes) at text in

@@ -8,7 +8,8 @@ use Rattle.rec_bytes.specs.declared.space.SpaceFault.TheVariants.{Disk}
 use Rattle.rec_bytes.specs.Space.{HasCause}
 
 -- a later call's fault, where none was blamed before
-pub cause_passed : {T U : Type 0} (before mid now : ℕ) (r : Result T SpaceFault) (fault : SpaceFault) → before ≤ mid → HasCause {T = U} mid now (Err fault) → IsErrAnd r (λ f. f ≡ fault) → HasCause before now r
+pub cause_passed : {T U : Type 0} (before mid now : ℕ) (r : Result T SpaceFault) (fault : SpaceFault) → before ≤ mid → HasCause {T = U} mid now (Err fault)
+    → IsErrAnd r (λ f. f ≡ fault) → HasCause before now r
 cause_passed {T} {U} before mid now r fault early cause passed =
     let p = err_from_is_err_and r passed in
     let here : HasCause {T = T} before now (Err fault) = record {

@@ -9,7 +9,9 @@ length-more (y ∷ xs) x = let e = length-more xs x in omega arith
 
 -- one more record is in use, or isn't
 pub count_more : (test : ℕ → Bool) (n m : ℕ) → m ≡ n + 1 → test n ≡ true → length (ids test m) ≡ length (ids test n) + 1
-count_more test n m e t = ap (λ k. length (ids test k)) (let s : m ≡ suc n = omega arith in s) ∙ ap (λ b. length (ids test n ++ option_list (cond b (Some n) None))) t ∙ length-more (ids test n) n
+count_more test n m e t = ap (λ k. length (ids test k)) (let s : m ≡ suc n = omega arith in s)
+    ∙ ap (λ b. length (ids test n ++ option_list (cond b (Some n) None))) t ∙ length-more (ids test n) n
 
 pub count_same : (test : ℕ → Bool) (n m : ℕ) → m ≡ n + 1 → test n ≡ false → length (ids test m) ≡ length (ids test n)
-count_same test n m e t = ap (λ k. length (ids test k)) (let s : m ≡ suc n = omega arith in s) ∙ ap (λ b. length (ids test n ++ option_list (cond b (Some n) None))) t ∙ ap length (append_none (ids test n))
+count_same test n m e t = ap (λ k. length (ids test k)) (let s : m ≡ suc n = omega arith in s)
+    ∙ ap (λ b. length (ids test n ++ option_list (cond b (Some n) None))) t ∙ ap length (append_none (ids test n))

@@ -28,7 +28,8 @@ one_more P k below here n lt = ⊎_elim (λ (l : n < k). below n l) (λ (ge : k 
 
 -- what has no mark had none earlier
 pub not_earlier : (first now : List Bool) (p : ℕ) → (marked first p ≡ true → marked now p ≡ true) → marked now p ≡ false → marked first p ≡ false
-not_earlier first now p more none = ⊎_elim (λ (t : marked first p ≡ true). absurd (true≢false (sym (more t) ∙ none))) (λ (f : marked first p ≡ false). f) (cases_Bool (marked first p))
+not_earlier first now p more none = ⊎_elim (λ (t : marked first p ≡ true). absurd (true≢false (sym (more t) ∙ none))) (λ (f : marked first p ≡ false). f)
+    (cases_Bool (marked first p))
 
 module _ (has : ℕ → Type 0) (lists : ℕ → List ℕ → Type 0) where
   pub told_marked : (id : ℕ) (items : List ℕ) (old new : List Bool) → has id → lists id items → ((xs : List ℕ) → lists id xs → xs ≡ items)
@@ -51,7 +52,8 @@ module _ (has : ℕ → Type 0) (lists : ℕ → List ℕ → Type 0) where
   )
 
   pub among_and : (k : ℕ) (first old new : List Bool) → ((p : ℕ) → Decides (marked old p) ((marked first p ≡ true) ⊎ AmongHeads has lists k p))
-      → ((p : ℕ) → Decides (marked new p) ((marked old p ≡ true) ⊎ AtHead has lists k p)) → (p : ℕ) → Decides (marked new p) ((marked first p ≡ true) ⊎ AmongHeads has lists (k + 1) p)
+      → ((p : ℕ) → Decides (marked new p) ((marked old p ≡ true) ⊎ AtHead has lists k p)) → (p : ℕ)
+      → Decides (marked new p) ((marked first p ≡ true) ⊎ AmongHeads has lists (k + 1) p)
   among_and k first old new before step p = (
     (λ m. ⊎_elim
         (λ (o : marked old p ≡ true). ⊎_elim (λ f. inl f) (λ (a : AmongHeads has lists k p). let lt : a.id < k = a.below in inr (record { id = a.id; below = omega arith; here = a.here })) ((before p).0 o))
@@ -85,7 +87,8 @@ module _ (has : ℕ → Type 0) (lists : ℕ → List ℕ → Type 0) where
       (cases_lt a k)
 
   -- where nothing was marked at first, just the items are
-  pub told_clear : (n : ℕ) (first now : List Bool) → ((p : ℕ) → marked first p ≡ false) → ((p : ℕ) → Decides (marked now p) ((marked first p ≡ true) ⊎ AmongHeads has lists n p))
+  pub told_clear : (n : ℕ) (first now : List Bool) → ((p : ℕ) → marked first p ≡ false)
+      → ((p : ℕ) → Decides (marked now p) ((marked first p ≡ true) ⊎ AmongHeads has lists n p))
       → (p : ℕ) → Decides (marked now p) (AmongHeads has lists n p)
   told_clear n first now clear told p = (
     (λ m. ⊎_elim (λ (f : marked first p ≡ true). absurd (true≢false (sym f ∙ clear p))) (λ (a : AmongHeads has lists n p). a) ((told p).0 m)),

@@ -1,5 +1,6 @@
 -- Lists that follow links, step by step.
-use Rattle.std.proofs.Common.{◌≡◌, ◌≢◌, ◌⊎◌, ℕ, ◌<◌, ◌≤◌, Bool, true, false, ◌||◌, List, [], ◌∷◌, ◌++◌, length, map, sym, ap, ◌∙◌, subst, inl, inr, ⊎_elim, arith, refl}
+use Rattle.std.proofs.Common.{◌≡◌, ◌≢◌, ◌⊎◌, ℕ, ◌<◌, ◌≤◌, Bool, true, false, ◌||◌, List, [], ◌∷◌, ◌++◌, length, map}
+use Rattle.std.proofs.Common.{sym, ap, ◌∙◌, subst, inl, inr, ⊎_elim, arith, refl}
 use Rattle.std.specs.List.{list_any, IsDistinct, AllByRecursion}
 use Rattle.std.proofs.Math.Dec.{eqb}
 use Rattle.std.proofs.lemmas.Bool.{eqb-true, eq-eqb, ne_eqb, or_cases, true≢false}
@@ -26,7 +27,8 @@ apart_from x (y ∷ ys) out = (ne_eqb x y (λ e. out (inl e)), apart_from x ys (
 
 module _ (next : ℕ → ℕ) (fits : ℕ → ℕ → Bool) (high : ℕ) where
   -- one more
-  pub path_more : (b f : ℕ) (xs : List ℕ) (last to : ℕ) → IsPath next fits high b f xs last to → to < high → fits last to ≡ true → IsPath next fits high b f (xs ++ to ∷ []) to (next to)
+  pub path_more : (b f : ℕ) (xs : List ℕ) (last to : ℕ) → IsPath next fits high b f xs last to → to < high → fits last to ≡ true
+      → IsPath next fits high b f (xs ++ to ∷ []) to (next to)
   path_more b f [] last to h lt ok = (h.1, lt, subst (λ z. fits z to ≡ true) (sym h.0) ok, (refl, refl))
   path_more b f (x ∷ xs) last to h lt ok = (h.0, h.1, h.2, path_more x (next x) xs last to h.3 lt ok)
 
@@ -136,7 +138,8 @@ among_from_in q (x ∷ xs) (inl e) = rw (eq-eqb q x e) refl
 among_from_in q (x ∷ xs) (inr i) = rw (among_from_in q xs i) (or-true (eqb q x))
 
 -- a list of records that a test of each record lets in
-pub line_of_walk : (next : ℕ → ℕ) (test : ℕ → Bool) (high b f : ℕ) (xs : List ℕ) → IsWalk next f xs → ((x : ℕ) → In x xs → x < high) → ((x : ℕ) → In x xs → test x ≡ true)
+pub line_of_walk : (next : ℕ → ℕ) (test : ℕ → Bool) (high b f : ℕ) (xs : List ℕ) → IsWalk next f xs → ((x : ℕ) → In x xs → x < high)
+    → ((x : ℕ) → In x xs → test x ≡ true)
     → IsLine next (λ _ x. test x) high b f xs
 line_of_walk next test high b f [] h low ok = h
 line_of_walk next test high b f (x ∷ xs) h low ok = (h.0, low x (inl refl), ok x (inl refl), line_of_walk next test high x (next x) xs h.2 (λ y i. low y (inr i)) (λ y i. ok y (inr i)))

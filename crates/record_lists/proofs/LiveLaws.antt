@@ -27,18 +27,21 @@ module _ (records : Records) (file place first : ℕ) where
   IsIt xs = IsLineIn (live_line file place) records (high records file) first xs
 
   test_live : (x : ℕ) → x < high records file → test x ≡ true → is_live records file x ≡ true
-  test_live x lt t = live_read records file x (rec_at records file x) lt refl (λ z. true≢false (sym t ∙ ap not (eq_true (field 1 (rec_at records file x) format.kind) 0 z)))
+  test_live x lt t = live_read records file x (rec_at records file x) lt refl
+      (λ z. true≢false (sym t ∙ ap not (eq_true (field 1 (rec_at records file x) format.kind) 0 z)))
 
   live_test : (x : ℕ) → x < high records file → is_live records file x ≡ true → test x ≡ true
   live_test x lt l = ap not (eq_false (field 1 (rec_at records file x) format.kind) 0 (λ z. free_read records file x (rec_at records file x) lt refl z l))
 
   -- a walk of records in use is a line
   pub line_from : (xs : List ℕ) → IsWalk next first xs → ((x : ℕ) → In x xs → is_live records file x ≡ true) → IsIt xs
-  line_from xs walk live = line_of_walk next test (high records file) format.nil first xs walk (λ x i. live_below records file x (live x i)) (λ x i. live_test x (live_below records file x (live x i)) (live x i))
+  line_from xs walk live = line_of_walk next test (high records file) format.nil first xs walk (λ x i. live_below records file x (live x i))
+      (λ x i. live_test x (live_below records file x (live x i)) (live x i))
 
   -- and a line is such a walk
   pub walk_from : high records file ≤ format.most_ids → (xs : List ℕ) → IsIt xs → IsWalk next first xs
   walk_from room xs it = walk_of_line next (λ _ x. test x) (high records file) room format.nil first xs it
 
   pub live_from : high records file ≤ format.most_ids → (xs : List ℕ) → IsIt xs → (x : ℕ) → In x xs → is_live records file x ≡ true
-  live_from room xs it x i = test_live x (below_in next (λ _ x. test x) (high records file) room format.nil first xs it x i) (tested_in next test (high records file) format.nil first xs it x i)
+  live_from room xs it x i = test_live x (below_in next (λ _ x. test x) (high records file) room format.nil first xs it x i)
+      (tested_in next test (high records file) format.nil first xs it x i)

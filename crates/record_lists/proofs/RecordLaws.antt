@@ -12,8 +12,10 @@ pub kind_read : (records : Records) (file x : ℕ) (r : Rec) → x < high record
 kind_read records file x r lt e = kind_low (high records file) (rec_at records file x) x lt ∙ sym (ap (λ q. field 1 q format.kind) e)
 
 -- so whether it is in use
-pub free_read : (records : Records) (file x : ℕ) (r : Rec) → x < high records file → r ≡ rec_at records file x → field 1 r format.kind ≡ 0 → is_live records file x ≡ true → ⊥
+pub free_read : (records : Records) (file x : ℕ) (r : Rec) → x < high records file → r ≡ rec_at records file x → field 1 r format.kind ≡ 0
+    → is_live records file x ≡ true → ⊥
 free_read records file x r lt e z live = true≢false (sym live ∙ live_false (kind_at records file x) (kind_read records file x r lt e ∙ z))
 
-pub live_read : (records : Records) (file x : ℕ) (r : Rec) → x < high records file → r ≡ rec_at records file x → field 1 r format.kind ≢ 0 → is_live records file x ≡ true
+pub live_read : (records : Records) (file x : ℕ) (r : Rec) → x < high records file → r ≡ rec_at records file x → field 1 r format.kind ≢ 0
+    → is_live records file x ≡ true
 live_read records file x r lt e some = live_true (kind_at records file x) (λ z. some (sym (kind_read records file x r lt e) ∙ z))

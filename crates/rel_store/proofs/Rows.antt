@@ -29,10 +29,12 @@ rule_row row = record { id = row.id; label = row.label; from = row.from; to = ro
 pub rel_at-Some : (records : Records) (id : ℕ) (row : RelRow) → row_at records id ≡ Some row → rel_at records id ≡ Some (rule_row row)
 rel_at-Some records id row e =
     let found = kind-row_at-Some records id row e in
-    row_some (kind_at records format.relationships_file id) (rel_in (rec_at records format.relationships_file id) id) found.0 ∙ ap (λ (r : RelRow). Some (rule_row r)) found.1
+    row_some (kind_at records format.relationships_file id) (rel_in (rec_at records format.relationships_file id) id) found.0
+    ∙ ap (λ (r : RelRow). Some (rule_row r)) found.1
 
 pub rel_at-None : (records : Records) (id : ℕ) → row_at records id ≡ None → rel_at records id ≡ None
-rel_at-None records id e = none_if (kind_at records format.relationships_file id) (row_of (rec_at records format.relationships_file id) id) (rel_in (rec_at records format.relationships_file id) id) e
+rel_at-None records id e = none_if (kind_at records format.relationships_file id) (row_of (rec_at records format.relationships_file id) id)
+    (rel_in (rec_at records format.relationships_file id) id) e
   where
     none_if : (kind : ℕ) (row : RelRow) (other : views.RelRow) → row_if kind row ≡ None → row_if kind other ≡ None
     none_if kind row other h = by (nat_eq kind 0) h

@@ -1,5 +1,6 @@
 -- The code's list of layers, and the layers that it stands for.
-use Rattle.std.proofs.Common.{◌≡◌, ℕ, zero, suc, ◌+◌, ◌<◌, ◌≤◌, Bool, true, false, cond, nat_eq, List, [], ◌∷◌, ◌++◌, length, get_or, set, drop, None, refl, ap, sym, subst, ◌∙◌, arith}
+use Rattle.std.proofs.Common.{◌≡◌, ℕ, zero, suc, ◌+◌, ◌<◌, ◌≤◌, Bool, true, false, cond, nat_eq, List, [], ◌∷◌, ◌++◌}
+use Rattle.std.proofs.Common.{length, get_or, set, drop, None, refl, ap, sym, subst, ◌∙◌, arith}
 use mathlib.Core.Bool.{false≢true}
 use Rattle.std.specs.List.{AllByRecursion, remove}
 use Rattle.rec_bytes.specs.declared.record.Rec.{Rec}
@@ -7,7 +8,8 @@ use Rattle.rec_bytes.specs.declared.key.Key.{Key}
 use Rattle.rec_bytes.specs.Pairs.{IsOrdered, find_pair, growth, with_pair}
 use Rattle.rec_bytes.proofs.PairLaws.{growth_le, ordered_with}
 use Rattle.snap_store.specs.declared.layer.Layer.{Layer as HeldLayer}
-use Rattle.snap_store.specs.Layers.{AreDistinct, AreRising, Layer, Layers, any_open, from, is_open, joined, most_kept, released, released_behind, total, with_kept, youngest}
+use Rattle.snap_store.specs.Layers.{AreDistinct, AreRising, Layer, Layers, any_open, from, is_open, joined, most_kept}
+use Rattle.snap_store.specs.Layers.{released, released_behind, total, with_kept, youngest}
 use Rattle.snap_store.proofs.ShapeLaws.{distinct-taken, distinct-with_kept, first_false, length-with_new, second_false, total-taken, total-with_kept}
 use Rattle.snap_store.specs.Snaps.{AreLayers, IsLayer, IsPlaceOf, IsReader, layer_of, layers_of}
 
@@ -73,7 +75,8 @@ place_within reader (x ∷ xs) (suc place) h = omega (arith, place_within reader
 pub from_place : (reader : ℕ) (xs : List HeldLayer) (place : ℕ) → IsPlaceOf reader (layers_of xs) place → layers_of (drop place xs) ≡ from reader (layers_of xs)
 from_place reader [] place h = absurd h
 from_place reader (x ∷ xs) zero h = ap (λ (t : Bool). cond t (layers_of (x ∷ xs)) (from reader (layers_of xs))) (sym h)
-from_place reader (x ∷ xs) (suc place) h = from_place reader xs place h.1 ∙ ap (λ (t : Bool). cond t (layers_of (x ∷ xs)) (from reader (layers_of xs))) (sym h.0)
+from_place reader (x ∷ xs) (suc place) h = from_place reader xs place h.1
+    ∙ ap (λ (t : Bool). cond t (layers_of (x ∷ xs)) (from reader (layers_of xs))) (sym h.0)
 
 -- one layer, and two at different places, have no more records than all together
 pub length_one : (xs : List HeldLayer) (i : ℕ) (d : HeldLayer) → i < length xs → length (get_or xs i d).set.pairs ≤ total (layers_of xs)
@@ -111,7 +114,8 @@ released_later xs reader place before d e y is h made =
     subst (λ n. layers_of (set (remove xs n) before y) ≡ released reader (layers_of xs)) (sym is)
     (at xs (subst (λ n. IsPlaceOf reader (layers_of xs) n) is h) (subst (λ n. layer_of y ≡ joined (layer_of (get_or xs before d)) (layer_of (get_or xs n e))) is made))
   where
-    at : (xs : List HeldLayer) → IsPlaceOf reader (layers_of xs) (suc before) → layer_of y ≡ joined (layer_of (get_or xs before d)) (layer_of (get_or xs (suc before) e))
+    at : (xs : List HeldLayer) → IsPlaceOf reader (layers_of xs) (suc before)
+        → layer_of y ≡ joined (layer_of (get_or xs before d)) (layer_of (get_or xs (suc before) e))
         → layers_of (set (remove xs (suc before)) before y) ≡ released reader (layers_of xs)
     at [] h made = absurd h
     at (x ∷ xs) h made =
@@ -120,7 +124,8 @@ released_later xs reader place before d e y is h made =
 none_behind : (reader : ℕ) (older : Layer) (layers : Layers) → is_open reader layers ≡ false → released_behind reader older layers ≡ older ∷ layers
 none_behind reader older [] h = refl
 none_behind reader older (layer ∷ younger) h =
-    ap (λ (t : Bool). cond t (joined older layer ∷ younger) (older ∷ released_behind reader layer younger)) (first_false (nat_eq reader layer.reader) (is_open reader younger) h)
+    ap (λ (t : Bool). cond t (joined older layer ∷ younger) (older ∷ released_behind reader layer younger))
+    (first_false (nat_eq reader layer.reader) (is_open reader younger) h)
     ∙ ap (λ ls. older ∷ ls) (none_behind reader layer younger (second_false (nat_eq reader layer.reader) (is_open reader younger) h))
 
 pub no_place : (reader : ℕ) (layers : Layers) → is_open reader layers ≡ false → released reader layers ≡ layers
@@ -135,7 +140,8 @@ pub put_last : (xs : List HeldLayer) (n : ℕ) (l y : HeldLayer) (key : Key) (re
 put_last xs n l y key rec e is r p =
     set_last xs n l y key rec e (r ∙ ap (λ (z : HeldLayer). z.reader) is) (p ∙ ap (λ (z : HeldLayer). with_pair z.set.pairs key rec) is)
 
-pub room_last : (xs : List HeldLayer) (n : ℕ) (l : HeldLayer) → length xs ≡ n + 1 → l ≡ get_or xs n l → AreLayers xs → total (layers_of xs) < most_kept → 0 < l.set.room
+pub room_last : (xs : List HeldLayer) (n : ℕ) (l : HeldLayer) → length xs ≡ n + 1 → l ≡ get_or xs n l → AreLayers xs → total (layers_of xs) < most_kept
+    → 0 < l.set.room
 room_last xs n l e is h few =
     let each : IsLayer l = subst IsLayer (sym is) (all_get IsLayer xs n l h.each (omega arith)) in
     let most : length (get_or xs n l).set.pairs ≤ total (layers_of xs) = length_one xs n l (omega arith) in
@@ -147,7 +153,8 @@ pub right_last : (xs : List HeldLayer) (n : ℕ) (l y : HeldLayer) (key : Key) (
     → total (layers_of xs) < most_kept → AreLayers xs → AreLayers (set xs n y)
 right_last xs n l y key rec e is r p room none few h =
     let old : IsLayer l = subst IsLayer (sym is) (all_get IsLayer xs n l h.each (omega arith)) in
-    let absent : find_pair l.set.pairs key ≡ None = ap (λ (z : HeldLayer). find_pair z.set.pairs key) is ∙ ap (λ ps. find_pair ps key) (sym (youngest_last xs n l e)) ∙ none in
+    let absent : find_pair l.set.pairs key ≡ None = ap (λ (z : HeldLayer). find_pair z.set.pairs key) is
+    ∙ ap (λ ps. find_pair ps key) (sym (youngest_last xs n l e)) ∙ none in
     let longer : length y.set.pairs ≡ length l.set.pairs + 1 = ap length p ∙ length-with_new l.set.pairs key rec absent in
     let made = put_last xs n l y key rec e is r p in
     let more : total (layers_of (set xs n y)) ≡ total (with_kept (layers_of xs) key rec) = ap total made in
@@ -166,7 +173,8 @@ pub layers_taken : (xs : List HeldLayer) (y : HeldLayer) (reader : ℕ) → y.re
     → layers_of (xs ++ y ∷ []) ≡ layers_of xs ++ record { reader = reader; kept = [] } ∷ []
 layers_taken xs y reader r p = layers_of-append xs (y ∷ []) ∙ (λ i. layers_of xs ++ record { reader = r i; kept = p i } ∷ [])
 
-pub right_taken : (xs : List HeldLayer) (y : HeldLayer) (reader : ℕ) → AreLayers xs → y.reader ≡ reader → y.set.pairs ≡ [] → most_kept ≤ y.set.room → IsReader reader
+pub right_taken : (xs : List HeldLayer) (y : HeldLayer) (reader : ℕ) → AreLayers xs → y.reader ≡ reader → y.set.pairs ≡ [] → most_kept ≤ y.set.room
+    → IsReader reader
     → is_open reader (layers_of xs) ≡ false → AreLayers (xs ++ y ∷ [])
 right_taken xs y reader h r p room is_reader closed =
     let made = layers_taken xs y reader r p in

@@ -59,11 +59,13 @@ only_joined older layer younger rising q h =
     both (inl own) = some_left (find_pair older.kept q) (kept_at (layer ∷ younger) q) own
     both (inr next) = or_some (find_pair older.kept q) (kept_at (layer ∷ younger) q) (some_left (find_pair layer.kept q) (kept_at younger q) next)
 
-    by : (is_some (find_pair (merged layer.kept older.kept) q) ≡ true) ⊎ (is_some (kept_at younger q) ≡ true) → is_some (kept_at (older ∷ layer ∷ younger) q) ≡ true
+    by : (is_some (find_pair (merged layer.kept older.kept) q) ≡ true) ⊎ (is_some (kept_at younger q) ≡ true)
+        → is_some (kept_at (older ∷ layer ∷ younger) q) ≡ true
     by (inl one) = both (either (find_pair older.kept q) (find_pair layer.kept q) (ap is_some (sym (find_merged layer.kept older.kept q rising)) ∙ one))
     by (inr later) = or_some (find_pair older.kept q) (kept_at (layer ∷ younger) q) (or_some (find_pair layer.kept q) (kept_at younger q) later)
 
-only_released_behind : (reader : ℕ) (older : Layer) (layers : Layers) → AreRising (older ∷ layers) → HasOnly (released_behind reader older layers) (older ∷ layers)
+only_released_behind : (reader : ℕ) (older : Layer) (layers : Layers) → AreRising (older ∷ layers)
+    → HasOnly (released_behind reader older layers) (older ∷ layers)
 only_released_behind reader older [] rising q h = h
 only_released_behind reader older (layer ∷ younger) rising q h = by (nat_eq reader layer.reader) (only_released_behind reader layer younger rising.1) h
   where

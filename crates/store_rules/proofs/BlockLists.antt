@@ -23,8 +23,10 @@ module _ (string_file : ℕ → Rec) where
   sizes b = field 1 (string_file b) format.block_length
 
   -- a block of a right length has the first bytes of what it and the later ones have
-  first_block : (b size next : ℕ) (rest : List ℕ) → sizes b ≡ size → 0 < size → size ≤ 48 → (size < 48 → rest ≡ []) → b < format.most_ids → field 1 (string_file b) format.kind ≡ format.block
-      → next_block string_file b ≡ next → IsBlock string_file (piece_of (string_file b) ++ rest) b next × (drop 48 (piece_of (string_file b) ++ rest) ≡ rest) × (length (piece_of (string_file b)) ≡ size)
+  first_block : (b size next : ℕ) (rest : List ℕ) → sizes b ≡ size → 0 < size → size ≤ 48 → (size < 48 → rest ≡ []) → b < format.most_ids
+      → field 1 (string_file b) format.kind ≡ format.block
+      → next_block string_file b ≡ next → IsBlock string_file (piece_of (string_file b) ++ rest) b next × (drop 48 (piece_of (string_file b) ++ rest) ≡ rest)
+      × (length (piece_of (string_file b)) ≡ size)
   first_block b size next rest is some most last low kind next_is = (
     record {
       low = low;
@@ -49,7 +51,8 @@ module _ (string_file : ℕ → Rec) where
           (λ (lt : size < 48).
           let none = last lt in
           let l = long in
-          let alone : piece_of (string_file b) ++ rest ≡ piece_of (string_file b) = ap (λ xs. piece_of (string_file b) ++ xs) none ∙ append-nil (piece_of (string_file b)) in
+          let alone : piece_of (string_file b) ++ rest ≡ piece_of (string_file b) = ap (λ xs. piece_of (string_file b) ++ xs) none
+          ∙ append-nil (piece_of (string_file b)) in
           (ap (take 48) alone ∙ take_all 48 (piece_of (string_file b)) (omega arith), ap (drop 48) alone ∙ drop_all 48 (piece_of (string_file b)) (omega arith) ∙ sym none))
           (λ (ge : 48 ≤ size).
           let l = long in

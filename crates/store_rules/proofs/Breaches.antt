@@ -5,7 +5,9 @@ use Rattle.rec_bytes.specs.declared.shape.Shape.{Shape}
 use Rattle.rec_bytes.specs.Fault.{IsUndamaged}
 use Rattle.rec_bytes.specs.Format as format
 use Rattle.store_rules.specs.Breaking.{AreChained, AreProperties, Breaks, BreaksAny, HasFreeList, NameKeeps}
-use Rattle.store_rules.specs.Breaking.Breaks.{FreeList, GroupChains, GroupOwner, NameCount, NodeChain, OffFreeList, OwnRecord, OwnerGroups, RecordRange, RelEnds, WrongBlock, WrongDefinition, WrongDegree, WrongElement, WrongHolding, WrongMeta, WrongName, WrongText}
+use Rattle.store_rules.specs.Breaking.Breaks.{FreeList, GroupChains, GroupOwner, NameCount, NodeChain, OffFreeList}
+use Rattle.store_rules.specs.Breaking.Breaks.{OwnRecord, OwnerGroups, RecordRange, RelEnds, WrongBlock, WrongDefinition}
+use Rattle.store_rules.specs.Breaking.Breaks.{WrongDegree, WrongElement, WrongHolding, WrongMeta, WrongName, WrongText}
 use Rattle.store_rules.specs.Indexes.{IsIndexed}
 use Rattle.store_rules.specs.Rules as rules
 use Rattle.store_rules.specs.Rules.{IsWellFormed}
@@ -18,7 +20,8 @@ use Rattle.store_rules.proofs.MetaRights.{metas_right}
 use Rattle.store_rules.proofs.PropertyHolds.{block_kept, element_list, held_kept, text_kept}
 
 -- where the store keeps the rule each name does
-name_keeps : (records : Records) → rules.AreNames (rec_at records format.names_file) (high records format.names_file) → (x : ℕ) → x < high records format.names_file → NameKeeps records x
+name_keeps : (records : Records) → rules.AreNames (rec_at records format.names_file) (high records format.names_file) → (x : ℕ)
+    → x < high records format.names_file → NameKeeps records x
 name_keeps records h x lt = record { form = h.form x lt; alone = λ y low e. h.distinct y x low lt e }
 
 module _ (records : Records) (shape : Shape) where
@@ -55,7 +58,8 @@ module _ (records : Records) (shape : Shape) where
     none_broken d (WrongDegree n lt bad) = bad (record { exact = s.degrees.each n; few = s.degrees.few n })
 
     -- so an answer that blames a record only where it breaks one blames none
-    pub unblamed : {T F : Type 0} (of : F → Option Damage) (result : Result T F) → IfErr result (λ fault. IfSome (of fault) (Breaks records shape)) → IsUndamaged of result
+    pub unblamed : {T F : Type 0} (of : F → Option Damage) (result : Result T F) → IfErr result (λ fault. IfSome (of fault) (Breaks records shape))
+        → IsUndamaged of result
     unblamed of (Ok value) told = tt
     unblamed of (Err fault) told = by (of fault) told
       where

@@ -3,7 +3,9 @@ use Rattle.std.proofs.Common.{◌≡◌, ◌≢◌, ◌⊎◌, ⊎_elim, ℕ, �
 use Rattle.rec_bytes.specs.Format as format
 use Rattle.store_rules.specs.Chains.{In, IsChain, IsWalk}
 use Rattle.store_rules.specs.Hashes.{bucket_of}
-use Rattle.store_rules.specs.Indexes.{AreIndexed, Entries, Entry, HasEntry, IsBucket, IsDefinition, IsEntry, IsHeads, IsOfIndex, entry_hash, entry_in, entry_node, first_definition, first_entry, heads_of, indexed_key, indexed_label, next_definition, next_entry, previous_entry}
+use Rattle.store_rules.specs.Indexes.{AreIndexed, Entries, Entry, HasEntry, IsBucket, IsDefinition, IsEntry, IsHeads}
+use Rattle.store_rules.specs.Indexes.{IsOfIndex, entry_hash, entry_in, entry_node, first_definition, first_entry}
+use Rattle.store_rules.specs.Indexes.{heads_of, indexed_key, indexed_label, next_definition, next_entry, previous_entry}
 use Rattle.store_rules.specs.Views.{Records, is_live, kind_at}
 use Rattle.store_rules.proofs.ChainLaws.{chain_stays, walk_stays}
 use Rattle.store_rules.proofs.NumberLaws.{eq_false, eq_true, nat_cases}
@@ -40,12 +42,14 @@ pub record IsBucketChanged (s t : Records) (wanted now : Entries) (ix : AreIndex
   pub bucket : IsBucket t now d b xs
   pub still : (e c x : ℕ) → In e ix.definitions → c < 180 → IsOther d b e c → In x (ix.lists e c) → now (entry_in s e x) ≡ true
   pub here : (e : Entry) → e.label ≡ indexed_label s d → e.key ≡ indexed_key s d → now e ≡ true → bucket_of e.hash ≡ b → HasEntry t d e xs
-  pub there : (f : ℕ) (e : Entry) → In f ix.definitions → e.label ≡ indexed_label s f → e.key ≡ indexed_key s f → now e ≡ true → IsOther d b f (bucket_of e.hash) → wanted e ≡ true
+  pub there : (f : ℕ) (e : Entry) → In f ix.definitions → e.label ≡ indexed_label s f → e.key ≡ indexed_key s f → now e ≡ true
+      → IsOther d b f (bucket_of e.hash) → wanted e ≡ true
   pub once : (x y : ℕ) → In x xs → In y xs → entry_node t x ≡ entry_node t y → entry_hash t x ≡ entry_hash t y → x ≡ y
   pub apart : (e c x : ℕ) → In e ix.definitions → c < 180 → e ≢ d → In x xs → In x (ix.lists e c) → ⊥
   pub held : (x : ℕ) → is_live t format.index_file x ≡ true → In x xs ⊎ ((is_live s format.index_file x ≡ true) × (¬ In x (ix.lists d b)))
 
-module _ (s t : Records) (wanted now : Entries) (ix : AreIndexed s wanted) (d b : ℕ) (listed : In d ix.definitions) (low : b < 180) (xs : List ℕ) (h : IsBucketChanged s t wanted now ix d b xs) where
+module _ (s t : Records) (wanted now : Entries) (ix : AreIndexed s wanted) (d b : ℕ) (listed : In d ix.definitions) (low : b < 180) (xs : List ℕ)
+    (h : IsBucketChanged s t wanted now ix d b xs) where
   abbrev lists : ℕ → ℕ → List ℕ
   lists e c = cond (nat_eq e d && nat_eq c b) xs (ix.lists e c)
 
@@ -91,10 +95,12 @@ module _ (s t : Records) (wanted now : Entries) (ix : AreIndexed s wanted) (d b 
   pub bucket_changed : AreIndexed t now
   bucket_changed = record {
     definitions = ix.definitions;
-    walk = subst (λ f. IsWalk (next_definition t) f ix.definitions) (sym h.first) (walk_stays (next_definition s) (next_definition t) (first_definition s) ix.definitions (λ e i. (h.definitions e i).next) ix.walk);
+    walk = subst (λ f. IsWalk (next_definition t) f ix.definitions) (sym h.first)
+        (walk_stays (next_definition s) (next_definition t) (first_definition s) ix.definitions (λ e i. (h.definitions e i).next) ix.walk);
     few = ix.few;
     defined = λ e i. (h.definitions e i).kind ∙ ix.defined e i;
-    distinct = λ e f i j p q. ix.distinct e f i j (sym (h.definitions e i).label ∙ p ∙ (h.definitions f j).label) (sym (h.definitions e i).key ∙ q ∙ (h.definitions f j).key);
+    distinct = λ e f i j p q. ix.distinct e f i j (sym (h.definitions e i).label ∙ p ∙ (h.definitions f j).label)
+        (sym (h.definitions e i).key ∙ q ∙ (h.definitions f j).key);
     heads = λ e c i lt. ap (kind_at t format.index_file) ((h.definitions e i).heads c lt) ∙ h.heads e c i lt ∙ ix.heads e c i lt;
     heads_once = λ e c f k i j lt le p. ix.heads_once e c f k i j lt le (sym ((h.definitions e i).heads c lt) ∙ p ∙ (h.definitions f j).heads k le);
     lists = lists;

@@ -3,7 +3,8 @@ use Rattle.std.proofs.Common.{◌≡◌, ◌⊎◌, ℕ, List, [], ◌∷◌, So
 use Rattle.rec_bytes.specs.declared.key.Key.{Key}
 use Rattle.rec_bytes.specs.Format as format
 use Rattle.rec_bytes.specs.Record.{field}
-use Rattle.store_rules.specs.Breaking.{AreChained, EndKeeps, HasChains, IsChainHead, IsGroupHeadOf, IsHeadChain, IsHeadOf, IsInChain, IsOnChain, IsOwnedBy, group_head}
+use Rattle.store_rules.specs.Breaking.{AreChained, EndKeeps, HasChains, IsChainHead, IsGroupHeadOf, IsHeadChain}
+use Rattle.store_rules.specs.Breaking.{IsHeadOf, IsInChain, IsOnChain, IsOwnedBy, group_head}
 use Rattle.store_rules.specs.Breaking.IsOnChain.{First, Next}
 use Rattle.store_rules.specs.Chains.{In, IsChain, IsWalk, next_in, prev_in}
 use Rattle.store_rules.specs.Rules as rules
@@ -58,7 +59,8 @@ module _ (records : Records) where
       omega arith
 
   -- a walk along the group links of a node meets what is on its chain
-  pub on_walk : (n : ℕ) (xs : List ℕ) → IsWalk (λ g. field 4 (rec_at records format.groups_file g) format.group_next) (first_link records n) xs → (g : ℕ) → IsOnChain records n g → In g xs
+  pub on_walk : (n : ℕ) (xs : List ℕ) → IsWalk (λ g. field 4 (rec_at records format.groups_file g) format.group_next) (first_link records n) xs → (g : ℕ)
+      → IsOnChain records n g → In g xs
   on_walk n [] walk g (First h dense first own) = absurd (not_nil n (subst (IsOwnedBy records n) (sym first ∙ walk) own))
   on_walk n (x ∷ xs) walk g (First h dense first own) = inl (sym first ∙ walk.0)
   on_walk n xs walk g (Next h k on next own) = ⊎_elim
@@ -67,7 +69,8 @@ module _ (records : Records) where
       (goes_on (λ z. field 4 (rec_at records format.groups_file z) format.group_next) (first_link records n) xs walk h (on_walk n xs walk h on))
 
   -- the head at a place of a group that the node owns
-  abbrev pub owned_head : (n g place : ℕ) → IsFirstPlace place → kind_at records format.nodes_file n ≡ format.dense → IsOwnedBy records n g → IsGroupHeadOf records (group_head g place) n
+  abbrev pub owned_head : (n g place : ℕ) → IsFirstPlace place → kind_at records format.nodes_file n ≡ format.dense → IsOwnedBy records n g
+      → IsGroupHeadOf records (group_head g place) n
   owned_head n g place first dense o = record {
     dense = dense;
     row = group_in (rec_at records format.groups_file g) g;
@@ -114,7 +117,8 @@ module _ (records : Records) where
   module _ (grouped : Grouped) where
     -- what a chain leads through is met from the node on
     met_on : (n before from : ℕ) (xs : List ℕ)
-        → IsChain (λ g. field 4 (rec_at records format.groups_file g) format.group_next) (λ g. field 4 (rec_at records format.groups_file g) format.group_previous) before from xs
+        → IsChain (λ g. field 4 (rec_at records format.groups_file g) format.group_next)
+        (λ g. field 4 (rec_at records format.groups_file g) format.group_previous) before from xs
         → ((g : ℕ) → In g xs → IsOwnedBy records n g) → (IsOwnedBy records n from → IsOnChain records n from) → (g : ℕ) → In g xs → IsOnChain records n g
     met_on n before from [] chain own here g i = elim i [ ]
     met_on n before from (x ∷ xs) chain own here g (inl e) =
@@ -124,7 +128,8 @@ module _ (records : Records) where
         met_on n x (field 4 (rec_at records format.groups_file x) format.group_next) xs chain.3 (λ k j. own k (inr j))
         (λ o. Next x (field 4 (rec_at records format.groups_file x) format.group_next) met refl o) g i
 
-    pub all_on : (n g : ℕ) (row : GroupRow) → kind_at records format.nodes_file n ≡ format.dense → group_at records g ≡ Some row → row.owner ≡ n → IsOnChain records n g
+    pub all_on : (n g : ℕ) (row : GroupRow) → kind_at records format.nodes_file n ≡ format.dense → group_at records g ≡ Some row → row.owner ≡ n
+        → IsOnChain records n g
     all_on n g row dense live owner =
         let has = grouped.each n dense in
         met_on n format.nil (first_link records n) has.members has.chain
@@ -148,7 +153,8 @@ module _ (records : Records) where
       end_kept x n row live (inl e) = subst (λ m. EndKeeps records m x) e ((h.rels x).from row live)
       end_kept x n row live (inr e) = subst (λ m. EndKeeps records m x) e ((h.rels x).to row live)
 
-      typed : (x n : ℕ) (row : RelRow) → rel_at records x ≡ Some row → rules.IsEnd n row → kind_at records format.nodes_file n ≡ format.dense → rules.HasGroup (group_at records) n row.label
+      typed : (x n : ℕ) (row : RelRow) → rel_at records x ≡ Some row → rules.IsEnd n row → kind_at records format.nodes_file n ≡ format.dense
+          → rules.HasGroup (group_at records) n row.label
       typed x n row live end dense =
           let k = end_kept x n row live end in
           let c = k.chain (inr dense) in

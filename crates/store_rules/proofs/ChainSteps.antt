@@ -11,7 +11,8 @@ eq_cases x y = ⊎_elim (λ e. inl (e, eq_true x y e)) (λ ne. inr (ne, eq_false
 
 -- a fact about what a test chooses
 pub on_test : {X : Type 0} (P : X → Type 0) (a b : ℕ) (x y : X) → (a ≡ b → P x) → (a ≢ b → P y) → P (cond (nat_eq a b) x y)
-on_test P a b x y where_same where_not = ⊎_elim (λ (k : (a ≡ b) × (nat_eq a b ≡ true)). rw k.1 (where_same k.0)) (λ (k : (a ≢ b) × (nat_eq a b ≡ false)). rw k.1 (where_not k.0)) (eq_cases a b)
+on_test P a b x y where_same where_not = ⊎_elim (λ (k : (a ≡ b) × (nat_eq a b ≡ true)). rw k.1 (where_same k.0))
+    (λ (k : (a ≢ b) × (nat_eq a b ≡ false)). rw k.1 (where_not k.0)) (eq_cases a b)
 
 -- a new member in front
 pub chain_push : (next prev next' prev' : ℕ → ℕ) (f r : ℕ) (xs : List ℕ) → IsChain next prev nil f xs → (In r xs → ⊥) → r ≢ nil
@@ -42,7 +43,8 @@ after_other next f (y ∷ ys) x h (inr i) q = after_other next (next y) ys x h.2
 
 pub after_in : (next : ℕ → ℕ) (f : ℕ) (xs : List ℕ) (r : ℕ) → IsWalk next f xs → In r xs → (next r ≡ nil) ⊎ In (next r) xs
 after_in next f [] r h i = elim i [ ]
-after_in next f (x ∷ xs) r h (inl e) = ⊎_elim (λ n. inl (ap next e ∙ n)) (λ k. inr (inr (subst (λ z. In z xs) (ap next (sym e)) k))) (first_in next (next x) xs h.2)
+after_in next f (x ∷ xs) r h (inl e) = ⊎_elim (λ n. inl (ap next e ∙ n)) (λ k. inr (inr (subst (λ z. In z xs) (ap next (sym e)) k)))
+    (first_in next (next x) xs h.2)
 after_in next f (x ∷ xs) r h (inr i) = ⊎_elim (λ n. inl n) (λ k. inr (inr k)) (after_in next (next x) xs r h.2 i)
 
 -- what comes after the next one is another
@@ -83,7 +85,8 @@ next_before next prev b f (x ∷ xs) r h (inr i) = inr (⊎_elim
 pub before_other : (next prev : ℕ → ℕ) (b f : ℕ) (xs : List ℕ) (x : ℕ) → (In b xs → ⊥) → IsChain next prev b f xs → In x xs → prev x ≢ x
 before_other next prev b f [] x out h i q = elim i [ ]
 before_other next prev b f (y ∷ ys) x out h (inl e) q = out (inl (sym h.2 ∙ ap prev (sym e) ∙ q ∙ e))
-before_other next prev b f (y ∷ ys) x out h (inr i) q = before_other next prev y (next y) ys x (head_once next y ys h.1 (walk_of_chain next prev y (next y) ys h.3)) h.3 i q
+before_other next prev b f (y ∷ ys) x out h (inr i) q = before_other next prev y (next y) ys x
+    (head_once next y ys h.1 (walk_of_chain next prev y (next y) ys h.3)) h.3 i q
 
 -- none is no member
 pub nil_out : (next : ℕ → ℕ) (f : ℕ) (xs : List ℕ) → IsWalk next f xs → In nil xs → ⊥
@@ -102,12 +105,14 @@ module _ (next prev next' prev' : ℕ → ℕ) (r : ℕ)
       let walked = walk_of_chain next prev r (next r) (y ∷ ys) h in
       let r_out = head_once next r (y ∷ ys) there walked in
       let y_out = head_once next y ys h.1 (walk_of_chain next prev y (next y) ys h.3) in
-      let stays : (z : ℕ) → In z (y ∷ ys) → next' z ≡ next z = λ z i. n z (λ e. r_out (subst (λ q. In q (y ∷ ys)) e i)) (λ e. once (subst (λ q. In q (y ∷ ys)) (e ∙ pr) i)) in
+      let stays : (z : ℕ) → In z (y ∷ ys) → next' z ≡ next z = λ z i. n z (λ e. r_out (subst (λ q. In q (y ∷ ys)) e i))
+      (λ e. once (subst (λ q. In q (y ∷ ys)) (e ∙ pr) i)) in
       let rest = chain_stays next prev next' prev' y (next y) ys (λ z i. stays z (inr i))
       (λ z i. p z (λ e. r_out (inr (subst (λ q. In q ys) e i))) (λ e. y_out (subst (λ q. In q ys) (e ∙ h.0) i))) h.3 in
       (h.0, h.1, ap prev' (sym h.0) ∙ pn (λ e. h.1 (sym h.0 ∙ e)) ∙ pr, subst (λ from. IsChain next' prev' y from ys) (sym (stays y (inl refl))) rest)
 
-  pub chain_unlink : (b f : ℕ) (xs : List ℕ) → (In b xs → ⊥) → IsChain next prev b f xs → In r xs → IsChain next' prev' b (cond (nat_eq f r) (next r) f) (without r xs)
+  pub chain_unlink : (b f : ℕ) (xs : List ℕ) → (In b xs → ⊥) → IsChain next prev b f xs → In r xs
+      → IsChain next' prev' b (cond (nat_eq f r) (next r) f) (without r xs)
   chain_unlink b f [] once h i = elim i [ ]
   chain_unlink b f (x ∷ xs) once h i = ⊎_elim
       (λ (e : (r ≡ x) × (nat_eq r x ≡ true)).

@@ -34,7 +34,8 @@ module _ (s t : Records) (file id : ℕ) (change : IsChanged s t file id) where
   other_record f x is ne = change.others (key_in f x) (not_meta_key f x file is) (λ e. ne (ap (λ (k : Key). k.file) e) (ap (λ (k : Key). k.id) e))
 
   pub other_meta : (f : ℕ) → f ≢ file → t (meta_key_of f) ≡ s (meta_key_of f)
-  other_meta f ne = change.others (meta_key_of f) (λ e. ne (ap (λ (k : Key). k.id) e)) (λ e. is_meta_file-not_meta file change.is_file (sym (ap (λ (k : Key). k.file) e)))
+  other_meta f ne = change.others (meta_key_of f) (λ e. ne (ap (λ (k : Key). k.id) e))
+      (λ e. is_meta_file-not_meta file change.is_file (sym (ap (λ (k : Key). k.file) e)))
 
   pub same_file : (f : ℕ) → is_meta_file f ≡ true → f ≢ file → IsSame s t f
   same_file f is ne = record { meta = ap metas.meta_of (other_meta f ne); each = λ x. other_record f x is (λ e. absurd (ne e)) }
@@ -59,10 +60,12 @@ module _ (s t : Records) (file id : ℕ) (change : IsChanged s t file id) where
   live_other x ne = ap (λ k. not (nat_eq k 0)) (kind_other x ne)
 
   pub marks_le : (f : ℕ) → high s f ≤ high t f
-  marks_le f = ⊎_elim (λ (e : f ≡ file). subst (λ g. high s g ≤ high t g) (sym e) change.more) (λ (ne : f ≢ file). let e = mark_same f ne in omega arith) (nat_cases f file)
+  marks_le f = ⊎_elim (λ (e : f ≡ file). subst (λ g. high s g ≤ high t g) (sym e) change.more) (λ (ne : f ≢ file). let e = mark_same f ne in omega arith)
+      (nat_cases f file)
 
   -- the first rule, where the two records that changed keep it
-  pub in_range : (shape : Shape) → IsMetaInRange shape file (t (meta_key_of file)) → (id < high t file → Fits (high t) file (rec_at t file id)) → AreInRange s shape → AreInRange t shape
+  pub in_range : (shape : Shape) → IsMetaInRange shape file (t (meta_key_of file)) → (id < high t file → Fits (high t) file (rec_at t file id))
+      → AreInRange s shape → AreInRange t shape
   in_range shape meta here old = record {
     own = ap shape_of_record (other_meta format.meta_file (λ e. is_meta_file-not_meta file change.is_file (sym e))) ∙ old.own;
     newest = ap version_of (other_meta format.meta_file (λ e. is_meta_file-not_meta file change.is_file (sym e))) ∙ old.newest;
@@ -81,19 +84,23 @@ module _ (s t : Records) (file id : ℕ) (change : IsChanged s t file id) where
       kept f x is ne lt = subst (Fits (high t) f) (sym (other_record f x is ne)) (fits_more (high s) (high t) f (rec_at s f x) marks_le (old.fit f x is lt))
 
   -- the second rule, where the file keeps it
-  pub split_all : (is_reused file ≡ true → (free : List ℕ) × IsSplit t file (is_live t file) free) → ((f : ℕ) → is_reused f ≡ true → (free : List ℕ) × IsSplit s f (is_live s f) free)
+  pub split_all : (is_reused file ≡ true → (free : List ℕ) × IsSplit t file (is_live t file) free)
+      → ((f : ℕ) → is_reused f ≡ true → (free : List ℕ) × IsSplit s f (is_live s f) free)
       → (f : ℕ) → is_reused f ≡ true → (free : List ℕ) × IsSplit t f (is_live t f) free
   split_all here old f is = ⊎_elim (λ (e : f ≡ file). subst (λ g. (free : List ℕ) × IsSplit t g (is_live t g) free) (sym e) (here (subst (λ g. is_reused g ≡ true) e is)))
       (λ (ne : f ≢ file). let k = old f is in (k.0, split_same s t f k.0 (same_file f (meta_of_reused f is) ne) k.1)) (nat_cases f file)
 
-  pub kept_all : (is_reused file ≡ false → AreAllLive t file) → ((f : ℕ) → is_meta_file f ≡ true → is_reused f ≡ false → AreAllLive s f) → (f : ℕ) → is_meta_file f ≡ true → is_reused f ≡ false → AreAllLive t f
+  pub kept_all : (is_reused file ≡ false → AreAllLive t file) → ((f : ℕ) → is_meta_file f ≡ true → is_reused f ≡ false → AreAllLive s f) → (f : ℕ)
+      → is_meta_file f ≡ true → is_reused f ≡ false → AreAllLive t f
   kept_all here old f is no_reuse = ⊎_elim (λ (e : f ≡ file). subst (AreAllLive t) (sym e) (here (subst (λ g. is_reused g ≡ false) e no_reuse)))
       (λ (ne : f ≢ file). subst (λ (m : Meta). m.live ≡ m.high) (sym (same_file f is ne).meta) (old f is no_reuse)) (nat_cases f file)
 
   -- a head whose record stays lists what it did, where no relationship changed
-  pub listed_kept : (h : Head) (n : ℕ) (at : ℕ → Type 0) → file ≢ format.relationships_file → is_meta_file h.key.file ≡ true → (h.key.file ≡ file → h.key.id ≢ id) → IsListed s h n at → IsListed t h n at
+  pub listed_kept : (h : Head) (n : ℕ) (at : ℕ → Type 0) → file ≢ format.relationships_file → is_meta_file h.key.file ≡ true
+      → (h.key.file ≡ file → h.key.id ≢ id) → IsListed s h n at → IsListed t h n at
   listed_kept h n at ne is apart k =
-      let rel : (x : ℕ) → rec_at t format.relationships_file x ≡ rec_at s format.relationships_file x = λ x. other_record format.relationships_file x refl (λ e. absurd (ne (sym e))) in
+      let rel : (x : ℕ) → rec_at t format.relationships_file x ≡ rec_at s format.relationships_file x = λ x.
+      other_record format.relationships_file x refl (λ e. absurd (ne (sym e))) in
       record {
         members = k.members;
         chain = subst (λ f. IsChain (λ x. next_in (rec_at t format.relationships_file x) n) (λ x. prev_in (rec_at t format.relationships_file x) n) format.nil f k.members)

@@ -1,5 +1,6 @@
 -- The numbers of a counted group where a relationship comes or goes: one more, or one less, at the head where it stands.
-use Rattle.std.proofs.Common.{◌≡◌, ◌≢◌, ◌⊎◌, ℕ, ◌+◌, ◌<◌, ◌≤◌, ◌^◌, nat_eq, ◌&&◌, not, Bool, true, false, cond, Option, None, Some, length, sym, ap, ◌∙◌, inl, refl, add-zero, inr, subst, ⊎_elim, arith}
+use Rattle.std.proofs.Common.{◌≡◌, ◌≢◌, ◌⊎◌, ℕ, ◌+◌, ◌<◌, ◌≤◌, ◌^◌, nat_eq, ◌&&◌, not, Bool, true, false, cond, Option}
+use Rattle.std.proofs.Common.{None, Some, length, sym, ap, ◌∙◌, inl, refl, add-zero, inr, subst, ⊎_elim, arith}
 use Rattle.rec_bytes.specs.declared.record.Rec.{Rec}
 use Rattle.rec_bytes.specs.Format as format
 use Rattle.rec_bytes.specs.Record.{field, with_field}
@@ -39,23 +40,32 @@ module _ (r : Rec) (group : GroupRow) (row : RelRow) (v : ℕ) (typed : row.labe
 
   at_out : row.from ≡ group.owner → row.to ≢ group.owner → v ≡ field 4 r 32 + 1 → HasOneMore r (with_field 4 r 32 v) group row
   at_out from to is = record {
-    out = field-with_field_same 4 r 32 v (omega arith) small ∙ more_one (field 4 r 32) v (is_out_of group row) (λ i. eq_true row.label group.label typed i && (eq_true row.from group.owner from i && not (eq_false row.to group.owner to i))) is;
-    into = other 32 36 (omega arith) (inl (omega arith)) ∙ more_none (field 4 r 36) (is_into group row) (λ i. eq_true row.label group.label typed i && (not (eq_true row.from group.owner from i) && eq_false row.to group.owner to i));
-    loops = other 32 40 (omega arith) (inl (omega arith)) ∙ more_none (field 4 r 40) (is_loop_of group row) (λ i. eq_true row.label group.label typed i && (eq_true row.from group.owner from i && eq_false row.to group.owner to i));
+    out = field-with_field_same 4 r 32 v (omega arith) small ∙ more_one (field 4 r 32) v (is_out_of group row)
+        (λ i. eq_true row.label group.label typed i && (eq_true row.from group.owner from i && not (eq_false row.to group.owner to i))) is;
+    into = other 32 36 (omega arith) (inl (omega arith)) ∙ more_none (field 4 r 36) (is_into group row)
+        (λ i. eq_true row.label group.label typed i && (not (eq_true row.from group.owner from i) && eq_false row.to group.owner to i));
+    loops = other 32 40 (omega arith) (inl (omega arith)) ∙ more_none (field 4 r 40) (is_loop_of group row)
+        (λ i. eq_true row.label group.label typed i && (eq_true row.from group.owner from i && eq_false row.to group.owner to i));
   }
 
   at_in : row.from ≢ group.owner → row.to ≡ group.owner → v ≡ field 4 r 36 + 1 → HasOneMore r (with_field 4 r 36 v) group row
   at_in from to is = record {
-    out = other 36 32 (omega arith) (inr (omega arith)) ∙ more_none (field 4 r 32) (is_out_of group row) (λ i. eq_true row.label group.label typed i && (eq_false row.from group.owner from i && not (eq_true row.to group.owner to i)));
-    into = field-with_field_same 4 r 36 v (omega arith) small ∙ more_one (field 4 r 36) v (is_into group row) (λ i. eq_true row.label group.label typed i && (not (eq_false row.from group.owner from i) && eq_true row.to group.owner to i)) is;
-    loops = other 36 40 (omega arith) (inl (omega arith)) ∙ more_none (field 4 r 40) (is_loop_of group row) (λ i. eq_true row.label group.label typed i && (eq_false row.from group.owner from i && eq_true row.to group.owner to i));
+    out = other 36 32 (omega arith) (inr (omega arith)) ∙ more_none (field 4 r 32) (is_out_of group row)
+        (λ i. eq_true row.label group.label typed i && (eq_false row.from group.owner from i && not (eq_true row.to group.owner to i)));
+    into = field-with_field_same 4 r 36 v (omega arith) small ∙ more_one (field 4 r 36) v (is_into group row)
+        (λ i. eq_true row.label group.label typed i && (not (eq_false row.from group.owner from i) && eq_true row.to group.owner to i)) is;
+    loops = other 36 40 (omega arith) (inl (omega arith)) ∙ more_none (field 4 r 40) (is_loop_of group row)
+        (λ i. eq_true row.label group.label typed i && (eq_false row.from group.owner from i && eq_true row.to group.owner to i));
   }
 
   at_loop : row.from ≡ group.owner → row.to ≡ group.owner → v ≡ field 4 r 40 + 1 → HasOneMore r (with_field 4 r 40 v) group row
   at_loop from to is = record {
-    out = other 40 32 (omega arith) (inr (omega arith)) ∙ more_none (field 4 r 32) (is_out_of group row) (λ i. eq_true row.label group.label typed i && (eq_true row.from group.owner from i && not (eq_true row.to group.owner to i)));
-    into = other 40 36 (omega arith) (inr (omega arith)) ∙ more_none (field 4 r 36) (is_into group row) (λ i. eq_true row.label group.label typed i && (not (eq_true row.from group.owner from i) && eq_true row.to group.owner to i));
-    loops = field-with_field_same 4 r 40 v (omega arith) small ∙ more_one (field 4 r 40) v (is_loop_of group row) (λ i. eq_true row.label group.label typed i && (eq_true row.from group.owner from i && eq_true row.to group.owner to i)) is;
+    out = other 40 32 (omega arith) (inr (omega arith)) ∙ more_none (field 4 r 32) (is_out_of group row)
+        (λ i. eq_true row.label group.label typed i && (eq_true row.from group.owner from i && not (eq_true row.to group.owner to i)));
+    into = other 40 36 (omega arith) (inr (omega arith)) ∙ more_none (field 4 r 36) (is_into group row)
+        (λ i. eq_true row.label group.label typed i && (not (eq_true row.from group.owner from i) && eq_true row.to group.owner to i));
+    loops = field-with_field_same 4 r 40 v (omega arith) small ∙ more_one (field 4 r 40) v (is_loop_of group row)
+        (λ i. eq_true row.label group.label typed i && (eq_true row.from group.owner from i && eq_true row.to group.owner to i)) is;
   }
 
   pub counts_at : (at : ℕ) → IsSide at group row → v ≡ field 4 r (at + 12) + 1 → HasOneMore r (with_field 4 r (at + 12) v) group row
@@ -82,13 +92,18 @@ none_more old new group row same a b c = record {
 }
 
 -- one of another type
-pub counts_untyped : (old new : Rec) (group : GroupRow) (row : RelRow) → ((at : ℕ) → (32 ≤ at) × (at + 4 ≤ 44) → field 4 new at ≡ field 4 old at) → row.label ≢ group.label → HasOneMore old new group row
-counts_untyped old new group row same ne = none_more old new group row same (rw (eq_false row.label group.label ne) refl) (rw (eq_false row.label group.label ne) refl) (rw (eq_false row.label group.label ne) refl)
+pub counts_untyped : (old new : Rec) (group : GroupRow) (row : RelRow) → ((at : ℕ) → (32 ≤ at) × (at + 4 ≤ 44) → field 4 new at ≡ field 4 old at)
+    → row.label ≢ group.label → HasOneMore old new group row
+counts_untyped old new group row same ne = none_more old new group row same (rw (eq_false row.label group.label ne) refl)
+    (rw (eq_false row.label group.label ne) refl) (rw (eq_false row.label group.label ne) refl)
 
 -- one at other nodes
-pub counts_away : (old new : Rec) (group : GroupRow) (row : RelRow) → ((at : ℕ) → (32 ≤ at) × (at + 4 ≤ 44) → field 4 new at ≡ field 4 old at) → ¬ IsEnd group.owner row → HasOneMore old new group row
+pub counts_away : (old new : Rec) (group : GroupRow) (row : RelRow) → ((at : ℕ) → (32 ≤ at) × (at + 4 ≤ 44) → field 4 new at ≡ field 4 old at)
+    → ¬ IsEnd group.owner row → HasOneMore old new group row
 counts_away old new group row same out = none_more old new group row same
-    ((λ i. nat_eq row.label group.label && (from i && not (to i))) ∙ none (nat_eq row.label group.label)) ((λ i. nat_eq row.label group.label && (not (from i) && to i)) ∙ none (nat_eq row.label group.label)) ((λ i. nat_eq row.label group.label && (from i && to i)) ∙ none (nat_eq row.label group.label))
+    ((λ i. nat_eq row.label group.label && (from i && not (to i))) ∙ none (nat_eq row.label group.label))
+    ((λ i. nat_eq row.label group.label && (not (from i) && to i)) ∙ none (nat_eq row.label group.label))
+    ((λ i. nat_eq row.label group.label && (from i && to i)) ∙ none (nat_eq row.label group.label))
   where
     from : nat_eq row.from group.owner ≡ false
     from = eq_false row.from group.owner (λ e. out (inl e))
@@ -103,7 +118,8 @@ counts_away old new group row same out = none_more old new group row same
 -- ---- all heads
 
 -- one more relationship is one more, where it passes the test
-pub count_more : (test : RelRow → Bool) (row : RelRow) (rels now : ℕ → Option RelRow) (n m id : ℕ) → rels id ≡ None → now id ≡ Some row → ((x : ℕ) → x ≢ id → now x ≡ rels x)
+pub count_more : (test : RelRow → Bool) (row : RelRow) (rels now : ℕ → Option RelRow) (n m id : ℕ) → rels id ≡ None → now id ≡ Some row
+    → ((x : ℕ) → x ≢ id → now x ≡ rels x)
     → id < m → (m ≡ n) ⊎ ((id ≡ n) × (m ≡ n + 1)) → count_of test now m ≡ count_of test rels n + one_if (test row)
 count_more test row rels now n m id none here same lt way = by (test row) (ap (passes test) here)
   where
@@ -114,7 +130,8 @@ count_more test row rels now n m id none here same lt way = by (test row) (ap (p
         (ap (passes test) none) way) ∙ sym (add-zero (count_of test rels n))
 
 -- so the numbers stay exact
-pub counts_more : (group : GroupRow) (row : RelRow) (rels now : ℕ → Option RelRow) (n m id : ℕ) → rels id ≡ None → now id ≡ Some row → ((x : ℕ) → x ≢ id → now x ≡ rels x)
+pub counts_more : (group : GroupRow) (row : RelRow) (rels now : ℕ → Option RelRow) (n m id : ℕ) → rels id ≡ None → now id ≡ Some row
+    → ((x : ℕ) → x ≢ id → now x ≡ rels x)
     → id < m → (m ≡ n) ⊎ ((id ≡ n) × (m ≡ n + 1)) → (old new : Rec) → HasOneMore old new group row → HasCounts old group rels n → HasCounts new group now m
 counts_more group row rels now n m id none here same lt way old new more h = record {
   out = one (is_out_of group) _ _ more.out h.out;
@@ -126,7 +143,8 @@ counts_more group row rels now n m id none here same lt way old new more h = rec
     one test a b is was = is ∙ ap (λ k. k + one_if (test row)) was ∙ sym (count_more test row rels now n m id none here same lt way)
 
 -- and where one goes
-pub counts_less : (group : GroupRow) (row : RelRow) (rels now : ℕ → Option RelRow) (n m id : ℕ) → rels id ≡ Some row → now id ≡ None → ((x : ℕ) → x ≢ id → now x ≡ rels x)
+pub counts_less : (group : GroupRow) (row : RelRow) (rels now : ℕ → Option RelRow) (n m id : ℕ) → rels id ≡ Some row → now id ≡ None
+    → ((x : ℕ) → x ≢ id → now x ≡ rels x)
     → id < n → m ≡ n → (old new : Rec) → HasOneMore new old group row → HasCounts old group rels n → HasCounts new group now m
 counts_less group row rels now n m id there none same lt mark old new more h = record {
   out = one (is_out_of group) _ _ more.out h.out;
@@ -138,5 +156,6 @@ counts_less group row rels now n m id there none same lt mark old new more h = r
     lower a b c d k p q r = omega arith
 
     one : (test : RelRow → Bool) (a b : ℕ) → b ≡ a + one_if (test row) → b ≡ count_of test rels n → a ≡ count_of test now m
-    one test a b is was = lower a b (count_of test rels n) (count_of test now n) (one_if (test row)) is was (count_more test row now rels n n id none there (λ x ne. sym (same x ne)) lt (inl refl))
+    one test a b is was = lower a b (count_of test rels n) (count_of test now n) (one_if (test row)) is was
+        (count_more test row now rels n n id none there (λ x ne. sym (same x ne)) lt (inl refl))
         ∙ ap (count_of test now) (sym mark)

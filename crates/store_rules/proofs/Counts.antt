@@ -1,6 +1,7 @@
 -- How many numbers below a mark pass a test.
 use Rattle.std.specs.Prelude.{is_some}
-use Rattle.std.proofs.Common.{◌≡◌, ◌≢◌, ◌⊎◌, ℕ, zero, suc, ◌+◌, ◌<◌, ◌≤◌, Bool, true, false, cond, Option, None, Some, List, [], ◌∷◌, ◌++◌, length, sym, ap, ◌∙◌, subst, inl, inr, ⊎_elim, arith, refl}
+use Rattle.std.proofs.Common.{◌≡◌, ◌≢◌, ◌⊎◌, ℕ, zero, suc, ◌+◌, ◌<◌, ◌≤◌, Bool, true, false, cond, Option, None, Some}
+use Rattle.std.proofs.Common.{List, [], ◌∷◌, ◌++◌, length, sym, ap, ◌∙◌, subst, inl, inr, ⊎_elim, arith, refl}
 use Rattle.std.specs.List.{filter, sum_by}
 use Rattle.std.proofs.lemmas.Bool.{cases_lt}
 use Rattle.std.proofs.lemmas.List.Elements.{filter-append}
@@ -24,7 +25,8 @@ length-ids test (suc n) = let le = length-ids test n in on (test n) (ids test n)
     on false xs le = let e = length-both xs [] in omega arith
 
 -- a test of one more
-pub ids_with : (old now : ℕ → Bool) (n m id : ℕ) → old id ≡ false → now id ≡ true → ((x : ℕ) → x ≢ id → now x ≡ old x) → id < m → (m ≡ n) ⊎ ((id ≡ n) × (m ≡ n + 1))
+pub ids_with : (old now : ℕ → Bool) (n m id : ℕ) → old id ≡ false → now id ≡ true → ((x : ℕ) → x ≢ id → now x ≡ old x) → id < m → (m ≡ n)
+    ⊎ ((id ≡ n) × (m ≡ n + 1))
     → length (ids now m) ≡ length (ids old n) + 1
 ids_with old now n m id out here same lt way = ⊎_elim
     (λ (e : m ≡ n). subst (λ k. length (ids now m) ≡ length (ids old k) + 1) e (one m lt))
@@ -72,7 +74,8 @@ pub ids_empty : (test : ℕ → Bool) (n : ℕ) → length (ids test n) ≡ 0 �
 ids_empty test zero h x lt = absurd (omega arith)
 ids_empty test (suc n) h x lt =
     let both = parts (ids test n) (option_list (if_test test n)) h in
-    ⊎_elim (λ (l : x < n). ids_empty test n both.0 x l) (λ (ge : n ≤ x). let e : n ≡ x = omega arith in subst (λ z. test z ≡ false) e (last (test n) both.1)) (cases_lt x n)
+    ⊎_elim (λ (l : x < n). ids_empty test n both.0 x l) (λ (ge : n ≤ x). let e : n ≡ x = omega arith in subst (λ z. test z ≡ false) e (last (test n) both.1))
+    (cases_lt x n)
   where
     parts : (xs ys : List ℕ) → length (xs ++ ys) ≡ 0 → (length xs ≡ 0) × (length ys ≡ 0)
     parts xs ys e = let f = length-both xs ys in (omega arith, omega arith)
@@ -106,11 +109,13 @@ ids_fewer test (suc n) x lt out = ⊎_elim
     none xs false k le = let f = length-both xs [] in omega arith
 
 -- as many rows as numbers that pass a test
-pub length-collect : (E : Type 0) (row : ℕ → Option E) (test : ℕ → Bool) (n : ℕ) → ((x : ℕ) → is_some (row x) ≡ test x) → length (collect row n) ≡ length (ids test n)
+pub length-collect : (E : Type 0) (row : ℕ → Option E) (test : ℕ → Bool) (n : ℕ) → ((x : ℕ) → is_some (row x) ≡ test x)
+    → length (collect row n) ≡ length (ids test n)
 length-collect E row test zero h = refl
 length-collect E row test (suc n) h = both (collect row n) (ids test n) (length-collect E row test n h) (row n) (test n) (h n)
   where
-    both : (xs : List E) (ys : List ℕ) → length xs ≡ length ys → (o : Option E) (t : Bool) → is_some o ≡ t → length (xs ++ option_list o) ≡ length (ys ++ option_list (cond t (Some n) None))
+    both : (xs : List E) (ys : List ℕ) → length xs ≡ length ys → (o : Option E) (t : Bool) → is_some o ≡ t
+        → length (xs ++ option_list o) ≡ length (ys ++ option_list (cond t (Some n) None))
     both xs ys e None true k = absurd cc
     both xs ys e None false k = length-both xs [] ∙ ap (λ m. m + 0) e ∙ sym (length-both ys [])
     both xs ys e (Some r) true k = length-both xs (r ∷ []) ∙ ap (λ m. m + 1) e ∙ sym (length-both ys (n ∷ []))
@@ -122,7 +127,8 @@ row_passes test None = false
 row_passes test (Some e) = test e
 
 -- as many rows that pass a test as numbers that pass another
-pub length-filter : (E : Type 0) (row : ℕ → Option E) (test : E → Bool) (now : ℕ → Bool) (n : ℕ) → ((x : ℕ) → row_passes test (row x) ≡ now x) → length (filter test (collect row n)) ≡ length (ids now n)
+pub length-filter : (E : Type 0) (row : ℕ → Option E) (test : E → Bool) (now : ℕ → Bool) (n : ℕ) → ((x : ℕ) → row_passes test (row x) ≡ now x)
+    → length (filter test (collect row n)) ≡ length (ids now n)
 length-filter E row test now zero h = refl
 length-filter E row test now (suc n) h =
     ap length (filter-append test (collect row n) (option_list (row n)))
@@ -144,7 +150,8 @@ pub in_ids : (test : ℕ → Bool) (n x : ℕ) → x < n → test x ≡ true →
 in_ids test zero x lt pass = absurd (omega arith)
 in_ids test (suc n) x lt pass = ⊎_elim
     (λ (k : x < n). in_left x (ids test n) (option_list (if_test test n)) (in_ids test n x k pass))
-    (λ (k : n ≤ x). let e : x ≡ n = omega arith in in_right x (ids test n) (option_list (if_test test n)) (last (test n) (subst (λ z. test z ≡ true) e pass) e)) (cases_lt x n)
+    (λ (k : n ≤ x). let e : x ≡ n = omega arith in in_right x (ids test n) (option_list (if_test test n)) (last (test n) (subst (λ z. test z ≡ true) e pass) e))
+    (cases_lt x n)
   where
     last : (b : Bool) → b ≡ true → x ≡ n → In x (option_list (cond b (Some n) None))
     last true k e = inl e
@@ -165,7 +172,8 @@ ids_in test (suc n) x i = ⊎_elim
 -- none comes twice
 pub once_ids : (test : ℕ → Bool) (n : ℕ) → AreOnce (ids test n)
 once_ids test zero = tt
-once_ids test (suc n) = once_both (ids test n) (option_list (if_test test n)) (once_ids test n) (alone (test n)) (λ x i j. let low = (ids_in test n x i).0 in let e = last x (test n) j in omega arith)
+once_ids test (suc n) = once_both (ids test n) (option_list (if_test test n)) (once_ids test n) (alone (test n))
+    (λ x i j. let low = (ids_in test n x i).0 in let e = last x (test n) j in omega arith)
   where
     alone : (b : Bool) → AreOnce (option_list (cond b (Some n) None))
     alone true = ((λ i. i), tt)
@@ -177,8 +185,10 @@ once_ids test (suc n) = once_both (ids test n) (option_list (if_test test n)) (o
     last x false k = elim k [ ]
 
 -- a sum over rows is one over the numbers that have them
-pub sum_by-collect : {E : Type 0} (row : ℕ → Option E) (test : ℕ → Bool) (f : E → ℕ) (g : ℕ → ℕ) (n : ℕ) → ((x : ℕ) → sum_by f (option_list (row x)) ≡ sum_by g (option_list (if_test test x)))
+pub sum_by-collect : {E : Type 0} (row : ℕ → Option E) (test : ℕ → Bool) (f : E → ℕ) (g : ℕ → ℕ) (n : ℕ)
+    → ((x : ℕ) → sum_by f (option_list (row x)) ≡ sum_by g (option_list (if_test test x)))
     → sum_by f (collect row n) ≡ sum_by g (ids test n)
 sum_by-collect row test f g zero each = refl
 sum_by-collect row test f g (suc n) each =
-    sum_by-append f (collect row n) (option_list (row n)) ∙ (λ i. sum_by-collect row test f g n each i + each n i) ∙ sym (sum_by-append g (ids test n) (option_list (if_test test n)))
+    sum_by-append f (collect row n) (option_list (row n)) ∙ (λ i. sum_by-collect row test f g n each i + each n i)
+    ∙ sym (sum_by-append g (ids test n) (option_list (if_test test n)))

@@ -23,8 +23,10 @@ IsOfNames s r = (field 4 r format.definition_label < high s format.names_file) �
 pub defined_alike : (s t : Records) → ((d : ℕ) → kind_at t format.index_file d ≡ format.definition → (kind_at s format.index_file d ≡ format.definition) × (rec_at t format.index_file d ≡ rec_at s format.index_file d))
     → high s format.names_file ≤ high t format.names_file → Defines s → Defines t
 defined_alike s t alike more h = record {
-  labels = λ d is. let a = alike d is in let low = h.labels d a.0 in subst (λ (r : Rec). field 4 r format.definition_label < high t format.names_file) (sym a.1) (omega (arith, low, more));
-  keys = λ d is. let a = alike d is in let low = h.keys d a.0 in subst (λ (r : Rec). field 4 r format.definition_key < high t format.names_file) (sym a.1) (omega (arith, low, more));
+  labels = λ d is. let a = alike d is in let low = h.labels d a.0 in subst (λ (r : Rec). field 4 r format.definition_label < high t format.names_file) (sym a.1)
+      (omega (arith, low, more));
+  keys = λ d is. let a = alike d is in let low = h.keys d a.0 in subst (λ (r : Rec). field 4 r format.definition_key < high t format.names_file) (sym a.1)
+      (omega (arith, low, more));
 }
 
 -- the file of the index stayed
@@ -45,7 +47,8 @@ changed_defined s t file id change other = defined_stay s t (record {
 }) (ch.marks_le s t file id change format.names_file)
 
 -- one record of the index changed, and if it is a definition now its label and its key are names
-pub defined_with : (s t : Records) (id : ℕ) → IsChanged s t format.index_file id → (kind_at t format.index_file id ≡ format.definition → IsOfNames s (rec_at t format.index_file id)) → Defines s → Defines t
+pub defined_with : (s t : Records) (id : ℕ) → IsChanged s t format.index_file id
+    → (kind_at t format.index_file id ≡ format.definition → IsOfNames s (rec_at t format.index_file id)) → Defines s → Defines t
 defined_with s t id change now h = record {
   labels = λ d is. subst (λ n. field 4 (rec_at t format.index_file d) format.definition_label < n) (sym names) (label d is);
   keys = λ d is. subst (λ n. field 4 (rec_at t format.index_file d) format.definition_key < n) (sym names) (key d is);
@@ -57,7 +60,8 @@ defined_with s t id change now h = record {
     other : (d : ℕ) → d ≢ id → rec_at t format.index_file d ≡ rec_at s format.index_file d
     other d ne = ch.other_record s t format.index_file id change format.index_file d refl (λ _. ne)
 
-    label : (d : ℕ) → kind_at t format.index_file d ≡ format.definition → field 4 (rec_at t format.index_file d) format.definition_label < high s format.names_file
+    label : (d : ℕ) → kind_at t format.index_file d ≡ format.definition
+        → field 4 (rec_at t format.index_file d) format.definition_label < high s format.names_file
     label d is = ⊎_elim
         (λ (e : d ≡ id). subst (λ z. field 4 (rec_at t format.index_file z) format.definition_label < high s format.names_file) (sym e) ((now (ap (kind_at t format.index_file) (sym e) ∙ is)).0))
         (λ (ne : d ≢ id). subst (λ (r : Rec). field 4 r format.definition_label < high s format.names_file) (sym (other d ne)) (h.labels d (sym (ch.kind_other s t format.index_file id change d ne) ∙ is)))

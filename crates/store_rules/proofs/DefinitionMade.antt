@@ -1,12 +1,16 @@
 -- A definition that is made with empty buckets.
-use Rattle.std.proofs.Common.{◌≡◌, ◌≢◌, ◌⊎◌, ⊎_elim, ℕ, zero, suc, ◌+◌, ◌*◌, ◌/◌, ◌%◌, ◌<◌, ◌≤◌, true, false, cond, nat_eq, List, [], ◌∷◌, length, refl, ap, sym, ◌∙◌, subst, inl, inr, arith}
+use Rattle.std.proofs.Common.{◌≡◌, ◌≢◌, ◌⊎◌, ⊎_elim, ℕ, zero, suc, ◌+◌, ◌*◌, ◌/◌, ◌%◌, ◌<◌, ◌≤◌, true, false, cond}
+use Rattle.std.proofs.Common.{nat_eq, List, [], ◌∷◌, length, refl, ap, sym, ◌∙◌, subst, inl, inr, arith}
 use Rattle.std.proofs.lemmas.Bool.{cases_lt, true≢false}
 use Rattle.rec_bytes.specs.declared.record.Rec.{Rec}
 use Rattle.rec_bytes.specs.Format as format
 use Rattle.rec_bytes.specs.Record.{field}
 use Rattle.store_rules.specs.Chains.{In, IsChain, IsWalk}
 use Rattle.store_rules.specs.Hashes.{bucket_of}
-use Rattle.store_rules.specs.Indexes.{AreIndexed, Entries, Entry, HasEntry, IsBucket, IsDefinition, IsEntry, IsHeads, IsOfIndex, entry_hash, entry_in, entry_node, first_definition, first_entry, heads_of, index_rec, indexed_key, indexed_label, next_definition, next_entry, previous_entry}
+use Rattle.store_rules.specs.Indexes.{AreIndexed, Entries, Entry, HasEntry, IsBucket, IsDefinition, IsEntry, IsHeads}
+use Rattle.store_rules.specs.Indexes.{IsOfIndex, entry_hash, entry_in, entry_node, first_definition, first_entry}
+use Rattle.store_rules.specs.Indexes.{heads_of, index_rec, indexed_key, indexed_label, next_definition, next_entry}
+use Rattle.store_rules.specs.Indexes.{previous_entry}
 use Rattle.store_rules.specs.IndexChange.{IsDefinitionMade}
 use Rattle.store_rules.specs.Views.{Records, high, is_live, kind_at}
 use Rattle.store_rules.proofs.BucketChange.{SameEntry, SameLinks}
@@ -146,7 +150,8 @@ module _ (s t : Records) (wanted : Entries) (ix : AreIndexed s wanted) (d label 
     key_at e i = ap (λ (r : Rec). field 4 r format.definition_key) (definition_old e i)
 
     -- two definitions, each of which is the new one or not
-    pairs : (P : Type 0) (e f : ℕ) → In e definitions → In f definitions → (e ≡ d → f ≡ d → P) → (e ≡ d → In f ix.definitions → P) → (In e ix.definitions → f ≡ d → P) → (In e ix.definitions → In f ix.definitions → P) → P
+    pairs : (P : Type 0) (e f : ℕ) → In e definitions → In f definitions → (e ≡ d → f ≡ d → P) → (e ≡ d → In f ix.definitions → P)
+        → (In e ix.definitions → f ≡ d → P) → (In e ix.definitions → In f ix.definitions → P) → P
     pairs P e f i j both left right none = ⊎_elim
         (λ (p : e ≡ d). ⊎_elim (λ (q : f ≡ d). both p q) (λ (q : In f ix.definitions). left p q) j)
         (λ (p : In e ix.definitions). ⊎_elim (λ (q : f ≡ d). right p q) (λ (q : In f ix.definitions). none p q) j) i
@@ -160,7 +165,8 @@ module _ (s t : Records) (wanted : Entries) (ix : AreIndexed s wanted) (d label 
     heads_kinds : (e c : ℕ) → In e definitions → c < 12 → kind_at t format.index_file (heads_of t e c) ≡ format.heads
     heads_kinds e c i lt = ⊎_elim
         (λ (p : e ≡ d). ap (λ z. kind_at t format.index_file (heads_of t z c)) p ∙ h.heads c lt)
-        (λ (j : In e ix.definitions). ap (kind_at t format.index_file) (heads_old e c j) ∙ kind_old (heads_of s e c) (heads_used e c j lt) ∙ ix.heads e c j lt) i
+        (λ (j : In e ix.definitions). ap (kind_at t format.index_file) (heads_old e c j) ∙ kind_old (heads_of s e c) (heads_used e c j lt) ∙ ix.heads e c j lt)
+        i
 
     -- heads that there were are none of the new ones
     heads_apart : (e c k : ℕ) → In e ix.definitions → c < 12 → k < 12 → heads_of t e c ≡ heads_of t d k → ⊥
@@ -173,7 +179,8 @@ module _ (s t : Records) (wanted : Entries) (ix : AreIndexed s wanted) (d label 
         (λ p r. absurd (heads_apart e c k p lt le (q ∙ ap (λ z. heads_of t z k) r)))
         (λ p r. ix.heads_once e c f k p r lt le (sym (heads_old e c p) ∙ q ∙ heads_old f k r))
 
-    all : (e : ℕ) (one : Entry) → In e definitions → one.label ≡ indexed_label t e → one.key ≡ indexed_key t e → wanted one ≡ true → HasEntry t e one (lists e (bucket_of one.hash))
+    all : (e : ℕ) (one : Entry) → In e definitions → one.label ≡ indexed_label t e → one.key ≡ indexed_key t e → wanted one ≡ true
+        → HasEntry t e one (lists e (bucket_of one.hash))
     all e one i l k w = ⊎_elim
         (λ (p : e ≡ d). absurd (true≢false (sym w ∙ unwanted one (l ∙ ap (indexed_label t) p ∙ h.label_is) (k ∙ ap (indexed_key t) p ∙ h.key_is))))
         (λ (j : In e ix.definitions).
@@ -186,7 +193,8 @@ module _ (s t : Records) (wanted : Entries) (ix : AreIndexed s wanted) (d label 
           is = entry_same e has.id j (entry_old has.id kind).0 ∙ has.is;
         }) i
 
-    once : (e b x y : ℕ) → In e definitions → b < 180 → In x (lists e b) → In y (lists e b) → entry_node t x ≡ entry_node t y → entry_hash t x ≡ entry_hash t y → x ≡ y
+    once : (e b x y : ℕ) → In e definitions → b < 180 → In x (lists e b) → In y (lists e b) → entry_node t x ≡ entry_node t y → entry_hash t x ≡ entry_hash t y
+        → x ≡ y
     once e b x y i lt m n p q =
         let a = was_in e b x i m in let c = was_in e b y i n in
         let f = (entry_old x ((ix.buckets e b a.0 lt).kind x a.1)).0 in let g = (entry_old y ((ix.buckets e b a.0 lt).kind y c.1)).0 in
@@ -217,7 +225,8 @@ module _ (s t : Records) (wanted : Entries) (ix : AreIndexed s wanted) (d label 
       definitions = definitions;
       walk = walk;
       few = omega arith;
-      defined = λ e i. ⊎_elim (λ (p : e ≡ d). ap (kind_at t format.index_file) p ∙ h.kind) (λ (j : In e ix.definitions). kind_old e (definition_used e j) ∙ ix.defined e j) i;
+      defined = λ e i. ⊎_elim (λ (p : e ≡ d). ap (kind_at t format.index_file) p ∙ h.kind)
+          (λ (j : In e ix.definitions). kind_old e (definition_used e j) ∙ ix.defined e j) i;
       distinct = distinct;
       heads = heads_kinds;
       heads_once = heads_once;

@@ -1,5 +1,6 @@
 -- What a relationship that comes or goes leaves of the rules and of the graph.
-use Rattle.std.proofs.Common.{◌≡◌, ◌≢◌, ◌⊎◌, ℕ, ◌+◌, ◌<◌, ◌≤◌, nat_eq, true, not, Option, None, Some, List, length, sym, ap, ◌∙◌, subst, inl, inr, ⊎_elim, arith, refl}
+use Rattle.std.proofs.Common.{◌≡◌, ◌≢◌, ◌⊎◌, ℕ, ◌+◌, ◌<◌, ◌≤◌, nat_eq, true, not, Option, None, Some, List, length, sym}
+use Rattle.std.proofs.Common.{ap, ◌∙◌, subst, inl, inr, ⊎_elim, arith, refl}
 use Rattle.std.proofs.lemmas.Bool.{true≢false}
 use Rattle.rec_bytes.specs.declared.key.Key.{Key}
 use Rattle.rec_bytes.specs.declared.meta.Meta.{Meta}
@@ -15,8 +16,11 @@ use Rattle.store_rules.specs.Properties.{property_records}
 use Rattle.store_rules.specs.Ranges.{AreInRange, is_reused}
 use Rattle.store_rules.specs.Rows.{collect, ids}
 use Rattle.store_rules.specs.RuleList.{IsSameFile}
-use Rattle.store_rules.specs.Rules.{AllListed, AreNamed, AreNames, HasCounts, HasEnds, HasGroup, HasGroups, HaveProperties, IsEnd, IsGrouped, IsLinked, IsSplit, KeepsRules, Owns, PropertyFiles, StandsAt, degree_of, is_filled, next_free, property_files, rel_first}
-use Rattle.store_rules.specs.Views.{GroupRow, NodeRow, Records, RelRow, degree, first_link, group_at, high, is_live, key_in, kind_at, kind_in, node_at, rec_at, rel_at, rel_in, row_if, text_of}
+use Rattle.store_rules.specs.Rules.{AllListed, AreNamed, AreNames, HasCounts, HasEnds, HasGroup, HasGroups}
+use Rattle.store_rules.specs.Rules.{HaveProperties, IsEnd, IsGrouped, IsLinked, IsSplit, KeepsRules, Owns}
+use Rattle.store_rules.specs.Rules.{PropertyFiles, StandsAt, degree_of, is_filled, next_free, property_files, rel_first}
+use Rattle.store_rules.specs.Views.{GroupRow, NodeRow, Records, RelRow, degree, first_link, group_at, high, is_live}
+use Rattle.store_rules.specs.Views.{key_in, kind_at, kind_in, node_at, rec_at, rel_at, rel_in, row_if, text_of}
 use Rattle.store_rules.proofs.ChainLaws.{chain_stays, walk_stays}
 use Rattle.store_rules.proofs.Changes as ch
 use Rattle.store_rules.proofs.Changes.{IsChanged}
@@ -32,7 +36,8 @@ use Rattle.store_rules.proofs.ViewLaws.{kind_by}
 -- Nothing changed but one relationship, links of others, first links of sparse nodes and of the chains of groups, and degrees.
 pub record IsEdgeChange (s t : Records) (id : ℕ) : Type 0 where
   pub others : (key : Key) → ¬ HasLinks key.file → key ≢ meta_key_of format.relationships_file → t key ≡ s key
-  pub same : (f x n at : ℕ) → is_meta_file f ≡ true → f ≢ format.relationships_file → at + n ≤ 64 → IsKept f n at → field n (rec_at t f x) at ≡ field n (rec_at s f x) at
+  pub same : (f x n at : ℕ) → is_meta_file f ≡ true → f ≢ format.relationships_file → at + n ≤ 64 → IsKept f n at
+      → field n (rec_at t f x) at ≡ field n (rec_at s f x) at
   pub dense : (n : ℕ) → kind_at s format.nodes_file n ≡ format.dense → first_link t n ≡ first_link s n
   pub rels : (x : ℕ) → x ≢ id → rel_at t x ≡ rel_at s x
 
@@ -56,13 +61,16 @@ rels_relinked s t h x = λ i. row_if (re.kind_stays s t h format.relationships_f
   property = kept 32 (inr (omega arith)) (omega arith) i;
 })
   where
-    kept : (at : ℕ) → (at + 4 ≤ 16) ⊎ (32 ≤ at) → at + 4 ≤ 64 → field 4 (rec_at t format.relationships_file x) at ≡ field 4 (rec_at s format.relationships_file x) at
+    kept : (at : ℕ) → (at + 4 ≤ 16) ⊎ (32 ≤ at) → at + 4 ≤ 64 → field 4 (rec_at t format.relationships_file x) at ≡ field 4
+        (rec_at s format.relationships_file x) at
     kept at aside inside = h.same (key_in format.relationships_file x) 4 at inside (kept_rel 4 at aside)
 
 -- a change of one relationship's record leaves the other rows
 pub rels_changed : (s t : Records) (id : ℕ) → IsChanged s t format.relationships_file id → (x : ℕ) → x ≢ id → rel_at t x ≡ rel_at s x
-rels_changed s t id change x ne = ap (λ k. row_if k (rel_in (rec_at t format.relationships_file x) x)) (ch.kind_other s t format.relationships_file id change x ne)
-    ∙ ap (λ r. row_if (kind_at s format.relationships_file x) (rel_in r x)) (ch.other_record s t format.relationships_file id change format.relationships_file x refl (λ _. ne))
+rels_changed s t id change x ne = ap (λ k. row_if k (rel_in (rec_at t format.relationships_file x) x))
+    (ch.kind_other s t format.relationships_file id change x ne)
+    ∙ ap (λ r. row_if (kind_at s format.relationships_file x) (rel_in r x))
+    (ch.other_record s t format.relationships_file id change format.relationships_file x refl (λ _. ne))
 
 -- and those of the nodes
 module _ (s t : Records) (id : ℕ) (change : IsChanged s t format.relationships_file id) where
@@ -80,7 +88,8 @@ pub changed_relinked : (s m t : Records) (id : ℕ) → IsChanged s m format.rel
 changed_relinked s m t id change links = record {
   others = λ key out ne. links.others key out ∙ other_key s m id change key out ne;
   same = λ f x n at is ne inside kept. links.same (key_in f x) n at inside kept ∙ ap (λ r. field n r at) (rec_beside s m id change f x is ne);
-  dense = λ n d. links.dense n (kind_beside s m id change format.nodes_file n refl (λ e. omega arith) ∙ d) ∙ ap (λ r. field 4 r format.node_first_link) (rec_beside s m id change format.nodes_file n refl (λ e. omega arith));
+  dense = λ n d. links.dense n (kind_beside s m id change format.nodes_file n refl (λ e. omega arith) ∙ d)
+      ∙ ap (λ r. field 4 r format.node_first_link) (rec_beside s m id change format.nodes_file n refl (λ e. omega arith));
   rels = λ x ne. rels_relinked m t links x ∙ rels_changed s m id change x ne;
 }
 
@@ -141,8 +150,10 @@ module _ (s t : Records) (id : ℕ) (h : IsEdgeChange s t id) where
   pub nodes_same : node_at t ≡ node_at s
   nodes_same = λ i x. row_if (kind_same format.nodes_file x refl (λ e. omega arith) i) (record {
     id = x;
-    label = h.same format.nodes_file x 4 format.node_label refl (λ e. omega arith) (omega arith) (kept_low format.nodes_file 4 format.node_label (omega arith)) i;
-    property = h.same format.nodes_file x 4 format.node_first_property refl (λ e. omega arith) (omega arith) (kept_node 4 format.node_first_property (inr (omega arith)) (inl (omega arith))) i;
+    label = h.same format.nodes_file x 4 format.node_label refl (λ e. omega arith) (omega arith) (kept_low format.nodes_file 4 format.node_label (omega arith))
+        i;
+    property = h.same format.nodes_file x 4 format.node_first_property refl (λ e. omega arith) (omega arith)
+        (kept_node 4 format.node_first_property (inr (omega arith)) (inl (omega arith))) i;
   })
 
   pub kinds_same : kind_at t format.nodes_file ≡ kind_at s format.nodes_file
@@ -206,9 +217,11 @@ pub record IsEdgeStore (s t : Records) (shape : Shape) (id most : ℕ) (empty : 
   pub filled : (g : ℕ) (row : GroupRow) → group_at s g ≡ Some row → (is_filled (rec_at t format.groups_file g) ≡ true) ⊎ In g empty
   pub counted : (n : ℕ) → kind_at s format.nodes_file n ≢ format.free_kind → degree t n ≡ degree_of (rel_at t) (high t format.relationships_file) n
   pub few : (n : ℕ) → kind_at s format.nodes_file n ≡ format.sparse → degree t n ≤ most
-  pub exact : (g : ℕ) (row : GroupRow) → group_at s g ≡ Some row → kind_at s format.groups_file g ≡ format.counted → HasCounts (rec_at t format.groups_file g) row (rel_at t) (high t format.relationships_file)
+  pub exact : (g : ℕ) (row : GroupRow) → group_at s g ≡ Some row → kind_at s format.groups_file g ≡ format.counted
+      → HasCounts (rec_at t format.groups_file g) row (rel_at t) (high t format.relationships_file)
 
-module _ (s t : Records) (shape : Shape) (id : ℕ) {most : ℕ} {before empty : List ℕ} (well : KeepsRules s shape most before) (now : IsEdgeStore s t shape id most empty) where
+module _ (s t : Records) (shape : Shape) (id : ℕ) {most : ℕ} {before empty : List ℕ} (well : KeepsRules s shape most before)
+    (now : IsEdgeStore s t shape id most empty) where
   kinds : (n : ℕ) → kind_at t format.nodes_file n ≡ kind_at s format.nodes_file n
   kinds n = kind_same s t id now.change format.nodes_file n refl (λ e. omega arith)
 
@@ -219,17 +232,20 @@ module _ (s t : Records) (shape : Shape) (id : ℕ) {most : ℕ} {before empty :
       (λ (ne : x ≢ id). old (sym (now.change.rels x ne) ∙ e)) (nat_cases x id)
 
   linked : IsLinked t (kind_at t format.nodes_file) (rel_at t) (group_at t)
-  linked = subst (λ k. IsLinked t k (rel_at t) (group_at t)) (sym (kinds_same s t id now.change)) (subst (IsLinked t (kind_at s format.nodes_file) (rel_at t)) (sym (groups_same s t id now.change)) (record {
-    ends = λ x row e. by_row (HasEnds (kind_at s format.nodes_file)) x row e (λ (r : IsGoodRow s row). r.ends) (λ k. well.linked.ends x row k);
-    typed = λ x n row e at d. by_row (λ r. IsEnd n r → HasGroup (group_at s) n r.label) x row e (λ (r : IsGoodRow s row) i. r.typed n i d) (λ k i. well.linked.typed x n row k i d) at;
-    listed = now.listed;
-  }))
+  linked = subst (λ k. IsLinked t k (rel_at t) (group_at t)) (sym (kinds_same s t id now.change))
+      (subst (IsLinked t (kind_at s format.nodes_file) (rel_at t)) (sym (groups_same s t id now.change)) (record {
+        ends = λ x row e. by_row (HasEnds (kind_at s format.nodes_file)) x row e (λ (r : IsGoodRow s row). r.ends) (λ k. well.linked.ends x row k);
+        typed = λ x n row e at d. by_row (λ r. IsEnd n r → HasGroup (group_at s) n r.label) x row e (λ (r : IsGoodRow s row) i. r.typed n i d)
+            (λ k i. well.linked.typed x n row k i d) at;
+        listed = now.listed;
+      }))
 
   grouped : IsGrouped (kind_at t format.nodes_file) (first_link t) (rec_at t format.groups_file) (group_at t) empty
-  grouped = subst (λ r. IsGrouped (kind_at t format.nodes_file) (first_link t) (rec_at t format.groups_file) r empty) (sym (groups_same s t id now.change)) (record {
-    owned = λ g row e. kinds row.owner ∙ well.grouped.owned g row e;
-    each = λ n d. each n (sym (kinds n) ∙ d);
-  })
+  grouped = subst (λ r. IsGrouped (kind_at t format.nodes_file) (first_link t) (rec_at t format.groups_file) r empty) (sym (groups_same s t id now.change))
+      (record {
+        owned = λ g row e. kinds row.owner ∙ well.grouped.owned g row e;
+        each = λ n d. each n (sym (kinds n) ∙ d);
+      })
     where
       number : (g at : ℕ) → at + 4 ≤ 20 → field 4 (rec_at t format.groups_file g) at ≡ field 4 (rec_at s format.groups_file g) at
       number = group_number s t id now.change
@@ -240,7 +256,8 @@ module _ (s t : Records) (shape : Shape) (id : ℕ) {most : ℕ} {before empty :
         chain = subst (λ f. IsChain (λ g. field 4 (rec_at t format.groups_file g) format.group_next) (λ g. field 4 (rec_at t format.groups_file g) format.group_previous) format.nil f old.members) (sym (now.change.dense n d))
             (chain_stays (λ g. field 4 (rec_at s format.groups_file g) format.group_next) (λ g. field 4 (rec_at s format.groups_file g) format.group_previous)
             (λ g. field 4 (rec_at t format.groups_file g) format.group_next) (λ g. field 4 (rec_at t format.groups_file g) format.group_previous)
-            format.nil (first_link s n) old.members (λ g _. number g format.group_next (omega arith)) (λ g _. number g format.group_previous (omega arith)) old.chain);
+            format.nil (first_link s n) old.members (λ g _. number g format.group_next (omega arith)) (λ g _. number g format.group_previous (omega arith))
+            old.chain);
         only = old.only;
         filled = λ g i. let row = old.only g i in now.filled g row.0 row.1;
         all = old.all;
@@ -252,7 +269,8 @@ module _ (s t : Records) (shape : Shape) (id : ℕ) {most : ℕ} {before empty :
       (subst (λ (n : ℕ → Option NodeRow). HaveProperties (property_files s) n (rel_at t) (high t format.names_file)) (sym (nodes_same s t id now.change))
       (subst (HaveProperties (property_files s) (node_at s) (rel_at t)) (sym (name_mark s t id now.change))
       (properties_bare (property_files s) (node_at s) (node_at s) (rel_at s) (rel_at t) (high s format.names_file) format.relationships_file id
-      (none_held (rel_at s id) now.was) (none_held (rel_at t id) (λ row e. (now.row row e).bare)) (owner_beside_rel (node_at s) (rel_at s) (rel_at t) id now.change.rels) well.properties)))
+      (none_held (rel_at s id) now.was) (none_held (rel_at t id) (λ row e. (now.row row e).bare))
+      (owner_beside_rel (node_at s) (rel_at s) (rel_at t) id now.change.rels) well.properties)))
     where
       none_held : (o : Option RelRow) → ((row : RelRow) → o ≡ Some row → row.property ≡ format.nil) → HoldsNone (rel_first o)
       none_held None h = λ first e. absurd cc
@@ -265,17 +283,20 @@ module _ (s t : Records) (shape : Shape) (id : ℕ) {most : ℕ} {before empty :
   })
 
   names : AreNames (rec_at t format.names_file) (high t format.names_file)
-  names = subst (λ r. AreNames r (high t format.names_file)) (sym (name_file s t id now.change)) (subst (AreNames (rec_at s format.names_file)) (sym (name_mark s t id now.change)) well.names)
+  names = subst (λ r. AreNames r (high t format.names_file)) (sym (name_file s t id now.change))
+      (subst (AreNames (rec_at s format.names_file)) (sym (name_mark s t id now.change)) well.names)
 
   pub edge_well : KeepsRules t shape most empty
   edge_well = record {
     ranges = now.ranges;
     split = λ f is. ⊎_elim (λ (e : f ≡ format.relationships_file). subst (λ g. (free : List ℕ) × IsSplit t g (is_live t g) free) (sym e) (now.free, now.split))
-        (λ (ne : f ≢ format.relationships_file). let k = well.split f is in (k.0, split_same s t id now.change f k.0 (meta_of_reused f is) ne k.1)) (nat_cases f format.relationships_file);
+        (λ (ne : f ≢ format.relationships_file). let k = well.split f is in (k.0, split_same s t id now.change f k.0 (meta_of_reused f is) ne k.1))
+        (nat_cases f format.relationships_file);
     kept = λ f is no_reuse. subst (λ (m : Meta). m.live ≡ m.high) (sym (ap metas.meta_of (meta_same s t id now.change f (λ e. true≢false (sym (ap is_reused e) ∙ no_reuse))))) (well.kept f is no_reuse);
     linked = linked;
     grouped = grouped;
-    exact = λ g row is kind. now.exact g row (ap (λ (f : ℕ → Option GroupRow). f g) (sym (groups_same s t id now.change)) ∙ is) (sym (kind_same s t id now.change format.groups_file g refl (λ e. omega arith)) ∙ kind);
+    exact = λ g row is kind. now.exact g row (ap (λ (f : ℕ → Option GroupRow). f g) (sym (groups_same s t id now.change)) ∙ is)
+        (sym (kind_same s t id now.change format.groups_file g refl (λ e. omega arith)) ∙ kind);
     properties = properties;
     named = named;
     defined = defined_stay s t (index_same s t id now.change) (let e = name_mark s t id now.change in omega (arith, e)) well.defined;

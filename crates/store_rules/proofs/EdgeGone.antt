@@ -1,6 +1,7 @@
 -- A relationship that goes keeps the rules, but that the groups that it stood in may be empty, and is one edge less of the graph.
 use Rattle.std.specs.List.{list_any}
-use Rattle.std.proofs.Common.{◌≡◌, ◌≢◌, ◌⊎◌, ℕ, ◌+◌, ◌<◌, ◌≤◌, nat_eq, true, false, None, Some, List, length, sym, ap, ◌∙◌, subst, inl, inr, ⊎_elim, arith, refl}
+use Rattle.std.proofs.Common.{◌≡◌, ◌≢◌, ◌⊎◌, ℕ, ◌+◌, ◌<◌, ◌≤◌, nat_eq, true, false, None, Some, List, length, sym, ap}
+use Rattle.std.proofs.Common.{◌∙◌, subst, inl, inr, ⊎_elim, arith, refl}
 use Rattle.plain_graph.specs.Graph.{edge_number, without_row}
 use Rattle.rec_bytes.specs.declared.shape.Shape.{Shape}
 use Rattle.rec_bytes.specs.Format as format
@@ -38,9 +39,11 @@ pub record IsEdgeGone (s u t : Records) (shape : Shape) (id : ℕ) (row : RelRow
   pub still : (g : ℕ) → In g before → In g empty
   pub less : (n : ℕ) → IsEnd n row → degree t n + 1 ≡ degree s n
   pub as_before : (n : ℕ) → ¬ IsEnd n row → degree t n ≡ degree s n
-  pub counts : (g : ℕ) (group : GroupRow) → group_at s g ≡ Some group → kind_at s format.groups_file g ≡ format.counted → HasOneMore (rec_at t format.groups_file g) (rec_at s format.groups_file g) group row
+  pub counts : (g : ℕ) (group : GroupRow) → group_at s g ≡ Some group → kind_at s format.groups_file g ≡ format.counted
+      → HasOneMore (rec_at t format.groups_file g) (rec_at s format.groups_file g) group row
 
-module _ (s u t : Records) (shape : Shape) (id : ℕ) (row : RelRow) {most : ℕ} {before empty : List ℕ} (edge : IsEdgeGone s u t shape id row before empty) (well : KeepsRules s shape most before) where
+module _ (s u t : Records) (shape : Shape) (id : ℕ) (row : RelRow) {most : ℕ} {before empty : List ℕ} (edge : IsEdgeGone s u t shape id row before empty)
+    (well : KeepsRules s shape most before) where
   change : IsEdgeChange s t id
   change = ec.relinked_changed s u t id edge.links edge.gone.change
 
@@ -56,11 +59,14 @@ module _ (s u t : Records) (shape : Shape) (id : ℕ) (row : RelRow) {most : ℕ
   id_low : id < high s format.relationships_file
   id_low = kind_below (high s format.relationships_file) (rec_at s format.relationships_file id) id row_is.0
 
-  less_at : (n : ℕ) → is_at n row ≡ true → degree_of (rel_at s) (high s format.relationships_file) n ≡ degree_of (rel_at t) (high s format.relationships_file) n + 1
-  less_at n e = ids_with (λ x. stands_in n (rel_at t x)) (λ x. stands_in n (rel_at s x)) (high s format.relationships_file) (high s format.relationships_file) id
+  less_at : (n : ℕ) → is_at n row ≡ true → degree_of (rel_at s) (high s format.relationships_file) n ≡ degree_of (rel_at t) (high s format.relationships_file)
+      n + 1
+  less_at n e = ids_with (λ x. stands_in n (rel_at t x)) (λ x. stands_in n (rel_at s x)) (high s format.relationships_file) (high s format.relationships_file)
+      id
       (ap (stands_in n) rel_gone) (ap (stands_in n) edge.live ∙ e) (λ x ne. ap (stands_in n) (sym (change.rels x ne))) id_low (inl refl)
 
-  same_at : (n : ℕ) → is_at n row ≡ false → degree_of (rel_at t) (high s format.relationships_file) n ≡ degree_of (rel_at s) (high s format.relationships_file) n
+  same_at : (n : ℕ) → is_at n row ≡ false → degree_of (rel_at t) (high s format.relationships_file) n ≡ degree_of (rel_at s) (high s format.relationships_file)
+      n
   same_at n e = ap length (ids_kept (λ x. stands_in n (rel_at s x)) (λ x. stands_in n (rel_at t x)) (high s format.relationships_file) (high s format.relationships_file) id
       (λ x. ⊎_elim (λ (k : x ≡ id). ap (λ z. stands_in n (rel_at t z)) k ∙ ap (stands_in n) rel_gone ∙ sym (ap (stands_in n) edge.live ∙ e) ∙ ap (λ z. stands_in n (rel_at s z)) (sym k)) (λ ne. ap (stands_in n) (change.rels x ne)) (nat_cases x id))
       (ap (stands_in n) edge.live ∙ e) (inl refl))
@@ -87,11 +93,13 @@ module _ (s u t : Records) (shape : Shape) (id : ℕ) (row : RelRow) {most : ℕ
       ⊎_elim (λ (k : is_filled (rec_at s format.groups_file g) ≡ true). stays (filled_has s well.grouped g group is s (rel_at s) well.linked.listed k))
       (λ (k : In g before). inr (edge.still g k)) (has.filled g (has.all g group is refl))
     where
-      stays : (at : ℕ) × (x : ℕ) × IsFirstPlace at × StandsAt (rel_at s) (group_at s) (group_head g at) x → (is_filled (rec_at t format.groups_file g) ≡ true) ⊎ In g empty
+      stays : (at : ℕ) × (x : ℕ) × IsFirstPlace at × StandsAt (rel_at s) (group_at s) (group_head g at) x → (is_filled (rec_at t format.groups_file g) ≡ true)
+          ⊎ In g empty
       stays k = ⊎_elim
           (λ (e : k.1 ≡ id). ⊎_elim
           (λ z. absurd (let f : 3 ≡ 1 = z.0 in omega arith))
-          (λ z. inr (edge.out_of g k.0 (subst (IsInGroup (group_at s) (group_head g k.0)) (sym (same_row k.3.row (ap (rel_at s) (sym e) ∙ k.3.live))) z.1))) k.3.on)
+          (λ z. inr (edge.out_of g k.0 (subst (IsInGroup (group_at s) (group_head g k.0)) (sym (same_row k.3.row (ap (rel_at s) (sym e) ∙ k.3.live))) z.1)))
+          k.3.on)
           (λ (ne : k.1 ≢ id). inl (filled_by s well.grouped g group is t (rel_at t) edge.listed k.0 k.1 k.2 (record { row = k.3.row; live = change.rels k.1 ne ∙ k.3.live; on = k.3.on })))
           (nat_cases k.1 id)
 
@@ -103,7 +111,8 @@ module _ (s u t : Records) (shape : Shape) (id : ℕ) (row : RelRow) {most : ℕ
   now : IsEdgeStore s t shape id most empty
   now = record {
     change = change;
-    ranges = ch.in_range u t format.relationships_file id edge.gone.change shape edge.gone.meta (λ _. edge.gone.fits) (re.range_stays s u edge.links shape well.ranges);
+    ranges = ch.in_range u t format.relationships_file id edge.gone.change shape edge.gone.meta (λ _. edge.gone.fits)
+        (re.range_stays s u edge.links shape well.ranges);
     free = edge.gone.free;
     split = edge.gone.split;
     was = λ a e. subst (λ (r : RelRow). r.property ≡ format.nil) (same_row a e) edge.bare;
@@ -112,7 +121,8 @@ module _ (s u t : Records) (shape : Shape) (id : ℕ) (row : RelRow) {most : ℕ
     filled = filled;
     counted = counted;
     few = few;
-    exact = λ g group is kind. counts_less group row (rel_at s) (rel_at t) (high s format.relationships_file) (high t format.relationships_file) id edge.live rel_gone change.rels id_low mark
+    exact = λ g group is kind. counts_less group row (rel_at s) (rel_at t) (high s format.relationships_file) (high t format.relationships_file) id edge.live
+        rel_gone change.rels id_low mark
         (rec_at s format.groups_file g) (rec_at t format.groups_file g) (edge.counts g group is kind) (well.exact g group is kind);
   }
 
@@ -138,4 +148,5 @@ module _ (s u t : Records) (shape : Shape) (id : ℕ) (row : RelRow) {most : ℕ
 
   pub gone_edges : (graph_of t).edges ≡ without_row edge_number id (graph_of s).edges
   gone_edges = ap (collect (edge_of t)) mark ∙ collect_without edge_number (edge_of s) (edge_of t) (high s format.relationships_file) id (edges_numbered s)
-      (ec.edge_now s t id change id ∙ ap (edge_from (rec_at s format.names_file) (property_records s)) rel_gone) (λ x _ ne. ec.edge_other s t id change x ne) id_low
+      (ec.edge_now s t id change id ∙ ap (edge_from (rec_at s format.names_file) (property_records s)) rel_gone) (λ x _ ne. ec.edge_other s t id change x ne)
+      id_low

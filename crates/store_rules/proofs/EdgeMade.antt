@@ -1,6 +1,7 @@
 -- A relationship that is made keeps the rules, and is one more edge of the graph.
 use Rattle.std.specs.List.{list_any}
-use Rattle.std.proofs.Common.{◌≡◌, ◌≢◌, ◌⊎◌, ℕ, ◌+◌, ◌<◌, ◌≤◌, nat_eq, Bool, true, false, ◌||◌, None, Some, List, [], length, sym, ap, ◌∙◌, subst, inl, inr, ⊎_elim, arith, refl}
+use Rattle.std.proofs.Common.{◌≡◌, ◌≢◌, ◌⊎◌, ℕ, ◌+◌, ◌<◌, ◌≤◌, nat_eq, Bool, true, false, ◌||◌, None, Some, List, []}
+use Rattle.std.proofs.Common.{length, sym, ap, ◌∙◌, subst, inl, inr, ⊎_elim, arith, refl}
 use Rattle.plain_graph.specs.Graph.{Edge, edge_number, with_row}
 use Rattle.plain_graph.specs.Properties.{Properties, no_properties}
 use Rattle.rec_bytes.specs.declared.record.Rec.{Rec}
@@ -54,17 +55,20 @@ pub record IsEdgeMade (s m t : Records) (shape : Shape) (id : ℕ) (rec : Rec) (
   pub more : (n : ℕ) → IsEnd n row → degree t n ≡ degree s n + 1
   pub as_before : (n : ℕ) → ¬ IsEnd n row → degree t n ≡ degree s n
   pub few : (n : ℕ) → IsEnd n row → kind_at s format.nodes_file n ≡ format.sparse → degree s n < most
-  pub counts : (g : ℕ) (group : GroupRow) → group_at s g ≡ Some group → kind_at s format.groups_file g ≡ format.counted → HasOneMore (rec_at s format.groups_file g) (rec_at t format.groups_file g) group row
+  pub counts : (g : ℕ) (group : GroupRow) → group_at s g ≡ Some group → kind_at s format.groups_file g ≡ format.counted
+      → HasOneMore (rec_at s format.groups_file g) (rec_at t format.groups_file g) group row
 
 -- the row of a record that was made, and none before
-pub made_row : (s m : Records) (shape : Shape) (id : ℕ) (rec : Rec) → IsMade s m shape format.relationships_file id rec → field 1 rec format.kind ≢ format.free_kind → rel_at m id ≡ Some (rel_in rec id)
+pub made_row : (s m : Records) (shape : Shape) (id : ℕ) (rec : Rec) → IsMade s m shape format.relationships_file id rec
+    → field 1 rec format.kind ≢ format.free_kind → rel_at m id ≡ Some (rel_in rec id)
 made_row s m shape id rec made used = row_some (kind_at m format.relationships_file id) (rel_in (rec_at m format.relationships_file id) id)
     (λ e. used (sym (kind_low (high m format.relationships_file) (rec_at m format.relationships_file id) id made.below ∙ ap (λ r. field 1 r format.kind) made.here) ∙ e)) ∙ ap (λ r. Some (rel_in r id)) made.here
 
 pub no_row : (s : Records) (id : ℕ) → kind_at s format.relationships_file id ≡ format.free_kind → rel_at s id ≡ None
 no_row s id free = row_none (kind_at s format.relationships_file id) (rel_in (rec_at s format.relationships_file id) id) free
 
-module _ (s m t : Records) (shape : Shape) (id : ℕ) (rec : Rec) (row : RelRow) {most : ℕ} {empty : List ℕ} (edge : IsEdgeMade s m t shape id rec row most empty) (well : KeepsRules s shape most empty) where
+module _ (s m t : Records) (shape : Shape) (id : ℕ) (rec : Rec) (row : RelRow) {most : ℕ} {empty : List ℕ} (edge : IsEdgeMade s m t shape id rec row most empty)
+    (well : KeepsRules s shape most empty) where
   change : IsEdgeChange s t id
   change = ec.changed_relinked s m t id edge.made.change edge.links
 
@@ -77,17 +81,21 @@ module _ (s m t : Records) (shape : Shape) (id : ℕ) (rec : Rec) (row : RelRow)
   mark : high t format.relationships_file ≡ high m format.relationships_file
   mark = re.mark_stays m t edge.links format.relationships_file
 
-  way : (high t format.relationships_file ≡ high s format.relationships_file) ⊎ ((id ≡ high s format.relationships_file) × (high t format.relationships_file ≡ high s format.relationships_file + 1))
+  way : (high t format.relationships_file ≡ high s format.relationships_file)
+      ⊎ ((id ≡ high s format.relationships_file) × (high t format.relationships_file ≡ high s format.relationships_file + 1))
   way = ⊎_elim (λ e. inl (mark ∙ e)) (λ k. inr (k.0, mark ∙ k.1)) edge.made.grows
 
   below : id < high t format.relationships_file
   below = let b = edge.made.below in let e = mark in omega arith
 
-  more_at : (n : ℕ) → is_at n row ≡ true → degree_of (rel_at t) (high t format.relationships_file) n ≡ degree_of (rel_at s) (high s format.relationships_file) n + 1
-  more_at n e = ids_with (λ x. stands_in n (rel_at s x)) (λ x. stands_in n (rel_at t x)) (high s format.relationships_file) (high t format.relationships_file) id
+  more_at : (n : ℕ) → is_at n row ≡ true → degree_of (rel_at t) (high t format.relationships_file) n ≡ degree_of (rel_at s) (high s format.relationships_file)
+      n + 1
+  more_at n e = ids_with (λ x. stands_in n (rel_at s x)) (λ x. stands_in n (rel_at t x)) (high s format.relationships_file) (high t format.relationships_file)
+      id
       (ap (stands_in n) rel_old) (ap (stands_in n) rel_new ∙ e) (λ x ne. ap (stands_in n) (change.rels x ne)) below way
 
-  same_at : (n : ℕ) → is_at n row ≡ false → degree_of (rel_at t) (high t format.relationships_file) n ≡ degree_of (rel_at s) (high s format.relationships_file) n
+  same_at : (n : ℕ) → is_at n row ≡ false → degree_of (rel_at t) (high t format.relationships_file) n ≡ degree_of (rel_at s) (high s format.relationships_file)
+      n
   same_at n e = ap length (ids_kept (λ x. stands_in n (rel_at s x)) (λ x. stands_in n (rel_at t x)) (high s format.relationships_file) (high t format.relationships_file) id
       (λ x. ⊎_elim (λ (k : x ≡ id). ap (λ z. stands_in n (rel_at t z)) k ∙ ap (stands_in n) rel_new ∙ e ∙ sym (ap (stands_in n) rel_old) ∙ ap (λ z. stands_in n (rel_at s z)) (sym k)) (λ ne. ap (stands_in n) (change.rels x ne)) (nat_cases x id))
       (ap (stands_in n) rel_old) way)
@@ -141,7 +149,8 @@ module _ (s m t : Records) (shape : Shape) (id : ℕ) (rec : Rec) (row : RelRow)
     filled = λ g group is. inl (filled g group is);
     counted = counted;
     few = few;
-    exact = λ g group is kind. counts_more group row (rel_at s) (rel_at t) (high s format.relationships_file) (high t format.relationships_file) id rel_old rel_new change.rels below way
+    exact = λ g group is kind. counts_more group row (rel_at s) (rel_at t) (high s format.relationships_file) (high t format.relationships_file) id rel_old
+        rel_new change.rels below way
         (rec_at s format.groups_file g) (rec_at t format.groups_file g) (edge.counts g group is kind) (well.exact g group is kind);
   }
 
@@ -168,7 +177,8 @@ module _ (s m t : Records) (shape : Shape) (id : ℕ) (rec : Rec) (row : RelRow)
   new_edge n properties = record { id = n; label = text_of (rec_at s format.names_file row.label); from = row.from; to = row.to; properties = properties }
 
   pub made_edges : (graph_of t).edges ≡ with_row edge_number (record { id = id; label = text_of (rec_at s format.names_file row.label); from = row.from; to = row.to; properties = no_properties }) (graph_of s).edges
-  made_edges = rows_with edge_number (edge_of s) (edge_of t) (high s format.relationships_file) (high t format.relationships_file) id (new_edge id no_properties) (edges_numbered s) refl none_before
+  made_edges = rows_with edge_number (edge_of s) (edge_of t) (high s format.relationships_file) (high t format.relationships_file) id
+      (new_edge id no_properties) (edges_numbered s) refl none_before
       (ec.edge_now s t id change id ∙ ap (edge_from (rec_at s format.names_file) (property_records s)) rel_new
       ∙ ap (λ n. Some (new_edge n (properties_from (rec_at s format.names_file) (property_records s) row.property))) number_is
       ∙ ap (λ p. Some (new_edge id (properties_from (rec_at s format.names_file) (property_records s) p))) edge.good.bare

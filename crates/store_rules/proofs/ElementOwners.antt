@@ -61,7 +61,8 @@ module _ (records : Records) (x : ℕ) where
       rel l = ap rules.rel_first (row_some (kind_at records 2 x) (rel_in (rec_at records 2 x) x) (used_of_live records 2 x l))
 
 -- where the labels of all elements are names, that of each is
-pub label_kept : (records : Records) (file x : ℕ) → is_element_file file ≡ true → rules.AreNamed (node_at records) (rel_at records) (high records format.names_file)
+pub label_kept : (records : Records) (file x : ℕ) → is_element_file file ≡ true
+    → rules.AreNamed (node_at records) (rel_at records) (high records format.names_file)
     → is_live records file x ≡ true → label_of records file x < high records format.names_file
 label_kept records file x known h live = ⊎_elim
     (λ (t : nat_eq file 1 ≡ true). let e = eqb-true file 1 t in subst (λ f. label_of records f x < high records format.names_file) (sym e) (node (subst (λ f. is_live records f x ≡ true) e live)))

@@ -1,6 +1,7 @@
 -- The properties that an element in use has in the graph.
 use Rattle.std.proofs.Common.{◌≡◌, ◌≢◌, ◌⊎◌, ℕ, true, Some, List, option_map, sym, ap, ◌∙◌, subst, ⊎_elim, refl}
-use Rattle.plain_graph.specs.Graph.{Edge, Node, change_edge, change_node, edge_number, edge_properties, has_element, node_number, node_properties, properties_at, with_properties}
+use Rattle.plain_graph.specs.Graph.{Edge, Node, change_edge, change_node, edge_number, edge_properties, has_element}
+use Rattle.plain_graph.specs.Graph.{node_number, node_properties, properties_at, with_properties}
 use Rattle.plain_graph.specs.Properties.{Properties}
 use Rattle.plain_graph.specs.declared.command.Target.TheVariants as targets
 use Rattle.rec_bytes.specs.declared.record.Rec.{Rec}
@@ -22,7 +23,8 @@ module _ (s : Records) (x : ℕ) where
 
   -- the node that the record of an identifier says
   abbrev pub node_here : Node
-  node_here = let row = node_in (rec_at s format.nodes_file x) x in record { id = x; label = text_of (names row.label); properties = properties_from names (property_records s) row.property }
+  node_here = let row = node_in (rec_at s format.nodes_file x) x in record
+      { id = x; label = text_of (names row.label); properties = properties_from names (property_records s) row.property }
 
   -- it is one of the graph where the record is in use
   pub node_used : kind_at s format.nodes_file x ≢ format.free_kind → node_of s x ≡ Some node_here
@@ -39,34 +41,41 @@ module _ (s : Records) (x : ℕ) where
   edge_used used = ap (edge_from names (property_records s)) (row_some (kind_at s format.relationships_file x) (rel_in (rec_at s format.relationships_file x) x) used)
 
   -- a node has the properties that its record leads to
-  node_at-properties : kind_at s format.nodes_file x ≢ format.free_kind → properties_at (graph_of s) (targets.Node x) ≡ properties_from names (property_records s) (property_from s format.nodes_file x)
+  node_at-properties : kind_at s format.nodes_file x ≢ format.free_kind
+      → properties_at (graph_of s) (targets.Node x) ≡ properties_from names (property_records s) (property_from s format.nodes_file x)
   node_at-properties used = ap node_properties
       (find_collect node_number (node_of s) (high s format.nodes_file) x (nodes_numbered s) (kind_below (high s format.nodes_file) (rec_at s format.nodes_file x) x used) ∙ node_used used)
 
   -- and so has an edge
-  edge_at-properties : kind_at s format.relationships_file x ≢ format.free_kind → properties_at (graph_of s) (targets.Edge x) ≡ properties_from names (property_records s) (property_from s format.relationships_file x)
+  edge_at-properties : kind_at s format.relationships_file x ≢ format.free_kind
+      → properties_at (graph_of s) (targets.Edge x) ≡ properties_from names (property_records s) (property_from s format.relationships_file x)
   edge_at-properties used = ap edge_properties
       (find_collect edge_number (edge_of s) (high s format.relationships_file) x (edges_numbered s) (kind_below (high s format.relationships_file) (rec_at s format.relationships_file x) x used) ∙ edge_used used)
 
 -- an element in use is one of the graph
-pub has_element-used : (s : Records) (file x : ℕ) → (file ≡ format.nodes_file) ⊎ (file ≡ format.relationships_file) → kind_at s file x ≢ format.free_kind → has_element (graph_of s) (target_in file x) ≡ true
+pub has_element-used : (s : Records) (file x : ℕ) → (file ≡ format.nodes_file) ⊎ (file ≡ format.relationships_file) → kind_at s file x ≢ format.free_kind
+    → has_element (graph_of s) (target_in file x) ≡ true
 has_element-used s file x element used = ⊎_elim
     (λ (e : file ≡ format.nodes_file). ap (λ f. has_element (graph_of s) (target_in f x)) e ∙ node_there s x (subst (λ f. kind_at s f x ≢ format.free_kind) e used))
     (λ (e : file ≡ format.relationships_file). ap (λ f. has_element (graph_of s) (target_in f x)) e ∙ edge_there s x (subst (λ f. kind_at s f x ≢ format.free_kind) e used)) element
 
 -- and has the properties that its records have
-pub properties_at-is : (s : Records) (file x : ℕ) (es : List Property) → (file ≡ format.nodes_file) ⊎ (file ≡ format.relationships_file) → kind_at s file x ≢ format.free_kind
+pub properties_at-is : (s : Records) (file x : ℕ) (es : List Property) → (file ≡ format.nodes_file) ⊎ (file ≡ format.relationships_file)
+    → kind_at s file x ≢ format.free_kind
     → AreProperties (property_records s) (property_from s file x) es → properties_at (graph_of s) (target_in file x) ≡ map_of (rec_at s format.names_file) es
 properties_at-is s file x es element used are = ⊎_elim
     (λ (e : file ≡ format.nodes_file). ap (λ f. properties_at (graph_of s) (target_in f x)) e ∙ node_at-properties s x (subst (λ f. kind_at s f x ≢ format.free_kind) e used) ∙ read format.nodes_file e)
     (λ (e : file ≡ format.relationships_file). ap (λ f. properties_at (graph_of s) (target_in f x)) e ∙ edge_at-properties s x (subst (λ f. kind_at s f x ≢ format.free_kind) e used) ∙ read format.relationships_file e) element
   where
     read : (f : ℕ) → file ≡ f → properties_from (rec_at s format.names_file) (property_records s) (property_from s f x) ≡ map_of (rec_at s format.names_file) es
-    read f e = ap (λ g. properties_from (rec_at s format.names_file) (property_records s) (property_from s g x)) (sym e) ∙ properties_from-is (property_records s) (rec_at s format.names_file) (property_from s file x) es are
+    read f e = ap (λ g. properties_from (rec_at s format.names_file) (property_records s) (property_from s g x)) (sym e)
+        ∙ properties_from-is (property_records s) (rec_at s format.names_file) (property_from s file x) es are
 
 -- a change that leaves them leaves the graph
-pub graph_kept : (s : Records) (file x : ℕ) (es : List Property) → (file ≡ format.nodes_file) ⊎ (file ≡ format.relationships_file) → kind_at s file x ≢ format.free_kind
-    → AreProperties (property_records s) (property_from s file x) es → (change : Properties → Properties) → change (map_of (rec_at s format.names_file) es) ≡ map_of (rec_at s format.names_file) es
+pub graph_kept : (s : Records) (file x : ℕ) (es : List Property) → (file ≡ format.nodes_file) ⊎ (file ≡ format.relationships_file)
+    → kind_at s file x ≢ format.free_kind
+    → AreProperties (property_records s) (property_from s file x) es → (change : Properties → Properties)
+    → change (map_of (rec_at s format.names_file) es) ≡ map_of (rec_at s format.names_file) es
     → with_properties (graph_of s) (target_in file x) change ≡ graph_of s
 graph_kept s file x es element used are change same = ⊎_elim
     (λ (e : file ≡ format.nodes_file). ap (λ f. with_properties (graph_of s) (target_in f x) change) e ∙ (λ i. record (graph_of s) {
@@ -83,7 +92,9 @@ graph_kept s file x es element used are change same = ⊎_elim
     used_at : (f : ℕ) → file ≡ f → kind_at s f x ≢ format.free_kind
     used_at f e = subst (λ g. kind_at s g x ≢ format.free_kind) e used
 
-    kept : (f : ℕ) → file ≡ f → change (properties_from (rec_at s format.names_file) (property_records s) (property_from s f x)) ≡ properties_from (rec_at s format.names_file) (property_records s) (property_from s f x)
+    kept : (f : ℕ) → file ≡ f → change (properties_from (rec_at s format.names_file) (property_records s) (property_from s f x)) ≡ properties_from
+        (rec_at s format.names_file) (property_records s) (property_from s f x)
     kept f e =
-        let read = ap (λ g. properties_from (rec_at s format.names_file) (property_records s) (property_from s g x)) (sym e) ∙ properties_from-is (property_records s) (rec_at s format.names_file) (property_from s file x) es are in
+        let read = ap (λ g. properties_from (rec_at s format.names_file) (property_records s) (property_from s g x)) (sym e)
+        ∙ properties_from-is (property_records s) (rec_at s format.names_file) (property_from s file x) es are in
         ap change read ∙ same ∙ sym read

@@ -1,5 +1,6 @@
 -- An entry that is taken out of its bucket and given back.
-use Rattle.std.proofs.Common.{◌≡◌, ◌≢◌, ◌⊎◌, ⊎_elim, ℕ, ◌+◌, ◌*◌, ◌/◌, ◌%◌, ◌<◌, ◌≤◌, Bool, true, false, ◌&&◌, not, cond, nat_eq, List, refl, ap, sym, ◌∙◌, subst, inl, inr, arith}
+use Rattle.std.proofs.Common.{◌≡◌, ◌≢◌, ◌⊎◌, ⊎_elim, ℕ, ◌+◌, ◌*◌, ◌/◌, ◌%◌, ◌<◌, ◌≤◌, Bool, true, false, ◌&&◌, not}
+use Rattle.std.proofs.Common.{cond, nat_eq, List, refl, ap, sym, ◌∙◌, subst, inl, inr, arith}
 use Rattle.std.proofs.lemmas.Bool.{cases_lt, true≢false}
 use borrow.Author.Tests.{eqb-true}
 use Rattle.rec_bytes.specs.declared.record.Rec.{Rec}
@@ -8,7 +9,8 @@ use Rattle.rec_bytes.specs.Record.{field}
 use Rattle.rec_bytes.proofs.Numbers.{field-lt, field-with_field_other, field-with_field_same}
 use Rattle.store_rules.specs.Chains.{In, IsChain, IsWalk, without}
 use Rattle.store_rules.specs.Hashes.{bucket_of}
-use Rattle.store_rules.specs.Indexes.{AreIndexed, Entries, Entry, IsBucket, entry_in, first_entry, heads_of, index_rec, is_entry, next_entry, previous_entry, without_entry}
+use Rattle.store_rules.specs.Indexes.{AreIndexed, Entries, Entry, IsBucket, entry_in, first_entry, heads_of, index_rec}
+use Rattle.store_rules.specs.Indexes.{is_entry, next_entry, previous_entry, without_entry}
 use Rattle.store_rules.specs.IndexChange.{IsEntryGone}
 use Rattle.store_rules.specs.Views.{Records, high, is_live, kind_at, kind_in}
 use Rattle.store_rules.proofs.BucketChange.{bucket_changed, IsBucketChanged, IsOther, SameDefinition, SameEntry, SameLinks}
@@ -23,7 +25,8 @@ use Rattle.store_rules.proofs.ViewLaws.{kind_below, live_false, live_true}
 -- ---- the same for each law
 
 -- the kind of a record whose first byte stays
-pub kind_kept : (s t : Records) (x : ℕ) → high t format.index_file ≡ high s format.index_file → field 1 (index_rec t x) format.kind ≡ field 1 (index_rec s x) format.kind
+pub kind_kept : (s t : Records) (x : ℕ) → high t format.index_file ≡ high s format.index_file
+    → field 1 (index_rec t x) format.kind ≡ field 1 (index_rec s x) format.kind
     → kind_at t format.index_file x ≡ kind_at s format.index_file x
 unfolding kind_in
 kind_kept s t x mark byte = rw (mark, byte) refl
@@ -87,13 +90,15 @@ module _ (s t : Records) (wanted : Entries) (ix : AreIndexed s wanted) (d b x : 
 
   -- a record of another kind than an entry's is not next to it
   not_next : (y : ℕ) → kind_at s format.index_file y ≢ format.indexed → y ≢ format.nil → y ≢ next_entry s x
-  not_next y ne some e = ⊎_elim (λ (n : next_entry s x ≡ format.nil). some (e ∙ n)) (λ (m : In (next_entry s x) xs). ne (ap (kind_at s format.index_file) e ∙ was.kind (next_entry s x) m)) after_there
+  not_next y ne some e = ⊎_elim (λ (n : next_entry s x ≡ format.nil). some (e ∙ n))
+      (λ (m : In (next_entry s x) xs). ne (ap (kind_at s format.index_file) e ∙ was.kind (next_entry s x) m)) after_there
 
   before_none : first_entry s d b ≡ x → previous_entry s x ≡ format.nil
   before_none e = first_before (next_entry s) (previous_entry s) format.nil (first_entry s d b) xs x was.chain member e
 
   not_before : (y : ℕ) → kind_at s format.index_file y ≢ format.indexed → y ≢ format.nil → y ≢ previous_entry s x
-  not_before y ne some e = ⊎_elim (λ (n : first_entry s d b ≡ x). some (e ∙ before_none n)) (λ (m : In (previous_entry s x) xs). ne (ap (kind_at s format.index_file) e ∙ was.kind (previous_entry s x) m)) before_there
+  not_before y ne some e = ⊎_elim (λ (n : first_entry s d b ≡ x). some (e ∙ before_none n))
+      (λ (m : In (previous_entry s x) xs). ne (ap (kind_at s format.index_file) e ∙ was.kind (previous_entry s x) m)) before_there
 
   hid_kind : kind_at s format.index_file hid ≡ format.heads
   hid_kind = ix.heads d (b / 15) listed (omega arith)
@@ -107,10 +112,12 @@ module _ (s t : Records) (wanted : Entries) (ix : AreIndexed s wanted) (d b x : 
       (λ n q. let z = ap (kind_at s format.index_file) q in let m = hid_kind in omega (arith, k, m, z))
 
   -- a field of the heads' record that is not the bucket's
-  heads_field : (g n at : ℕ) → kind_at s format.index_file g ≡ format.heads → g ≢ format.nil → at + n ≤ 64 → (g ≡ hid → (place + 4 ≤ at) ⊎ (at + n ≤ place)) → field n (index_rec t g) at ≡ field n (index_rec s g) at
+  heads_field : (g n at : ℕ) → kind_at s format.index_file g ≡ format.heads → g ≢ format.nil → at + n ≤ 64 → (g ≡ hid → (place + 4 ≤ at) ⊎ (at + n ≤ place))
+      → field n (index_rec t g) at ≡ field n (index_rec s g) at
   heads_field g n at k some fits apart = ⊎_elim
       (λ (p : (previous_entry s x ≡ format.nil) × (g ≡ hid)).
-      ap (λ (r : Rec). field n r at) (ap (index_rec t) p.1 ∙ h.head p.0) ∙ field-with_field_other 4 (index_rec s hid) place (next_entry s x) n at fits (apart p.1) ∙ ap (λ y. field n (index_rec s y) at) (sym p.1))
+      ap (λ (r : Rec). field n r at) (ap (index_rec t) p.1 ∙ h.head p.0)
+      ∙ field-with_field_other 4 (index_rec s hid) place (next_entry s x) n at fits (apart p.1) ∙ ap (λ y. field n (index_rec s y) at) (sym p.1))
       (λ (p : previous_entry s x ≡ format.nil → g ≢ hid).
       ap (λ (r : Rec). field n r at) (h.others g (λ q. let m = was.kind x member in let z = ap (kind_at s format.index_file) q in omega (arith, k, m, z))
       (not_next g (λ q. omega (arith, k, q)) some) (not_before g (λ q. omega (arith, k, q)) some) p))
@@ -184,17 +191,20 @@ module _ (s t : Records) (wanted : Entries) (ix : AreIndexed s wanted) (d b x : 
       (λ q. ⊎_elim (λ (n : first_entry s d b ≡ x). some (q ∙ before_none n)) (λ (n : In (previous_entry s x) xs). out (subst (λ z. In z xs) (sym q) n)) before_there))
 
   -- what an entry of the bucket keeps, whatever became of its links
-  fields_kept : (y n at : ℕ) → In y xs → y ≢ x → at + n ≤ 64 → (at + n ≤ format.indexed_previous) ⊎ (format.indexed_next + 4 ≤ at) → field n (index_rec t y) at ≡ field n (index_rec s y) at
+  fields_kept : (y n at : ℕ) → In y xs → y ≢ x → at + n ≤ 64 → (at + n ≤ format.indexed_previous) ⊎ (format.indexed_next + 4 ≤ at)
+      → field n (index_rec t y) at ≡ field n (index_rec s y) at
   fields_kept y n at m ne fits apart =
       let k = was.kind y m in
       let some = live_some y (λ q. omega (arith, k, q)) in
       ⊎_elim
       (λ (q : y ≡ next_entry s x). ap (λ (r : Rec). field n r at) (ap (index_rec t) q ∙ h.after (λ z. some (q ∙ z)))
-      ∙ field-with_field_other 4 (index_rec s (next_entry s x)) format.indexed_previous (previous_entry s x) n at fits (⊎_elim (λ (u : at + n ≤ format.indexed_previous). inr u) (λ (u : format.indexed_next + 4 ≤ at). inl (omega arith)) apart)
+      ∙ field-with_field_other 4 (index_rec s (next_entry s x)) format.indexed_previous (previous_entry s x) n at fits
+      (⊎_elim (λ (u : at + n ≤ format.indexed_previous). inr u) (λ (u : format.indexed_next + 4 ≤ at). inl (omega arith)) apart)
       ∙ ap (λ z. field n (index_rec s z) at) (sym q))
       (λ (a : y ≢ next_entry s x). ⊎_elim
       (λ (q : y ≡ previous_entry s x). ap (λ (r : Rec). field n r at) (ap (index_rec t) q ∙ h.before (λ z. some (q ∙ z)))
-      ∙ field-with_field_other 4 (index_rec s (previous_entry s x)) format.indexed_next (next_entry s x) n at fits (⊎_elim (λ (u : at + n ≤ format.indexed_previous). inr (omega arith)) (λ (u : format.indexed_next + 4 ≤ at). inl u) apart)
+      ∙ field-with_field_other 4 (index_rec s (previous_entry s x)) format.indexed_next (next_entry s x) n at fits
+      (⊎_elim (λ (u : at + n ≤ format.indexed_previous). inr (omega arith)) (λ (u : format.indexed_next + 4 ≤ at). inl u) apart)
       ∙ ap (λ z. field n (index_rec s z) at) (sym q))
       (λ (p : y ≢ previous_entry s x). ap (λ (r : Rec). field n r at) (entry_far y k ne a p)) (nat_cases y (previous_entry s x)))
       (nat_cases y (next_entry s x))
@@ -230,13 +240,15 @@ module _ (s t : Records) (wanted : Entries) (ix : AreIndexed s wanted) (d b x : 
   next_other : (y : ℕ) → y ≢ x → y ≢ previous_entry s x → y ≢ hid → y ≢ format.nil → next_entry t y ≡ next_entry s y
   next_other y ne p a n = ⊎_elim
       (λ (q : y ≡ next_entry s x). ap (λ (r : Rec). field 4 r format.indexed_next) (ap (index_rec t) q ∙ h.after (λ z. n (q ∙ z)))
-      ∙ field-with_field_other 4 (index_rec s (next_entry s x)) format.indexed_previous (previous_entry s x) 4 format.indexed_next (omega arith) (inl (omega arith)) ∙ ap (next_entry s) (sym q))
+      ∙ field-with_field_other 4 (index_rec s (next_entry s x)) format.indexed_previous (previous_entry s x) 4 format.indexed_next (omega arith)
+      (inl (omega arith)) ∙ ap (next_entry s) (sym q))
       (λ (q : y ≢ next_entry s x). ap (λ (r : Rec). field 4 r format.indexed_next) (h.others y ne q p (λ m. a))) (nat_cases y (next_entry s x))
 
   previous_other : (y : ℕ) → y ≢ x → y ≢ next_entry s x → y ≢ hid → y ≢ format.nil → previous_entry t y ≡ previous_entry s y
   previous_other y ne p a n = ⊎_elim
       (λ (q : y ≡ previous_entry s x). ap (λ (r : Rec). field 4 r format.indexed_previous) (ap (index_rec t) q ∙ h.before (λ z. n (q ∙ z)))
-      ∙ field-with_field_other 4 (index_rec s (previous_entry s x)) format.indexed_next (next_entry s x) 4 format.indexed_previous (omega arith) (inr (omega arith)) ∙ ap (previous_entry s) (sym q))
+      ∙ field-with_field_other 4 (index_rec s (previous_entry s x)) format.indexed_next (next_entry s x) 4 format.indexed_previous (omega arith)
+      (inr (omega arith)) ∙ ap (previous_entry s) (sym q))
       (λ (q : y ≢ previous_entry s x). ap (λ (r : Rec). field 4 r format.indexed_previous) (h.others y ne p q (λ m. a))) (nat_cases y (previous_entry s x))
 
   before_in_bucket : previous_entry s x ≢ format.nil → In (previous_entry s x) xs
@@ -249,9 +261,13 @@ module _ (s t : Records) (wanted : Entries) (ix : AreIndexed s wanted) (d b x : 
       (cond (nat_eq (first_entry s d b) x) (next_entry s x) (first_entry s d b)) (without x xs)
   chain_masked = chain_unlink (next_entry s) (previous_entry s) (masked (next_entry s) (next_entry t)) (masked (previous_entry s) (previous_entry t)) x
       (λ some. masked_at (next_entry s) (next_entry t) (previous_entry s x) (not_hid (previous_entry s x) (was.kind (previous_entry s x) (before_in_bucket some))) some
-      ∙ ap (λ (r : Rec). field 4 r format.indexed_next) (h.before some) ∙ field-with_field_same 4 (index_rec s (previous_entry s x)) format.indexed_next (next_entry s x) (omega arith) (field-lt 4 (index_rec s x) format.indexed_next))
+      ∙ ap (λ (r : Rec). field 4 r format.indexed_next) (h.before some)
+      ∙ field-with_field_same 4 (index_rec s (previous_entry s x)) format.indexed_next (next_entry s x) (omega arith)
+      (field-lt 4 (index_rec s x) format.indexed_next))
       (λ some. masked_at (previous_entry s) (previous_entry t) (next_entry s x) (not_hid (next_entry s x) (was.kind (next_entry s x) (after_in_bucket some))) some
-      ∙ ap (λ (r : Rec). field 4 r format.indexed_previous) (h.after some) ∙ field-with_field_same 4 (index_rec s (next_entry s x)) format.indexed_previous (previous_entry s x) (omega arith) (field-lt 4 (index_rec s x) format.indexed_previous))
+      ∙ ap (λ (r : Rec). field 4 r format.indexed_previous) (h.after some)
+      ∙ field-with_field_same 4 (index_rec s (next_entry s x)) format.indexed_previous (previous_entry s x) (omega arith)
+      (field-lt 4 (index_rec s x) format.indexed_previous))
       (λ y a p. masked_same (next_entry s) (next_entry t) y (next_other y a p))
       (λ y a p. masked_same (previous_entry s) (previous_entry t) y (previous_other y a p))
       format.nil (first_entry s d b) xs nil_no was.chain member
@@ -265,7 +281,8 @@ module _ (s t : Records) (wanted : Entries) (ix : AreIndexed s wanted) (d b x : 
       let k = hid_kind in
       let some : previous_entry s x ≢ format.nil = λ e. nil_no (subst (λ z. In z xs) e m) in
       ap (λ (r : Rec). field 4 r place) (h.others hid (λ q. let a = was.kind x member in let z = ap (kind_at s format.index_file) q in omega (arith, k, a, z))
-      (not_next hid (λ q. omega (arith, k, q)) (live_some hid (λ q. omega (arith, k, q)))) (not_before hid (λ q. omega (arith, k, q)) (live_some hid (λ q. omega (arith, k, q)))) (λ e. absurd (some e)))
+      (not_next hid (λ q. omega (arith, k, q)) (live_some hid (λ q. omega (arith, k, q))))
+      (not_before hid (λ q. omega (arith, k, q)) (live_some hid (λ q. omega (arith, k, q)))) (λ e. absurd (some e)))
       ∙ rw (eq_false (first_entry s d b) x ne) refl)
       (nat_cases (first_entry s d b) x)
 
@@ -338,7 +355,8 @@ module _ (s t : Records) (wanted : Entries) (ix : AreIndexed s wanted) (d b x : 
           (nat_cases y hid)
         where
           none_live : y ≡ format.nil → ⊥
-          none_live p = let u = used_of_live t format.index_file y live in let under = kind_below (high t format.index_file) (index_rec t y) y u in let fits = high_fits t format.index_file in omega arith
+          none_live p = let u = used_of_live t format.index_file y live in let under = kind_below (high t format.index_file) (index_rec t y) y u in let fits =
+              high_fits t format.index_file in omega arith
 
   -- After a leave the rule holds, for the entries but one.
   pub leaves : AreIndexed t (without_entry wanted one)

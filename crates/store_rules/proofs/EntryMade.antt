@@ -1,5 +1,6 @@
 -- An entry that is put in front of its bucket.
-use Rattle.std.proofs.Common.{◌≡◌, ◌≢◌, ◌⊎◌, ⊎_elim, ℕ, ◌+◌, ◌*◌, ◌/◌, ◌%◌, ◌<◌, ◌≤◌, Bool, true, false, ◌||◌, cond, nat_eq, List, ◌∷◌, refl, ap, sym, ◌∙◌, subst, inl, inr, arith}
+use Rattle.std.proofs.Common.{◌≡◌, ◌≢◌, ◌⊎◌, ⊎_elim, ℕ, ◌+◌, ◌*◌, ◌/◌, ◌%◌, ◌<◌, ◌≤◌, Bool, true, false, ◌||◌, cond}
+use Rattle.std.proofs.Common.{nat_eq, List, ◌∷◌, refl, ap, sym, ◌∙◌, subst, inl, inr, arith}
 use Rattle.std.proofs.lemmas.Bool.{cases_lt, true≢false}
 use Rattle.rec_bytes.specs.declared.record.Rec.{Rec}
 use Rattle.rec_bytes.specs.Format as format
@@ -7,7 +8,9 @@ use Rattle.rec_bytes.specs.Record.{field}
 use Rattle.rec_bytes.proofs.Numbers.{field-with_field_other, field-with_field_same}
 use Rattle.store_rules.specs.Chains.{In, IsChain, IsWalk}
 use Rattle.store_rules.specs.Hashes.{bucket_of}
-use Rattle.store_rules.specs.Indexes.{AreIndexed, Entries, Entry, IsBucket, entry_hash, entry_in, entry_node, first_entry, heads_of, index_rec, is_entry, indexed_key, indexed_label, next_entry, previous_entry, with_entry}
+use Rattle.store_rules.specs.Indexes.{AreIndexed, Entries, Entry, IsBucket, entry_hash, entry_in, entry_node}
+use Rattle.store_rules.specs.Indexes.{first_entry, heads_of, index_rec, is_entry, indexed_key, indexed_label}
+use Rattle.store_rules.specs.Indexes.{next_entry, previous_entry, with_entry}
 use Rattle.store_rules.specs.IndexChange.{IsEntryMade}
 use Rattle.store_rules.specs.Views.{Records, high, is_live, kind_at}
 use Rattle.store_rules.proofs.BucketChange.{bucket_changed, IsBucketChanged, IsOther, SameDefinition, SameEntry, SameLinks}
@@ -89,7 +92,8 @@ module _ (s t : Records) (wanted : Entries) (ix : AreIndexed s wanted) (d x node
   new_not_hid = not_hid x (λ q. let f = h.fresh in omega (arith, q, f))
 
   -- a record in use whose first byte stays
-  kind_used : (y : ℕ) → kind_at s format.index_file y ≢ format.free_kind → field 1 (index_rec t y) format.kind ≡ field 1 (index_rec s y) format.kind → kind_at t format.index_file y ≡ kind_at s format.index_file y
+  kind_used : (y : ℕ) → kind_at s format.index_file y ≢ format.free_kind → field 1 (index_rec t y) format.kind ≡ field 1 (index_rec s y) format.kind
+      → kind_at t format.index_file y ≡ kind_at s format.index_file y
   kind_used y used byte =
       let under = kind_below (high s format.index_file) (index_rec s y) y used in
       let grows = h.grows in
@@ -101,7 +105,8 @@ module _ (s t : Records) (wanted : Entries) (ix : AreIndexed s wanted) (d x node
       let used : kind_at s format.index_file e ≢ format.free_kind = λ q. omega (arith, k, q) in
       h.others e (not_new e used) (not_old e (λ q. omega (arith, k, q)) (live_some e used)) (not_hid e (λ q. omega (arith, k, q)))
 
-  heads_field : (g n at : ℕ) → kind_at s format.index_file g ≡ format.heads → at + n ≤ 64 → (g ≡ hid → (place + 4 ≤ at) ⊎ (at + n ≤ place)) → field n (index_rec t g) at ≡ field n (index_rec s g) at
+  heads_field : (g n at : ℕ) → kind_at s format.index_file g ≡ format.heads → at + n ≤ 64 → (g ≡ hid → (place + 4 ≤ at) ⊎ (at + n ≤ place))
+      → field n (index_rec t g) at ≡ field n (index_rec s g) at
   heads_field g n at k fits apart =
       let used : kind_at s format.index_file g ≢ format.free_kind = λ q. omega (arith, k, q) in
       ⊎_elim
@@ -140,12 +145,14 @@ module _ (s t : Records) (wanted : Entries) (ix : AreIndexed s wanted) (d x node
   -- ---- entries
 
   -- what an entry keeps, whatever became of its link to the one before it
-  fields_kept : (y n at : ℕ) → kind_at s format.index_file y ≡ format.indexed → at + n ≤ 64 → (at + n ≤ format.indexed_previous) ⊎ (format.indexed_previous + 4 ≤ at) → field n (index_rec t y) at ≡ field n (index_rec s y) at
+  fields_kept : (y n at : ℕ) → kind_at s format.index_file y ≡ format.indexed → at + n ≤ 64 → (at + n ≤ format.indexed_previous)
+      ⊎ (format.indexed_previous + 4 ≤ at) → field n (index_rec t y) at ≡ field n (index_rec s y) at
   fields_kept y n at k fits apart =
       let used : kind_at s format.index_file y ≢ format.free_kind = λ q. omega (arith, k, q) in
       ⊎_elim
       (λ (q : y ≡ old). ap (λ (r : Rec). field n r at) (ap (index_rec t) q ∙ h.after (λ z. live_some y used (q ∙ z)))
-      ∙ field-with_field_other 4 (index_rec s old) format.indexed_previous x n at fits (⊎_elim (λ (u : at + n ≤ format.indexed_previous). inr u) (λ (u : format.indexed_previous + 4 ≤ at). inl u) apart)
+      ∙ field-with_field_other 4 (index_rec s old) format.indexed_previous x n at fits
+      (⊎_elim (λ (u : at + n ≤ format.indexed_previous). inr u) (λ (u : format.indexed_previous + 4 ≤ at). inl u) apart)
       ∙ ap (λ z. field n (index_rec s z) at) (sym q))
       (λ (q : y ≢ old). ap (λ (r : Rec). field n r at) (h.others y (not_new y used) q (not_hid y (λ z. omega (arith, k, z))))) (nat_cases y old)
 
@@ -195,14 +202,16 @@ module _ (s t : Records) (wanted : Entries) (ix : AreIndexed s wanted) (d x node
   new_out m = let k = was.kind x m in let f = h.fresh in omega (arith, k, f)
 
   chain_masked : IsChain (masked (next_entry s) (next_entry t)) (masked (previous_entry s) (previous_entry t)) format.nil x (x ∷ xs)
-  chain_masked = chain_push (next_entry s) (previous_entry s) (masked (next_entry s) (next_entry t)) (masked (previous_entry s) (previous_entry t)) old x xs was.chain new_out h.some
+  chain_masked = chain_push (next_entry s) (previous_entry s) (masked (next_entry s) (next_entry t)) (masked (previous_entry s) (previous_entry t)) old x xs
+      was.chain new_out h.some
       (masked_at (next_entry s) (next_entry t) x new_not_hid h.some ∙ h.next)
       (masked_at (previous_entry s) (previous_entry t) x new_not_hid h.some ∙ h.previous)
       (λ some. masked_at (previous_entry s) (previous_entry t) old (old_not_hid some) some ∙ ap (λ (r : Rec). field 4 r format.indexed_previous) (h.after some)
       ∙ field-with_field_same 4 (index_rec s old) format.indexed_previous x (omega arith) (let u = h.small in omega arith))
       (λ y ne. masked_same (next_entry s) (next_entry t) y (λ a n. ⊎_elim
       (λ (q : y ≡ old). ap (λ (r : Rec). field 4 r format.indexed_next) (ap (index_rec t) q ∙ h.after (λ z. n (q ∙ z)))
-      ∙ field-with_field_other 4 (index_rec s old) format.indexed_previous x 4 format.indexed_next (omega arith) (inl (omega arith)) ∙ ap (next_entry s) (sym q))
+      ∙ field-with_field_other 4 (index_rec s old) format.indexed_previous x 4 format.indexed_next (omega arith) (inl (omega arith))
+      ∙ ap (next_entry s) (sym q))
       (λ (q : y ≢ old). ap (λ (r : Rec). field 4 r format.indexed_next) (h.others y ne q a)) (nat_cases y old)))
       (λ y ne p. masked_same (previous_entry s) (previous_entry t) y (λ a n. ap (λ (r : Rec). field 4 r format.indexed_previous) (h.others y ne p a)))
 
@@ -228,7 +237,8 @@ module _ (s t : Records) (wanted : Entries) (ix : AreIndexed s wanted) (d x node
         (λ y m. let k = member_kind y m in sym (masked_at (previous_entry s) (previous_entry t) y k.0 k.1))
         chain_masked);
     kind = λ y m. ⊎_elim (λ (e : y ≡ x). ap (kind_at t format.index_file) e ∙ h.kind) (λ (n : In y xs). (entry_still y (was.kind y n)).kind ∙ was.kind y n) m;
-    hash = λ y m. ⊎_elim (λ (e : y ≡ x). ap (λ z. bucket_of (entry_hash t z)) e ∙ ap bucket_of h.hash_is) (λ (n : In y xs). ap bucket_of (entry_still y (was.kind y n)).hash ∙ was.hash y n) m;
+    hash = λ y m. ⊎_elim (λ (e : y ≡ x). ap (λ z. bucket_of (entry_hash t z)) e ∙ ap bucket_of h.hash_is)
+        (λ (n : In y xs). ap bucket_of (entry_still y (was.kind y n)).hash ∙ was.hash y n) m;
     wanted_is = λ y m. ⊎_elim
         (λ (e : y ≡ x). ap (with_entry wanted one) (ap (entry_in t d) e ∙ entry_new) ∙ one_wanted wanted one)
         (λ (n : In y xs). ap (with_entry wanted one) (entry_is d y listed (entry_still y (was.kind y n))) ∙ more_wanted wanted (entry_in s d y) one (was.wanted_is y n)) m;
@@ -288,7 +298,8 @@ module _ (s t : Records) (wanted : Entries) (ix : AreIndexed s wanted) (d x node
             let fits = high_fits t format.index_file in
             let rec = h.others y ne (λ q. ⊎_elim (λ (n : old ≡ format.nil). let z = q ∙ n in omega (arith, z)) (λ (m : In old xs). out (subst (λ z. In z xs) (sym q) m)) old_there) a in
             let same : kind_at s format.index_file y ≡ kind_at t format.index_file y
-            = kind_low (high s format.index_file) (index_rec s y) y (h.only y ne under) ∙ ap (λ (r : Rec). field 1 r format.kind) (sym rec) ∙ sym (kind_low (high t format.index_file) (index_rec t y) y under) in
+            = kind_low (high s format.index_file) (index_rec s y) y (h.only y ne under) ∙ ap (λ (r : Rec). field 1 r format.kind) (sym rec)
+            ∙ sym (kind_low (high t format.index_file) (index_rec t y) y under) in
             live_true (kind_at s format.index_file y) (λ q. used (sym same ∙ q)))
             (nat_cases y hid)
 

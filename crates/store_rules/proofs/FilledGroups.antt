@@ -24,7 +24,8 @@ chain_member next prev before from [] chain some = absurd (some chain)
 chain_member next prev before from (y ∷ ys) chain some = (y, inl refl)
 
 -- the groups are those of one store, and their heads are listed in another
-module _ (s : Records) {empty : List ℕ} (grouped : IsGrouped (kind_at s format.nodes_file) (first_link s) (rec_at s format.groups_file) (group_at s) empty) (g : ℕ) (row : GroupRow) (is : group_at s g ≡ Some row) where
+module _ (s : Records) {empty : List ℕ} (grouped : IsGrouped (kind_at s format.nodes_file) (first_link s) (rec_at s format.groups_file) (group_at s) empty)
+    (g : ℕ) (row : GroupRow) (is : group_at s g ≡ Some row) where
   -- the chains of a group in use are its owner's
   pub owns_chain : (at : ℕ) → IsFirstPlace at → GroupHead (kind_at s format.nodes_file) (group_at s) (group_head g at) row.owner
   owns_chain at place = record {
@@ -36,13 +37,15 @@ module _ (s : Records) {empty : List ℕ} (grouped : IsGrouped (kind_at s format
     field = place;
   }
 
-  pub filled_by : (t : Records) (rels : ℕ → Option RelRow) → AllListed t (Owns (kind_at s format.nodes_file) (group_at s)) (StandsAt rels (group_at s)) → (at x : ℕ) → IsFirstPlace at → StandsAt rels (group_at s) (group_head g at) x
+  pub filled_by : (t : Records) (rels : ℕ → Option RelRow) → AllListed t (Owns (kind_at s format.nodes_file) (group_at s)) (StandsAt rels (group_at s))
+      → (at x : ℕ) → IsFirstPlace at → StandsAt rels (group_at s) (group_head g at) x
       → is_filled (rec_at t format.groups_file g) ≡ true
   filled_by t rels listed at x place stands =
       let l = listed.each (group_head g at) row.owner (inr (owns_chain at place)) in
       chain_filled (rec_at t format.groups_file g) at place (chain_begins _ _ format.nil (first_of t (group_head g at)) l.members x l.chain (l.all x stands))
 
-  pub filled_has : (t : Records) (rels : ℕ → Option RelRow) → AllListed t (Owns (kind_at s format.nodes_file) (group_at s)) (StandsAt rels (group_at s)) → is_filled (rec_at t format.groups_file g) ≡ true
+  pub filled_has : (t : Records) (rels : ℕ → Option RelRow) → AllListed t (Owns (kind_at s format.nodes_file) (group_at s)) (StandsAt rels (group_at s))
+      → is_filled (rec_at t format.groups_file g) ≡ true
       → (at : ℕ) × (x : ℕ) × IsFirstPlace at × StandsAt rels (group_at s) (group_head g at) x
   filled_has t rels listed filled =
       let at = filled_chain (rec_at t format.groups_file g) filled in

@@ -1,5 +1,6 @@
 -- What each rule keeps where what it reads is as it was.
-use Rattle.std.proofs.Common.{◌≡◌, ◌≢◌, ◌⊎◌, ℕ, ◌<◌, nat_eq, Bool, not, cond, ◌&&◌, Option, Some, List, [], ◌∷◌, length, sym, ap, ◌∙◌, subst, inl, inr, ⊎_elim, arith, refl}
+use Rattle.std.proofs.Common.{◌≡◌, ◌≢◌, ◌⊎◌, ℕ, ◌<◌, nat_eq, Bool, not, cond, ◌&&◌, Option, Some, List, [], ◌∷◌, length}
+use Rattle.std.proofs.Common.{sym, ap, ◌∙◌, subst, inl, inr, ⊎_elim, arith, refl}
 use Rattle.rec_bytes.specs.declared.record.Rec.{Rec}
 use Rattle.rec_bytes.specs.declared.meta.Meta.{Meta}
 use Rattle.rec_bytes.specs.Format as format
@@ -9,7 +10,8 @@ use Rattle.store_rules.specs.Chains.{IsWalk, In}
 use Rattle.store_rules.specs.Properties.{property_records}
 use Rattle.store_rules.specs.Rows.{ids}
 use Rattle.store_rules.specs.Views.{GroupRow, NodeRow, Records, RelRow, high, is_live, kind_at, kind_in, rec_at}
-use Rattle.store_rules.specs.Rules.{AreHeld, HasGroups, HaveKeys, HaveProperties, IsGrouped, IsSplit, PropertyFiles, next_free, node_first, property_files, property_owner, rel_first}
+use Rattle.store_rules.specs.Rules.{AreHeld, HasGroups, HaveKeys, HaveProperties, IsGrouped, IsSplit, PropertyFiles}
+use Rattle.store_rules.specs.Rules.{next_free, node_first, property_files, property_owner, rel_first}
 use Rattle.store_rules.proofs.ChainLaws.{walk_stays}
 use Rattle.store_rules.proofs.NumberLaws.{nat_cases, eq_true, eq_false}
 
@@ -40,7 +42,8 @@ module _ (s t : Records) (properties : IsSame s t format.properties_file) (strin
 
 pub split_same : (s t : Records) (f : ℕ) (free : List ℕ) → IsSame s t f → IsSplit s f (is_live s f) free → IsSplit t f (is_live t f) free
 split_same s t f free h k = subst (λ l. IsSplit t f l free) (sym (live_same s t f h)) (record {
-  walk = subst (λ (m : Meta). IsWalk (next_free t f) m.free free) (sym h.meta) (walk_stays (next_free s f) (next_free t f) (meta_in s f).free free (λ x _. ap (λ r. field 4 r format.free_next) (h.each x)) k.walk);
+  walk = subst (λ (m : Meta). IsWalk (next_free t f) m.free free) (sym h.meta)
+      (walk_stays (next_free s f) (next_free t f) (meta_in s f).free free (λ x _. ap (λ r. field 4 r format.free_next) (h.each x)) k.walk);
   low = λ x i. subst (λ (m : Meta). x < m.high) (sym h.meta) (k.low x i);
   only = k.only;
   all = λ x lt. k.all x (subst (λ (m : Meta). x < m.high) h.meta lt);
@@ -48,8 +51,10 @@ split_same s t f free h k = subst (λ l. IsSplit t f l free) (sym (live_same s t
 })
 
 -- the fourth rule reads dense nodes alone
-pub grouped_stays : (kind now first then : ℕ → ℕ) (group_file : ℕ → Rec) (groups : ℕ → Option GroupRow) {empty : List ℕ} → ((n g : ℕ) (row : GroupRow) → groups g ≡ Some row → row.owner ≡ n → kind n ≡ format.dense → now n ≡ format.dense)
-    → ((n : ℕ) → now n ≡ format.dense → (kind n ≡ format.dense) × (then n ≡ first n)) → IsGrouped kind first group_file groups empty → IsGrouped now then group_file groups empty
+pub grouped_stays : (kind now first then : ℕ → ℕ) (group_file : ℕ → Rec) (groups : ℕ → Option GroupRow) {empty : List ℕ}
+    → ((n g : ℕ) (row : GroupRow) → groups g ≡ Some row → row.owner ≡ n → kind n ≡ format.dense → now n ≡ format.dense)
+    → ((n : ℕ) → now n ≡ format.dense → (kind n ≡ format.dense) × (then n ≡ first n)) → IsGrouped kind first group_file groups empty
+    → IsGrouped now then group_file groups empty
 grouped_stays kind now first then group_file groups {empty} there back h = record {
   owned = λ g row e. there row.owner g row e refl (h.owned g row e);
   each = λ n d. let k = back n d in subst (λ f. HasGroups f n group_file groups empty) (sym k.1) (h.each n k.0);
@@ -66,11 +71,13 @@ module _ (lists : ℕ → ℕ → List ℕ) (file id : ℕ) where
   none_here f x p q = rw (eq_true f file p, eq_true x id q) refl
 
   pub none_there : (f x : ℕ) → (f ≡ file → x ≢ id) → with_none lists file id f x ≡ lists f x
-  none_there f x ne = ⊎_elim (λ (p : f ≡ file). rw (eq_true f file p, eq_false x id (ne p)) refl) (λ (p : f ≢ file). rw (eq_false f file p) refl) (nat_cases f file)
+  none_there f x ne = ⊎_elim (λ (p : f ≡ file). rw (eq_true f file p, eq_false x id (ne p)) refl) (λ (p : f ≢ file). rw (eq_false f file p) refl)
+      (nat_cases f file)
 
 -- the pair is the one, or another
 pub pair_cases : {P : Type 0} (file id f x : ℕ) → (f ≡ file → x ≡ id → P) → ((f ≡ file → x ≢ id) → P) → P
-pair_cases file id f x same other = ⊎_elim (λ (p : f ≡ file). ⊎_elim (λ (q : x ≡ id). same p q) (λ (q : x ≢ id). other (λ _. q)) (nat_cases x id)) (λ (p : f ≢ file). other (λ e. absurd (p e))) (nat_cases f file)
+pair_cases file id f x same other = ⊎_elim (λ (p : f ≡ file). ⊎_elim (λ (q : x ≡ id). same p q) (λ (q : x ≢ id). other (λ _. q)) (nat_cases x id))
+    (λ (p : f ≢ file). other (λ e. absurd (p e))) (nat_cases f file)
 
 -- an owner that isn't there, or has none
 abbrev pub HoldsNone : Option ℕ → Type 0
@@ -107,20 +114,25 @@ held_bare owner now next live file id was is same h = record {
 
 -- keys stay right where each owner's list is one that was there, or has none
 pub keys_stay : (owner now : ℕ → ℕ → Option ℕ) (lists then : ℕ → ℕ → List ℕ) (property_file : ℕ → Rec) (names : ℕ)
-    → ((f x first : ℕ) → now f x ≡ Some first → (then f x ≡ []) ⊎ ((owner f x ≡ Some first) × (then f x ≡ lists f x))) → HaveKeys owner lists property_file names → HaveKeys now then property_file names
+    → ((f x first : ℕ) → now f x ≡ Some first → (then f x ≡ []) ⊎ ((owner f x ≡ Some first) × (then f x ≡ lists f x)))
+    → HaveKeys owner lists property_file names → HaveKeys now then property_file names
 keys_stay owner now lists then property_file names way h = record {
-  few = λ f x first e. ⊎_elim (λ (k : then f x ≡ []). let z = ap length k in omega arith) (λ k. let z = ap length k.1 in let b = h.few f x first k.0 in omega arith) (way f x first e);
+  few = λ f x first e. ⊎_elim (λ (k : then f x ≡ []). let z = ap length k in omega arith)
+      (λ k. let z = ap length k.1 in let b = h.few f x first k.0 in omega arith) (way f x first e);
   named = λ f x first p e i. ⊎_elim (λ (k : then f x ≡ []). absurd (subst (In p) k i)) (λ k. h.named f x first p k.0 (subst (In p) k.1 i)) (way f x first e);
-  distinct = λ f x first p q e i j. ⊎_elim (λ (k : then f x ≡ []). absurd (subst (In p) k i)) (λ k. h.distinct f x first p q k.0 (subst (In p) k.1 i) (subst (In q) k.1 j)) (way f x first e);
+  distinct = λ f x first p q e i j. ⊎_elim (λ (k : then f x ≡ []). absurd (subst (In p) k i))
+      (λ k. h.distinct f x first p q k.0 (subst (In p) k.1 i) (subst (In q) k.1 j)) (way f x first e);
 }
 
 -- an element without properties comes, goes or stays
 pub properties_bare : (files : PropertyFiles) (nodes nodes' : ℕ → Option NodeRow) (rels rels' : ℕ → Option RelRow) (names file id : ℕ)
     → HoldsNone (property_owner nodes rels file id) → HoldsNone (property_owner nodes' rels' file id)
-    → ((f x : ℕ) → (f ≡ file → x ≢ id) → property_owner nodes' rels' f x ≡ property_owner nodes rels f x) → HaveProperties files nodes rels names → HaveProperties files nodes' rels' names
+    → ((f x : ℕ) → (f ≡ file → x ≢ id) → property_owner nodes' rels' f x ≡ property_owner nodes rels f x) → HaveProperties files nodes rels names
+    → HaveProperties files nodes' rels' names
 unfolding held_bare
 properties_bare files nodes nodes' rels rels' names file id was is same h = record {
-  held = held_bare (property_owner nodes rels) (property_owner nodes' rels') (λ p. field 4 (files.property p) format.property_next) files.property_live file id was is same h.held;
+  held = held_bare (property_owner nodes rels) (property_owner nodes' rels') (λ p. field 4 (files.property p) format.property_next) files.property_live file id
+      was is same h.held;
   keys = keys_stay (property_owner nodes rels) (property_owner nodes' rels') h.held.lists (with_none h.held.lists file id) files.property names
       (λ f x first e. pair_cases file id f x (λ p q. inl (none_here h.held.lists file id f x p q)) (λ ne. inr (sym (same f x ne) ∙ e, none_there h.held.lists file id f x ne))) h.keys;
   blocks = h.blocks;

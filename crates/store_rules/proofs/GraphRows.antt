@@ -30,7 +30,8 @@ node_there s id used = there_collect node_number (node_of s) (high s format.node
 
 -- an identifier that isn't in use is no node's
 pub no_node : (s : Records) (id : ℕ) → kind_at s format.nodes_file id ≡ format.free_kind → has_node (graph_of s) id ≡ false
-no_node s id free = fresh_collect node_number (node_of s) (high s format.nodes_file) id (nodes_numbered s) (ap (node_from (rec_at s format.names_file) (property_records s)) (row_none (kind_at s format.nodes_file id) (node_in (rec_at s format.nodes_file id) id) free))
+no_node s id free = fresh_collect node_number (node_of s) (high s format.nodes_file) id (nodes_numbered s)
+    (ap (node_from (rec_at s format.names_file) (property_records s)) (row_none (kind_at s format.nodes_file id) (node_in (rec_at s format.nodes_file id) id) free))
 
 -- ---- edges
 
@@ -38,7 +39,8 @@ no_node s id free = fresh_collect node_number (node_of s) (high s format.nodes_f
 pub edges_numbered : (s : Records) (x : ℕ) (e : Edge) → edge_of s x ≡ Some e → edge_number e ≡ x
 edges_numbered s x e h = on (nat_eq (kind_at s format.relationships_file x) 0) h
   where
-    on : (b : Bool) → edge_from (rec_at s format.names_file) (property_records s) (cond b None (Some (rel_in (rec_at s format.relationships_file x) x))) ≡ Some e → e.id ≡ x
+    on : (b : Bool) → edge_from (rec_at s format.names_file) (property_records s) (cond b None (Some (rel_in (rec_at s format.relationships_file x) x))) ≡ Some
+        e → e.id ≡ x
     on true h = absurd cc
     on false h = ap (λ (n : Edge). n.id) (inner _ e (sym h))
       where
@@ -46,7 +48,8 @@ edges_numbered s x e h = on (nat_eq (kind_at s format.relationships_file x) 0) h
         inner a b e = cc
 
 -- the count of edges is that of their file
-pub count_edges : (s : Records) (shape : Shape) {most : ℕ} {empty : List ℕ} → KeepsRules s shape most empty → (meta_in s format.relationships_file).live ≡ length (graph_of s).edges
+pub count_edges : (s : Records) (shape : Shape) {most : ℕ} {empty : List ℕ} → KeepsRules s shape most empty
+    → (meta_in s format.relationships_file).live ≡ length (graph_of s).edges
 count_edges s shape keeps = (keeps.split format.relationships_file refl).1.exact
     ∙ sym (length-collect Edge (edge_of s) (is_live s format.relationships_file) (high s format.relationships_file) (λ x. on x (nat_eq (kind_at s format.relationships_file x) 0)))
   where
@@ -72,7 +75,8 @@ edge_there s id used = there_collect edge_number (edge_of s) (high s format.rela
 
 -- an identifier that isn't in use is no edge's
 pub no_edge : (s : Records) (id : ℕ) → kind_at s format.relationships_file id ≡ format.free_kind → has_edge (graph_of s) id ≡ false
-no_edge s id free = fresh_collect edge_number (edge_of s) (high s format.relationships_file) id (edges_numbered s) (ap (edge_from (rec_at s format.names_file) (property_records s)) (row_none (kind_at s format.relationships_file id) (rel_in (rec_at s format.relationships_file id) id) free))
+no_edge s id free = fresh_collect edge_number (edge_of s) (high s format.relationships_file) id (edges_numbered s)
+    (ap (edge_from (rec_at s format.names_file) (property_records s)) (row_none (kind_at s format.relationships_file id) (rel_in (rec_at s format.relationships_file id) id) free))
 
 -- ---- degrees
 
@@ -85,11 +89,13 @@ degree_in-rows s n = length-filter Edge (edge_of s) (plain.is_at n) (λ x. stand
     on (Some row) = refl
 
 -- so the degree that a node's record has is the graph's
-pub degree_in-degree : (s : Records) (shape : Shape) {most : ℕ} {empty : List ℕ} → KeepsRules s shape most empty → (n : ℕ) → kind_at s format.nodes_file n ≢ format.free_kind → degree_in (graph_of s) n ≡ degree s n
+pub degree_in-degree : (s : Records) (shape : Shape) {most : ℕ} {empty : List ℕ} → KeepsRules s shape most empty → (n : ℕ)
+    → kind_at s format.nodes_file n ≢ format.free_kind → degree_in (graph_of s) n ≡ degree s n
 degree_in-degree s shape keeps n used = degree_in-rows s n ∙ sym (keeps.degrees.each n used)
 
 -- and a node has no more relationships than a file may have identifiers
-pub degree_most : (s : Records) (shape : Shape) {most : ℕ} {empty : List ℕ} → KeepsRules s shape most empty → (n : ℕ) → kind_at s format.nodes_file n ≢ format.free_kind → degree s n ≤ format.most_ids
+pub degree_most : (s : Records) (shape : Shape) {most : ℕ} {empty : List ℕ} → KeepsRules s shape most empty → (n : ℕ)
+    → kind_at s format.nodes_file n ≢ format.free_kind → degree s n ≤ format.most_ids
 degree_most s shape keeps n used =
     let is = keeps.degrees.each n used in
     let few = length-ids (λ x. stands_in n (rel_at s x)) (high s format.relationships_file) in

@@ -20,11 +20,13 @@ filled_chain r filled = ⊎_elim
     (λ (a : field 4 r format.group_first_out ≡ format.nil). ⊎_elim
     (λ (b : field 4 r format.group_first_in ≡ format.nil). ⊎_elim
     (λ (c : field 4 r format.group_first_loop ≡ format.nil). absurd (true≢false (sym filled ∙ all_none (eq_true (field 4 r format.group_first_out) format.nil a) (eq_true (field 4 r format.group_first_in) format.nil b) (eq_true (field 4 r format.group_first_loop) format.nil c))))
-    (λ (c : field 4 r format.group_first_loop ≢ format.nil). (format.group_first_loop, inr (inr refl), c)) (nat_cases (field 4 r format.group_first_loop) format.nil))
+    (λ (c : field 4 r format.group_first_loop ≢ format.nil). (format.group_first_loop, inr (inr refl), c))
+    (nat_cases (field 4 r format.group_first_loop) format.nil))
     (λ (b : field 4 r format.group_first_in ≢ format.nil). (format.group_first_in, inr (inl refl), b)) (nat_cases (field 4 r format.group_first_in) format.nil))
     (λ (a : field 4 r format.group_first_out ≢ format.nil). (format.group_first_out, inl refl, a)) (nat_cases (field 4 r format.group_first_out) format.nil)
   where
-    all_none : nat_eq (field 4 r format.group_first_out) format.nil ≡ true → nat_eq (field 4 r format.group_first_in) format.nil ≡ true → nat_eq (field 4 r format.group_first_loop) format.nil ≡ true → is_filled r ≡ false
+    all_none : nat_eq (field 4 r format.group_first_out) format.nil ≡ true → nat_eq (field 4 r format.group_first_in) format.nil ≡ true
+        → nat_eq (field 4 r format.group_first_loop) format.nil ≡ true → is_filled r ≡ false
     all_none a b c = rw (a, b, c) refl
 
 -- a group that has one isn't empty
@@ -55,7 +57,8 @@ pub same_group : (a b : GroupRow) → Some a ≡ Some b → a ≡ b
 same_group a b e = cc
 
 -- what stands at a head of a group is at the owner
-pub stands_end : (s : Records) (h : Head) (n x : ℕ) → GroupHead (kind_at s format.nodes_file) (group_at s) h n → (a : StandsAt (rel_at s) (group_at s) h x) → IsEnd n a.row
+pub stands_end : (s : Records) (h : Head) (n x : ℕ) → GroupHead (kind_at s format.nodes_file) (group_at s) h n → (a : StandsAt (rel_at s) (group_at s) h x)
+    → IsEnd n a.row
 stands_end s h n x o a = ⊎_elim
     (λ (b : (h.key.file ≡ format.nodes_file) × IsEnd h.key.id a.row). absurd (let f = b.0 in let k = ap (λ (z : Key). z.file) o.key in omega arith))
     (λ (b : (h.key.file ≡ format.groups_file) × IsInGroup (group_at s) h a.row).

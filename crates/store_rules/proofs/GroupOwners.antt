@@ -8,7 +8,8 @@ use Rattle.store_rules.proofs.ChainRules.{Grouped}
 
 -- the counts of counted groups are exact
 abbrev pub Exact : Records → Type 0
-Exact records = rules.AreExact (kind_at records format.groups_file) (rec_at records format.groups_file) (group_at records) (rel_at records) (high records format.relationships_file)
+Exact records = rules.AreExact (kind_at records format.groups_file) (rec_at records format.groups_file) (group_at records) (rel_at records)
+    (high records format.relationships_file)
 
 module _ (records : Records) where
   abbrev groups_of : Grouped records → (n : ℕ) → kind_at records format.nodes_file n ≡ format.dense → (members : List ℕ) × IsGroupChain records n members

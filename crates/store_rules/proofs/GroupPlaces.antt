@@ -41,7 +41,8 @@ some_place from to n end = ⊎_elim
     (λ (f : from ≢ n). (format.group_first_in, inr (inl (refl, f, ⊎_elim (λ e. absurd (f e)) (λ e. e) end))))
     (nat_cases from n)
 
-module _ (groups : ℕ → Option GroupRow) (h : Head) (group : GroupRow) (file : h.key.file ≡ format.groups_file) (is : groups h.key.id ≡ Some group) (row : RelRow) where
+module _ (groups : ℕ → Option GroupRow) (h : Head) (group : GroupRow) (file : h.key.file ≡ format.groups_file) (is : groups h.key.id ≡ Some group)
+    (row : RelRow) where
   -- what is on a head of a group has the group's type, and stands at the place of the head
   pub place_on : IsOn groups h row → (row.label ≡ group.label) × IsAtPlace h.field row.from row.to group.owner
   place_on (inl b) = absurd (let f = b.0 in omega arith)

@@ -24,10 +24,12 @@ pub record AreRelisted (owner now : ℕ → ℕ → Option ℕ) (next : ℕ → 
   pub keep : (f x first p : ℕ) → owner f x ≡ Some first → In p (was f x) → ¬ In p old → (now f x ≡ Some first) × (lists f x ≡ was f x)
   pub apart : (f x g y p : ℕ) → is_new f x → is_new g y → In p (lists f x) → In p (lists g y) → (f ≡ g) × (x ≡ y)
 
-module _ (s t : Records) (shape : Shape) (file : ℕ) (old new : List ℕ) (change : ChangesFile s t shape file old new) (link : Rec → ℕ) (owner now : ℕ → ℕ → Option ℕ)
+module _ (s t : Records) (shape : Shape) (file : ℕ) (old new : List ℕ) (change : ChangesFile s t shape file old new) (link : Rec → ℕ)
+    (owner now : ℕ → ℕ → Option ℕ)
     (held : AreHeld owner (λ p. link (rec_at s file p)) (is_live s file)) (lists : ℕ → ℕ → List ℕ) (is_new : ℕ → ℕ → Type 0) where
   -- what a list that stays has is as it was
-  pub stays_kept : (f x first p : ℕ) → Stays owner held.lists lists old f x first → In p (held.lists f x) → (is_live t file p ≡ true) × (rec_at t file p ≡ rec_at s file p)
+  pub stays_kept : (f x first p : ℕ) → Stays owner held.lists lists old f x first → In p (held.lists f x) → (is_live t file p ≡ true)
+      × (rec_at t file p ≡ rec_at s file p)
   stays_kept f x first p k i = change.kept p (held.only f x first p k.owned i) (k.aside p i)
 
   -- and none of it is new
@@ -35,7 +37,8 @@ module _ (s t : Records) (shape : Shape) (file : ℕ) (old new : List ℕ) (chan
   stays_old f x first p k i n = ⊎_elim (λ (o : In p old). k.aside p i o) (λ dead. true≢false (sym (held.only f x first p k.owned i) ∙ dead)) (change.from p n)
 
   -- so each record in use is still in the list of one owner
-  unfoldable pub relisted : AreRelisted owner now (λ p. link (rec_at t file p)) held.lists lists old new is_new → AreHeld now (λ p. link (rec_at t file p)) (is_live t file)
+  unfoldable pub relisted : AreRelisted owner now (λ p. link (rec_at t file p)) held.lists lists old new is_new
+      → AreHeld now (λ p. link (rec_at t file p)) (is_live t file)
   relisted given = record {
     lists = lists;
     walk = λ f x first e. ⊎_elim
@@ -54,9 +57,11 @@ module _ (s t : Records) (shape : Shape) (file : ℕ) (old new : List ℕ) (chan
     once = λ f x first g y second p e d i j. ⊎_elim
         (λ (o : is_new f x). ⊎_elim
         (λ (u : is_new g y). given.apart f x g y p o u i j)
-        (λ (k : Stays owner held.lists lists old g y second). absurd (stays_old g y second p k (subst (In p) k.same j) (given.come f x p o i))) (given.sides g y second d))
+        (λ (k : Stays owner held.lists lists old g y second). absurd (stays_old g y second p k (subst (In p) k.same j) (given.come f x p o i)))
+        (given.sides g y second d))
         (λ (k : Stays owner held.lists lists old f x first). ⊎_elim
         (λ (u : is_new g y). absurd (stays_old f x first p k (subst (In p) k.same i) (given.come g y p u j)))
-        (λ (q : Stays owner held.lists lists old g y second). held.once f x first g y second p k.owned q.owned (subst (In p) k.same i) (subst (In p) q.same j)) (given.sides g y second d))
+        (λ (q : Stays owner held.lists lists old g y second). held.once f x first g y second p k.owned q.owned (subst (In p) k.same i) (subst (In p) q.same j))
+        (given.sides g y second d))
         (given.sides f x first e);
   }

@@ -6,7 +6,9 @@ use Rattle.rec_bytes.specs.Format as format
 use Rattle.store_rules.specs.Chains.{In, IsWalk}
 use Rattle.store_rules.specs.Indexes.{AreIndexed, Entries, first_definition, next_definition, next_entry, wanted_in}
 use Rattle.store_rules.specs.IndexBreaking.{HasHead, IndexBreaks, LeadsToDefinition, LeadsToEntry}
-use Rattle.store_rules.specs.IndexBreaking.IndexBreaks.{LateEntry, LeftOver, OtherDefinition, OtherEntry, OtherHead, UnwantedEntry, WrongDefinition, WrongDefinitions, WrongEntry, WrongHead, WrongNode}
+use Rattle.store_rules.specs.IndexBreaking.IndexBreaks.{LateEntry, LeftOver, OtherDefinition, OtherEntry, OtherHead}
+use Rattle.store_rules.specs.IndexBreaking.IndexBreaks.{UnwantedEntry, WrongDefinition, WrongDefinitions, WrongEntry}
+use Rattle.store_rules.specs.IndexBreaking.IndexBreaks.{WrongHead, WrongNode}
 use Rattle.store_rules.specs.IndexBreaking.LeadsToDefinition.{FirstDefinition, NextDefinition}
 use Rattle.store_rules.specs.IndexBreaking.LeadsToEntry.{FirstEntry, NextEntry}
 use Rattle.store_rules.specs.Views.{Records, high, rec_at}
@@ -46,8 +48,10 @@ rest_in next xs n x some r = go r.rest r.walk r.within r.count
 module _ (records : Records) (wanted : Entries) (ix : AreIndexed records wanted) where
   -- the chain of the definitions leads to these alone
   pub definition_met : (d : ℕ) → LeadsToDefinition records d → In d ix.definitions
-  definition_met d (FirstDefinition a e some) = ⊎_elim (λ nil. absurd (some (sym e ∙ nil))) (λ i. subst (λ z. In z ix.definitions) e i) (first_in (next_definition records) (first_definition records) ix.definitions ix.walk)
-  definition_met d (NextDefinition c a before defined e some) = ⊎_elim (λ nil. absurd (some (sym e ∙ nil))) (λ i. subst (λ z. In z ix.definitions) e i) (after_in (next_definition records) (first_definition records) ix.definitions c ix.walk (definition_met c before))
+  definition_met d (FirstDefinition a e some) = ⊎_elim (λ nil. absurd (some (sym e ∙ nil))) (λ i. subst (λ z. In z ix.definitions) e i)
+      (first_in (next_definition records) (first_definition records) ix.definitions ix.walk)
+  definition_met d (NextDefinition c a before defined e some) = ⊎_elim (λ nil. absurd (some (sym e ∙ nil))) (λ i. subst (λ z. In z ix.definitions) e i)
+      (after_in (next_definition records) (first_definition records) ix.definitions c ix.walk (definition_met c before))
 
   -- what a bucket leads to is not none
   met_some : (d b n x : ℕ) → LeadsToEntry records d b n x → x ≢ format.nil
@@ -66,7 +70,8 @@ module _ (records : Records) (wanted : Entries) (ix : AreIndexed records wanted)
     within = λ y i. i;
     count = omega arith;
   }
-  bucket_rest d b n x (NextEntry k y z before used e some) = next_rest (next_entry records) (ix.lists d b) k y x (met_some d b k y before) (bucket_rest d b k y before) e
+  bucket_rest d b n x (NextEntry k y z before used e some) = next_rest (next_entry records) (ix.lists d b) k y x (met_some d b k y before)
+      (bucket_rest d b k y before) e
 
   pub entry_met : (d b n x : ℕ) → LeadsToEntry records d b n x → In x (ix.lists d b) × (n < length (ix.lists d b))
   entry_met d b n x leads = rest_in (next_entry records) (ix.lists d b) n x (met_some d b n x leads) (bucket_rest d b n x leads)

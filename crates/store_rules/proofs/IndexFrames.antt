@@ -35,11 +35,13 @@ indexed_same s wanted now ix same = record {
 -- ---- one value
 
 -- the tests of an entry of the pair and the node are those of its hash
-hash_test : (e : Entry) (label key n hash : ℕ) → e.label ≡ label → e.key ≡ key → e.node ≡ n → is_entry e (record { label = label; key = key; node = n; hash = hash }) ≡ nat_eq e.hash hash
+hash_test : (e : Entry) (label key n hash : ℕ) → e.label ≡ label → e.key ≡ key → e.node ≡ n
+    → is_entry e (record { label = label; key = key; node = n; hash = hash }) ≡ nat_eq e.hash hash
 hash_test e label key n hash l k m = rw (eq_true e.label label l, eq_true e.key key k, eq_true e.node n m) refl
 
 flip : (a b : ℕ) → nat_eq a b ≡ nat_eq b a
-flip a b = ⊎_elim (λ (p : a ≡ b). rw (eq_true a b p, eq_true b a (sym p)) refl) (λ (p : a ≢ b). rw (eq_false a b p, eq_false b a (λ q. p (sym q))) refl) (nat_cases a b)
+flip a b = ⊎_elim (λ (p : a ≡ b). rw (eq_true a b p, eq_true b a (sym p)) refl) (λ (p : a ≢ b). rw (eq_false a b p, eq_false b a (λ q. p (sym q))) refl)
+    (nat_cases a b)
 
 not_entry : (e one : Entry) → (e.label ≢ one.label) ⊎ ((e.key ≢ one.key) ⊎ (e.node ≢ one.node)) → is_entry e one ≡ false
 not_entry e one (inl p) = rw (eq_false e.label one.label p) refl
@@ -57,26 +59,32 @@ not_entry e one (inr (inr p)) = by (nat_eq e.label one.label) (nat_eq e.key one.
 
 module _ (label key n : ℕ) (e : Entry) where
   -- elsewhere nothing is other
-  without_value-other : (wanted : Entries) (old : Option Value) → (e.label ≢ label) ⊎ ((e.key ≢ key) ⊎ (e.node ≢ n)) → without_value wanted label key n old e ≡ wanted e
+  without_value-other : (wanted : Entries) (old : Option Value) → (e.label ≢ label) ⊎ ((e.key ≢ key) ⊎ (e.node ≢ n))
+      → without_value wanted label key n old e ≡ wanted e
   without_value-other wanted None p = refl
   without_value-other wanted (Some v) p = ap (λ t. not t && wanted e) (not_entry e (record { label = label; key = key; node = n; hash = hash_of v }) p)
 
-  with_value-other : (wanted : Entries) (new : Option Value) → (e.label ≢ label) ⊎ ((e.key ≢ key) ⊎ (e.node ≢ n)) → with_value wanted label key n new e ≡ wanted e
+  with_value-other : (wanted : Entries) (new : Option Value) → (e.label ≢ label) ⊎ ((e.key ≢ key) ⊎ (e.node ≢ n))
+      → with_value wanted label key n new e ≡ wanted e
   with_value-other wanted None p = refl
   with_value-other wanted (Some v) p = ap (λ t. t || wanted e) (not_entry e (record { label = label; key = key; node = n; hash = hash_of v }) p)
 
   -- here nothing is left
-  without_value-here : (wanted : Entries) (old : Option Value) → e.label ≡ label → e.key ≡ key → e.node ≡ n → wanted e ≡ has_hash e.hash old → without_value wanted label key n old e ≡ false
+  without_value-here : (wanted : Entries) (old : Option Value) → e.label ≡ label → e.key ≡ key → e.node ≡ n → wanted e ≡ has_hash e.hash old
+      → without_value wanted label key n old e ≡ false
   without_value-here wanted None l k m w = w
-  without_value-here wanted (Some v) l k m w = ap (λ t. not t && wanted e) (hash_test e label key n (hash_of v) l k m ∙ flip e.hash (hash_of v)) ∙ ap (λ t. not (nat_eq (hash_of v) e.hash) && t) w ∙ by (nat_eq (hash_of v) e.hash)
+  without_value-here wanted (Some v) l k m w = ap (λ t. not t && wanted e) (hash_test e label key n (hash_of v) l k m ∙ flip e.hash (hash_of v))
+      ∙ ap (λ t. not (nat_eq (hash_of v) e.hash) && t) w ∙ by (nat_eq (hash_of v) e.hash)
     where
       by : (t : Bool) → (not t && t) ≡ false
       by true = refl
       by false = refl
 
-  with_value-here : (wanted : Entries) (new : Option Value) → e.label ≡ label → e.key ≡ key → e.node ≡ n → wanted e ≡ false → with_value wanted label key n new e ≡ has_hash e.hash new
+  with_value-here : (wanted : Entries) (new : Option Value) → e.label ≡ label → e.key ≡ key → e.node ≡ n → wanted e ≡ false
+      → with_value wanted label key n new e ≡ has_hash e.hash new
   with_value-here wanted None l k m w = w
-  with_value-here wanted (Some v) l k m w = ap (λ t. t || wanted e) (hash_test e label key n (hash_of v) l k m ∙ flip e.hash (hash_of v)) ∙ ap (λ t. nat_eq (hash_of v) e.hash || t) w ∙ by (nat_eq (hash_of v) e.hash)
+  with_value-here wanted (Some v) l k m w = ap (λ t. t || wanted e) (hash_test e label key n (hash_of v) l k m ∙ flip e.hash (hash_of v))
+      ∙ ap (λ t. nat_eq (hash_of v) e.hash || t) w ∙ by (nat_eq (hash_of v) e.hash)
     where
       by : (t : Bool) → (t || false) ≡ t
       by true = refl
@@ -98,7 +106,8 @@ value_changed s t label key n old new h e = ⊎_elim
     (λ (l : e.label ≢ label). elsewhere (inl l)) (nat_cases e.label label)
   where
     elsewhere : (e.label ≢ label) ⊎ ((e.key ≢ key) ⊎ (e.node ≢ n)) → wanted_in t e ≡ with_value (without_value (wanted_in s) label key n old) label key n new e
-    elsewhere p = ap (has_hash e.hash) (h.others e.label e.key e.node p) ∙ sym (with_value-other label key n e (without_value (wanted_in s) label key n old) new p ∙ without_value-other label key n e (wanted_in s) old p)
+    elsewhere p = ap (has_hash e.hash) (h.others e.label e.key e.node p)
+        ∙ sym (with_value-other label key n e (without_value (wanted_in s) label key n old) new p ∙ without_value-other label key n e (wanted_in s) old p)
 
 -- So the rule holds again.
 pub indexed_again : (s t : Records) (label key n : ℕ) (old new : Option Value) → ChangesValue s t label key n old new

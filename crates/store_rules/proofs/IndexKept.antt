@@ -31,7 +31,8 @@ changed_index s t file id change other = record {
 }
 
 -- where properties of an element changed
-pub properties_index : (s t : Records) (shape : Shape) (file x : ℕ) (old new : List Property) → ChangesProperties s t shape file x old new → IsSameFile s t format.index_file
+pub properties_index : (s t : Records) (shape : Shape) (file x : ℕ) (old new : List Property) → ChangesProperties s t shape file x old new
+    → IsSameFile s t format.index_file
 properties_index s t shape file x old new h = fr.index_same s t shape file x old new h
 
 -- ---- the rule of the indexes stays
@@ -42,22 +43,27 @@ edge_indexed s t id change ix = indexes_stay s t (ec.index_same s t id change) (
     (subst (AreIndexed s) (sym (wanted_same s t (ec.nodes_same s t id change) (ec.files_stay s t id change))) ix)
 
 -- a record of a file that no value is read of
-pub changed_indexed : (s t : Records) (file id : ℕ) → IsChanged s t file id → file ≢ format.index_file → node_at t ≡ node_at s → property_records t ≡ property_records s → AreIndexed s (wanted_in s) → AreIndexed t (wanted_in t)
-changed_indexed s t file id change other nodes files ix = indexes_stay s t (changed_index s t file id change other) (wanted_in t) (subst (AreIndexed s) (sym (wanted_same s t nodes files)) ix)
+pub changed_indexed : (s t : Records) (file id : ℕ) → IsChanged s t file id → file ≢ format.index_file → node_at t ≡ node_at s
+    → property_records t ≡ property_records s → AreIndexed s (wanted_in s) → AreIndexed t (wanted_in t)
+changed_indexed s t file id change other nodes files ix = indexes_stay s t (changed_index s t file id change other) (wanted_in t)
+    (subst (AreIndexed s) (sym (wanted_same s t nodes files)) ix)
 
 -- ---- nodes that come and go have no value
 
 -- no properties are read from none
-value_none : (files : PropertyRecords) (label key : ℕ) (o : Option NodeRow) → ((row : NodeRow) → o ≡ Some row → row.property ≡ format.nil) → row_value files label key o ≡ None
+value_none : (files : PropertyRecords) (label key : ℕ) (o : Option NodeRow) → ((row : NodeRow) → o ≡ Some row → row.property ≡ format.nil)
+    → row_value files label key o ≡ None
 unfolding followed
 value_none files label key None bare = refl
-value_none files label key (Some row) bare = ap (λ first. cond (nat_eq row.label label) (value_in (listed_from files first) key) None) (bare row refl) ∙ by (nat_eq row.label label)
+value_none files label key (Some row) bare = ap (λ first. cond (nat_eq row.label label) (value_in (listed_from files first) key) None) (bare row refl)
+    ∙ by (nat_eq row.label label)
   where
     by : (b : Bool) → cond b (value_in (listed_from files format.nil) key) None ≡ None
     by true = refl
     by false = refl
 
-module _ (s t : Records) (id : ℕ) (change : IsChanged s t format.nodes_file id) (before : (row : NodeRow) → node_at s id ≡ Some row → row.property ≡ format.nil) (after : (row : NodeRow) → node_at t id ≡ Some row → row.property ≡ format.nil) where
+module _ (s t : Records) (id : ℕ) (change : IsChanged s t format.nodes_file id) (before : (row : NodeRow) → node_at s id ≡ Some row → row.property ≡ format.nil)
+    (after : (row : NodeRow) → node_at t id ≡ Some row → row.property ≡ format.nil) where
   -- every value is as it was
   wanted_bare : wanted_in t ≡ wanted_in s
   wanted_bare = λ i e. has_hash e.hash (value e.label e.key e.node i)
@@ -65,15 +71,18 @@ module _ (s t : Records) (id : ℕ) (change : IsChanged s t format.nodes_file id
       value : (label key n : ℕ) → node_value t label key n ≡ node_value s label key n
       value label key n = (λ i. row_value (nc.files_stay s t id change i) label key (node_at t n)) ∙ ⊎_elim
           (λ (here : n ≡ id). let none = value_none (property_records s) label key in
-          ap (λ m. row_value (property_records s) label key (node_at t m)) here ∙ none (node_at t id) after ∙ sym (none (node_at s id) before) ∙ sym (ap (λ m. row_value (property_records s) label key (node_at s m)) here))
+          ap (λ m. row_value (property_records s) label key (node_at t m)) here ∙ none (node_at t id) after ∙ sym (none (node_at s id) before)
+          ∙ sym (ap (λ m. row_value (property_records s) label key (node_at s m)) here))
           (λ (other : n ≢ id). ap (row_value (property_records s) label key) (nc.node_other s t id change n other))
           (nat_cases n id)
 
   pub bare_indexed : AreIndexed s (wanted_in s) → AreIndexed t (wanted_in t)
-  bare_indexed ix = indexes_stay s t (changed_index s t format.nodes_file id change (λ e. omega arith)) (wanted_in t) (subst (AreIndexed s) (sym wanted_bare) ix)
+  bare_indexed ix = indexes_stay s t (changed_index s t format.nodes_file id change (λ e. omega arith)) (wanted_in t)
+      (subst (AreIndexed s) (sym wanted_bare) ix)
 
 -- a new node
-pub made_indexed : (s t : Records) (shape : Shape) (id number : ℕ) (rec : Rec) → IsMade s t shape format.nodes_file id rec → IsNewNode rec number → AreIndexed s (wanted_in s) → AreIndexed t (wanted_in t)
+pub made_indexed : (s t : Records) (shape : Shape) (id number : ℕ) (rec : Rec) → IsMade s t shape format.nodes_file id rec → IsNewNode rec number
+    → AreIndexed s (wanted_in s) → AreIndexed t (wanted_in t)
 made_indexed s t shape id number rec made new = bare_indexed s t id made.change
     (λ row is. absurd (none_some row (sym (row_none (kind_at s format.nodes_file id) (node_in (rec_at s format.nodes_file id) id) made.fresh) ∙ is)))
     (λ row is. bare row (kind_at t format.nodes_file id) is)

@@ -1,5 +1,7 @@
 -- The indexes stay where a name comes.
-use Rattle.std.proofs.Common.{◌≡◌, ◌⊎◌, ℕ, zero, suc, ◌<◌, ◌≤◌, Bool, true, false, nat_eq, nat_lt, if◌then◌else◌, Option, None, Some, List, [], ◌∷◌, ◌++◌, length, sym, ap, ◌∙◌, subst, inl, inr, ⊎_elim, arith, refl}
+use Rattle.std.proofs.Common.{◌≡◌, ◌⊎◌, ℕ, zero, suc, ◌<◌, ◌≤◌, Bool, true, false, nat_eq, nat_lt, if◌then◌else◌}
+use Rattle.std.proofs.Common.{Option, None, Some, List, [], ◌∷◌, ◌++◌, length, sym, ap, ◌∙◌, subst, inl, inr, ⊎_elim}
+use Rattle.std.proofs.Common.{arith, refl}
 use Rattle.std.specs.List.{flat_map}
 use Rattle.std.proofs.lemmas.Bool.{eqb-true}
 use Rattle.std.proofs.lemmas.Grind.{flat_map-append}
@@ -24,10 +26,12 @@ use Rattle.store_rules.proofs.RowLaws.{append_none}
 
 -- ---- a table with one number more on each side, where the new ones have none
 
-module _ {E : Type 0} (old now : ℕ → ℕ → Option E) (n : ℕ) (same : (a b : ℕ) → a < n → b < n → now a b ≡ old a b) (last_a : (b : ℕ) → now n b ≡ None) (last_b : (a : ℕ) → now a n ≡ None) where
+module _ {E : Type 0} (old now : ℕ → ℕ → Option E) (n : ℕ) (same : (a b : ℕ) → a < n → b < n → now a b ≡ old a b) (last_a : (b : ℕ) → now n b ≡ None)
+    (last_b : (a : ℕ) → now a n ≡ None) where
   row_same : (a : ℕ) → a < n → (m : ℕ) → m ≤ n → collect (now a) m ≡ collect (old a) m
   row_same a lt zero le = refl
-  row_same a lt (suc m) le = ap (λ xs. xs ++ option_list (now a m)) (row_same a lt m (omega arith)) ∙ ap (λ o. collect (old a) m ++ option_list o) (same a m lt (omega arith))
+  row_same a lt (suc m) le = ap (λ xs. xs ++ option_list (now a m)) (row_same a lt m (omega arith))
+      ∙ ap (λ o. collect (old a) m ++ option_list o) (same a m lt (omega arith))
 
   row_grows : (a : ℕ) → a < n → collect (now a) (suc n) ≡ collect (old a) n
   row_grows a lt = ap (λ o. collect (now a) n ++ option_list o) (last_b a) ∙ append_none (collect (now a) n) ∙ row_same a lt n (omega arith)

@@ -4,7 +4,8 @@ use Rattle.std.proofs.lemmas.Bool.{cases_lt, eqb-true, true≢false}
 use Rattle.plain_graph.specs.declared.value.Value.{Value}
 use Rattle.store_rules.specs.Chains.{In}
 use Rattle.store_rules.specs.Hashes.{bucket_of, hash_of}
-use Rattle.store_rules.specs.Indexes.{AreIndexed, Entry, HasEntry, IsBucket, IsOfIndex, entry_hash, entry_in, entry_node, has_hash, heads_of, indexed_key, indexed_label, node_value, wanted_in}
+use Rattle.store_rules.specs.Indexes.{AreIndexed, Entry, HasEntry, IsBucket, IsOfIndex, entry_hash, entry_in}
+use Rattle.store_rules.specs.Indexes.{entry_node, has_hash, heads_of, indexed_key, indexed_label, node_value, wanted_in}
 use Rattle.store_rules.specs.Indexes.IsOfIndex.{IsDefinition, IsEntry, IsHeads}
 use Rattle.store_rules.specs.IndexBreaking.{AreDefinitions, DefinitionKeeps, EachKeeps, IsAmongDefinitions, IsBucketList, IsEntered, IsInBucket, IsOfAnIndex}
 use Rattle.store_rules.specs.IndexBreaking.IsOfAnIndex.{Defines, Enters, Heads}
@@ -76,13 +77,16 @@ module _ (records : Records) where
         let l = listed d b i lt in
         record { chain = l.chain; kind = l.kind; hash = l.hash; wanted_is = λ x m. (k.entry x).wanted d b (here d b x i lt m) }
 
-    has_all : (d : ℕ) (e : Entry) → In d ds → e.label ≡ indexed_label records d → e.key ≡ indexed_key records d → wanted_in records e ≡ true → HasEntry records d e (lists d (bucket_of e.hash))
+    has_all : (d : ℕ) (e : Entry) → In d ds → e.label ≡ indexed_label records d → e.key ≡ indexed_key records d → wanted_in records e ≡ true
+        → HasEntry records d e (lists d (bucket_of e.hash))
     has_all d e i l q w =
         let v = hash_had e.hash (node_value records e.label e.key e.node) w in
-        let value : node_value records (indexed_label records d) (indexed_key records d) e.node ≡ Some v.0 = sym (λ j. node_value records (l j) (q j) e.node) ∙ v.1 in
+        let value : node_value records (indexed_label records d) (indexed_key records d) e.node ≡ Some v.0 = sym (λ j. node_value records (l j) (q j) e.node)
+        ∙ v.1 in
         let found = (k.node e.node).has d v.0 (among d i) value in
         let x = found.entry in
-        let u = hash_had (entry_hash records x) (node_value records (indexed_label records d) (indexed_key records d) (entry_node records x)) ((k.entry x).wanted d found.bucket found.there) in
+        let u = hash_had (entry_hash records x) (node_value records (indexed_label records d) (indexed_key records d) (entry_node records x))
+        ((k.entry x).wanted d found.bucket found.there) in
         let same : Some u.0 ≡ Some v.0 = sym u.1 ∙ ap (node_value records (indexed_label records d) (indexed_key records d)) found.node ∙ value in
         let hash : entry_hash records x ≡ e.hash = sym u.2 ∙ ap hash_of (some_one u.0 v.0 same) ∙ v.2 in
         let at : found.bucket ≡ bucket_of e.hash = sym (found.there.list.hash x found.there.member) ∙ ap bucket_of hash in
@@ -108,7 +112,8 @@ module _ (records : Records) where
       defined = k.meta.list.defined;
       distinct = λ d e i j l q. (kept e j).alone d (among d i) l q;
       heads = λ d c i lt. (kept d i).heads c lt;
-      heads_once = λ d c e n i j l m q. (k.head (heads_of records e n)).once d c e n (record { definition = among d i; low = l; is = q }) (record { definition = among e j; low = m; is = refl });
+      heads_once = λ d c e n i j l m q. (k.head (heads_of records e n)).once d c e n (record { definition = among d i; low = l; is = q })
+          (record { definition = among e j; low = m; is = refl });
       lists = lists;
       buckets = bucket;
       all = has_all;
@@ -140,11 +145,14 @@ module _ (records : Records) where
     is_wanted : (d b x : ℕ) → IsInBucket records d b x → wanted_in records (entry_in records d x) ≡ true
     is_wanted d b x h = (ix.buckets d b (member d h.definition) h.low).wanted_is x (inside d b x h)
 
-    value_of : (d b x : ℕ) → IsInBucket records d b x → (value : Value) × (node_value records (indexed_label records d) (indexed_key records d) (entry_node records x) ≡ Some value) × (hash_of value ≡ entry_hash records x)
-    value_of d b x h = hash_had (entry_hash records x) (node_value records (indexed_label records d) (indexed_key records d) (entry_node records x)) (is_wanted d b x h)
+    value_of : (d b x : ℕ) → IsInBucket records d b x → (value : Value)
+        × (node_value records (indexed_label records d) (indexed_key records d) (entry_node records x) ≡ Some value) × (hash_of value ≡ entry_hash records x)
+    value_of d b x h = hash_had (entry_hash records x) (node_value records (indexed_label records d) (indexed_key records d) (entry_node records x))
+        (is_wanted d b x h)
 
     -- two entries of one node have the hash of its value
-    same_hash : (d b x c y : ℕ) → IsInBucket records d b x → IsInBucket records d c y → entry_node records x ≡ entry_node records y → entry_hash records x ≡ entry_hash records y
+    same_hash : (d b x c y : ℕ) → IsInBucket records d b x → IsInBucket records d c y → entry_node records x ≡ entry_node records y
+        → entry_hash records x ≡ entry_hash records y
     same_hash d b x c y h k e =
         let u = value_of d b x h in
         let v = value_of d c y k in
@@ -161,7 +169,8 @@ module _ (records : Records) where
         let bucket : c ≡ b = sym (k.list.hash y k.member) ∙ ap bucket_of (sym hash) ∙ h.list.hash x h.member in
         ix.once d b x y (member d h.definition) h.low (inside d b x h) (subst (λ z. In y (ix.lists d z)) bucket (inside d c y k)) node hash
 
-    entered : (n d : ℕ) (value : Value) → IsAmongDefinitions records d → node_value records (indexed_label records d) (indexed_key records d) n ≡ Some value → IsEntered records d n
+    entered : (n d : ℕ) (value : Value) → IsAmongDefinitions records d → node_value records (indexed_label records d) (indexed_key records d) n ≡ Some value
+        → IsEntered records d n
     entered n d value a is =
         let e : Entry = record { label = indexed_label records d; key = indexed_key records d; node = n; hash = hash_of value } in
         let i = member d a in

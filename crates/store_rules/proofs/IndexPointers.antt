@@ -1,5 +1,6 @@
 -- What a record of the index that fits says of its numbers.
-use Rattle.std.proofs.Common.{◌≡◌, ◌⊎◌, ℕ, zero, suc, ◌+◌, ◌*◌, ◌<◌, true, false, nat_eq, nat_lt, Some, List, [], ◌∷◌, sym, ap, ◌∙◌, subst, inl, inr, ⊎_elim, arith, refl, Option, None}
+use Rattle.std.proofs.Common.{◌≡◌, ◌⊎◌, ℕ, zero, suc, ◌+◌, ◌*◌, ◌<◌, true, false, nat_eq, nat_lt, Some, List, [], ◌∷◌}
+use Rattle.std.proofs.Common.{sym, ap, ◌∙◌, subst, inl, inr, ⊎_elim, arith, refl, Option, None}
 use Rattle.std.proofs.lemmas.Bool.{eqb-true, or_cases, true≢false}
 use Rattle.std.proofs.lemmas.Bool.Decides.{nat_tests}
 use Rattle.rec_bytes.specs.declared.record.Rec.{Rec}
@@ -51,7 +52,8 @@ module _ (marks : ℕ → ℕ) (r : Rec) (fits : Fits marks format.index_file r)
   -- a definition
   module _ (is : field 1 r format.kind ≡ format.definition) where
     pub definition_next_low : IsLow (marks format.index_file) (field 4 r format.definition_next)
-    definition_next_low = low_of marks r format.definition_next format.index_file (laid_points marks r format.definition (may format.definition_next format.index_file) is fits (inl refl))
+    definition_next_low = low_of marks r format.definition_next format.index_file
+        (laid_points marks r format.definition (may format.definition_next format.index_file) is fits (inl refl))
 
     pub definition_heads_low : (c : ℕ) → c < 12 → field 4 r (format.definition_heads + 4 * c) < marks format.index_file
     definition_heads_low c lt = below_of marks r (format.definition_heads + 4 * c) format.index_file
@@ -59,17 +61,21 @@ module _ (marks : ℕ → ℕ) (r : Rec) (fits : Fits marks format.index_file r)
         (inr (from_has (λ place. must place format.index_file) 12 format.definition_heads c lt)))
 
   -- a record of heads
-  pub heads_first_low : field 1 r format.kind ≡ format.heads → (place : ℕ) → place < 15 → IsLow (marks format.index_file) (field 4 r (format.heads_first + 4 * place))
+  pub heads_first_low : field 1 r format.kind ≡ format.heads → (place : ℕ) → place < 15
+      → IsLow (marks format.index_file) (field 4 r (format.heads_first + 4 * place))
   heads_first_low is place lt = low_of marks r (format.heads_first + 4 * place) format.index_file
       (laid_points marks r format.heads (may (format.heads_first + 4 * place) format.index_file) is fits (from_has (λ place. may place format.index_file) 15 format.heads_first place lt))
 
   -- an entry
   module _ (is : field 1 r format.kind ≡ format.indexed) where
     pub entry_node_low : field 4 r format.indexed_node < marks format.nodes_file
-    entry_node_low = below_of marks r format.indexed_node format.nodes_file (laid_points marks r format.indexed (must format.indexed_node format.nodes_file) is fits (inl refl))
+    entry_node_low = below_of marks r format.indexed_node format.nodes_file
+        (laid_points marks r format.indexed (must format.indexed_node format.nodes_file) is fits (inl refl))
 
     pub entry_previous_low : IsLow (marks format.index_file) (field 4 r format.indexed_previous)
-    entry_previous_low = low_of marks r format.indexed_previous format.index_file (laid_points marks r format.indexed (may format.indexed_previous format.index_file) is fits (inr (inl refl)))
+    entry_previous_low = low_of marks r format.indexed_previous format.index_file
+        (laid_points marks r format.indexed (may format.indexed_previous format.index_file) is fits (inr (inl refl)))
 
     pub entry_next_low : IsLow (marks format.index_file) (field 4 r format.indexed_next)
-    entry_next_low = low_of marks r format.indexed_next format.index_file (laid_points marks r format.indexed (may format.indexed_next format.index_file) is fits (inr (inr (inl refl))))
+    entry_next_low = low_of marks r format.indexed_next format.index_file
+        (laid_points marks r format.indexed (may format.indexed_next format.index_file) is fits (inr (inr (inl refl))))

@@ -44,7 +44,8 @@ module _ (s t : Records) (shape : Shape) (others : OthersStay s t) where
   all_same : (files : List ℕ) → list_all (λ f. is_meta_file f && not (nat_eq f format.index_file)) files ≡ true → AreSame s t files
   all_same [] are = tt
   all_same (f ∷ files) are =
-      let both = and_parts (is_meta_file f && not (nat_eq f format.index_file)) (list_all (λ g. is_meta_file g && not (nat_eq g format.index_file)) files) are in
+      let both = and_parts (is_meta_file f && not (nat_eq f format.index_file)) (list_all (λ g. is_meta_file g && not (nat_eq g format.index_file)) files)
+      are in
       let one = and_parts (is_meta_file f) (not (nat_eq f format.index_file)) both.0 in
       (others f one.0 (λ e. true≢false (sym one.1 ∙ ap (λ g. not (nat_eq g format.index_file)) e)), all_same files both.1)
 
@@ -57,7 +58,8 @@ module _ (s t : Records) (shape : Shape) (others : OthersStay s t) where
   -- The first rule, the second of the index, and that of its definitions are shown anew.
   by_rule : AreInRange t shape → IsSplitFile t format.index_file → Defines t → KeepsThose but_index s shape slack → KeepsThose but_index t shape slack
   by_rule ranges split defined all Ranges e = ranges
-  by_rule ranges split defined all (Split f) e = ⊎_elim (λ (p : f ≡ format.index_file). subst (IsSplitFile t) (sym p) split) (λ (ne : f ≢ format.index_file). split_other f ne (all (Split f) refl)) (nat_cases f format.index_file)
+  by_rule ranges split defined all (Split f) e = ⊎_elim (λ (p : f ≡ format.index_file). subst (IsSplitFile t) (sym p) split)
+      (λ (ne : f ≢ format.index_file). split_other f ne (all (Split f) refl)) (nat_cases f format.index_file)
   by_rule ranges split defined all Linked e = stays s t Linked shape slack refl (all_same (reads Linked) refl) (all Linked refl)
   by_rule ranges split defined all Grouped e = stays s t Grouped shape slack refl (all_same (reads Grouped) refl) (all Grouped refl)
   by_rule ranges split defined all Counts e = stays s t Counts shape slack refl (all_same (reads Counts) refl) (all Counts refl)
@@ -79,7 +81,8 @@ pub changed_others : (s t : Records) (id : ℕ) → IsChanged s t format.index_f
 changed_others s t id change f is ne = record { records = ch.file_same s t format.index_file id change f is ne; meta = ch.other_meta s t format.index_file id change f ne }
 
 -- A record that fits came into use, and if it is a definition its label and its key are names.
-pub made_kept : (s t : Records) (shape : Shape) (id : ℕ) (rec : Rec) → IsMade s t shape format.index_file id rec → Fits (high t) format.index_file rec → (field 1 rec format.kind ≡ format.definition → IsOfNames s rec) → IsWellFormed s shape → IsWellFormed t shape
+pub made_kept : (s t : Records) (shape : Shape) (id : ℕ) (rec : Rec) → IsMade s t shape format.index_file id rec → Fits (high t) format.index_file rec
+    → (field 1 rec format.kind ≡ format.definition → IsOfNames s rec) → IsWellFormed s shape → IsWellFormed t shape
 made_kept s t shape id rec made fits names well = rules_kept s t shape (changed_others s t id made.change)
     (ch.in_range s t format.index_file id made.change shape made.meta (λ lt. subst (Fits (high t) format.index_file) (sym made.here) fits) well.ranges)
     (of_split t made.free made.split)
@@ -115,11 +118,13 @@ module _ (s : Records) (x at to : ℕ) (used : kind_at s format.index_file x ≢
   set_byte : (y : ℕ) → field 1 (rec_at set_in format.index_file y) format.kind ≡ field 1 (rec_at s format.index_file y) format.kind
   set_byte y = ⊎_elim
       (λ (p : y ≡ x). ap (λ z. field 1 (rec_at set_in format.index_file z) format.kind) p ∙ ap (λ (r : Rec). field 1 r format.kind) set_here
-      ∙ field-with_field_other 4 (rec_at s format.index_file x) at to 1 format.kind (omega arith) (inr (omega arith)) ∙ ap (λ z. field 1 (rec_at s format.index_file z) format.kind) (sym p))
+      ∙ field-with_field_other 4 (rec_at s format.index_file x) at to 1 format.kind (omega arith) (inr (omega arith))
+      ∙ ap (λ z. field 1 (rec_at s format.index_file z) format.kind) (sym p))
       (λ (ne : y ≢ x). ap (λ (r : Rec). field 1 r format.kind) (set_other y ne)) (nat_cases y x)
 
   pub set_kind : (y : ℕ) → kind_at set_in format.index_file y ≡ kind_at s format.index_file y
-  set_kind y = ap (λ m. kind_in m (rec_at set_in format.index_file y) y) (set_mark format.index_file) ∙ kind_by (high s format.index_file) (rec_at set_in format.index_file y) (rec_at s format.index_file y) y (set_byte y)
+  set_kind y = ap (λ m. kind_in m (rec_at set_in format.index_file y) y) (set_mark format.index_file)
+      ∙ kind_by (high s format.index_file) (rec_at set_in format.index_file y) (rec_at s format.index_file y) y (set_byte y)
 
   set_change : IsChanged s set_in format.index_file x
   set_change = record {
@@ -132,7 +137,8 @@ module _ (s : Records) (x at to : ℕ) (used : kind_at s format.index_file x ≢
   pub set_others : OthersStay s set_in
   set_others = changed_others s set_in x set_change
 
-  set_split : (free : List ℕ) → IsSplit s format.index_file (is_live s format.index_file) free → IsSplit set_in format.index_file (is_live set_in format.index_file) free
+  set_split : (free : List ℕ) → IsSplit s format.index_file (is_live s format.index_file) free
+      → IsSplit set_in format.index_file (is_live set_in format.index_file) free
   set_split free k =
       let live : is_live set_in format.index_file ≡ is_live s format.index_file = λ i y. not (nat_eq (set_kind y i) 0) in
       let not_x : (y : ℕ) → In y free → y ≢ x = λ y i e. true≢false (sym (live_true (kind_at s format.index_file x) used) ∙ ap (is_live s format.index_file) (sym e) ∙ k.only y i) in
@@ -146,7 +152,9 @@ module _ (s : Records) (x at to : ℕ) (used : kind_at s format.index_file x ≢
         exact = ap (λ (m : Meta). m.live) meta ∙ k.exact ∙ ap (λ m. length (ids (is_live s format.index_file) m)) (sym (set_mark format.index_file));
       })
 
-  pub set_kept : (shape : Shape) → kind_at s format.index_file x ≢ format.definition → (Fits (high s) format.index_file (rec_at s format.index_file x) → Fits (high s) format.index_file rec) → IsWellFormed s shape → IsWellFormed set_in shape
+  pub set_kept : (shape : Shape) → kind_at s format.index_file x ≢ format.definition
+      → (Fits (high s) format.index_file (rec_at s format.index_file x) → Fits (high s) format.index_file rec) → IsWellFormed s shape
+      → IsWellFormed set_in shape
   set_kept shape plain fits well =
       let ranges : AreInRange s shape = well.ranges in
       let split = well.split format.index_file refl in
@@ -154,7 +162,8 @@ module _ (s : Records) (x at to : ℕ) (used : kind_at s format.index_file x ≢
       rules_kept s set_in shape set_others
       (ch.in_range s set_in format.index_file x set_change shape (subst (IsMetaInRange shape format.index_file) (sym (set_meta format.index_file)) (ranges.metas format.index_file refl))
       (λ lt. subst (Fits (high set_in) format.index_file) (sym set_here) (subst (λ (m : ℕ → ℕ). Fits m format.index_file rec) marks (fits (ranges.fit format.index_file x refl (let e = set_mark format.index_file in omega arith))))) ranges)
-      (of_split set_in split.0 (set_split split.0 split.1)) (defined_with s set_in x set_change (λ is. absurd (plain (sym (set_kind x) ∙ is))) well.defined) well
+      (of_split set_in split.0 (set_split split.0 split.1)) (defined_with s set_in x set_change (λ is. absurd (plain (sym (set_kind x) ∙ is))) well.defined)
+      well
 
 -- ---- the first definition was set
 
@@ -177,7 +186,8 @@ module _ (s : Records) (d : ℕ) (small : d < 2 ^ 32) where
   first_mark : (f : ℕ) → high with_first f ≡ high s f
   first_mark f = ⊎_elim
       (λ (p : f ≡ format.index_file). subst (λ g. high with_first g ≡ high s g) (sym p) (ap (λ (r : Rec). (metas.meta_of r).high) first_here ∙ ap (λ (m : Meta). m.high) (meta_of-definition (s metas_key) d)))
-      (λ (ne : f ≢ format.index_file). ap (λ (r : Rec). (metas.meta_of r).high) (first_elsewhere (meta_key_of f) (λ e. ne (ap (λ (k : Key). k.id) e)))) (nat_cases f format.index_file)
+      (λ (ne : f ≢ format.index_file). ap (λ (r : Rec). (metas.meta_of r).high) (first_elsewhere (meta_key_of f) (λ e. ne (ap (λ (k : Key). k.id) e))))
+      (nat_cases f format.index_file)
 
   pub first_record : (x : ℕ) → rec_at with_first format.index_file x ≡ rec_at s format.index_file x
   first_record x = first_elsewhere (key_in format.index_file x) (not_meta_key format.index_file x format.index_file refl)
@@ -199,7 +209,8 @@ module _ (s : Records) (d : ℕ) (small : d < 2 ^ 32) where
   pub first_others : OthersStay s with_first
   first_others = changed_others s with_first 0 first_change
 
-  first_split : (free : List ℕ) → IsSplit s format.index_file (is_live s format.index_file) free → IsSplit with_first format.index_file (is_live with_first format.index_file) free
+  first_split : (free : List ℕ) → IsSplit s format.index_file (is_live s format.index_file) free
+      → IsSplit with_first format.index_file (is_live with_first format.index_file) free
   first_split free k =
       let live : is_live with_first format.index_file ≡ is_live s format.index_file = λ i y. not (nat_eq (first_kind y i) 0) in
       let meta : meta_in with_first format.index_file ≡ meta_in s format.index_file = ap metas.meta_of first_here ∙ meta_of-definition (s metas_key) d in
@@ -212,13 +223,15 @@ module _ (s : Records) (d : ℕ) (small : d < 2 ^ 32) where
         exact = ap (λ (m : Meta). m.live) meta ∙ k.exact ∙ ap (λ m. length (ids (is_live s format.index_file) m)) (sym (first_mark format.index_file));
       })
 
-  first_range : (shape : Shape) → IsLinkBelow d (high s format.index_file) → IsMetaInRange shape format.index_file (s metas_key) → IsMetaInRange shape format.index_file (with_first metas_key)
+  first_range : (shape : Shape) → IsLinkBelow d (high s format.index_file) → IsMetaInRange shape format.index_file (s metas_key)
+      → IsMetaInRange shape format.index_file (with_first metas_key)
   first_range shape low old =
       let same : metas.meta_of first_rec ≡ metas.meta_of (s metas_key) = meta_of-definition (s metas_key) d in
       subst (IsMetaInRange shape format.index_file) (sym first_here) (record {
         high = subst (λ (m : Meta). m.high ≤ room_of shape format.index_file) (sym same) old.high;
         free = subst (λ (m : Meta). IsLinkBelow m.free m.high) (sym same) old.free;
-        first = λ is. subst (λ (n : ℕ). IsLinkBelow n (metas.meta_of first_rec).high) (sym (field-with_field_same 4 (s metas_key) format.meta_definition d (omega arith) small))
+        first = λ is. subst (λ (n : ℕ). IsLinkBelow n (metas.meta_of first_rec).high)
+            (sym (field-with_field_same 4 (s metas_key) format.meta_definition d (omega arith) small))
             (subst (λ (m : Meta). IsLinkBelow d m.high) (sym same) low);
         rest = zeros_from-with_field 4 (s metas_key) format.meta_definition d format.meta_index_rest (omega arith) (omega arith) old.rest;
       })

@@ -31,7 +31,8 @@ module _ (s t : Records) (same : IsSameFile s t format.index_file) where
   heads_same d c = number_same (format.definition_heads + 4 * c) d
 
   first_same : (d b : ℕ) → first_entry t d b ≡ first_entry s d b
-  first_same d b = ap (λ h. field 4 (index_rec t h) (format.heads_first + 4 * (b % 15))) (heads_same d (b / 15)) ∙ number_same (format.heads_first + 4 * (b % 15)) (heads_of s d (b / 15))
+  first_same d b = ap (λ h. field 4 (index_rec t h) (format.heads_first + 4 * (b % 15))) (heads_same d (b / 15))
+      ∙ number_same (format.heads_first + 4 * (b % 15)) (heads_of s d (b / 15))
 
   entry_same : (d x : ℕ) → entry_in t d x ≡ entry_in s d x
   entry_same d x = λ i. record {
@@ -43,7 +44,8 @@ module _ (s t : Records) (same : IsSameFile s t format.index_file) where
 
   bucket_same : (wanted : Entries) (d b : ℕ) (xs : List ℕ) → IsBucket s wanted d b xs → IsBucket t wanted d b xs
   bucket_same wanted d b xs was = record {
-    chain = subst (λ (p : (ℕ → Rec) × ℕ). IsChain (λ x. field 4 (p.0 x) format.indexed_next) (λ x. field 4 (p.0 x) format.indexed_previous) format.nil p.1 xs) (λ i. (sym same.records i, sym (first_same d b) i)) was.chain;
+    chain = subst (λ (p : (ℕ → Rec) × ℕ). IsChain (λ x. field 4 (p.0 x) format.indexed_next) (λ x. field 4 (p.0 x) format.indexed_previous) format.nil p.1 xs)
+        (λ i. (sym same.records i, sym (first_same d b) i)) was.chain;
     kind = λ x m. kind_same x ∙ was.kind x m;
     hash = λ x m. ap (λ (r : Rec). bucket_of (field 8 r format.indexed_hash)) (record_same x) ∙ was.hash x m;
     wanted_is = λ x m. ap wanted (entry_same d x) ∙ was.wanted_is x m;
@@ -57,15 +59,18 @@ module _ (s t : Records) (same : IsSameFile s t format.index_file) where
   pub indexes_stay : (wanted : Entries) → AreIndexed s wanted → AreIndexed t wanted
   indexes_stay wanted ix = record {
     definitions = ix.definitions;
-    walk = subst (λ (p : (ℕ → Rec) × Rec). IsWalk (λ d. field 4 (p.0 d) format.definition_next) (field 4 p.1 format.meta_definition) ix.definitions) (λ i. (sym same.records i, sym same.meta i)) ix.walk;
+    walk = subst (λ (p : (ℕ → Rec) × Rec). IsWalk (λ d. field 4 (p.0 d) format.definition_next) (field 4 p.1 format.meta_definition) ix.definitions)
+        (λ i. (sym same.records i, sym same.meta i)) ix.walk;
     few = ix.few;
     defined = λ d i. kind_same d ∙ ix.defined d i;
-    distinct = λ d e i j l k. ix.distinct d e i j (sym (number_same format.definition_label d) ∙ l ∙ number_same format.definition_label e) (sym (number_same format.definition_key d) ∙ k ∙ number_same format.definition_key e);
+    distinct = λ d e i j l k. ix.distinct d e i j (sym (number_same format.definition_label d) ∙ l ∙ number_same format.definition_label e)
+        (sym (number_same format.definition_key d) ∙ k ∙ number_same format.definition_key e);
     heads = λ d c i lt. kind_same (heads_of t d c) ∙ ap (kind_at s format.index_file) (heads_same d c) ∙ ix.heads d c i lt;
     heads_once = λ d c e k i j lt more is. ix.heads_once d c e k i j lt more (sym (heads_same d c) ∙ is ∙ heads_same e k);
     lists = ix.lists;
     buckets = λ d b i lt. bucket_same wanted d b (ix.lists d b) (ix.buckets d b i lt);
-    all = λ d e i l k w. let has = ix.all d e i (l ∙ number_same format.definition_label d) (k ∙ number_same format.definition_key d) w in record { id = has.id; member = has.member; is = entry_same d has.id ∙ has.is };
+    all = λ d e i l k w. let has = ix.all d e i (l ∙ number_same format.definition_label d) (k ∙ number_same format.definition_key d) w in
+        record { id = has.id; member = has.member; is = entry_same d has.id ∙ has.is };
     once = λ d b x y i lt m n node hash. ix.once d b x y i lt m n (sym (number_same format.indexed_node x) ∙ node ∙ number_same format.indexed_node y)
         (sym (ap (λ (r : Rec). field 8 r format.indexed_hash) (record_same x)) ∙ hash ∙ ap (λ (r : Rec). field 8 r format.indexed_hash) (record_same y));
     one = ix.one;

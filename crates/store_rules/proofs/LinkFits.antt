@@ -1,5 +1,6 @@
 -- A link or a degree that is set in a record that fits.
-use Rattle.std.proofs.Common.{◌≡◌, ◌≢◌, ◌⊎◌, ℕ, zero, suc, ◌+◌, ◌*◌, ◌<◌, ◌≤◌, ◌^◌, nat_lt, nat_eq, Bool, true, false, ◌&&◌, ◌||◌, Some, List, [], ◌∷◌, sym, ap, ◌∙◌, subst, inl, inr, ⊎_elim, arith, refl}
+use Rattle.std.proofs.Common.{◌≡◌, ◌≢◌, ◌⊎◌, ℕ, zero, suc, ◌+◌, ◌*◌, ◌<◌, ◌≤◌, ◌^◌, nat_lt, nat_eq, Bool, true, false}
+use Rattle.std.proofs.Common.{◌&&◌, ◌||◌, Some, List, [], ◌∷◌, sym, ap, ◌∙◌, subst, inl, inr, ⊎_elim, arith, refl}
 use Rattle.std.specs.List.{list_any}
 use Rattle.std.proofs.lemmas.Bool.{cases_lt}
 use Rattle.std.proofs.lemmas.Bool.Decides.{nat_tests}
@@ -18,7 +19,8 @@ abbrev pub IsLow : ℕ → ℕ → Type 0
 IsLow mark link = (link ≡ format.nil) ⊎ (link < mark)
 
 pub low_points : (n mark : ℕ) → IsLow mark n → (nat_lt n mark || (true && nat_eq n format.nil)) ≡ true
-low_points n mark low = ⊎_elim (λ (e : n ≡ format.nil). rw (eq_true n format.nil e) (right (nat_lt n mark))) (λ (lt : n < mark). rw (lt_true n mark lt) refl) low
+low_points n mark low = ⊎_elim (λ (e : n ≡ format.nil). rw (eq_true n format.nil e) (right (nat_lt n mark))) (λ (lt : n < mark). rw (lt_true n mark lt) refl)
+    low
   where
     right : (a : Bool) → (a || true) ≡ true
     right true = refl
@@ -70,8 +72,10 @@ inner : (a b : Layout) → Some a ≡ Some b → a ≡ b
 inner a b e = cc
 
 -- a byte outside of the used ones stands apart from each four of them
-apart_used : (i at size : ℕ) → 4 ≤ at → at + 4 ≤ 4 + size → list_any (is_in i) (bytes_of format.kind 1 ∷ bytes_of 4 size ∷ []) ≡ false → (i + 1 ≤ at) ⊎ (at + 4 ≤ i)
-apart_used i at size low high out = ⊎_elim (λ (l : i < 4). inl (omega arith)) (λ (ge : 4 ≤ i). ⊎_elim (λ (l : i < 4 + size). absurd (let a : 4 + size ≤ i = grind (arith, nat_tests) in omega arith)) (λ (k : 4 + size ≤ i). inr (omega arith)) (cases_lt i (4 + size))) (cases_lt i 4)
+apart_used : (i at size : ℕ) → 4 ≤ at → at + 4 ≤ 4 + size → list_any (is_in i) (bytes_of format.kind 1 ∷ bytes_of 4 size ∷ []) ≡ false → (i + 1 ≤ at)
+    ⊎ (at + 4 ≤ i)
+apart_used i at size low high out = ⊎_elim (λ (l : i < 4). inl (omega arith))
+    (λ (ge : 4 ≤ i). ⊎_elim (λ (l : i < 4 + size). absurd (let a : 4 + size ≤ i = grind (arith, nat_tests) in omega arith)) (λ (k : 4 + size ≤ i). inr (omega arith)) (cases_lt i (4 + size))) (cases_lt i 4)
 
 module _ (marks : ℕ → ℕ) (r : Rec) (at to : ℕ) (low : 4 ≤ at) (fits : at + 4 ≤ 64) (small : to < 2 ^ 32) where
   abbrev now : Rec
@@ -89,7 +93,8 @@ module _ (marks : ℕ → ℕ) (r : Rec) (at to : ℕ) (low : 4 ≤ at) (fits : 
   -- each pointer stands apart from the place, or there, where the number is one that it may be
   abbrev PointRight : List Pointer → Type 0
   PointRight [] = Unit {0}
-  PointRight (p ∷ ps) = (((p.place + 4 ≤ 64) × ((p.place + 4 ≤ at) ⊎ (at + 4 ≤ p.place))) ⊎ ((p.place ≡ at) × (p.optional ≡ true) × IsLow (marks p.into) to)) × PointRight ps
+  PointRight (p ∷ ps) = (((p.place + 4 ≤ 64) × ((p.place + 4 ≤ at) ⊎ (at + 4 ≤ p.place))) ⊎ ((p.place ≡ at) × (p.optional ≡ true) × IsLow (marks p.into) to))
+      × PointRight ps
 
   right_of : (a : Bool) → (a || true) ≡ true
   right_of true = refl
@@ -121,26 +126,37 @@ module _ (marks : ℕ → ℕ) (r : Rec) (at to : ℕ) (low : 4 ≤ at) (fits : 
             ∙ (subst (λ (l : Layout). IsBlankOutside l.used r) (sym same) h.blank) i lt out;
       }
 
-  node_as : at + 4 ≤ 20 → PointRight (node_layout_is format.relationships_file).pointers → field 1 r format.kind ≡ format.sparse → Fits marks format.nodes_file r → Fits marks format.nodes_file now
-  node_as inside right kind = fits_as format.nodes_file 16 (node_layout_is format.relationships_file) refl inside right (ap (layout_by format.nodes_file r) kind) (ap (layout_by format.nodes_file now) (kind_same ∙ kind))
+  node_as : at + 4 ≤ 20 → PointRight (node_layout_is format.relationships_file).pointers → field 1 r format.kind ≡ format.sparse
+      → Fits marks format.nodes_file r → Fits marks format.nodes_file now
+  node_as inside right kind = fits_as format.nodes_file 16 (node_layout_is format.relationships_file) refl inside right
+      (ap (layout_by format.nodes_file r) kind) (ap (layout_by format.nodes_file now) (kind_same ∙ kind))
 
-  dense_as : at + 4 ≤ 20 → PointRight (node_layout_is format.groups_file).pointers → field 1 r format.kind ≡ format.dense → Fits marks format.nodes_file r → Fits marks format.nodes_file now
-  dense_as inside right kind = fits_as format.nodes_file 16 (node_layout_is format.groups_file) refl inside right (ap (layout_by format.nodes_file r) kind) (ap (layout_by format.nodes_file now) (kind_same ∙ kind))
+  dense_as : at + 4 ≤ 20 → PointRight (node_layout_is format.groups_file).pointers → field 1 r format.kind ≡ format.dense → Fits marks format.nodes_file r
+      → Fits marks format.nodes_file now
+  dense_as inside right kind = fits_as format.nodes_file 16 (node_layout_is format.groups_file) refl inside right (ap (layout_by format.nodes_file r) kind)
+      (ap (layout_by format.nodes_file now) (kind_same ∙ kind))
 
-  rel_as : at + 4 ≤ 36 → PointRight rel_layout_is.pointers → field 1 r format.kind ≡ format.related → Fits marks format.relationships_file r → Fits marks format.relationships_file now
-  rel_as inside right kind = fits_as format.relationships_file 32 rel_layout_is refl inside right (ap (layout_by format.relationships_file r) kind) (ap (layout_by format.relationships_file now) (kind_same ∙ kind))
+  rel_as : at + 4 ≤ 36 → PointRight rel_layout_is.pointers → field 1 r format.kind ≡ format.related → Fits marks format.relationships_file r
+      → Fits marks format.relationships_file now
+  rel_as inside right kind = fits_as format.relationships_file 32 rel_layout_is refl inside right (ap (layout_by format.relationships_file r) kind)
+      (ap (layout_by format.relationships_file now) (kind_same ∙ kind))
 
-  group_as : at + 4 ≤ 32 → PointRight (group_layout_is 28).pointers → is_group_kind (field 1 r format.kind) ≡ true → Fits marks format.groups_file r → Fits marks format.groups_file now
+  group_as : at + 4 ≤ 32 → PointRight (group_layout_is 28).pointers → is_group_kind (field 1 r format.kind) ≡ true → Fits marks format.groups_file r
+      → Fits marks format.groups_file now
   group_as inside right kind = ⊎_elim
       (λ (k : field 1 r format.kind ≡ format.grouped). fits_as format.groups_file 28 (group_layout_is 28) refl inside right (ap (layout_by format.groups_file r) k) (ap (layout_by format.groups_file now) (kind_same ∙ k)))
       (λ (k : field 1 r format.kind ≡ format.counted). fits_as format.groups_file 40 (group_layout_is 40) refl (omega arith) right (ap (layout_by format.groups_file r) k) (ap (layout_by format.groups_file now) (kind_same ∙ k)))
       (group_kinds (field 1 r format.kind) kind)
 
-  count_as : at + 4 ≤ 44 → PointRight (group_layout_is 40).pointers → field 1 r format.kind ≡ format.counted → Fits marks format.groups_file r → Fits marks format.groups_file now
-  count_as inside right kind = fits_as format.groups_file 40 (group_layout_is 40) refl inside right (ap (layout_by format.groups_file r) kind) (ap (layout_by format.groups_file now) (kind_same ∙ kind))
+  count_as : at + 4 ≤ 44 → PointRight (group_layout_is 40).pointers → field 1 r format.kind ≡ format.counted → Fits marks format.groups_file r
+      → Fits marks format.groups_file now
+  count_as inside right kind = fits_as format.groups_file 40 (group_layout_is 40) refl inside right (ap (layout_by format.groups_file r) kind)
+      (ap (layout_by format.groups_file now) (kind_same ∙ kind))
 
-  entry_as : at + 4 ≤ 24 → PointRight entry_layout_is.pointers → field 1 r format.kind ≡ format.indexed → Fits marks format.index_file r → Fits marks format.index_file now
-  entry_as inside right kind = fits_as format.index_file 20 entry_layout_is refl inside right (ap (layout_by format.index_file r) kind) (ap (layout_by format.index_file now) (kind_same ∙ kind))
+  entry_as : at + 4 ≤ 24 → PointRight entry_layout_is.pointers → field 1 r format.kind ≡ format.indexed → Fits marks format.index_file r
+      → Fits marks format.index_file now
+  entry_as inside right kind = fits_as format.index_file 20 entry_layout_is refl inside right (ap (layout_by format.index_file r) kind)
+      (ap (layout_by format.index_file now) (kind_same ∙ kind))
 
   -- links from a place on, four bytes apart, of which the place is one or none
   links_right : (into n a b : ℕ) → at ≡ 4 * a → b + n ≤ 16 → IsLow (marks into) to → PointRight (pointers_from n (λ place. may place into) (4 * b))
@@ -154,38 +170,49 @@ module _ (marks : ℕ → ℕ) (r : Rec) (at to : ℕ) (low : 4 ≤ at) (fits : 
       aside (inl lt) ne = inl (omega arith)
       aside (inr le) ne = inr (let less : a < b = omega arith in omega arith)
 
-  heads_as : (a : ℕ) → at ≡ 4 * a → IsLow (marks format.index_file) to → field 1 r format.kind ≡ format.heads → Fits marks format.index_file r → Fits marks format.index_file now
-  heads_as a is low kind = fits_as format.index_file 60 heads_layout_is refl fits (links_right format.index_file format.heads_count a 1 is (omega arith) low) (ap (layout_by format.index_file r) kind) (ap (layout_by format.index_file now) (kind_same ∙ kind))
+  heads_as : (a : ℕ) → at ≡ 4 * a → IsLow (marks format.index_file) to → field 1 r format.kind ≡ format.heads → Fits marks format.index_file r
+      → Fits marks format.index_file now
+  heads_as a is low kind = fits_as format.index_file 60 heads_layout_is refl fits (links_right format.index_file format.heads_count a 1 is (omega arith) low)
+      (ap (layout_by format.index_file r) kind) (ap (layout_by format.index_file now) (kind_same ∙ kind))
 
 -- the place of a number of relationships
 abbrev pub IsCountPlace : ℕ → Type 0
 IsCountPlace at = (at ≡ format.group_out_count) ⊎ ((at ≡ format.group_in_count) ⊎ (at ≡ format.group_loop_count))
 
 -- a number of a counted group
-pub fits_count : (marks : ℕ → ℕ) (r : Rec) (at to : ℕ) → IsCountPlace at → to < 2 ^ 32 → field 1 r format.kind ≡ format.counted → Fits marks format.groups_file r → Fits marks format.groups_file (with_field 4 r at to)
-fits_count marks r at to place small = count_as marks r at to (let b = within in omega arith) (let b = within in omega arith) small (let b = within in omega arith)
+pub fits_count : (marks : ℕ → ℕ) (r : Rec) (at to : ℕ) → IsCountPlace at → to < 2 ^ 32 → field 1 r format.kind ≡ format.counted
+    → Fits marks format.groups_file r → Fits marks format.groups_file (with_field 4 r at to)
+fits_count marks r at to place small = count_as marks r at to (let b = within in omega arith) (let b = within in omega arith) small
+    (let b = within in omega arith)
     (inl (omega arith, inl (let b = within in omega arith)), (inl (omega arith, inl (let b = within in omega arith)), (inl (omega arith, inl (let b = within in omega arith)), (inl (omega arith, inl (let b = within in omega arith)), (inl (omega arith, inl (let b = within in omega arith)), (inl (omega arith, inl (let b = within in omega arith)), tt))))))
   where
     within : (32 ≤ at) × (at + 4 ≤ 44)
     within = ⊎_elim (λ (e : at ≡ 32). (omega arith, omega arith)) (λ k. ⊎_elim (λ (e : at ≡ 36). (omega arith, omega arith)) (λ (e : at ≡ 40). (omega arith, omega arith)) k) place
 
 -- the first link of a sparse node
-pub fits_first : (marks : ℕ → ℕ) (r : Rec) (to : ℕ) → to < 2 ^ 32 → IsLow (marks format.relationships_file) to → field 1 r format.kind ≡ format.sparse → Fits marks format.nodes_file r
+pub fits_first : (marks : ℕ → ℕ) (r : Rec) (to : ℕ) → to < 2 ^ 32 → IsLow (marks format.relationships_file) to → field 1 r format.kind ≡ format.sparse
+    → Fits marks format.nodes_file r
     → Fits marks format.nodes_file (with_field 4 r format.node_first_link to)
-fits_first marks r to small low = node_as marks r format.node_first_link to (omega arith) (omega arith) small (omega arith) (inr (refl, refl, low), (inl (omega arith, inr (omega arith)), tt))
+fits_first marks r to small low = node_as marks r format.node_first_link to (omega arith) (omega arith) small (omega arith)
+    (inr (refl, refl, low), (inl (omega arith, inr (omega arith)), tt))
 
 -- the degree of a node
-pub fits_degree : (marks : ℕ → ℕ) (r : Rec) (to : ℕ) → to < 2 ^ 32 → (field 1 r format.kind ≡ format.sparse) ⊎ (field 1 r format.kind ≡ format.dense) → Fits marks format.nodes_file r → Fits marks format.nodes_file (with_field 4 r format.node_degree to)
-fits_degree marks r to small (inl sparse) = node_as marks r format.node_degree to (omega arith) (omega arith) small (omega arith) (inl (omega arith, inl (omega arith)), (inl (omega arith, inl (omega arith)), tt)) sparse
-fits_degree marks r to small (inr dense) = dense_as marks r format.node_degree to (omega arith) (omega arith) small (omega arith) (inl (omega arith, inl (omega arith)), (inl (omega arith, inl (omega arith)), tt)) dense
+pub fits_degree : (marks : ℕ → ℕ) (r : Rec) (to : ℕ) → to < 2 ^ 32 → (field 1 r format.kind ≡ format.sparse) ⊎ (field 1 r format.kind ≡ format.dense)
+    → Fits marks format.nodes_file r → Fits marks format.nodes_file (with_field 4 r format.node_degree to)
+fits_degree marks r to small (inl sparse) = node_as marks r format.node_degree to (omega arith) (omega arith) small (omega arith)
+    (inl (omega arith, inl (omega arith)), (inl (omega arith, inl (omega arith)), tt)) sparse
+fits_degree marks r to small (inr dense) = dense_as marks r format.node_degree to (omega arith) (omega arith) small (omega arith)
+    (inl (omega arith, inl (omega arith)), (inl (omega arith, inl (omega arith)), tt)) dense
 
 abbrev FirstFits : (ℕ → ℕ) → Rec → ℕ → ℕ → Type 0
 FirstFits marks r to at = is_group_kind (field 1 r format.kind) ≡ true → Fits marks format.groups_file r → Fits marks format.groups_file (with_field 4 r at to)
 
 -- the first link of a chain of a group
-pub fits_group_first : (marks : ℕ → ℕ) (r : Rec) (at to : ℕ) → IsFirstPlace at → to < 2 ^ 32 → IsLow (marks format.relationships_file) to → is_group_kind (field 1 r format.kind) ≡ true → Fits marks format.groups_file r
+pub fits_group_first : (marks : ℕ → ℕ) (r : Rec) (at to : ℕ) → IsFirstPlace at → to < 2 ^ 32 → IsLow (marks format.relationships_file) to
+    → is_group_kind (field 1 r format.kind) ≡ true → Fits marks format.groups_file r
     → Fits marks format.groups_file (with_field 4 r at to)
-fits_group_first marks r at to is small low = ⊎_elim (λ (e : at ≡ 20). subst (FirstFits marks r to) (sym e) at_20) (λ k. ⊎_elim (λ (e : at ≡ 24). subst (FirstFits marks r to) (sym e) at_24) (λ (e : at ≡ 28). subst (FirstFits marks r to) (sym e) at_28) k) is
+fits_group_first marks r at to is small low = ⊎_elim (λ (e : at ≡ 20). subst (FirstFits marks r to) (sym e) at_20)
+    (λ k. ⊎_elim (λ (e : at ≡ 24). subst (FirstFits marks r to) (sym e) at_24) (λ (e : at ≡ 28). subst (FirstFits marks r to) (sym e) at_28) k) is
   where
     at_20 : FirstFits marks r to 20
     at_20 = group_as marks r 20 to (omega arith) (omega arith) small (omega arith)
@@ -200,12 +227,15 @@ fits_group_first marks r at to is small low = ⊎_elim (λ (e : at ≡ 20). subs
         (inl (omega arith, inl (omega arith)), (inl (omega arith, inl (omega arith)), (inl (omega arith, inl (omega arith)), (inl (omega arith, inl (omega arith)), (inl (omega arith, inl (omega arith)), (inr (refl, refl, low), tt))))))
 
 abbrev LinkFits : (ℕ → ℕ) → Rec → ℕ → ℕ → Type 0
-LinkFits marks r to at = field 1 r format.kind ≡ format.related → Fits marks format.relationships_file r → Fits marks format.relationships_file (with_field 4 r at to)
+LinkFits marks r to at = field 1 r format.kind ≡ format.related → Fits marks format.relationships_file r
+    → Fits marks format.relationships_file (with_field 4 r at to)
 
 -- a link of a relationship
-pub fits_link : (marks : ℕ → ℕ) (r : Rec) (at to : ℕ) → IsLink at → to < 2 ^ 32 → IsLow (marks format.relationships_file) to → field 1 r format.kind ≡ format.related → Fits marks format.relationships_file r
+pub fits_link : (marks : ℕ → ℕ) (r : Rec) (at to : ℕ) → IsLink at → to < 2 ^ 32 → IsLow (marks format.relationships_file) to
+    → field 1 r format.kind ≡ format.related → Fits marks format.relationships_file r
     → Fits marks format.relationships_file (with_field 4 r at to)
-fits_link marks r at to is small low = ⊎_elim (λ (e : at ≡ 16). subst (LinkFits marks r to) (sym e) at_16) (λ k. ⊎_elim (λ (e : at ≡ 20). subst (LinkFits marks r to) (sym e) at_20) (λ l. ⊎_elim (λ (e : at ≡ 24). subst (LinkFits marks r to) (sym e) at_24) (λ (e : at ≡ 28). subst (LinkFits marks r to) (sym e) at_28) l) k) is
+fits_link marks r at to is small low = ⊎_elim (λ (e : at ≡ 16). subst (LinkFits marks r to) (sym e) at_16)
+    (λ k. ⊎_elim (λ (e : at ≡ 20). subst (LinkFits marks r to) (sym e) at_20) (λ l. ⊎_elim (λ (e : at ≡ 24). subst (LinkFits marks r to) (sym e) at_24) (λ (e : at ≡ 28). subst (LinkFits marks r to) (sym e) at_28) l) k) is
   where
     at_16 : LinkFits marks r to 16
     at_16 = rel_as marks r 16 to (omega arith) (omega arith) small (omega arith)
@@ -224,44 +254,56 @@ fits_link marks r at to is small low = ⊎_elim (λ (e : at ≡ 16). subst (Link
         (inl (omega arith, inl (omega arith)), (inl (omega arith, inl (omega arith)), (inl (omega arith, inl (omega arith)), (inl (omega arith, inl (omega arith)), (inl (omega arith, inl (omega arith)), (inr (refl, refl, low), (inl (omega arith, inr (omega arith)), tt)))))))
 
 -- the first property of a node, and of a relationship
-pub fits_node_property : (marks : ℕ → ℕ) (r : Rec) (to : ℕ) → to < 2 ^ 32 → IsLow (marks format.properties_file) to → (field 1 r format.kind ≡ format.sparse) ⊎ (field 1 r format.kind ≡ format.dense) → Fits marks format.nodes_file r
+pub fits_node_property : (marks : ℕ → ℕ) (r : Rec) (to : ℕ) → to < 2 ^ 32 → IsLow (marks format.properties_file) to → (field 1 r format.kind ≡ format.sparse)
+    ⊎ (field 1 r format.kind ≡ format.dense) → Fits marks format.nodes_file r
     → Fits marks format.nodes_file (with_field 4 r format.node_first_property to)
-fits_node_property marks r to small low (inl sparse) = node_as marks r format.node_first_property to (omega arith) (omega arith) small (omega arith) (inl (omega arith, inl (omega arith)), (inr (refl, refl, low), tt)) sparse
-fits_node_property marks r to small low (inr dense) = dense_as marks r format.node_first_property to (omega arith) (omega arith) small (omega arith) (inl (omega arith, inl (omega arith)), (inr (refl, refl, low), tt)) dense
+fits_node_property marks r to small low (inl sparse) = node_as marks r format.node_first_property to (omega arith) (omega arith) small (omega arith)
+    (inl (omega arith, inl (omega arith)), (inr (refl, refl, low), tt)) sparse
+fits_node_property marks r to small low (inr dense) = dense_as marks r format.node_first_property to (omega arith) (omega arith) small (omega arith)
+    (inl (omega arith, inl (omega arith)), (inr (refl, refl, low), tt)) dense
 
-pub fits_rel_property : (marks : ℕ → ℕ) (r : Rec) (to : ℕ) → to < 2 ^ 32 → IsLow (marks format.properties_file) to → field 1 r format.kind ≡ format.related → Fits marks format.relationships_file r
+pub fits_rel_property : (marks : ℕ → ℕ) (r : Rec) (to : ℕ) → to < 2 ^ 32 → IsLow (marks format.properties_file) to → field 1 r format.kind ≡ format.related
+    → Fits marks format.relationships_file r
     → Fits marks format.relationships_file (with_field 4 r format.relationship_first_property to)
 fits_rel_property marks r to small low = rel_as marks r format.relationship_first_property to (omega arith) (omega arith) small (omega arith)
     (inl (omega arith, inl (omega arith)), (inl (omega arith, inl (omega arith)), (inl (omega arith, inl (omega arith)), (inl (omega arith, inl (omega arith)), (inl (omega arith, inl (omega arith)), (inl (omega arith, inl (omega arith)), (inr (refl, refl, low), tt)))))))
 
 -- the link of a group to another
-pub fits_group_previous : (marks : ℕ → ℕ) (r : Rec) (to : ℕ) → to < 2 ^ 32 → IsLow (marks format.groups_file) to → is_group_kind (field 1 r format.kind) ≡ true → Fits marks format.groups_file r
+pub fits_group_previous : (marks : ℕ → ℕ) (r : Rec) (to : ℕ) → to < 2 ^ 32 → IsLow (marks format.groups_file) to → is_group_kind (field 1 r format.kind) ≡ true
+    → Fits marks format.groups_file r
     → Fits marks format.groups_file (with_field 4 r format.group_previous to)
 fits_group_previous marks r to small low = group_as marks r format.group_previous to (omega arith) (omega arith) small (omega arith)
     (inl (omega arith, inl (omega arith)), (inr (refl, refl, low), (inl (omega arith, inr (omega arith)), (inl (omega arith, inr (omega arith)), (inl (omega arith, inr (omega arith)), (inl (omega arith, inr (omega arith)), tt))))))
 
-pub fits_group_next : (marks : ℕ → ℕ) (r : Rec) (to : ℕ) → to < 2 ^ 32 → IsLow (marks format.groups_file) to → is_group_kind (field 1 r format.kind) ≡ true → Fits marks format.groups_file r
+pub fits_group_next : (marks : ℕ → ℕ) (r : Rec) (to : ℕ) → to < 2 ^ 32 → IsLow (marks format.groups_file) to → is_group_kind (field 1 r format.kind) ≡ true
+    → Fits marks format.groups_file r
     → Fits marks format.groups_file (with_field 4 r format.group_next to)
 fits_group_next marks r to small low = group_as marks r format.group_next to (omega arith) (omega arith) small (omega arith)
     (inl (omega arith, inl (omega arith)), (inl (omega arith, inl (omega arith)), (inr (refl, refl, low), (inl (omega arith, inr (omega arith)), (inl (omega arith, inr (omega arith)), (inl (omega arith, inr (omega arith)), tt))))))
 
 -- the first link of a dense node, which is to a group
-pub fits_dense_first : (marks : ℕ → ℕ) (r : Rec) (to : ℕ) → to < 2 ^ 32 → IsLow (marks format.groups_file) to → field 1 r format.kind ≡ format.dense → Fits marks format.nodes_file r
+pub fits_dense_first : (marks : ℕ → ℕ) (r : Rec) (to : ℕ) → to < 2 ^ 32 → IsLow (marks format.groups_file) to → field 1 r format.kind ≡ format.dense
+    → Fits marks format.nodes_file r
     → Fits marks format.nodes_file (with_field 4 r format.node_first_link to)
-fits_dense_first marks r to small low = dense_as marks r format.node_first_link to (omega arith) (omega arith) small (omega arith) (inr (refl, refl, low), (inl (omega arith, inr (omega arith)), tt))
+fits_dense_first marks r to small low = dense_as marks r format.node_first_link to (omega arith) (omega arith) small (omega arith)
+    (inr (refl, refl, low), (inl (omega arith, inr (omega arith)), tt))
 
 -- the links of an entry
-pub fits_entry_previous : (marks : ℕ → ℕ) (r : Rec) (to : ℕ) → to < 2 ^ 32 → IsLow (marks format.index_file) to → field 1 r format.kind ≡ format.indexed → Fits marks format.index_file r
+pub fits_entry_previous : (marks : ℕ → ℕ) (r : Rec) (to : ℕ) → to < 2 ^ 32 → IsLow (marks format.index_file) to → field 1 r format.kind ≡ format.indexed
+    → Fits marks format.index_file r
     → Fits marks format.index_file (with_field 4 r format.indexed_previous to)
 fits_entry_previous marks r to small low = entry_as marks r format.indexed_previous to (omega arith) (omega arith) small (omega arith)
     (inl (omega arith, inl (omega arith)), (inr (refl, refl, low), (inl (omega arith, inr (omega arith)), tt)))
 
-pub fits_entry_next : (marks : ℕ → ℕ) (r : Rec) (to : ℕ) → to < 2 ^ 32 → IsLow (marks format.index_file) to → field 1 r format.kind ≡ format.indexed → Fits marks format.index_file r
+pub fits_entry_next : (marks : ℕ → ℕ) (r : Rec) (to : ℕ) → to < 2 ^ 32 → IsLow (marks format.index_file) to → field 1 r format.kind ≡ format.indexed
+    → Fits marks format.index_file r
     → Fits marks format.index_file (with_field 4 r format.indexed_next to)
 fits_entry_next marks r to small low = entry_as marks r format.indexed_next to (omega arith) (omega arith) small (omega arith)
     (inl (omega arith, inl (omega arith)), (inl (omega arith, inl (omega arith)), (inr (refl, refl, low), tt)))
 
 -- the first entry of a bucket
-pub fits_head : (marks : ℕ → ℕ) (r : Rec) (place to : ℕ) → place < 15 → to < 2 ^ 32 → IsLow (marks format.index_file) to → field 1 r format.kind ≡ format.heads → Fits marks format.index_file r
+pub fits_head : (marks : ℕ → ℕ) (r : Rec) (place to : ℕ) → place < 15 → to < 2 ^ 32 → IsLow (marks format.index_file) to → field 1 r format.kind ≡ format.heads
+    → Fits marks format.index_file r
     → Fits marks format.index_file (with_field 4 r (format.heads_first + 4 * place) to)
-fits_head marks r place to low_place small low = heads_as marks r (format.heads_first + 4 * place) to (omega arith) (omega arith) small (place + 1) (omega arith) low
+fits_head marks r place to low_place small low = heads_as marks r (format.heads_first + 4 * place) to (omega arith) (omega arith) small (place + 1)
+    (omega arith) low

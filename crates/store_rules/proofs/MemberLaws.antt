@@ -40,7 +40,8 @@ module _ {E : Type 0} where
   -- what is among what they list is in the list of one of them
   pub flat_map_in : (of : E → List ℕ) (x : ℕ) (es : List E) → In x (flat_map of es) → (e : E) × Among e es × In x (of e)
   flat_map_in of x [] i = elim i [ ]
-  flat_map_in of x (d ∷ es) i = ⊎_elim (λ k. (d, inl refl, k)) (λ k. let r = flat_map_in of x es k in (r.0, inr r.1, r.2)) (in_parts x (of d) (flat_map of es) i)
+  flat_map_in of x (d ∷ es) i = ⊎_elim (λ k. (d, inl refl, k)) (λ k. let r = flat_map_in of x es k in (r.0, inr r.1, r.2))
+      (in_parts x (of d) (flat_map of es) i)
 
 -- what no number comes twice in has none in both its parts
 pub once_apart : (x : ℕ) (xs ys : List ℕ) → AreOnce (xs ++ ys) → In x xs → In x ys → ⊥

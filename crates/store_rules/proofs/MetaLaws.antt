@@ -35,7 +35,8 @@ pub live_fits : (records : Records) (file : ℕ) → (meta_in records file).live
 live_fits records file = field-lt 4 (records (meta_key_of file)) format.meta_live
 
 -- a meta record in range stays so with other numbers that are
-pub meta_in_range : (shape : Shape) (file : ℕ) (r : Rec) (m : Meta) → IsMetaInRange shape file r → (metas.meta_of r).high ≤ m.high → m.high ≤ room_of shape file → room_of shape file < 2 ^ 32
+pub meta_in_range : (shape : Shape) (file : ℕ) (r : Rec) (m : Meta) → IsMetaInRange shape file r → (metas.meta_of r).high ≤ m.high → m.high ≤ room_of shape file
+    → room_of shape file < 2 ^ 32
     → (m.free ≡ format.nil) ⊎ (m.free < m.high) → m.live < 2 ^ 32 → IsMetaInRange shape file (with_meta r m)
 meta_in_range shape file r m old more high small free live =
     let free_small : m.free < 2 ^ 32 = ⊎_elim (λ (e : m.free ≡ format.nil). omega arith) (λ (lt : m.free < m.high). omega arith) free in

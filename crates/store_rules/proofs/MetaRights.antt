@@ -15,5 +15,6 @@ metas_right records shape h (suc (suc (suc (suc zero)))) low = h.metas 4 refl
 metas_right records shape h (suc (suc (suc (suc (suc zero))))) low = h.metas 5 refl
 metas_right records shape h (suc (suc (suc (suc (suc (suc zero)))))) low = h.metas 6 refl
 metas_right records shape h (suc (suc (suc (suc (suc (suc (suc zero))))))) low = h.taken
-metas_right records shape h (suc (suc (suc (suc (suc (suc (suc (suc zero)))))))) low = record { before = λ old. absurd (omega (arith, old)); since = λ _. h.metas 8 refl }
+metas_right records shape h (suc (suc (suc (suc (suc (suc (suc (suc zero)))))))) low =
+    record { before = λ old. absurd (omega (arith, old)); since = λ _. h.metas 8 refl }
 metas_right records shape h (suc (suc (suc (suc (suc (suc (suc (suc (suc k))))))))) low = absurd (omega (arith, low))

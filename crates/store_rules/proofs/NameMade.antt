@@ -16,7 +16,8 @@ use Rattle.store_rules.specs.Graph.{edge_from, edge_of, graph_of, names_of, node
 use Rattle.store_rules.specs.Properties.{properties_from, property_records}
 use Rattle.store_rules.specs.Ranges.{Fits}
 use Rattle.store_rules.specs.Rows.{collect}
-use Rattle.store_rules.specs.Rules.{AreNamed, AreNames, HaveProperties, Head, IsListed, KeepsRules, Owns, StandsAt, node_first, property_files, property_owner, rel_first}
+use Rattle.store_rules.specs.Rules.{AreNamed, AreNames, HaveProperties, Head, IsListed, KeepsRules, Owns, StandsAt}
+use Rattle.store_rules.specs.Rules.{node_first, property_files, property_owner, rel_first}
 use Rattle.store_rules.specs.Views.{NodeRow, Records, RelRow, group_at, high, kind_at, node_at, node_in, rec_at, rel_at, row_if, text_of}
 use Rattle.store_rules.proofs.Changes as ch
 use Rattle.store_rules.proofs.Changes.{IsChanged}
@@ -72,7 +73,8 @@ module _ (s t : Records) (shape : Shape) (rec : Rec) (text : List ℕ) (made : I
     listed : (h : Head) (n : ℕ) → Owns (kind_at t format.nodes_file) (group_at s) h n → IsListed t h n (StandsAt (rel_at s) (group_at s) h)
     listed h n o =
         let old : Owns (kind_at s format.nodes_file) (group_at s) h n = subst (λ (k : ℕ → ℕ). Owns k (group_at s) h n) kinds o in
-        ch.listed_kept s t format.names_file count made.change h n (StandsAt (rel_at s) (group_at s) h) (λ e. omega arith) (head_file (kind_at s format.nodes_file) (group_at s) h n old) (λ e. absurd (other_head old e)) (well.linked.listed.each h n old)
+        ch.listed_kept s t format.names_file count made.change h n (StandsAt (rel_at s) (group_at s) h) (λ e. omega arith)
+        (head_file (kind_at s format.nodes_file) (group_at s) h n old) (λ e. absurd (other_head old e)) (well.linked.listed.each h n old)
       where
         other_head : Owns (kind_at s format.nodes_file) (group_at s) h n → h.key.file ≡ format.names_file → ⊥
         other_head (inl k) e = let f = ap (λ (z : Head). z.key.file) k.is in omega arith
@@ -92,10 +94,11 @@ module _ (s t : Records) (shape : Shape) (rec : Rec) (text : List ℕ) (made : I
         }))
 
     named : AreNamed (node_at t) (rel_at t) (high t format.names_file)
-    named = subst (λ n. AreNamed n (rel_at t) (high t format.names_file)) (sym node_rows) (subst (λ r. AreNamed (node_at s) r (high t format.names_file)) (sym (un.rels_same s t format.names_file count made.change refl)) (record {
-      nodes_named = λ x row e. let k = well.named.nodes_named x row e in let m = made.mark in omega arith;
-      rels_named = λ x row e. let k = well.named.rels_named x row e in let m = made.mark in omega arith;
-    }))
+    named = subst (λ n. AreNamed n (rel_at t) (high t format.names_file)) (sym node_rows)
+        (subst (λ r. AreNamed (node_at s) r (high t format.names_file)) (sym (un.rels_same s t format.names_file count made.change refl)) (record {
+          nodes_named = λ x row e. let k = well.named.nodes_named x row e in let m = made.mark in omega arith;
+          rels_named = λ x row e. let k = well.named.rels_named x row e in let m = made.mark in omega arith;
+        }))
 
     -- no name before has the text
     not_before : (x : ℕ) → x < count → text_of (rec_at s format.names_file x) ≡ text → ⊥
@@ -110,14 +113,16 @@ module _ (s t : Records) (shape : Shape) (rec : Rec) (text : List ℕ) (made : I
           (λ (k : x ≡ count). subst IsShortName (sym (ap (λ z. text_of (rec_at t format.names_file z)) k ∙ text_here)) made.form) (low_or_last x lt);
       distinct = λ x y a b e. ⊎_elim
           (λ (k : x < count). ⊎_elim (λ (l : y < count). well.names.distinct x y k l (sym (old_text x k) ∙ e ∙ old_text y l))
-          (λ (l : y ≡ count). absurd (not_before x k (sym (old_text x k) ∙ e ∙ ap (λ z. text_of (rec_at t format.names_file z)) l ∙ text_here))) (low_or_last y b))
+          (λ (l : y ≡ count). absurd (not_before x k (sym (old_text x k) ∙ e ∙ ap (λ z. text_of (rec_at t format.names_file z)) l ∙ text_here)))
+          (low_or_last y b))
           (λ (k : x ≡ count). ⊎_elim (λ (l : y < count). absurd (not_before y l (sym (old_text y l) ∙ sym e ∙ ap (λ z. text_of (rec_at t format.names_file z)) k ∙ text_here)))
           (λ (l : y ≡ count). k ∙ sym l) (low_or_last y b)) (low_or_last x a);
     }
 
     pub name_well : KeepsRules t shape most empty
     name_well = record {
-      ranges = ch.in_range s t format.names_file count made.change shape made.meta (λ _. subst (Fits (high t) format.names_file) (sym made.here) made.fits) well.ranges;
+      ranges = ch.in_range s t format.names_file count made.change shape made.meta (λ _. subst (Fits (high t) format.names_file) (sym made.here) made.fits)
+          well.ranges;
       split = ch.split_all s t format.names_file count made.change (λ e. absurd (false≢true e)) well.split;
       kept = ch.kept_all s t format.names_file count made.change (λ _. made.live) well.kept;
       linked = un.linked s t format.names_file count made.change refl (λ x n row e i. ap (λ (k : ℕ → ℕ). k n) kinds) listed well.linked;
@@ -145,7 +150,8 @@ module _ (s t : Records) (shape : Shape) (rec : Rec) (text : List ℕ) (made : I
         let walk = rule.held.walk f x first owned in
         let few = rule.keys.few f x first owned in
         properties_from-walk (rec_at t format.names_file) (property_records s) first ps walk few
-        ∙ map_of-names (rec_at s format.names_file) (rec_at t format.names_file) (property_records s) ps (λ p i. old_text _ (rule.keys.named f x first p owned i))
+        ∙ map_of-names (rec_at s format.names_file) (rec_at t format.names_file) (property_records s) ps
+        (λ p i. old_text _ (rule.keys.named f x first p owned i))
         ∙ sym (properties_from-walk (rec_at s format.names_file) (property_records s) first ps walk few)
 
     node_text : (x : ℕ) → node_of t x ≡ node_of s x
@@ -172,11 +178,13 @@ module _ (s t : Records) (shape : Shape) (rec : Rec) (text : List ℕ) (made : I
         on (Some row) h k = λ i. Some (record { id = row.id; label = old_text row.label (h row refl) i; from = row.from; to = row.to; properties = k row refl i })
 
     pub edges_stay : (graph_of t).edges ≡ (graph_of s).edges
-    edges_stay = collect_same edge_number (edge_of s) (edge_of t) (high t format.relationships_file) (λ x _. edge_text x) ∙ ap (collect (edge_of s)) (un.rel_mark s t format.names_file count made.change refl)
+    edges_stay = collect_same edge_number (edge_of s) (edge_of t) (high t format.relationships_file) (λ x _. edge_text x)
+        ∙ ap (collect (edge_of s)) (un.rel_mark s t format.names_file count made.change refl)
 
     pub names_more : names_of t ≡ names_of s ++ text ∷ []
     names_more = ap (collect (λ x. Some (text_of (rec_at t format.names_file x)))) (made.mark ∙ add count)
-        ∙ ap (λ xs. xs ++ text_of (rec_at t format.names_file count) ∷ []) (rows_same (λ x. text_of (rec_at s format.names_file x)) (λ x. text_of (rec_at t format.names_file x)) count (λ x lt. old_text x lt))
+        ∙ ap (λ xs. xs ++ text_of (rec_at t format.names_file count) ∷ [])
+        (rows_same (λ x. text_of (rec_at s format.names_file x)) (λ x. text_of (rec_at t format.names_file x)) count (λ x lt. old_text x lt))
         ∙ ap (λ e. names_of s ++ e ∷ []) text_here
       where
         add : (n : ℕ) → n + 1 ≡ suc n

@@ -25,4 +25,5 @@ module _ {E : Type 0} (row : ℕ → E) where
 
 pub rows_same : {E : Type 0} → (row now : ℕ → E) (n : ℕ) → ((x : ℕ) → x < n → now x ≡ row x) → all_rows now n ≡ all_rows row n
 rows_same row now zero h = refl
-rows_same row now (suc n) h = ap (λ xs. xs ++ now n ∷ []) (rows_same row now n (λ x lt. h x (omega arith))) ∙ ap (λ e. all_rows row n ++ e ∷ []) (h n (omega arith))
+rows_same row now (suc n) h = ap (λ xs. xs ++ now n ∷ []) (rows_same row now n (λ x lt. h x (omega arith)))
+    ∙ ap (λ e. all_rows row n ++ e ∷ []) (h n (omega arith))

@@ -38,7 +38,8 @@ none_indexed records wanted none unused = record {
 }
 
 -- A well-formed store that names no definition and has no record of the index in use.
-pub well_indexed : (records : Records) (shape : Shape) → IsWellFormed records shape → first_definition records ≡ format.nil → HasNoIndex records → IsIndexed records shape
+pub well_indexed : (records : Records) (shape : Shape) → IsWellFormed records shape → first_definition records ≡ format.nil → HasNoIndex records
+    → IsIndexed records shape
 well_indexed records shape well none unused = record { store = well; indexes = none_indexed records (wanted_in records) none unused }
 
 module _ (before : Records) (shape : Shape) where
@@ -46,10 +47,12 @@ module _ (before : Records) (shape : Shape) where
   new = laid_over before (creation_pairs shape)
 
   meta-new : new (meta_key_of format.index_file) ≡ first_meta format.index_file
-  meta-new = laid_over-at before (creation_pairs shape) (meta_key_of format.index_file) (first_meta format.index_file) (find_pair-creation_meta shape format.index_file refl)
+  meta-new = laid_over-at before (creation_pairs shape) (meta_key_of format.index_file) (first_meta format.index_file)
+      (find_pair-creation_meta shape format.index_file refl)
 
   first-new : first_definition new ≡ format.nil
-  first-new = ap (λ (r : Rec). field 4 r format.meta_definition) meta-new ∙ field-with_field_same 4 (meta_record empty_meta) format.meta_definition format.nil (omega arith) (omega arith)
+  first-new = ap (λ (r : Rec). field 4 r format.meta_definition) meta-new
+      ∙ field-with_field_same 4 (meta_record empty_meta) format.meta_definition format.nil (omega arith) (omega arith)
 
   pub new_indexed : is_allowed shape ≡ true → zeros_from format.taken_rest (before (meta_key_of format.taken_id)) ≡ true → IsIndexed new shape
   new_indexed allowed none_taken = well_indexed new shape (new_well before shape allowed none_taken) first-new (new_unindexed before shape)

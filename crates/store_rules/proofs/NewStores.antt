@@ -18,7 +18,8 @@ use Rattle.rec_bytes.proofs.Spaces.{laid_over-at}
 use Rattle.store_rules.specs.Graph.{edge_of, graph_of, indexes_from, node_of}
 use Rattle.store_rules.specs.Rows.{collect, ids}
 use Rattle.store_rules.specs.Indexes.{HasNoIndex}
-use Rattle.store_rules.specs.Rules.{AreHeld, HaveProperties, Head, IsListed, IsWellFormed, IsSplit, Owns, StandsAt, block_owner, node_first, property_files, property_owner, rel_first}
+use Rattle.store_rules.specs.Rules.{AreHeld, HaveProperties, Head, IsListed, IsWellFormed, IsSplit, Owns, StandsAt}
+use Rattle.store_rules.specs.Rules.{block_owner, node_first, property_files, property_owner, rel_first}
 use Rattle.store_rules.specs.Views.{Records, group_at, group_in, high, is_live, kind_at, node_at, node_in, rec_at, rel_at, rel_in, text_of}
 use Rattle.store_rules.proofs.MetaLaws.{meta_of_reused}
 use Rattle.store_rules.proofs.ViewLaws.{kind_high, live_false, row_none}
@@ -60,7 +61,8 @@ module _ (before : Records) (shape : Shape) where
   no_owner : (file x : ℕ) → property_owner (node_at new) (rel_at new) file x ≡ None
   no_owner file x = by (nat_eq file format.nodes_file) (nat_eq file format.relationships_file) (ap node_first (no_node x)) (ap rel_first (no_rel x))
     where
-      by : (a b : Bool) → node_first (node_at new x) ≡ None → rel_first (rel_at new x) ≡ None → cond a (node_first (node_at new x)) (cond b (rel_first (rel_at new x)) None) ≡ None
+      by : (a b : Bool) → node_first (node_at new x) ≡ None → rel_first (rel_at new x) ≡ None
+          → cond a (node_first (node_at new x)) (cond b (rel_first (rel_at new x)) None) ≡ None
       by true b p q = p
       by false true p q = q
       by false false p q = refl
@@ -69,14 +71,16 @@ module _ (before : Records) (shape : Shape) where
   no_block_owner file x = by (nat_eq file format.properties_file) (ap (λ k. nat_eq k format.text_in_blocks) (none_used format.properties_file x refl))
     where
       by : (a : Bool) → nat_eq (kind_at new format.properties_file x) format.text_in_blocks ≡ false
-          → cond (a && nat_eq (kind_at new format.properties_file x) format.text_in_blocks) (Some (field 4 (rec_at new format.properties_file x) format.property_first_block)) None ≡ None
+          → cond (a && nat_eq (kind_at new format.properties_file x) format.text_in_blocks)
+          (Some (field 4 (rec_at new format.properties_file x) format.property_first_block)) None ≡ None
       by true e = rw e refl
       by false e = refl
 
   not_live : (file x : ℕ) → is_meta_file file ≡ true → is_live new file x ≡ true → ⊥
   not_live file x is h = true≢false (sym h ∙ live_false (kind_at new file x) (none_used file x is))
 
-  held_none : (owner : ℕ → ℕ → Option ℕ) (next : ℕ → ℕ) (live : ℕ → Bool) → ((f x : ℕ) → owner f x ≡ None) → ((p : ℕ) → live p ≡ true → ⊥) → AreHeld owner next live
+  held_none : (owner : ℕ → ℕ → Option ℕ) (next : ℕ → ℕ) (live : ℕ → Bool) → ((f x : ℕ) → owner f x ≡ None) → ((p : ℕ) → live p ≡ true → ⊥)
+      → AreHeld owner next live
   held_none owner next live none unused = record {
     lists = λ f x. [];
     walk = λ f x first e. absurd (not_some (owner f x) first (none f x) e);
@@ -93,7 +97,8 @@ module _ (before : Records) (shape : Shape) where
       named = λ f x first p e i. absurd (not_some (property_owner (node_at new) (rel_at new) f x) first (no_owner f x) e);
       distinct = λ f x first p q e i j s. absurd (not_some (property_owner (node_at new) (rel_at new) f x) first (no_owner f x) e);
     };
-    blocks = held_none (block_owner (kind_at new format.properties_file) (rec_at new format.properties_file)) _ _ no_block_owner (λ p. not_live format.strings_file p refl);
+    blocks = held_none (block_owner (kind_at new format.properties_file) (rec_at new format.properties_file)) _ _ no_block_owner
+        (λ p. not_live format.strings_file p refl);
     texts = record { pieces = λ f x first e. absurd (not_some (block_owner (kind_at new format.properties_file) (rec_at new format.properties_file) f x) first (no_block_owner f x) e) };
   }
 
@@ -159,5 +164,6 @@ module _ (before : Records) (shape : Shape) where
     nodes = ap (collect (node_of new)) (mark format.nodes_file refl) i;
     edges = ap (collect (edge_of new)) (mark format.relationships_file refl) i;
     names = ap (collect (λ x. Some (text_of (rec_at new format.names_file x)))) (mark format.names_file refl) i;
-    indexes = ap (indexes_from (kind_at new format.index_file) (rec_at new format.index_file) (high new format.index_file) (rec_at new format.names_file)) (mark format.names_file refl) i;
+    indexes = ap (indexes_from (kind_at new format.index_file) (rec_at new format.index_file) (high new format.index_file) (rec_at new format.names_file))
+        (mark format.names_file refl) i;
   }

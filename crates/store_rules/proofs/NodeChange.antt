@@ -23,7 +23,8 @@ use Rattle.store_rules.proofs.Untouched.{head_file}
 pub nodes_numbered : (s : Records) (x : ℕ) (e : Node) → node_of s x ≡ Some e → node_number e ≡ x
 nodes_numbered s x e h = on (nat_eq (kind_at s format.nodes_file x) 0) h
   where
-    on : (b : Bool) → node_from (rec_at s format.names_file) (property_records s) (cond b None (Some (node_in (rec_at s format.nodes_file x) x))) ≡ Some e → e.id ≡ x
+    on : (b : Bool) → node_from (rec_at s format.names_file) (property_records s) (cond b None (Some (node_in (rec_at s format.nodes_file x) x))) ≡ Some e
+        → e.id ≡ x
     on true h = absurd cc
     on false h = ap (λ (n : Node). n.id) (inner _ e (sym h))
       where
@@ -31,8 +32,10 @@ nodes_numbered s x e h = on (nat_eq (kind_at s format.nodes_file x) 0) h
         inner a b e = cc
 
 -- the count of nodes is that of their file
-pub count_nodes : (s : Records) (shape : Shape) {most : ℕ} {empty : List ℕ} → KeepsRules s shape most empty → (meta_in s format.nodes_file).live ≡ length (graph_of s).nodes
-count_nodes s shape well = (well.split format.nodes_file refl).1.exact ∙ sym (length-collect Node (node_of s) (is_live s format.nodes_file) (high s format.nodes_file) (λ x. on x (nat_eq (kind_at s format.nodes_file x) 0)))
+pub count_nodes : (s : Records) (shape : Shape) {most : ℕ} {empty : List ℕ} → KeepsRules s shape most empty
+    → (meta_in s format.nodes_file).live ≡ length (graph_of s).nodes
+count_nodes s shape well = (well.split format.nodes_file refl).1.exact ∙ sym
+    (length-collect Node (node_of s) (is_live s format.nodes_file) (high s format.nodes_file) (λ x. on x (nat_eq (kind_at s format.nodes_file x) 0)))
   where
     on : (x : ℕ) (b : Bool) → is_some (node_from (rec_at s format.names_file) (property_records s) (cond b None (Some (node_in (rec_at s format.nodes_file x) x)))) ≡ not b
     on x true = refl
@@ -46,7 +49,8 @@ module _ (s t : Records) (id : ℕ) (change : IsChanged s t format.nodes_file id
   record_other n ne = ch.other_record s t format.nodes_file id change format.nodes_file n refl (λ _. ne)
 
   pub node_other : (n : ℕ) → n ≢ id → node_at t n ≡ node_at s n
-  node_other n ne = ap (λ k. row_if k (node_in (rec_at t format.nodes_file n) n)) (kind_other n ne) ∙ ap (λ r. row_if (kind_at s format.nodes_file n) (node_in r n)) (record_other n ne)
+  node_other n ne = ap (λ k. row_if k (node_in (rec_at t format.nodes_file n) n)) (kind_other n ne)
+      ∙ ap (λ r. row_if (kind_at s format.nodes_file n) (node_in r n)) (record_other n ne)
 
   pub first_other : (n : ℕ) → n ≢ id → first_link t n ≡ first_link s n
   first_other n ne = ap (λ r. field 4 r format.node_first_link) (record_other n ne)
@@ -61,10 +65,12 @@ module _ (s t : Records) (id : ℕ) (change : IsChanged s t format.nodes_file id
   files_stay = ch.records_stay s t format.nodes_file id change (λ e. omega arith) (λ e. omega arith)
 
   pub names_stay : names_of t ≡ names_of s
-  names_stay = ap (λ (f : ℕ → Rec). collect (λ x. Some (text_of (f x))) (high t format.names_file)) name_file ∙ ap (collect (λ x. Some (text_of (rec_at s format.names_file x)))) name_mark
+  names_stay = ap (λ (f : ℕ → Rec). collect (λ x. Some (text_of (f x))) (high t format.names_file)) name_file
+      ∙ ap (collect (λ x. Some (text_of (rec_at s format.names_file x)))) name_mark
 
   pub edges_stay : (graph_of t).edges ≡ (graph_of s).edges
-  edges_stay = λ i. collect (λ x. edge_from (name_file i) (files_stay i) (un.rels_same s t format.nodes_file id change refl i x)) (un.rel_mark s t format.nodes_file id change refl i)
+  edges_stay = λ i. collect (λ x. edge_from (name_file i) (files_stay i) (un.rels_same s t format.nodes_file id change refl i x))
+      (un.rel_mark s t format.nodes_file id change refl i)
 
   pub node_text : (x : ℕ) → node_of t x ≡ node_from (rec_at s format.names_file) (property_records s) (node_at t x)
   node_text x = λ i. node_from (name_file i) (files_stay i) (node_at t x)
@@ -82,5 +88,7 @@ module _ (s t : Records) (id : ℕ) (change : IsChanged s t format.nodes_file id
         (λ (k : SparseHead (kind_at t format.nodes_file) h n). kept (inl (record { sparse = sym (kind_other n ne) ∙ k.sparse; is = k.is })) (λ _ q. ne (ap (λ (z : Head). z.key.id) (sym k.is) ∙ q)))
         (λ (k : GroupHead (kind_at t format.nodes_file) (group_at s) h n). kept (inr (record { dense = sym (kind_other n ne) ∙ k.dense; row = k.row; group = k.group; owner = k.owner; key = k.key; field = k.field })) (λ q. let f = ap (λ (z : Key). z.file) k.key in omega arith)) o
       where
-        kept : Owns (kind_at s format.nodes_file) (group_at s) h n → (h.key.file ≡ format.nodes_file → h.key.id ≢ id) → IsListed t h n (StandsAt (rel_at s) (group_at s) h)
-        kept old apart = ch.listed_kept s t format.nodes_file id change h n (StandsAt (rel_at s) (group_at s) h) (λ e. omega arith) (head_file (kind_at s format.nodes_file) (group_at s) h n old) apart (well.linked.listed.each h n old)
+        kept : Owns (kind_at s format.nodes_file) (group_at s) h n → (h.key.file ≡ format.nodes_file → h.key.id ≢ id)
+            → IsListed t h n (StandsAt (rel_at s) (group_at s) h)
+        kept old apart = ch.listed_kept s t format.nodes_file id change h n (StandsAt (rel_at s) (group_at s) h) (λ e. omega arith)
+            (head_file (kind_at s format.nodes_file) (group_at s) h n old) apart (well.linked.listed.each h n old)

@@ -8,7 +8,8 @@ use Rattle.rec_bytes.specs.Record.{field}
 use Rattle.store_rules.specs.Graph.{graph_of, node_from, node_of}
 use Rattle.store_rules.specs.Properties.{property_records}
 use Rattle.store_rules.specs.Rows.{collect, ids}
-use Rattle.store_rules.specs.Rules.{AreCounted, AreNamed, HaveProperties, Head, IsEnd, IsListed, KeepsRules, Owns, StandsAt, node_first, property_files, stands_in}
+use Rattle.store_rules.specs.Rules.{AreCounted, AreNamed, HaveProperties, Head, IsEnd, IsListed, KeepsRules, Owns}
+use Rattle.store_rules.specs.Rules.{StandsAt, node_first, property_files, stands_in}
 use Rattle.store_rules.specs.Views.{GroupRow, Records, RelRow, degree, group_at, high, kind_at, node_at, node_in, rec_at, rel_at, rel_in}
 use Rattle.store_rules.proofs.Changes as ch
 use Rattle.store_rules.proofs.Counts.{ids_empty}
@@ -29,21 +30,24 @@ pub record IsBare (s : Records) (id : ℕ) : Type 0 where
   pub ungrouped : (g : ℕ) (row : GroupRow) → group_at s g ≡ Some row → row.owner ≢ id
 
 -- a node of degree 0 is no end of a relationship
-module _ (s : Records) (shape : Shape) {most : ℕ} {empty : List ℕ} (well : KeepsRules s shape most empty) (id : ℕ) (used : kind_at s format.nodes_file id ≢ format.free_kind) (alone : degree s id ≡ 0) where
+module _ (s : Records) (shape : Shape) {most : ℕ} {empty : List ℕ} (well : KeepsRules s shape most empty) (id : ℕ)
+    (used : kind_at s format.nodes_file id ≢ format.free_kind) (alone : degree s id ≡ 0) where
   none_counted : length (ids (λ x. stands_in id (rel_at s x)) (high s format.relationships_file)) ≡ 0
   none_counted = sym (well.degrees.each id used) ∙ alone
 
   pub no_end : (x : ℕ) (row : RelRow) → rel_at s x ≡ Some row → IsEnd id row → ⊥
   no_end x row e i =
       let k = some_row (kind_at s format.relationships_file x) (rel_in (rec_at s format.relationships_file x) x) row e in
-      let out = ids_empty (λ y. stands_in id (rel_at s y)) (high s format.relationships_file) none_counted x (kind_below (high s format.relationships_file) (rec_at s format.relationships_file x) x k.0) in
+      let out = ids_empty (λ y. stands_in id (rel_at s y)) (high s format.relationships_file) none_counted x
+      (kind_below (high s format.relationships_file) (rec_at s format.relationships_file x) x k.0) in
       absurd (true≢false (sym (ap (stands_in id) e ∙ ⊎_elim (λ (f : row.from ≡ id). rw (eq_true row.from id f) refl) (λ (f : row.to ≡ id). rw (eq_true row.to id f) (or_true (nat_eq row.from id))) i) ∙ out))
     where
       or_true : (a : Bool) → (a || true) ≡ true
       or_true true = refl
       or_true false = refl
 
-module _ (s t : Records) (shape : Shape) (id : ℕ) (lost : IsGone s t shape format.nodes_file id) (old : IsBare s id) {most : ℕ} {empty : List ℕ} (well : KeepsRules s shape most empty) where
+module _ (s t : Records) (shape : Shape) (id : ℕ) (lost : IsGone s t shape format.nodes_file id) (old : IsBare s id) {most : ℕ} {empty : List ℕ}
+    (well : KeepsRules s shape most empty) where
   kind_other : (n : ℕ) → n ≢ id → kind_at t format.nodes_file n ≡ kind_at s format.nodes_file n
   kind_other = nc.kind_other s t id lost.change
 
@@ -68,19 +72,22 @@ module _ (s t : Records) (shape : Shape) (id : ℕ) (lost : IsGone s t shape for
   dense_new n d = other n (λ z. let p = sym z ∙ d in omega arith)
 
   properties : HaveProperties (property_files t) (node_at t) (rel_at t) (high t format.names_file)
-  properties = subst (HaveProperties (property_files t) (node_at t) (rel_at t)) (sym (nc.name_mark s t id lost.change)) (un.properties s t format.nodes_file id lost.change refl (node_at t) (high s format.names_file)
+  properties = subst (HaveProperties (property_files t) (node_at t) (rel_at t)) (sym (nc.name_mark s t id lost.change))
+      (un.properties s t format.nodes_file id lost.change refl (node_at t) (high s format.names_file)
       (properties_bare (property_files s) (node_at s) (node_at t) (rel_at s) (rel_at s) (high s format.names_file) format.nodes_file id
-      (λ first e. inner first old.bare (ap node_first (sym node_there) ∙ e)) (λ first e. absurd (let z : None ≡ Some first = ap node_first (sym node_gone) ∙ e in cc))
+      (λ first e. inner first old.bare (ap node_first (sym node_there) ∙ e))
+      (λ first e. absurd (let z : None ≡ Some first = ap node_first (sym node_gone) ∙ e in cc))
       (owner_beside_node (node_at s) (node_at t) (rel_at s) id (nc.node_other s t id lost.change)) well.properties))
     where
       inner : {a : ℕ} (b : ℕ) → a ≡ format.nil → Some a ≡ Some b → b ≡ format.nil
       inner b e q = cc
 
   named : AreNamed (node_at t) (rel_at t) (high t format.names_file)
-  named = subst (λ r. AreNamed (node_at t) r (high t format.names_file)) (sym (un.rels_same s t format.nodes_file id lost.change refl)) (subst (λ m. AreNamed (node_at t) (rel_at s) m) (sym (nc.name_mark s t id lost.change)) (record {
-    nodes_named = λ x row e. well.named.nodes_named x row (sym (nc.node_other s t id lost.change x (λ k. absurd (let z : None ≡ Some row = sym node_gone ∙ ap (node_at t) (sym k) ∙ e in cc))) ∙ e);
-    rels_named = well.named.rels_named;
-  }))
+  named = subst (λ r. AreNamed (node_at t) r (high t format.names_file)) (sym (un.rels_same s t format.nodes_file id lost.change refl))
+      (subst (λ m. AreNamed (node_at t) (rel_at s) m) (sym (nc.name_mark s t id lost.change)) (record {
+        nodes_named = λ x row e. well.named.nodes_named x row (sym (nc.node_other s t id lost.change x (λ k. absurd (let z : None ≡ Some row = sym node_gone ∙ ap (node_at t) (sym k) ∙ e in cc))) ∙ e);
+        rels_named = well.named.rels_named;
+      }))
 
   degree_other : (n : ℕ) → n ≢ id → degree t n ≡ degree s n
   degree_other n ne = ap (λ r. field 4 r format.node_degree) (nc.record_other s t id lost.change n ne)

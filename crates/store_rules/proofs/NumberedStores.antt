@@ -85,20 +85,23 @@ module _ (records : Records) (number : Rec) where
     kept = λ is not. (stays records numbered (Split file) shape slack refl (same_file file is, tt) has).kept is not;
   }
 
-  rules_stay : (shape : Shape) (slack : Slack) → records number_key ≡ zeros → zeros_from taken_rest number ≡ true → KeepsThose but_index records shape slack → KeepsThose but_index numbered shape slack
+  rules_stay : (shape : Shape) (slack : Slack) → records number_key ≡ zeros → zeros_from taken_rest number ≡ true → KeepsThose but_index records shape slack
+      → KeepsThose but_index numbered shape slack
   rules_stay shape slack blank rest all Ranges e = in_range shape blank rest (all Ranges refl)
   rules_stay shape slack blank rest all (Split file) e = split_stays file shape slack (all (Split file) refl)
   rules_stay shape slack blank rest all Linked e = stays records numbered Linked shape slack refl (all_same (reads Linked) refl) (all Linked refl)
   rules_stay shape slack blank rest all Grouped e = stays records numbered Grouped shape slack refl (all_same (reads Grouped) refl) (all Grouped refl)
   rules_stay shape slack blank rest all Counts e = stays records numbered Counts shape slack refl (all_same (reads Counts) refl) (all Counts refl)
-  rules_stay shape slack blank rest all Properties e = stays records numbered Properties shape slack refl (all_same (reads Properties) refl) (all Properties refl)
+  rules_stay shape slack blank rest all Properties e = stays records numbered Properties shape slack refl (all_same (reads Properties) refl)
+      (all Properties refl)
   rules_stay shape slack blank rest all Labels e = stays records numbered Labels shape slack refl (all_same (reads Labels) refl) (all Labels refl)
   rules_stay shape slack blank rest all Defined e = stays records numbered Defined shape slack refl (all_same (reads Defined) refl) (all Defined refl)
   rules_stay shape slack blank rest all Names e = stays records numbered Names shape slack refl (all_same (reads Names) refl) (all Names refl)
   rules_stay shape slack blank rest all Degrees e = stays records numbered Degrees shape slack refl (all_same (reads Degrees) refl) (all Degrees refl)
   rules_stay shape slack blank rest all Indexed e = absurd cc
 
-  pub well_numbered : (shape : Shape) → records number_key ≡ zeros → zeros_from taken_rest number ≡ true → IsWellFormed records shape → IsWellFormed numbered shape
+  pub well_numbered : (shape : Shape) → records number_key ≡ zeros → zeros_from taken_rest number ≡ true → IsWellFormed records shape
+      → IsWellFormed numbered shape
   well_numbered shape blank rest well =
       let slack : Slack = record { most = shape.threshold; empty = [] } in
       all_of numbered shape slack (rules_stay shape slack blank rest (by_name records shape shape.threshold [] well))

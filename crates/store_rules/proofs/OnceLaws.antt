@@ -56,7 +56,8 @@ once_map f (p ∷ ps) a same =
     ((λ i. let r = map_in f (f p) ps i in a.0 (subst (λ z. In z ps) (sym (same p r.0 (inl refl) (inr r.1) r.2)) r.1)), once_map f ps a.1 (λ q z i j. same q z (inr i) (inr j)))
 
 -- of lists that have nothing in common, one after the other
-pub once_flat_map : (f : ℕ → List ℕ) (ps : List ℕ) → AreOnce ps → ((p : ℕ) → In p ps → AreOnce (f p)) → ((p q x : ℕ) → In p ps → In q ps → In x (f p) → In x (f q) → p ≡ q) → AreOnce (flat_map f ps)
+pub once_flat_map : (f : ℕ → List ℕ) (ps : List ℕ) → AreOnce ps → ((p : ℕ) → In p ps → AreOnce (f p))
+    → ((p q x : ℕ) → In p ps → In q ps → In x (f p) → In x (f q) → p ≡ q) → AreOnce (flat_map f ps)
 once_flat_map f [] a each same = tt
 once_flat_map f (p ∷ ps) a each same = once_both (f p) (flat_map f ps) (each p (inl refl))
     (once_flat_map f ps a.1 (λ q i. each q (inr i)) (λ q z x i j. same q z x (inr i) (inr j)))

@@ -25,21 +25,22 @@ module _ (kind : ℕ → ℕ) (groups : ℕ → Option GroupRow) where
   on_has_group h n row (inr o) on dense = record { row = o.row; group = o.group; owner = o.owner; label = sym (on_group kind groups h n o row on).0 }
 
 -- a node has one head where a relationship of a row stands
-module _ (s : Records) (empty : List ℕ) (grouped : IsGrouped (kind_at s format.nodes_file) (first_link s) (rec_at s format.groups_file) (group_at s) empty) where
-  abbrev Own : Head → ℕ → Type 0
-  Own = Owns (kind_at s format.nodes_file) (group_at s)
+module _ (s : Records) (empty : List ℕ) (grouped : IsGrouped (kind_at s format.nodes_file) (first_link s) (rec_at s format.groups_file) (group_at s) empty)
+  where
+    abbrev Own : Head → ℕ → Type 0
+    Own = Owns (kind_at s format.nodes_file) (group_at s)
 
-  type_is : (row : GroupRow) → group_at s row.id ≡ Some row → field 4 (rec_at s format.groups_file row.id) format.group_type ≡ row.label
-  type_is row is = ap (λ (r : GroupRow). r.label) (some_row (kind_at s format.groups_file row.id) (group_in (rec_at s format.groups_file row.id) row.id) row is).1
+    type_is : (row : GroupRow) → group_at s row.id ≡ Some row → field 4 (rec_at s format.groups_file row.id) format.group_type ≡ row.label
+    type_is row is = ap (λ (r : GroupRow). r.label) (some_row (kind_at s format.groups_file row.id) (group_in (rec_at s format.groups_file row.id) row.id) row is).1
 
-  pub only_head : (h k : Head) (n : ℕ) (row : RelRow) → Own h n → Own k n → IsOn (group_at s) h row → IsOn (group_at s) k row → h ≡ k
-  only_head h k n row (inl a) (inl b) on at = a.is ∙ sym b.is
-  only_head h k n row (inl a) (inr b) on at = absurd (let p = a.sparse in let q = b.dense in omega (arith, p, q))
-  only_head h k n row (inr a) (inl b) on at = absurd (let p = b.sparse in let q = a.dense in omega (arith, p, q))
-  only_head h k n row (inr a) (inr b) on at =
-      let has = grouped.each n a.dense in
-      let p = on_group (kind_at s format.nodes_file) (group_at s) h n a row on in
-      let q = on_group (kind_at s format.nodes_file) (group_at s) k n b row at in
-      let group : a.row.id ≡ b.row.id = has.once a.row.id b.row.id (has.all a.row.id a.row a.group a.owner) (has.all b.row.id b.row b.group b.owner)
-      (type_is a.row a.group ∙ sym p.0 ∙ q.0 ∙ sym (type_is b.row b.group)) in
-      head_is h k (a.key ∙ ap (key_in format.groups_file) group ∙ sym b.key) (one_place h.field k.field row.from row.to n p.1 q.1)
+    pub only_head : (h k : Head) (n : ℕ) (row : RelRow) → Own h n → Own k n → IsOn (group_at s) h row → IsOn (group_at s) k row → h ≡ k
+    only_head h k n row (inl a) (inl b) on at = a.is ∙ sym b.is
+    only_head h k n row (inl a) (inr b) on at = absurd (let p = a.sparse in let q = b.dense in omega (arith, p, q))
+    only_head h k n row (inr a) (inl b) on at = absurd (let p = b.sparse in let q = a.dense in omega (arith, p, q))
+    only_head h k n row (inr a) (inr b) on at =
+        let has = grouped.each n a.dense in
+        let p = on_group (kind_at s format.nodes_file) (group_at s) h n a row on in
+        let q = on_group (kind_at s format.nodes_file) (group_at s) k n b row at in
+        let group : a.row.id ≡ b.row.id = has.once a.row.id b.row.id (has.all a.row.id a.row a.group a.owner) (has.all b.row.id b.row b.group b.owner)
+        (type_is a.row a.group ∙ sym p.0 ∙ q.0 ∙ sym (type_is b.row b.group)) in
+        head_is h k (a.key ∙ ap (key_in format.groups_file) group ∙ sym b.key) (one_place h.field k.field row.from row.to n p.1 q.1)

@@ -9,7 +9,8 @@ use Rattle.rec_bytes.specs.RecordFiles.{is_meta_file, meta_key_of}
 use Rattle.rec_bytes.proofs.Numbers.{Apart}
 use Rattle.store_rules.specs.Properties.{Property}
 use Rattle.store_rules.specs.RuleList.{IsSameFile}
-use Rattle.store_rules.specs.Views.{Records, degree, first_link, group_at, group_in, high, kind_at, kind_in, key_in, node_at, node_in, rec_at, rel_at, rel_in, row_if}
+use Rattle.store_rules.specs.Views.{Records, degree, first_link, group_at, group_in, high, kind_at, kind_in, key_in}
+use Rattle.store_rules.specs.Views.{node_at, node_in, rec_at, rel_at, rel_in, row_if}
 use Rattle.store_rules.proofs.Frames.{pair_cases}
 use Rattle.store_rules.proofs.MetaLaws.{not_meta_key}
 use Rattle.store_rules.specs.PropertyChange.{ChangesProperties, property_place}
@@ -35,14 +36,16 @@ module _ (s t : Records) (shape : Shape) (file x : ℕ) (old new : List Property
       (λ e. ne (ap (λ (k : Key). k.file) e) (ap (λ (k : Key). k.id) e))
 
   -- all but the first property of the element's record
-  pub field_same : (f y n at : ℕ) → is_meta_file f ≡ true → f ≢ format.properties_file → f ≢ format.strings_file → at + n ≤ 64 → (f ≡ file → Apart n at 4 (property_place file)) → field n (rec_at t f y) at ≡ field n (rec_at s f y) at
+  pub field_same : (f y n at : ℕ) → is_meta_file f ≡ true → f ≢ format.properties_file → f ≢ format.strings_file → at + n ≤ 64
+      → (f ≡ file → Apart n at 4 (property_place file)) → field n (rec_at t f y) at ≡ field n (rec_at s f y) at
   field_same f y n at is a b inside apart = pair_cases file x f y
       (λ p q. subst (λ g. field n (rec_at t g y) at ≡ field n (rec_at s g y) at) (sym p) (subst (λ z. field n (rec_at t file z) at ≡ field n (rec_at s file z) at) (sym q) (h.own n at inside (apart p))))
       (λ ne. ap (λ r. field n r at) (record_same f y is a b ne))
 
   -- a number in the first 12 bytes stands before it
   pub place_low : 12 ≤ property_place file
-  place_low = ⊎_elim (λ (e : file ≡ format.nodes_file). let p = ap property_place e in omega arith) (λ (e : file ≡ format.relationships_file). let p = ap property_place e in omega arith) h.element
+  place_low = ⊎_elim (λ (e : file ≡ format.nodes_file). let p = ap property_place e in omega arith)
+      (λ (e : file ≡ format.relationships_file). let p = ap property_place e in omega arith) h.element
 
   -- so the kind of each record outside the two files stays
   pub kind_same : (f y : ℕ) → is_meta_file f ≡ true → f ≢ format.properties_file → f ≢ format.strings_file → kind_at t f y ≡ kind_at s f y
@@ -87,7 +90,8 @@ module _ (s t : Records) (shape : Shape) (file x : ℕ) (old new : List Property
       (λ e. let p = ap property_place (sym e) in ⊎_elim (λ l. inl (omega arith)) (λ g. inr (omega arith)) aside)
 
   -- a number of a relationship that isn't its first property
-  pub rel_field : (r at : ℕ) → (at + 4 ≤ 32) ⊎ (36 ≤ at) → at + 4 ≤ 64 → field 4 (rec_at t format.relationships_file r) at ≡ field 4 (rec_at s format.relationships_file r) at
+  pub rel_field : (r at : ℕ) → (at + 4 ≤ 32) ⊎ (36 ≤ at) → at + 4 ≤ 64 → field 4 (rec_at t format.relationships_file r) at ≡ field 4
+      (rec_at s format.relationships_file r) at
   rel_field r at aside inside = field_same format.relationships_file r 4 at refl (λ e. omega arith) (λ e. omega arith) inside
       (λ e. let p = ap property_place (sym e) in ⊎_elim (λ l. inl (omega arith)) (λ g. inr (omega arith)) aside)
 
@@ -107,5 +111,7 @@ module _ (s t : Records) (shape : Shape) (file x : ℕ) (old new : List Property
 
   -- so is another relationship
   pub rel_other : (y : ℕ) → (format.relationships_file ≡ file → y ≢ x) → rel_at t y ≡ rel_at s y
-  rel_other y ne = ap (λ k. row_if k (rel_in (rec_at t format.relationships_file y) y)) (kind_same format.relationships_file y refl (λ e. omega arith) (λ e. omega arith))
-      ∙ ap (λ r. row_if (kind_at s format.relationships_file y) (rel_in r y)) (record_same format.relationships_file y refl (λ e. omega arith) (λ e. omega arith) ne)
+  rel_other y ne = ap (λ k. row_if k (rel_in (rec_at t format.relationships_file y) y))
+      (kind_same format.relationships_file y refl (λ e. omega arith) (λ e. omega arith))
+      ∙ ap (λ r. row_if (kind_at s format.relationships_file y) (rel_in r y))
+      (record_same format.relationships_file y refl (λ e. omega arith) (λ e. omega arith) ne)

@@ -21,7 +21,8 @@ use Rattle.store_rules.proofs.PropertyLists.{owner_in, owner_in-used, properties
 use Rattle.store_rules.proofs.PropertyStays.{properties_stay}
 use Rattle.store_rules.proofs.RowChange.{collect_changed}
 
-module _ (s t : Records) (shape : Shape) (file x : ℕ) (old new : List Property) (h : ChangesProperties s t shape file x old new) {most : ℕ} {empty : List ℕ} (well : KeepsRules s shape most empty) where
+module _ (s t : Records) (shape : Shape) (file x : ℕ) (old new : List Property) (h : ChangesProperties s t shape file x old new) {most : ℕ} {empty : List ℕ}
+    (well : KeepsRules s shape most empty) where
   -- what names are read from
   abbrev names : ℕ → Rec
   names = rec_at s format.names_file
@@ -52,7 +53,8 @@ module _ (s t : Records) (shape : Shape) (file x : ℕ) (old new : List Property
   node_other y ne = (λ i. node_from (fr.name_file s t shape file x old new h i) now (fr.node_other s t shape file x old new h y ne i))
       ∙ on (node_at s y) (λ row e. properties_other format.nodes_file y row.property ne (ap node_first e))
     where
-      on : (o : Option NodeRow) → ((row : NodeRow) → o ≡ Some row → properties_from names now row.property ≡ properties_from names was row.property) → node_from names now o ≡ node_from names was o
+      on : (o : Option NodeRow) → ((row : NodeRow) → o ≡ Some row → properties_from names now row.property ≡ properties_from names was row.property)
+          → node_from names now o ≡ node_from names was o
       on None same = refl
       on (Some row) same = λ i. Some (record { id = row.id; label = text_of (names row.label); properties = same row refl i })
 
@@ -61,7 +63,8 @@ module _ (s t : Records) (shape : Shape) (file x : ℕ) (old new : List Property
   edge_other y ne = (λ i. edge_from (fr.name_file s t shape file x old new h i) now (fr.rel_other s t shape file x old new h y ne i))
       ∙ on (rel_at s y) (λ row e. properties_other format.relationships_file y row.property ne (ap rel_first e))
     where
-      on : (o : Option RelRow) → ((row : RelRow) → o ≡ Some row → properties_from names now row.property ≡ properties_from names was row.property) → edge_from names now o ≡ edge_from names was o
+      on : (o : Option RelRow) → ((row : RelRow) → o ≡ Some row → properties_from names now row.property ≡ properties_from names was row.property)
+          → edge_from names now o ≡ edge_from names was o
       on None same = refl
       on (Some row) same = λ i. Some (record { id = row.id; label = text_of (names row.label); from = row.from; to = row.to; properties = same row refl i })
 
@@ -100,9 +103,11 @@ module _ (s t : Records) (shape : Shape) (file x : ℕ) (old new : List Property
   -- ---- the element itself, by a change that makes its new properties of its old ones
   module _ (change : Properties → Properties) (is : change (map_of names old) ≡ map_of names new) where
     -- its properties are the changed ones
-    own_properties : (f : ℕ) → file ≡ f → properties_from (rec_at t format.names_file) now (property_from t f x) ≡ change (properties_from names was (property_from s f x))
+    own_properties : (f : ℕ) → file ≡ f → properties_from (rec_at t format.names_file) now (property_from t f x) ≡ change
+        (properties_from names was (property_from s f x))
     own_properties f e = (λ i. properties_from (fr.name_file s t shape file x old new h i) now (property_from t (sym e i) x))
-        ∙ properties_from-is now names (property_from t file x) new h.now ∙ sym is ∙ ap change (sym (properties_from-is was names (property_from s file x) old h.was))
+        ∙ properties_from-is now names (property_from t file x) new h.now ∙ sym is
+        ∙ ap change (sym (properties_from-is was names (property_from s file x) old h.was))
         ∙ ap (λ g. change (properties_from names was (property_from s g x))) e
 
     -- it is in use before and now
@@ -138,12 +143,14 @@ module _ (s t : Records) (shape : Shape) (file x : ℕ) (old new : List Property
     -- so the nodes are those with the change
     nodes_changed : file ≡ format.nodes_file → (graph_of t).nodes ≡ with_change node_number x (change_node change) (graph_of s).nodes
     nodes_changed e = ap (collect (node_of t)) mark_nodes
-        ∙ collect_changed node_number (node_of s) (node_of t) (high s format.nodes_file) x (change_node change) (nodes_numbered s) (own_node e) (λ y ne. node_other y (λ _. ne))
+        ∙ collect_changed node_number (node_of s) (node_of t) (high s format.nodes_file) x (change_node change) (nodes_numbered s) (own_node e)
+        (λ y ne. node_other y (λ _. ne))
 
     -- or the edges
     edges_changed : file ≡ format.relationships_file → (graph_of t).edges ≡ with_change edge_number x (change_edge change) (graph_of s).edges
     edges_changed e = ap (collect (edge_of t)) mark_edges
-        ∙ collect_changed edge_number (edge_of s) (edge_of t) (high s format.relationships_file) x (change_edge change) (edges_numbered s) (own_edge e) (λ y ne. edge_other y (λ _. ne))
+        ∙ collect_changed edge_number (edge_of s) (edge_of t) (high s format.relationships_file) x (change_edge change) (edges_numbered s) (own_edge e)
+        (λ y ne. edge_other y (λ _. ne))
 
     -- the graph is the old one with that change
     pub graph_changed : graph_of t ≡ with_properties (graph_of s) (target_in file x) change

@@ -1,5 +1,6 @@
 -- A change of one element's properties keeps the fifth rule: each property and each block in use is in the list of one owner, with its keys and its text.
-use Rattle.std.proofs.Common.{◌≡◌, ◌≢◌, ◌⊎◌, ℕ, ◌-◌, ◌<◌, nat_eq, true, cond, ◌&&◌, Some, List, [], ◌∷◌, length, sym, ap, ◌∙◌, subst, inl, inr, ⊎_elim, arith, refl}
+use Rattle.std.proofs.Common.{◌≡◌, ◌≢◌, ◌⊎◌, ℕ, ◌-◌, ◌<◌, nat_eq, true, cond, ◌&&◌, Some, List, [], ◌∷◌, length, sym}
+use Rattle.std.proofs.Common.{ap, ◌∙◌, subst, inl, inr, ⊎_elim, arith, refl}
 use Rattle.std.proofs.lemmas.Bool.{true≢false}
 use Rattle.std.proofs.lemmas.List.{length-map}
 use Rattle.rec_bytes.specs.declared.shape.Shape.{Shape}
@@ -16,7 +17,9 @@ use Rattle.store_rules.proofs.NumberLaws.{eq_false, eq_true, nat_cases}
 use Rattle.store_rules.specs.PropertyChange.{ChangesProperties, property_from}
 use Rattle.store_rules.proofs.PropertyFrames as fr
 use Rattle.store_rules.proofs.PropertyLists.{block_owner_in, owner_in, owner_in-used}
-use Rattle.store_rules.proofs.PropertyOwners.{blocks_by, blocks_by-here, blocks_by-there, kind_of_live, linked_at, linked_key, linked_keys_apart, one_block, owner_is_long, owner_long, owner_of_block, owner_parts}
+use Rattle.store_rules.proofs.PropertyOwners.{blocks_by, blocks_by-here, blocks_by-there, kind_of_live, linked_at}
+use Rattle.store_rules.proofs.PropertyOwners.{linked_key, linked_keys_apart, one_block, owner_is_long, owner_long}
+use Rattle.store_rules.proofs.PropertyOwners.{owner_of_block, owner_parts}
 use Rattle.store_rules.proofs.PropertyWalks.{IsLong, blocks_pieces, linked_walk, walk_is}
 use Rattle.store_rules.proofs.ViewLaws.{live_true}
 
@@ -31,7 +34,8 @@ module _ (lists : ℕ → ℕ → List ℕ) (file id : ℕ) (list : List ℕ) wh
 
   -- a list that stays
   list_there : (f x : ℕ) → (f ≡ file → x ≢ id) → with_list lists file id list f x ≡ lists f x
-  list_there f x ne = ⊎_elim (λ (p : f ≡ file). rw (eq_true f file p, eq_false x id (ne p)) refl) (λ (p : f ≢ file). rw (eq_false f file p) refl) (nat_cases f file)
+  list_there f x ne = ⊎_elim (λ (p : f ≡ file). rw (eq_true f file p, eq_false x id (ne p)) refl) (λ (p : f ≢ file). rw (eq_false f file p) refl)
+      (nat_cases f file)
 
 -- pieces stay where the lengths of blocks do
 pieces_stay : (size now : ℕ → ℕ) (n : ℕ) (bs : List ℕ) → ((b : ℕ) → In b bs → now b ≡ size b) → ArePieces size n bs → ArePieces now n bs
@@ -43,7 +47,8 @@ pieces_stay size now n (b ∷ c ∷ bs) same h = (same b (inl refl) ∙ h.0, h.1
 inner : (a b : ℕ) → Some a ≡ Some b → a ≡ b
 inner a b e = cc
 
-module _ (s t : Records) (shape : Shape) (file x : ℕ) (old new : List Property) (h : ChangesProperties s t shape file x old new) {most : ℕ} {empty : List ℕ} (well : KeepsRules s shape most empty) where
+module _ (s t : Records) (shape : Shape) (file x : ℕ) (old new : List Property) (h : ChangesProperties s t shape file x old new) {most : ℕ} {empty : List ℕ}
+    (well : KeepsRules s shape most empty) where
   -- ---- properties
   abbrev held : AreHeld (owner_in s) (next_property (rec_at s format.properties_file)) (is_live s format.properties_file)
   held = well.properties.held
@@ -61,11 +66,13 @@ module _ (s t : Records) (shape : Shape) (file x : ℕ) (old new : List Property
       (λ (e : f ≡ format.nodes_file). rw (eq_true f format.nodes_file e) (ap node_first (fr.node_other s t shape file x old new h y (λ k. ne (e ∙ k)))))
       (λ (a : f ≢ format.nodes_file). rw (eq_false f format.nodes_file a) (⊎_elim
       (λ (e : f ≡ format.relationships_file). rw (eq_true f format.relationships_file e) (ap rel_first (fr.rel_other s t shape file x old new h y (λ k. ne (e ∙ k)))))
-      (λ (b : f ≢ format.relationships_file). rw (eq_false f format.relationships_file b) refl) (nat_cases f format.relationships_file))) (nat_cases f format.nodes_file)
+      (λ (b : f ≢ format.relationships_file). rw (eq_false f format.relationships_file b) refl)
+      (nat_cases f format.relationships_file))) (nat_cases f format.nodes_file)
 
   -- the element's list is the one that it had
   list_was : held.lists file x ≡ ids_of old
-  list_was = walk_is (next_property (rec_at s format.properties_file)) (property_from s file x) (held.lists file x) (ids_of old) (held.walk file x (property_from s file x) owned)
+  list_was = walk_is (next_property (rec_at s format.properties_file)) (property_from s file x) (held.lists file x) (ids_of old)
+      (held.walk file x (property_from s file x) owned)
       (subst (λ z. IsWalk (next_property (rec_at s format.properties_file)) z (ids_of old)) (sym h.was.first_is) (linked_walk (property_records s) old h.was.linked))
 
   -- the lists now
@@ -93,7 +100,8 @@ module _ (s t : Records) (shape : Shape) (file x : ℕ) (old new : List Property
   sides f y first e = pair_cases file x f y (λ p q. inl (p, q)) (λ ne. inr (other_stays f y first ne (sym (owner_other f y ne) ∙ e)))
 
   -- the properties that came are in the list of the element, and other lists stay
-  relisted_properties : AreRelisted (owner_in s) (owner_in t) (next_property (rec_at t format.properties_file)) held.lists lists (ids_of old) (ids_of new) IsMine
+  relisted_properties : AreRelisted (owner_in s) (owner_in t) (next_property (rec_at t format.properties_file)) held.lists lists (ids_of old) (ids_of new)
+      IsMine
   relisted_properties = record {
     sides = sides;
     walk = λ f y first o e.
@@ -109,11 +117,13 @@ module _ (s t : Records) (shape : Shape) (file x : ℕ) (old new : List Property
 
   -- so each property in use is in the list of one element
   abbrev held_now : AreHeld (owner_in t) (next_property (rec_at t format.properties_file)) (is_live t format.properties_file)
-  held_now = relisted s t shape format.properties_file (ids_of old) (ids_of new) h.properties (λ r. field 4 r format.property_next) (owner_in s) (owner_in t) held lists IsMine relisted_properties
+  held_now = relisted s t shape format.properties_file (ids_of old) (ids_of new) h.properties (λ r. field 4 r format.property_next) (owner_in s) (owner_in t)
+      held lists IsMine relisted_properties
 
   -- ---- keys
   -- the record of a property whose list stays is as it was
-  record_stays : (f y first p : ℕ) → Stays (owner_in s) held.lists lists (ids_of old) f y first → In p (held.lists f y) → rec_at t format.properties_file p ≡ rec_at s format.properties_file p
+  record_stays : (f y first p : ℕ) → Stays (owner_in s) held.lists lists (ids_of old) f y first → In p (held.lists f y)
+      → rec_at t format.properties_file p ≡ rec_at s format.properties_file p
   record_stays f y first p k i =
       (stays_kept s t shape format.properties_file (ids_of old) (ids_of new) h.properties (λ r. field 4 r format.property_next) (owner_in s) (owner_in t) held lists IsMine f y first p k i).1
 
@@ -127,7 +137,8 @@ module _ (s t : Records) (shape : Shape) (file x : ℕ) (old new : List Property
         (λ (o : IsMine f y). h.known (field 4 (rec_at t format.properties_file p) format.property_key) (linked_key (property_records t) new h.now.linked p (subst (In p) (here f y o) i)))
         (λ (k : Stays (owner_in s) held.lists lists (ids_of old) f y first).
         let j = subst (In p) k.same i in
-        subst (λ r. field 4 r format.property_key < high s format.names_file) (sym (record_stays f y first p k j)) (well.properties.keys.named f y first p k.owned j)) (sides f y first e);
+        subst (λ r. field 4 r format.property_key < high s format.names_file) (sym (record_stays f y first p k j))
+        (well.properties.keys.named f y first p k.owned j)) (sides f y first e);
     distinct = λ f y first p q e i j same. ⊎_elim
         (λ (o : IsMine f y). linked_keys_apart (property_records t) new h.now.linked h.now.keys_once p q (subst (In p) (here f y o) i) (subst (In q) (here f y o) j) same)
         (λ (k : Stays (owner_in s) held.lists lists (ids_of old) f y first).
@@ -146,14 +157,16 @@ module _ (s t : Records) (shape : Shape) (file x : ℕ) (old new : List Property
   old_live p i = held.only file x (property_from s file x) p owned (subst (In p) (sym list_was) i)
 
   -- an old property with a block owns it, and no other block
-  old_owner : (e : Property) (b : ℕ) → Among e old → In b e.blocks → (block_owner_in s format.properties_file e.id ≡ Some (head_of e.blocks)) × (blocks.lists format.properties_file e.id ≡ e.blocks)
+  old_owner : (e : Property) (b : ℕ) → Among e old → In b e.blocks → (block_owner_in s format.properties_file e.id ≡ Some (head_of e.blocks))
+      × (blocks.lists format.properties_file e.id ≡ e.blocks)
   old_owner e b a i =
       let live = old_live e.id (in_map (λ (z : Property). z.id) e old a) in
       let is = linked_at (property_records s) e old h.was.linked a in
       let owner = owner_of_block s e is.0 is.1 live b i in (
         owner,
         walk_is (next_block (rec_at s format.strings_file)) (head_of e.blocks) (blocks.lists format.properties_file e.id) e.blocks
-            (blocks.walk format.properties_file e.id (head_of e.blocks) owner) (owner_is_long s e is.0 is.1 live format.properties_file (head_of e.blocks) owner).1,
+            (blocks.walk format.properties_file e.id (head_of e.blocks) owner)
+            (owner_is_long s e is.0 is.1 live format.properties_file (head_of e.blocks) owner).1,
       )
 
   -- the lists of blocks now: those of the new properties, and the others
@@ -190,7 +203,8 @@ module _ (s t : Records) (shape : Shape) (file x : ℕ) (old new : List Property
       }
 
   -- the owner of new blocks, where it is a new property
-  entry_long : (f p first : ℕ) (k : IsEntry p (blocks.lists f p)) → block_owner_in t f p ≡ Some first → IsLong (rec_at t format.properties_file k.entry.id) k.entry.value first × IsWalk (next_block (rec_at t format.strings_file)) first k.entry.blocks
+  entry_long : (f p first : ℕ) (k : IsEntry p (blocks.lists f p)) → block_owner_in t f p ≡ Some first
+      → IsLong (rec_at t format.properties_file k.entry.id) k.entry.value first × IsWalk (next_block (rec_at t format.strings_file)) first k.entry.blocks
   entry_long f p first k e = owner_is_long t k.entry k.next k.right k.live f first (ap (block_owner_in t f) (sym k.is) ∙ e)
 
   -- the blocks of a property that isn't new stay
@@ -199,8 +213,10 @@ module _ (s t : Records) (shape : Shape) (file x : ℕ) (old new : List Property
   block_stays f p first e k =
       let parts = owner_parts (kind_at t format.properties_file) (rec_at t format.properties_file) f p first e in
       let kept = h.properties.kept p k.0 k.1 in
-      let kind = kind_of_live s format.properties_file p k.0 ∙ ap (λ r. field 1 r format.kind) (sym kept.1) ∙ sym (kind_of_live t format.properties_file p kept.0) ∙ parts.1 in
-      let owner = owner_long (kind_at s format.properties_file) (rec_at s format.properties_file) f p parts.0 kind ∙ ap (λ r. Some (field 4 r format.property_first_block)) (sym kept.1) ∙ ap (λ z. Some z) parts.2 in (
+      let kind = kind_of_live s format.properties_file p k.0 ∙ ap (λ r. field 1 r format.kind) (sym kept.1)
+      ∙ sym (kind_of_live t format.properties_file p kept.0) ∙ parts.1 in
+      let owner = owner_long (kind_at s format.properties_file) (rec_at s format.properties_file) f p parts.0 kind
+      ∙ ap (λ r. Some (field 4 r format.property_first_block)) (sym kept.1) ∙ ap (λ z. Some z) parts.2 in (
         record {
           owned = owner;
           same = blocks_by-there new p (blocks.lists f p) (λ i. ⊎_elim k.1 (λ dead. true≢false (sym k.0 ∙ dead)) (h.properties.from p i));
@@ -219,10 +235,12 @@ module _ (s t : Records) (shape : Shape) (file x : ℕ) (old new : List Property
   block_sides f p first e =
       let parts = owner_parts (kind_at t format.properties_file) (rec_at t format.properties_file) f p first e in
       let kind = parts.1 in
-      ⊎_elim (λ (i : In p (ids_of new)). inl (parts.0, i)) (λ k. inr (block_stays f p first e k)) (h.properties.only p (live_true (kind_at t format.properties_file p) (λ z. omega arith)))
+      ⊎_elim (λ (i : In p (ids_of new)). inl (parts.0, i)) (λ k. inr (block_stays f p first e k))
+      (h.properties.only p (live_true (kind_at t format.properties_file p) (λ z. omega arith)))
 
   -- the blocks of an old property are given back, and those of another stay
-  block_kept : (f p first b : ℕ) → block_owner_in s f p ≡ Some first → In b (blocks.lists f p) → ¬ In b (blocks_of old) → (block_owner_in t f p ≡ Some first) × (block_lists f p ≡ blocks.lists f p)
+  block_kept : (f p first b : ℕ) → block_owner_in s f p ≡ Some first → In b (blocks.lists f p) → ¬ In b (blocks_of old) → (block_owner_in t f p ≡ Some first)
+      × (block_lists f p ≡ blocks.lists f p)
   block_kept f p first b e i out =
       let parts = owner_parts (kind_at s format.properties_file) (rec_at s format.properties_file) f p first e in
       let kind = parts.1 in
@@ -244,7 +262,8 @@ module _ (s t : Records) (shape : Shape) (file x : ℕ) (old new : List Property
       (in_cases p (ids_of old))
 
   -- the blocks that came are in the lists of the new properties, and other lists stay
-  relisted_blocks : AreRelisted (block_owner_in s) (block_owner_in t) (next_block (rec_at t format.strings_file)) blocks.lists block_lists (blocks_of old) (blocks_of new) IsNew
+  relisted_blocks : AreRelisted (block_owner_in s) (block_owner_in t) (next_block (rec_at t format.strings_file)) blocks.lists block_lists (blocks_of old)
+      (blocks_of new) IsNew
   relisted_blocks = record {
     sides = λ f p first e. ⊎_elim (λ (o : IsNew f p). inl o) (λ k. inr k.0) (block_sides f p first e);
     walk = λ f p first o e. let k = entry_of p (blocks.lists f p) o.1 in rw k.listed (entry_long f p first k e).1;
@@ -269,7 +288,8 @@ module _ (s t : Records) (shape : Shape) (file x : ℕ) (old new : List Property
 
   -- so each block in use is in the list of one property
   abbrev blocks_now : AreHeld (block_owner_in t) (next_block (rec_at t format.strings_file)) (is_live t format.strings_file)
-  blocks_now = relisted s t shape format.strings_file (blocks_of old) (blocks_of new) h.strings (λ r. field 4 r format.block_next) (block_owner_in s) (block_owner_in t) blocks block_lists IsNew relisted_blocks
+  blocks_now = relisted s t shape format.strings_file (blocks_of old) (blocks_of new) h.strings (λ r. field 4 r format.block_next) (block_owner_in s)
+      (block_owner_in t) blocks block_lists IsNew relisted_blocks
 
   -- how many bytes a block has
   abbrev size_in : Records → ℕ → ℕ
@@ -294,4 +314,5 @@ module _ (s t : Records) (shape : Shape) (file x : ℕ) (old new : List Property
   -- the fifth rule is kept
   pub properties_held : HaveProperties (property_files t) (node_at t) (rel_at t) (high t format.names_file)
   unfolding relisted
-  properties_held = subst (HaveProperties (property_files t) (node_at t) (rel_at t)) (sym (fr.name_mark s t shape file x old new h)) (record { held = held_now; keys = keys_now; blocks = blocks_now; texts = texts_now })
+  properties_held = subst (HaveProperties (property_files t) (node_at t) (rel_at t)) (sym (fr.name_mark s t shape file x old new h))
+      (record { held = held_now; keys = keys_now; blocks = blocks_now; texts = texts_now })

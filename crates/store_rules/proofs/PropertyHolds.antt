@@ -2,7 +2,8 @@
 use Rattle.std.proofs.Common.{◌≡◌, ℕ, Bool, true, false, cond, ◌&&◌, Option, Some, None, List, nat_eq, subst, refl}
 use Rattle.std.proofs.lemmas.Bool.{eqb-true}
 use Rattle.rec_bytes.specs.Format as format
-use Rattle.store_rules.specs.Breaking.{AreProperties, HasBlock, HasProperty, IsBlockHeldOnce, IsBlockList, IsHeldOnce, IsLong, IsPropertyList, Owns, TextKeeps, first_block, next_block, next_property}
+use Rattle.store_rules.specs.Breaking.{AreProperties, HasBlock, HasProperty, IsBlockHeldOnce, IsBlockList, IsHeldOnce}
+use Rattle.store_rules.specs.Breaking.{IsLong, IsPropertyList, Owns, TextKeeps, first_block, next_block, next_property}
 use Rattle.store_rules.specs.Chains.{In}
 use Rattle.store_rules.specs.Rules as rules
 use Rattle.store_rules.specs.Views.{Records, kind_at, rec_at}
@@ -20,7 +21,8 @@ module _ (records : Records) where
 
   pub text_of : (file p first : ℕ) → text_owner file p ≡ Some first → (file ≡ format.properties_file) × IsLong records p × (first_block records p ≡ first)
   text_of file p first own =
-      let r = owner_by (nat_eq file format.properties_file) (nat_eq (kind_at records format.properties_file p) format.text_in_blocks) (first_block records p) first own in
+      let r = owner_by (nat_eq file format.properties_file) (nat_eq (kind_at records format.properties_file p) format.text_in_blocks) (first_block records p)
+      first own in
       (eqb-true file format.properties_file r.0, eqb-true (kind_at records format.properties_file p) format.text_in_blocks r.1, r.2)
 
   pub owns_text : (p : ℕ) → IsLong records p → text_owner format.properties_file p ≡ Some (first_block records p)

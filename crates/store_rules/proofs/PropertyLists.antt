@@ -1,5 +1,7 @@
 -- The list of properties of one element: what its records say, and what the rules say of it.
-use Rattle.std.proofs.Common.{◌≡◌, ◌≢◌, ◌⊎◌, ℕ, ◌+◌, ◌/◌, ◌≤◌, ◌<◌, nat_eq, nat_le, nat_lt, Bool, true, false, ◌&&◌, cond, Option, None, Some, List, [], ◌∷◌, length, map, sym, ap, ◌∙◌, subst, inl, inr, ⊎_elim, arith, refl}
+use Rattle.std.proofs.Common.{◌≡◌, ◌≢◌, ◌⊎◌, ℕ, ◌+◌, ◌/◌, ◌≤◌, ◌<◌, nat_eq, nat_le, nat_lt, Bool, true, false, ◌&&◌}
+use Rattle.std.proofs.Common.{cond, Option, None, Some, List, [], ◌∷◌, length, map, sym, ap, ◌∙◌, subst, inl, inr}
+use Rattle.std.proofs.Common.{⊎_elim, arith, refl}
 use Rattle.std.proofs.Math.Facts.{sfits_to_z}
 use Rattle.std.proofs.lemmas.Bool.{eqb-true, le-leb, leb-true, lt-leb, ltb-true, true≢false}
 use Rattle.std.proofs.lemmas.List.{length-map}
@@ -21,7 +23,11 @@ use Rattle.rec_bytes.specs.RecordFiles.{is_meta_file}
 use Rattle.rec_bytes.proofs.Numbers.{field-lt}
 use Rattle.rec_bytes.proofs.Texts.{length-text_in}
 use Rattle.store_rules.specs.Chains.{In, IsWalk}
-use Rattle.store_rules.specs.Properties.{AreBlocks, AreLinked, AreOnce, AreProperties, Content, IsProperty, Property, PropertyRecords, block_ids, blocks_from, blocks_of, content_by, content_for, content_of, first_property, followed, head_of, ids_of, keys_of, long_text, long_text_from, map_of, next_block, next_property, properties_from, property_at, property_ids, property_records, value_from}
+use Rattle.store_rules.specs.Properties.{AreBlocks, AreLinked, AreOnce, AreProperties, Content, IsProperty, Property}
+use Rattle.store_rules.specs.Properties.{PropertyRecords, block_ids, blocks_from, blocks_of, content_by, content_for}
+use Rattle.store_rules.specs.Properties.{content_of, first_property, followed, head_of, ids_of, keys_of, long_text}
+use Rattle.store_rules.specs.Properties.{long_text_from, map_of, next_block, next_property, properties_from}
+use Rattle.store_rules.specs.Properties.{property_at, property_ids, property_records, value_from}
 use Rattle.store_rules.specs.Properties.Content.{Inline, Long, Number, Truth}
 use Rattle.store_rules.specs.Ranges.{Layout, layout_by, property_layout, used_layout}
 use Rattle.store_rules.specs.Rules.{KeepsRules, block_owner, node_first, property_owner, rel_first}
@@ -42,10 +48,12 @@ unfolding properties_from followed
 properties_from-nil name_file files = refl
 
 -- the properties of an element whose list is known
-pub properties_from-walk : (name_file : ℕ → Rec) (files : PropertyRecords) (first : ℕ) (ps : List ℕ) → IsWalk (next_property files.properties) first ps → length ps ≤ 32
+pub properties_from-walk : (name_file : ℕ → Rec) (files : PropertyRecords) (first : ℕ) (ps : List ℕ) → IsWalk (next_property files.properties) first ps
+    → length ps ≤ 32
     → properties_from name_file files first ≡ map_of name_file (map (property_at files) ps)
 unfolding properties_from
-properties_from-walk name_file files first ps walk few = ap (λ xs. map_of name_file (map (property_at files) xs)) (followed-walk 32 (next_property files.properties) first ps walk few)
+properties_from-walk name_file files first ps walk few = ap (λ xs. map_of name_file (map (property_at files) xs))
+    (followed-walk 32 (next_property files.properties) first ps walk few)
 
 -- they are the same by other names, where the texts of their keys are
 pub map_of-names : (name_file now : ℕ → Rec) (files : PropertyRecords) (ps : List ℕ)
@@ -63,11 +71,13 @@ module _ (files : PropertyRecords) where
   IsRead (Number number) = FitsSigned w64 number
   IsRead (Truth truth) = Unit {0}
   IsRead (Inline text) = length text ≤ 40
-  IsRead (Long size first) = (40 < size) × (size ≤ 1024) × AreBlocks files.strings (long_text_from files.strings size first) (block_ids files.strings size first)
+  IsRead (Long size first) = (40 < size) × (size ≤ 1024) × AreBlocks files.strings (long_text_from files.strings size first)
+      (block_ids files.strings size first)
       × (length (long_text_from files.strings size first) ≡ size) × (head_of (block_ids files.strings size first) ≡ first)
 
   -- what the value and the blocks are that are read from a content
-  content_read : (c : Content) → IsRead c → (content_for (value_from files.strings (Some c)) (head_of (blocks_from files.strings (Some c))) ≡ c) × IsKept (value_from files.strings (Some c))
+  content_read : (c : Content) → IsRead c → (content_for (value_from files.strings (Some c)) (head_of (blocks_from files.strings (Some c))) ≡ c)
+      × IsKept (value_from files.strings (Some c))
       × AreBlocks files.strings (long_text (value_from files.strings (Some c))) (blocks_from files.strings (Some c))
   content_read (Number number) h = (refl, h, refl)
   content_read (Truth truth) h = (refl, tt, refl)
@@ -81,7 +91,8 @@ module _ (files : PropertyRecords) where
       (rw long (λ i. Long (is i) (h.4 i)), omega arith, rw long h.2)
 
   -- a property's record and its blocks have the property that is read from them
-  pub property_right : (p next : ℕ) (c : Content) → p < format.most_ids → content_of (files.properties p) ≡ Some c → IsRead c → next_property files.properties p ≡ next
+  pub property_right : (p next : ℕ) (c : Content) → p < format.most_ids → content_of (files.properties p) ≡ Some c → IsRead c
+      → next_property files.properties p ≡ next
       → IsProperty files (property_at files p) next
   property_right p next c low is read next_is =
       let all = of (content_of (files.properties p)) is in
@@ -94,7 +105,8 @@ module _ (files : PropertyRecords) where
         blocks = all.2;
       }
     where
-      of : (o : Option Content) → o ≡ Some c → (o ≡ Some (content_for (value_from files.strings o) (head_of (blocks_from files.strings o)))) × IsKept (value_from files.strings o)
+      of : (o : Option Content) → o ≡ Some c → (o ≡ Some (content_for (value_from files.strings o) (head_of (blocks_from files.strings o))))
+          × IsKept (value_from files.strings o)
           × AreBlocks files.strings (long_text (value_from files.strings o)) (blocks_from files.strings o)
       of o e = subst (λ z. (z ≡ Some (content_for (value_from files.strings z) (head_of (blocks_from files.strings z)))) × IsKept (value_from files.strings z)
           × AreBlocks files.strings (long_text (value_from files.strings z)) (blocks_from files.strings z)) (sym e)
@@ -102,13 +114,15 @@ module _ (files : PropertyRecords) where
 
   -- a value and its blocks are read back from the content that they make
   value_back : (value : Value) (blocks : List ℕ) → AreBlocks files.strings (long_text value) blocks
-      → (value_from files.strings (Some (content_for value (head_of blocks))) ≡ value) × (blocks_from files.strings (Some (content_for value (head_of blocks))) ≡ blocks)
+      → (value_from files.strings (Some (content_for value (head_of blocks))) ≡ value)
+      × (blocks_from files.strings (Some (content_for value (head_of blocks))) ≡ blocks)
   value_back (values.Int number) blocks are = (refl, sym (no_blocks files.strings blocks are))
   value_back (values.Bool truth) blocks are = (refl, sym (no_blocks files.strings blocks are))
   value_back (values.Text text) blocks are = by (nat_le (length text) 40) are
     where
       by : (short : Bool) → AreBlocks files.strings (cond short [] text) blocks
-          → (value_from files.strings (Some (cond short (Inline text) (Long (length text) (head_of blocks)))) ≡ values.Text text) × (blocks_from files.strings (Some (cond short (Inline text) (Long (length text) (head_of blocks)))) ≡ blocks)
+          → (value_from files.strings (Some (cond short (Inline text) (Long (length text) (head_of blocks)))) ≡ values.Text text)
+          × (blocks_from files.strings (Some (cond short (Inline text) (Long (length text) (head_of blocks)))) ≡ blocks)
       by true h = (refl, sym (no_blocks files.strings blocks h))
       by false h = (ap (λ z. values.Text z) (long_text_from-blocks files.strings text blocks h), block_ids-blocks files.strings text blocks h)
 
@@ -137,7 +151,8 @@ module _ (files : PropertyRecords) where
   property_ids-is first es h =
       let many = length-map es (λ (e : Property). e.id) in
       let few = h.few in
-      followed-walk 32 (next_property files.properties) first (ids_of es) (subst (λ z. IsWalk (next_property files.properties) z (ids_of es)) (sym h.first_is) (linked_walk es h.linked)) (omega arith)
+      followed-walk 32 (next_property files.properties) first (ids_of es)
+      (subst (λ z. IsWalk (next_property files.properties) z (ids_of es)) (sym h.first_is) (linked_walk es h.linked)) (omega arith)
 
   -- the list of an element's properties is what its records say
   pub properties_read : (first : ℕ) (es : List Property) → AreProperties files first es → map (property_at files) (property_ids files.properties first) ≡ es
@@ -148,7 +163,8 @@ module _ (files : PropertyRecords) where
   properties_unique first es fs h k = sym (properties_read first es h) ∙ properties_read first fs k
 
   -- and it is what the graph has
-  pub properties_from-is : (name_file : ℕ → Rec) (first : ℕ) (es : List Property) → AreProperties files first es → properties_from name_file files first ≡ map_of name_file es
+  pub properties_from-is : (name_file : ℕ → Rec) (first : ℕ) (es : List Property) → AreProperties files first es
+      → properties_from name_file files first ≡ map_of name_file es
   unfolding properties_from
   properties_from-is name_file first es h = ap (map_of name_file) (properties_read first es h)
 
@@ -165,13 +181,16 @@ first_of_four a b c d x y z w none = cond a x (cond b y (cond c z (cond d w none
 
 -- the content of a record that has a property's layout
 content_there : (files : PropertyRecords) (r : Rec) (kind size : ℕ) (layout : Layout) → property_layout r kind size ≡ Some layout
-    → (kind ≡ format.text_in_blocks → 40 < size → size ≤ 1024 → IsRead files (Long size (field 4 r format.property_first_block))) → (c : Content) × (content_by r kind size ≡ Some c) × IsOf files r kind size c
+    → (kind ≡ format.text_in_blocks → 40 < size → size ≤ 1024 → IsRead files (Long size (field 4 r format.property_first_block))) → (c : Content)
+    × (content_by r kind size ≡ Some c) × IsOf files r kind size c
 content_there files r kind size layout laid long =
-    by _ _ _ _ _ _ _ _ (nat_eq kind format.int) (nat_eq kind format.bool && nat_le (field 1 r format.property_truth) 1) (nat_eq kind format.text_inline && nat_le size 40) (nat_eq kind format.text_in_blocks && (nat_lt 40 size && nat_le size 1024))
+    by _ _ _ _ _ _ _ _ (nat_eq kind format.int) (nat_eq kind format.bool && nat_le (field 1 r format.property_truth) 1)
+    (nat_eq kind format.text_inline && nat_le size 40) (nat_eq kind format.text_in_blocks && (nat_lt 40 size && nat_le size 1024))
     laid number truth inline blocks
   where
     by : (w x y z : Option Layout) (f g h i : Content) (a b c d : Bool) → first_of_four a b c d w x y z None ≡ Some layout
-        → (a ≡ true → IsOf files r kind size f) → (b ≡ true → IsOf files r kind size g) → (c ≡ true → IsOf files r kind size h) → (d ≡ true → IsOf files r kind size i)
+        → (a ≡ true → IsOf files r kind size f) → (b ≡ true → IsOf files r kind size g) → (c ≡ true → IsOf files r kind size h)
+        → (d ≡ true → IsOf files r kind size i)
         → (e : Content) × (first_of_four a b c d (Some f) (Some g) (Some h) (Some i) None ≡ Some e) × IsOf files r kind size e
     by w x y z f g h i true b c d e p q u v = (_, refl, p refl)
     by w x y z f g h i false true c d e p q u v = (_, refl, q refl)
@@ -182,8 +201,10 @@ content_there files r kind size layout laid long =
     number : nat_eq kind format.int ≡ true → IsOf files r kind size (Number (cast_signed w64 (field 8 r format.property_number)))
     number t = let k = eqb-true kind format.int t in (sfits_to_z (record { fits = field-lt 8 r format.property_number }), inl ((λ e. omega arith), refl))
 
-    truth : (nat_eq kind format.bool && nat_le (field 1 r format.property_truth) 1) ≡ true → IsOf files r kind size (Truth (nat_eq (field 1 r format.property_truth) 1))
-    truth t = let k = eqb-true kind format.bool (and_parts (nat_eq kind format.bool) (nat_le (field 1 r format.property_truth) 1) t).0 in (tt, inl ((λ e. omega arith), refl))
+    truth : (nat_eq kind format.bool && nat_le (field 1 r format.property_truth) 1) ≡ true
+        → IsOf files r kind size (Truth (nat_eq (field 1 r format.property_truth) 1))
+    truth t = let k = eqb-true kind format.bool (and_parts (nat_eq kind format.bool) (nat_le (field 1 r format.property_truth) 1) t).0 in
+        (tt, inl ((λ e. omega arith), refl))
 
     inline : (nat_eq kind format.text_inline && nat_le size 40) ≡ true → IsOf files r kind size (Inline (text_in r format.property_text size))
     inline t =
@@ -193,7 +214,8 @@ content_there files r kind size layout laid long =
         let n = length-text_in r format.property_text size (omega arith) in
         (omega arith, inl ((λ e. omega arith), refl))
 
-    blocks : (nat_eq kind format.text_in_blocks && (nat_lt 40 size && nat_le size 1024)) ≡ true → IsOf files r kind size (Long size (field 4 r format.property_first_block))
+    blocks : (nat_eq kind format.text_in_blocks && (nat_lt 40 size && nat_le size 1024)) ≡ true
+        → IsOf files r kind size (Long size (field 4 r format.property_first_block))
     blocks t =
         let parts = and_parts (nat_eq kind format.text_in_blocks) (nat_lt 40 size && nat_le size 1024) t in
         let k = eqb-true kind format.text_in_blocks parts.0 in
@@ -215,17 +237,21 @@ abbrev pub block_owner_in : Records → ℕ → ℕ → Option ℕ
 block_owner_in s = block_owner (kind_at s format.properties_file) (rec_at s format.properties_file)
 
 -- an element in use owns the list that its record leads to
-pub owner_in-used : (s : Records) (file x : ℕ) → (file ≡ format.nodes_file) ⊎ (file ≡ format.relationships_file) → kind_at s file x ≢ format.free_kind → owner_in s file x ≡ Some (property_from s file x)
+pub owner_in-used : (s : Records) (file x : ℕ) → (file ≡ format.nodes_file) ⊎ (file ≡ format.relationships_file) → kind_at s file x ≢ format.free_kind
+    → owner_in s file x ≡ Some (property_from s file x)
 owner_in-used s file x (inl e) used = subst (λ f. kind_at s f x ≢ format.free_kind → owner_in s f x ≡ Some (property_from s f x)) (sym e)
     (λ some. ap node_first (row_some (kind_at s format.nodes_file x) (node_in (rec_at s format.nodes_file x) x) some)) used
 owner_in-used s file x (inr e) used = subst (λ f. kind_at s f x ≢ format.free_kind → owner_in s f x ≡ Some (property_from s f x)) (sym e)
     (λ some. ap rel_first (row_some (kind_at s format.relationships_file x) (rel_in (rec_at s format.relationships_file x) x) some)) used
 
 -- an owner of blocks is a property with a text in blocks
-block_owner_is : (kind : ℕ → ℕ) (property_file : ℕ → Rec) (file x first : ℕ) → block_owner kind property_file file x ≡ Some first → (file ≡ format.properties_file) × (kind x ≡ format.text_in_blocks)
-block_owner_is kind property_file file x first owned = by (nat_eq file format.properties_file) (nat_eq (kind x) format.text_in_blocks) (eqb-true file format.properties_file) (eqb-true (kind x) format.text_in_blocks) owned
+block_owner_is : (kind : ℕ → ℕ) (property_file : ℕ → Rec) (file x first : ℕ) → block_owner kind property_file file x ≡ Some first
+    → (file ≡ format.properties_file) × (kind x ≡ format.text_in_blocks)
+block_owner_is kind property_file file x first owned = by (nat_eq file format.properties_file) (nat_eq (kind x) format.text_in_blocks)
+    (eqb-true file format.properties_file) (eqb-true (kind x) format.text_in_blocks) owned
   where
-    by : (a b : Bool) → (a ≡ true → file ≡ format.properties_file) → (b ≡ true → kind x ≡ format.text_in_blocks) → cond (a && b) (Some (field 4 (property_file x) format.property_first_block)) None ≡ Some first
+    by : (a b : Bool) → (a ≡ true → file ≡ format.properties_file) → (b ≡ true → kind x ≡ format.text_in_blocks)
+        → cond (a && b) (Some (field 4 (property_file x) format.property_first_block)) None ≡ Some first
         → (file ≡ format.properties_file) × (kind x ≡ format.text_in_blocks)
     by true true f g e = (f refl, g refl)
     by true false f g e = absurd cc
@@ -261,7 +287,8 @@ module _ (s : Records) (shape : Shape) {most : ℕ} {empty : List ℕ} (keeps : 
 
   -- a block in use is one
   block_known : (b : ℕ) → is_live s format.strings_file b ≡ true → IsKnown files.strings b
-  block_known b live = let u = is_used format.strings_file b refl live in (u.low, eqb-true (field 1 (files.strings b) format.kind) format.block (tested (nat_eq (field 1 (files.strings b) format.kind) format.block) _ u.layout u.laid))
+  block_known b live = let u = is_used format.strings_file b refl live in
+      (u.low, eqb-true (field 1 (files.strings b) format.kind) format.block (tested (nat_eq (field 1 (files.strings b) format.kind) format.block) _ u.layout u.laid))
     where
       tested : (t : Bool) (o : Option Layout) (layout : Layout) → cond t o None ≡ Some layout → t ≡ true
       tested true o layout h = refl
@@ -286,9 +313,11 @@ module _ (s : Records) (shape : Shape) {most : ℕ} {empty : List ℕ} (keeps : 
       let rule = keeps.properties in
       let are = rule.texts.pieces format.properties_file p first owned in
       let walk = rule.blocks.walk format.properties_file p first owned in
-      let right = blocks_right files.strings (text_size p) first bs are walk (λ b i. block_known b (rule.blocks.only format.properties_file p first b owned i)) in
+      let right = blocks_right files.strings (text_size p) first bs are walk
+      (λ b i. block_known b (rule.blocks.only format.properties_file p first b owned i)) in
       let many = length-pieces files.strings (text_size p) bs are in
-      let ids : block_ids files.strings (text_size p) first ≡ bs = followed-walk ((text_size p + 47) / 48) (next_block files.strings) first bs walk (omega arith) in
+      let ids : block_ids files.strings (text_size p) first ≡ bs = followed-walk ((text_size p + 47) / 48) (next_block files.strings) first bs walk
+      (omega arith) in
       ((more, most, subst (λ xs. AreBlocks files.strings (pieces files.strings xs) xs) (sym ids) right.0, ap (λ xs. length (pieces files.strings xs)) ids ∙ right.1, ap head_of ids ∙ walk_head (next_block files.strings) first bs walk), ids)
     where
       walk_head : (next : ℕ → ℕ) (from : ℕ) (xs : List ℕ) → IsWalk next from xs → head_of xs ≡ from
@@ -308,7 +337,8 @@ module _ (s : Records) (shape : Shape) {most : ℕ} {empty : List ℕ} (keeps : 
       (λ k more most. (long_read p (first_of p) (owns_blocks p (u.kind ∙ k)) more most).0)
 
   -- a property in use is right by itself
-  property_here : (p next : ℕ) → is_live s format.properties_file p ≡ true → next_property files.properties p ≡ next → IsProperty files (property_at files p) next
+  property_here : (p next : ℕ) → is_live s format.properties_file p ≡ true → next_property files.properties p ≡ next
+      → IsProperty files (property_at files p) next
   property_here p next live next_is =
       let u = is_used format.properties_file p refl live in
       let c = property_content p live in
@@ -339,7 +369,8 @@ module _ (s : Records) (shape : Shape) {most : ℕ} {empty : List ℕ} (keeps : 
   listed file x = map (property_at files) (keeps.properties.held.lists file x)
 
   -- a block of a property in use is in the list that the property owns
-  block_held : (p b : ℕ) → is_live s format.properties_file p ≡ true → In b (property_at files p).blocks → (block_owner_in s format.properties_file p ≡ Some (first_of p)) × In b (held_blocks p)
+  block_held : (p b : ℕ) → is_live s format.properties_file p ≡ true → In b (property_at files p).blocks
+      → (block_owner_in s format.properties_file p ≡ Some (first_of p)) × In b (held_blocks p)
   block_held p b live i = ⊎_elim (λ (k : LacksBlocks p). absurd (subst (In b) k.1 i)) (λ (k : OwnsBlocks p). (k.0, subst (In b) k.1 i)) (property_blocks p live)
 
   -- a block in use is one of a property in use
@@ -359,7 +390,8 @@ module _ (s : Records) (shape : Shape) {most : ℕ} {empty : List ℕ} (keeps : 
       (property_blocks p live)
 
   -- nor in those of two
-  block_of_one : (p q b : ℕ) → is_live s format.properties_file p ≡ true → is_live s format.properties_file q ≡ true → In b (property_at files p).blocks → In b (property_at files q).blocks → p ≡ q
+  block_of_one : (p q b : ℕ) → is_live s format.properties_file p ≡ true → is_live s format.properties_file q ≡ true → In b (property_at files p).blocks
+      → In b (property_at files q).blocks → p ≡ q
   block_of_one p q b live other i j =
       let k = block_held p b live i in
       let l = block_held q b other j in
@@ -390,7 +422,8 @@ module _ (s : Records) (shape : Shape) {most : ℕ} {empty : List ℕ} (keeps : 
       first_listed from [] walk = walk
       first_listed from (p ∷ ps) walk = walk.0
 
-      linked : (from : ℕ) (ps : List ℕ) → IsWalk (next_property files.properties) from ps → ((p : ℕ) → In p ps → is_live s format.properties_file p ≡ true) → AreLinked files (map (property_at files) ps)
+      linked : (from : ℕ) (ps : List ℕ) → IsWalk (next_property files.properties) from ps → ((p : ℕ) → In p ps → is_live s format.properties_file p ≡ true)
+          → AreLinked files (map (property_at files) ps)
       linked from [] walk live = tt
       linked from (p ∷ ps) walk live =
           (property_here p (first_property (map (property_at files) ps)) (live p (inl refl)) (first_listed (next_property files.properties p) ps walk.2), linked (next_property files.properties p) ps walk.2 (λ q i. live q (inr i)))
@@ -400,7 +433,8 @@ module _ (s : Records) (shape : Shape) {most : ℕ} {empty : List ℕ} (keeps : 
   listed_is file x first es owned are = properties_unique files first es (listed file x) are (properties_right file x first owned)
 
   -- their identifiers are those of the rule's list
-  ids_listed : (file x first : ℕ) (es : List Property) → owner_in s file x ≡ Some first → AreProperties files first es → ids_of es ≡ keeps.properties.held.lists file x
+  ids_listed : (file x first : ℕ) (es : List Property) → owner_in s file x ≡ Some first → AreProperties files first es
+      → ids_of es ≡ keeps.properties.held.lists file x
   ids_listed file x first es owned are = ap ids_of (listed_is file x first es owned are) ∙ ids_of-read files (keeps.properties.held.lists file x)
 
   -- a block of the list is one of a property of the list
@@ -415,34 +449,42 @@ module _ (s : Records) (shape : Shape) {most : ℕ} {empty : List ℕ} (keeps : 
       (in_flat_map (λ q. (property_at files q).blocks) b p (keeps.properties.held.lists file x) i j)
 
   -- keys are names
-  pub key_known : (file x first : ℕ) (es : List Property) → owner_in s file x ≡ Some first → AreProperties files first es → (k : ℕ) → In k (keys_of es) → k < high s format.names_file
+  pub key_known : (file x first : ℕ) (es : List Property) → owner_in s file x ≡ Some first → AreProperties files first es → (k : ℕ) → In k (keys_of es)
+      → k < high s format.names_file
   key_known file x first es owned are k i =
       let ps = keeps.properties.held.lists file x in
-      let r = map_in (λ p. field 4 (files.properties p) format.property_key) k ps (subst (In k) (ap keys_of (listed_is file x first es owned are) ∙ map-map (λ (e : Property). e.key) (property_at files) ps) i) in
+      let r = map_in (λ p. field 4 (files.properties p) format.property_key) k ps
+      (subst (In k) (ap keys_of (listed_is file x first es owned are) ∙ map-map (λ (e : Property). e.key) (property_at files) ps) i) in
       subst (λ z. z < high s format.names_file) (sym r.2) (keeps.properties.keys.named file x first r.0 owned r.1)
 
   -- a property of an element is in use
-  pub property_live : (file x first : ℕ) (es : List Property) → owner_in s file x ≡ Some first → AreProperties files first es → (p : ℕ) → In p (ids_of es) → is_live s format.properties_file p ≡ true
+  pub property_live : (file x first : ℕ) (es : List Property) → owner_in s file x ≡ Some first → AreProperties files first es → (p : ℕ) → In p (ids_of es)
+      → is_live s format.properties_file p ≡ true
   property_live file x first es owned are p i = keeps.properties.held.only file x first p owned (subst (In p) (ids_listed file x first es owned are) i)
 
   -- and so are its blocks
-  pub block_live : (file x first : ℕ) (es : List Property) → owner_in s file x ≡ Some first → AreProperties files first es → (b : ℕ) → In b (blocks_of es) → is_live s format.strings_file b ≡ true
+  pub block_live : (file x first : ℕ) (es : List Property) → owner_in s file x ≡ Some first → AreProperties files first es → (b : ℕ) → In b (blocks_of es)
+      → is_live s format.strings_file b ≡ true
   block_live file x first es owned are b i =
       let r = block_listed file x first b es owned are i in
       let k = block_held r.0 b (keeps.properties.held.only file x first r.0 owned r.1) r.2 in
       keeps.properties.blocks.only format.properties_file r.0 _ b k.0 k.1
 
   -- no property is in the lists of two elements
-  pub property_owned_once : (file x first other y second : ℕ) (es fs : List Property) → owner_in s file x ≡ Some first → owner_in s other y ≡ Some second → AreProperties files first es → AreProperties files second fs
+  pub property_owned_once : (file x first other y second : ℕ) (es fs : List Property) → owner_in s file x ≡ Some first → owner_in s other y ≡ Some second
+      → AreProperties files first es → AreProperties files second fs
       → (p : ℕ) → In p (ids_of es) → In p (ids_of fs) → (file ≡ other) × (x ≡ y)
   property_owned_once file x first other y second es fs owned too are also p i j =
-      keeps.properties.held.once file x first other y second p owned too (subst (In p) (ids_listed file x first es owned are) i) (subst (In p) (ids_listed other y second fs too also) j)
+      keeps.properties.held.once file x first other y second p owned too (subst (In p) (ids_listed file x first es owned are) i)
+      (subst (In p) (ids_listed other y second fs too also) j)
 
   -- nor are the blocks in those of two
-  pub block_owned_once : (file x first other y second : ℕ) (es fs : List Property) → owner_in s file x ≡ Some first → owner_in s other y ≡ Some second → AreProperties files first es → AreProperties files second fs
+  pub block_owned_once : (file x first other y second : ℕ) (es fs : List Property) → owner_in s file x ≡ Some first → owner_in s other y ≡ Some second
+      → AreProperties files first es → AreProperties files second fs
       → (b : ℕ) → In b (blocks_of es) → In b (blocks_of fs) → (file ≡ other) × (x ≡ y)
   block_owned_once file x first other y second es fs owned too are also b i j =
       let r = block_listed file x first b es owned are i in
       let q = block_listed other y second b fs too also j in
-      let same = block_of_one r.0 q.0 b (keeps.properties.held.only file x first r.0 owned r.1) (keeps.properties.held.only other y second q.0 too q.1) r.2 q.2 in
+      let same = block_of_one r.0 q.0 b (keeps.properties.held.only file x first r.0 owned r.1) (keeps.properties.held.only other y second q.0 too q.1) r.2
+      q.2 in
       keeps.properties.held.once file x first other y second r.0 owned too r.1 (subst (λ z. In z (keeps.properties.held.lists other y)) (sym same) q.1)

@@ -107,18 +107,21 @@ module _ (name_file : ℕ → Rec) where
   pub get-map_of_none : (es : List Property) (text : List ℕ) → LackKey es text → get (map_of name_file es) text ≡ None
   get-map_of_none es text lack = get_in es text ∙ find_none text es lack
 
-  pub get-map_of_some : (front : List Property) (e : Property) (back : List Property) → LackKey front (key_text e) → get (map_of name_file (front ++ e ∷ back)) (key_text e) ≡ Some e.value
+  pub get-map_of_some : (front : List Property) (e : Property) (back : List Property) → LackKey front (key_text e)
+      → get (map_of name_file (front ++ e ∷ back)) (key_text e) ≡ Some e.value
   get-map_of_some front e back lack = get_in (front ++ e ∷ back) (key_text e) ∙ find_replaced (key_text e) front e e back lack refl
       ∙ ap (λ b. cond b (Some e.value) (find_in (key_text e) (front ++ e ∷ back))) ((eq_by_cmp_equiv nat_list_cmp_total).refl (key_text e))
 
   -- where none has the key, nothing is taken out
   pub map_of-lacking : (es : List Property) (text : List ℕ) → LackKey es text → remove (map_of name_file es) text ≡ map_of name_file es
-  map_of-lacking es text lack = same_maps (remove (map_of name_file es) text) (map_of name_file es) (λ q. get-remove nat_list_cmp_total (map_of name_file es) text q ∙ by q (eq_by_cmp order q text) refl)
+  map_of-lacking es text lack = same_maps (remove (map_of name_file es) text) (map_of name_file es)
+      (λ q. get-remove nat_list_cmp_total (map_of name_file es) text q ∙ by q (eq_by_cmp order q text) refl)
     where
       by : (q : List ℕ) (b : Bool) → eq_by_cmp order q text ≡ b → cond b None (get (map_of name_file es) q) ≡ get (map_of name_file es) q
       by q true e = sym (ap (get (map_of name_file es)) (same_key q text e) ∙ get-map_of_none es text lack)
       by q false e = refl
 
   -- keys that are names have texts apart
-  pub lack_key : (names : ℕ) → AreNames name_file names → (es : List Property) (k : ℕ) → k < names → ((j : ℕ) → In j (keys_of es) → j < names) → ¬ In k (keys_of es) → LackKey es (text_of (name_file k))
+  pub lack_key : (names : ℕ) → AreNames name_file names → (es : List Property) (k : ℕ) → k < names → ((j : ℕ) → In j (keys_of es) → j < names)
+      → ¬ In k (keys_of es) → LackKey es (text_of (name_file k))
   lack_key names are es k low each out j i e = out (subst (λ z. In z (keys_of es)) (are.distinct j k (each j i) low e) i)

@@ -4,7 +4,8 @@ use Rattle.rec_bytes.specs.declared.record.Rec.{Rec}
 use Rattle.rec_bytes.specs.Format as format
 use Rattle.rec_bytes.specs.Record.{field, text_in}
 use Rattle.store_rules.specs.Chains.{In}
-use Rattle.store_rules.specs.Properties.{AreBlocks, AreLinked, AreProperties, IsProperty, Property, PropertyRecords, blocks_of, content_of, first_property, ids_of, long_text}
+use Rattle.store_rules.specs.Properties.{AreBlocks, AreLinked, AreProperties, IsProperty, Property, PropertyRecords}
+use Rattle.store_rules.specs.Properties.{blocks_of, content_of, first_property, ids_of, long_text}
 use Rattle.store_rules.proofs.OnceLaws.{in_left, in_right}
 
 -- a text stays where its blocks do
@@ -24,7 +25,8 @@ blocks_stay was now text (b ∷ bs) same h =
     )
 
 -- a property stays where its record and blocks do
-pub property_stays : (was now : PropertyRecords) (e : Property) (next : ℕ) → now.properties e.id ≡ was.properties e.id → ((b : ℕ) → In b e.blocks → now.strings b ≡ was.strings b) → IsProperty was e next → IsProperty now e next
+pub property_stays : (was now : PropertyRecords) (e : Property) (next : ℕ) → now.properties e.id ≡ was.properties e.id
+    → ((b : ℕ) → In b e.blocks → now.strings b ≡ was.strings b) → IsProperty was e next → IsProperty now e next
 property_stays was now e next r blocks h = record {
   low = h.low;
   content = ap content_of r ∙ h.content;
@@ -35,14 +37,16 @@ property_stays was now e next r blocks h = record {
 }
 
 -- linked properties stay where their records and blocks do
-pub linked_stay : (was now : PropertyRecords) (es : List Property) → ((p : ℕ) → In p (ids_of es) → now.properties p ≡ was.properties p) → ((b : ℕ) → In b (blocks_of es) → now.strings b ≡ was.strings b)
+pub linked_stay : (was now : PropertyRecords) (es : List Property) → ((p : ℕ) → In p (ids_of es) → now.properties p ≡ was.properties p)
+    → ((b : ℕ) → In b (blocks_of es) → now.strings b ≡ was.strings b)
     → AreLinked was es → AreLinked now es
 linked_stay was now [] same blocks h = tt
 linked_stay was now (e ∷ es) same blocks h =
     (property_stays was now e (first_property es) (same e.id (inl refl)) (λ b i. blocks b (in_left b e.blocks (blocks_of es) i)) h.0, linked_stay was now es (λ p i. same p (inr i)) (λ b i. blocks b (in_right b e.blocks (blocks_of es) i)) h.1)
 
 -- so do the properties of an element
-pub properties_stay : (was now : PropertyRecords) (first : ℕ) (es : List Property) → ((p : ℕ) → In p (ids_of es) → now.properties p ≡ was.properties p) → ((b : ℕ) → In b (blocks_of es) → now.strings b ≡ was.strings b)
+pub properties_stay : (was now : PropertyRecords) (first : ℕ) (es : List Property) → ((p : ℕ) → In p (ids_of es) → now.properties p ≡ was.properties p)
+    → ((b : ℕ) → In b (blocks_of es) → now.strings b ≡ was.strings b)
     → AreProperties was first es → AreProperties now first es
 properties_stay was now first es same blocks h = record {
   first_is = h.first_is;

@@ -1,5 +1,6 @@
 -- The walks that a list of properties has through its records: one through the properties, and one through the blocks of each long text.
-use Rattle.std.proofs.Common.{◌≡◌, ◌≢◌, ℤ, ℕ, eqb-true, nat_eq, nat_le, nat_lt, Bool, true, false, cond, ◌&&◌, None, Some, List, [], ◌∷◌, length, drop, sym, ap, ◌∙◌, subst, arith, refl, length-drop}
+use Rattle.std.proofs.Common.{◌≡◌, ◌≢◌, ℤ, ℕ, eqb-true, nat_eq, nat_le, nat_lt, Bool, true, false, cond, ◌&&◌, None}
+use Rattle.std.proofs.Common.{Some, List, [], ◌∷◌, length, drop, sym, ap, ◌∙◌, subst, arith, refl, length-drop}
 use Rattle.std.specs.Int.{cast_signed}
 use mir.Syntax.{w64}
 use Rattle.plain_graph.specs.declared.value.Value.{Value}
@@ -8,7 +9,9 @@ use Rattle.rec_bytes.specs.declared.record.Rec.{Rec}
 use Rattle.rec_bytes.specs.Format as format
 use Rattle.rec_bytes.specs.Record.{field, text_in}
 use Rattle.store_rules.specs.Chains.{IsWalk}
-use Rattle.store_rules.specs.Properties.{AreBlocks, AreLinked, Inline, Long, Number, Property, PropertyRecords, Truth, content_by, content_for, content_of, first_property, ids_of, long_text, next_property}
+use Rattle.store_rules.specs.Properties.{AreBlocks, AreLinked, Inline, Long, Number, Property, PropertyRecords, Truth}
+use Rattle.store_rules.specs.Properties.{content_by, content_for, content_of, first_property, ids_of, long_text}
+use Rattle.store_rules.specs.Properties.{next_property}
 use Rattle.store_rules.specs.Rules.{ArePieces}
 
 -- the members from one on are determined
@@ -26,7 +29,8 @@ linked_walk files [] h = refl
 linked_walk files (e ∷ es) h = (refl, (λ z. let low = h.0.low in omega arith), subst (λ z. IsWalk (next_property files.properties) z (ids_of es)) (sym h.0.next_is) (linked_walk files es h.1))
 
 -- the blocks of a text are pieces of its length
-pub blocks_pieces : (string_file : ℕ → Rec) (text : List ℕ) (bs : List ℕ) → AreBlocks string_file text bs → ArePieces (λ b. field 1 (string_file b) format.block_length) (length text) bs
+pub blocks_pieces : (string_file : ℕ → Rec) (text : List ℕ) (bs : List ℕ) → AreBlocks string_file text bs
+    → ArePieces (λ b. field 1 (string_file b) format.block_length) (length text) bs
 blocks_pieces string_file text [] h = ap length h
 blocks_pieces string_file text (b ∷ []) h =
     let none = ap length h.1 in
@@ -51,22 +55,28 @@ pub record IsLong (r : Rec) (value : Value) (first : ℕ) : Type 0 where
   pub first_is : field 4 r format.property_first_block ≡ first
 
 -- a property of that kind has a long text
-pub long_of_kind : (r : Rec) (value : Value) (first : ℕ) → content_of r ≡ Some (content_for value first) → field 1 r format.kind ≡ format.text_in_blocks → IsLong r value first
+pub long_of_kind : (r : Rec) (value : Value) (first : ℕ) → content_of r ≡ Some (content_for value first) → field 1 r format.kind ≡ format.text_in_blocks
+    → IsLong r value first
 long_of_kind r value first is kind =
-    by (nat_lt 40 (field 2 r format.property_length) && nat_le (field 2 r format.property_length) 1024) value (ap (λ k. content_by r k (field 2 r format.property_length)) (sym kind) ∙ is)
+    by (nat_lt 40 (field 2 r format.property_length) && nat_le (field 2 r format.property_length) 1024) value
+    (ap (λ k. content_by r k (field 2 r format.property_length)) (sym kind) ∙ is)
   where
-    text_by : (text : List ℕ) (b : Bool) → nat_le (length text) 40 ≡ b → Some (Long (field 2 r format.property_length) (field 4 r format.property_first_block)) ≡ Some (cond b (Inline text) (Long (length text) first)) → IsLong r (values.Text text) first
+    text_by : (text : List ℕ) (b : Bool) → nat_le (length text) 40 ≡ b → Some
+        (Long (field 2 r format.property_length) (field 4 r format.property_first_block)) ≡ Some (cond b (Inline text) (Long (length text) first))
+        → IsLong r (values.Text text) first
     text_by text true t e = absurd cc
     text_by text false t e = record { text = text; is = refl; long = ap (λ b. cond b [] text) t; size = cc; first_is = cc }
 
-    by : (b : Bool) (value : Value) → cond b (Some (Long (field 2 r format.property_length) (field 4 r format.property_first_block))) None ≡ Some (content_for value first) → IsLong r value first
+    by : (b : Bool) (value : Value) → cond b (Some (Long (field 2 r format.property_length) (field 4 r format.property_first_block))) None ≡ Some
+        (content_for value first) → IsLong r value first
     by false value e = absurd cc
     by true (values.Int number) e = absurd cc
     by true (values.Bool truth) e = absurd cc
     by true (values.Text text) e = text_by text (nat_le (length text) 40) refl e
 
 -- and a property with a long text has that kind
-pub kind_of_long : (r : Rec) (value : Value) (first : ℕ) → content_of r ≡ Some (content_for value first) → long_text value ≢ [] → field 1 r format.kind ≡ format.text_in_blocks
+pub kind_of_long : (r : Rec) (value : Value) (first : ℕ) → content_of r ≡ Some (content_for value first) → long_text value ≢ []
+    → field 1 r format.kind ≡ format.text_in_blocks
 kind_of_long r value first is some = by value some is
   where
     kind : ℕ
@@ -76,17 +86,21 @@ kind_of_long r value first is some = by value some is
     size = field 2 r format.property_length
 
     tests : (a b c d e : Bool) (number : ℤ) (truth : Bool) (text : List ℕ) (n m k : ℕ) → nat_eq kind format.text_in_blocks ≡ d
-        → cond a (Some (Number number)) (cond b (Some (Truth truth)) (cond c (Some (Inline text)) (cond (d && e) (Some (Long n m)) None))) ≡ Some (Long k first) → kind ≡ format.text_in_blocks
+        → cond a (Some (Number number)) (cond b (Some (Truth truth)) (cond c (Some (Inline text)) (cond (d && e) (Some (Long n m)) None))) ≡ Some (Long k first)
+        → kind ≡ format.text_in_blocks
     tests true b c d e number truth text n m k q z = absurd cc
     tests false true c d e number truth text n m k q z = absurd cc
     tests false false true d e number truth text n m k q z = absurd cc
     tests false false false true e number truth text n m k q z = eqb-true kind format.text_in_blocks q
     tests false false false false e number truth text n m k q z = absurd cc
 
-    by_text : (text : List ℕ) (b : Bool) → (cond b [] text ≢ []) → content_of r ≡ Some (cond b (Inline text) (Long (length text) first)) → kind ≡ format.text_in_blocks
+    by_text : (text : List ℕ) (b : Bool) → (cond b [] text ≢ []) → content_of r ≡ Some (cond b (Inline text) (Long (length text) first))
+        → kind ≡ format.text_in_blocks
     by_text text true some e = absurd (some refl)
-    by_text text false some e = tests (nat_eq kind format.int) (nat_eq kind format.bool && nat_le (field 1 r format.property_truth) 1) (nat_eq kind format.text_inline && nat_le size 40) (nat_eq kind format.text_in_blocks)
-        (nat_lt 40 size && nat_le size 1024) (cast_signed w64 (field 8 r format.property_number)) (nat_eq (field 1 r format.property_truth) 1) (text_in r format.property_text size) size (field 4 r format.property_first_block) (length text) refl e
+    by_text text false some e = tests (nat_eq kind format.int) (nat_eq kind format.bool && nat_le (field 1 r format.property_truth) 1)
+        (nat_eq kind format.text_inline && nat_le size 40) (nat_eq kind format.text_in_blocks)
+        (nat_lt 40 size && nat_le size 1024) (cast_signed w64 (field 8 r format.property_number)) (nat_eq (field 1 r format.property_truth) 1)
+        (text_in r format.property_text size) size (field 4 r format.property_first_block) (length text) refl e
 
     by : (value : Value) → long_text value ≢ [] → content_of r ≡ Some (content_for value first) → kind ≡ format.text_in_blocks
     by (values.Int number) some e = absurd (some refl)

@@ -82,7 +82,8 @@ module _ (s t : Records) (file id at to : ℕ) (linked : HasLinks file) (only : 
   now = put t (key_in file id) rec
 
   -- a number that stands apart from it
-  apart : (key : Key) (n place : ℕ) → place + n ≤ 64 → (key ≡ key_in file id → (place + n ≤ at) ⊎ (at + 4 ≤ place)) → field n (now key) place ≡ field n (t key) place
+  apart : (key : Key) (n place : ℕ) → place + n ≤ 64 → (key ≡ key_in file id → (place + n ≤ at) ⊎ (at + 4 ≤ place))
+      → field n (now key) place ≡ field n (t key) place
   apart key n place inside aside = ⊎_elim
       (λ (e : key ≡ key_in file id). ap (λ r. field n r place) (ap now e ∙ put_same t (key_in file id) rec)
       ∙ field-with_field_other 4 (rec_at t file id) at to n place inside (⊎_elim (λ below. inr below) (λ above. inl above) (aside e))
@@ -98,11 +99,13 @@ module _ (s t : Records) (file id at to : ℕ) (linked : HasLinks file) (only : 
   set_more : IsRelinked s now
   set_more = record {
     others = λ key out. put_other t (key_in file id) rec key (λ e. out (subst HasLinks (sym (ap (λ (k : Key). k.file) e)) linked)) ∙ old.others key out;
-    same = λ key n place inside kept. apart key n place inside (λ e. only n place (subst (λ (k : Key). IsKept k.file n place) e kept)) ∙ old.same key n place inside kept;
+    same = λ key n place inside kept. apart key n place inside (λ e. only n place (subst (λ (k : Key). IsKept k.file n place) e kept))
+        ∙ old.same key n place inside kept;
     dense = λ n d. apart (key_in format.nodes_file n) 4 format.node_first_link (omega arith) (thin n d) ∙ old.dense n d;
     fit = λ f x lt h. ⊎_elim
         (λ (e : key_in f x ≡ key_in file id). there f x (ap (λ (k : Key). k.file) e) (ap (λ (k : Key). k.id) e) lt h)
-        (λ (ne : key_in f x ≢ key_in file id). subst (Fits (high s) f) (sym (put_other t (key_in file id) rec (key_in f x) ne)) (old.fit f x lt h)) (key_cases (key_in f x) (key_in file id));
+        (λ (ne : key_in f x ≢ key_in file id). subst (Fits (high s) f) (sym (put_other t (key_in file id) rec (key_in f x) ne)) (old.fit f x lt h))
+        (key_cases (key_in f x) (key_in file id));
   }
 
 -- ---- what stays
@@ -127,7 +130,8 @@ module _ (s t : Records) (h : IsRelinked s t) where
 
   pub split_stays : (f : ℕ) (free : List ℕ) → IsSplit s f (is_live s f) free → IsSplit t f (is_live t f) free
   split_stays f free k = subst (λ v. IsSplit t f v free) (sym (live_stays f)) (record {
-    walk = subst (λ (m : Meta). IsWalk (next_free t f) m.free free) (sym (ap metas.meta_of (meta_stays f))) (walk_stays (next_free s f) (next_free t f) (meta_in s f).free free (λ x _. next_stays f x) k.walk);
+    walk = subst (λ (m : Meta). IsWalk (next_free t f) m.free free) (sym (ap metas.meta_of (meta_stays f)))
+        (walk_stays (next_free s f) (next_free t f) (meta_in s f).free free (λ x _. next_stays f x) k.walk);
     low = λ x i. subst (λ m. x < m) (sym (mark_stays f)) (k.low x i);
     only = k.only;
     all = λ x lt. k.all x (subst (λ m. x < m) (mark_stays f) lt);
@@ -141,7 +145,8 @@ module _ (s t : Records) (h : IsRelinked s t) where
     newest = ap version_of (meta_stays format.meta_file) ∙ old.newest;
     taken = ap (zeros_from format.taken_rest) (meta_stays format.taken_id) ∙ old.taken;
     metas = λ f is. subst (IsMetaInRange shape f) (sym (meta_stays f)) (old.metas f is);
-    fit = λ f x is lt. subst (λ (m : ℕ → ℕ). Fits m f (rec_at t f x)) marks (let low = subst (λ m. x < m) (mark_stays f) lt in h.fit f x low (old.fit f x is low));
+    fit = λ f x is lt. subst (λ (m : ℕ → ℕ). Fits m f (rec_at t f x)) marks
+        (let low = subst (λ m. x < m) (mark_stays f) lt in h.fit f x low (old.fit f x is low));
   }
     where
       marks : high s ≡ high t
@@ -163,13 +168,15 @@ owned_link s shape ranges h n (inr k) =
     inr (ap (λ (z : Key). is_group_kind (kind_at s format.groups_file z.id)) k.key ∙ group_kind s shape ranges k.row.id live, k.key ∙ ap (λ (z : Key). key_in format.groups_file z.id) (sym k.key), k.field)
 
 low_small : (s : Records) (to : ℕ) → IsLow (high s format.relationships_file) to → to < 2 ^ 32
-low_small s to low = let b = high_fits s format.relationships_file in ⊎_elim (λ (e : to ≡ format.nil). omega arith) (λ (lt : to < high s format.relationships_file). omega arith) low
+low_small s to low = let b = high_fits s format.relationships_file in ⊎_elim (λ (e : to ≡ format.nil). omega arith)
+    (λ (lt : to < high s format.relationships_file). omega arith) low
 
 module _ (s t : Records) (h : IsRelinked s t) where
   kind_is : (f x kind : ℕ) → x < high s f → kind_at s f x ≡ kind → field 1 (rec_at t f x) format.kind ≡ kind
   kind_is f x kind lt is = byte_stays s t h f x ∙ sym (kind_low (high s f) (rec_at s f x) x lt) ∙ is
 
-  group_is : (g : ℕ) → g < high s format.groups_file → is_group_kind (kind_at s format.groups_file g) ≡ true → is_group_kind (field 1 (rec_at t format.groups_file g) format.kind) ≡ true
+  group_is : (g : ℕ) → g < high s format.groups_file → is_group_kind (kind_at s format.groups_file g) ≡ true
+      → is_group_kind (field 1 (rec_at t format.groups_file g) format.kind) ≡ true
   group_is g lt is = ap is_group_kind (kind_is format.groups_file g (kind_at s format.groups_file g) lt refl) ∙ is
 
   -- a number in another file, or of a node that isn't dense, is no dense node's
@@ -184,7 +191,8 @@ module _ (s t : Records) (h : IsRelinked s t) where
 
   pub set_group_first : (g at to : ℕ) → is_group_kind (kind_at s format.groups_file g) ≡ true → IsFirstPlace at → IsLow (high s format.relationships_file) to
       → IsRelinked s (put t (key_in format.groups_file g) (with_field 4 (rec_at t format.groups_file g) at to))
-  set_group_first g at to grouped place low = set_more s t format.groups_file g at to (inr (inr refl)) (λ m p kept. apart m p (kept.2 refl)) (other_file format.groups_file g at (λ e. omega arith))
+  set_group_first g at to grouped place low = set_more s t format.groups_file g at to (inr (inr refl)) (λ m p kept. apart m p (kept.2 refl))
+      (other_file format.groups_file g at (λ e. omega arith))
       (λ lt fits. fits_group_first (high s) (rec_at t format.groups_file g) at to place (low_small s to low) low (group_is g lt grouped) (h.fit format.groups_file g lt fits)) h
     where
       within : (20 ≤ at) × (at + 4 ≤ 32)
@@ -195,7 +203,8 @@ module _ (s t : Records) (h : IsRelinked s t) where
 
   pub set_count : (g at to : ℕ) → kind_at s format.groups_file g ≡ format.counted → IsCountPlace at → to < 2 ^ 32
       → IsRelinked s (put t (key_in format.groups_file g) (with_field 4 (rec_at t format.groups_file g) at to))
-  set_count g at to counted place small = set_more s t format.groups_file g at to (inr (inr refl)) (λ m p kept. apart m p (kept.2 refl)) (other_file format.groups_file g at (λ e. omega arith))
+  set_count g at to counted place small = set_more s t format.groups_file g at to (inr (inr refl)) (λ m p kept. apart m p (kept.2 refl))
+      (other_file format.groups_file g at (λ e. omega arith))
       (λ lt fits. fits_count (high s) (rec_at t format.groups_file g) at to place small (kind_is format.groups_file g format.counted lt counted) (h.fit format.groups_file g lt fits)) h
     where
       within : (32 ≤ at) × (at + 4 ≤ 44)
@@ -211,7 +220,8 @@ module _ (s t : Records) (h : IsRelinked s t) where
 
   pub set_link : (x at to : ℕ) → kind_at s format.relationships_file x ≡ format.related → IsLink at → IsLow (high s format.relationships_file) to
       → IsRelinked s (put t (key_in format.relationships_file x) (with_field 4 (rec_at t format.relationships_file x) at to))
-  set_link x at to related link low = set_more s t format.relationships_file x at to (inr (inl refl)) (λ m place kept. apart m place (kept.1 refl)) (other_file format.relationships_file x at (λ e. omega arith))
+  set_link x at to related link low = set_more s t format.relationships_file x at to (inr (inl refl)) (λ m place kept. apart m place (kept.1 refl))
+      (other_file format.relationships_file x at (λ e. omega arith))
       (λ lt fits. fits_link (high s) (rec_at t format.relationships_file x) at to link (low_small s to low) low (kind_is format.relationships_file x format.related lt related) (h.fit format.relationships_file x lt fits)) h
     where
       within : (16 ≤ at) × (at + 4 ≤ 32)
@@ -223,8 +233,10 @@ module _ (s t : Records) (h : IsRelinked s t) where
   -- the first link of a head
   pub set_head : (head : Head) (to : ℕ) → IsFirstLink s head → IsLow (high s format.relationships_file) to
       → IsRelinked s (put t head.key (with_field 4 (t head.key) head.field to))
-  set_head head to (inl k) low = subst (λ (z : Head). IsRelinked s (put t z.key (with_field 4 (t z.key) z.field to))) (sym k.1) (set_first head.key.id to k.0 low)
-  set_head head to (inr k) low = subst (λ (z : Key). IsRelinked s (put t z (with_field 4 (t z) head.field to))) (sym k.1) (set_group_first head.key.id head.field to k.0 k.2 low)
+  set_head head to (inl k) low = subst (λ (z : Head). IsRelinked s (put t z.key (with_field 4 (t z.key) z.field to))) (sym k.1)
+      (set_first head.key.id to k.0 low)
+  set_head head to (inr k) low = subst (λ (z : Key). IsRelinked s (put t z (with_field 4 (t z) head.field to))) (sym k.1)
+      (set_group_first head.key.id head.field to k.0 k.2 low)
 
 -- numbers that are set after others
 pub relinked_both : (s m t : Records) → IsRelinked s m → IsRelinked m t → IsRelinked s t

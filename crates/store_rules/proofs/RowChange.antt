@@ -1,5 +1,6 @@
 -- One row changed in place, and one row found.
-use Rattle.std.proofs.Common.{◌≡◌, ◌≢◌, ℕ, zero, suc, ◌<◌, ◌≤◌, nat_eq, Bool, true, false, cond, Option, None, Some, List, [], ◌∷◌, ◌++◌, find, option_map, sym, ap, ◌∙◌, ⊎_elim, arith, refl}
+use Rattle.std.proofs.Common.{◌≡◌, ◌≢◌, ℕ, zero, suc, ◌<◌, ◌≤◌, nat_eq, Bool, true, false, cond, Option, None, Some}
+use Rattle.std.proofs.Common.{List, [], ◌∷◌, ◌++◌, find, option_map, sym, ap, ◌∙◌, ⊎_elim, arith, refl}
 use Rattle.std.proofs.lemmas.List.{map-append}
 use Rattle.plain_graph.specs.Graph.{with_change}
 use Rattle.store_rules.specs.Rows.{option_list, collect}
@@ -8,7 +9,8 @@ use Rattle.store_rules.proofs.RowLaws.{AreNumbered}
 
 module _ {E : Type 0} (of : E → ℕ) where
   -- the rows with one changed are the changed rows
-  pub collect_changed : (row now : ℕ → Option E) (n id : ℕ) (change : E → E) → AreNumbered of row → now id ≡ option_map change (row id) → ((x : ℕ) → x ≢ id → now x ≡ row x)
+  pub collect_changed : (row now : ℕ → Option E) (n id : ℕ) (change : E → E) → AreNumbered of row → now id ≡ option_map change (row id)
+      → ((x : ℕ) → x ≢ id → now x ≡ row x)
       → collect now n ≡ with_change of id change (collect row n)
   collect_changed row now zero id change num here other = refl
   collect_changed row now (suc n) id change num here other =
@@ -39,7 +41,8 @@ module _ {E : Type 0} (of : E → ℕ) where
   find-append test [] ys = refl
   find-append test (x ∷ xs) ys = on (test x) (find-append test xs ys)
     where
-      on : (b : Bool) → find test (xs ++ ys) ≡ one_of (find test xs) (find test ys) → cond b (Some x) (find test (xs ++ ys)) ≡ one_of (cond b (Some x) (find test xs)) (find test ys)
+      on : (b : Bool) → find test (xs ++ ys) ≡ one_of (find test xs) (find test ys)
+          → cond b (Some x) (find test (xs ++ ys)) ≡ one_of (cond b (Some x) (find test xs)) (find test ys)
       on true h = refl
       on false h = h
 

@@ -1,5 +1,7 @@
 -- One row more, one row less.
-use Rattle.std.proofs.Common.{◌≡◌, ◌≢◌, ◌⊎◌, ℕ, zero, suc, ◌+◌, ◌<◌, ◌≤◌, nat_lt, nat_eq, Bool, true, false, not, cond, ◌||◌, Option, None, Some, List, [], ◌∷◌, ◌++◌, length, sym, ap, ◌∙◌, subst, ⊎_elim, arith, refl}
+use Rattle.std.proofs.Common.{◌≡◌, ◌≢◌, ◌⊎◌, ℕ, zero, suc, ◌+◌, ◌<◌, ◌≤◌, nat_lt, nat_eq, Bool, true, false, not, cond}
+use Rattle.std.proofs.Common.{◌||◌, Option, None, Some, List, [], ◌∷◌, ◌++◌, length, sym, ap, ◌∙◌, subst, ⊎_elim, arith}
+use Rattle.std.proofs.Common.{refl}
 use Rattle.std.specs.List.{filter, list_any}
 use Rattle.std.proofs.lemmas.Bool.Decides.{nat_tests}
 use Rattle.plain_graph.specs.Graph.{with_row}
@@ -24,7 +26,8 @@ module _ {E : Type 0} (of : E → ℕ) where
   insert_before e f [] lt = rw (lt_true (of e) (of f) lt) refl
   insert_before e f (x ∷ xs) lt = on (nat_lt (of e) (of x)) (insert_before e f xs lt)
     where
-      on : (t : Bool) → with_row of e (xs ++ f ∷ []) ≡ with_row of e xs ++ f ∷ [] → cond t (e ∷ x ∷ (xs ++ f ∷ [])) (x ∷ with_row of e (xs ++ f ∷ [])) ≡ cond t (e ∷ x ∷ xs) (x ∷ with_row of e xs) ++ f ∷ []
+      on : (t : Bool) → with_row of e (xs ++ f ∷ []) ≡ with_row of e xs ++ f ∷ []
+          → cond t (e ∷ x ∷ (xs ++ f ∷ [])) (x ∷ with_row of e (xs ++ f ∷ [])) ≡ cond t (e ∷ x ∷ xs) (x ∷ with_row of e xs) ++ f ∷ []
       on true h = refl
       on false h = ap (λ ys. x ∷ ys) h
 
@@ -46,14 +49,18 @@ module _ {E : Type 0} (of : E → ℕ) where
 
   pub below_collect : (row : ℕ → Option E) (n : ℕ) → AreNumbered row → Below n (collect row n)
   below_collect row zero h = tt
-  below_collect row (suc n) h = below_both (suc n) (collect row n) (option_list (row n)) (below_more n (suc n) (collect row n) (omega arith) (below_collect row n h)) (let b = below_option n (row n) (λ e k. h n e k) in below_more (n + 1) (suc n) (option_list (row n)) (omega arith) b)
+  below_collect row (suc n) h = below_both (suc n) (collect row n) (option_list (row n))
+      (below_more n (suc n) (collect row n) (omega arith) (below_collect row n h))
+      (let b = below_option n (row n) (λ e k. h n e k) in below_more (n + 1) (suc n) (option_list (row n)) (omega arith) b)
 
   pub collect_same : (row now : ℕ → Option E) (n : ℕ) → ((x : ℕ) → x < n → now x ≡ row x) → collect now n ≡ collect row n
   collect_same row now zero h = refl
-  collect_same row now (suc n) h = ap (λ xs. xs ++ option_list (now n)) (collect_same row now n (λ x lt. h x (omega arith))) ∙ ap (λ o. collect row n ++ option_list o) (h n (omega arith))
+  collect_same row now (suc n) h = ap (λ xs. xs ++ option_list (now n)) (collect_same row now n (λ x lt. h x (omega arith)))
+      ∙ ap (λ o. collect row n ++ option_list o) (h n (omega arith))
 
   -- one more row
-  pub collect_with : (row now : ℕ → Option E) (n id : ℕ) (e : E) → AreNumbered row → of e ≡ id → row id ≡ None → now id ≡ Some e → ((x : ℕ) → x < n → x ≢ id → now x ≡ row x) → id < n
+  pub collect_with : (row now : ℕ → Option E) (n id : ℕ) (e : E) → AreNumbered row → of e ≡ id → row id ≡ None → now id ≡ Some e
+      → ((x : ℕ) → x < n → x ≢ id → now x ≡ row x) → id < n
       → collect now n ≡ with_row of e (collect row n)
   collect_with row now zero id e num is none some same lt = absurd (omega arith)
   collect_with row now (suc n) id e num is none some same lt = ⊎_elim
@@ -71,7 +78,8 @@ module _ {E : Type 0} (of : E → ℕ) where
       ∙ last (row n) (λ f q. num n f q) (omega arith))
       (nat_cases id n)
     where
-      last : (o : Option E) → ((f : E) → o ≡ Some f → of f ≡ n) → id < n → with_row of e (collect row n) ++ option_list o ≡ with_row of e (collect row n ++ option_list o)
+      last : (o : Option E) → ((f : E) → o ≡ Some f → of f ≡ n) → id < n
+          → with_row of e (collect row n) ++ option_list o ≡ with_row of e (collect row n ++ option_list o)
       last None h b = append_none (with_row of e (collect row n)) ∙ ap (with_row of e) (sym (append_none (collect row n)))
       last (Some f) h b = sym (insert_before e f (collect row n) (let p = h f refl in omega arith))
 
@@ -79,7 +87,8 @@ module _ {E : Type 0} (of : E → ℕ) where
   any_both test [] ys h k = k
   any_both test (x ∷ xs) ys h k = on (test x) (λ q. any_both test xs ys q k) h
     where
-      on : (t : Bool) → (list_any test xs ≡ false → list_any test (xs ++ ys) ≡ false) → (t || list_any test xs) ≡ false → (t || list_any test (xs ++ ys)) ≡ false
+      on : (t : Bool) → (list_any test xs ≡ false → list_any test (xs ++ ys) ≡ false) → (t || list_any test xs) ≡ false
+          → (t || list_any test (xs ++ ys)) ≡ false
       on true f h = h
       on false f h = f h
 
@@ -87,7 +96,8 @@ module _ {E : Type 0} (of : E → ℕ) where
   filter_both test [] ys = refl
   filter_both test (x ∷ xs) ys = on (test x) (filter_both test xs ys)
     where
-      on : (t : Bool) → filter test (xs ++ ys) ≡ filter test xs ++ filter test ys → cond t (x ∷ filter test (xs ++ ys)) (filter test (xs ++ ys)) ≡ cond t (x ∷ filter test xs) (filter test xs) ++ filter test ys
+      on : (t : Bool) → filter test (xs ++ ys) ≡ filter test xs ++ filter test ys
+          → cond t (x ∷ filter test (xs ++ ys)) (filter test (xs ++ ys)) ≡ cond t (x ∷ filter test xs) (filter test xs) ++ filter test ys
       on true h = ap (λ zs. x ∷ zs) h
       on false h = h
 
@@ -145,7 +155,8 @@ module _ {E : Type 0} (of : E → ℕ) where
       on false h = omega (arith, h)
 
   -- a row that comes at the mark or below it
-  pub rows_with : (row now : ℕ → Option E) (n m id : ℕ) (e : E) → AreNumbered row → of e ≡ id → row id ≡ None → now id ≡ Some e → ((x : ℕ) → x ≢ id → now x ≡ row x) → id < m
+  pub rows_with : (row now : ℕ → Option E) (n m id : ℕ) (e : E) → AreNumbered row → of e ≡ id → row id ≡ None → now id ≡ Some e
+      → ((x : ℕ) → x ≢ id → now x ≡ row x) → id < m
       → (m ≡ n) ⊎ ((id ≡ n) × (m ≡ n + 1)) → collect now m ≡ with_row of e (collect row n)
   rows_with row now n m id e num is none some same lt way = ⊎_elim
       (λ (k : m ≡ n). subst (λ q. collect now m ≡ with_row of e (collect row q)) k (one m lt))
@@ -164,12 +175,14 @@ module _ {E : Type 0} (of : E → ℕ) where
   -- a number without a row is none of the list's
   pub fresh_collect : (row : ℕ → Option E) (n id : ℕ) → AreNumbered row → row id ≡ None → list_any (λ e. nat_eq (of e) id) (collect row n) ≡ false
   fresh_collect row zero id num none = refl
-  fresh_collect row (suc n) id num none = either (collect row n) (option_list (row n)) (fresh_collect row n id num none) (on (row n) (λ e k. num n e k) (λ k. none_at k))
+  fresh_collect row (suc n) id num none = either (collect row n) (option_list (row n)) (fresh_collect row n id num none)
+      (on (row n) (λ e k. num n e k) (λ k. none_at k))
     where
       none_at : n ≡ id → row n ≡ None
       none_at k = subst (λ z. row z ≡ None) (sym k) none
 
-      either : (xs ys : List E) → list_any (λ e. nat_eq (of e) id) xs ≡ false → list_any (λ e. nat_eq (of e) id) ys ≡ false → list_any (λ e. nat_eq (of e) id) (xs ++ ys) ≡ false
+      either : (xs ys : List E) → list_any (λ e. nat_eq (of e) id) xs ≡ false → list_any (λ e. nat_eq (of e) id) ys ≡ false
+          → list_any (λ e. nat_eq (of e) id) (xs ++ ys) ≡ false
       either xs ys h k = any_both (λ e. nat_eq (of e) id) xs ys h k
 
       on : (o : Option E) → ((e : E) → o ≡ Some e → of e ≡ n) → (n ≡ id → o ≡ None) → list_any (λ e. nat_eq (of e) id) (option_list o) ≡ false
@@ -191,7 +204,8 @@ module _ {E : Type 0} (of : E → ℕ) where
       left [] ys h = absurd cc
       left (x ∷ xs) ys h = on (nat_eq (of x) id) (left xs ys) h
         where
-          on : (t : Bool) → (list_any (λ y. nat_eq (of y) id) xs ≡ true → list_any (λ y. nat_eq (of y) id) (xs ++ ys) ≡ true) → (t || list_any (λ y. nat_eq (of y) id) xs) ≡ true → (t || list_any (λ y. nat_eq (of y) id) (xs ++ ys)) ≡ true
+          on : (t : Bool) → (list_any (λ y. nat_eq (of y) id) xs ≡ true → list_any (λ y. nat_eq (of y) id) (xs ++ ys) ≡ true)
+              → (t || list_any (λ y. nat_eq (of y) id) xs) ≡ true → (t || list_any (λ y. nat_eq (of y) id) (xs ++ ys)) ≡ true
           on true f h = refl
           on false f h = f h
 

@@ -12,10 +12,13 @@ use Rattle.rec_bytes.specs.Space.{meta_in}
 use Rattle.store_rules.specs.Chains.{IsChain, IsWalk, next_in, prev_in}
 use Rattle.store_rules.specs.Indexes.{AreIndexed, wanted_in}
 use Rattle.store_rules.specs.Properties.{property_records}
-use Rattle.store_rules.specs.Rules.{AreCounted, AreExact, AreNamed, AreNames, HaveProperties, Head, IsGrouped, IsLinked, IsListed, IsSplit, KeepsRules, Owns, PropertyFiles, StandsAt, first_of, property_files}
+use Rattle.store_rules.specs.Rules.{AreCounted, AreExact, AreNamed, AreNames, HaveProperties, Head, IsGrouped, IsLinked}
+use Rattle.store_rules.specs.Rules.{IsListed, IsSplit, KeepsRules, Owns, PropertyFiles, StandsAt, first_of}
+use Rattle.store_rules.specs.Rules.{property_files}
 use Rattle.store_rules.specs.RuleList.{AreSame, IsSameFile, IsSplitFile, KeepsThose, Rule, Slack, but_index, holds, is_local, reads}
 use Rattle.store_rules.specs.RuleList.Rule.{Counts, Defined, Degrees, Grouped, Labels, Linked, Names, Properties, Ranges, Split, Indexed}
-use Rattle.store_rules.specs.Views.{GroupRow, NodeRow, Records, RelRow, degree, first_link, group_at, group_in, high, is_live, kind_at, kind_in, node_at, node_in, rec_at, rel_at, rel_in, row_if}
+use Rattle.store_rules.specs.Views.{GroupRow, NodeRow, Records, RelRow, degree, first_link, group_at, group_in, high}
+use Rattle.store_rules.specs.Views.{is_live, kind_at, kind_in, node_at, node_in, rec_at, rel_at, rel_in, row_if}
 use Rattle.store_rules.proofs.DefinedStays.{defined_stay}
 use Rattle.store_rules.proofs.IndexStays.{indexes_stay, wanted_same}
 
@@ -53,7 +56,8 @@ module _ (s t : Records) where
     where
       by : (free : List ℕ) → IsSplit s file (is_live s file) free → IsSplit t file (is_live t file) free
       by free k = record {
-        walk = subst (λ (p : (ℕ → Rec) × ℕ). IsWalk (λ x. field 4 (p.0 x) format.free_next) p.1 free) (λ i. (sym same.records i, sym (ap (λ (m : Meta). m.free) (meta_same file same)) i)) k.walk;
+        walk = subst (λ (p : (ℕ → Rec) × ℕ). IsWalk (λ x. field 4 (p.0 x) format.free_next) p.1 free)
+            (λ i. (sym same.records i, sym (ap (λ (m : Meta). m.free) (meta_same file same)) i)) k.walk;
         low = λ x m. subst (λ (n : ℕ). x < n) (sym (high_same file same)) (k.low x m);
         only = λ x m. ap (λ (f : ℕ → Bool). f x) (live_same file same) ∙ k.only x m;
         all = λ x lt dead. k.all x (subst (λ (n : ℕ). x < n) (high_same file same) lt) (sym (ap (λ (f : ℕ → Bool). f x) (live_same file same)) ∙ dead);
@@ -69,37 +73,45 @@ module _ (s t : Records) where
     where
       first_same : (head : Head) (node : ℕ) → Owns (kind_at s format.nodes_file) (group_at s) head node → first_of t head ≡ first_of s head
       first_same head node (inl own) = rw own.is (ap (λ (f : ℕ → Rec). field 4 (f node) format.node_first_link) nodes.records)
-      first_same head node (inr own) = ap (λ k. field 4 (t k) head.field) own.key ∙ ap (λ (f : ℕ → Rec). field 4 (f own.row.id) head.field) groups.records ∙ sym (ap (λ k. field 4 (s k) head.field) own.key)
+      first_same head node (inr own) = ap (λ k. field 4 (t k) head.field) own.key ∙ ap (λ (f : ℕ → Rec). field 4 (f own.row.id) head.field) groups.records
+          ∙ sym (ap (λ k. field 4 (s k) head.field) own.key)
 
-      again : (head : Head) (node : ℕ) → Owns (kind_at s format.nodes_file) (group_at s) head node → IsListed s head node (StandsAt (rel_at s) (group_at s) head) → IsListed t head node (StandsAt (rel_at s) (group_at s) head)
+      again : (head : Head) (node : ℕ) → Owns (kind_at s format.nodes_file) (group_at s) head node
+          → IsListed s head node (StandsAt (rel_at s) (group_at s) head) → IsListed t head node (StandsAt (rel_at s) (group_at s) head)
       again head node owns k = record {
         members = k.members;
-        chain = subst (λ (p : (ℕ → Rec) × ℕ). IsChain (λ x. next_in (p.0 x) node) (λ x. prev_in (p.0 x) node) format.nil p.1 k.members) (λ i. (sym rels.records i, sym (first_same head node owns) i)) k.chain;
+        chain = subst (λ (p : (ℕ → Rec) × ℕ). IsChain (λ x. next_in (p.0 x) node) (λ x. prev_in (p.0 x) node) format.nil p.1 k.members)
+            (λ i. (sym rels.records i, sym (first_same head node owns) i)) k.chain;
         only = k.only;
         all = k.all;
       }
 
   grouped_stays : (empty : List ℕ) → IsSameFile s t format.nodes_file → IsSameFile s t format.groups_file
-      → IsGrouped (kind_at s format.nodes_file) (first_link s) (rec_at s format.groups_file) (group_at s) empty → IsGrouped (kind_at t format.nodes_file) (first_link t) (rec_at t format.groups_file) (group_at t) empty
+      → IsGrouped (kind_at s format.nodes_file) (first_link s) (rec_at s format.groups_file) (group_at s) empty
+      → IsGrouped (kind_at t format.nodes_file) (first_link t) (rec_at t format.groups_file) (group_at t) empty
   grouped_stays empty nodes groups h =
       subst (λ (v : ((ℕ → ℕ) × (ℕ → Rec)) × ((ℕ → Rec) × (ℕ → Option GroupRow))). IsGrouped v.0.0 (λ n. field 4 (v.0.1 n) format.node_first_link) v.1.0 v.1.1 empty)
       (λ i. ((sym (kind_same format.nodes_file nodes) i, sym nodes.records i), (sym groups.records i, sym (groups_same groups) i))) h
 
   counts_stay : IsSameFile s t format.groups_file → IsSameFile s t format.relationships_file
-      → AreExact (kind_at s format.groups_file) (rec_at s format.groups_file) (group_at s) (rel_at s) (high s format.relationships_file) → AreExact (kind_at t format.groups_file) (rec_at t format.groups_file) (group_at t) (rel_at t) (high t format.relationships_file)
+      → AreExact (kind_at s format.groups_file) (rec_at s format.groups_file) (group_at s) (rel_at s) (high s format.relationships_file)
+      → AreExact (kind_at t format.groups_file) (rec_at t format.groups_file) (group_at t) (rel_at t) (high t format.relationships_file)
   counts_stay groups rels h =
       subst (λ (v : ((ℕ → ℕ) × (ℕ → Rec)) × ((ℕ → Option GroupRow) × ((ℕ → Option RelRow) × ℕ))). AreExact v.0.0 v.0.1 v.1.0 v.1.1.0 v.1.1.1)
       (λ i. ((sym (kind_same format.groups_file groups) i, sym groups.records i), (sym (groups_same groups) i, (sym (rels_same rels) i, sym (high_same format.relationships_file rels) i)))) h
 
-  names_stay : IsSameFile s t format.names_file → AreNames (rec_at s format.names_file) (high s format.names_file) → AreNames (rec_at t format.names_file) (high t format.names_file)
+  names_stay : IsSameFile s t format.names_file → AreNames (rec_at s format.names_file) (high s format.names_file)
+      → AreNames (rec_at t format.names_file) (high t format.names_file)
   names_stay names h = subst (λ (v : (ℕ → Rec) × ℕ). AreNames v.0 v.1) (λ i. (sym names.records i, sym (high_same format.names_file names) i)) h
 
   labels_stay : IsSameFile s t format.nodes_file → IsSameFile s t format.relationships_file → IsSameFile s t format.names_file
       → AreNamed (node_at s) (rel_at s) (high s format.names_file) → AreNamed (node_at t) (rel_at t) (high t format.names_file)
-  labels_stay nodes rels names h = subst (λ (v : (ℕ → Option NodeRow) × ((ℕ → Option RelRow) × ℕ)). AreNamed v.0 v.1.0 v.1.1) (λ i. (sym (nodes_same nodes) i, (sym (rels_same rels) i, sym (high_same format.names_file names) i))) h
+  labels_stay nodes rels names h = subst (λ (v : (ℕ → Option NodeRow) × ((ℕ → Option RelRow) × ℕ)). AreNamed v.0 v.1.0 v.1.1)
+      (λ i. (sym (nodes_same nodes) i, (sym (rels_same rels) i, sym (high_same format.names_file names) i))) h
 
   degrees_stay : (most : ℕ) → IsSameFile s t format.nodes_file → IsSameFile s t format.relationships_file
-      → AreCounted (kind_at s format.nodes_file) (degree s) (rel_at s) (high s format.relationships_file) most → AreCounted (kind_at t format.nodes_file) (degree t) (rel_at t) (high t format.relationships_file) most
+      → AreCounted (kind_at s format.nodes_file) (degree s) (rel_at s) (high s format.relationships_file) most
+      → AreCounted (kind_at t format.nodes_file) (degree t) (rel_at t) (high t format.relationships_file) most
   degrees_stay most nodes rels h =
       subst (λ (v : ((ℕ → ℕ) × (ℕ → Rec)) × ((ℕ → Option RelRow) × ℕ)). AreCounted v.0.0 (λ n. field 4 (v.0.1 n) format.node_degree) v.1.0 v.1.1 most)
       (λ i. ((sym (kind_same format.nodes_file nodes) i, sym nodes.records i), (sym (rels_same rels) i, sym (high_same format.relationships_file rels) i))) h
@@ -114,7 +126,8 @@ module _ (s t : Records) where
   }
 
   -- a rule stays where the files that it reads stay
-  pub stays : (rule : Rule) (shape : Shape) (slack : Slack) → is_local rule ≡ true → AreSame s t (reads rule) → holds rule s shape slack → holds rule t shape slack
+  pub stays : (rule : Rule) (shape : Shape) (slack : Slack) → is_local rule ≡ true → AreSame s t (reads rule) → holds rule s shape slack
+      → holds rule t shape slack
   stays Ranges shape slack local same h = absurd cc
   stays (Split file) shape slack local same h = split_stays file same.0 h
   stays Linked shape slack local same h = linked_stays same.0 same.1.0 same.1.1.0 h
@@ -133,7 +146,8 @@ module _ (s t : Records) where
 
 -- ---- the first seven rules, as one record and by name
 
-pub by_name : (records : Records) (shape : Shape) (most : ℕ) (empty : List ℕ) → KeepsRules records shape most empty → KeepsThose but_index records shape (record { most = most; empty = empty })
+pub by_name : (records : Records) (shape : Shape) (most : ℕ) (empty : List ℕ) → KeepsRules records shape most empty
+    → KeepsThose but_index records shape (record { most = most; empty = empty })
 by_name records shape most empty well Ranges e = well.ranges
 by_name records shape most empty well (Split file) e = record { split = well.split file; kept = well.kept file }
 by_name records shape most empty well Linked e = well.linked

@@ -5,7 +5,8 @@ use Rattle.rec_bytes.specs.Format as format
 use Rattle.rec_bytes.specs.Record.{field}
 use Rattle.store_rules.specs.Chains.{IsChain, next_in, prev_in}
 use Rattle.store_rules.specs.Rows.{ids}
-use Rattle.store_rules.specs.Rules.{AreCounted, AreNamed, HasCounts, Head, IsEnd, IsInGroup, IsLinked, Owns, StandsAt, count_of, degree_of, first_of, is_into, is_loop_of, is_out_of, passes, stands_in}
+use Rattle.store_rules.specs.Rules.{AreCounted, AreNamed, HasCounts, Head, IsEnd, IsInGroup, IsLinked, Owns, StandsAt}
+use Rattle.store_rules.specs.Rules.{count_of, degree_of, first_of, is_into, is_loop_of, is_out_of, passes, stands_in}
 use Rattle.store_rules.specs.Views.{GroupRow, NodeRow, Records, RelRow, kind_at, node_at, node_in, rec_at, rel_at, rel_in}
 use Rattle.store_rules.proofs.ChainLaws.{chain_stays}
 use Rattle.store_rules.proofs.ViewLaws.{row_some, some_row}
@@ -20,7 +21,8 @@ HaveRels rels now = (x : ℕ) (row : RelRow) → rels x ≡ Some row → (first 
 
 -- ---- rows of records whose other numbers are the same
 pub have_nodes : (s t : Records) → ((x : ℕ) → kind_at t format.nodes_file x ≡ kind_at s format.nodes_file x)
-    → ((x : ℕ) → field 4 (rec_at t format.nodes_file x) format.node_label ≡ field 4 (rec_at s format.nodes_file x) format.node_label) → HaveNodes (node_at s) (node_at t)
+    → ((x : ℕ) → field 4 (rec_at t format.nodes_file x) format.node_label ≡ field 4 (rec_at s format.nodes_file x) format.node_label)
+    → HaveNodes (node_at s) (node_at t)
 have_nodes s t kinds labels x row e =
     let k = some_row (kind_at s format.nodes_file x) (node_in (rec_at s format.nodes_file x) x) row e in
     let first = field 4 (rec_at t format.nodes_file x) format.node_first_property in (
@@ -44,7 +46,8 @@ have_rels s t kinds rows x row e =
     )
 
 -- ---- labels
-pub named_alike : (nodes now : ℕ → Option NodeRow) (rels then : ℕ → Option RelRow) (names : ℕ) → HaveNodes now nodes → HaveRels then rels → AreNamed nodes rels names → AreNamed now then names
+pub named_alike : (nodes now : ℕ → Option NodeRow) (rels then : ℕ → Option RelRow) (names : ℕ) → HaveNodes now nodes → HaveRels then rels
+    → AreNamed nodes rels names → AreNamed now then names
 named_alike nodes now rels then names node rel h = record {
   nodes_named = λ x row e. let b = node x row e in h.nodes_named x (record row { property = b.0 }) b.1;
   rels_named = λ x row e. let b = rel x row e in h.rels_named x (record row { property = b.0 }) b.1;
@@ -74,7 +77,8 @@ module _ (rels now : ℕ → Option RelRow) (there : HaveRels rels now) (back : 
       on (Some row) u f g = ap (stands_in n) (f row refl).1
 
   -- ---- the numbers of counted groups
-  count_alike : (test : RelRow → Bool) → ((row : RelRow) (first : ℕ) → test (record row { property = first }) ≡ test row) → (mark : ℕ) → count_of test now mark ≡ count_of test rels mark
+  count_alike : (test : RelRow → Bool) → ((row : RelRow) (first : ℕ) → test (record row { property = first }) ≡ test row) → (mark : ℕ)
+      → count_of test now mark ≡ count_of test rels mark
   count_alike test blind mark = λ i. length (ids (λ x. on (rels x) (now x) (λ row e. there x row e) (λ row e. back x row e) i) mark)
     where
       on : (o u : Option RelRow) → ((row : RelRow) → o ≡ Some row → (first : ℕ) × (u ≡ Some (record row { property = first })))
@@ -91,28 +95,30 @@ module _ (rels now : ℕ → Option RelRow) (there : HaveRels rels now) (back : 
   }
 
   -- the seventh rule
-  pub counted_alike : (kind degrees degrees' : ℕ → ℕ) (mark most : ℕ) → ((n : ℕ) → degrees' n ≡ degrees n) → AreCounted kind degrees rels mark most → AreCounted kind degrees' now mark most
+  pub counted_alike : (kind degrees degrees' : ℕ → ℕ) (mark most : ℕ) → ((n : ℕ) → degrees' n ≡ degrees n) → AreCounted kind degrees rels mark most
+      → AreCounted kind degrees' now mark most
   counted_alike kind degrees degrees' mark most same h = record {
     each = λ n used. same n ∙ h.each n used ∙ sym (degree_alike mark n);
     few = λ n is. let e = same n in let le = h.few n is in omega arith;
   }
 
-module _ (s t : Records) (kind : ℕ → ℕ) (rels now : ℕ → Option RelRow) (groups : ℕ → Option GroupRow) (there : HaveRels rels now) (back : HaveRels now rels) where
-  -- the third rule, where links and first links are as they were
-  pub linked_alike : ((x n : ℕ) → next_in (rec_at t format.relationships_file x) n ≡ next_in (rec_at s format.relationships_file x) n)
-      → ((x n : ℕ) → prev_in (rec_at t format.relationships_file x) n ≡ prev_in (rec_at s format.relationships_file x) n)
-      → ((h : Head) (n : ℕ) → Owns kind groups h n → first_of t h ≡ first_of s h) → IsLinked s kind rels groups → IsLinked t kind now groups
-  linked_alike next prev first old = record {
-    ends = λ x row e. let b = back x row e in let k = old.ends x (record row { property = b.0 }) b.1 in record { from = k.from; to = k.to };
-    typed = λ x n row e at d. let b = back x row e in old.typed x n (record row { property = b.0 }) b.1 at d;
-    listed = record {
-      each = λ h n o. let l = old.listed.each h n o in record {
-        members = l.members;
-        chain = subst (λ f. IsChain (λ y. next_in (rec_at t format.relationships_file y) n) (λ y. prev_in (rec_at t format.relationships_file y) n) format.nil f l.members) (sym (first h n o))
-            (chain_stays (λ y. next_in (rec_at s format.relationships_file y) n) (λ y. prev_in (rec_at s format.relationships_file y) n) (λ y. next_in (rec_at t format.relationships_file y) n) (λ y. prev_in (rec_at t format.relationships_file y) n)
-            format.nil (first_of s h) l.members (λ y i. next y n) (λ y i. prev y n) l.chain);
-        only = λ x i. stands_alike rels now there back groups h x (l.only x i);
-        all = λ x a. l.all x (stands_alike now rels back there groups h x a);
+module _ (s t : Records) (kind : ℕ → ℕ) (rels now : ℕ → Option RelRow) (groups : ℕ → Option GroupRow) (there : HaveRels rels now) (back : HaveRels now rels)
+  where
+    -- the third rule, where links and first links are as they were
+    pub linked_alike : ((x n : ℕ) → next_in (rec_at t format.relationships_file x) n ≡ next_in (rec_at s format.relationships_file x) n)
+        → ((x n : ℕ) → prev_in (rec_at t format.relationships_file x) n ≡ prev_in (rec_at s format.relationships_file x) n)
+        → ((h : Head) (n : ℕ) → Owns kind groups h n → first_of t h ≡ first_of s h) → IsLinked s kind rels groups → IsLinked t kind now groups
+    linked_alike next prev first old = record {
+      ends = λ x row e. let b = back x row e in let k = old.ends x (record row { property = b.0 }) b.1 in record { from = k.from; to = k.to };
+      typed = λ x n row e at d. let b = back x row e in old.typed x n (record row { property = b.0 }) b.1 at d;
+      listed = record {
+        each = λ h n o. let l = old.listed.each h n o in record {
+          members = l.members;
+          chain = subst (λ f. IsChain (λ y. next_in (rec_at t format.relationships_file y) n) (λ y. prev_in (rec_at t format.relationships_file y) n) format.nil f l.members) (sym (first h n o))
+              (chain_stays (λ y. next_in (rec_at s format.relationships_file y) n) (λ y. prev_in (rec_at s format.relationships_file y) n) (λ y. next_in (rec_at t format.relationships_file y) n) (λ y. prev_in (rec_at t format.relationships_file y) n)
+              format.nil (first_of s h) l.members (λ y i. next y n) (λ y i. prev y n) l.chain);
+          only = λ x i. stands_alike rels now there back groups h x (l.only x i);
+          all = λ x a. l.all x (stands_alike now rels back there groups h x a);
+        };
       };
-    };
-  }
+    }

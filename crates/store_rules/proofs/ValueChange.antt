@@ -18,12 +18,15 @@ use Rattle.store_rules.proofs.PropertyStays.{properties_stay}
 use Rattle.store_rules.proofs.ViewLaws.{row_some}
 
 -- the value of a key at a node in use
-own_value : (s : Records) (x : ℕ) (es : List Property) → kind_at s format.nodes_file x ≢ format.free_kind → listed_from (property_records s) (property_from s format.nodes_file x) ≡ es → (label key : ℕ)
+own_value : (s : Records) (x : ℕ) (es : List Property) → kind_at s format.nodes_file x ≢ format.free_kind
+    → listed_from (property_records s) (property_from s format.nodes_file x) ≡ es → (label key : ℕ)
     → node_value s label key x ≡ cond (nat_eq (field 4 (rec_at s format.nodes_file x) format.node_label) label) (value_in es key) None
-own_value s x es used is label key = ap (row_value (property_records s) label key) (row_some (kind_at s format.nodes_file x) (node_in (rec_at s format.nodes_file x) x) used)
+own_value s x es used is label key = ap (row_value (property_records s) label key)
+    (row_some (kind_at s format.nodes_file x) (node_in (rec_at s format.nodes_file x) x) used)
     ∙ ap (λ ps. cond (nat_eq (field 4 (rec_at s format.nodes_file x) format.node_label) label) (value_in ps key) None) is
 
-module _ (s t : Records) (shape : Shape) (file x : ℕ) (old new : List Property) (h : ChangesProperties s t shape file x old new) {most : ℕ} {empty : List ℕ} (well : KeepsRules s shape most empty) where
+module _ (s t : Records) (shape : Shape) (file x : ℕ) (old new : List Property) (h : ChangesProperties s t shape file x old new) {most : ℕ} {empty : List ℕ}
+    (well : KeepsRules s shape most empty) where
   abbrev was : PropertyRecords
   was = property_records s
 
@@ -31,7 +34,8 @@ module _ (s t : Records) (shape : Shape) (file x : ℕ) (old new : List Property
   now = property_records t
 
   -- the properties of another node stay
-  listed_other : (y first : ℕ) → (format.nodes_file ≡ file → y ≢ x) → owner_in s format.nodes_file y ≡ Some first → listed_from now first ≡ listed_from was first
+  listed_other : (y first : ℕ) → (format.nodes_file ≡ file → y ≢ x) → owner_in s format.nodes_file y ≡ Some first
+      → listed_from now first ≡ listed_from was first
   listed_other y first ne owned =
       let es = lists.listed s shape well format.nodes_file y in
       let are = lists.properties_right s shape well format.nodes_file y first owned in
@@ -48,7 +52,8 @@ module _ (s t : Records) (shape : Shape) (file x : ℕ) (old new : List Property
   value_other label key y ne = ap (row_value now label key) (fr.node_other s t shape file x old new h y ne)
       ∙ on (node_at s y) (λ row e. listed_other y row.property ne (ap node_first e))
     where
-      on : (o : Option NodeRow) → ((row : NodeRow) → o ≡ Some row → listed_from now row.property ≡ listed_from was row.property) → row_value now label key o ≡ row_value was label key o
+      on : (o : Option NodeRow) → ((row : NodeRow) → o ≡ Some row → listed_from now row.property ≡ listed_from was row.property)
+          → row_value now label key o ≡ row_value was label key o
       on None same = refl
       on (Some row) same = ap (λ ps. cond (nat_eq row.label label) (value_in ps key) None) (same row refl)
 
@@ -90,7 +95,8 @@ module _ (s t : Records) (shape : Shape) (file x : ℕ) (old new : List Property
         here : (v : Option Value) → cond (nat_eq label label) v None ≡ v
         here v = ap (λ b. cond b v None) (eq_true label label refl)
 
-        own : (l k y : ℕ) → y ≡ x → (l ≢ label) ⊎ ((k ≢ key) ⊎ (y ≢ x)) → cond (nat_eq label l) (value_in new k) None ≡ cond (nat_eq label l) (value_in old k) None
+        own : (l k y : ℕ) → y ≡ x → (l ≢ label) ⊎ ((k ≢ key) ⊎ (y ≢ x))
+            → cond (nat_eq label l) (value_in new k) None ≡ cond (nat_eq label l) (value_in old k) None
         own l k y e (inl ne) = rw (eq_false label l (λ q. ne (sym q))) refl
         own l k y e (inr (inl ne)) = ap (λ v. cond (nat_eq label l) v None) (same k ne)
         own l k y e (inr (inr ne)) = absurd (ne e)

@@ -1,5 +1,6 @@
 -- Laws of what is read of the records of a store.
-use Rattle.std.proofs.Common.{◌≡◌, ◌≢◌, ◌⊎◌, ℕ, inl, inr, ◌<◌, ◌≤◌, nat_lt, nat_eq, Bool, true, false, not, cond, ◌&&◌, ◌||◌, None, Some, List, [], ◌∷◌, sym, ap, ◌∙◌, ⊎_elim, arith, refl}
+use Rattle.std.proofs.Common.{◌≡◌, ◌≢◌, ◌⊎◌, ℕ, inl, inr, ◌<◌, ◌≤◌, nat_lt, nat_eq, Bool, true, false, not, cond, ◌&&◌}
+use Rattle.std.proofs.Common.{◌||◌, None, Some, List, [], ◌∷◌, sym, ap, ◌∙◌, ⊎_elim, arith, refl}
 use Rattle.std.proofs.lemmas.Bool.{cases_lt, eqb-true, true≢false, or_cases}
 use Rattle.std.proofs.lemmas.Bool.Decides.{nat_tests}
 use Rattle.rec_bytes.specs.declared.record.Rec.{Rec}
@@ -27,7 +28,8 @@ kind_by mark r q x e = ap (λ k. cond (nat_lt x mark) k 0) e
 
 -- a kind of groups
 pub group_kinds : (kind : ℕ) → is_group_kind kind ≡ true → (kind ≡ format.grouped) ⊎ (kind ≡ format.counted)
-group_kinds kind is = ⊎_elim (λ k. inl (eqb-true kind format.grouped k)) (λ k. inr (eqb-true kind format.counted k)) (or_cases (nat_eq kind format.grouped) (nat_eq kind format.counted) is)
+group_kinds kind is = ⊎_elim (λ k. inl (eqb-true kind format.grouped k)) (λ k. inr (eqb-true kind format.counted k))
+    (or_cases (nat_eq kind format.grouped) (nat_eq kind format.counted) is)
 
 -- and of what is none's
 pub group_used : (kind : ℕ) → is_group_kind kind ≡ true → kind ≢ 0
@@ -72,7 +74,8 @@ points_more marks now r p le h = ⊎_elim
 
 pub all_point_more : (marks now : ℕ → ℕ) (r : Rec) (ps : List Pointer) → ((f : ℕ) → marks f ≤ now f) → all_point marks r ps ≡ true → all_point now r ps ≡ true
 all_point_more marks now r [] le h = refl
-all_point_more marks now r (p ∷ ps) le h = let t = and_parts (points marks r p) (all_point marks r ps) h in rw (points_more marks now r p le t.0, all_point_more marks now r ps le t.1) refl
+all_point_more marks now r (p ∷ ps) le h = let t = and_parts (points marks r p) (all_point marks r ps) h in
+    rw (points_more marks now r p le t.0, all_point_more marks now r ps le t.1) refl
 
 pub fits_more : (marks now : ℕ → ℕ) (file : ℕ) (r : Rec) → ((f : ℕ) → marks f ≤ now f) → Fits marks file r → Fits now file r
 fits_more marks now file r le h = record { layout = h.layout; is = h.is; point = all_point_more marks now r h.layout.pointers le h.point; blank = h.blank }

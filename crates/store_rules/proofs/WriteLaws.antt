@@ -1,6 +1,7 @@
 -- How many records became written, call after call.
 use Rattle.std.specs.List.{list_any}
-use Rattle.std.proofs.Common.{◌≡◌, ℕ, ◌+◌, ◌≤◌, nat_eq, Bool, true, false, ◌||◌, List, [], ◌∷◌, ◌++◌, length, map, ap, ◌∙◌, subst, inl, inr, ⊎_elim, arith, refl}
+use Rattle.std.proofs.Common.{◌≡◌, ℕ, ◌+◌, ◌≤◌, nat_eq, Bool, true, false, ◌||◌, List, [], ◌∷◌, ◌++◌, length, map, ap}
+use Rattle.std.proofs.Common.{◌∙◌, subst, inl, inr, ⊎_elim, arith, refl}
 use Rattle.std.proofs.lemmas.Bool.Decides.{nat_tests}
 use Rattle.std.proofs.lemmas.List.{length-append}
 use Rattle.rec_bytes.specs.declared.key.Key.{Key}
@@ -33,7 +34,8 @@ among_listed : (file : ℕ) (q : Key) → q ≡ meta_key_of file → (files : Li
 among_listed file q e [] h = absurd cc
 among_listed file q e (first ∷ later) h = by (nat_eq file first) refl h (λ k. among_listed file q e later k)
   where
-    by : (b : Bool) → nat_eq file first ≡ b → (b || list_any (nat_eq file) later) ≡ true → (list_any (nat_eq file) later ≡ true → IsAmong q (map meta_key_of later)) → IsAmong q (map meta_key_of (first ∷ later))
+    by : (b : Bool) → nat_eq file first ≡ b → (b || list_any (nat_eq file) later) ≡ true
+        → (list_any (nat_eq file) later ≡ true → IsAmong q (map meta_key_of later)) → IsAmong q (map meta_key_of (first ∷ later))
     by true same k rest = inl (e ∙ ap meta_key_of (same_number file first same))
     by false same k rest = inr (rest k)
 
@@ -47,7 +49,8 @@ pub none_written : (s t : State) → SameButReads s t → WritesAtMost 0 s t
 none_written s t same = record { keys = []; few = omega arith; own = tt; only = record { each = λ q w. inl (subst (λ (z : State). z.written q ≡ true) same w) } }
 
 -- these keys, and meta records
-pub some_written : (s t : State) (keys xs : List Key) → AreOwn keys → ((q : Key) → IsAmong q xs → IsAmong q (keys ++ meta_keys)) → WritesOnly s t xs → WritesAtMost (length keys) s t
+pub some_written : (s t : State) (keys xs : List Key) → AreOwn keys → ((q : Key) → IsAmong q xs → IsAmong q (keys ++ meta_keys)) → WritesOnly s t xs
+    → WritesAtMost (length keys) s t
 some_written s t keys xs own are h = record { keys = keys; few = omega arith; own = own; only = record { each = λ q w. ⊎_elim (λ old. inl old) (λ i. inr (are q i)) (h.each q w) } }
 
 pub more_written : {n m : ℕ} {s t : State} → n ≤ m → WritesAtMost n s t → WritesAtMost m s t
@@ -68,7 +71,8 @@ then_written h k = record {
 
 -- ---- besides one record
 
-pub this_written : (key : Key) (s t : State) (xs : List Key) → ((q : Key) → IsAmong q xs → IsAmong q (key ∷ meta_keys)) → WritesOnly s t xs → WritesBeside key 0 s t
+pub this_written : (key : Key) (s t : State) (xs : List Key) → ((q : Key) → IsAmong q xs → IsAmong q (key ∷ meta_keys)) → WritesOnly s t xs
+    → WritesBeside key 0 s t
 this_written key s t xs are h = record { keys = []; few = omega arith; own = tt; only = record { each = λ q w. ⊎_elim (λ old. inl old) (λ i. inr (are q i)) (h.each q w) } }
 
 pub beside_more : {key : Key} {n m : ℕ} {s t : State} → n ≤ m → WritesBeside key n s t → WritesBeside key m s t
@@ -90,7 +94,8 @@ pub beside_written : {key : Key} {n : ℕ} {s t : State} → is_meta_file key.fi
 beside_written {key} own h = record { keys = key ∷ h.keys; few = let f = h.few in omega arith; own = (own, h.own); only = h.only }
 
 -- this one, these keys, and meta records
-pub these_written : (key : Key) (s t : State) (keys xs : List Key) → AreOwn keys → ((q : Key) → IsAmong q xs → IsAmong q (key ∷ keys ++ meta_keys)) → WritesOnly s t xs → WritesBeside key (length keys) s t
+pub these_written : (key : Key) (s t : State) (keys xs : List Key) → AreOwn keys → ((q : Key) → IsAmong q xs → IsAmong q (key ∷ keys ++ meta_keys))
+    → WritesOnly s t xs → WritesBeside key (length keys) s t
 these_written key s t keys xs own are h = record { keys = keys; few = omega arith; own = own; only = record { each = λ q w. ⊎_elim (λ old. inl old) (λ i. inr (are q i)) (h.each q w) } }
 
 pub none_beside : (key : Key) (s t : State) → SameButReads s t → WritesBeside key 0 s t

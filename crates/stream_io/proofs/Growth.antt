@@ -7,13 +7,15 @@ use Rattle.stream_io.specs.declared.window.Window.{Window}
 use Rattle.stream_io.proofs.Ranges.{take-range, range_joined, range_same}
 
 -- Bytes moved from the range of the old buffer to the front of the new one: so is each front of that range.
-moved_front : (xs ys : List ℕ) (start end n : ℕ) → n ≤ end - start → slice_range ys 0 (end - start) ≡ slice_range xs start end → slice_range ys 0 n ≡ slice_range xs start (start + n)
+moved_front : (xs ys : List ℕ) (start end n : ℕ) → n ≤ end - start → slice_range ys 0 (end - start) ≡ slice_range xs start end
+    → slice_range ys 0 n ≡ slice_range xs start (start + n)
 moved_front xs ys start end n le moved =
     let from_zero : 0 + n ≡ n = omega arith in
     ap (slice_range ys 0) (sym from_zero) ∙ sym (take-range ys 0 (end - start) n (omega arith)) ∙ ap (take n) moved ∙ take-range xs start end n le
 
 module _ (r : Window) (order : IsInOrder r) where
-  pub moved_no_newline : (ys : List ℕ) → slice_range ys 0 (r.end - r.start) ≡ slice_range r.buffer.items r.start r.end → IsPiece (slice_range ys 0 (r.searched - r.start))
+  pub moved_no_newline : (ys : List ℕ) → slice_range ys 0 (r.end - r.start) ≡ slice_range r.buffer.items r.start r.end
+      → IsPiece (slice_range ys 0 (r.searched - r.start))
   moved_no_newline ys moved =
       let o = order in
       let within : r.searched - r.start ≤ r.end - r.start = omega (arith, o.start_order, o.searched_order) in

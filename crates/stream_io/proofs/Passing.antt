@@ -1,5 +1,6 @@
 -- Step after step of a reader's call.
-use Rattle.std.proofs.Common.{◌≡◌, ◌≢◌, ◌⊎◌, inl, inr, ℕ, ◌+◌, ◌*◌, ◌-◌, ◌^◌, ◌≤◌, ◌<◌, Bool, true, false, List, [], ◌∷◌, ◌++◌, length, refl, sym, ◌∙◌, ap, subst, arith, length-append, append_assoc, cond}
+use Rattle.std.proofs.Common.{◌≡◌, ◌≢◌, ◌⊎◌, inl, inr, ℕ, ◌+◌, ◌*◌, ◌-◌, ◌^◌, ◌≤◌, ◌<◌, Bool, true, false, List, []}
+use Rattle.std.proofs.Common.{◌∷◌, ◌++◌, length, refl, sym, ◌∙◌, ap, subst, arith, length-append, append_assoc, cond}
 use Rattle.stream_io.specs.Lines.{InputLine, Whole, Long, line_of}
 use Rattle.stream_io.specs.Answers.{IsPiece, TakesLine, Drops}
 use Rattle.stream_io.specs.Reading.{Reading, ahead, used}
@@ -86,9 +87,12 @@ line_joined {a} {b} {c} d line found new p f short long = elim p.is_part [
 ]
 
 -- the outcome of a call whose last step says this
-pub outcome_takes : (o : Outcome) (d : Bool) (a b c : List ℕ) (new : Reading) → PassesPart false d a b → StepTakes (steps.Ended o) d b c new → OutcomeTakes o a c new
-outcome_takes (outcomes.Found founds.Line) d a b c new p f = line_joined d (Whole new.line) founds.Line new p f (λ _. f.is_found.1) (λ e. absurd (cc (e, f.is_found.0)))
-outcome_takes (outcomes.Found founds.TooLong) d a b c new p f = line_joined d Long founds.TooLong new p f (λ e. elim f.is_found [ inl was ↦ absurd (cc (was, e)) | inr is ↦ is ]) (λ _. refl)
+pub outcome_takes : (o : Outcome) (d : Bool) (a b c : List ℕ) (new : Reading) → PassesPart false d a b → StepTakes (steps.Ended o) d b c new
+    → OutcomeTakes o a c new
+outcome_takes (outcomes.Found founds.Line) d a b c new p f = line_joined d (Whole new.line) founds.Line new p f (λ _. f.is_found.1)
+    (λ e. absurd (cc (e, f.is_found.0)))
+outcome_takes (outcomes.Found founds.TooLong) d a b c new p f = line_joined d Long founds.TooLong new p f
+    (λ e. elim f.is_found [ inl was ↦ absurd (cc (was, e)) | inr is ↦ is ]) (λ _. refl)
 outcome_takes outcomes.End d a b c new p f = elim p.is_part [
   | inl none ↦ (p.split ∙ ap (λ (xs : List ℕ). xs ++ b) none.0 ∙ f.1, f.2, f.3)
   | inr long ↦ absurd (cc (long.2, f.0))
@@ -104,13 +108,15 @@ module _ (tells : Type 0) (start now new : Reading) (left_start left : List ℕ)
   outcome_counts outcomes.SourceFault d p c = (record { had_not_ended = p.start_goes_on c.0.had_not_ended; has_not_ended = c.0.has_not_ended; none_held = c.0.none_held }, c.1)
   outcome_counts outcomes.Exhausted d p c = (record { had_not_ended = p.start_goes_on c.0.had_not_ended; has_not_ended = c.0.has_not_ended; none_held = c.0.none_held }, c.1)
 
-  pub outcome_stays : (o : Outcome) (d : Bool) → Passed tells start left_start d now left → StepCounts (steps.Ended o) d now new → new.ended ≡ false → start.ended ≡ false
+  pub outcome_stays : (o : Outcome) (d : Bool) → Passed tells start left_start d now left → StepCounts (steps.Ended o) d now new → new.ended ≡ false
+      → start.ended ≡ false
   outcome_stays (outcomes.Found found) d p c e = p.start_goes_on (sym c.2 ∙ e)
   outcome_stays outcomes.End d p c e = absurd (cc (c.1, e))
   outcome_stays outcomes.SourceFault d p c e = p.start_goes_on c.0.had_not_ended
   outcome_stays outcomes.Exhausted d p c e = p.start_goes_on c.0.had_not_ended
 
-  pub outcome_asked : (o : Outcome) (d : Bool) → Passed tells start left_start d now left → StepCounts (steps.Ended o) d now new → start.ended ≡ false → new.ended ≡ true → new.taken < 2 ^ 30
+  pub outcome_asked : (o : Outcome) (d : Bool) → Passed tells start left_start d now left → StepCounts (steps.Ended o) d now new → start.ended ≡ false
+      → new.ended ≡ true → new.taken < 2 ^ 30
   outcome_asked (outcomes.Found found) d p c e f = omega (arith, c.3, p.asked e (sym c.2 ∙ f))
   outcome_asked outcomes.End d p c e f = subst (λ (r : Reading). r.taken < 2 ^ 30) (sym c.0) (p.asked e (ap (λ (r : Reading). r.ended) (sym c.0) ∙ f))
   outcome_asked outcomes.SourceFault d p c e f = absurd (cc (c.0.has_not_ended, f))

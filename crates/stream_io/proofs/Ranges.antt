@@ -40,7 +40,8 @@ drop-range xs a b n le =
 module _ (xs : List ℕ) (start searched end : ℕ) (order : start ≤ searched) (searched_order : searched ≤ end)
     (before : IsPiece (slice_range xs start searched)) where
   pub none_held : IsPiece (slice_range xs searched end) → IsPiece (slice_range xs start end)
-  none_held none = subst IsPiece (range_joined xs start searched end order searched_order) (IsPiece-append (slice_range xs start searched) (slice_range xs searched end) before none)
+  none_held none = subst IsPiece (range_joined xs start searched end order searched_order)
+      (IsPiece-append (slice_range xs start searched) (slice_range xs searched end) before none)
 
   module _ (at : ℕ) (is_held : at < length (slice_range xs searched end)) (piece : IsPiece (take at (slice_range xs searched end)))
       (found : slice_range xs searched end ≡ take at (slice_range xs searched end) ++ 10 ∷ drop (at + 1) (slice_range xs searched end)) where
@@ -51,7 +52,8 @@ module _ (xs : List ℕ) (start searched end : ℕ) (order : start ≤ searched)
     front = take-range xs searched end at (omega (arith, within))
 
     pub piece_held : IsPiece (slice_range xs start (searched + at))
-    piece_held = subst IsPiece (range_joined xs start searched (searched + at) order (omega arith)) (IsPiece-append (slice_range xs start searched) (slice_range xs searched (searched + at)) before (subst IsPiece front piece))
+    piece_held = subst IsPiece (range_joined xs start searched (searched + at) order (omega arith))
+        (IsPiece-append (slice_range xs start searched) (slice_range xs searched (searched + at)) before (subst IsPiece front piece))
 
     pub split_held : slice_range xs start end ≡ slice_range xs start (searched + at) ++ 10 ∷ slice_range xs (searched + at + 1) end
     split_held =
@@ -59,7 +61,8 @@ module _ (xs : List ℕ) (start searched end : ℕ) (order : start ≤ searched)
         sym (range_joined xs start searched end order searched_order)
         ∙ ap (λ (ys : List ℕ). slice_range xs start searched ++ ys) (found
         ∙ ap (λ (ys : List ℕ). ys ++ 10 ∷ drop (at + 1) (slice_range xs searched end)) front
-        ∙ ap (λ (ys : List ℕ). slice_range xs searched (searched + at) ++ 10 ∷ ys) (drop-range xs searched end (at + 1) (omega (arith, within)) ∙ ap (λ (k : ℕ). slice_range xs k end) next))
+        ∙ ap (λ (ys : List ℕ). slice_range xs searched (searched + at) ++ 10 ∷ ys)
+        (drop-range xs searched end (at + 1) (omega (arith, within)) ∙ ap (λ (k : ℕ). slice_range xs k end) next))
         ∙ sym (append_assoc (slice_range xs start searched) (slice_range xs searched (searched + at)) (10 ∷ slice_range xs (searched + at + 1) end))
         ∙ ap (λ (ys : List ℕ). ys ++ 10 ∷ slice_range xs (searched + at + 1) end) (range_joined xs start searched (searched + at) order (omega arith))
 

@@ -16,6 +16,7 @@ returns c =
     let top = λ (a : App). a.top in
     IfOk-weaker c.subcommand-3.result _ _ (λ d h. h.shape c.in_ok-follow.ensures.globals
     ∙ ap₂ with_subcommand (c.in_ok-with_sample.ensures.shape c.in_ok-sample.ensures.globals
-    ∙ ap₂ with_subcommand (c.in_ok-with_run.ensures.shape c.in_ok-run.ensures.globals ∙ ap₂ with_subcommand empty_is (ap top c.in_ok-run.ensures.app)) (ap top (c.in_ok-sample.ensures.app 20000 sample_counts)))
+    ∙ ap₂ with_subcommand (c.in_ok-with_run.ensures.shape c.in_ok-run.ensures.globals ∙ ap₂ with_subcommand empty_is (ap top c.in_ok-run.ensures.app))
+    (ap top (c.in_ok-sample.ensures.app 20000 sample_counts)))
     (ap top (c.in_ok-follow.ensures.app 2000 follow_counts)))
     c.subcommand-3.ensures

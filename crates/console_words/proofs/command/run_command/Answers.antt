@@ -14,7 +14,8 @@ returns-clause-app c =
     let limit_made = rw c.value_parser-2.ensures at c.range-2.ensures in
     let threshold_range : c.range.result ≡ vp.Signed (pos 2) (pos 200) = rw (c.new-2.ensures.start, c.new-2.ensures.end) at threshold_made in
     let limit_range : c.range-2.result ≡ vp.Signed (pos 16) (pos 16777216) = rw (c.new-4.ensures.start, c.new-4.ensures.end) at limit_made in
-    let threshold_long : rule_of c.action.result ≡ record (new_rule (codes "threshold")) { long = Some (codes "threshold"); action = Some Set } = search rules in
+    let threshold_long : rule_of c.action.result ≡ record (new_rule (codes "threshold")) { long = Some (codes "threshold"); action = Some Set } =
+    search rules in
     let limit_long : rule_of c.action-2.result ≡ record (new_rule (codes "limit")) { long = Some (codes "limit"); action = Some Set } = search rules in
     let threshold_given = c.value_parser-threshold.ensures.given in
     let limit_given = c.value_parser-limit.ensures.given in

@@ -1,6 +1,8 @@
 use Rattle.std.proofs.Common.{None, Some, map, refl, string_bytes, sym, true≢false, ◌∙◌}
 use Rattle.clap.specs.Words.{found_of}
-use Rattle.console_words.proofs.Answered.{escape_asks_nothing, escape_of_texts, follow_asks, follow_is_given, names_of_rows, no_other_sub, refused_asks_nothing, run_asks, run_found, same_error, sample_asks, sample_found, sample_is_given, taken_by}
+use Rattle.console_words.proofs.Answered.{escape_asks_nothing, escape_of_texts, follow_asks, follow_is_given}
+use Rattle.console_words.proofs.Answered.{names_of_rows, no_other_sub, refused_asks_nothing, run_asks, run_found}
+use Rattle.console_words.proofs.Answered.{same_error, sample_asks, sample_found, sample_is_given, taken_by}
 use Rattle.console_words.proofs.Unique.{asks_one}
 use Rattle.console_words.proofs.words.read_words.Goals as goal
 

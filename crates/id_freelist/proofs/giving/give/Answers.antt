@@ -10,13 +10,15 @@ pub returns-clause-ok : goal.returns-clause-ok
 returns-clause-ok g c tells = search rules
 
 pub returns-clause-stays : goal.returns-clause-stays
-returns-clause-stays g c tells = given_stays (g.S.Reads.state c.args.space.now) (g.S.Reads.state c.change_meta.new.space) c.args.file c.args.id (returns-clause-ok g c tells)
+returns-clause-stays g c tells = given_stays (g.S.Reads.state c.args.space.now) (g.S.Reads.state c.change_meta.new.space) c.args.file c.args.id
+    (returns-clause-ok g c tells)
 
 pub returns-clause-given : goal.returns-clause-given
 returns-clause-given g c tells free can =
     let old = g.S.Reads.state c.args.space.now in
     let is = returns-clause-ok g c tells in
-    subst (λ (new : State). HasGiven old.records new.records c.args.file c.args.id free) (sym is) (has_given old c.args.file c.args.id free (meta_of_reused c.args.file c.requires.file) c.requires.key.id can)
+    subst (λ (new : State). HasGiven old.records new.records c.args.file c.args.id free) (sym is)
+    (has_given old c.args.file c.args.id free (meta_of_reused c.args.file c.requires.file) c.requires.key.id can)
 
 pub returns-in_err-put-clause-given : goal.returns-in_err-put-clause-given
 returns-in_err-put-clause-given g c _ = never_ok c.from_residual.result _ _ c.from_residual.ensures.1

@@ -10,7 +10,8 @@ use Rattle.rec_bytes.proofs.Causes.{never_ok}
 use Rattle.id_freelist.proofs.taking.first_unused.Goals as goal
 
 -- what the record below the mark says is its kind
-kind_read : (s : State) (t : State) (file mark id : ℕ) (rec : Rec) → t.records ≡ s.records → mark ≡ high s.records file → id < mark → rec ≡ t.records (key_in file id) → kind_at s.records file id ≡ field 1 rec kind
+kind_read : (s : State) (t : State) (file mark id : ℕ) (rec : Rec) → t.records ≡ s.records → mark ≡ high s.records file → id < mark
+    → rec ≡ t.records (key_in file id) → kind_at s.records file id ≡ field 1 rec kind
 kind_read s t file mark id rec same is lt read =
     let low : id < high s.records file = omega (arith, lt, is) in
     kind_low (high s.records file) (rec_at s.records file id) id low ∙ ap (λ r. field 1 r kind) (sym (read ∙ ap (λ (rs : Records). rs (key_in file id)) same))
@@ -23,7 +24,8 @@ returns-then-byte-eq-FREE-clause-found g c t =
     let s = g.R.Reads.state c.args.space.now in
     record {
       low = omega (arith, c.loop-id-test.true, c.requires.mark);
-      free = kind_read s (g.R.Reads.state c.loop-id.space) c.args.file c.args.mark c.loop-id.id c.in_ok-rec.rec (ap (λ (z : State). z.records) c.loop-id.invariant.same) c.requires.mark c.loop-id-test.true (c.in_ok-rec.ensures.got t)
+      free = kind_read s (g.R.Reads.state c.loop-id.space) c.args.file c.args.mark c.loop-id.id c.in_ok-rec.rec
+          (ap (λ (z : State). z.records) c.loop-id.invariant.same) c.requires.mark c.loop-id-test.true (c.in_ok-rec.ensures.got t)
           ∙ sym c.byte.ensures ∙ c.if-byte-eq-FREE.true;
     }
 

@@ -7,7 +7,8 @@ use Rattle.id_freelist.proofs.taking.miscounted.Goals as goal
 
 pub returns-then-not-is_undercounted-clause-is : goal.returns-then-not-is_undercounted-clause-is
 returns-then-not-is_undercounted-clause-is g c t =
-    uncounted (g.R.Reads.state c.args.space.now) c.args.file c.args.meta c.requires.meta c.requires.counted (sym c.is_undercounted.ensures ∙ c.if-not-is_undercounted.true)
+    uncounted (g.R.Reads.state c.args.space.now) c.args.file c.args.meta c.requires.meta c.requires.counted
+    (sym c.is_undercounted.ensures ∙ c.if-not-is_undercounted.true)
 
 pub returns-in-Some-clause-is : goal.returns-in-Some-clause-is
 returns-in-Some-clause-is g c t =

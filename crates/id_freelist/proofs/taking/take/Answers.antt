@@ -15,7 +15,8 @@ use Rattle.rec_bytes.proofs.Causes.{never_ok}
 use Rattle.id_freelist.proofs.taking.take.Goals as goal
 
 -- a test of what was read is one of what the space says
-tested : (s : State) (file : ℕ) (meta : Meta) (shape : Shape) (most : ℕ) (result holds : Bool) → meta ≡ meta_of s file → shape ≡ s.shape → most ≡ room_of shape file → result ≡ is_ranged meta most → result ≡ holds → is_ranged (meta_of s file) (room s file) ≡ holds
+tested : (s : State) (file : ℕ) (meta : Meta) (shape : Shape) (most : ℕ) (result holds : Bool) → meta ≡ meta_of s file → shape ≡ s.shape
+    → most ≡ room_of shape file → result ≡ is_ranged meta most → result ≡ holds → is_ranged (meta_of s file) (room s file) ≡ holds
 tested s file meta shape most result holds read of_shape of_room is same =
     ap (is_ranged (meta_of s file)) (sym (of_room ∙ ap (λ sh. room_of sh file) of_shape)) ∙ ap (λ m. is_ranged m most) (sym read) ∙ sym is ∙ same
 
@@ -44,14 +45,16 @@ returns-then-not-is_counted-clause-sound g c tells free can =
     sound_of (g.S.Reads.state c.args.space.now) c.args.file (Err (Damaged c.in_ok-damage.damage)) (c.in_ok-damage.ensures.is tells) free can
 
 pub returns-else-meta-clause-sound : goal.returns-else-meta-clause-sound
-returns-else-meta-clause-sound g c tells free can = sound_of (g.S.Reads.state c.args.space.now) c.args.file c.take_free.result (c.take_free.ensures.refused tells) free can
+returns-else-meta-clause-sound g c tells free can = sound_of (g.S.Reads.state c.args.space.now) c.args.file c.take_free.result
+    (c.take_free.ensures.refused tells) free can
 
 pub returns-else-meta-clause-undamaged : goal.returns-else-meta-clause-undamaged
 returns-else-meta-clause-undamaged g c tells =
     let s = g.S.Reads.state c.args.space.now in
     let file = c.args.file in
     let free : c.meta-meta.result.free ≡ (meta_of s file).free = ap (λ (m : Meta). m.free) c.meta-meta.ensures in
-    let ranged = tested s file c.meta-meta.result c.shape.result c.room_of-room.result c.is_ranged.result true c.meta-meta.ensures c.shape.ensures.is c.room_of-room.ensures c.is_ranged.ensures c.if-not-is_ranged.false in
+    let ranged = tested s file c.meta-meta.result c.shape.result c.room_of-room.result c.is_ranged.result true c.meta-meta.ensures c.shape.ensures.is
+    c.room_of-room.ensures c.is_ranged.ensures c.if-not-is_ranged.false in
     let counted = ap is_counted (sym c.meta-meta.ensures) ∙ sym c.is_counted.ensures ∙ c.if-not-is_counted.false in
     on_ok {B = λ id. kind_at s.records file id ≡ free_kind} {C = λ id. id ≡ c.meta-meta.result.free} c.take_free.result
     (λ id low unused is. undamaged s file ranged counted (λ ne. ap (kind_at s.records file) (sym (is ∙ free)) ∙ unused) (λ ne. low))
@@ -62,7 +65,8 @@ returns-in_ok-take_mark-clause-undamaged g c tells =
     let s = g.S.Reads.state c.args.space.now in
     let file = c.args.file in
     let none : (meta_of s file).free ≡ 4294967295 = ap (λ (m : Meta). m.free) (sym c.meta-meta.ensures) ∙ c.if-meta.true in
-    let ranged = tested s file c.meta-meta.result c.shape.result c.room_of-room.result c.is_ranged.result true c.meta-meta.ensures c.shape.ensures.is c.room_of-room.ensures c.is_ranged.ensures c.if-not-is_ranged.false in
+    let ranged = tested s file c.meta-meta.result c.shape.result c.room_of-room.result c.is_ranged.result true c.meta-meta.ensures c.shape.ensures.is
+    c.room_of-room.ensures c.is_ranged.ensures c.if-not-is_ranged.false in
     let counted = ap is_counted (sym c.meta-meta.ensures) ∙ sym c.is_counted.ensures ∙ c.if-not-is_counted.false in
     undamaged s file ranged counted (λ ne. absurd (ne none)) (λ ne. absurd (ne none))
 
@@ -72,10 +76,12 @@ returns-then-not-is_ranged-clause-damaged g c tells =
     blames_broken s c.args.file c.requires (Err c.damaged.result) (returns-then-not-is_ranged-clause-refused g c tells)
 
 pub returns-then-not-is_counted-clause-damaged : goal.returns-then-not-is_counted-clause-damaged
-returns-then-not-is_counted-clause-damaged g c tells = breaks_of (g.S.Reads.state c.args.space.now) c.args.file c.requires c.in_ok-damage.damage (c.in_ok-damage.ensures.is tells)
+returns-then-not-is_counted-clause-damaged g c tells = breaks_of (g.S.Reads.state c.args.space.now) c.args.file c.requires c.in_ok-damage.damage
+    (c.in_ok-damage.ensures.is tells)
 
 pub returns-else-meta-clause-damaged : goal.returns-else-meta-clause-damaged
-returns-else-meta-clause-damaged g c tells = blames_broken (g.S.Reads.state c.args.space.now) c.args.file c.requires c.take_free.result (c.take_free.ensures.refused tells)
+returns-else-meta-clause-damaged g c tells = blames_broken (g.S.Reads.state c.args.space.now) c.args.file c.requires c.take_free.result
+    (c.take_free.ensures.refused tells)
 
 pub returns-in_err-damage-clause-taken : goal.returns-in_err-damage-clause-taken
 returns-in_err-damage-clause-taken g c _ = never_ok c.from_residual.result _ _ c.from_residual.ensures.1

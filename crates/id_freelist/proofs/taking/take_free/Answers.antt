@@ -8,7 +8,8 @@ pub returns-clause-taken : goal.returns-clause-taken
 unfolding free_taken
 returns-clause-taken g c tells free list =
     let now : g.S.Reads.state c.change_meta.new.space ≡ free_taken (g.S.Reads.state c.args.space.now) c.args.file = search rules in
-    free_by (g.S.Reads.state c.args.space.now) (g.S.Reads.state c.change_meta.new.space) c.args.file c.args.meta free c.requires.meta c.requires.file c.requires.some c.requires.live now list
+    free_by (g.S.Reads.state c.args.space.now) (g.S.Reads.state c.change_meta.new.space) c.args.file c.args.meta free c.requires.meta c.requires.file
+    c.requires.some c.requires.live now list
 
 pub returns-in_err-next-clause-taken : goal.returns-in_err-next-clause-taken
 returns-in_err-next-clause-taken g c _ = never_ok c.from_residual.result _ _ c.from_residual.ensures.1

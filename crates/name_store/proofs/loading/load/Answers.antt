@@ -36,7 +36,8 @@ pub load_next-requires-clause-below : goal.load_next-requires-clause-below
 load_next-requires-clause-below g c =
     let s = g.R.Reads.state c.args.space.now in
     let mark : c.meta-high.result.high ≡ name_mark s.records = ap (λ (m : Meta). m.high) c.meta-high.ensures in
-    let there : name_mark (g.R.Reads.state c.each.space).records ≡ name_mark s.records = ap name_mark (records_there (length c.each.names.names) s (g.R.Reads.state c.each.space) c.each.invariant.state) in
+    let there : name_mark (g.R.Reads.state c.each.space).records ≡ name_mark s.records =
+    ap name_mark (records_there (length c.each.names.names) s (g.R.Reads.state c.each.space) c.each.invariant.state) in
     omega (arith, c.each-test.true, c.count.ensures.value)
 
 pub each-preserved : goal.each-preserved
@@ -47,10 +48,13 @@ each-preserved g c =
     let there = records_there (length names) s m c.each.invariant.state in
     let more = c.in_ok-load_next.ensures.count in
     record {
-      first = λ tells. HoldsFirst-next s.records names c.load_next.new.names.names (c.each.invariant.first tells) (c.in_ok-load_next.ensures.next tells ∙ ap (λ records. names ++ text_at records (length names) ∷ []) there);
-      form = λ tells. form_next s.records (length names) (length c.load_next.new.names.names) more (c.each.invariant.form tells) (subst (λ records. ¬ HasNoForm records (length names)) there (c.in_ok-load_next.ensures.form tells));
+      first = λ tells. HoldsFirst-next s.records names c.load_next.new.names.names (c.each.invariant.first tells)
+          (c.in_ok-load_next.ensures.next tells ∙ ap (λ records. names ++ text_at records (length names) ∷ []) there);
+      form = λ tells. form_next s.records (length names) (length c.load_next.new.names.names) more (c.each.invariant.form tells)
+          (subst (λ records. ¬ HasNoForm records (length names)) there (c.in_ok-load_next.ensures.form tells));
       count = omega (arith, c.each-test.true, c.count.ensures.value);
-      state = state_next (length names) (length c.load_next.new.names.names) s m (g.R.Reads.state c.load_next.new.space) c.each.invariant.state c.load_next.ensures.state more;
+      state = state_next (length names) (length c.load_next.new.names.names) s m (g.R.Reads.state c.load_next.new.space) c.each.invariant.state
+          c.load_next.ensures.state more;
       onward = g.met.R.Reads.further_onward c.args.space.now c.each.space c.load_next.new.space c.each.invariant.onward c.load_next.ensures.onward;
       later = let cause = c.load_next.ensures.cause in omega (arith, c.each.invariant.later, cause.later);
     }
@@ -62,7 +66,8 @@ returns-in_err-load_next-clause-damaged g c = λ tells.
     let m = g.R.Reads.state c.each.space in
     let there = records_there (length c.each.names.names) s m c.each.invariant.state in
     let p = err_from_is_err_and c.from_residual.result c.from_residual.ensures.1 in
-    let fault = c.in_err-load_next.ensures.damaged tells (subst (λ records. HoldsFirst records c.each.names.names) (sym there) (c.each.invariant.first tells)) in
+    let fault = c.in_err-load_next.ensures.damaged tells (subst (λ records. HoldsFirst records c.each.names.names) (sym there) (c.each.invariant.first tells))
+    in
     rw (p.1, p.2) (subst (λ records. IsLoadFault records c.in_err-load_next.field-0.0) there fault)
 
 pub returns-in_err-load_next-clause-first : goal.returns-in_err-load_next-clause-first
@@ -79,7 +84,8 @@ returns-in_err-load_next-clause-sound g c = λ tells right.
     let m = g.R.Reads.state c.each.space in
     let there = records_there (length c.each.names.names) s m c.each.invariant.state in
     let p = err_from_is_err_and c.from_residual.result c.from_residual.ensures.1 in
-    let fault = c.in_err-load_next.ensures.damaged tells (subst (λ records. HoldsFirst records c.each.names.names) (sym there) (c.each.invariant.first tells)) in
+    let fault = c.in_err-load_next.ensures.damaged tells (subst (λ records. HoldsFirst records c.each.names.names) (sym there) (c.each.invariant.first tells))
+    in
     rw (p.1, p.2) (NotDamaged-loadable s.records c.in_err-load_next.field-0.0 right (subst (λ records. IsLoadFault records c.in_err-load_next.field-0.0) there fault))
 
 pub returns-in_err-load_next-clause-at_most : goal.returns-in_err-load_next-clause-at_most

@@ -23,5 +23,6 @@ index-requires c =
 
 pub returns-in-Ok-clause-found : goal.returns-in-Ok-clause-found
 returns-in-Ok-clause-found c =
-    pair_behind c.args.pairs.now.items c.args.order.now.items c.args.hints.now.items c.args.hole c.args.key c.in-Ok.i c.index.result.now c.requires.state c.requires.below
+    pair_behind c.args.pairs.now.items c.args.order.now.items c.args.hints.now.items c.args.hole c.args.key c.in-Ok.i c.index.result.now c.requires.state
+    c.requires.below
     c.in-Ok.ensures.found c.index.ensures

@@ -6,7 +6,8 @@ use Rattle.rec_bytes.proofs.place_hints.place_of.Goals as goal
 
 pub returns-then-is_at-clause-found : goal.returns-then-is_at-clause-found
 returns-then-is_at-clause-found c =
-    pair_at_place c.args.pairs.now.items c.args.order.now.items c.args.hints.now.items c.args.key _ c.requires (c.if-is_at.ensures.within refl) (c.if-is_at.ensures.key refl)
+    pair_at_place c.args.pairs.now.items c.args.order.now.items c.args.hints.now.items c.args.key _ c.requires (c.if-is_at.ensures.within refl)
+    (c.if-is_at.ensures.key refl)
 
 pub search-requires-clause-below : goal.search-requires-clause-below
 search-requires-clause-below c k none = absurd (omega (arith, none))

@@ -16,7 +16,8 @@ loop-low-init c =
     let long = length-in_order c.args.pairs.now.items order in
     record {
       searching = search_from (in_order c.args.pairs.now.items order) c.args.key no_pair c.args.hole.start _
-          (omega (arith, c.len.ensures, c.args.order.now.ok.0, around_long, c.requires.within)) (omega (arith, c.len.ensures, c.args.order.now.ok.0, around_long, long)) c.requires.below;
+          (omega (arith, c.len.ensures, c.args.order.now.ok.0, around_long, c.requires.within))
+          (omega (arith, c.len.ensures, c.args.order.now.ok.0, around_long, long)) c.requires.below;
       behind = omega arith;
     }
 
@@ -53,7 +54,8 @@ loop-low-preserved-in-Less c =
     let middle : i < c.loop-low.high = omega arith in
     let behind : c.args.hole.start ≤ i = omega (arith, c.loop-low.invariant.behind) in
     let placed = c.index.ensures ∙ sym (get_or-around c.args.order.now.items c.args.hole i c.index.result.now c.requires.within behind) in
-    let pair = read_at c.args.pairs.now.items order i c.index.result.now c.index-in-loop-low.result.now c.requires.ordered (omega (arith, middle, c.loop-low.invariant.searching.within)) placed c.index-in-loop-low.ensures in
+    let pair = read_at c.args.pairs.now.items order i c.index.result.now c.index-in-loop-low.result.now c.requires.ordered
+    (omega (arith, middle, c.loop-low.invariant.searching.within)) placed c.index-in-loop-low.ensures in
     record {
       searching = search_less ps c.args.key no_pair c.loop-low.low c.loop-low.high i c.requires.ordered.rising c.loop-low.invariant.searching middle
           (ap (λ (p : Key × Rec). key_cmp p.0 c.args.key) pair ∙ sym c.in-Less.ensures);
@@ -68,7 +70,8 @@ returns-in-Equal-clause-found c =
     let middle : i < c.loop-low.high = omega arith in
     let behind : c.args.hole.start ≤ i = omega (arith, c.loop-low.invariant.behind) in
     let placed = c.index.ensures ∙ sym (get_or-around c.args.order.now.items c.args.hole i c.index.result.now c.requires.within behind) in
-    let pair = read_at c.args.pairs.now.items order i c.index.result.now c.index-in-loop-low.result.now c.requires.ordered (omega (arith, middle, c.loop-low.invariant.searching.within)) placed c.index-in-loop-low.ensures in
+    let pair = read_at c.args.pairs.now.items order i c.index.result.now c.index-in-loop-low.result.now c.requires.ordered
+    (omega (arith, middle, c.loop-low.invariant.searching.within)) placed c.index-in-loop-low.ensures in
     search_equal ps c.args.key no_pair c.loop-low.low c.loop-low.high i c.requires.ordered.rising c.loop-low.invariant.searching middle
     (ap (λ (p : Key × Rec). key_cmp p.0 c.args.key) pair ∙ sym c.in-Equal.ensures)
 
@@ -81,7 +84,8 @@ loop-low-preserved c =
     let from : c.loop-low.low ≤ i = omega arith in
     let behind : c.args.hole.start ≤ i = omega (arith, c.loop-low.invariant.behind) in
     let placed = c.index.ensures ∙ sym (get_or-around c.args.order.now.items c.args.hole i c.index.result.now c.requires.within behind) in
-    let pair = read_at c.args.pairs.now.items order i c.index.result.now c.index-in-loop-low.result.now c.requires.ordered (omega (arith, middle, c.loop-low.invariant.searching.within)) placed c.index-in-loop-low.ensures in
+    let pair = read_at c.args.pairs.now.items order i c.index.result.now c.index-in-loop-low.result.now c.requires.ordered
+    (omega (arith, middle, c.loop-low.invariant.searching.within)) placed c.index-in-loop-low.ensures in
     record {
       searching = search_greater ps c.args.key no_pair c.loop-low.low c.loop-low.high i c.requires.ordered.rising c.loop-low.invariant.searching from middle
           (ap (λ (p : Key × Rec). key_cmp p.0 c.args.key) pair ∙ sym c.in-Greater.ensures);
@@ -90,4 +94,5 @@ loop-low-preserved c =
 
 pub returns-clause-absent : goal.returns-clause-absent
 returns-clause-absent c =
-    search_end (in_order c.args.pairs.now.items (around c.args.order.now.items c.args.hole)) c.args.key no_pair c.loop-low.low c.loop-low.high c.loop-low.invariant.searching c.loop-low-test.false
+    search_end (in_order c.args.pairs.now.items (around c.args.order.now.items c.args.hole)) c.args.key no_pair c.loop-low.low c.loop-low.high
+    c.loop-low.invariant.searching c.loop-low-test.false

@@ -37,7 +37,8 @@ pub put_behind-hole-requires-clause-below : goal.put_behind-hole-requires-clause
 put_behind-hole-requires-clause-below c =
     let within : c.loop-i.i < length c.args.other.now.pairs = omega (arith, c.len-i-end.ensures.value) in
     let here = get_or_from_slice_get c.args.other.now.pairs c.loop-i.i c.at.result no_pair c.at.ensures.value in
-    subst (λ (p : Key × Rec). AreBelow (in_order_around c.loop-i.pairs.items c.loop-i.order.items c.loop-i.hole) c.loop-i.hole.start p.0) here (c.loop-i.invariant.below within)
+    subst (λ (p : Key × Rec). AreBelow (in_order_around c.loop-i.pairs.items c.loop-i.order.items c.loop-i.hole) c.loop-i.hole.start p.0) here
+    (c.loop-i.invariant.below within)
 
 pub put_behind-hole-requires-clause-size : goal.put_behind-hole-requires-clause-size
 put_behind-hole-requires-clause-size c =

@@ -9,7 +9,8 @@ use Rattle.rec_bytes.proofs.write_set.merge_pass.Given as goal
 abbrev pub invariant-loop-i : goal.invariant-loop-i
 invariant-loop-i l = record {
   state : IsOpen l.pairs.items l.order.items l.hints.items l.hole;
-  all : merged (in_order_around l.pairs.items l.order.items l.hole) (drop l.i l.other.pairs) ≡ merged (in_order l.fn.pairs.items l.fn.order.items) l.other.pairs;
+  all : merged (in_order_around l.pairs.items l.order.items l.hole) (drop l.i l.other.pairs) ≡ merged (in_order l.fn.pairs.items l.fn.order.items)
+      l.other.pairs;
   size : growth_by (in_order_around l.pairs.items l.order.items l.hole) (drop l.i l.other.pairs) ≡ l.hole.size;
   below : l.i < length l.other.pairs → AreBelow (in_order_around l.pairs.items l.order.items l.hole) l.hole.start (get_or l.other.pairs l.i no_pair).0;
   room : length l.pairs.items + l.hole.size ≤ vec_capacity l.pairs;

@@ -18,20 +18,24 @@ index_mut-requires c =
 
 pub returns-in-Ok-clause-state : goal.returns-in-Ok-clause-state
 returns-in-Ok-clause-state c =
-    open_set c.args.pairs.now.items c.args.order.now.items c.args.hints.now.items c.args.hole c.args.key c.args.rec c.in-Ok.place c.requires.state c.in-Ok.ensures.found
+    open_set c.args.pairs.now.items c.args.order.now.items c.args.hints.now.items c.args.hole c.args.key c.args.rec c.in-Ok.place c.requires.state
+    c.in-Ok.ensures.found
 
 pub returns-in-Ok-clause-pairs : goal.returns-in-Ok-clause-pairs
 returns-in-Ok-clause-pairs c =
-    hinted_replaced c.args.pairs.now.items (around c.args.order.now.items c.args.hole) c.args.hints.now.items c.args.key c.args.rec c.in-Ok.place c.requires.state.hinted c.in-Ok.ensures.found
+    hinted_replaced c.args.pairs.now.items (around c.args.order.now.items c.args.hole) c.args.hints.now.items c.args.key c.args.rec c.in-Ok.place
+    c.requires.state.hinted c.in-Ok.ensures.found
 
 pub returns-in-Ok-clause-below : goal.returns-in-Ok-clause-below
 returns-in-Ok-clause-below c next less =
-    below_set c.args.pairs.now.items c.args.order.now.items c.args.hints.now.items c.args.hole c.args.key next c.args.rec c.in-Ok.place c.requires.state c.requires.below
+    below_set c.args.pairs.now.items c.args.order.now.items c.args.hints.now.items c.args.hole c.args.key next c.args.rec c.in-Ok.place c.requires.state
+    c.requires.below
     c.in-Ok.ensures.found less
 
 pub returns-in-Ok-clause-size : goal.returns-in-Ok-clause-size
 returns-in-Ok-clause-size c =
-    let none = growth_pair c.args.pairs.now.items (around c.args.order.now.items c.args.hole) c.args.key c.in-Ok.place c.in-Ok.ensures.found in omega (arith, none)
+    let none = growth_pair c.args.pairs.now.items (around c.args.order.now.items c.args.hole) c.args.key c.in-Ok.place c.in-Ok.ensures.found in
+    omega (arith, none)
 
 -- ---- where it is new
 
@@ -54,7 +58,8 @@ fill_hole-requires-clause-within c =
     let reached = gap_within c.args.pairs.now.items (around c.args.order.now.items c.args.hole) c.args.key c.in-Err.i c.in-Err.ensures.absent in
     omega (arith, reached, length-around c.args.order.now.items c.args.hole c.requires.state.within)
 
-filled : (c : After-fill_hole) → around c.fill_hole.new.order.items c.fill_hole.result ≡ insert (around c.args.order.now.items c.args.hole) c.in-Err.i (length c.args.pairs.now.items)
+filled : (c : After-fill_hole) → around c.fill_hole.new.order.items c.fill_hole.result ≡ insert (around c.args.order.now.items c.args.hole) c.in-Err.i
+    (length c.args.pairs.now.items)
 filled c =
     c.fill_hole.ensures.places ∙ ap (insert (around c.args.order.now.items c.args.hole) c.in-Err.i) (c.len-place.ensures ∙ c.args.pairs.now.ok.0)
 
@@ -71,12 +76,14 @@ returns-in-Err-clause-state c =
 pub returns-in-Err-clause-pairs : goal.returns-in-Err-clause-pairs
 returns-in-Err-clause-pairs c =
     ap (λ (p : Pairs). in_order p (around c.fill_hole.new.order.items c.fill_hole.result)) c.push_reserved.ensures.items
-    ∙ pairs_added c.args.pairs.now.items c.args.order.now.items c.args.hints.now.items c.fill_hole.new.order.items c.args.hole c.fill_hole.result c.args.key c.args.rec c.in-Err.i
+    ∙ pairs_added c.args.pairs.now.items c.args.order.now.items c.args.hints.now.items c.fill_hole.new.order.items c.args.hole c.fill_hole.result c.args.key
+    c.args.rec c.in-Err.i
     c.requires.state c.in-Err.ensures.absent (filled c)
 
 pub returns-in-Err-clause-below : goal.returns-in-Err-clause-below
 returns-in-Err-clause-below c next less =
-    below_added c.args.pairs.now.items _ c.args.order.now.items c.args.hints.now.items c.args.hole c.args.key next c.args.rec c.in-Err.i c.fill_hole.result.start
+    below_added c.args.pairs.now.items _ c.args.order.now.items c.args.hints.now.items c.args.hole c.args.key next c.args.rec c.in-Err.i
+    c.fill_hole.result.start
     c.requires.state c.in-Err.ensures.absent (returns-in-Err-clause-pairs c) c.fill_hole.ensures.start less
 
 pub returns-in-Err-clause-size : goal.returns-in-Err-clause-size

@@ -24,7 +24,8 @@ pub returns-then-not-fits-clause-none : goal.returns-then-not-fits-clause-none
 returns-then-not-fits-clause-none g c tells =
     let records = (g.R.Reads.state c.args.space.now).records in
     let kind = g.L.Line.kind c.args.line.now in
-    let got : c.in_ok-rec.rec ≡ rec_at records kind.file c.loop.at = c.in_ok-rec.ensures.got tells ∙ ap (λ rs. rec_at rs c.file.result c.loop.at) c.loop.invariant.same ∙ ap (λ f. rec_at records f c.loop.at) c.file.ensures.is in
+    let got : c.in_ok-rec.rec ≡ rec_at records kind.file c.loop.at = c.in_ok-rec.ensures.got tells
+    ∙ ap (λ rs. rec_at rs c.file.result c.loop.at) c.loop.invariant.same ∙ ap (λ f. rec_at records f c.loop.at) c.file.ensures.is in
     let no : c.fits.result ≡ false = search rules in
     let bad = ap (kind.fits c.loop.before c.loop.at) (sym got) ∙ sym c.fits.ensures ∙ no in
     no_line _ _ c.args.high c.requires nil c.args.first c.loop.ids.items c.loop.before c.loop.at (c.loop.invariant.path tells) c.if-at.false (inr bad)
@@ -43,10 +44,12 @@ loop-preserved g c =
       low = grind (arith, common_steps);
       count = search rules;
       path = λ tells.
-          let got : c.in_ok-rec.rec ≡ rec_at records kind.file at = c.in_ok-rec.ensures.got tells ∙ ap (λ rs. rec_at rs c.file.result at) c.loop.invariant.same ∙ ap (λ f. rec_at records f at) c.file.ensures.is in
+          let got : c.in_ok-rec.rec ≡ rec_at records kind.file at = c.in_ok-rec.ensures.got tells ∙ ap (λ rs. rec_at rs c.file.result at) c.loop.invariant.same
+          ∙ ap (λ f. rec_at records f at) c.file.ensures.is in
           let ok = ap (kind.fits last at) (sym got) ∙ sym c.fits.ensures ∙ yes in
           let link : c.next-at.result ≡ next at = c.next-at.ensures ∙ ap (kind.next) got in
-          path_step next _ c.args.high nil c.args.first c.loop.ids.items last at (c.loop.invariant.path tells) c.if-at-high.false ok _ _ c.in-Ok.ensures.items link;
+          path_step next _ c.args.high nil c.args.first c.loop.ids.items last at (c.loop.invariant.path tells) c.if-at-high.false ok _ _ c.in-Ok.ensures.items
+          link;
       onward = g.met.R.Reads.further_onward c.args.space.now c.loop.space c.get.new.self c.loop.invariant.onward c.in_ok-rec.ensures.onward;
       faults = let cause = c.in_ok-rec.ensures.cause in omega (arith, c.loop.invariant.faults, cause.later);
     }

@@ -15,7 +15,8 @@ invariant-loop g l =
       written : (g.R.Reads.state l.space).written ≡ (g.R.Reads.state l.fn.space).written;
       low : All (λ x. x < l.high) l.ids.items;
       count : length l.ids.items ≡ l.counter;
-      path : g.R.Reads.tells → IsPath (λ x. kind.next (rec_at records kind.file x)) (λ before x. kind.fits before x (rec_at records kind.file x)) l.high nil l.first l.ids.items l.before l.at;
+      path : g.R.Reads.tells → IsPath (λ x. kind.next (rec_at records kind.file x)) (λ before x. kind.fits before x (rec_at records kind.file x)) l.high nil
+          l.first l.ids.items l.before l.at;
       onward : g.R.Reads.onward l.fn.space l.space;
       faults : g.R.Reads.faults l.fn.space ≤ g.R.Reads.faults l.space;
     }

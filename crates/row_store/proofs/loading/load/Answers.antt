@@ -13,7 +13,8 @@ pub returns-then-id-room_of-clause-damaged : goal.returns-then-id-room_of-clause
 returns-then-id-room_of-clause-damaged g c = λ tells.
     let s = g.R.Reads.state c.args.space.now in
     let mark : c.meta.result.high ≡ high s.records c.FILE-file.result = ap (λ (m : Meta). m.high) c.meta.ensures in
-    let room : c.room_of.result ≡ room_of s.shape c.FILE-file.result = c.room_of.ensures ∙ ap (λ (shape : Shape). room_of shape c.FILE-file.result) c.shape.ensures.is in
+    let room : c.room_of.result ≡ room_of s.shape c.FILE-file.result = c.room_of.ensures
+    ∙ ap (λ (shape : Shape). room_of shape c.FILE-file.result) c.shape.ensures.is in
     let above : room_of s.shape c.FILE-file.result < high s.records c.FILE-file.result = omega arith in
     subst (λ (f : ℕ). IsRowDamage g.T.Row.FILE s c.args.id (mark_damage f)) (sym c.FILE-file.ensures)
     (HighMark (subst (λ (f : ℕ). room_of s.shape f < high s.records f) c.FILE-file.ensures above))
@@ -30,7 +31,8 @@ returns-in-Ok-clause-damaged g c = λ tells.
 pub returns-in-Ok-clause-known : goal.returns-in-Ok-clause-known
 returns-in-Ok-clause-known g c = λ tells.
     let s = g.R.Reads.state c.args.space.now in
-    let room : c.room_of.result ≡ room_of s.shape c.FILE-file.result = c.room_of.ensures ∙ ap (λ (shape : Shape). room_of shape c.FILE-file.result) c.shape.ensures.is in
+    let room : c.room_of.result ≡ room_of s.shape c.FILE-file.result = c.room_of.ensures
+    ∙ ap (λ (shape : Shape). room_of shape c.FILE-file.result) c.shape.ensures.is in
     let low = subst (λ (f : ℕ). c.args.id < room_of s.shape f) c.FILE-file.ensures (omega arith) in
     let there = subst (λ (f : ℕ). c.get_into.new.rec ≡ rec_at s.records f c.args.id) c.FILE-file.ensures (c.in-Ok.ensures.got tells) in
     subst (λ r. OnOk r (IsKnown g.T.Row.FILE s c.args.id)) (sym c.read_row.ensures)

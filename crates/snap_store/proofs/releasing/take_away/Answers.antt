@@ -13,16 +13,19 @@ right : (old new : List HeldLayer) (reader : ℕ) → AreLayers old → AllByRec
 right old new reader h each is = record {
   each = each;
   distinct = subst AreDistinct (sym is) (distinct-released reader (layers_of old) h.distinct);
-  few = let more : total (layers_of new) ≡ total (released reader (layers_of old)) = ap total is in omega (arith, more, total-released reader (layers_of old), h.few);
+  few = let more : total (layers_of new) ≡ total (released reader (layers_of old)) = ap total is in
+      omega (arith, more, total-released reader (layers_of old), h.few);
 }
 
 -- the next older layer is where it was
-older_is : (xs : List HeldLayer) (place before : ℕ) (gone older : HeldLayer) (left : List HeldLayer) → place ≡ suc before → place < length xs → left ≡ remove xs place
+older_is : (xs : List HeldLayer) (place before : ℕ) (gone older : HeldLayer) (left : List HeldLayer) → place ≡ suc before → place < length xs
+    → left ≡ remove xs place
     → older ≡ get_or left before older → older ≡ get_or xs before older
 older_is xs place before gone older left is lt e at = at ∙ ap (λ ls. get_or ls before older) e ∙ get_or-remove_below xs place older before (omega arith) lt
 
 -- what is left
-left_is : (xs : List HeldLayer) (reader place before : ℕ) (gone older y : HeldLayer) (left : List HeldLayer) → place ≡ suc before → IsPlaceOf reader (layers_of xs) place
+left_is : (xs : List HeldLayer) (reader place before : ℕ) (gone older y : HeldLayer) (left : List HeldLayer) → place ≡ suc before
+    → IsPlaceOf reader (layers_of xs) place
     → left ≡ remove xs place → gone ≡ get_or xs place gone → older ≡ get_or left before older → layer_of y ≡ joined (layer_of older) (layer_of gone)
     → layers_of (set left before y) ≡ released reader (layers_of xs)
 left_is xs reader place before gone older y left is h e from at made =
@@ -40,9 +43,12 @@ join-requires-clause-few c =
     let before = c.args.place - 1 in
     let is : c.args.place ≡ suc before = omega (arith, c.if-place-gt0.true) in
     let lt = place_within c.args.reader xs c.args.place c.requires.place in
-    let older = older_is xs c.args.place before c.remove-gone.result c.index_mut-older.result.now c.remove-gone.new.self.items is lt c.remove-gone.ensures.items c.index_mut-older.ensures.value in
-    let a : length c.index_mut-older.result.now.set.pairs ≡ length (get_or xs before c.index_mut-older.result.now).set.pairs = ap (λ (l : HeldLayer). length l.set.pairs) older in
-    let b : length c.remove-gone.result.set.pairs ≡ length (get_or xs c.args.place c.remove-gone.result).set.pairs = ap (λ (l : HeldLayer). length l.set.pairs) c.remove-gone.ensures.value in
+    let older = older_is xs c.args.place before c.remove-gone.result c.index_mut-older.result.now c.remove-gone.new.self.items is lt c.remove-gone.ensures.items
+    c.index_mut-older.ensures.value in
+    let a : length c.index_mut-older.result.now.set.pairs ≡ length (get_or xs before c.index_mut-older.result.now).set.pairs =
+    ap (λ (l : HeldLayer). length l.set.pairs) older in
+    let b : length c.remove-gone.result.set.pairs ≡ length (get_or xs c.args.place c.remove-gone.result).set.pairs =
+    ap (λ (l : HeldLayer). length l.set.pairs) c.remove-gone.ensures.value in
     omega (arith, a, b, two_layers xs before c.args.place c.index_mut-older.result.now c.remove-gone.result is lt, c.requires.right.few)
 
 pub returns-then-place-gt0-clause-right : goal.returns-then-place-gt0-clause-right
@@ -60,5 +66,6 @@ returns-then-place-gt0-clause-layers c =
     let xs = c.args.layers.now.items in
     let before = c.args.place - 1 in
     let is : c.args.place ≡ suc before = omega (arith, c.if-place-gt0.true) in
-    left_is xs c.args.reader c.args.place before c.remove-gone.result c.index_mut-older.result.now c.join.new.older c.remove-gone.new.self.items is c.requires.place
+    left_is xs c.args.reader c.args.place before c.remove-gone.result c.index_mut-older.result.now c.join.new.older c.remove-gone.new.self.items is
+    c.requires.place
     c.remove-gone.ensures.items c.remove-gone.ensures.value c.index_mut-older.ensures.value c.join.ensures.joined

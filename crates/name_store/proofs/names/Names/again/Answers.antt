@@ -28,9 +28,11 @@ loop-id-preserved g c =
     let there = records_there c.loop-id.id s m c.loop-id.invariant.state in
     let kept : c.loop-id.id < length names = c.in_ok-compare.ensures.kept in
     record {
-      before = λ tells. before_next s.records names c.loop-id.id (c.loop-id.invariant.before tells) (c.in_ok-compare.ensures.same tells ∙ ap (λ records. Some (text_at records c.loop-id.id)) there);
+      before = λ tells. before_next s.records names c.loop-id.id (c.loop-id.invariant.before tells)
+          (c.in_ok-compare.ensures.same tells ∙ ap (λ records. Some (text_at records c.loop-id.id)) there);
       kept = omega arith;
-      state = state_next c.loop-id.id (c.loop-id.id + 1) s m (g.R.Reads.state c.compare.new.space) c.loop-id.invariant.state (after_compare-kept m names c.loop-id.id (g.R.Reads.state c.compare.new.space) kept c.compare.ensures.state) refl;
+      state = state_next c.loop-id.id (c.loop-id.id + 1) s m (g.R.Reads.state c.compare.new.space) c.loop-id.invariant.state
+          (after_compare-kept m names c.loop-id.id (g.R.Reads.state c.compare.new.space) kept c.compare.ensures.state) refl;
       onward = g.met.R.Reads.further_onward c.args.space.now c.loop-id.space c.compare.new.space c.loop-id.invariant.onward c.compare.ensures.onward;
       later = let cause = c.compare.ensures.cause in omega (arith, c.loop-id.invariant.later, cause.later);
     }
@@ -56,12 +58,14 @@ returns-in_err-compare-clause-sound g c = λ tells rest is.
     let mark : c.meta-high.result.high ≡ name_mark s.records = ap (λ (m : Meta). m.high) c.meta-high.ensures in
     let p = err_from_is_err_and c.from_residual.result c.from_residual.ensures.1 in
     let other = subst (λ records. HasOther records names c.loop-id.id c.in_err-compare.field-0.0) there (c.in_err-compare.ensures.damaged tells) in
-    let fault = IsAgainFault-other s.records names c.loop-id.id c.in_err-compare.field-0.0 (omega (arith, c.loop-id-test.true)) (c.loop-id.invariant.before tells) other in
+    let fault = IsAgainFault-other s.records names c.loop-id.id c.in_err-compare.field-0.0 (omega (arith, c.loop-id-test.true))
+    (c.loop-id.invariant.before tells) other in
     rw (p.1, p.2) (NotDamaged-prefix s.records names rest c.in_err-compare.field-0.0 is fault)
 
 pub returns-in_err-compare-clause-at_most : goal.returns-in_err-compare-clause-at_most
 returns-in_err-compare-clause-at_most g c =
-    reads_compared c.args.self.now.names c.loop-id.id (g.R.Reads.state c.args.space.now) (g.R.Reads.state c.loop-id.space) (g.R.Reads.state c.compare.new.space) c.loop-id.invariant.kept c.loop-id.invariant.state c.compare.ensures.state
+    reads_compared c.args.self.now.names c.loop-id.id (g.R.Reads.state c.args.space.now) (g.R.Reads.state c.loop-id.space) (g.R.Reads.state c.compare.new.space)
+    c.loop-id.invariant.kept c.loop-id.invariant.state c.compare.ensures.state
 
 pub returns-clause-same : goal.returns-clause-same
 returns-clause-same g c = λ tells.

@@ -21,25 +21,31 @@ returns-in-Some-clause-full g c = λ all lacks. absurd (lacks (contains_at c.arg
 pub returns-clause-ok : goal.returns-clause-ok
 returns-clause-ok g c = λ tells.
     let s = g.S.Reads.state c.args.space.now in
-    c.in_ok-write_name.ensures.ok tells ∙ ap (λ id. named s id c.args.text.now) c.count-id.ensures.value ∙ sym (interned-new s c.args.self.now.names c.args.text.now c.in_default.ensures.none)
+    c.in_ok-write_name.ensures.ok tells ∙ ap (λ id. named s id c.args.text.now) c.count-id.ensures.value
+    ∙ sym (interned-new s c.args.self.now.names c.args.text.now c.in_default.ensures.none)
 
 pub returns-clause-number : goal.returns-clause-number
 returns-clause-number g c =
     let names = c.args.self.now.names in
-    let new : c.push_reserved.new.self.names ≡ names ++ c.args.text.now ∷ [] = c.push_reserved.ensures ∙ ap (λ ns. ns ++ c.in-Ok.name.items ∷ []) c.reserve.ensures.names ∙ ap (λ name. names ++ name ∷ []) c.in-Ok.ensures.text in
-    ap (λ ns. slice_get ns c.count-id.result) new ∙ ap (slice_get (names ++ c.args.text.now ∷ [])) c.count-id.ensures.value ∙ slice_get-push_last names c.args.text.now
+    let new : c.push_reserved.new.self.names ≡ names ++ c.args.text.now ∷ [] = c.push_reserved.ensures
+    ∙ ap (λ ns. ns ++ c.in-Ok.name.items ∷ []) c.reserve.ensures.names ∙ ap (λ name. names ++ name ∷ []) c.in-Ok.ensures.text in
+    ap (λ ns. slice_get ns c.count-id.result) new ∙ ap (slice_get (names ++ c.args.text.now ∷ [])) c.count-id.ensures.value
+    ∙ slice_get-push_last names c.args.text.now
 
 pub returns-clause-named : goal.returns-clause-named
 returns-clause-named g c = λ tells is.
     let s = g.S.Reads.state c.args.space.now in
     let names = c.args.self.now.names in
     let text = c.args.text.now in
-    let new : c.push_reserved.new.self.names ≡ names ++ text ∷ [] = c.push_reserved.ensures ∙ ap (λ ns. ns ++ c.in-Ok.name.items ∷ []) c.reserve.ensures.names ∙ ap (λ name. names ++ name ∷ []) c.in-Ok.ensures.text in
+    let new : c.push_reserved.new.self.names ≡ names ++ text ∷ [] = c.push_reserved.ensures ∙ ap (λ ns. ns ++ c.in-Ok.name.items ∷ []) c.reserve.ensures.names
+    ∙ ap (λ name. names ++ name ∷ []) c.in-Ok.ensures.text in
     let few : length names < 4096 = omega (arith, c.count-id.ensures.value, c.count-id.ensures.few, c.if-id-eq-MOST_NAMES.false) in
-    let state : g.S.Reads.state c.write_name.new.space ≡ named s (length names) text = c.in_ok-write_name.ensures.ok tells ∙ ap (λ id. named s id text) c.count-id.ensures.value in
+    let state : g.S.Reads.state c.write_name.new.space ≡ named s (length names) text = c.in_ok-write_name.ensures.ok tells
+    ∙ ap (λ id. named s id text) c.count-id.ensures.value in
     new ∙ names_of-named s names text c.requires.1 few is ∙ sym (ap (λ (t : State). names_of t.records) state)
 
 pub returns-clause-live : goal.returns-clause-live
 returns-clause-live g c = λ tells live.
     let s = g.S.Reads.state c.args.space.now in
-    subst (λ (t : State). AreAllLive t.records format.names_file) (sym (c.in_ok-write_name.ensures.ok tells)) (live-named s c.count-id.result c.args.text.now live)
+    subst (λ (t : State). AreAllLive t.records format.names_file) (sym (c.in_ok-write_name.ensures.ok tells))
+    (live-named s c.count-id.result c.args.text.now live)

@@ -10,5 +10,6 @@ pub returns-clause-short : goal.returns-clause-short
 returns-clause-short c =
     let names = c.self.inside.texts.keys in
     let text : slice_get (name_bytes names) c.args.id ≡ Some c.deref.result.now
-    = slice_get-map (λ (x : Vec ℕ Global). x.items) names c.args.id ∙ ap (option_map (λ (x : Vec ℕ Global). x.items)) (sym c.in-Some.ensures.key) ∙ ap Some (sym c.deref.ensures.value) in
+    = slice_get-map (λ (x : Vec ℕ Global). x.items) names c.args.id ∙ ap (option_map (λ (x : Vec ℕ Global). x.items)) (sym c.in-Some.ensures.key)
+    ∙ ap Some (sym c.deref.ensures.value) in
     short_at (name_bytes names) c.args.id c.deref.result.now c.self.invariant text

@@ -11,7 +11,8 @@ returns-in-Ok c =
       (
         refl,
         (λ w _. record {
-          state = laid_state-put (base c.saturating_add-self.result) old.set.pairs (c.edit.follows.lender w).pairs c.args.key w (c.edit.follows.holds w (search rules))
+          state = laid_state-put (base c.saturating_add-self.result) old.set.pairs (c.edit.follows.lender w).pairs c.args.key w
+              (c.edit.follows.holds w (search rules))
               ∙ ap (λ n. after_put (laid_state (base n) old.set.pairs) c.args.key w) c.saturating_add-self.ensures;
           onward = search rules;
           cause = record { later = omega arith; disk = search rules };

@@ -10,5 +10,6 @@ unfolding zeros_from
 returns c =
     let r = c.args.self.now in
     let long : length r.bytes ≡ 64 = search rules in
-    let all : take (64 - c.args.at) (drop c.args.at r.bytes) ≡ drop c.args.at r.bytes = take_all (64 - c.args.at) (drop c.args.at r.bytes) (simp length-drop (omega (arith, long))) in
+    let all : take (64 - c.args.at) (drop c.args.at r.bytes) ≡ drop c.args.at r.bytes =
+    take_all (64 - c.args.at) (drop c.args.at r.bytes) (simp length-drop (omega (arith, long))) in
     c.are_zeros.ensures ∙ ap (list_all (λ b. nat_eq b 0)) (all ∙ ap (drop c.args.at) (sym (as_64-whole r.bytes long)))

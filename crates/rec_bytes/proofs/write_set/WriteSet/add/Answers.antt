@@ -10,7 +10,8 @@ use Rattle.rec_bytes.proofs.HintLaws.{hinted_added}
 use Rattle.rec_bytes.proofs.write_set.WriteSet.add.Goals as goal
 
 -- an insert that is not refused
-inserted : (old new : List ℕ) (i place n : ℕ) (failed done : Bool) → done ≡ not failed → failed ≡ false → new ≡ cond done (insert old i place) old → place ≡ n → new ≡ insert old i n
+inserted : (old new : List ℕ) (i place n : ℕ) (failed done : Bool) → done ≡ not failed → failed ≡ false → new ≡ cond done (insert old i place) old → place ≡ n
+    → new ≡ insert old i n
 inserted old new i place n failed done negation fine is same =
     is ∙ ap (λ b. cond b (insert old i place) old) (negation ∙ ap not fine) ∙ ap (insert old i) same
 
@@ -25,7 +26,9 @@ invariant_of-self c =
     = ap (λ (v : Held). v.room) (sym c.self.view_is) in
     let few : length ps < most_pairs = omega (arith, room, c.requires.room) in
     let positive : 0 < c.len-place.result + 1 = omega arith in
-    let order : c.insert.new.self.items ≡ insert c.self.inside.order.items c.gap_of-i.result (length ps) = inserted _ _ _ _ _ c.is_err.result (is_ok c.insert.result) c.is_err.ensures.negation c.if-is_err.false c.insert.ensures.items (c.len-place.ensures ∙ c.self.inside.pairs.ok.0) in
+    let order : c.insert.new.self.items ≡ insert c.self.inside.order.items c.gap_of-i.result (length ps) =
+    inserted _ _ _ _ _ c.is_err.result (is_ok c.insert.result) c.is_err.ensures.negation c.if-is_err.false c.insert.ensures.items
+    (c.len-place.ensures ∙ c.self.inside.pairs.ok.0) in
     subst (λ (p : Pairs). IsHinted p c.insert.new.self.items c.write_hint.new.hints.items) (sym c.push_reserved.ensures.items)
     (subst (λ o. IsHinted (ps ++ (c.args.key, c.args.rec) ∷ []) o c.write_hint.new.hints.items) (sym order)
     (hinted_added ps c.self.inside.order.items c.self.inside.hints.items c.write_hint.new.hints.items c.args.key c.args.rec c.gap_of-i.result (c.len-place.result + 1)
@@ -34,7 +37,9 @@ invariant_of-self c =
 pub returns-clause-pairs : goal.returns-clause-pairs
 returns-clause-pairs c =
     let ps = c.self.inside.pairs.items in
-    let order : c.insert.new.self.items ≡ insert c.self.inside.order.items c.gap_of-i.result (length ps) = inserted _ _ _ _ _ c.is_err.result (is_ok c.insert.result) c.is_err.ensures.negation c.if-is_err.false c.insert.ensures.items (c.len-place.ensures ∙ c.self.inside.pairs.ok.0) in
+    let order : c.insert.new.self.items ≡ insert c.self.inside.order.items c.gap_of-i.result (length ps) =
+    inserted _ _ _ _ _ c.is_err.result (is_ok c.insert.result) c.is_err.ensures.negation c.if-is_err.false c.insert.ensures.items
+    (c.len-place.ensures ∙ c.self.inside.pairs.ok.0) in
     ap (λ (p : Pairs). in_order p c.insert.new.self.items) c.push_reserved.ensures.items
     ∙ ap (in_order (ps ++ (c.args.key, c.args.rec) ∷ [])) order
     ∙ added ps c.self.inside.order.items c.args.key c.args.rec c.gap_of-i.result c.self.invariant.ordered c.gap_of-i.ensures

@@ -18,7 +18,8 @@ pair_at-requires c =
     let ps = c.self.inside.pairs.items in
     let order = c.self.inside.order.items in
     let within = place_within ps order c.args.i (subst (λ (v : Held). c.args.i < length v.pairs) (sym c.self.view_is) c.requires) in
-    let fits = subst (λ place. place < length ps) (sym c.index.ensures) (all_at (λ place. place < length ps) order c.args.i c.index.result.now c.self.invariant.ordered.places within) in
+    let fits = subst (λ place. place < length ps) (sym c.index.ensures)
+    (all_at (λ place. place < length ps) order c.args.i c.index.result.now c.self.invariant.ordered.places within) in
     subst (λ (p : Pairs). c.index.result.now < length p) (sym c.deref.ensures.value) fits
 
 pub returns-clause-value : goal.returns-clause-value

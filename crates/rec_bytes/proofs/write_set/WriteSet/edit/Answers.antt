@@ -21,8 +21,10 @@ pub invariant_of-self-lent : goal.invariant_of-self-lent
 invariant_of-self-lent c w =
     let ps = c.self.inside.pairs.items in
     let order = c.self.inside.order.items in
-    let pair = pair_read ps order c.args.key c.in-Some.place c.index_mut-pair.result.now c.self.invariant.ordered c.in-Some.ensures.found c.index_mut-pair.ensures.value in
-    let key : c.index_mut-pair.result.now.0 ≡ c.args.key = ap (λ (p : Key × Rec). p.0) (sym pair) ∙ pair_key ps order c.args.key c.in-Some.place c.in-Some.ensures.found in
+    let pair = pair_read ps order c.args.key c.in-Some.place c.index_mut-pair.result.now c.self.invariant.ordered c.in-Some.ensures.found
+    c.index_mut-pair.ensures.value in
+    let key : c.index_mut-pair.result.now.0 ≡ c.args.key = ap (λ (p : Key × Rec). p.0) (sym pair)
+    ∙ pair_key ps order c.args.key c.in-Some.place c.in-Some.ensures.found in
     subst (λ k. IsHinted (set ps c.in-Some.place (k, w)) order c.self.inside.hints.items) (sym key)
     (hinted_set ps order c.self.inside.hints.items c.args.key w c.in-Some.place c.self.invariant c.in-Some.ensures.found)
 

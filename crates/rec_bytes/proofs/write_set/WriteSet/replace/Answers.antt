@@ -6,7 +6,8 @@ use Rattle.rec_bytes.proofs.write_set.WriteSet.replace.Goals as goal
 
 pub invariant_of-self : goal.invariant_of-self
 invariant_of-self c =
-    hinted_set c.self.inside.pairs.items c.self.inside.order.items c.self.inside.hints.items c.args.key c.args.rec c.in-Some.place c.self.invariant c.in-Some.ensures.found
+    hinted_set c.self.inside.pairs.items c.self.inside.order.items c.self.inside.hints.items c.args.key c.args.rec c.in-Some.place c.self.invariant
+    c.in-Some.ensures.found
 
 pub returns-clause-found : goal.returns-clause-found
 returns-clause-found c =
@@ -15,7 +16,8 @@ returns-clause-found c =
 
 pub returns-clause-pairs : goal.returns-clause-pairs
 returns-clause-pairs c =
-    hinted_replaced c.self.inside.pairs.items c.self.inside.order.items c.self.inside.hints.items c.args.key c.args.rec c.in-Some.place c.self.invariant c.in-Some.ensures.found
+    hinted_replaced c.self.inside.pairs.items c.self.inside.order.items c.self.inside.hints.items c.args.key c.args.rec c.in-Some.place c.self.invariant
+    c.in-Some.ensures.found
     ∙ ap (λ (v : Held). with_pair v.pairs c.args.key c.args.rec) c.self.view_is
 
 pub returns-clause-count : goal.returns-clause-count

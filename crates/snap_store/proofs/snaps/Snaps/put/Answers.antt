@@ -39,7 +39,8 @@ returns-clause-kept c =
     let xs = c.self.inside.layers.items in
     let open_ones : length c.args.self.now.open_ones ≡ length xs = ap (λ (s : Snapshots). length s.open_ones) (sym c.self.view_is) ∙ length-layers_of xs in
     let size : length xs ≡ c.len-last.result - 1 + 1 = omega (arith, c.len-last.ensures, c.self.inside.layers.ok.0, some_open c.args.self.now.open_ones c.requires.«open», open_ones) in
-    put_last xs (c.len-last.result - 1) c.index_mut-layer.result.now _ c.args.key c.args.rec size c.index_mut-layer.ensures.value refl c.put_reserved.ensures.pairs
+    put_last xs (c.len-last.result - 1) c.index_mut-layer.result.now _ c.args.key c.args.rec size c.index_mut-layer.ensures.value refl
+    c.put_reserved.ensures.pairs
     ∙ ap (λ (s : Snapshots). with_kept s.open_ones c.args.key c.args.rec) c.self.view_is
 
 pub returns-clause-sights : goal.returns-clause-sights
@@ -47,7 +48,9 @@ returns-clause-sights c = λ reader committed is.
     let xs = c.self.inside.layers.items in
     let open_ones : length c.args.self.now.open_ones ≡ length xs = ap (λ (s : Snapshots). length s.open_ones) (sym c.self.view_is) ∙ length-layers_of xs in
     let size : length xs ≡ c.len-last.result - 1 + 1 = omega (arith, c.len-last.ensures, c.self.inside.layers.ok.0, some_open c.args.self.now.open_ones c.requires.«open», open_ones) in
-    let made = put_last xs (c.len-last.result - 1) c.index_mut-layer.result.now (record { reader = c.index_mut-layer.result.now.reader; set = c.put_reserved.new.self }) c.args.key c.args.rec size c.index_mut-layer.ensures.value refl c.put_reserved.ensures.pairs
+    let made = put_last xs (c.len-last.result - 1) c.index_mut-layer.result.now
+    (record { reader = c.index_mut-layer.result.now.reader; set = c.put_reserved.new.self }) c.args.key c.args.rec size c.index_mut-layer.ensures.value refl
+    c.put_reserved.ensures.pairs
     ∙ ap (λ (s : Snapshots). with_kept s.open_ones c.args.key c.args.rec) c.self.view_is in
     ap (λ (ls : Layers). sees ls reader committed) made
     ∙ (λ i q. sees-with_kept c.args.self.now.open_ones c.args.key c.args.rec reader committed q is (none_of (find_pair (youngest c.args.self.now.open_ones) c.args.key) c.requires.absent) i)
@@ -57,6 +60,8 @@ returns-clause-covered c = λ sums covered.
     let xs = c.self.inside.layers.items in
     let open_ones : length c.args.self.now.open_ones ≡ length xs = ap (λ (s : Snapshots). length s.open_ones) (sym c.self.view_is) ∙ length-layers_of xs in
     let size : length xs ≡ c.len-last.result - 1 + 1 = omega (arith, c.len-last.ensures, c.self.inside.layers.ok.0, some_open c.args.self.now.open_ones c.requires.«open», open_ones) in
-    let made = put_last xs (c.len-last.result - 1) c.index_mut-layer.result.now (record { reader = c.index_mut-layer.result.now.reader; set = c.put_reserved.new.self }) c.args.key c.args.rec size c.index_mut-layer.ensures.value refl c.put_reserved.ensures.pairs
+    let made = put_last xs (c.len-last.result - 1) c.index_mut-layer.result.now
+    (record { reader = c.index_mut-layer.result.now.reader; set = c.put_reserved.new.self }) c.args.key c.args.rec size c.index_mut-layer.ensures.value refl
+    c.put_reserved.ensures.pairs
     ∙ ap (λ (s : Snapshots). with_kept s.open_ones c.args.key c.args.rec) c.self.view_is in
     subst (AreCovered (risen 1 sums)) (sym made) (covered-with_kept sums c.args.self.now.open_ones c.args.key c.args.rec covered)

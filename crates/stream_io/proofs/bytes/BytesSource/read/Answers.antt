@@ -10,5 +10,6 @@ returns-clause-given c =
     let n = c.min-count.result in
     let front : take n (c.copy_from_slice.new.self ++ drop n c.args.out.now) ≡ take n rest = grind (arith, common_steps) in
     let back : drop (c.self.inside.at + n) c.self.inside.bytes.items ≡ drop n rest = grind (arith, common_steps) in
-    let whole : rest ≡ take n (c.copy_from_slice.new.self ++ drop n c.args.out.now) ++ drop (c.self.inside.at + n) c.self.inside.bytes.items = rw (front, back) (sym (take-append-drop n rest)) in
+    let whole : rest ≡ take n (c.copy_from_slice.new.self ++ drop n c.args.out.now) ++ drop (c.self.inside.at + n) c.self.inside.bytes.items =
+    rw (front, back) (sym (take-append-drop n rest)) in
     (same ∙ whole, λ none. let empty : length rest ≡ 0 = grind (arith, common_steps) in same ∙ nil_from_length rest empty)

@@ -15,7 +15,8 @@ invariant_of-self c =
         start_order = omega arith;
         searched_order = omega arith;
         within = i.within;
-        no_newline = none_held c.self.inside.window.buffer.items _ _ _ i.start_order i.searched_order i.no_newline (rw c.deref.ensures.value at c.in_default.ensures.none);
+        no_newline = none_held c.self.inside.window.buffer.items _ _ _ i.start_order i.searched_order i.no_newline
+            (rw c.deref.ensures.value at c.in_default.ensures.none);
       };
       line_order = c.self.invariant.line_order;
       line_within = c.self.invariant.line_within;

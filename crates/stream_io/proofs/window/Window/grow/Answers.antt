@@ -63,7 +63,8 @@ returns-clause-grown g c =
       record {
         more = take n (drop w.end ys);
         count_is = omega (arith, length-take n (drop w.end ys), length-drop w.end ys, size, fits);
-        held = ap (λ (zs : List ℕ). slice_range zs w.start (w.end + n)) items ∙ grown_held w o ys same n ∙ ap (λ (zs : List ℕ). zs ++ take n (drop w.end ys)) c.make_room.ensures.held;
+        held = ap (λ (zs : List ℕ). slice_range zs w.start (w.end + n)) items ∙ grown_held w o ys same n
+            ∙ ap (λ (zs : List ℕ). zs ++ take n (drop w.end ys)) c.make_room.ensures.held;
         given = λ t. (c.in_ok-count.ensures.given t).0;
         at_end = λ t. (c.in_ok-count.ensures.given t).1;
       },

@@ -15,5 +15,6 @@ returns-then-self-lt-READ_BYTES-clause-order c =
       start_order = omega arith;
       searched_order = omega (arith, o.start_order, o.searched_order);
       within = omega (arith, o.within);
-      no_newline = subst (λ (zs : List ℕ). IsPiece (slice_range zs 0 (c.args.self.now.searched - c.args.self.now.start))) (sym items) (moved_no_newline c.args.self.now o c.move_to_front.new.buffer moved);
+      no_newline = subst (λ (zs : List ℕ). IsPiece (slice_range zs 0 (c.args.self.now.searched - c.args.self.now.start))) (sym items)
+          (moved_no_newline c.args.self.now o c.move_to_front.new.buffer moved);
     }
