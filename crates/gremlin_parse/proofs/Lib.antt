@@ -1,5 +1,4 @@
 pub mod Exits
-pub mod LeftWords
 pub mod Runs
 pub mod Stops
 pub mod Differing
@@ -33,6 +32,7 @@ pub mod QueryPlaces
 pub mod OrderLaws
 pub mod Later
 pub mod QueryReads
+pub mod LeftWords
 pub mod OrderReads
 pub mod OrderTokens
 pub mod RepeatReads

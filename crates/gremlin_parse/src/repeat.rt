@@ -107,8 +107,7 @@ fn read_body_step(alloc: Global, before: usize, bytes: &[u8]) -> Result<(BodySte
     let (word, after_name) = read_body_word(before, bytes)?;
     let at_open = skip_blanks(after_name);
     let at_arguments = read_token(at_open, b"(")?;
-    let (step, rest) = read_body_arguments(alloc, word, at_arguments)?;
-    Ok((step, rest))
+    read_body_arguments(alloc, word, at_arguments)
 }
 
 /// The name of a step of a body, with so many steps before it, and the bytes after it.

@@ -98,10 +98,7 @@ pub(crate) fn read_arguments(
             let (key, descending, rest) = read_by(alloc, bytes)?;
             Ok((Step::Order { key, descending }, rest))
         }
-        StepWord::Repeat => {
-            let (step, rest) = read_repeat(alloc, stage.steps, bytes)?;
-            Ok((step, rest))
-        }
+        StepWord::Repeat => read_repeat(alloc, stage.steps, bytes),
         StepWord::ElementMap | StepWord::Change(_) => unreachable!(),
     }
 }

@@ -1,7 +1,7 @@
 use Rattle.std.proofs.Common.{sym, subst, ap, ◌∙◌, refl}
-use Rattle.std.proofs.lemmas.Result.{err_from_is_err_and}
+use Rattle.std.proofs.lemmas.Result.{err_from_is_err_and, IfErr-weaker, IfOk-weaker}
 use Rattle.plain_graph.specs.declared.query.Step.{Step}
-use Rattle.gremlin_parse.specs.Queries.{OfQuery, OfStep, Steps, Ordered, with_step, after_word, opened, LeadsTo, StopsFrom}
+use Rattle.gremlin_parse.specs.Queries.{OfQuery, OfStep, Steps, Ordered, with_step, after_word, opened, IsOrderStep, LeadsTo, StopsFrom}
 use Rattle.gremlin_parse.specs.Stages.{step_count}
 use Rattle.gremlin_parse.specs.declared.stage.Stage.{Stage}
 use Rattle.gremlin_parse.specs.declared.step_word.StepWord.{StepWord}
@@ -32,11 +32,6 @@ returns-in_err-most-in-Limit-clause-err c =
     let p = err_from_is_err_and c.from_residual-in_err-most-in-Limit.result c.from_residual-in_err-most-in-Limit.ensures.1 in
     rw (p.1, p.2) (λ query same. subst (λ (w : StepWord). StopsFrom (opened query w) c.args.bytes.now c.in_err-most-in-Limit.field-0.0) (sym c.in-Limit.is) (c.in_err-most-in-Limit.ensures.err query))
 
-pub returns-in_err-step-in-Repeat-clause-err : goal.returns-in_err-step-in-Repeat-clause-err
-returns-in_err-step-in-Repeat-clause-err c =
-    let p = err_from_is_err_and c.from_residual-in_err-step-in-Repeat.result c.from_residual-in_err-step-in-Repeat.ensures.1 in
-    rw (p.1, p.2) (λ query same. subst (λ (w : StepWord). StopsFrom (opened query w) c.args.bytes.now c.in_err-step-in-Repeat.field-0.0) (sym c.in-Repeat.is) (c.in_err-step-in-Repeat.ensures.err query (ap (λ (s : Stage). s.steps) same)))
-
 pub returns-in_ok-rest-in-Bare-clause-ok : goal.returns-in_ok-rest-in-Bare-clause-ok
 returns-in_ok-rest-in-Bare-clause-ok c = λ query same.
     let rest = c.in_ok-rest-in-Bare.rest.now in
@@ -64,10 +59,6 @@ returns-in_ok-step-in-Body-clause-ok c = λ query same.
 pub returns-in_ok-step-in-Body-clause-few : goal.returns-in_ok-step-in-Body-clause-few
 returns-in_ok-step-in-Body-clause-few c = one_more c.args.stage.steps c.args.word c.step_of.result (ap (λ (s : Step). step_count s) c.step_of.ensures ∙ one_of_body c.in_ok-step-in-Body.step) c.requires.few
 
-pub returns-in_ok-step-in-Repeat-clause-ok : goal.returns-in_ok-step-in-Repeat-clause-ok
-returns-in_ok-step-in-Repeat-clause-ok c = λ query same.
-    subst (λ (w : StepWord). LeadsTo (opened query w) c.args.bytes.now (after_word w query c.in_ok-step-in-Repeat.step) c.in_ok-step-in-Repeat.rest.now) (sym c.in-Repeat.is) (c.in_ok-step-in-Repeat.ensures.ok query (ap (λ (s : Stage). s.steps) same))
-
 pub returns-in_err-rest-in-Order-clause-err : goal.returns-in_err-rest-in-Order-clause-err
 returns-in_err-rest-in-Order-clause-err c =
     let p = err_from_is_err_and c.from_residual-in_err-rest-in-Order.result c.from_residual-in_err-rest-in-Order.ensures.1 in
@@ -86,9 +77,6 @@ returns-in_err-key-in-By-clause-err c =
 
 pub returns-in_ok-rest-in-Order-clause-few : goal.returns-in_ok-rest-in-Order-clause-few
 returns-in_ok-rest-in-Order-clause-few c = one_more c.args.stage.steps c.args.word c.plain_order.result (ap (λ (s : Step). step_count s) c.plain_order.ensures) c.requires.few
-
-pub returns-in_ok-step-in-Repeat-clause-few : goal.returns-in_ok-step-in-Repeat-clause-few
-returns-in_ok-step-in-Repeat-clause-few c = repeat_few c.args.stage.steps c.args.word c.in_ok-step-in-Repeat.step c.in-Repeat.is c.in_ok-step-in-Repeat.ensures.few
 
 pub returns-in_err-rest-in-Bare-clause-ok : goal.returns-in_err-rest-in-Bare-clause-ok
 returns-in_err-rest-in-Bare-clause-ok c = never_ok c.from_residual.result _ _ c.from_residual.ensures.1
@@ -138,18 +126,6 @@ returns-in_err-most-in-Limit-clause-few c = never_ok c.from_residual-in_err-most
 pub returns-in_err-most-in-Limit-clause-within : goal.returns-in_err-most-in-Limit-clause-within
 returns-in_err-most-in-Limit-clause-within c = never_ok c.from_residual-in_err-most-in-Limit.result _ _ c.from_residual-in_err-most-in-Limit.ensures.1
 
-pub returns-in_err-step-in-Repeat-clause-ok : goal.returns-in_err-step-in-Repeat-clause-ok
-returns-in_err-step-in-Repeat-clause-ok c = never_ok c.from_residual-in_err-step-in-Repeat.result _ _ c.from_residual-in_err-step-in-Repeat.ensures.1
-
-pub returns-in_err-step-in-Repeat-clause-order : goal.returns-in_err-step-in-Repeat-clause-order
-returns-in_err-step-in-Repeat-clause-order c = never_ok c.from_residual-in_err-step-in-Repeat.result _ _ c.from_residual-in_err-step-in-Repeat.ensures.1
-
-pub returns-in_err-step-in-Repeat-clause-few : goal.returns-in_err-step-in-Repeat-clause-few
-returns-in_err-step-in-Repeat-clause-few c = never_ok c.from_residual-in_err-step-in-Repeat.result _ _ c.from_residual-in_err-step-in-Repeat.ensures.1
-
-pub returns-in_err-step-in-Repeat-clause-within : goal.returns-in_err-step-in-Repeat-clause-within
-returns-in_err-step-in-Repeat-clause-within c = never_ok c.from_residual-in_err-step-in-Repeat.result _ _ c.from_residual-in_err-step-in-Repeat.ensures.1
-
 pub returns-in_err-rest-in-Order-clause-ok : goal.returns-in_err-rest-in-Order-clause-ok
 returns-in_err-rest-in-Order-clause-ok c = never_ok c.from_residual-in_err-rest-in-Order.result _ _ c.from_residual-in_err-rest-in-Order.ensures.1
 
@@ -173,3 +149,20 @@ returns-in_err-key-in-By-clause-few c = never_ok c.from_residual-in_err-key-in-B
 
 pub returns-in_err-key-in-By-clause-within : goal.returns-in_err-key-in-By-clause-within
 returns-in_err-key-in-By-clause-within c = never_ok c.from_residual-in_err-key-in-By.result _ _ c.from_residual-in_err-key-in-By.ensures.1
+
+pub returns-in-Repeat-clause-ok : goal.returns-in-Repeat-clause-ok
+returns-in-Repeat-clause-ok c =
+    IfOk-weaker c.read_repeat.result _ _ (λ r reads query same. subst (λ (w : StepWord). LeadsTo (opened query w) c.args.bytes.now (after_word w query r.0) r.1.now) (sym c.in-Repeat.is) (reads query (ap (λ (s : Stage). s.steps) same))) c.read_repeat.ensures.ok
+
+pub returns-in-Repeat-clause-order : goal.returns-in-Repeat-clause-order
+returns-in-Repeat-clause-order c = IfOk-weaker c.read_repeat.result _ _ (λ r reads. subst (λ (w : StepWord). IsOrderStep w r.0) (sym c.in-Repeat.is) tt) c.read_repeat.ensures.ok
+
+pub returns-in-Repeat-clause-few : goal.returns-in-Repeat-clause-few
+returns-in-Repeat-clause-few c = IfOk-weaker c.read_repeat.result _ _ (λ r few. repeat_few c.args.stage.steps c.args.word r.0 c.in-Repeat.is few) c.read_repeat.ensures.few
+
+pub returns-in-Repeat-clause-within : goal.returns-in-Repeat-clause-within
+returns-in-Repeat-clause-within c = c.read_repeat.ensures.within
+
+pub returns-in-Repeat-clause-err : goal.returns-in-Repeat-clause-err
+returns-in-Repeat-clause-err c =
+    IfErr-weaker c.read_repeat.result _ _ (λ stop stops query same. subst (λ (w : StepWord). StopsFrom (opened query w) c.args.bytes.now stop) (sym c.in-Repeat.is) (stops query (ap (λ (s : Stage). s.steps) same))) c.read_repeat.ensures.err
