@@ -109,7 +109,7 @@ KeepsPage-room key old new keeps = ⊎_elim
     keeps
 
 -- where a page isn't kept, using it leaves the list as it is
-unused_cases : (test : PageKey → Bool) (entries : List (PageKey × List ℕ)) → lookup test entries ≡ None → lookup_entry test entries ≡ None
+pub unused_cases : (test : PageKey → Bool) (entries : List (PageKey × List ℕ)) → lookup test entries ≡ None → lookup_entry test entries ≡ None
 unused_cases test [] is = refl
 unused_cases test (entry ∷ rest) is = pick (test entry.0) is (unused_cases test rest)
   where

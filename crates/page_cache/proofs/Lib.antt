@@ -1,4 +1,5 @@
 pub mod Agreement
 pub mod Forgetting
+pub mod Keeping
 pub mod LastPages
 pub mod RecordInPage

@@ -1,5 +1,5 @@
-ghost use Rattle.std.specs.Prelude.{◌≡◌, ◌⊎◌, ◌*◌, [], ℕ, List, Contains, IfOk, IsOk, IsSome};
-ghost use Rattle.std.specs.Prelude.{IsTrue, OnErr, OnOk, false, is_some, max};
+ghost use Rattle.std.specs.Prelude.{◌≡◌, ◌≤◌, ◌*◌, [], ℕ, List, Contains, IfOk, IsOk, IsSome};
+ghost use Rattle.std.specs.Prelude.{IsTrue, OnErr, OnOk, false, is_some, length, max, None};
 ghost use Rattle.fault_count.specs.Cause.{HasCause};
 ghost use Rattle.disk_model.specs.Contents.{Files};
 ghost use Rattle.disk_model.specs.Spans.{OnlyReads};
@@ -8,6 +8,7 @@ ghost use Rattle.record_file.specs.Records.{KeepsOthers, SameButRecord, record_a
 ghost use Rattle.lru.specs.LruCache.{lru_cache, put_entries};
 ghost use Rattle.page_cache.specs.Pages.{Agrees, IsUsed, KeepsPage, kept_page, page_eq, page_of};
 ghost use Rattle.page_cache.specs.Pages.{without_page, without_pages};
+ghost use Rattle.page_cache.specs.Staying.{StayKept};
 
 use crate::last_pages::LastPages;
 use crate::page::{Page, PageKey};
@@ -57,6 +58,14 @@ impl PageCache {
         })
     }
 
+    /// How many pages are kept.
+    pub fn len(&self) -> usize
+        ensures value { result ≡ length self.now.entries }
+        ensures few { result ≤ self.now.cap }
+    {
+        self.pages.len()
+    }
+
     /// The record at a key, as it stands in its file. If its page is kept, no call of the disk is
     /// made, and otherwise one. A page that was read is kept, if there is memory for it, and the
     /// last one of the list goes. A hit puts its page first there, but for one on the page that was
@@ -78,14 +87,14 @@ impl PageCache {
         Ok(rec)
     }
 
-    /// Reads the record at a key into the caller's, as `get` reads it. An error leaves the caller's
-    /// as it was.
+    /// Reads the record at a key into the caller's, as `get` reads it, and says whether its page is
+    /// kept now. If it isn't, there was no memory for it. An error leaves the caller's as it was.
     pub fn get_into<D: Disk>(
         &mut self,
         disk: &mut D,
         key: Key,
         rec: &mut Rec,
-    ) -> Result<(), DiskFault>
+    ) -> Result<bool, DiskFault>
         requires { IsKey key }
         ensures record { D.tells_reads → Agrees (D.reads disk.old) self.old
             → OnOk result (rec.new ≡ record_at (D.reads disk.old) key) }
@@ -95,17 +104,19 @@ impl PageCache {
         ensures hit { IsSome (kept_page key self.old) → IsOk result × (disk.new ≡ disk.old) }
         ensures used { IsSome (kept_page key self.old) → IsUsed key self.old self.new }
         ensures pages { KeepsPage key self.old self.new }
+        ensures told { IfOk result (λ kept. kept ≡ is_some (kept_page key self.new)) }
+        ensures stay { StayKept self.old self.new }
         ensures only_reads { OnlyReads D.Disk disk.old disk.new }
         ensures cause { HasCause (D.faults disk.old) (D.faults disk.new) result }
     {
         if self.find_into(key, rec) {
-            return Ok(());
+            return Ok(true);
         }
         match self.spare_page() {
             Ok(page) => self.load(disk, key, page, rec),
             Err(_) => {
                 *rec = read_record(disk, key)?;
-                Ok(())
+                Ok(false)
             }
         }
     }
@@ -181,15 +192,15 @@ impl PageCache {
         }
     }
 
-    // Reads the page of a record, keeps it if there is memory for that, and reads the record into
-    // the caller's.
+    // Reads the page of a record, keeps it if there is memory for that, reads the record into the
+    // caller's, and says whether the page is kept.
     fn load<D: Disk>(
         &mut self,
         disk: &mut D,
         key: Key,
         mut page: Page,
         rec: &mut Rec,
-    ) -> Result<(), DiskFault>
+    ) -> Result<bool, DiskFault>
         requires { IsKey key }
         ensures record { D.tells_reads
             → OnOk result (rec.new ≡ record_at (D.reads disk.old) key) }
@@ -197,31 +208,38 @@ impl PageCache {
         ensures agrees { D.tells_reads → Agrees (D.reads disk.old) self.old
             → Agrees (D.reads disk.new) self.new }
         ensures pages { KeepsPage key self.old self.new }
+        ensures told { kept_page key self.old ≡ None
+            → IfOk result (λ kept. kept ≡ is_some (kept_page key self.new)) }
         ensures only_reads { OnlyReads D.Disk disk.old disk.new }
         ensures cause { HasCause (D.faults disk.old) (D.faults disk.new) result }
     {
         if !page.read(disk, key)? {
             *rec = read_record(disk, key)?;
-            return Ok(());
+            return Ok(false);
         }
         page.read_record(key.id, rec);
-        self.keep(PageKey::of(key), page);
-        Ok(())
+        Ok(self.keep(PageKey::of(key), page))
     }
 
-    // Keeps a page, as the last one of its file, if there is memory for that.
-    fn keep(&mut self, key: PageKey, page: Page)
-        ensures { (self.new ≡ self.old) ⊎ (self.new ≡ record self.old
-            { entries = put_entries page_eq self.old key page }) }
+    // Keeps a page, as the last one of its file, if there is memory for that, and says whether
+    // there was.
+    fn keep(&mut self, key: PageKey, page: Page) -> bool
+        ensures kept { IsTrue result
+            → self.new ≡ record self.old { entries = put_entries page_eq self.old key page } }
+        ensures refused { result ≡ false → self.new ≡ self.old }
     {
         // The contract of `len` says that no more pages are kept than there is room for.
         let _before = self.pages.len();
         self.last.put(key, &page);
         match self.pages.push(key, page) {
-            Ok(gone) => self.spare = self.last.forget_gone(gone),
+            Ok(gone) => {
+                self.spare = self.last.forget_gone(gone);
+                true
+            }
             Err(refused) => {
                 self.last.forget(key);
                 drop(refused);
+                false
             }
         }
     }

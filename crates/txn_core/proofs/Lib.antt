@@ -7,3 +7,4 @@ pub mod Sets
 pub mod Shipped
 pub mod States
 pub mod StoreRecords
+pub mod Through

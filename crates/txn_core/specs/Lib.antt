@@ -9,4 +9,5 @@ pub mod Outcomes
 pub mod Shipped
 pub mod Sights
 pub mod Store
+pub mod Through
 pub mod Unique

@@ -38,7 +38,7 @@ impl<'s, 'd, D: Disk> Reads for Committed<'s, 'd, D> {
 
     fn get_into(&mut self, key: Key, rec: &mut Rec) -> Result<(), SpaceFault> {
         match self.store.old_into(key, rec) {
-            Ok(()) => Ok(()),
+            Ok(_) => Ok(()),
             Err(_) => Err(SpaceFault::Disk),
         }
     }

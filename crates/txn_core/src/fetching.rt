@@ -1,10 +1,10 @@
-ghost use Rattle.std.specs.Prelude.{◌≡◌, ◌*◌, IsOk, IsSome, OnErr, OnOk, is_some, true};
+ghost use Rattle.std.specs.Prelude.{◌≡◌, IfOk, OnErr, OnOk, is_ok, is_some, true};
 ghost use Rattle.fault_count.specs.Cause.{HasCause};
 ghost use Rattle.rec_bytes.specs.Key.{IsKey};
 ghost use Rattle.rec_bytes.specs.Pairs.{find_pair, held_at};
 ghost use Rattle.rec_bytes.specs.RecordFiles.{is_meta_file, meta_key_of};
-ghost use Rattle.page_cache.specs.Pages.{kept_page};
 ghost use Rattle.txn_core.specs.Base.{OnlyReadsBase, committed, working};
+ghost use Rattle.txn_core.specs.Through.{ReadsThrough, at_hand, holds_committed, holds_working};
 
 use crate::base::Base;
 use disk_model::Disk;
@@ -12,43 +12,51 @@ use rec_bytes::{DiskFault, Key, Rec, WriteSet, meta_key};
 
 impl<'d, D: Disk> Base<'d, D> {
     // Reads the record at a key, as the open transaction has it, into the caller's, which an error
-    // leaves as it was. If the record is in memory, or its page is, the disk isn't called; else it
-    // is called once.
-    pub(crate) fn fetch_into(&mut self, key: Key, rec: &mut Rec) -> Result<(), DiskFault>
+    // leaves as it was, and says whether it is at hand from now on. If it was, the disk isn't
+    // called; else it is called once.
+    pub(crate) fn fetch_into(&mut self, key: Key, rec: &mut Rec) -> Result<bool, DiskFault>
         requires { IsKey key }
         ensures got { D.tells_reads → OnOk result (rec.new ≡ working self.old key) }
         ensures err { OnErr result (rec.new ≡ rec.old) }
-        ensures hit { IsSome (kept_page key self.old.cache)
-            → IsOk result × (self.new.disk.now ≡ self.old.disk.now) }
+        ensures through { ReadsThrough (holds_working self.old key) key self.old self.new
+            (is_ok result) }
+        ensures told { IfOk result
+            (λ held. held ≡ at_hand (holds_working self.new key) key self.new) }
         ensures records { working self.new ≡ working self.old }
         ensures onward { OnlyReadsBase self.old self.new }
         ensures cause { HasCause (D.faults self.old.disk.now) (D.faults self.new.disk.now) result }
     {
         if found_into(&self.own, key, rec) {
-            return Ok(());
+            return Ok(true);
         }
         self.fetch_committed_into(key, rec)
     }
 
     // Reads the record at a key, as it is committed, into the caller's, which an error leaves as it
-    // was. If the record is in memory, or its page is, the disk isn't called; else it is called
-    // once.
-    pub(crate) fn fetch_committed_into(&mut self, key: Key, rec: &mut Rec) -> Result<(), DiskFault>
+    // was, and says whether it is at hand from now on. If it was, the disk isn't called; else it is
+    // called once.
+    pub(crate) fn fetch_committed_into(
+        &mut self,
+        key: Key,
+        rec: &mut Rec,
+    ) -> Result<bool, DiskFault>
         requires { IsKey key }
         ensures got { D.tells_reads → OnOk result (rec.new ≡ committed self.old key) }
         ensures err { OnErr result (rec.new ≡ rec.old) }
-        ensures hit { IsSome (kept_page key self.old.cache)
-            → IsOk result × (self.new.disk.now ≡ self.old.disk.now) }
+        ensures through { ReadsThrough (holds_committed self.old key) key self.old self.new
+            (is_ok result) }
+        ensures told { IfOk result
+            (λ held. held ≡ at_hand (holds_committed self.new key) key self.new) }
         ensures records { committed self.new ≡ committed self.old }
         ensures onward { OnlyReadsBase self.old self.new }
         ensures cause { HasCause (D.faults self.old.disk.now) (D.faults self.new.disk.now) result }
     {
         if found_into(&self.changed, key, rec) {
-            return Ok(());
+            return Ok(true);
         }
         if let Some(meta) = self.metas.find(key) {
             *rec = meta;
-            return Ok(());
+            return Ok(true);
         }
         self.cache.get_into(self.disk, key, rec)
     }

@@ -16,6 +16,7 @@ mod not_opened;
 mod old_records;
 mod open_fault;
 mod opening;
+mod reading;
 mod recovering_again;
 mod space;
 mod store;

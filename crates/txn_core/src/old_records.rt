@@ -1,6 +1,6 @@
 //! What a commit replaces: the committed records, and those that it is to write.
 
-ghost use Rattle.std.specs.Prelude.{◌≡◌, ◌≤◌, ◌<◌, IfOk, OnErr, OnOk, length, true};
+ghost use Rattle.std.specs.Prelude.{◌≡◌, ◌≤◌, ◌<◌, IfOk, OnErr, OnOk, is_ok, length, true};
 ghost use Rattle.fault_count.specs.Cause.{HasCause, raised};
 ghost use Rattle.rec_bytes.specs.Key.{IsKey};
 ghost use Rattle.rec_bytes.specs.Pairs.{IsOrdered};
@@ -27,12 +27,15 @@ impl<'d, D: Disk> Base<'d, D> {
 impl<'d, D: Disk> Store<'d, D> {
     ghost use Rattle.txn_core.specs.Committed.{OnlyReadsStore};
     ghost use Rattle.txn_core.specs.Store.{committed};
+    ghost use Rattle.txn_core.specs.Through.{ReadsThrough, at_hand, holds_committed};
 
     /// The committed record at a key, whatever the open transaction has written.
     pub fn old(&mut self, key: Key) -> Result<Rec, DiskFault>
         requires { IsKey key }
         ensures got { D.tells_reads → IfOk result (λ rec. rec ≡ committed self.old key) }
         ensures whole { IfOk result (λ rec. length rec.bytes ≡ 64) }
+        ensures through { ReadsThrough (holds_committed self.old.base key) key self.old.base
+            self.new.base (is_ok result) }
         ensures committed { committed self.new ≡ committed self.old }
         ensures reads { self.new.reads ≡ raised self.old.reads }
         ensures onward { OnlyReadsStore self.old self.new }
@@ -40,15 +43,23 @@ impl<'d, D: Disk> Store<'d, D> {
             (D.faults self.new.base.disk.now) result }
     {
         let mut rec = Rec::ZEROS;
-        self.old_into(key, &mut rec)?;
-        Ok(copy_of(&rec))
+        match self.old_into(key, &mut rec) {
+            Ok(_) => Ok(copy_of(&rec)),
+            Err(fault) => Err(fault),
+        }
     }
 
-    /// Reads the committed record at a key into the caller's, which an error leaves as it was.
-    pub fn old_into(&mut self, key: Key, rec: &mut Rec) -> Result<(), DiskFault>
+    /// Reads the committed record at a key into the caller's, which an error leaves as it was, and
+    /// says whether it is at hand from now on. If it isn't, there was no memory for its page. If it
+    /// was, the disk isn't called; else it is called once.
+    pub fn old_into(&mut self, key: Key, rec: &mut Rec) -> Result<bool, DiskFault>
         requires { IsKey key }
         ensures got { D.tells_reads → OnOk result (rec.new ≡ committed self.old key) }
         ensures err { OnErr result (rec.new ≡ rec.old) }
+        ensures through { ReadsThrough (holds_committed self.old.base key) key self.old.base
+            self.new.base (is_ok result) }
+        ensures told { IfOk result
+            (λ held. held ≡ at_hand (holds_committed self.new.base key) key self.new.base) }
         ensures committed { committed self.new ≡ committed self.old }
         ensures reads { self.new.reads ≡ raised self.old.reads }
         ensures onward { OnlyReadsStore self.old self.new }

@@ -30,12 +30,8 @@ impl<'d, D: Disk> Reads for Store<'d, D> {
     }
 
     fn get_into(&mut self, key: Key, rec: &mut Rec) -> Result<(), SpaceFault> {
-        self.reads = self.reads.saturating_add(1);
-        if found_into(&self.draft, key, rec) {
-            return Ok(());
-        }
-        match self.base.fetch_into(key, rec) {
-            Ok(()) => Ok(()),
+        match self.read_into(key, rec) {
+            Ok(_) => Ok(()),
             Err(_) => Err(SpaceFault::Disk),
         }
     }

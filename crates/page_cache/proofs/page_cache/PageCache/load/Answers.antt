@@ -1,7 +1,10 @@
-use Rattle.std.proofs.Common.{rules, sym, subst, ◌∙◌, ⊎_elim}
+use Rattle.std.proofs.Common.{rules, inl, inr, sym, subst, ◌∙◌, ap, ⊎_elim}
+use Rattle.lru.specs.LruCache.{put_entries}
 use Rattle.record_file.proofs.Records.{record_at-kept}
-use Rattle.page_cache.specs.Pages.{Agrees, IsPage}
+use Rattle.page_cache.specs.declared.page.PageKey.{PageKey}
+use Rattle.page_cache.specs.Pages.{Agrees, IsPage, page_eq}
 use Rattle.page_cache.proofs.Agreement.{agrees_put, agrees_same}
+use Rattle.page_cache.proofs.Keeping.{kept_or_same, told_kept}
 use Rattle.page_cache.proofs.RecordInPage.{record_in-is}
 use Rattle.page_cache.proofs.page_cache.PageCache.load.Goals as goal
 
@@ -18,4 +21,16 @@ returns-clause-agrees g c reads agrees =
     (⊎_elim
     (λ same. subst (Agrees old) (sym same) agrees)
     (λ put. subst (Agrees old) (sym put) (agrees_put old c.args.self.now c.of.result c.read.new.self agrees is))
-    c.keep.ensures)
+    (kept_or_same (record c.args.self.now { entries = put_entries page_eq c.args.self.now c.of.result c.read.new.self }) c.args.self.now c.keep.new.self c.keep.result c.keep.ensures.kept c.keep.ensures.refused))
+
+pub returns-clause-pages : goal.returns-clause-pages
+returns-clause-pages g c = ⊎_elim
+    (λ same. inl (inl same))
+    (λ put. inr (c.read.new.self, put ∙ ap (λ (page : PageKey). record c.args.self.now { entries = put_entries page_eq c.args.self.now page c.read.new.self }) c.of.ensures))
+    (kept_or_same (record c.args.self.now { entries = put_entries page_eq c.args.self.now c.of.result c.read.new.self }) c.args.self.now c.keep.new.self c.keep.result c.keep.ensures.kept c.keep.ensures.refused)
+
+pub returns-clause-told : goal.returns-clause-told
+returns-clause-told g c none =
+    told_kept c.args.key c.read.new.self c.args.self.now c.keep.new.self c.keep.result none
+    (λ yes. c.keep.ensures.kept yes ∙ ap (λ (page : PageKey). record c.args.self.now { entries = put_entries page_eq c.args.self.now page c.read.new.self }) c.of.ensures)
+    c.keep.ensures.refused
