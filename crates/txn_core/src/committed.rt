@@ -1,4 +1,9 @@
+ghost use Rattle.std.specs.Prelude.{◌≡◌, IfErr, IfOk, OnErr, OnOk, is_ok, length};
+ghost use Rattle.rec_bytes.specs.Key.{IsKey};
+ghost use Rattle.rec_bytes.specs.Space.{HasCause, after_get};
+ghost use Rattle.rec_bytes.specs.declared.space.SpaceFault.TheVariants as faults;
 ghost use Rattle.txn_core.specs.Store.{committed_state};
+ghost use Rattle.txn_core.specs.Through.{ReadsThrough, holds_committed};
 
 use crate::Store;
 use disk_model::Disk;
@@ -29,14 +34,42 @@ impl<'s, 'd, D: Disk> Reads for Committed<'s, 'd, D> {
 
     ghost onward_shape = { λ a b only. only.reads.base.shape };
 
-    fn get(&mut self, key: Key) -> Result<Rec, SpaceFault> {
+    /// Reads as `Store::old`: through the kept pages.
+    fn get(&mut self, key: Key) -> Result<Rec, SpaceFault>
+        requires { IsKey key }
+        ensures got { D.tells_reads
+            → IfOk result (λ rec. rec ≡ (committed_state self.old.store.now).records key) }
+        ensures whole { IfOk result (λ rec. length rec.bytes ≡ 64) }
+        ensures state { committed_state self.new.store.now
+            ≡ after_get (committed_state self.old.store.now) }
+        ensures refused { IfErr result (λ fault. fault ≡ faults.Disk) }
+        ensures onward { OnwardCommitted self.old self.new }
+        ensures cause { HasCause (D.faults self.old.store.now.base.disk.now)
+            (D.faults self.new.store.now.base.disk.now) result }
+        ensures through { ReadsThrough (holds_committed self.old.store.now.base key) key
+            self.old.store.now.base self.new.store.now.base (is_ok result) }
+    {
         match self.store.old(key) {
             Ok(rec) => Ok(rec),
             Err(_) => Err(SpaceFault::Disk),
         }
     }
 
-    fn get_into(&mut self, key: Key, rec: &mut Rec) -> Result<(), SpaceFault> {
+    /// Reads as `Store::old_into`: through the kept pages.
+    fn get_into(&mut self, key: Key, rec: &mut Rec) -> Result<(), SpaceFault>
+        requires { IsKey key }
+        ensures got { D.tells_reads
+            → OnOk result (rec.new ≡ (committed_state self.old.store.now).records key) }
+        ensures err { OnErr result (rec.new ≡ rec.old) }
+        ensures state { committed_state self.new.store.now
+            ≡ after_get (committed_state self.old.store.now) }
+        ensures refused { IfErr result (λ fault. fault ≡ faults.Disk) }
+        ensures onward { OnwardCommitted self.old self.new }
+        ensures cause { HasCause (D.faults self.old.store.now.base.disk.now)
+            (D.faults self.new.store.now.base.disk.now) result }
+        ensures through { ReadsThrough (holds_committed self.old.store.now.base key) key
+            self.old.store.now.base self.new.store.now.base (is_ok result) }
+    {
         match self.store.old_into(key, rec) {
             Ok(_) => Ok(()),
             Err(_) => Err(SpaceFault::Disk),

@@ -1,7 +1,11 @@
-ghost use Rattle.std.specs.Prelude.{◌≡◌};
+ghost use Rattle.std.specs.Prelude.{◌≡◌, IfErr, IfOk, OnErr, OnOk, is_ok, length};
+ghost use Rattle.rec_bytes.specs.Key.{IsKey};
+ghost use Rattle.rec_bytes.specs.Space.{HasCause, after_get};
+ghost use Rattle.rec_bytes.specs.declared.space.SpaceFault.TheVariants as faults;
 ghost use Rattle.txn_core.specs.Base.{OnlyReadsBase};
 ghost use Rattle.txn_core.specs.OnlyReading.{only_reads_base_none, only_reads_base_on};
 ghost use Rattle.txn_core.specs.Store.{state_of};
+ghost use Rattle.txn_core.specs.Through.{ReadsThrough, holds_drafted};
 
 use crate::Store;
 use crate::fetching::found_into;
@@ -23,13 +27,37 @@ impl<'d, D: Disk> Reads for Store<'d, D> {
 
     ghost onward_shape = { λ a b only. only.shape };
 
-    fn get(&mut self, key: Key) -> Result<Rec, SpaceFault> {
+    /// Reads as `read_into`: through the kept pages.
+    fn get(&mut self, key: Key) -> Result<Rec, SpaceFault>
+        requires { IsKey key }
+        ensures got { D.tells_reads → IfOk result (λ rec. rec ≡ (state_of self.old).records key) }
+        ensures whole { IfOk result (λ rec. length rec.bytes ≡ 64) }
+        ensures state { state_of self.new ≡ after_get (state_of self.old) }
+        ensures refused { IfErr result (λ fault. fault ≡ faults.Disk) }
+        ensures onward { OnlyReadsBase self.old.base self.new.base }
+        ensures cause { HasCause (D.faults self.old.base.disk.now)
+            (D.faults self.new.base.disk.now) result }
+        ensures through { ReadsThrough (holds_drafted self.old key) key self.old.base
+            self.new.base (is_ok result) }
+    {
         let mut rec = Rec::ZEROS;
         self.get_into(key, &mut rec)?;
         Ok(copy_of(&rec))
     }
 
-    fn get_into(&mut self, key: Key, rec: &mut Rec) -> Result<(), SpaceFault> {
+    /// Reads as `read_into`: through the kept pages.
+    fn get_into(&mut self, key: Key, rec: &mut Rec) -> Result<(), SpaceFault>
+        requires { IsKey key }
+        ensures got { D.tells_reads → OnOk result (rec.new ≡ (state_of self.old).records key) }
+        ensures err { OnErr result (rec.new ≡ rec.old) }
+        ensures state { state_of self.new ≡ after_get (state_of self.old) }
+        ensures refused { IfErr result (λ fault. fault ≡ faults.Disk) }
+        ensures onward { OnlyReadsBase self.old.base self.new.base }
+        ensures cause { HasCause (D.faults self.old.base.disk.now)
+            (D.faults self.new.base.disk.now) result }
+        ensures through { ReadsThrough (holds_drafted self.old key) key self.old.base
+            self.new.base (is_ok result) }
+    {
         match self.read_into(key, rec) {
             Ok(_) => Ok(()),
             Err(_) => Err(SpaceFault::Disk),
