@@ -36,7 +36,8 @@ pub(crate) fn find_definition<R: Reads>(
 ) -> Result<Option<u32>, Fault>
     ensures found { R.tells → (ds : List ℕ) → AreDefinitions (R.state space.old).records ds
         → IfOk result (IsFound (R.state space.old).records ds label key) }
-    ensures defined { R.tells → IfOk result (IsDefined (R.state space.old).records label key rec.new) }
+    ensures defined { R.tells
+        → IfOk result (IsDefined (R.state space.old).records label key rec.new) }
     ensures sound { R.tells → (ds : List ℕ) → AreDefinitions (R.state space.old).records ds
         → HasRoom (R.state space.old) index_file → NotDamaged result }
     ensures damaged { R.tells → IfErr result

@@ -16,14 +16,16 @@ use Rattle.prop_store.specs.SetFault.{HasSetCause, of_fault, of_space, of_take}
 use Rattle.prop_store.specs.declared.set_fault.SetFault.{SetFault}
 use Rattle.prop_store.specs.declared.set_fault.SetFault.TheVariants as sets
 
-pub set_cause_passed : {T U : Type 0} (before mid now : ℕ) (r : Result T SetFault) (fault : SetFault) → before ≤ mid → HasSetCause {T = U} mid now (Err fault) → IsErrAnd r (λ f. f ≡ fault) → HasSetCause before now r
+pub set_cause_passed : {T U : Type 0} (before mid now : ℕ) (r : Result T SetFault) (fault : SetFault)
+    → before ≤ mid → HasSetCause {T = U} mid now (Err fault) → IsErrAnd r (λ f. f ≡ fault) → HasSetCause before now r
 set_cause_passed before mid now r fault early cause is = passed (λ f. f) sets.Disk sets.Disk before mid now r fault (λ e. e) early cause is
 
 blames_disk : (fault : SpaceFault) → of_space fault ≡ sets.Disk → fault ≡ spaces.Disk
 blames_disk spaces.Memory e = absurd cc
 blames_disk spaces.Disk e = refl
 
-pub space_set_cause : {T U : Type 0} (before mid now : ℕ) (r : Result T SetFault) (fault : SpaceFault) → before ≤ mid → HasCause {T = U} mid now (Err fault) → IsErrAnd r (λ f. f ≡ of_space fault) → HasSetCause before now r
+pub space_set_cause : {T U : Type 0} (before mid now : ℕ) (r : Result T SetFault) (fault : SpaceFault)
+    → before ≤ mid → HasCause {T = U} mid now (Err fault) → IsErrAnd r (λ f. f ≡ of_space fault) → HasSetCause before now r
 space_set_cause before mid now r fault early cause is = passed of_space spaces.Disk sets.Disk before mid now r fault (blames_disk fault) early cause is
 
 fault_blames_disk : (fault : Fault) → of_fault fault ≡ sets.Disk → fault ≡ faults.Disk
@@ -31,7 +33,8 @@ fault_blames_disk faults.Memory e = absurd cc
 fault_blames_disk faults.Disk e = refl
 fault_blames_disk (faults.Damaged damage) e = absurd cc
 
-pub fault_set_cause : {T U : Type 0} (before mid now : ℕ) (r : Result T SetFault) (fault : Fault) → before ≤ mid → HasFaultCause {T = U} mid now (Err fault) → IsErrAnd r (λ f. f ≡ of_fault fault) → HasSetCause before now r
+pub fault_set_cause : {T U : Type 0} (before mid now : ℕ) (r : Result T SetFault) (fault : Fault)
+    → before ≤ mid → HasFaultCause {T = U} mid now (Err fault) → IsErrAnd r (λ f. f ≡ of_fault fault) → HasSetCause before now r
 fault_set_cause before mid now r fault early cause is = passed of_fault faults.Disk sets.Disk before mid now r fault (fault_blames_disk fault) early cause is
 
 take_blames_disk : (fault : TakeFault) → of_take fault ≡ sets.Disk → fault ≡ takes.Disk
@@ -40,7 +43,8 @@ take_blames_disk takes.Memory e = absurd cc
 take_blames_disk takes.Disk e = refl
 take_blames_disk (takes.Damaged damage) e = absurd cc
 
-pub take_set_cause : {T U : Type 0} (before mid now : ℕ) (r : Result T SetFault) (fault : TakeFault) → before ≤ mid → HasTakeCause {T = U} mid now (Err fault) → IsErrAnd r (λ f. f ≡ of_take fault) → HasSetCause before now r
+pub take_set_cause : {T U : Type 0} (before mid now : ℕ) (r : Result T SetFault) (fault : TakeFault)
+    → before ≤ mid → HasTakeCause {T = U} mid now (Err fault) → IsErrAnd r (λ f. f ≡ of_take fault) → HasSetCause before now r
 take_set_cause {U = U} before mid now r fault early cause is =
     passed {U = U} of_take takes.Disk sets.Disk before mid now r fault (take_blames_disk fault) early (record { later = cause.later; disk = cause.disk }) is
 

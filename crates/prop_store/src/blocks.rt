@@ -128,8 +128,8 @@ fn piece_size(left: u16) -> u8
 }
 
 /// Reads the block that a link of this record leads to, which is to have so many bytes of a
-/// property's text, into the caller's record. The record of the link is damaged where the link leads past the mark, the block where it is of no
-/// known kind, and else the property.
+/// property's text, into the caller's record. The record of the link is damaged where it leads
+/// past the mark, the block where it is of no known kind, and else the property.
 fn read_block<R: Reads>(
     space: &mut R,
     property: u32,

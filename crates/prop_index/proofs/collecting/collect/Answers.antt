@@ -153,11 +153,13 @@ pub returns-clause-cause : goal.returns-clause-cause
 returns-clause-cause g c = ok_cause _ _ _ _ (omega arith)
 
 pub returns-in_err-hash-clause-cause : goal.returns-in_err-hash-clause-cause
-returns-in_err-hash-clause-cause g c = make_cause_passed _ _ _ c.from_residual.result c.in_err-hash.field-0.0 c.loop-node.invariant.later c.in_err-hash.ensures.cause c.from_residual.ensures.1
+returns-in_err-hash-clause-cause g c =
+    make_cause_passed _ _ _ c.from_residual.result c.in_err-hash.field-0.0 c.loop-node.invariant.later c.in_err-hash.ensures.cause c.from_residual.ensures.1
 
 pub returns-in_err-push-clause-cause : goal.returns-in_err-push-clause-cause
 returns-in_err-push-clause-cause g c =
-    make_memory_cause _ _ c.from_residual-in_err-push.result c.in_err-push.field-0.0 (later_on c.loop-node.invariant.later c.in_ok-hash.ensures.cause.later) c.in_err-push.ensures.memory c.from_residual-in_err-push.ensures.1
+    make_memory_cause _ _ c.from_residual-in_err-push.result c.in_err-push.field-0.0 (later_on c.loop-node.invariant.later c.in_ok-hash.ensures.cause.later)
+    c.in_err-push.ensures.memory c.from_residual-in_err-push.ensures.1
 
 pub returns-in_err-push-clause-refused : goal.returns-in_err-push-clause-refused
 returns-in_err-push-clause-refused g c tells readable =
@@ -190,7 +192,8 @@ pub returns-clause-found : goal.returns-clause-found
 returns-clause-found g c tells =
     let s = g.R.Reads.state c.args.space.now in
     let at : c.loop-node.node ≡ high s.records format.nodes_file = omega (arith, c.loop-node.invariant.end, c.loop-node.auto.node-end, c.loop-node-test.false) in
-    subst (λ n. c.loop-node.contents.items ≡ contents_in s.records c.args.label c.args.key n) at (c.loop-node.invariant.found tells c.if-count-gt-MOST_ENTRIES.false)
+    subst (λ n. c.loop-node.contents.items ≡ contents_in s.records c.args.label c.args.key n) at
+    (c.loop-node.invariant.found tells c.if-count-gt-MOST_ENTRIES.false)
 
 pub returns-clause-few : goal.returns-clause-few
 returns-clause-few g c = c.loop-node.invariant.few

@@ -76,7 +76,8 @@ returns-in_err-owner-clause-damaged g c tells low =
 pub returns-in_err-get_into-clause-damaged : goal.returns-in_err-get_into-clause-damaged
 returns-in_err-get_into-clause-damaged g c tells low =
     let s = g.R.Reads.state c.args.space.now in
-    space_has (BlamesBroken s.records s.shape) tt tt c.from_residual-in_err-get_into.result c.in_err-get_into.field-0.0 c.from_residual-in_err-get_into.ensures.1
+    space_has (BlamesBroken s.records s.shape) tt tt c.from_residual-in_err-get_into.result c.in_err-get_into.field-0.0
+    c.from_residual-in_err-get_into.ensures.1
 
 pub returns-then-is_labelled-clause-damaged : goal.returns-then-is_labelled-clause-damaged
 returns-then-is_labelled-clause-damaged g c tells low =
@@ -106,13 +107,16 @@ pub returns-in_err-owner-clause-cause : goal.returns-in_err-owner-clause-cause
 returns-in_err-owner-clause-cause g c = damage_cause _ _ c.from_residual.result c.in_err-owner.field-0.0 (omega arith) c.from_residual.ensures.1
 
 pub returns-in_err-get_into-clause-cause : goal.returns-in_err-get_into-clause-cause
-returns-in_err-get_into-clause-cause g c = space_cause_passed _ _ _ c.from_residual-in_err-get_into.result c.in_err-get_into.field-0.0 (omega arith) c.in_err-get_into.ensures.cause c.from_residual-in_err-get_into.ensures.1
+returns-in_err-get_into-clause-cause g c =
+    space_cause_passed _ _ _ c.from_residual-in_err-get_into.result c.in_err-get_into.field-0.0 (omega arith) c.in_err-get_into.ensures.cause
+    c.from_residual-in_err-get_into.ensures.1
 
 pub returns-in_err-get_into-clause-onward : goal.returns-in_err-get_into-clause-onward
 returns-in_err-get_into-clause-onward g c = c.get_into.ensures.onward
 
 pub returns-in_err-get_into-clause-sound : goal.returns-in_err-get_into-clause-sound
-returns-in_err-get_into-clause-sound g c tells low readable = space_exit c.from_residual-in_err-get_into.result c.in_err-get_into.field-0.0 c.from_residual-in_err-get_into.ensures.1
+returns-in_err-get_into-clause-sound g c tells low readable =
+    space_exit c.from_residual-in_err-get_into.result c.in_err-get_into.field-0.0 c.from_residual-in_err-get_into.ensures.1
 
 pub returns-then-is_labelled-clause-cause : goal.returns-then-is_labelled-clause-cause
 returns-then-is_labelled-clause-cause g c = cause_after _ _ _ c.value_hash.result c.in_ok-get_into.ensures.cause.later c.value_hash.ensures.cause

@@ -294,10 +294,12 @@ pub returns-in_err-set_number-clause-touched : goal.returns-in_err-set_number-cl
 returns-in_err-set_number-clause-touched g c = never_ok c.from_residual-in_err-set_number.result _ _ c.from_residual-in_err-set_number.ensures.1
 
 pub returns-in_err-meta-clause-cause : goal.returns-in_err-meta-clause-cause
-returns-in_err-meta-clause-cause g c = space_take_cause _ _ _ c.from_residual.result c.in_err-meta.field-0.0 (omega arith) c.in_err-meta.ensures.cause c.from_residual.ensures.1
+returns-in_err-meta-clause-cause g c =
+    space_take_cause _ _ _ c.from_residual.result c.in_err-meta.field-0.0 (omega arith) c.in_err-meta.ensures.cause c.from_residual.ensures.1
 
 pub returns-in_err-meta-clause-mishap : goal.returns-in_err-meta-clause-mishap
-returns-in_err-meta-clause-mishap g c tells store left = take_has IsMishap c.from_residual.result _ c.from_residual.ensures.1 (space_mishap c.in_err-meta.field-0.0)
+returns-in_err-meta-clause-mishap g c tells store left =
+    take_has IsMishap c.from_residual.result _ c.from_residual.ensures.1 (space_mishap c.in_err-meta.field-0.0)
 
 pub returns-in_err-meta-clause-roomy : goal.returns-in_err-meta-clause-roomy
 returns-in_err-meta-clause-roomy g c tells left = take_has IsNotFull c.from_residual.result _ c.from_residual.ensures.1 (space_roomy c.in_err-meta.field-0.0)
@@ -312,23 +314,27 @@ returns-in_err-meta-clause-touches g c = index_read 13 1 _ _ (reads_one 1 _ _ (o
 
 pub returns-in_err-rec-clause-cause : goal.returns-in_err-rec-clause-cause
 returns-in_err-rec-clause-cause g c =
-    take_cause_passed _ _ _ c.from_residual-in_err-rec.result c.in_err-rec.field-0.0 c.in_ok-meta.ensures.cause.later c.in_err-rec.ensures.cause c.from_residual-in_err-rec.ensures.1
+    take_cause_passed _ _ _ c.from_residual-in_err-rec.result c.in_err-rec.field-0.0 c.in_ok-meta.ensures.cause.later c.in_err-rec.ensures.cause
+    c.from_residual-in_err-rec.ensures.1
 
 pub returns-in_err-rec-clause-mishap : goal.returns-in_err-rec-clause-mishap
 returns-in_err-rec-clause-mishap g c tells store left =
     let s = g.S.Reads.state c.args.space.now in
     let a = g.S.Reads.state c.get.new.self in
     let fewer : HasLeft s 12 = omega (arith, left) in
-    take_has IsMishap c.from_residual-in_err-rec.result c.in_err-rec.field-0.0 c.from_residual-in_err-rec.ensures.1 (c.in_err-rec.ensures.mishap tells (subst KeepsStore (sym c.get.ensures.state) store) (left_read s a 12 c.get.ensures.state fewer))
+    take_has IsMishap c.from_residual-in_err-rec.result c.in_err-rec.field-0.0 c.from_residual-in_err-rec.ensures.1
+    (c.in_err-rec.ensures.mishap tells (subst KeepsStore (sym c.get.ensures.state) store) (left_read s a 12 c.get.ensures.state fewer))
 
 pub returns-in_err-rec-clause-still : goal.returns-in_err-rec-clause-still
 returns-in_err-rec-clause-still g c tells =
     let t = g.S.Reads.state c.add_heads.new.space in
-    take_has (TakeBlamesBroken t.records t.shape) c.from_residual-in_err-rec.result c.in_err-rec.field-0.0 c.from_residual-in_err-rec.ensures.1 (c.in_err-rec.ensures.still tells)
+    take_has (TakeBlamesBroken t.records t.shape) c.from_residual-in_err-rec.result c.in_err-rec.field-0.0 c.from_residual-in_err-rec.ensures.1
+    (c.in_err-rec.ensures.still tells)
 
 pub returns-in_err-id-clause-cause : goal.returns-in_err-id-clause-cause
 returns-in_err-id-clause-cause g c =
-    take_cause_passed _ _ _ c.from_residual-in_err-id.result c.in_err-id.field-0.0 (later_on c.in_ok-meta.ensures.cause.later c.in_ok-rec.ensures.cause.later) c.in_err-id.ensures.cause c.from_residual-in_err-id.ensures.1
+    take_cause_passed _ _ _ c.from_residual-in_err-id.result c.in_err-id.field-0.0 (later_on c.in_ok-meta.ensures.cause.later c.in_ok-rec.ensures.cause.later)
+    c.in_err-id.ensures.cause c.from_residual-in_err-id.ensures.1
 
 pub returns-in_err-id-clause-mishap : goal.returns-in_err-id-clause-mishap
 returns-in_err-id-clause-mishap g c tells store left =
@@ -342,11 +348,13 @@ returns-in_err-id-clause-mishap g c tells store left =
 pub returns-in_err-id-clause-still : goal.returns-in_err-id-clause-still
 returns-in_err-id-clause-still g c tells =
     let t = g.S.Reads.state c.add_record.new.space in
-    take_has (TakeBlamesBroken t.records t.shape) c.from_residual-in_err-id.result c.in_err-id.field-0.0 c.from_residual-in_err-id.ensures.1 (c.in_err-id.ensures.still tells)
+    take_has (TakeBlamesBroken t.records t.shape) c.from_residual-in_err-id.result c.in_err-id.field-0.0 c.from_residual-in_err-id.ensures.1
+    (c.in_err-id.ensures.still tells)
 
 pub returns-in_err-set_number-clause-cause : goal.returns-in_err-set_number-clause-cause
 returns-in_err-set_number-clause-cause g c =
-    space_take_cause _ _ _ c.from_residual-in_err-set_number.result c.in_err-set_number.field-0.0 (later_on (later_on c.in_ok-meta.ensures.cause.later c.in_ok-rec.ensures.cause.later) c.in_ok-id.ensures.cause.later)
+    space_take_cause _ _ _ c.from_residual-in_err-set_number.result c.in_err-set_number.field-0.0
+    (later_on (later_on c.in_ok-meta.ensures.cause.later c.in_ok-rec.ensures.cause.later) c.in_ok-id.ensures.cause.later)
     c.in_err-set_number.ensures.cause c.from_residual-in_err-set_number.ensures.1
 
 pub returns-in_err-set_number-clause-still : goal.returns-in_err-set_number-clause-still
@@ -359,4 +367,5 @@ returns-clause-heads g c = c.in_ok-rec.ensures.heads
 
 pub returns-clause-cause : goal.returns-clause-cause
 returns-clause-cause g c =
-    take_ok_cause _ _ _ (later_on (later_on (later_on c.in_ok-meta.ensures.cause.later c.in_ok-rec.ensures.cause.later) c.in_ok-id.ensures.cause.later) c.in_ok-set_number.ensures.cause.later)
+    take_ok_cause _ _ _
+    (later_on (later_on (later_on c.in_ok-meta.ensures.cause.later c.in_ok-rec.ensures.cause.later) c.in_ok-id.ensures.cause.later) c.in_ok-set_number.ensures.cause.later)

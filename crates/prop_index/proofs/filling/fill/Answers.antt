@@ -186,7 +186,9 @@ pub returns-in_err-firsts-clause-filled : goal.returns-in_err-firsts-clause-fill
 returns-in_err-firsts-clause-filled g c _ _ _ _ _ _ _ _ = never_ok c.from_residual.result _ _ c.from_residual.ensures.1
 
 pub returns-in_err-firsts-clause-cause : goal.returns-in_err-firsts-clause-cause
-returns-in_err-firsts-clause-cause g c = take_cause_passed _ _ _ c.from_residual.result c.in_err-firsts.field-0.0 c.loop-content.invariant.later c.in_err-firsts.ensures.cause c.from_residual.ensures.1
+returns-in_err-firsts-clause-cause g c =
+    take_cause_passed _ _ _ c.from_residual.result c.in_err-firsts.field-0.0 c.loop-content.invariant.later c.in_err-firsts.ensures.cause
+    c.from_residual.ensures.1
 
 pub returns-in_err-firsts-clause-onward : goal.returns-in_err-firsts-clause-onward
 returns-in_err-firsts-clause-onward g c = g.met.S.Reads.further_onward _ _ _ c.loop-content.invariant.onward c.in_err-firsts.ensures.onward

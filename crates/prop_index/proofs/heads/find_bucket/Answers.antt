@@ -60,7 +60,8 @@ returns-in_err-bucket-clause-at_most g c = reads_then 17 1 18 _ _ _ (omega arith
 pub returns-in_err-id-clause-cost : goal.returns-in_err-id-clause-cost
 returns-in_err-id-clause-cost g c tells wanted ix =
     let s = g.R.Reads.state c.args.space.now in
-    reads_more (1 + length ix.definitions) (2 + length ix.definitions) _ _ (omega arith) (c.in_err-id.ensures.cost tells ix.definitions (definitions_of s.records wanted ix))
+    reads_more (1 + length ix.definitions) (2 + length ix.definitions) _ _ (omega arith)
+    (c.in_err-id.ensures.cost tells ix.definitions (definitions_of s.records wanted ix))
 
 pub returns-in_default-clause-cost : goal.returns-in_default-clause-cost
 returns-in_default-clause-cost g c tells wanted ix =
@@ -144,7 +145,8 @@ returns-in_err-bucket-clause-damaged g c tells =
     (subst (λ (r : Records). LeadsToDefinition r definition.id) (sym records) pair.leads) (ap (λ (r : Records). kind_at r format.index_file definition.id) records ∙ pair.used)))
 
 pub returns-in_err-id-clause-names : goal.returns-in_err-id-clause-names
-returns-in_err-id-clause-names g c tells = same_has NamesIndexes c.from_residual.result c.in_err-id.field-0.0 c.from_residual.ensures.1 (c.in_err-id.ensures.names tells)
+returns-in_err-id-clause-names g c tells =
+    same_has NamesIndexes c.from_residual.result c.in_err-id.field-0.0 c.from_residual.ensures.1 (c.in_err-id.ensures.names tells)
 
 pub returns-in_err-bucket-clause-names : goal.returns-in_err-bucket-clause-names
 returns-in_err-bucket-clause-names g c tells = same_has NamesIndexes c.from_residual-in_err-bucket.result c.in_err-bucket.field-0.0 c.from_residual-in_err-bucket.ensures.1 (c.in_err-bucket.ensures.names tells)
@@ -204,7 +206,8 @@ pub returns-clause-cause : goal.returns-clause-cause
 returns-clause-cause g c = ok_cause _ _ _ _ (omega arith)
 
 pub returns-in_err-id-clause-cause : goal.returns-in_err-id-clause-cause
-returns-in_err-id-clause-cause g c = cause_passed _ _ _ c.from_residual.result c.in_err-id.field-0.0 (omega arith) c.in_err-id.ensures.cause c.from_residual.ensures.1
+returns-in_err-id-clause-cause g c =
+    cause_passed _ _ _ c.from_residual.result c.in_err-id.field-0.0 (omega arith) c.in_err-id.ensures.cause c.from_residual.ensures.1
 
 pub returns-in_err-id-clause-at_most : goal.returns-in_err-id-clause-at_most
 returns-in_err-id-clause-at_most g c = reads_more 17 18 _ _ (omega arith) c.in_err-id.ensures.at_most

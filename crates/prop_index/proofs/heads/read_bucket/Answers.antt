@@ -46,7 +46,8 @@ pub returns-clause-cause : goal.returns-clause-cause
 returns-clause-cause g c = ok_cause _ _ _ _ (omega arith)
 
 pub returns-in_err-record_at-clause-cause : goal.returns-in_err-record_at-clause-cause
-returns-in_err-record_at-clause-cause g c = cause_passed _ _ _ c.from_residual.result c.in_err-record_at.field-0.0 (omega arith) c.in_err-record_at.ensures.cause c.from_residual.ensures.1
+returns-in_err-record_at-clause-cause g c =
+    cause_passed _ _ _ c.from_residual.result c.in_err-record_at.field-0.0 (omega arith) c.in_err-record_at.ensures.cause c.from_residual.ensures.1
 
 pub returns-in_err-record_at-clause-at_most : goal.returns-in_err-record_at-clause-at_most
 returns-in_err-record_at-clause-at_most g c = c.in_err-record_at.ensures.at_most

@@ -69,7 +69,8 @@ returns-in_err-owner-clause-damaged g c tells d b count rec met node_is =
 pub returns-in_err-get_into-clause-damaged : goal.returns-in_err-get_into-clause-damaged
 returns-in_err-get_into-clause-damaged g c tells d b count rec met node_is =
     let s = g.R.Reads.state c.args.space.now in
-    space_has (BlamesBroken s.records s.shape) tt tt c.from_residual-in_err-get_into.result c.in_err-get_into.field-0.0 c.from_residual-in_err-get_into.ensures.1
+    space_has (BlamesBroken s.records s.shape) tt tt c.from_residual-in_err-get_into.result c.in_err-get_into.field-0.0
+    c.from_residual-in_err-get_into.ensures.1
 
 pub returns-then-byte-eq-FREE-clause-damaged : goal.returns-then-byte-eq-FREE-clause-damaged
 returns-then-byte-eq-FREE-clause-damaged g c tells d b count rec met node_is =
@@ -109,17 +110,21 @@ pub returns-in_err-owner-clause-cause : goal.returns-in_err-owner-clause-cause
 returns-in_err-owner-clause-cause g c = damage_cause _ _ c.from_residual.result c.in_err-owner.field-0.0 (omega arith) c.from_residual.ensures.1
 
 pub returns-in_err-get_into-clause-cause : goal.returns-in_err-get_into-clause-cause
-returns-in_err-get_into-clause-cause g c = space_cause_passed _ _ _ c.from_residual-in_err-get_into.result c.in_err-get_into.field-0.0 (omega arith) c.in_err-get_into.ensures.cause c.from_residual-in_err-get_into.ensures.1
+returns-in_err-get_into-clause-cause g c =
+    space_cause_passed _ _ _ c.from_residual-in_err-get_into.result c.in_err-get_into.field-0.0 (omega arith) c.in_err-get_into.ensures.cause
+    c.from_residual-in_err-get_into.ensures.1
 
 pub returns-in_err-get_into-clause-onward : goal.returns-in_err-get_into-clause-onward
 returns-in_err-get_into-clause-onward g c = c.get_into.ensures.onward
 
 pub returns-in_err-get_into-clause-sound : goal.returns-in_err-get_into-clause-sound
-returns-in_err-get_into-clause-sound g c tells listed = space_exit c.from_residual-in_err-get_into.result c.in_err-get_into.field-0.0 c.from_residual-in_err-get_into.ensures.1
+returns-in_err-get_into-clause-sound g c tells listed =
+    space_exit c.from_residual-in_err-get_into.result c.in_err-get_into.field-0.0 c.from_residual-in_err-get_into.ensures.1
 
 pub returns-in_err-held-clause-cause : goal.returns-in_err-held-clause-cause
 returns-in_err-held-clause-cause g c =
-    cause_passed _ _ _ c.from_residual-in_err-held.result c.in_err-held.field-0.0 c.in_ok-get_into.ensures.cause.later c.in_err-held.ensures.cause c.from_residual-in_err-held.ensures.1
+    cause_passed _ _ _ c.from_residual-in_err-held.result c.in_err-held.field-0.0 c.in_ok-get_into.ensures.cause.later c.in_err-held.ensures.cause
+    c.from_residual-in_err-held.ensures.1
 
 pub returns-in_err-held-clause-onward : goal.returns-in_err-held-clause-onward
 returns-in_err-held-clause-onward g c = g.met.R.Reads.further_onward _ _ _ c.in_ok-get_into.ensures.onward c.in_err-held.ensures.onward

@@ -401,7 +401,8 @@ pub returns-clause-touches : goal.returns-clause-touches
 returns-clause-touches g c = index_then 0 3 3 _ _ _ (omega arith) (index_same 0 _ _ c.in_ok-row.ensures.same) c.in_ok-unlink.ensures.touches
 
 pub returns-in_err-row-clause-cause : goal.returns-in_err-row-clause-cause
-returns-in_err-row-clause-cause g c = cause_passed _ _ _ c.from_residual.result c.in_err-row.field-0.0 (omega arith) c.in_err-row.ensures.cause c.from_residual.ensures.1
+returns-in_err-row-clause-cause g c =
+    cause_passed _ _ _ c.from_residual.result c.in_err-row.field-0.0 (omega arith) c.in_err-row.ensures.cause c.from_residual.ensures.1
 
 pub returns-in_default-clause-cause : goal.returns-in_default-clause-cause
 returns-in_default-clause-cause g c = ok_cause _ _ _ _ c.in_ok-row.ensures.cause.later
@@ -410,10 +411,14 @@ pub returns-in_default-clause-onward : goal.returns-in_default-clause-onward
 returns-in_default-clause-onward g c = c.in_ok-row.ensures.onward
 
 pub returns-in_err-test_link-clause-cause : goal.returns-in_err-test_link-clause-cause
-returns-in_err-test_link-clause-cause g c = damage_cause _ _ c.from_residual-in_err-test_link.result c.in_err-test_link.field-0.0 c.in_ok-row.ensures.cause.later c.from_residual-in_err-test_link.ensures.1
+returns-in_err-test_link-clause-cause g c =
+    damage_cause _ _ c.from_residual-in_err-test_link.result c.in_err-test_link.field-0.0 c.in_ok-row.ensures.cause.later
+    c.from_residual-in_err-test_link.ensures.1
 
 pub returns-in_err-test_link-2-clause-cause : goal.returns-in_err-test_link-2-clause-cause
-returns-in_err-test_link-2-clause-cause g c = damage_cause _ _ c.from_residual-in_err-test_link-2.result c.in_err-test_link-2.field-0.0 c.in_ok-row.ensures.cause.later c.from_residual-in_err-test_link-2.ensures.1
+returns-in_err-test_link-2-clause-cause g c =
+    damage_cause _ _ c.from_residual-in_err-test_link-2.result c.in_err-test_link-2.field-0.0 c.in_ok-row.ensures.cause.later
+    c.from_residual-in_err-test_link-2.ensures.1
 
 pub returns-in_err-test_link-clause-onward : goal.returns-in_err-test_link-clause-onward
 returns-in_err-test_link-clause-onward g c = c.in_ok-row.ensures.onward
@@ -422,7 +427,8 @@ pub returns-in_err-test_link-2-clause-onward : goal.returns-in_err-test_link-2-c
 returns-in_err-test_link-2-clause-onward g c = c.in_ok-row.ensures.onward
 
 pub returns-in_err-unlink-clause-sound : goal.returns-in_err-unlink-clause-sound
-returns-in_err-unlink-clause-sound g c tells xs chain room = space_exit c.from_residual-in_err-unlink.result c.in_err-unlink.field-0.0 c.from_residual-in_err-unlink.ensures.1
+returns-in_err-unlink-clause-sound g c tells xs chain room =
+    space_exit c.from_residual-in_err-unlink.result c.in_err-unlink.field-0.0 c.from_residual-in_err-unlink.ensures.1
 
 pub unlink-requires-clause-slot : goal.unlink-requires-clause-slot
 unlink-requires-clause-slot g c = c.requires.key

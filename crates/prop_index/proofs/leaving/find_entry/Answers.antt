@@ -33,7 +33,9 @@ pub returns-then-at-clause-found : goal.returns-then-at-clause-found
 returns-then-at-clause-found g c tells xs are = search_over _ _ xs c.loop.at c.loop.counter (c.loop.invariant.told tells xs are) c.if-at.true
 
 pub returns-in_err-record_at-clause-same : goal.returns-in_err-record_at-clause-same
-returns-in_err-record_at-clause-same g c = same_then (g.R.Reads.state c.args.space.now) (g.R.Reads.state c.loop.space) (g.R.Reads.state c.record_at.new.space) c.loop.invariant.same (reads_same 1 (g.R.Reads.state c.loop.space) (g.R.Reads.state c.record_at.new.space) c.in_err-record_at.ensures.at_most)
+returns-in_err-record_at-clause-same g c =
+    same_then (g.R.Reads.state c.args.space.now) (g.R.Reads.state c.loop.space) (g.R.Reads.state c.record_at.new.space) c.loop.invariant.same
+    (reads_same 1 (g.R.Reads.state c.loop.space) (g.R.Reads.state c.record_at.new.space) c.in_err-record_at.ensures.at_most)
 
 pub returns-then-is_of-clause-found : goal.returns-then-is_of-clause-found
 returns-then-is_of-clause-found g c tells xs are =
@@ -128,7 +130,8 @@ pub returns-clause-cause : goal.returns-clause-cause
 returns-clause-cause g c = ok_cause _ _ _ _ (omega arith)
 
 pub returns-in_err-record_at-clause-cause : goal.returns-in_err-record_at-clause-cause
-returns-in_err-record_at-clause-cause g c = cause_passed _ _ _ c.from_residual.result c.in_err-record_at.field-0.0 c.loop.invariant.later c.in_err-record_at.ensures.cause c.from_residual.ensures.1
+returns-in_err-record_at-clause-cause g c =
+    cause_passed _ _ _ c.from_residual.result c.in_err-record_at.field-0.0 c.loop.invariant.later c.in_err-record_at.ensures.cause c.from_residual.ensures.1
 
 pub returns-in_err-record_at-clause-onward : goal.returns-in_err-record_at-clause-onward
 returns-in_err-record_at-clause-onward g c = g.met.R.Reads.further_onward _ _ _ c.loop.invariant.onward c.in_err-record_at.ensures.onward

@@ -267,7 +267,8 @@ pub returns-in_err-bucket-clause-onward : goal.returns-in_err-bucket-clause-onwa
 returns-in_err-bucket-clause-onward g c = search rules
 
 pub returns-in_err-bucket-clause-cause : goal.returns-in_err-bucket-clause-cause
-returns-in_err-bucket-clause-cause g c = cause_passed _ _ _ c.from_residual.result c.in_err-bucket.field-0.0 (omega arith) c.in_err-bucket.ensures.cause c.from_residual.ensures.1
+returns-in_err-bucket-clause-cause g c =
+    cause_passed _ _ _ c.from_residual.result c.in_err-bucket.field-0.0 (omega arith) c.in_err-bucket.ensures.cause c.from_residual.ensures.1
 
 pub returns-in_default-clause-cause : goal.returns-in_default-clause-cause
 returns-in_default-clause-cause g c = ok_cause _ _ _ _ c.in_ok-bucket.ensures.cause.later

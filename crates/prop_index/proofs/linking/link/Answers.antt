@@ -41,21 +41,27 @@ returns-in_err-back-clause-onward g c = g.met.S.Reads.further_onward _ _ _ c.in_
 
 pub returns-in_err-set_number-clause-onward : goal.returns-in_err-set_number-clause-onward
 returns-in_err-set_number-clause-onward g c =
-    g.met.S.Reads.further_onward _ _ _ (g.met.S.Reads.further_onward _ _ _ c.in_ok-put.ensures.onward c.in_ok-back.ensures.onward) c.in_err-set_number.ensures.onward
+    g.met.S.Reads.further_onward _ _ _ (g.met.S.Reads.further_onward _ _ _ c.in_ok-put.ensures.onward c.in_ok-back.ensures.onward)
+    c.in_err-set_number.ensures.onward
 
 pub returns-clause-onward : goal.returns-clause-onward
 returns-clause-onward g c =
-    g.met.S.Reads.further_onward _ _ _ (g.met.S.Reads.further_onward _ _ _ c.in_ok-put.ensures.onward c.in_ok-back.ensures.onward) c.in_ok-set_number.ensures.onward
+    g.met.S.Reads.further_onward _ _ _ (g.met.S.Reads.further_onward _ _ _ c.in_ok-put.ensures.onward c.in_ok-back.ensures.onward)
+    c.in_ok-set_number.ensures.onward
 
 pub returns-in_err-put-clause-cause : goal.returns-in_err-put-clause-cause
-returns-in_err-put-clause-cause g c = space_passed _ _ _ c.from_residual.result c.in_err-put.field-0.0 (omega arith) c.in_err-put.ensures.cause c.from_residual.ensures.1
+returns-in_err-put-clause-cause g c =
+    space_passed _ _ _ c.from_residual.result c.in_err-put.field-0.0 (omega arith) c.in_err-put.ensures.cause c.from_residual.ensures.1
 
 pub returns-in_err-back-clause-cause : goal.returns-in_err-back-clause-cause
-returns-in_err-back-clause-cause g c = space_passed _ _ _ c.from_residual-in_err-back.result c.in_err-back.field-0.0 c.in_ok-put.ensures.cause.later c.in_err-back.ensures.cause c.from_residual-in_err-back.ensures.1
+returns-in_err-back-clause-cause g c =
+    space_passed _ _ _ c.from_residual-in_err-back.result c.in_err-back.field-0.0 c.in_ok-put.ensures.cause.later c.in_err-back.ensures.cause
+    c.from_residual-in_err-back.ensures.1
 
 pub returns-in_err-set_number-clause-cause : goal.returns-in_err-set_number-clause-cause
 returns-in_err-set_number-clause-cause g c =
-    space_passed _ _ _ c.from_residual-in_err-set_number.result c.in_err-set_number.field-0.0 (later_on c.in_ok-put.ensures.cause.later c.in_ok-back.ensures.cause.later) c.in_err-set_number.ensures.cause c.from_residual-in_err-set_number.ensures.1
+    space_passed _ _ _ c.from_residual-in_err-set_number.result c.in_err-set_number.field-0.0
+    (later_on c.in_ok-put.ensures.cause.later c.in_ok-back.ensures.cause.later) c.in_err-set_number.ensures.cause c.from_residual-in_err-set_number.ensures.1
 
 pub set_number-requires-clause-key : goal.set_number-requires-clause-key
 set_number-requires-clause-key g c = c.requires.slot

@@ -169,10 +169,13 @@ pub returns-in_err-link-clause-touched : goal.returns-in_err-link-clause-touched
 returns-in_err-link-clause-touched g c = never_ok c.from_residual-in_err-link.result _ _ c.from_residual-in_err-link.ensures.1
 
 pub returns-in_err-id-clause-cause : goal.returns-in_err-id-clause-cause
-returns-in_err-id-clause-cause g c = take_cause_passed _ _ _ c.from_residual.result c.in_err-id.field-0.0 (omega arith) c.in_err-id.ensures.cause c.from_residual.ensures.1
+returns-in_err-id-clause-cause g c =
+    take_cause_passed _ _ _ c.from_residual.result c.in_err-id.field-0.0 (omega arith) c.in_err-id.ensures.cause c.from_residual.ensures.1
 
 pub returns-in_err-link-clause-cause : goal.returns-in_err-link-clause-cause
-returns-in_err-link-clause-cause g c = space_take_cause _ _ _ c.from_residual-in_err-link.result c.in_err-link.field-0.0 c.in_ok-id.ensures.cause.later c.in_err-link.ensures.cause c.from_residual-in_err-link.ensures.1
+returns-in_err-link-clause-cause g c =
+    space_take_cause _ _ _ c.from_residual-in_err-link.result c.in_err-link.field-0.0 c.in_ok-id.ensures.cause.later c.in_err-link.ensures.cause
+    c.from_residual-in_err-link.ensures.1
 
 pub returns-in_err-link-clause-onward : goal.returns-in_err-link-clause-onward
 returns-in_err-link-clause-onward g c = g.met.S.Reads.further_onward _ _ _ c.in_ok-id.ensures.onward c.in_err-link.ensures.onward

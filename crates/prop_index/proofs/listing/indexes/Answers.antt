@@ -187,7 +187,8 @@ pub returns-clause-cause : goal.returns-clause-cause
 returns-clause-cause g c = ok_cause _ _ _ _ (omega arith)
 
 pub returns-in_err-get_into-clause-cause : goal.returns-in_err-get_into-clause-cause
-returns-in_err-get_into-clause-cause g c = space_cause_passed _ _ _ c.from_residual.result c.in_err-get_into.field-0.0 (omega arith) c.in_err-get_into.ensures.cause c.from_residual.ensures.1
+returns-in_err-get_into-clause-cause g c =
+    space_cause_passed _ _ _ c.from_residual.result c.in_err-get_into.field-0.0 (omega arith) c.in_err-get_into.ensures.cause c.from_residual.ensures.1
 
 pub returns-in_err-get_into-clause-damaged : goal.returns-in_err-get_into-clause-damaged
 returns-in_err-get_into-clause-damaged g c tells =

@@ -366,10 +366,13 @@ pub returns-in_err-contents-clause-few : goal.returns-in_err-contents-clause-few
 returns-in_err-contents-clause-few g c = never_ok c.from_residual-in_err-contents.result _ _ c.from_residual-in_err-contents.ensures.1
 
 pub returns-in_err-test_pair-clause-cause : goal.returns-in_err-test_pair-clause-cause
-returns-in_err-test_pair-clause-cause g c = make_passed _ _ _ c.from_residual.result c.in_err-test_pair.field-0.0 (omega arith) c.in_err-test_pair.ensures.cause c.from_residual.ensures.1
+returns-in_err-test_pair-clause-cause g c =
+    make_passed _ _ _ c.from_residual.result c.in_err-test_pair.field-0.0 (omega arith) c.in_err-test_pair.ensures.cause c.from_residual.ensures.1
 
 pub returns-in_err-contents-clause-cause : goal.returns-in_err-contents-clause-cause
-returns-in_err-contents-clause-cause g c = make_passed _ _ _ c.from_residual-in_err-contents.result c.in_err-contents.field-0.0 c.in_ok-test_pair.ensures.cause.later c.in_err-contents.ensures.cause c.from_residual-in_err-contents.ensures.1
+returns-in_err-contents-clause-cause g c =
+    make_passed _ _ _ c.from_residual-in_err-contents.result c.in_err-contents.field-0.0 c.in_ok-test_pair.ensures.cause.later c.in_err-contents.ensures.cause
+    c.from_residual-in_err-contents.ensures.1
 
 pub returns-in_err-contents-clause-onward : goal.returns-in_err-contents-clause-onward
 returns-in_err-contents-clause-onward g c = g.met.S.Reads.further_onward _ _ _ c.in_ok-test_pair.ensures.onward c.in_err-contents.ensures.onward
@@ -378,4 +381,5 @@ pub returns-then-not-has_room-clause-onward : goal.returns-then-not-has_room-cla
 returns-then-not-has_room-clause-onward g c = g.met.S.Reads.further_onward _ _ _ c.in_ok-test_pair.ensures.onward c.in_ok-contents.ensures.onward
 
 pub returns-then-not-has_room-clause-cause : goal.returns-then-not-has_room-clause-cause
-returns-then-not-has_room-clause-cause g c = make_other_cause _ _ _ (later_on c.in_ok-test_pair.ensures.cause.later c.in_ok-contents.ensures.cause.later) (λ e. absurd cc)
+returns-then-not-has_room-clause-cause g c =
+    make_other_cause _ _ _ (later_on c.in_ok-test_pair.ensures.cause.later c.in_ok-contents.ensures.cause.later) (λ e. absurd cc)

@@ -82,7 +82,8 @@ pub returns-clause-cause : goal.returns-clause-cause
 returns-clause-cause g c = ok_cause _ _ _ _ (omega arith)
 
 pub returns-in_err-pairs-clause-cause : goal.returns-in_err-pairs-clause-cause
-returns-in_err-pairs-clause-cause g c = make_cause_passed _ _ _ c.from_residual.result c.in_err-pairs.field-0.0 (omega arith) c.in_err-pairs.ensures.cause c.from_residual.ensures.1
+returns-in_err-pairs-clause-cause g c =
+    make_cause_passed _ _ _ c.from_residual.result c.in_err-pairs.field-0.0 (omega arith) c.in_err-pairs.ensures.cause c.from_residual.ensures.1
 
 pub returns-in_err-pairs-clause-reads : goal.returns-in_err-pairs-clause-reads
 returns-in_err-pairs-clause-reads g c = c.in_err-pairs.ensures.at_most

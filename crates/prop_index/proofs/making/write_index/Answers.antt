@@ -89,7 +89,8 @@ returns-clause-damaged g c tells =
     if_err c.fill.result (λ fault why. blames_before s m format.index_file fault kept.keeps.harmless why) (c.fill.ensures.damaged tells kept.used)
 
 pub returns-in_err-definition-clause-cause : goal.returns-in_err-definition-clause-cause
-returns-in_err-definition-clause-cause g c = take_cause_passed _ _ _ c.from_residual.result c.in_err-definition.field-0.0 (omega arith) c.in_err-definition.ensures.cause c.from_residual.ensures.1
+returns-in_err-definition-clause-cause g c =
+    take_cause_passed _ _ _ c.from_residual.result c.in_err-definition.field-0.0 (omega arith) c.in_err-definition.ensures.cause c.from_residual.ensures.1
 
 pub returns-clause-cause : goal.returns-clause-cause
 returns-clause-cause g c = take_cause_after _ _ _ c.fill.result c.in_ok-definition.ensures.cause.later c.fill.ensures.cause

@@ -70,10 +70,13 @@ pub returns-clause-cause : goal.returns-clause-cause
 returns-clause-cause g c = ok_cause _ _ _ _ (omega arith)
 
 pub returns-in_err-get_into-clause-cause : goal.returns-in_err-get_into-clause-cause
-returns-in_err-get_into-clause-cause g c = space_cause_passed _ _ _ c.from_residual.result c.in_err-get_into.field-0.0 (omega arith) c.in_err-get_into.ensures.cause c.from_residual.ensures.1
+returns-in_err-get_into-clause-cause g c =
+    space_cause_passed _ _ _ c.from_residual.result c.in_err-get_into.field-0.0 (omega arith) c.in_err-get_into.ensures.cause c.from_residual.ensures.1
 
 pub returns-in_err-get_into-clause-damaged : goal.returns-in_err-get_into-clause-damaged
-returns-in_err-get_into-clause-damaged g c tells = space_has (IsReadFault (g.R.Reads.state c.args.space.now) c.args.id c.args.kind c.args.named) tt tt c.from_residual.result c.in_err-get_into.field-0.0 c.from_residual.ensures.1
+returns-in_err-get_into-clause-damaged g c tells =
+    space_has (IsReadFault (g.R.Reads.state c.args.space.now) c.args.id c.args.kind c.args.named) tt tt c.from_residual.result c.in_err-get_into.field-0.0
+    c.from_residual.ensures.1
 
 pub returns-in_err-get_into-clause-sound : goal.returns-in_err-get_into-clause-sound
 returns-in_err-get_into-clause-sound g c tells room used = space_exit c.from_residual.result c.in_err-get_into.field-0.0 c.from_residual.ensures.1

@@ -38,14 +38,18 @@ pub returns-clause-cause : goal.returns-clause-cause
 returns-clause-cause g c = ok_cause _ _ _ _ (omega arith)
 
 pub returns-in_err-give-clause-cause : goal.returns-in_err-give-clause-cause
-returns-in_err-give-clause-cause g c = space_passed _ _ _ c.from_residual.result c.in_err-give.field-0.0 (omega arith) c.in_err-give.ensures.cause c.from_residual.ensures.1
+returns-in_err-give-clause-cause g c =
+    space_passed _ _ _ c.from_residual.result c.in_err-give.field-0.0 (omega arith) c.in_err-give.ensures.cause c.from_residual.ensures.1
 
 pub returns-in_err-back-clause-cause : goal.returns-in_err-back-clause-cause
-returns-in_err-back-clause-cause g c = space_passed _ _ _ c.from_residual-in_err-back.result c.in_err-back.field-0.0 c.in_ok-give.ensures.cause.later c.in_err-back.ensures.cause c.from_residual-in_err-back.ensures.1
+returns-in_err-back-clause-cause g c =
+    space_passed _ _ _ c.from_residual-in_err-back.result c.in_err-back.field-0.0 c.in_ok-give.ensures.cause.later c.in_err-back.ensures.cause
+    c.from_residual-in_err-back.ensures.1
 
 pub returns-in_err-lead-clause-cause : goal.returns-in_err-lead-clause-cause
 returns-in_err-lead-clause-cause g c =
-    space_passed _ _ _ c.from_residual-in_err-lead.result c.in_err-lead.field-0.0 (later_on c.in_ok-give.ensures.cause.later c.in_ok-back.ensures.cause.later) c.in_err-lead.ensures.cause c.from_residual-in_err-lead.ensures.1
+    space_passed _ _ _ c.from_residual-in_err-lead.result c.in_err-lead.field-0.0 (later_on c.in_ok-give.ensures.cause.later c.in_ok-back.ensures.cause.later)
+    c.in_err-lead.ensures.cause c.from_residual-in_err-lead.ensures.1
 
 pub returns-in_err-back-clause-onward : goal.returns-in_err-back-clause-onward
 returns-in_err-back-clause-onward g c = g.met.S.Reads.further_onward _ _ _ c.in_ok-give.ensures.onward c.in_err-back.ensures.onward

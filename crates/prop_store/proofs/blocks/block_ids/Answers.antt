@@ -37,7 +37,8 @@ returns-in_err-read_block-clause-sound g c tells text blocks has given =
     rw (p.1, p.2) (c.in_err-read_block.ensures.sound tells right.0 right.1)
 
 pub returns-in_err-read_block-clause-at_most : goal.returns-in_err-read_block-clause-at_most
-returns-in_err-read_block-clause-at_most g c = reads_then _ 1 22 _ _ _ (omega (arith, c.loop-left.invariant.few)) c.loop-left.invariant.reads c.in_err-read_block.ensures.at_most
+returns-in_err-read_block-clause-at_most g c =
+    reads_then _ 1 22 _ _ _ (omega (arith, c.loop-left.invariant.few)) c.loop-left.invariant.reads c.in_err-read_block.ensures.at_most
 
 pub loop-left-preserved : goal.loop-left-preserved
 loop-left-preserved g c =
@@ -92,7 +93,8 @@ returns-then-at-clause-damaged g c tells text =
 
 pub returns-in_err-read_block-clause-cause : goal.returns-in_err-read_block-clause-cause
 returns-in_err-read_block-clause-cause g c =
-    cause_passed _ _ _ c.from_residual.result c.in_err-read_block.field-0.0 c.loop-left.invariant.later c.in_err-read_block.ensures.cause c.from_residual.ensures.1
+    cause_passed _ _ _ c.from_residual.result c.in_err-read_block.field-0.0 c.loop-left.invariant.later c.in_err-read_block.ensures.cause
+    c.from_residual.ensures.1
 
 pub returns-in_err-read_block-clause-onward : goal.returns-in_err-read_block-clause-onward
 returns-in_err-read_block-clause-onward g c =

@@ -136,16 +136,21 @@ pub returns-clause-cause : goal.returns-clause-cause
 returns-clause-cause g c = ok_cause _ _ _ _ (omega arith)
 
 pub returns-in_err-get_into-clause-cause : goal.returns-in_err-get_into-clause-cause
-returns-in_err-get_into-clause-cause g c = space_cause_passed _ _ _ c.from_residual-in_err-get_into.result c.in_err-get_into.field-0.0 (omega arith) c.in_err-get_into.ensures.cause c.from_residual-in_err-get_into.ensures.1
+returns-in_err-get_into-clause-cause g c =
+    space_cause_passed _ _ _ c.from_residual-in_err-get_into.result c.in_err-get_into.field-0.0 (omega arith) c.in_err-get_into.ensures.cause
+    c.from_residual-in_err-get_into.ensures.1
 
 pub returns-in_err-get_into-clause-damaged : goal.returns-in_err-get_into-clause-damaged
-returns-in_err-get_into-clause-damaged g c tells = space_has (IsBlockFault (g.R.Reads.state c.args.space.now) c.args.property c.args.from c.args.id c.args.size) tt tt c.from_residual-in_err-get_into.result c.in_err-get_into.field-0.0 c.from_residual-in_err-get_into.ensures.1
+returns-in_err-get_into-clause-damaged g c tells =
+    space_has (IsBlockFault (g.R.Reads.state c.args.space.now) c.args.property c.args.from c.args.id c.args.size) tt tt c.from_residual-in_err-get_into.result
+    c.in_err-get_into.field-0.0 c.from_residual-in_err-get_into.ensures.1
 
 pub returns-in_err-get_into-clause-onward : goal.returns-in_err-get_into-clause-onward
 returns-in_err-get_into-clause-onward g c = c.get_into.ensures.onward
 
 pub returns-in_err-get_into-clause-sound : goal.returns-in_err-get_into-clause-sound
-returns-in_err-get_into-clause-sound g c tells given has = space_exit c.from_residual-in_err-get_into.result c.in_err-get_into.field-0.0 c.from_residual-in_err-get_into.ensures.1
+returns-in_err-get_into-clause-sound g c tells given has =
+    space_exit c.from_residual-in_err-get_into.result c.in_err-get_into.field-0.0 c.from_residual-in_err-get_into.ensures.1
 
 pub returns-then-not-is_known-clause-onward : goal.returns-then-not-is_known-clause-onward
 returns-then-not-is_known-clause-onward g c = c.in_ok-get_into.ensures.onward

@@ -70,7 +70,8 @@ returns-in_err-read_block-clause-sound g c tells text blocks has given =
     rw (p.1, p.2) (c.in_err-read_block.ensures.sound tells right.0 right.1)
 
 pub returns-in_err-read_block-clause-at_most : goal.returns-in_err-read_block-clause-at_most
-returns-in_err-read_block-clause-at_most g c = reads_then _ 1 _ _ _ _ (omega (arith, c.loop-left.invariant.size)) c.loop-left.invariant.reads c.in_err-read_block.ensures.at_most
+returns-in_err-read_block-clause-at_most g c =
+    reads_then _ 1 _ _ _ _ (omega (arith, c.loop-left.invariant.size)) c.loop-left.invariant.reads c.in_err-read_block.ensures.at_most
 
 pub returns-in_err-extend_from_slice-clause-at_most : goal.returns-in_err-extend_from_slice-clause-at_most
 returns-in_err-extend_from_slice-clause-at_most g c = reads_then _ 1 _ _ _ _ (omega (arith, c.loop-left.invariant.size)) c.loop-left.invariant.reads (reads_one 1 _ _ (omega arith) c.in_ok-read_block.ensures.state)
@@ -115,22 +116,30 @@ pub returns-clause-cause : goal.returns-clause-cause
 returns-clause-cause g c = ok_cause _ _ _ _ (omega arith)
 
 pub returns-in_err-read_block-clause-cause : goal.returns-in_err-read_block-clause-cause
-returns-in_err-read_block-clause-cause g c = cause_passed _ _ _ c.from_residual.result c.in_err-read_block.field-0.0 c.loop-left.invariant.later c.in_err-read_block.ensures.cause c.from_residual.ensures.1
+returns-in_err-read_block-clause-cause g c =
+    cause_passed _ _ _ c.from_residual.result c.in_err-read_block.field-0.0 c.loop-left.invariant.later c.in_err-read_block.ensures.cause
+    c.from_residual.ensures.1
 
 pub returns-in_err-read_block-clause-onward : goal.returns-in_err-read_block-clause-onward
 returns-in_err-read_block-clause-onward g c = g.met.R.Reads.further_onward _ _ _ c.loop-left.invariant.onward c.in_err-read_block.ensures.onward
 
 pub returns-in_err-extend_from_slice-clause-cause : goal.returns-in_err-extend_from_slice-clause-cause
-returns-in_err-extend_from_slice-clause-cause g c = memory_cause _ _ c.from_residual-in_err-extend_from_slice.result (later_on c.loop-left.invariant.later c.in_ok-read_block.ensures.cause.later) c.from_residual-in_err-extend_from_slice.ensures.1
+returns-in_err-extend_from_slice-clause-cause g c =
+    memory_cause _ _ c.from_residual-in_err-extend_from_slice.result (later_on c.loop-left.invariant.later c.in_ok-read_block.ensures.cause.later)
+    c.from_residual-in_err-extend_from_slice.ensures.1
 
 pub returns-in_err-extend_from_slice-clause-onward : goal.returns-in_err-extend_from_slice-clause-onward
 returns-in_err-extend_from_slice-clause-onward g c = g.met.R.Reads.further_onward _ _ _ c.loop-left.invariant.onward c.in_ok-read_block.ensures.onward
 
 pub returns-in_err-extend_from_slice-clause-damaged : goal.returns-in_err-extend_from_slice-clause-damaged
-returns-in_err-extend_from_slice-clause-damaged g c tells text = same_has (IsTextFault (g.R.Reads.state c.args.space.now) c.args.property) c.from_residual-in_err-extend_from_slice.result faults.Memory c.from_residual-in_err-extend_from_slice.ensures.1 tt
+returns-in_err-extend_from_slice-clause-damaged g c tells text =
+    same_has (IsTextFault (g.R.Reads.state c.args.space.now) c.args.property) c.from_residual-in_err-extend_from_slice.result faults.Memory
+    c.from_residual-in_err-extend_from_slice.ensures.1 tt
 
 pub returns-in_err-extend_from_slice-clause-sound : goal.returns-in_err-extend_from_slice-clause-sound
-returns-in_err-extend_from_slice-clause-sound g c tells text blocks has given = same_has (λ fault. IfSome (damage_of fault) (λ _. ⊥)) c.from_residual-in_err-extend_from_slice.result faults.Memory c.from_residual-in_err-extend_from_slice.ensures.1 tt
+returns-in_err-extend_from_slice-clause-sound g c tells text blocks has given =
+    same_has (λ fault. IfSome (damage_of fault) (λ _. ⊥)) c.from_residual-in_err-extend_from_slice.result faults.Memory
+    c.from_residual-in_err-extend_from_slice.ensures.1 tt
 
 pub returns-then-at-clause-onward : goal.returns-then-at-clause-onward
 returns-then-at-clause-onward g c = c.loop-left.invariant.onward

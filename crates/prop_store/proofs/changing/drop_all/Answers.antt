@@ -268,7 +268,8 @@ pub returns-else-first-clause-cause : goal.returns-else-first-clause-cause
 returns-else-first-clause-cause g c = ok_cause _ _ _ _ (omega arith)
 
 pub returns-in_err-first-clause-cause : goal.returns-in_err-first-clause-cause
-returns-in_err-first-clause-cause g c = space_cause_passed _ _ _ c.from_residual.result c.in_err-first.field-0.0 (omega arith) c.in_err-first.ensures.cause c.from_residual.ensures.1
+returns-in_err-first-clause-cause g c =
+    space_cause_passed _ _ _ c.from_residual.result c.in_err-first.field-0.0 (omega arith) c.in_err-first.ensures.cause c.from_residual.ensures.1
 
 pub returns-in_err-first-clause-sound : goal.returns-in_err-first-clause-sound
 returns-in_err-first-clause-sound g c tells has = space_exit c.from_residual.result c.in_err-first.field-0.0 c.from_residual.ensures.1
@@ -277,15 +278,18 @@ pub returns-in_err-first-clause-alone_sound : goal.returns-in_err-first-clause-a
 returns-in_err-first-clause-alone_sound g c tells es owns = space_exit c.from_residual.result c.in_err-first.field-0.0 c.from_residual.ensures.1
 
 pub returns-in_err-set_number-clause-sound : goal.returns-in_err-set_number-clause-sound
-returns-in_err-set_number-clause-sound g c tells has = space_exit c.from_residual-in_err-set_number.result c.in_err-set_number.field-0.0 c.from_residual-in_err-set_number.ensures.1
+returns-in_err-set_number-clause-sound g c tells has =
+    space_exit c.from_residual-in_err-set_number.result c.in_err-set_number.field-0.0 c.from_residual-in_err-set_number.ensures.1
 
 pub returns-in_err-set_number-clause-alone_sound : goal.returns-in_err-set_number-clause-alone_sound
-returns-in_err-set_number-clause-alone_sound g c tells es owns = space_exit c.from_residual-in_err-set_number.result c.in_err-set_number.field-0.0 c.from_residual-in_err-set_number.ensures.1
+returns-in_err-set_number-clause-alone_sound g c tells es owns =
+    space_exit c.from_residual-in_err-set_number.result c.in_err-set_number.field-0.0 c.from_residual-in_err-set_number.ensures.1
 
 pub returns-in_err-set_number-clause-damaged : goal.returns-in_err-set_number-clause-damaged
 returns-in_err-set_number-clause-damaged g c tells used =
     let s = g.S.Reads.state c.args.space.now in
-    space_has (BlamesBroken s.records s.shape) tt tt c.from_residual-in_err-set_number.result c.in_err-set_number.field-0.0 c.from_residual-in_err-set_number.ensures.1
+    space_has (BlamesBroken s.records s.shape) tt tt c.from_residual-in_err-set_number.result c.in_err-set_number.field-0.0
+    c.from_residual-in_err-set_number.ensures.1
 
 pub returns-in_ok-set_number-clause-few_properties : goal.returns-in_ok-set_number-clause-few_properties
 returns-in_ok-set_number-clause-few_properties g c = c.in_ok-dropped.ensures.few_properties

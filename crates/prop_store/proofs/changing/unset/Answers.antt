@@ -29,7 +29,9 @@ use Rattle.prop_store.proofs.changing.unset.Given.{Over}
 -- where the property of the key is
 found : (g : Over) (c : In-Found g) → g.S.Reads.tells → (es : List Property) → OwnsProperties (g.S.Reads.state c.args.space.now) c.args.owner es
     → FoundAt (g.S.Reads.state c.args.space.now).records c.args.owner es c.args.key c.in-Found.link c.find.new.row
-found g c tells es owns = subst (IsSought (g.S.Reads.state c.args.space.now).records c.args.owner es c.args.key c.find.new.row) c.in-Found.is (c.in_ok-find.ensures.found tells es owns.held.are)
+found g c tells es owns =
+    subst (IsSought (g.S.Reads.state c.args.space.now).records c.args.owner es c.args.key c.find.new.row) c.in-Found.is
+    (c.in_ok-find.ensures.found tells es owns.held.are)
 
 -- it is in use
 held : (g : Over) (c : In-Found g) (tells : g.S.Reads.tells) (es : List Property) (owns : OwnsProperties (g.S.Reads.state c.args.space.now) c.args.owner es)
@@ -282,13 +284,16 @@ pub returns-in_ok-set_number-in-Found-clause-cause : goal.returns-in_ok-set_numb
 returns-in_ok-set_number-in-Found-clause-cause g c = ok_cause _ _ _ _ (omega arith)
 
 pub returns-in_err-find-clause-cause : goal.returns-in_err-find-clause-cause
-returns-in_err-find-clause-cause g c = cause_passed _ _ _ c.from_residual.result c.in_err-find.field-0.0 (omega arith) c.in_err-find.ensures.cause c.from_residual.ensures.1
+returns-in_err-find-clause-cause g c =
+    cause_passed _ _ _ c.from_residual.result c.in_err-find.field-0.0 (omega arith) c.in_err-find.ensures.cause c.from_residual.ensures.1
 
 pub returns-in_err-set_number-in-Found-clause-sound : goal.returns-in_err-set_number-in-Found-clause-sound
-returns-in_err-set_number-in-Found-clause-sound g c tells has = space_exit c.from_residual-in_err-set_number-in-Found.result c.in_err-set_number-in-Found.field-0.0 c.from_residual-in_err-set_number-in-Found.ensures.1
+returns-in_err-set_number-in-Found-clause-sound g c tells has =
+    space_exit c.from_residual-in_err-set_number-in-Found.result c.in_err-set_number-in-Found.field-0.0 c.from_residual-in_err-set_number-in-Found.ensures.1
 
 pub returns-in_err-set_number-in-Found-clause-alone_sound : goal.returns-in_err-set_number-in-Found-clause-alone_sound
-returns-in_err-set_number-in-Found-clause-alone_sound g c tells es owns = space_exit c.from_residual-in_err-set_number-in-Found.result c.in_err-set_number-in-Found.field-0.0 c.from_residual-in_err-set_number-in-Found.ensures.1
+returns-in_err-set_number-in-Found-clause-alone_sound g c tells es owns =
+    space_exit c.from_residual-in_err-set_number-in-Found.result c.in_err-set_number-in-Found.field-0.0 c.from_residual-in_err-set_number-in-Found.ensures.1
 
 pub returns-in-Absent-clause-onward : goal.returns-in-Absent-clause-onward
 returns-in-Absent-clause-onward g c = c.in_ok-find.ensures.onward

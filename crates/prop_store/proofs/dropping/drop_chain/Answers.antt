@@ -172,7 +172,8 @@ pub returns-in_err-release_properties-clause-touches : goal.returns-in_err-relea
 returns-in_err-release_properties-clause-touches g c = never_ok c.from_residual-in_err-release_properties.result _ _ c.from_residual-in_err-release_properties.ensures.1
 
 pub returns-in_err-held-clause-cause : goal.returns-in_err-held-clause-cause
-returns-in_err-held-clause-cause g c = cause_passed _ _ _ c.from_residual.result c.in_err-held.field-0.0 (omega arith) c.in_err-held.ensures.cause c.from_residual.ensures.1
+returns-in_err-held-clause-cause g c =
+    cause_passed _ _ _ c.from_residual.result c.in_err-held.field-0.0 (omega arith) c.in_err-held.ensures.cause c.from_residual.ensures.1
 
 pub returns-in_err-held-clause-onward : goal.returns-in_err-held-clause-onward
 returns-in_err-held-clause-onward g c = c.in_err-held.ensures.onward

@@ -122,24 +122,31 @@ returns-in_err-give-clause-unwritten g c =
     space_has (λ fault. IfSome (damage_of fault) (λ _. SameButReads (g.S.Reads.state c.args.space.now) (g.S.Reads.state c.give.new.space))) tt tt c.from_residual-in_err-give.result c.in_err-give.field-0.0 c.from_residual-in_err-give.ensures.1
 
 pub returns-in_err-blocks-clause-cause : goal.returns-in_err-blocks-clause-cause
-returns-in_err-blocks-clause-cause g c = cause_passed _ _ _ c.from_residual.result c.in_err-blocks.field-0.0 (omega arith) c.in_err-blocks.ensures.cause c.from_residual.ensures.1
+returns-in_err-blocks-clause-cause g c =
+    cause_passed _ _ _ c.from_residual.result c.in_err-blocks.field-0.0 (omega arith) c.in_err-blocks.ensures.cause c.from_residual.ensures.1
 
 pub returns-in_err-release-clause-cause : goal.returns-in_err-release-clause-cause
 returns-in_err-release-clause-cause g c =
-    space_cause_passed _ _ _ c.from_residual-in_err-release.result c.in_err-release.field-0.0 c.in_ok-blocks.ensures.cause.later c.in_err-release.ensures.cause c.from_residual-in_err-release.ensures.1
+    space_cause_passed _ _ _ c.from_residual-in_err-release.result c.in_err-release.field-0.0 c.in_ok-blocks.ensures.cause.later
+    c.in_err-release.ensures.cause c.from_residual-in_err-release.ensures.1
 
 pub returns-in_err-give-clause-cause : goal.returns-in_err-give-clause-cause
 returns-in_err-give-clause-cause g c =
-    space_cause_passed _ _ _ c.from_residual-in_err-give.result c.in_err-give.field-0.0 (later_on c.in_ok-blocks.ensures.cause.later c.in_ok-release.ensures.cause.later) c.in_err-give.ensures.cause c.from_residual-in_err-give.ensures.1
+    space_cause_passed _ _ _ c.from_residual-in_err-give.result c.in_err-give.field-0.0
+    (later_on c.in_ok-blocks.ensures.cause.later c.in_ok-release.ensures.cause.later) c.in_err-give.ensures.cause c.from_residual-in_err-give.ensures.1
 
 pub returns-in_err-release-clause-onward : goal.returns-in_err-release-clause-onward
 returns-in_err-release-clause-onward g c = g.met.S.Reads.further_onward _ _ _ c.in_ok-blocks.ensures.onward c.in_err-release.ensures.onward
 
 pub returns-in_err-give-clause-onward : goal.returns-in_err-give-clause-onward
-returns-in_err-give-clause-onward g c = g.met.S.Reads.further_onward _ _ _ (g.met.S.Reads.further_onward _ _ _ c.in_ok-blocks.ensures.onward c.in_ok-release.ensures.onward) c.in_err-give.ensures.onward
+returns-in_err-give-clause-onward g c =
+    g.met.S.Reads.further_onward _ _ _ (g.met.S.Reads.further_onward _ _ _ c.in_ok-blocks.ensures.onward c.in_ok-release.ensures.onward)
+    c.in_err-give.ensures.onward
 
 pub returns-clause-onward : goal.returns-clause-onward
-returns-clause-onward g c = g.met.S.Reads.further_onward _ _ _ (g.met.S.Reads.further_onward _ _ _ c.in_ok-blocks.ensures.onward c.in_ok-release.ensures.onward) c.in_ok-give.ensures.onward
+returns-clause-onward g c =
+    g.met.S.Reads.further_onward _ _ _ (g.met.S.Reads.further_onward _ _ _ c.in_ok-blocks.ensures.onward c.in_ok-release.ensures.onward)
+    c.in_ok-give.ensures.onward
 
 pub returns-clause-few : goal.returns-clause-few
 returns-clause-few g c = c.as_slice-ids.ensures.few

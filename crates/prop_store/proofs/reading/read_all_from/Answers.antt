@@ -246,7 +246,8 @@ returns-in_err-push-clause-damaged g c tells used =
     same_has (BlamesBroken old.records old.shape) c.from_residual-in_err-push.result faults.Memory c.from_residual-in_err-push.ensures.1 tt
 
 pub returns-in_err-push-clause-sound : goal.returns-in_err-push-clause-sound
-returns-in_err-push-clause-sound g c tells es has = same_has (λ fault. IfSome (damage_of fault) (λ _. ⊥)) c.from_residual-in_err-push.result faults.Memory c.from_residual-in_err-push.ensures.1 tt
+returns-in_err-push-clause-sound g c tells es has =
+    same_has (λ fault. IfSome (damage_of fault) (λ _. ⊥)) c.from_residual-in_err-push.result faults.Memory c.from_residual-in_err-push.ensures.1 tt
 
 pub returns-then-at-clause-at_most : goal.returns-then-at-clause-at_most
 returns-then-at-clause-at_most g c = reads_more _ 736 _ _ (omega (arith, c.loop.invariant.few, c.loop.invariant.count)) c.loop.invariant.reads

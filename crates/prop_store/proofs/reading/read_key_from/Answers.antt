@@ -123,13 +123,16 @@ pub returns-in_ok-value-in-Found-clause-cause : goal.returns-in_ok-value-in-Foun
 returns-in_ok-value-in-Found-clause-cause g c = ok_cause _ _ _ _ (omega arith)
 
 pub returns-in_err-find_from-clause-cause : goal.returns-in_err-find_from-clause-cause
-returns-in_err-find_from-clause-cause g c = cause_passed _ _ _ c.from_residual.result c.in_err-find_from.field-0.0 (omega arith) c.in_err-find_from.ensures.cause c.from_residual.ensures.1
+returns-in_err-find_from-clause-cause g c =
+    cause_passed _ _ _ c.from_residual.result c.in_err-find_from.field-0.0 (omega arith) c.in_err-find_from.ensures.cause c.from_residual.ensures.1
 
 pub returns-in_err-find_from-clause-at_most : goal.returns-in_err-find_from-clause-at_most
 returns-in_err-find_from-clause-at_most g c = reads_more 32 54 _ _ (omega arith) c.in_err-find_from.ensures.at_most
 
 pub returns-in_err-find_from-clause-sound : goal.returns-in_err-find_from-clause-sound
-returns-in_err-find_from-clause-sound g c tells es has = same_has (λ fault. IfSome (damage_of fault) (λ _. ⊥)) c.from_residual.result c.in_err-find_from.field-0.0 c.from_residual.ensures.1 (c.in_err-find_from.ensures.sound tells es has)
+returns-in_err-find_from-clause-sound g c tells es has =
+    same_has (λ fault. IfSome (damage_of fault) (λ _. ⊥)) c.from_residual.result c.in_err-find_from.field-0.0 c.from_residual.ensures.1
+    (c.in_err-find_from.ensures.sound tells es has)
 
 pub returns-in-Absent-clause-at_most : goal.returns-in-Absent-clause-at_most
 returns-in-Absent-clause-at_most g c = reads_more 32 54 _ _ (omega arith) c.in_ok-find_from.ensures.at_most

@@ -44,7 +44,8 @@ returns-clause-cause g c = ok_cause _ _ _ _ (omega arith)
 
 pub returns-in_err-give-clause-cause : goal.returns-in_err-give-clause-cause
 returns-in_err-give-clause-cause g c =
-    passed (λ f. f) spaces.Disk spaces.Disk _ _ _ c.from_residual.result c.in_err-give.field-0.0 (λ e. e) c.loop-id.invariant.later c.in_err-give.ensures.cause c.from_residual.ensures.1
+    passed (λ f. f) spaces.Disk spaces.Disk _ _ _ c.from_residual.result c.in_err-give.field-0.0 (λ e. e) c.loop-id.invariant.later
+    c.in_err-give.ensures.cause c.from_residual.ensures.1
 
 pub returns-in_err-give-clause-onward : goal.returns-in_err-give-clause-onward
 returns-in_err-give-clause-onward g c = g.met.S.Reads.further_onward _ _ _ c.loop-id.invariant.onward c.in_err-give.ensures.onward

@@ -287,27 +287,32 @@ space_refused_graph s owner key value spaces.Memory = tt
 space_refused_graph s owner key value spaces.Disk = tt
 
 pub returns-in_err-next-clause-cause : goal.returns-in_err-next-clause-cause
-returns-in_err-next-clause-cause g c = space_set_cause _ _ _ c.from_residual.result c.in_err-next.field-0.0 (omega arith) c.in_err-next.ensures.cause c.from_residual.ensures.1
+returns-in_err-next-clause-cause g c =
+    space_set_cause _ _ _ c.from_residual.result c.in_err-next.field-0.0 (omega arith) c.in_err-next.ensures.cause c.from_residual.ensures.1
 
 pub returns-in_err-next-clause-alone_refused : goal.returns-in_err-next-clause-alone_refused
 returns-in_err-next-clause-alone_refused g c tells es owns known lacks few =
     let s = g.S.Reads.state c.args.space.now in
-    set_has (IsSetRefusalAlone s es c.args.key c.args.value.now) c.from_residual.result _ c.from_residual.ensures.1 (space_refused s es c.args.key c.args.value.now c.in_err-next.field-0.0)
+    set_has (IsSetRefusalAlone s es c.args.key c.args.value.now) c.from_residual.result _ c.from_residual.ensures.1
+    (space_refused s es c.args.key c.args.value.now c.in_err-next.field-0.0)
 
 pub returns-in_err-next-clause-refused : goal.returns-in_err-next-clause-refused
 returns-in_err-next-clause-refused g c tells has none few =
     let s = g.S.Reads.state c.args.space.now in
-    set_has (IsSetRefusal s c.args.owner c.args.key c.args.value.now) c.from_residual.result _ c.from_residual.ensures.1 (space_refused_graph s c.args.owner c.args.key c.args.value.now c.in_err-next.field-0.0)
+    set_has (IsSetRefusal s c.args.owner c.args.key c.args.value.now) c.from_residual.result _ c.from_residual.ensures.1
+    (space_refused_graph s c.args.owner c.args.key c.args.value.now c.in_err-next.field-0.0)
 
 pub returns-in_err-set_number-clause-alone_refused : goal.returns-in_err-set_number-clause-alone_refused
 returns-in_err-set_number-clause-alone_refused g c tells es owns known lacks few =
     let s = g.S.Reads.state c.args.space.now in
-    set_has (IsSetRefusalAlone s es c.args.key c.args.value.now) c.from_residual-in_err-set_number.result _ c.from_residual-in_err-set_number.ensures.1 (space_refused s es c.args.key c.args.value.now c.in_err-set_number.field-0.0)
+    set_has (IsSetRefusalAlone s es c.args.key c.args.value.now) c.from_residual-in_err-set_number.result _ c.from_residual-in_err-set_number.ensures.1
+    (space_refused s es c.args.key c.args.value.now c.in_err-set_number.field-0.0)
 
 pub returns-in_err-set_number-clause-refused : goal.returns-in_err-set_number-clause-refused
 returns-in_err-set_number-clause-refused g c tells has none few =
     let s = g.S.Reads.state c.args.space.now in
-    set_has (IsSetRefusal s c.args.owner c.args.key c.args.value.now) c.from_residual-in_err-set_number.result _ c.from_residual-in_err-set_number.ensures.1 (space_refused_graph s c.args.owner c.args.key c.args.value.now c.in_err-set_number.field-0.0)
+    set_has (IsSetRefusal s c.args.owner c.args.key c.args.value.now) c.from_residual-in_err-set_number.result _ c.from_residual-in_err-set_number.ensures.1
+    (space_refused_graph s c.args.owner c.args.key c.args.value.now c.in_err-set_number.field-0.0)
 
 pub set_number-requires-clause-key : goal.set_number-requires-clause-key
 set_number-requires-clause-key g c = c.requires.owner.key

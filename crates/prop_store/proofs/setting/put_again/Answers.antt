@@ -267,11 +267,13 @@ pub returns-clause-cause : goal.returns-clause-cause
 returns-clause-cause g c = ok_cause _ _ _ _ (omega arith)
 
 pub returns-in_err-blocks-clause-cause : goal.returns-in_err-blocks-clause-cause
-returns-in_err-blocks-clause-cause g c = fault_set_cause _ _ _ c.from_residual.result c.in_err-blocks.field-0.0 (omega arith) c.in_err-blocks.ensures.cause c.from_residual.ensures.1
+returns-in_err-blocks-clause-cause g c =
+    fault_set_cause _ _ _ c.from_residual.result c.in_err-blocks.field-0.0 (omega arith) c.in_err-blocks.ensures.cause c.from_residual.ensures.1
 
 pub returns-in_err-first-clause-cause : goal.returns-in_err-first-clause-cause
 returns-in_err-first-clause-cause g c =
-    take_set_cause _ _ _ c.from_residual-in_err-first.result c.in_err-first.field-0.0 (later_on c.in_ok-blocks.ensures.cause.later c.in_ok-release.ensures.cause.later) c.in_err-first.ensures.cause c.from_residual-in_err-first.ensures.1
+    take_set_cause _ _ _ c.from_residual-in_err-first.result c.in_err-first.field-0.0
+    (later_on c.in_ok-blocks.ensures.cause.later c.in_ok-release.ensures.cause.later) c.in_err-first.ensures.cause c.from_residual-in_err-first.ensures.1
 
 pub returns-in_err-test_free-clause-onward : goal.returns-in_err-test_free-clause-onward
 returns-in_err-test_free-clause-onward g c = c.in_ok-blocks.ensures.onward
@@ -280,15 +282,19 @@ pub returns-in_err-release-clause-onward : goal.returns-in_err-release-clause-on
 returns-in_err-release-clause-onward g c = g.met.S.Reads.further_onward _ _ _ c.in_ok-blocks.ensures.onward c.in_err-release.ensures.onward
 
 pub returns-in_err-first-clause-onward : goal.returns-in_err-first-clause-onward
-returns-in_err-first-clause-onward g c = g.met.S.Reads.further_onward _ _ _ (g.met.S.Reads.further_onward _ _ _ c.in_ok-blocks.ensures.onward c.in_ok-release.ensures.onward) c.in_err-first.ensures.onward
+returns-in_err-first-clause-onward g c =
+    g.met.S.Reads.further_onward _ _ _ (g.met.S.Reads.further_onward _ _ _ c.in_ok-blocks.ensures.onward c.in_ok-release.ensures.onward)
+    c.in_err-first.ensures.onward
 
 pub returns-in_err-put-clause-onward : goal.returns-in_err-put-clause-onward
 returns-in_err-put-clause-onward g c =
-    g.met.S.Reads.further_onward _ _ _ (g.met.S.Reads.further_onward _ _ _ (g.met.S.Reads.further_onward _ _ _ c.in_ok-blocks.ensures.onward c.in_ok-release.ensures.onward) c.in_ok-first.ensures.onward) c.in_err-put.ensures.onward
+    g.met.S.Reads.further_onward _ _ _
+    (g.met.S.Reads.further_onward _ _ _ (g.met.S.Reads.further_onward _ _ _ c.in_ok-blocks.ensures.onward c.in_ok-release.ensures.onward) c.in_ok-first.ensures.onward) c.in_err-put.ensures.onward
 
 pub returns-clause-onward : goal.returns-clause-onward
 returns-clause-onward g c =
-    g.met.S.Reads.further_onward _ _ _ (g.met.S.Reads.further_onward _ _ _ (g.met.S.Reads.further_onward _ _ _ c.in_ok-blocks.ensures.onward c.in_ok-release.ensures.onward) c.in_ok-first.ensures.onward) c.in_ok-put.ensures.onward
+    g.met.S.Reads.further_onward _ _ _
+    (g.met.S.Reads.further_onward _ _ _ (g.met.S.Reads.further_onward _ _ _ c.in_ok-blocks.ensures.onward c.in_ok-release.ensures.onward) c.in_ok-first.ensures.onward) c.in_ok-put.ensures.onward
 
 pub returns-in_err-put-clause-refused : goal.returns-in_err-put-clause-refused
 returns-in_err-put-clause-refused g c tells e held =

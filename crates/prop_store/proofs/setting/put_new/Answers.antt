@@ -157,16 +157,21 @@ pub returns-clause-cause : goal.returns-clause-cause
 returns-clause-cause g c = ok_cause _ _ _ _ (omega arith)
 
 pub returns-in_err-first-clause-cause : goal.returns-in_err-first-clause-cause
-returns-in_err-first-clause-cause g c = take_set_cause _ _ _ c.from_residual.result c.in_err-first.field-0.0 (omega arith) c.in_err-first.ensures.cause c.from_residual.ensures.1
+returns-in_err-first-clause-cause g c =
+    take_set_cause _ _ _ c.from_residual.result c.in_err-first.field-0.0 (omega arith) c.in_err-first.ensures.cause c.from_residual.ensures.1
 
 pub returns-in_err-id-clause-cause : goal.returns-in_err-id-clause-cause
-returns-in_err-id-clause-cause g c = take_set_cause _ _ _ c.from_residual-in_err-id.result c.in_err-id.field-0.0 c.in_ok-first.ensures.cause.later c.in_err-id.ensures.cause c.from_residual-in_err-id.ensures.1
+returns-in_err-id-clause-cause g c =
+    take_set_cause _ _ _ c.from_residual-in_err-id.result c.in_err-id.field-0.0 c.in_ok-first.ensures.cause.later c.in_err-id.ensures.cause
+    c.from_residual-in_err-id.ensures.1
 
 pub returns-in_err-id-clause-onward : goal.returns-in_err-id-clause-onward
 returns-in_err-id-clause-onward g c = g.met.S.Reads.further_onward _ _ _ c.in_ok-first.ensures.onward c.in_err-id.ensures.onward
 
 pub returns-in_err-put-clause-onward : goal.returns-in_err-put-clause-onward
-returns-in_err-put-clause-onward g c = g.met.S.Reads.further_onward _ _ _ (g.met.S.Reads.further_onward _ _ _ c.in_ok-first.ensures.onward c.in_ok-id.ensures.onward) c.in_err-put.ensures.onward
+returns-in_err-put-clause-onward g c =
+    g.met.S.Reads.further_onward _ _ _ (g.met.S.Reads.further_onward _ _ _ c.in_ok-first.ensures.onward c.in_ok-id.ensures.onward) c.in_err-put.ensures.onward
 
 pub returns-clause-onward : goal.returns-clause-onward
-returns-clause-onward g c = g.met.S.Reads.further_onward _ _ _ (g.met.S.Reads.further_onward _ _ _ c.in_ok-first.ensures.onward c.in_ok-id.ensures.onward) c.in_ok-put.ensures.onward
+returns-clause-onward g c =
+    g.met.S.Reads.further_onward _ _ _ (g.met.S.Reads.further_onward _ _ _ c.in_ok-first.ensures.onward c.in_ok-id.ensures.onward) c.in_ok-put.ensures.onward

@@ -55,7 +55,9 @@ same g c = reads_same 33 _ _ c.find.ensures.at_most
 -- where the property of the key is
 found : (g : Over) (c : After-put_again g) → g.S.Reads.tells → (es : List Property) → OwnsProperties (g.S.Reads.state c.args.space.now) c.args.owner es
     → FoundAt (g.S.Reads.state c.args.space.now).records c.args.owner es c.args.key c.in-Found.field-0 c.find.new.row
-found g c tells es owns = subst (IsSought (g.S.Reads.state c.args.space.now).records c.args.owner es c.args.key c.find.new.row) c.in-Found.is (c.in_ok-count.ensures.found tells es owns.held.are)
+found g c tells es owns =
+    subst (IsSought (g.S.Reads.state c.args.space.now).records c.args.owner es c.args.key c.find.new.row) c.in-Found.is
+    (c.in_ok-count.ensures.found tells es owns.held.are)
 
 -- it is in use
 held : (g : Over) (c : After-put_again g) (tells : g.S.Reads.tells) (es : List Property) (owns : OwnsProperties (g.S.Reads.state c.args.space.now) c.args.owner es)
@@ -345,7 +347,8 @@ pub returns-in_ok-add-in-Absent-clause-cause : goal.returns-in_ok-add-in-Absent-
 returns-in_ok-add-in-Absent-clause-cause g c = ok_cause _ _ _ _ (omega arith)
 
 pub returns-in_err-count-clause-cause : goal.returns-in_err-count-clause-cause
-returns-in_err-count-clause-cause g c = fault_set_cause _ _ _ c.from_residual.result c.in_err-count.field-0.0 (omega arith) c.in_err-count.ensures.cause c.from_residual.ensures.1
+returns-in_err-count-clause-cause g c =
+    fault_set_cause _ _ _ c.from_residual.result c.in_err-count.field-0.0 (omega arith) c.in_err-count.ensures.cause c.from_residual.ensures.1
 
 pub returns-in-Found-clause-cause : goal.returns-in-Found-clause-cause
 returns-in-Found-clause-cause g c = set_cause_after _ _ _ c.put_again.result c.in_ok-count.ensures.cause.later c.put_again.ensures.cause

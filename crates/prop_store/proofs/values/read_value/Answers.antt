@@ -88,13 +88,17 @@ pub returns-in_err-bytes-in-Inline-clause-cause : goal.returns-in_err-bytes-in-I
 returns-in_err-bytes-in-Inline-clause-cause g c = memory_cause _ _ c.from_residual.result (omega arith) c.from_residual.ensures.1
 
 pub returns-in_err-bytes-in-Inline-clause-damaged : goal.returns-in_err-bytes-in-Inline-clause-damaged
-returns-in_err-bytes-in-Inline-clause-damaged g c tells read = same_has (IsTextFault (g.R.Reads.state c.args.space.now) c.args.row.now.id) c.from_residual.result faults.Memory c.from_residual.ensures.1 tt
+returns-in_err-bytes-in-Inline-clause-damaged g c tells read =
+    same_has (IsTextFault (g.R.Reads.state c.args.space.now) c.args.row.now.id) c.from_residual.result faults.Memory c.from_residual.ensures.1 tt
 
 pub returns-in_err-bytes-in-Inline-clause-sound : goal.returns-in_err-bytes-in-Inline-clause-sound
-returns-in_err-bytes-in-Inline-clause-sound g c tells value blocks has given = same_has (λ fault. IfSome (damage_of fault) (λ _. ⊥)) c.from_residual.result faults.Memory c.from_residual.ensures.1 tt
+returns-in_err-bytes-in-Inline-clause-sound g c tells value blocks has given =
+    same_has (λ fault. IfSome (damage_of fault) (λ _. ⊥)) c.from_residual.result faults.Memory c.from_residual.ensures.1 tt
 
 pub returns-in_err-bytes-in-Long-clause-cause : goal.returns-in_err-bytes-in-Long-clause-cause
-returns-in_err-bytes-in-Long-clause-cause g c = cause_passed _ _ _ c.from_residual-in_err-bytes-in-Long.result c.in_err-bytes-in-Long.field-0.0 (omega arith) c.in_err-bytes-in-Long.ensures.cause c.from_residual-in_err-bytes-in-Long.ensures.1
+returns-in_err-bytes-in-Long-clause-cause g c =
+    cause_passed _ _ _ c.from_residual-in_err-bytes-in-Long.result c.in_err-bytes-in-Long.field-0.0 (omega arith) c.in_err-bytes-in-Long.ensures.cause
+    c.from_residual-in_err-bytes-in-Long.ensures.1
 
 pub returns-in_err-bytes-in-Long-clause-onward : goal.returns-in_err-bytes-in-Long-clause-onward
 returns-in_err-bytes-in-Long-clause-onward g c = c.in_err-bytes-in-Long.ensures.onward
@@ -103,7 +107,8 @@ pub returns-in_err-bytes-in-Long-clause-sound : goal.returns-in_err-bytes-in-Lon
 returns-in_err-bytes-in-Long-clause-sound g c tells value blocks has given =
     let string_file = rec_at (g.R.Reads.state c.args.space.now).records strings_file in
     let m = means string_file c.args.row.now.rec value blocks (forms.Long c.in-Long.size c.in-Long.first) has (c.requires.form_is ∙ ap Some c.in-Long.is) in
-    same_has (λ fault. IfSome (damage_of fault) (λ _. ⊥)) c.from_residual-in_err-bytes-in-Long.result c.in_err-bytes-in-Long.field-0.0 c.from_residual-in_err-bytes-in-Long.ensures.1 (c.in_err-bytes-in-Long.ensures.sound tells m.0 blocks m.2 given)
+    same_has (λ fault. IfSome (damage_of fault) (λ _. ⊥)) c.from_residual-in_err-bytes-in-Long.result c.in_err-bytes-in-Long.field-0.0
+    c.from_residual-in_err-bytes-in-Long.ensures.1 (c.in_err-bytes-in-Long.ensures.sound tells m.0 blocks m.2 given)
 
 pub returns-in_ok-bytes-in-Long-clause-onward : goal.returns-in_ok-bytes-in-Long-clause-onward
 returns-in_ok-bytes-in-Long-clause-onward g c = c.in_ok-bytes-in-Long.ensures.onward
