@@ -1,5 +1,6 @@
 -- The chains of nodes and of groups as lines.
-use Rattle.std.proofs.Common.{◌≡◌, ◌≢◌, ℕ, ◌<◌, ◌≤◌, Bool, true, not, ◌&&◌, List, [], ◌∷◌, Some, map, nat_eq, sym, ap, ◌∙◌, subst, inl, inr, ⊎_elim, arith, refl}
+use Rattle.std.proofs.Common.{◌≡◌, ◌≢◌, ℕ, ◌<◌, ◌≤◌, Bool, true, not, ◌&&◌, List, [], ◌∷◌, Some, map, nat_eq, sym, ap}
+use Rattle.std.proofs.Common.{◌∙◌, subst, inl, inr, ⊎_elim, arith, refl}
 use Rattle.std.proofs.lemmas.Bool.{and_from, eq-eqb, eqb-true, true≢false}
 use Rattle.rec_bytes.specs.declared.record.Rec.{Rec}
 use Rattle.rec_bytes.specs.Format as format
@@ -39,7 +40,8 @@ module _ (next prev : ℕ → ℕ) (test : ℕ → Bool) (high : ℕ) where
   test_of_line b f (y ∷ ys) h x (inl e) = ap test e ∙ (and_parts (test y) (nat_eq (prev y) b) h.2).0
   test_of_line b f (y ∷ ys) h x (inr i) = test_of_line y (next y) ys h.3 x i
 
-  pub line_of_chain : (b f : ℕ) (xs : List ℕ) → IsChain next prev b f xs → ((x : ℕ) → In x xs → x < high) → ((x : ℕ) → In x xs → test x ≡ true) → IsLine next fits high b f xs
+  pub line_of_chain : (b f : ℕ) (xs : List ℕ) → IsChain next prev b f xs → ((x : ℕ) → In x xs → x < high) → ((x : ℕ) → In x xs → test x ≡ true)
+      → IsLine next fits high b f xs
   line_of_chain b f [] h low ok = h
   line_of_chain b f (x ∷ xs) h low ok =
       (h.0, low x (inl refl), and_from (test x) (nat_eq (prev x) b) (ok x (inl refl)) (eq-eqb (prev x) b h.2), line_of_chain x (next x) xs h.3 (λ y i. low y (inr i)) (λ y i. ok y (inr i)))
@@ -84,7 +86,8 @@ module _ (records : Records) (head : rules.Head) (n : ℕ) (side : Side) (fit : 
   stands_of x lt t =
       let both = and_parts (not (nat_eq (field 1 (rel_of x) format.kind) format.free_kind)) (is_on side n (rel_of x)) t in
       let low = kind_low (high records format.relationships_file) (rel_of x) x lt in
-      let some : kind_at records format.relationships_file x ≢ 0 = λ e. true≢false (sym both.0 ∙ ap not (eq_true (field 1 (rel_of x) format.kind) 0 (sym low ∙ e))) in
+      let some : kind_at records format.relationships_file x ≢ 0 = λ e.
+      true≢false (sym both.0 ∙ ap not (eq_true (field 1 (rel_of x) format.kind) 0 (sym low ∙ e))) in
       record {
         row = rel_in (rel_of x) x;
         live = row_some (kind_at records format.relationships_file x) (rel_in (rel_of x) x) some;
@@ -92,7 +95,8 @@ module _ (records : Records) (head : rules.Head) (n : ℕ) (side : Side) (fit : 
       }
 
   pub stands_low : (x : ℕ) → Stands x → x < high records format.relationships_file
-  stands_low x s = kind_below (high records format.relationships_file) (rel_of x) x (some_row (kind_at records format.relationships_file x) (rel_in (rel_of x) x) s.row s.live).0
+  stands_low x s = kind_below (high records format.relationships_file) (rel_of x) x
+      (some_row (kind_at records format.relationships_file x) (rel_in (rel_of x) x) s.row s.live).0
 
   of_stands : (x : ℕ) → Stands x → is_of side n (rel_of x) ≡ true
   of_stands x s =
@@ -111,7 +115,8 @@ module _ (records : Records) (head : rules.Head) (n : ℕ) (side : Side) (fit : 
   abbrev pub IsIt : ℕ → List ℕ → Type 0
   IsIt first xs = IsLineIn (chain_line side n) records (high records format.relationships_file) first xs
 
-  pub head_chain : high records format.relationships_file ≤ format.most_ids → (first : ℕ) → first ≡ rules.first_of records head → (xs : List ℕ) → IsIt first xs → IsHeadChain records head n xs
+  pub head_chain : high records format.relationships_file ≤ format.most_ids → (first : ℕ) → first ≡ rules.first_of records head → (xs : List ℕ) → IsIt first xs
+      → IsHeadChain records head n xs
   head_chain room first is xs h = record {
     chain = subst (λ f. IsChain next prev format.nil f xs) is (chain_of_line next prev (λ x. is_of side n (rel_of x)) (high records format.relationships_file) room format.nil first xs h);
     only = λ x i. stands_of x
@@ -133,14 +138,16 @@ module _ (records : Records) (head : rules.Head) (n : ℕ) (side : Side) (fit : 
 
 module _ (records : Records) (head : rules.Head) (n : ℕ) where
   head_chain_one : (xs ys : List ℕ) → IsHeadChain records head n xs → IsHeadChain records head n ys → xs ≡ ys
-  head_chain_one xs ys h k = chain_one (λ x. next_in (rec_at records format.relationships_file x) n) (λ x. prev_in (rec_at records format.relationships_file x) n) format.nil (rules.first_of records head) xs ys h.chain k.chain
+  head_chain_one xs ys h k = chain_one (λ x. next_in (rec_at records format.relationships_file x) n)
+      (λ x. prev_in (rec_at records format.relationships_file x) n) format.nil (rules.first_of records head) xs ys h.chain k.chain
 
   ends_one : (xs ys : List ℕ) → AreHeadEnds records head n xs → AreHeadEnds records head n ys → xs ≡ ys
   ends_one xs ys h k = h.are ∙ ap (map (end_of records n)) (head_chain_one h.members k.members h.chain k.chain) ∙ sym k.are
 
 -- what a walk finds is the one list of ends at the head
 pub found_is : (records after : Records) (head : rules.Head) (n : ℕ) (side : Side) (mark first : ℕ) (found : Found) → IsSideOf records head n side
-    → after ≡ records → mark ≡ high records format.relationships_file → high records format.relationships_file ≤ format.most_ids → first ≡ rules.first_of records head
+    → after ≡ records → mark ≡ high records format.relationships_file → high records format.relationships_file ≤ format.most_ids
+    → first ≡ rules.first_of records head
     → (has : Type 0) → has → EndsFound after mark side n first found → FoundIs has (AreHeadEnds records head n) found
 found_is records after head n side mark first Nothing fit read is room at has must h = absurd h
 found_is records after head n side mark first Missing fit read is room at has must h = (

@@ -1,5 +1,6 @@
 -- Marks of the groups on group chains, group by group and node by node.
-use Rattle.std.proofs.Common.{◌≡◌, ◌≢◌, ◌⊎◌, ℕ, ◌+◌, ◌<◌, ◌≤◌, Bool, true, false, cond, List, length, set, sym, ap, ◌∙◌, subst, inl, inr, ⊎_elim, arith, refl, get_or-set_other, get_or-set_same}
+use Rattle.std.proofs.Common.{◌≡◌, ◌≢◌, ◌⊎◌, ℕ, ◌+◌, ◌<◌, ◌≤◌, Bool, true, false, cond, List, length, set, sym, ap, ◌∙◌}
+use Rattle.std.proofs.Common.{subst, inl, inr, ⊎_elim, arith, refl, get_or-set_other, get_or-set_same}
 use Rattle.std.specs.Bool.{Decides}
 use Rattle.std.specs.List.{sum_by}
 use Rattle.std.proofs.lemmas.Bool.{cases_Bool, cases_lt, true≢false}
@@ -69,7 +70,8 @@ module _ (records : Records) where
       marked_else g ne = rw get_or-set_other refl
 
       grown : (g : ℕ) → marked new g ≡ true → marked (set new at true) g ≡ true
-      grown g m = ⊎_elim (λ (e : g ≡ at). subst (λ x. marked (set new at true) x ≡ true) (sym e) marked_at) (λ (ne : g ≢ at). marked_else g ne ∙ m) (nat_cases g at)
+      grown g m = ⊎_elim (λ (e : g ≡ at). subst (λ x. marked (set new at true) x ≡ true) (sym e) marked_at) (λ (ne : g ≢ at). marked_else g ne ∙ m)
+          (nat_cases g at)
 
       pub come_next : HasCome old new at → IsOwnedBy records node at → next_group records at ≡ to → HasCome old (set new at true) to
       come_next h own is = record {
@@ -142,6 +144,7 @@ module _ (records : Records) where
     (λ m. let k = (h g).0 m in (k.node, k.on)),
     (λ k.
         let dense = on_dense records k.0 g k.1 in
-        let low = kind_below (high records format.nodes_file) (rec_at records format.nodes_file k.0) k.0 (λ z. let two : 2 ≡ 0 = sym dense ∙ z in omega arith) in
+        let low = kind_below (high records format.nodes_file) (rec_at records format.nodes_file k.0) k.0
+        (λ z. let two : 2 ≡ 0 = sym dense ∙ z in omega arith) in
         (h g).1 (record { node = k.0; below = low; on = k.1 })),
   )

@@ -26,7 +26,8 @@ stands_read records x n r lt e =
     by false = refl
 
 -- so one more record counts where it stands at the node
-pub degree_more : (records : Records) (x y n : ℕ) (r : Rec) → x < high records format.relationships_file → r ≡ rec_at records format.relationships_file x → y ≡ x + 1
+pub degree_more : (records : Records) (x y n : ℕ) (r : Rec) → x < high records format.relationships_file → r ≡ rec_at records format.relationships_file x
+    → y ≡ x + 1
     → rules.degree_of (rel_at records) y n ≡ rules.degree_of (rel_at records) x n + cond (is_of_node n r) 1 0
 degree_more records x y n r lt e next =
     let test : ℕ → Bool = λ z. rules.stands_in n (rel_at records z) in

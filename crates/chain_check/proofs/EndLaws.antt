@@ -1,5 +1,6 @@
 -- The ends of relationships in the chains of nodes and of groups, and what marks of them say.
-use Rattle.std.proofs.Common.{◌≡◌, ◌≢◌, ◌⊎◌, ℕ, ◌+◌, ◌*◌, ◌/◌, ◌<◌, Bool, true, false, cond, ◌||◌, Some, List, map, sym, ap, ◌∙◌, subst, inl, inr, ⊎_elim, arith, refl}
+use Rattle.std.proofs.Common.{◌≡◌, ◌≢◌, ◌⊎◌, ℕ, ◌+◌, ◌*◌, ◌/◌, ◌<◌, Bool, true, false, cond, ◌||◌, Some, List, map, sym}
+use Rattle.std.proofs.Common.{ap, ◌∙◌, subst, inl, inr, ⊎_elim, arith, refl}
 use Rattle.std.specs.Bool.{Decides}
 use Rattle.std.proofs.lemmas.Bool.{cases_Bool, eqb-true, or_cases, true≢false}
 use Rattle.rec_bytes.specs.declared.key.Key.{Key}
@@ -13,12 +14,14 @@ use Rattle.store_rules.proofs.ChainRules.{Stands, chain_head, head_is, on_dense,
 use Rattle.store_rules.proofs.GroupLaws.{IsFirstPlace, stands_end}
 use Rattle.store_rules.proofs.OnceLaws.{map_in}
 use Rattle.store_rules.proofs.ViewLaws.{kind_below, row_some, some_row}
-use Rattle.store_rules.specs.Breaking.{ChainedHead, EndKeeps, GroupKeeps, IsChainHead, IsHeadChain, IsHeadOf, IsInChain, IsOnChain, IsOnOwnChain, NodeKeeps, RelKeeps, group_head}
+use Rattle.store_rules.specs.Breaking.{ChainedHead, EndKeeps, GroupKeeps, IsChainHead, IsHeadChain, IsHeadOf, IsInChain}
+use Rattle.store_rules.specs.Breaking.{IsOnChain, IsOnOwnChain, NodeKeeps, RelKeeps, group_head}
 use Rattle.chain_check.specs.declared.chains.Side.TheVariants.{Any}
 use Rattle.record_lists.specs.Heads.{AmongHeads, AtHead, HeadKeeps, IsOnce, IsTwice}
 use Rattle.chain_check.specs.Chained.{MarksChains}
 use Rattle.record_lists.specs.Marks.{marked}
-use Rattle.chain_check.specs.NodeChains.{AreGroupEnds, AreHeadEnds, AreNodeEnds, EndHolds, IsChained, IsMet, IsSparse, RelHolds, end_in, end_of, enters, group_of, leaves, owner_at, place_of}
+use Rattle.chain_check.specs.NodeChains.{AreGroupEnds, AreHeadEnds, AreNodeEnds, EndHolds, IsChained, IsMet, IsSparse}
+use Rattle.chain_check.specs.NodeChains.{RelHolds, end_in, end_of, enters, group_of, leaves, owner_at, place_of}
 use Rattle.chain_check.proofs.ChainedLaws.{owned_low}
 use Rattle.record_lists.proofs.LineLaws.{in_map}
 use Rattle.record_lists.proofs.RecordLaws.{kind_read}
@@ -70,7 +73,8 @@ module _ (records : Records) where
       (ends_same a.rel b.rel (leaves (rec_at records file a.rel) m) (leaves (rec_at records file b.rel) n) (sym a.end ∙ b.end)).0
 
   rel_low : (x : ℕ) (row : RelRow) → rel_at records x ≡ Some row → x < high records format.relationships_file
-  rel_low x row live = kind_below (high records format.relationships_file) (rec_at records format.relationships_file x) x (some_row (kind_at records format.relationships_file x) (rel_in (rec_at records format.relationships_file x) x) row live).0
+  rel_low x row live = kind_below (high records format.relationships_file) (rec_at records format.relationships_file x) x
+      (some_row (kind_at records format.relationships_file x) (rel_in (rec_at records format.relationships_file x) x) row live).0
 
   -- what each relationship below the mark keeps all do
   pub all_keep : ((x : ℕ) → x < high records format.relationships_file → RelKeeps records x) → (x : ℕ) → RelKeeps records x
@@ -85,7 +89,8 @@ module _ (records : Records) where
     chain = λ is. let k = each n (kind_below (high records format.nodes_file) (rec_at records format.nodes_file n) n (λ z. let e : 1 ≡ 0 = sym is ∙ z in omega arith)) in k.chain is;
   }
 
-  row_end : (n x : ℕ) (row : RelRow) → rel_at records x ≡ Some row → rules.IsEnd n row → (leaves (rec_at records format.relationships_file x) n || enters (rec_at records format.relationships_file x) n) ≡ true
+  row_end : (n x : ℕ) (row : RelRow) → rel_at records x ≡ Some row → rules.IsEnd n row
+      → (leaves (rec_at records format.relationships_file x) n || enters (rec_at records format.relationships_file x) n) ≡ true
   row_end n x row live end =
       let r = rec_at records format.relationships_file x in
       side_test n r x Any (subst (rules.IsEnd n) (sym (some_row (kind_at records format.relationships_file x) (rel_in r x) row live).1) end)
@@ -104,7 +109,8 @@ module _ (records : Records) where
     pub member : In end.rel members
     pub stands : Stands records head end.rel
 
-  met_in : (head : rules.Head) (n p : ℕ) (ends : List ℕ) → IsHeadOf records head n → (h : AreHeadEnds records head n ends) → In p ends → IsMember head n p h.members
+  met_in : (head : rules.Head) (n p : ℕ) (ends : List ℕ) → IsHeadOf records head n → (h : AreHeadEnds records head n ends) → In p ends
+      → IsMember head n p h.members
   met_in head n p ends own h i =
       let r = map_in (end_of records n) p h.members (subst (In p) h.are i) in
       let s = h.chain.only r.0 r.1 in
@@ -153,8 +159,10 @@ module _ (records : Records) where
         let on = on_own g c in
         record { own = owned_head records n g (place_of id) (place_first id) (on_dense records n g on) (on_owned records n g on); on = on }
 
-    group_met : (id p : ℕ) (a : AtHead Begins (AreGroupEnds records) id p) → IsMember (group_head (group_of id) (place_of id)) (owner_at records (group_of id)) p a.listed.members
-    group_met id p a = let o = own_of id a.must in met_in (group_head (group_of id) (place_of id)) (owner_at records (group_of id)) p a.items (inr o.own) a.listed a.member
+    group_met : (id p : ℕ) (a : AtHead Begins (AreGroupEnds records) id p)
+        → IsMember (group_head (group_of id) (place_of id)) (owner_at records (group_of id)) p a.listed.members
+    group_met id p a = let o = own_of id a.must in met_in (group_head (group_of id) (place_of id)) (owner_at records (group_of id)) p a.items (inr o.own)
+        a.listed a.member
 
     dense_node : (id : ℕ) → Begins id → kind_at records format.nodes_file (owner_at records (group_of id)) ≡ format.dense
     dense_node id c = on_dense records (owner_at records (group_of id)) (group_of id) (on_own (group_of id) c)
@@ -167,7 +175,8 @@ module _ (records : Records) where
         absurd (let e : 1 ≡ 2 = sym a.must ∙ ap (kind_at records format.nodes_file) same ∙ dense_node id b.must in omega arith)
 
     -- a relationship in chains of two heads of a node doesn't keep the rule
-    two_heads : (i j p : ℕ) → i < j → AtHead Begins (AreGroupEnds records) i p → AtHead Begins (AreGroupEnds records) j p → (x : ℕ) × (x ≡ p / 2) × (x < high records format.relationships_file) × (¬ RelKeeps records x)
+    two_heads : (i j p : ℕ) → i < j → AtHead Begins (AreGroupEnds records) i p → AtHead Begins (AreGroupEnds records) j p → (x : ℕ) × (x ≡ p / 2)
+        × (x < high records format.relationships_file) × (¬ RelKeeps records x)
     two_heads i j p lt a b =
         let n = owner_at records (group_of i) in
         let m = owner_at records (group_of j) in
@@ -229,7 +238,8 @@ module _ (records : Records) where
           owner = ap (owner_at records) i.1 ∙ o.owner;
         }
 
-    pub keeps_of_heads : ((id : ℕ) → id < 3 * high records format.groups_file → HeadKeeps Begins (AreGroupEnds records) id) → (g : ℕ) → IsOnOwnChain records g → GroupKeeps records g
+    pub keeps_of_heads : ((id : ℕ) → id < 3 * high records format.groups_file → HeadKeeps Begins (AreGroupEnds records) id) → (g : ℕ) → IsOnOwnChain records g
+        → GroupKeeps records g
     keeps_of_heads heads g k = record {
       chains = λ place n own.
           let id : own.row.id ≡ g = ap (λ (z : Key). z.id) (sym own.key) in
@@ -281,7 +291,8 @@ module _ (records : Records) where
         member = a.here.member;
       }
 
-      met_node : (p : ℕ) (m : IsMet records p) → rules.SparseHead (kind_at records format.nodes_file) m.head m.node → AtHead (IsSparse records) (AreNodeEnds records) m.node p
+      met_node : (p : ℕ) (m : IsMet records p) → rules.SparseHead (kind_at records format.nodes_file) m.head m.node
+          → AtHead (IsSparse records) (AreNodeEnds records) m.node p
       met_node p m s = record { must = s.sparse; items = m.ends; listed = subst (λ h. AreHeadEnds records h m.node m.ends) s.is m.here; member = m.member }
 
       -- what is met at a head of a group, by the head's number
@@ -302,7 +313,8 @@ module _ (records : Records) where
             here = record {
               must = i.begins;
               items = m.ends;
-              listed = subst (λ o. AreHeadEnds records (group_head (group_of i.id) (place_of i.id)) o m.ends) (sym i.owner) (subst (λ h. AreHeadEnds records h m.node m.ends) is m.here);
+              listed = subst (λ o. AreHeadEnds records (group_head (group_of i.id) (place_of i.id)) o m.ends) (sym i.owner)
+                  (subst (λ h. AreHeadEnds records h m.node m.ends) is m.here);
               member = m.member;
             };
           }
@@ -313,7 +325,8 @@ module _ (records : Records) where
         (λ m. (groups p).1 (⊎_elim
             (λ s. inl ((nodes p).1 (record {
               id = m.node;
-              below = kind_below (high records format.nodes_file) (rec_at records format.nodes_file m.node) m.node (λ z. let e : 1 ≡ 0 = sym s.sparse ∙ z in omega arith);
+              below = kind_below (high records format.nodes_file) (rec_at records format.nodes_file m.node) m.node
+                  (λ z. let e : 1 ≡ 0 = sym s.sparse ∙ z in omega arith);
               here = met_node p m s;
             })))
             (λ c. let k = met_group p m c in inr (record { id = k.id; below = k.low; here = k.here }))
@@ -321,7 +334,8 @@ module _ (records : Records) where
       )
 
       -- each end is met at one head
-      pub met_once : ((p : ℕ) → IsOnce Begins (AreGroupEnds records) (3 * high records format.groups_file) p) → (p : ℕ) (one other : IsMet records p) → one.head ≡ other.head
+      pub met_once : ((p : ℕ) → IsOnce Begins (AreGroupEnds records) (3 * high records format.groups_file) p) → (p : ℕ) (one other : IsMet records p)
+          → one.head ≡ other.head
       met_once once p one other = by one.owns other.owns
         where
           by : IsChainHead records one.head one.node → IsChainHead records other.head other.node → one.head ≡ other.head
@@ -338,7 +352,8 @@ module _ (records : Records) where
 
   -- ---- what the marks say of a relationship
 
-  module _ (marks : List Bool) (told : (p : ℕ) → Decides (marked marks p) (IsMet records p)) (once : (p : ℕ) (one other : IsMet records p) → one.head ≡ other.head) where
+  module _ (marks : List Bool) (told : (p : ℕ) → Decides (marked marks p) (IsMet records p))
+      (once : (p : ℕ) (one other : IsMet records p) → one.head ≡ other.head) where
     -- what is in a chain of the node is met
     abbrev in_met : (n x : ℕ) → IsInChain records n x → IsMet records (end_of records n x)
     in_met n x c = record {
@@ -350,7 +365,8 @@ module _ (records : Records) where
       member = in_map (end_of records n) x c.members c.member;
     }
 
-    end_keeps : (x n : ℕ) (row : RelRow) → rel_at records x ≡ Some row → rules.IsEnd n row → EndHolds (kind_at records format.nodes_file) n (marked marks (end_of records n x)) → EndKeeps records n x
+    end_keeps : (x n : ℕ) (row : RelRow) → rel_at records x ≡ Some row → rules.IsEnd n row
+        → EndHolds (kind_at records format.nodes_file) n (marked marks (end_of records n x)) → EndKeeps records n x
     end_keeps x n row live end h = record {
       node = h.node;
       chain = λ has.
@@ -389,7 +405,8 @@ module _ (kind : ℕ → ℕ) (records : Records) (marks : List Bool) (x : ℕ) 
     (e : r ≡ rec_at records format.relationships_file x) (some : field 1 r format.kind ≢ 0) where
   read_row : rel_at records x ≡ Some (rel_in r x)
   read_row =
-      row_some (kind_at records format.relationships_file x) (rel_in (rec_at records format.relationships_file x) x) (λ z. some (sym (kind_read records format.relationships_file x r lt e) ∙ z))
+      row_some (kind_at records format.relationships_file x) (rel_in (rec_at records format.relationships_file x) x)
+      (λ z. some (sym (kind_read records format.relationships_file x r lt e) ∙ z))
       ∙ ap (λ q. Some (rel_in q x)) (sym e)
 
   one_row : (row : RelRow) → rel_at records x ≡ Some row → rel_in r x ≡ row
@@ -400,18 +417,23 @@ module _ (kind : ℕ → ℕ) (records : Records) (marks : List Bool) (x : ℕ) 
 
   pub hold_both : Holds (field 4 r format.relationship_source) → Holds (field 4 r format.relationship_target) → RelHolds kind records marks x
   hold_both a b = record {
-    from = λ row live. subst (λ (o : RelRow). EndHolds kind o.from (marked marks (end_of records o.from x))) (one_row row live) (subst (λ q. EndHolds kind (field 4 r format.relationship_source) (marked marks (end_in q (field 4 r format.relationship_source) x))) e a);
-    to = λ row live. subst (λ (o : RelRow). EndHolds kind o.to (marked marks (end_of records o.to x))) (one_row row live) (subst (λ q. EndHolds kind (field 4 r format.relationship_target) (marked marks (end_in q (field 4 r format.relationship_target) x))) e b);
+    from = λ row live. subst (λ (o : RelRow). EndHolds kind o.from (marked marks (end_of records o.from x))) (one_row row live)
+        (subst (λ q. EndHolds kind (field 4 r format.relationship_source) (marked marks (end_in q (field 4 r format.relationship_source) x))) e a);
+    to = λ row live. subst (λ (o : RelRow). EndHolds kind o.to (marked marks (end_of records o.to x))) (one_row row live)
+        (subst (λ q. EndHolds kind (field 4 r format.relationship_target) (marked marks (end_in q (field 4 r format.relationship_target) x))) e b);
   }
 
   pub hold_from : RelHolds kind records marks x → Holds (field 4 r format.relationship_source)
-  hold_from h = subst (λ q. EndHolds kind (field 4 r format.relationship_source) (marked marks (end_in q (field 4 r format.relationship_source) x))) (sym e) (h.from (rel_in r x) read_row)
+  hold_from h = subst (λ q. EndHolds kind (field 4 r format.relationship_source) (marked marks (end_in q (field 4 r format.relationship_source) x))) (sym e)
+      (h.from (rel_in r x) read_row)
 
   pub hold_to : RelHolds kind records marks x → Holds (field 4 r format.relationship_target)
-  hold_to h = subst (λ q. EndHolds kind (field 4 r format.relationship_target) (marked marks (end_in q (field 4 r format.relationship_target) x))) (sym e) (h.to (rel_in r x) read_row)
+  hold_to h = subst (λ q. EndHolds kind (field 4 r format.relationship_target) (marked marks (end_in q (field 4 r format.relationship_target) x))) (sym e)
+      (h.to (rel_in r x) read_row)
 
 -- a record that isn't in use is no relationship
-pub none_holds : (kind : ℕ → ℕ) (records : Records) (marks : List Bool) (x : ℕ) → kind_at records format.relationships_file x ≡ 0 → RelHolds kind records marks x
+pub none_holds : (kind : ℕ → ℕ) (records : Records) (marks : List Bool) (x : ℕ) → kind_at records format.relationships_file x ≡ 0
+    → RelHolds kind records marks x
 none_holds kind records marks x e = record { from = λ row live. absurd (none row live); to = λ row live. absurd (none row live) }
   where
     none : (row : RelRow) → rel_at records x ≡ Some row → ⊥

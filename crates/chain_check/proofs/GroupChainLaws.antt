@@ -1,5 +1,6 @@
 -- The group chains of dense nodes: as lines, and the fourth rule by what it says of each record.
-use Rattle.std.proofs.Common.{◌≡◌, ◌≢◌, ℕ, ◌<◌, ◌≤◌, Bool, true, false, not, ◌&&◌, List, [], ◌∷◌, Some, map, nat_eq, sym, ap, ◌∙◌, subst, inl, inr, ⊎_elim, arith, refl}
+use Rattle.std.proofs.Common.{◌≡◌, ◌≢◌, ℕ, ◌<◌, ◌≤◌, Bool, true, false, not, ◌&&◌, List, [], ◌∷◌, Some, map, nat_eq}
+use Rattle.std.proofs.Common.{sym, ap, ◌∙◌, subst, inl, inr, ⊎_elim, arith, refl}
 use Rattle.std.specs.Bool.{Decides}
 use Rattle.std.specs.List.{IsDistinct, AllByRecursion}
 use Rattle.std.proofs.lemmas.Bool.{and_from, eq-eqb, eqb-true, ne_eqb, true≢false}
@@ -43,7 +44,8 @@ module _ (records : Records) where
   group_chain_one : (n : ℕ) (xs ys : List ℕ) → IsGroupChain records n xs → IsGroupChain records n ys → xs ≡ ys
   group_chain_one n xs ys h k = chain_one next prev format.nil (first_link records n) xs ys h.chain k.chain
 
-  pub are_grouped : ((n : ℕ) → n < high records format.nodes_file → OwnerKeeps records n) → ((g : ℕ) → g < high records format.groups_file → HasOwner g) → Grouped records
+  pub are_grouped : ((n : ℕ) → n < high records format.nodes_file → OwnerKeeps records n) → ((g : ℕ) → g < high records format.groups_file → HasOwner g)
+      → Grouped records
   are_grouped owners members = record {
     owned = λ g row live. let k = member g row live in k.dense;
     each = λ n dense.
@@ -72,34 +74,41 @@ module _ (records : Records) where
 
     row_of : (g : ℕ) → g < high records format.groups_file → test g ≡ true → (row : GroupRow) × (group_at records g ≡ Some row) × (row.owner ≡ n)
     row_of g lt t =
-        let both = and_parts (not (nat_eq (field 1 (group_rec g) format.kind) format.free_kind)) (nat_eq (field 4 (group_rec g) format.group_owner) n && rules.is_filled (group_rec g)) t in
+        let both = and_parts (not (nat_eq (field 1 (group_rec g) format.kind) format.free_kind))
+        (nat_eq (field 4 (group_rec g) format.group_owner) n && rules.is_filled (group_rec g)) t in
         let low = kind_low (high records format.groups_file) (group_rec g) g lt in
-        let some : kind_at records format.groups_file g ≢ 0 = λ e. true≢false (sym both.0 ∙ ap not (eq_true (field 1 (group_rec g) format.kind) 0 (sym low ∙ e))) in
+        let some : kind_at records format.groups_file g ≢ 0 = λ e. true≢false
+        (sym both.0 ∙ ap not (eq_true (field 1 (group_rec g) format.kind) 0 (sym low ∙ e))) in
         (group_in (group_rec g) g, row_some (kind_at records format.groups_file g) (group_in (group_rec g) g) some, eqb-true (field 4 (group_rec g) format.group_owner) n (and_parts (nat_eq (field 4 (group_rec g) format.group_owner) n) (rules.is_filled (group_rec g)) both.1).0)
 
     filled_of : (g : ℕ) → test g ≡ true → rules.is_filled (group_rec g) ≡ true
     filled_of g t =
-        let both = and_parts (not (nat_eq (field 1 (group_rec g) format.kind) format.free_kind)) (nat_eq (field 4 (group_rec g) format.group_owner) n && rules.is_filled (group_rec g)) t in
+        let both = and_parts (not (nat_eq (field 1 (group_rec g) format.kind) format.free_kind))
+        (nat_eq (field 4 (group_rec g) format.group_owner) n && rules.is_filled (group_rec g)) t in
         (and_parts (nat_eq (field 4 (group_rec g) format.group_owner) n) (rules.is_filled (group_rec g)) both.1).1
 
     group_low : (g : ℕ) (row : GroupRow) → group_at records g ≡ Some row → g < high records format.groups_file
-    group_low g row live = kind_below (high records format.groups_file) (group_rec g) g (some_row (kind_at records format.groups_file g) (group_in (group_rec g) g) row live).0
+    group_low g row live = kind_below (high records format.groups_file) (group_rec g) g
+        (some_row (kind_at records format.groups_file g) (group_in (group_rec g) g) row live).0
 
     test_of : (g : ℕ) (row : GroupRow) → group_at records g ≡ Some row → row.owner ≡ n → rules.is_filled (group_rec g) ≡ true → test g ≡ true
     test_of g row live owner filled =
         let r = some_row (kind_at records format.groups_file g) (group_in (group_rec g) g) row live in
         let low = kind_low (high records format.groups_file) (group_rec g) g (group_low g row live) in
-        and_from (not (nat_eq (field 1 (group_rec g) format.kind) format.free_kind)) (nat_eq (field 4 (group_rec g) format.group_owner) n && rules.is_filled (group_rec g))
+        and_from (not (nat_eq (field 1 (group_rec g) format.kind) format.free_kind))
+        (nat_eq (field 4 (group_rec g) format.group_owner) n && rules.is_filled (group_rec g))
         (ap not (eq_false (field 1 (group_rec g) format.kind) 0 (λ e. r.0 (low ∙ e))))
         (and_from (nat_eq (field 4 (group_rec g) format.group_owner) n) (rules.is_filled (group_rec g)) (eq_true (field 4 (group_rec g) format.group_owner) n (ap (λ (w : GroupRow). w.owner) r.1 ∙ owner)) filled)
 
     -- types that are distinct, and groups that are told apart by them
-    apart_in : (x : ℕ) (xs : List ℕ) → AllByRecursion (λ y. nat_eq (group_label records x) y ≡ false) (map (group_label records) xs) → (y : ℕ) → In y xs → group_label records x ≡ group_label records y → ⊥
+    apart_in : (x : ℕ) (xs : List ℕ) → AllByRecursion (λ y. nat_eq (group_label records x) y ≡ false) (map (group_label records) xs) → (y : ℕ) → In y xs
+        → group_label records x ≡ group_label records y → ⊥
     apart_in x [] h y i e = elim i [ ]
     apart_in x (z ∷ zs) h y (inl same) e = true≢false (sym (eq-eqb (group_label records x) (group_label records z) (e ∙ ap (group_label records) same)) ∙ h.0)
     apart_in x (z ∷ zs) h y (inr i) e = apart_in x zs h.1 y i e
 
-    once_of : (xs : List ℕ) → IsDistinct nat_eq (map (group_label records) xs) → (g k : ℕ) → In g xs → In k xs → group_label records g ≡ group_label records k → g ≡ k
+    once_of : (xs : List ℕ) → IsDistinct nat_eq (map (group_label records) xs) → (g k : ℕ) → In g xs → In k xs → group_label records g ≡ group_label records k
+        → g ≡ k
     unfolding IsDistinct
     once_of [] h g k i j e = elim i [ ]
     once_of (x ∷ xs) h g k (inl a) (inl b) e = a ∙ sym b
@@ -107,11 +116,13 @@ module _ (records : Records) where
     once_of (x ∷ xs) h g k (inr i) (inl b) e = absurd (apart_in x xs h.0 g i (ap (group_label records) (sym b) ∙ sym e))
     once_of (x ∷ xs) h g k (inr i) (inr j) e = once_of xs h.1 g k i j e
 
-    apart_all : (x : ℕ) (xs : List ℕ) → ((y : ℕ) → In y xs → group_label records x ≡ group_label records y → ⊥) → AllByRecursion (λ y. nat_eq (group_label records x) y ≡ false) (map (group_label records) xs)
+    apart_all : (x : ℕ) (xs : List ℕ) → ((y : ℕ) → In y xs → group_label records x ≡ group_label records y → ⊥)
+        → AllByRecursion (λ y. nat_eq (group_label records x) y ≡ false) (map (group_label records) xs)
     apart_all x [] out = tt
     apart_all x (y ∷ ys) out = (ne_eqb (group_label records x) (group_label records y) (λ e. out y (inl refl) e), apart_all x ys (λ z i e. out z (inr i) e))
 
-    distinct_of : (b f : ℕ) (xs : List ℕ) → IsChain next prev b f xs → ((g k : ℕ) → In g xs → In k xs → group_label records g ≡ group_label records k → g ≡ k) → IsDistinct nat_eq (map (group_label records) xs)
+    distinct_of : (b f : ℕ) (xs : List ℕ) → IsChain next prev b f xs → ((g k : ℕ) → In g xs → In k xs → group_label records g ≡ group_label records k → g ≡ k)
+        → IsDistinct nat_eq (map (group_label records) xs)
     unfolding IsDistinct
     distinct_of b f [] h once = tt
     distinct_of b f (x ∷ xs) h once = (
@@ -136,18 +147,21 @@ module _ (records : Records) where
 
       groups_from : (xs : List ℕ) → IsGroupChain records n xs → AreIts xs
       groups_from xs h = record {
-        line = line_of_chain next prev test (high records format.groups_file) format.nil first xs (subst (λ f. IsChain next prev format.nil f xs) (sym is) h.chain)
+        line = line_of_chain next prev test (high records format.groups_file) format.nil first xs
+            (subst (λ f. IsChain next prev format.nil f xs) (sym is) h.chain)
             (λ g i. let r = h.only g i in group_low g r.0 r.1)
             (λ g i. let r = h.only g i in test_of g r.0 r.1 r.2 (h.filled g i));
         types = distinct_of format.nil (first_link records n) xs h.chain h.once;
       }
 
     -- a line is determined
-    pub groups_one : (high first : ℕ) → high ≤ format.most_ids → (xs ys : List ℕ) → IsLineIn (group_line n) records high first xs → IsLineIn (group_line n) records high first ys → xs ≡ ys
+    pub groups_one : (high first : ℕ) → high ≤ format.most_ids → (xs ys : List ℕ) → IsLineIn (group_line n) records high first xs
+        → IsLineIn (group_line n) records high first ys → xs ≡ ys
     groups_one high first room xs ys h k = line_one next (λ before x. test x && nat_eq (prev x) before) high format.nil first xs ys room h k
 
     -- what a walk finds is the one group chain
-    pub found_is : (after : Records) (mark first : ℕ) (found : Found) → after ≡ records → mark ≡ high records format.groups_file → high records format.groups_file ≤ format.most_ids
+    pub found_is : (after : Records) (mark first : ℕ) (found : Found) → after ≡ records → mark ≡ high records format.groups_file
+        → high records format.groups_file ≤ format.most_ids
         → first ≡ first_link records n → IsDense records n → GroupsFound after mark n first found → FoundIs (IsDense records n) (IsGroupChain records n) found
     found_is after mark first Nothing read is room at dense h = absurd h
     found_is after mark first Missing read is room at dense h =

@@ -129,7 +129,8 @@ module _ (records : Records) where
 
       -- there is a line, and it is as long as there are such relationships
       pub line_there : IsIt listed.members
-      line_there = line_of_head records head row.owner side fit (field 4 (group_rec g) place) refl listed.members (record { chain = listed.chain; only = listed.only })
+      line_there = line_of_head records head row.owner side fit (field 4 (group_rec g) place) refl listed.members
+          (record { chain = listed.chain; only = listed.only })
 
       pub length_line : (xs : List ℕ) → IsIt xs → length xs ≡ count_of test (rel_at records) mark
       length_line xs h =
@@ -147,12 +148,17 @@ module _ (records : Records) where
 
     -- a line of the record is one of the row
     from_record : (place : ℕ) (xs : List ℕ) → IsLineIn (chain_line (side_at place (field 4 (group_rec g) format.group_type)) (field 4 (group_rec g) format.group_owner)) records mark (field 4 (group_rec g) place) xs → side_line place xs
-    from_record place xs h = subst (λ (w : GroupRow). IsLineIn (chain_line (side_at place w.label) w.owner) records mark (field 4 (group_rec g) place) xs) read h
+    from_record place xs h = subst (λ (w : GroupRow). IsLineIn (chain_line (side_at place w.label) w.owner) records mark (field 4 (group_rec g) place) xs) read
+        h
 
-    to_record : (place : ℕ) (xs : List ℕ) → side_line place xs → IsLineIn (chain_line (side_at place (field 4 (group_rec g) format.group_type)) (field 4 (group_rec g) format.group_owner)) records mark (field 4 (group_rec g) place) xs
-    to_record place xs h = subst (λ (w : GroupRow). IsLineIn (chain_line (side_at place w.label) w.owner) records mark (field 4 (group_rec g) place) xs) (sym read) h
+    to_record : (place : ℕ) (xs : List ℕ) → side_line place xs → IsLineIn
+        (chain_line (side_at place (field 4 (group_rec g) format.group_type)) (field 4 (group_rec g) format.group_owner)) records mark
+        (field 4 (group_rec g) place) xs
+    to_record place xs h = subst (λ (w : GroupRow). IsLineIn (chain_line (side_at place w.label) w.owner) records mark (field 4 (group_rec g) place) xs)
+        (sym read) h
 
-    exact_one : (place count : ℕ) (at : IsFirstPlace place) (test : RelRow → Bool) → IsTestOf row (side_at place row.label) test → IsAsLong records mark (group_rec g) place count
+    exact_one : (place count : ℕ) (at : IsFirstPlace place) (test : RelRow → Bool) → IsTestOf row (side_at place row.label) test
+        → IsAsLong records mark (group_rec g) place count
         → field 4 (group_rec g) count ≡ count_of test (rel_at records) mark
     exact_one place count at test is h = h.size ∙ length_line place at test is h.members (from_record place h.members h.line)
 
@@ -192,9 +198,11 @@ module _ (records : Records) where
       long_of linked room g row live (keeps.owner row live).dense (keeps.counts row live counted)
 
   -- and where all have them they are exact
-  pub are_exact : Linked records → mark ≤ format.most_ids → Grouped records → ((g : ℕ) → g < high records format.groups_file → CountsHold records g) → Exact records
+  pub are_exact : Linked records → mark ≤ format.most_ids → Grouped records → ((g : ℕ) → g < high records format.groups_file → CountsHold records g)
+      → Exact records
   are_exact linked room grouped hold g row live counted =
-      let low = kind_below (high records format.groups_file) (group_rec g) g (some_row (kind_at records format.groups_file g) (group_in (group_rec g) g) row live).0 in
+      let low = kind_below (high records format.groups_file) (group_rec g) g
+      (some_row (kind_at records format.groups_file g) (group_in (group_rec g) g) row live).0 in
       counts_of linked room g row live (grouped.owned g row live) (hold g low counted)
 
 -- ---- what is decided of one chain, and of a group
@@ -209,7 +217,8 @@ as_long records high r first count xs b room line e = (
 )
 
 -- and of the three, where the record has counts
-pub counts_decided : (records after : Records) (marked g : ℕ) (r : Rec) (b : Bool) → after ≡ records → marked ≡ high records format.relationships_file → r ≡ rec_at records format.groups_file g
+pub counts_decided : (records after : Records) (marked g : ℕ) (r : Rec) (b : Bool) → after ≡ records → marked ≡ high records format.relationships_file
+    → r ≡ rec_at records format.groups_file g
     → kind_at records format.groups_file g ≡ format.counted → Decides b (AreAsLong after marked r) → Decides b (CountsHold records g)
 counts_decided records after marked g r b same at read counted d =
     let here : Decides b (AreAsLong records (high records format.relationships_file) (rec_at records format.groups_file g))

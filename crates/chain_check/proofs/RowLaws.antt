@@ -1,5 +1,7 @@
 -- The rows of relationships: what they say is what the records say, so the chains of nodes in both are the same.
-use Rattle.std.proofs.Common.{◌≡◌, ◌≢◌, ◌⊎◌, ℕ, ◌+◌, ◌<◌, ◌≤◌, Bool, true, false, cond, not, ◌&&◌, ◌||◌, nat_eq, Option, Some, None, IfNone, IfSome, List, [], ◌∷◌, length, map, sym, ap, ◌∙◌, subst, inl, inr, ⊎_elim, arith, refl}
+use Rattle.std.proofs.Common.{◌≡◌, ◌≢◌, ◌⊎◌, ℕ, ◌+◌, ◌<◌, ◌≤◌, Bool, true, false, cond, not, ◌&&◌, ◌||◌, nat_eq, Option}
+use Rattle.std.proofs.Common.{Some, None, IfNone, IfSome, List, [], ◌∷◌, length, map, sym, ap, ◌∙◌, subst, inl, inr}
+use Rattle.std.proofs.Common.{⊎_elim, arith, refl}
 use Rattle.std.specs.Bool.{Decides}
 use Rattle.std.proofs.lemmas.Bool.{true≢false}
 use Rattle.rec_bytes.specs.declared.record.Rec.{Rec}
@@ -20,7 +22,8 @@ use Rattle.record_lists.specs.Marks.{marked}
 use Rattle.record_lists.proofs.LineLaws.{line_one}
 use Rattle.chain_check.specs.declared.chains.Side.TheVariants.{Any}
 use Rattle.chain_check.specs.declared.link_rows.LinkRow.{LinkRow}
-use Rattle.chain_check.specs.LinkRows.{AreLinkRows, AreRowEnds, AreRowEndsOf, IsRowChain, RowEndsFound, free_row, link_row, row_at, row_end, row_fits, row_next, used_row}
+use Rattle.chain_check.specs.LinkRows.{AreLinkRows, AreRowEnds, AreRowEndsOf, IsRowChain, RowEndsFound, free_row}
+use Rattle.chain_check.specs.LinkRows.{link_row, row_at, row_end, row_fits, row_next, used_row}
 use Rattle.chain_check.specs.NodeChains.{AreNodeEnds, IsSparse, chain_line, end_in, end_of, enters, is_of_node, leaves}
 use Rattle.chain_check.proofs.ChainLaws.{head_ends, line_of_head, node_side}
 
@@ -46,7 +49,8 @@ module _ (r : Rec) (n : ℕ) where
     where
       by : (b : Bool) → row_fits n before (cond b free_row (used_row r)) ≡ ((not b && (leaves r n || enters r n)) && nat_eq (prev_in r n) before)
       by true = ap (λ z. (z || z) && nat_eq (cond z format.nil format.nil) before) (eq_false format.nil n (λ e. some (sym e)))
-      by false = ap (λ p. (leaves r n || enters r n) && nat_eq p before) (linked (leaves r n) format.relationship_source_previous format.relationship_target_previous)
+      by false = ap (λ p. (leaves r n || enters r n) && nat_eq p before)
+          (linked (leaves r n) format.relationship_source_previous format.relationship_target_previous)
 
   -- what is at the node is in use
   pub used : is_of_node n r ≡ true → is_free ≡ false
@@ -134,7 +138,8 @@ module _ (records : Records) (rows : List LinkRow) (are : AreLinkRows records ro
     pub row_ends : (ends : List ℕ) → AreNodeEnds records n ends → AreRowEndsOf rows records n ends
     row_ends ends h =
         let line : IsChainOf h.members = line_of_head records (node_head n) n Any (node_side records n) (first_link records n) refl h.members h.chain in
-        let below : IsLine link stands (length rows) format.nil (first_link records n) h.members = subst (λ m. IsLine link stands m format.nil (first_link records n) h.members) (sym len) line in
+        let below : IsLine link stands (length rows) format.nil (first_link records n) h.members =
+        subst (λ m. IsLine link stands m format.nil (first_link records n) h.members) (sym len) line in
         record {
           members = h.members;
           chain = line_by link next stands fits (length rows) to_rows format.nil (first_link records n) h.members below;
@@ -144,7 +149,8 @@ module _ (records : Records) (rows : List LinkRow) (are : AreLinkRows records ro
 -- ---- the head of a chain
 
 -- the ends are determined
-ends_one : (rows : List LinkRow) (n first : ℕ) (xs ys : List ℕ) → length rows ≤ format.most_ids → AreRowEnds rows n first xs → AreRowEnds rows n first ys → xs ≡ ys
+ends_one : (rows : List LinkRow) (n first : ℕ) (xs ys : List ℕ) → length rows ≤ format.most_ids → AreRowEnds rows n first xs → AreRowEnds rows n first ys
+    → xs ≡ ys
 ends_one rows n first xs ys room h k =
     h.are
     ∙ ap (map (λ x. row_end n x (row_at rows x)))
@@ -152,7 +158,8 @@ ends_one rows n first xs ys room h k =
     ∙ sym k.are
 
 -- what a walk finds is the one list of ends
-pub row_found : (rows : List LinkRow) (records : Records) (n first : ℕ) (found : Found) (has : Type 0) → length rows ≤ format.most_ids → first ≡ first_link records n → has
+pub row_found : (rows : List LinkRow) (records : Records) (n first : ℕ) (found : Found) (has : Type 0) → length rows ≤ format.most_ids
+    → first ≡ first_link records n → has
     → RowEndsFound rows n first found → FoundIs has (AreRowEndsOf rows records n) found
 row_found rows records n first Nothing has room at must h = absurd h
 row_found rows records n first Missing has room at must h = (must, (λ ends k. h k.members (subst (λ f. IsRowChain rows n f k.members) (sym at) k.chain)))
@@ -187,7 +194,8 @@ module _ (records after : Records) (rows : List LinkRow) (nodes : ℕ) (same : a
     (few : high records format.nodes_file ≤ format.most_ids) (room : high records format.relationships_file ≤ format.most_ids) where
   sparse_some : (k : ℕ) → IsSparse records k → k ≢ format.nil
   sparse_some k s e =
-      let lt : k < high records format.nodes_file = kind_below (high records format.nodes_file) (rec_at records format.nodes_file k) k (λ z. let o : 1 ≡ 0 = sym s ∙ z in omega arith) in
+      let lt : k < high records format.nodes_file = kind_below (high records format.nodes_file) (rec_at records format.nodes_file k) k
+      (λ z. let o : 1 ≡ 0 = sym s ∙ z in omega arith) in
       omega arith
 
   to_node : (k : ℕ) (xs : List ℕ) → IsSparse records k → AreRowEndsOf rows records k xs → AreNodeEnds records k xs

@@ -1,5 +1,6 @@
 -- The side of a node on which a relationship stands: in the node's own chain, or in one of a group.
-use Rattle.std.proofs.Common.{◌≡◌, ◌≢◌, ℕ, zero, suc, ◌+◌, ◌*◌, ◌%◌, ◌<◌, ◌≤◌, Bool, true, false, not, ◌&&◌, ◌||◌, nat_eq, sym, ap, ◌∙◌, subst, inl, inr, ⊎_elim, arith, refl}
+use Rattle.std.proofs.Common.{◌≡◌, ◌≢◌, ℕ, zero, suc, ◌+◌, ◌*◌, ◌%◌, ◌<◌, ◌≤◌, Bool, true, false, not, ◌&&◌, ◌||◌}
+use Rattle.std.proofs.Common.{nat_eq, sym, ap, ◌∙◌, subst, inl, inr, ⊎_elim, arith, refl}
 use Rattle.std.proofs.lemmas.Bool.{and_from, eqb-true, or_cases, true≢false}
 use Rattle.rec_bytes.specs.declared.record.Rec.{Rec}
 use Rattle.rec_bytes.specs.Format as format
@@ -69,10 +70,13 @@ module _ (n : ℕ) (r : Rec) (x : ℕ) where
 -- ---- the place of a group
 
 -- the side at a place has what stands there
-pub side_from : (place label n : ℕ) (row : RelRow) → IsFirstPlace place → OnSide (side_at place label) n row → (row.label ≡ label) × IsAtPlace place row.from row.to n
+pub side_from : (place label n : ℕ) (row : RelRow) → IsFirstPlace place → OnSide (side_at place label) n row → (row.label ≡ label)
+    × IsAtPlace place row.from row.to n
 side_from place label n row (inl e) h = let s : OnSide (Out label) n row = subst (λ p. OnSide (side_at p label) n row) e h in (s.0, inl (e, s.1, s.2))
-side_from place label n row (inr (inl e)) h = let s : OnSide (Into label) n row = subst (λ p. OnSide (side_at p label) n row) e h in (s.0, inr (inl (e, s.1, s.2)))
-side_from place label n row (inr (inr e)) h = let s : OnSide (Loop label) n row = subst (λ p. OnSide (side_at p label) n row) e h in (s.0, inr (inr (e, s.1, s.2)))
+side_from place label n row (inr (inl e)) h = let s : OnSide (Into label) n row = subst (λ p. OnSide (side_at p label) n row) e h in
+    (s.0, inr (inl (e, s.1, s.2)))
+side_from place label n row (inr (inr e)) h = let s : OnSide (Loop label) n row = subst (λ p. OnSide (side_at p label) n row) e h in
+    (s.0, inr (inr (e, s.1, s.2)))
 
 pub side_to : (place label n : ℕ) (row : RelRow) → row.label ≡ label → IsAtPlace place row.from row.to n → OnSide (side_at place label) n row
 side_to place label n row e (inl s) = subst (λ p. OnSide (side_at p label) n row) (sym s.0) (e, s.1, s.2)

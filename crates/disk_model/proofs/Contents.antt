@@ -5,12 +5,14 @@ use Rattle.std.proofs.lemmas.List.{get_or_append_left, get_or-append_right, get_
 use Rattle.disk_model.specs.Contents.{Files, Holds, Same, SameOutside, bytes_from}
 
 -- the same but for a smaller range
-pub SameOutside-within : (file at n wide_at wide_n : ℕ) (old new : Files) → wide_at ≤ at → at + n ≤ wide_at + wide_n → SameOutside file at n old new → SameOutside file wide_at wide_n old new
+pub SameOutside-within : (file at n wide_at wide_n : ℕ) (old new : Files) → wide_at ≤ at → at + n ≤ wide_at + wide_n → SameOutside file at n old new
+    → SameOutside file wide_at wide_n old new
 SameOutside-within file at n wide_at wide_n old new first last same other place out =
     same other place (λ within. out (record { in_file = within.in_file; at_or_behind = omega (arith, within.at_or_behind, first); before_end = omega (arith, within.before_end, last) }))
 
 -- two changes in the range
-pub SameOutside-then : (file at n : ℕ) (old middle new : Files) → SameOutside file at n old middle → SameOutside file at n middle new → SameOutside file at n old new
+pub SameOutside-then : (file at n : ℕ) (old middle new : Files) → SameOutside file at n old middle → SameOutside file at n middle new
+    → SameOutside file at n old new
 SameOutside-then file at n old middle new before after other place out = after other place out ∙ before other place out
 
 -- no change at all
@@ -18,12 +20,14 @@ pub SameOutside-same : (file at n : ℕ) (old new : Files) → Same old new → 
 SameOutside-same file at n old new same other place out = same other place
 
 -- bytes before the range stay
-pub Holds-before : (file start at n : ℕ) (bytes : List ℕ) (old new : Files) → Holds file start bytes old → SameOutside file at n old new → start + length bytes ≤ at → Holds file start bytes new
+pub Holds-before : (file start at n : ℕ) (bytes : List ℕ) (old new : Files) → Holds file start bytes old → SameOutside file at n old new
+    → start + length bytes ≤ at → Holds file start bytes new
 Holds-before file start at n bytes old new holds same before i below =
     holds i below ∙ sym (same file (start + i) (λ within. omega (arith, within.at_or_behind, before, below)))
 
 -- bytes with those behind them
-pub Holds-append : (file at : ℕ) (front back : List ℕ) (content : Files) → Holds file at front content → Holds file (at + length front) back content → Holds file at (front ++ back) content
+pub Holds-append : (file at : ℕ) (front back : List ℕ) (content : Files) → Holds file at front content → Holds file (at + length front) back content
+    → Holds file at (front ++ back) content
 Holds-append file at front back content first second i below =
     ⊎_elim
     (λ before. get_or_append_left front back 0 i before ∙ first i before)
@@ -52,7 +56,8 @@ bytes_from-same (suc n) place old new same =
     ∙ ap (λ bytes. old place ∷ bytes) (bytes_from-same n (place + 1) old new (λ p first end. same p (omega (arith, first)) (omega (arith, end))))
 
 -- bytes that stand in the file from a place on
-pub bytes_from-holds : (bytes : List ℕ) (file place : ℕ) (content : Files) → Holds file place bytes content → bytes_from (content file) place (length bytes) ≡ bytes
+pub bytes_from-holds : (bytes : List ℕ) (file place : ℕ) (content : Files) → Holds file place bytes content
+    → bytes_from (content file) place (length bytes) ≡ bytes
 bytes_from-holds [] file place content holds = refl
 bytes_from-holds (b ∷ bytes) file place content holds =
     let first : content file place ≡ b = ap (content file) (omega arith) ∙ sym (holds 0 (omega arith)) in

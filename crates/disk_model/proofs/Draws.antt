@@ -18,7 +18,8 @@ count_below-same : (a b : ℕ → Bool) (n : ℕ) → ((i : ℕ) → a i ≡ b i
 count_below-same a b zero same = refl
 count_below-same a b (suc n) same = ap (λ t. count_below a n + cond t 1 0) (same n) ∙ ap (λ count. count + cond (b n) 1 0) (count_below-same a b n same)
 
-count_in_files-same : (a b : ℕ → ℕ → Bool) (files others : List (List ℕ)) (file : ℕ) → rooms_of files ≡ rooms_of others → ((f p : ℕ) → a f p ≡ b f p) → count_in_files a files file ≡ count_in_files b others file
+count_in_files-same : (a b : ℕ → ℕ → Bool) (files others : List (List ℕ)) (file : ℕ) → rooms_of files ≡ rooms_of others → ((f p : ℕ) → a f p ≡ b f p)
+    → count_in_files a files file ≡ count_in_files b others file
 count_in_files-same a b files others zero rooms same = refl
 count_in_files-same a b files others (suc file) rooms same =
     ap (λ n. count_in_files a files file + count_below (a file) n) (same_room files others file rooms)
@@ -26,7 +27,8 @@ count_in_files-same a b files others (suc file) rooms same =
     ∙ ap (λ count. count + count_below (b file) (length (file_of others file))) (count_in_files-same a b files others file rooms same)
 
 -- equal tests count the same places
-pub count_before-same : (a b : ℕ → ℕ → Bool) (files others : List (List ℕ)) (file place : ℕ) → rooms_of files ≡ rooms_of others → ((f p : ℕ) → a f p ≡ b f p) → count_before a files file place ≡ count_before b others file place
+pub count_before-same : (a b : ℕ → ℕ → Bool) (files others : List (List ℕ)) (file place : ℕ) → rooms_of files ≡ rooms_of others → ((f p : ℕ) → a f p ≡ b f p)
+    → count_before a files file place ≡ count_before b others file place
 count_before-same a b files others file place rooms same =
     ap (λ count. count + count_below (a file) place) (count_in_files-same a b files others file rooms same)
     ∙ ap (λ count. count_in_files b others file + count) (count_below-same (a file) (b file) place (same file))
@@ -38,8 +40,10 @@ count_below_miss : (test : ℕ → Bool) (i : ℕ) → test i ≡ false → coun
 count_below_miss test i miss = ap (count_below test) (add-one i) ∙ ap (λ t. count_below test i + cond t 1 0) miss ∙ add-zero (count_below test i)
 
 -- the state after the place i: a draw more where it passes the test
-pub state_hit : (test : ℕ → Bool) (seed i state new : ℕ) → test i ≡ true → state ≡ state_after seed (count_below test i) → new ≡ next_state state → new ≡ state_after seed (count_below test (i + 1))
+pub state_hit : (test : ℕ → Bool) (seed i state new : ℕ) → test i ≡ true → state ≡ state_after seed (count_below test i) → new ≡ next_state state
+    → new ≡ state_after seed (count_below test (i + 1))
 state_hit test seed i state new hit is drew = drew ∙ ap next_state is ∙ ap (state_after seed) (sym (count_below_hit test i hit))
 
-pub state_miss : (test : ℕ → Bool) (seed i state : ℕ) → test i ≡ false → state ≡ state_after seed (count_below test i) → state ≡ state_after seed (count_below test (i + 1))
+pub state_miss : (test : ℕ → Bool) (seed i state : ℕ) → test i ≡ false → state ≡ state_after seed (count_below test i)
+    → state ≡ state_after seed (count_below test (i + 1))
 state_miss test seed i state miss is = is ∙ ap (state_after seed) (sym (count_below_miss test i miss))

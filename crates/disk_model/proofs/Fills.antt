@@ -1,5 +1,6 @@
 -- Bytes that are put in a range of a file where a call counts, and one byte at each pending place.
-use Rattle.std.proofs.Common.{◌≡◌, ⊎_elim, ℕ, suc, ◌+◌, ◌-◌, ◌<◌, ◌≤◌, min, Bool, true, false, not, cond, ◌&&◌, ◌||◌, leb, ltb, List, [], ◌∷◌, length, get_or, take, drop, ap, ◌∙◌, refl, sym, arith}
+use Rattle.std.proofs.Common.{◌≡◌, ⊎_elim, ℕ, suc, ◌+◌, ◌-◌, ◌<◌, ◌≤◌, min, Bool, true, false, not, cond, ◌&&◌, ◌||◌}
+use Rattle.std.proofs.Common.{leb, ltb, List, [], ◌∷◌, length, get_or, take, drop, ap, ◌∙◌, refl, sym, arith}
 use Rattle.std.proofs.lemmas.Bool.{cases_lt, and_from, and_left, and_right, le-leb, lt-leb, lt-ltb, le-ltb}
 use Rattle.std.proofs.lemmas.Grind.{common_steps}
 use Rattle.std.specs.List.{AllByRecursion}
@@ -10,7 +11,8 @@ use Rattle.disk_model.specs.Calls.{covers, syncs, is_synced, is_pending, in_rang
 use Rattle.disk_model.specs.CallLog.{call_of, calls_of, IsKeptWithin, kept_covers, kept_syncs, kept_synced, kept_pending}
 
 -- a range that is cut at the end of a file
-pub range-cut : (at len size i start count : ℕ) → start ≡ min at size → count ≡ min len (size - start) → (leb start i && ltb i (start + count)) ≡ ((leb at i && ltb i (at + len)) && ltb i size)
+pub range-cut : (at len size i start count : ℕ) → start ≡ min at size → count ≡ min len (size - start)
+    → (leb start i && ltb i (start + count)) ≡ ((leb at i && ltb i (at + len)) && ltb i size)
 range-cut at len size i start count begins counts =
     ⊎_elim
     (λ before. ⊎_elim
@@ -40,7 +42,8 @@ ArePut at end test value first bytes = (k : ℕ) → get_or bytes k 0 ≡ cond (
 part-length : (bytes : List ℕ) (start len : ℕ) → start + len ≤ length bytes → length (take len (drop start bytes)) ≡ len
 part-length bytes start len within = grind (arith, common_steps)
 
-covers-is : (bytes : List ℕ) (call : KeptCall) (file place : ℕ) → IsKeptWithin (length bytes) call → covers (call_of bytes call) file place ≡ kept_covers call file place
+covers-is : (bytes : List ℕ) (call : KeptCall) (file place : ℕ) → IsKeptWithin (length bytes) call
+    → covers (call_of bytes call) file place ≡ kept_covers call file place
 covers-is bytes (kept.Wrote file at start len) other place within = ap (λ n. in_range file at n other place) (part-length bytes start len within.1)
 covers-is bytes (kept.Tore file at len) other place within = refl
 covers-is bytes (kept.Synced file) other place within = refl
@@ -52,24 +55,28 @@ syncs-is bytes (kept.Synced file) other = refl
 
 pub kept_synced-is : (calls : List KeptCall) (bytes : List ℕ) (file : ℕ) → kept_synced calls file ≡ is_synced (calls_of calls bytes) file
 kept_synced-is [] bytes file = refl
-kept_synced-is (call ∷ calls) bytes file = ap (λ b. b || kept_synced calls file) (syncs-is bytes call file) ∙ ap (λ b. syncs (call_of bytes call) file || b) (kept_synced-is calls bytes file)
+kept_synced-is (call ∷ calls) bytes file = ap (λ b. b || kept_synced calls file) (syncs-is bytes call file)
+    ∙ ap (λ b. syncs (call_of bytes call) file || b) (kept_synced-is calls bytes file)
 
 -- the kept calls and the calls that they stand for have the same pending places
-pub kept_pending-is : (calls : List KeptCall) (bytes : List ℕ) (file place : ℕ) → AllByRecursion (IsKeptWithin (length bytes)) calls → kept_pending calls file place ≡ is_pending (calls_of calls bytes) file place
+pub kept_pending-is : (calls : List KeptCall) (bytes : List ℕ) (file place : ℕ) → AllByRecursion (IsKeptWithin (length bytes)) calls
+    → kept_pending calls file place ≡ is_pending (calls_of calls bytes) file place
 kept_pending-is [] bytes file place within = refl
 kept_pending-is (call ∷ calls) bytes file place within =
     ap (λ b. b || (kept_covers call file place && not (kept_synced calls file))) (kept_pending-is calls bytes file place within.1)
     ∙ ap (λ b. is_pending (calls_of calls bytes) file place || (b && not (kept_synced calls file))) (sym (covers-is bytes call file place within.0))
     ∙ ap (λ b. is_pending (calls_of calls bytes) file place || (covers (call_of bytes call) file place && not b)) (kept_synced-is calls bytes file)
 
-unknown : {A : Type 0} (here later : Bool) (byte old : A) → cond (here && false) byte (cond (later && false) byte old) ≡ cond ((later || here) && false) byte old
+unknown : {A : Type 0} (here later : Bool) (byte old : A) → cond (here && false) byte (cond (later && false) byte old) ≡ cond ((later || here) && false) byte
+    old
 unknown true true byte old = refl
 unknown true false byte old = refl
 unknown false true byte old = refl
 unknown false false byte old = refl
 
 -- a place is filled by a call, or was by a later one
-pub fill_both : {A : Type 0} (here later known : Bool) (byte old : A) → cond (here && known) byte (cond (later && known) byte old) ≡ cond ((later || here) && known) byte old
+pub fill_both : {A : Type 0} (here later known : Bool) (byte old : A) → cond (here && known) byte (cond (later && known) byte old) ≡ cond
+    ((later || here) && known) byte old
 fill_both here later false byte old = unknown here later byte old
 fill_both true true true byte old = refl
 fill_both true false true byte old = refl
@@ -91,7 +98,8 @@ or_none false true = refl
 or_none false false = refl
 
 -- what is pending by the calls that count at a place, with a call more before them: n of the calls don't count there
-pub kept_pending-before : (call : KeptCall) (later : List KeptCall) (n number file place : ℕ) → kept_pending (drop (n - number) (call ∷ later)) file place ≡ (kept_pending (drop (n - (number + 1)) later) file place || ((kept_covers call file place && not (kept_synced later file)) && leb n number))
+pub kept_pending-before : (call : KeptCall) (later : List KeptCall) (n number file place : ℕ)
+    → kept_pending (drop (n - number) (call ∷ later)) file place ≡ (kept_pending (drop (n - (number + 1)) later) file place || ((kept_covers call file place && not (kept_synced later file)) && leb n number))
 kept_pending-before call later n number file place =
     let here = kept_covers call file place && not (kept_synced later file) in
     ⊎_elim

@@ -1,7 +1,10 @@
 -- The files as they were at their last syncs: the writes that a later call synced, laid over the base.
-use Rattle.std.proofs.Common.{◌≡◌, ⊎_elim, ℕ, zero, suc, ◌+◌, ◌-◌, ◌<◌, ◌≤◌, Bool, true, false, not, cond, ◌&&◌, ◌||◌, ltb, eqb, leb, List, [], ◌∷◌, length, get_or, set, drop, subst, ap, ◌∙◌, refl, sym, arith, zero-add}
+use Rattle.std.proofs.Common.{◌≡◌, ⊎_elim, ℕ, zero, suc, ◌+◌, ◌-◌, ◌<◌, ◌≤◌, Bool, true, false, not, cond, ◌&&◌, ◌||◌}
+use Rattle.std.proofs.Common.{ltb, eqb, leb, List, [], ◌∷◌, length, get_or, set, drop, subst, ap, ◌∙◌, refl, sym, arith}
+use Rattle.std.proofs.Common.{zero-add}
 use Rattle.std.specs.List.{AllByRecursion}
-use Rattle.std.proofs.lemmas.Bool.{cases_Bool, cases_eq, cases_lt, cond-true, cond-false, and_left, and_right, eq-eqb, ne_eqb, le-leb, lt-leb, both_ways, lt-ltb, or_parts, and_cases, not_from_false}
+use Rattle.std.proofs.lemmas.Bool.{cases_Bool, cases_eq, cases_lt, cond-true, cond-false, and_left, and_right, eq-eqb}
+use Rattle.std.proofs.lemmas.Bool.{ne_eqb, le-leb, lt-leb, both_ways, lt-ltb, or_parts, and_cases, not_from_false}
 use Rattle.std.proofs.lemmas.List.{get_or-set_same, get_or-set_other}
 use Rattle.disk_model.specs.declared.call_log.KeptCall.{KeptCall}
 use Rattle.disk_model.specs.Contents.{Files}
@@ -27,7 +30,8 @@ count-more false n = ap (λ k. ltb 0 k) (zero-add n)
 -- a file was synced where the count of its syncs isn't 0
 pub sync_count-some : (calls : List KeptCall) (file : ℕ) → ltb 0 (sync_count calls file) ≡ kept_synced calls file
 sync_count-some [] file = refl
-sync_count-some (call ∷ calls) file = count-more (kept_syncs call file) (sync_count calls file) ∙ ap (λ b. kept_syncs call file || b) (sync_count-some calls file)
+sync_count-some (call ∷ calls) file = count-more (kept_syncs call file) (sync_count calls file)
+    ∙ ap (λ b. kept_syncs call file || b) (sync_count-some calls file)
 
 nest : (here counts : Bool) (byte old : ℕ) → cond (here && counts) byte old ≡ cond counts (cond here byte old) old
 nest true counts byte old = refl
@@ -39,9 +43,11 @@ either true x = refl
 either false x = refl
 
 -- a write to a file that the test passes, laid where it counts
-pub lay-one : (test : ℕ → Bool) (counts : ℕ → ℕ → Bool) (files : List (List ℕ)) (file at : ℕ) (part new : List ℕ) (other place : ℕ) → test file ≡ true → file < length files
+pub lay-one : (test : ℕ → Bool) (counts : ℕ → ℕ → Bool) (files : List (List ℕ)) (file at : ℕ) (part new : List ℕ) (other place : ℕ) → test file ≡ true
+    → file < length files
     → ArePut at (at + length part) (counts file) (λ i. get_or part (i - at) 0) (file_of files file) new
-    → contents (set files file new) other place ≡ cond (test other && counts other place) (laid (Wrote file at part) (contents files) other place) (contents files other place)
+    → contents (set files file new) other place ≡ cond (test other && counts other place) (laid (Wrote file at part) (contents files) other place)
+    (contents files other place)
 lay-one test counts files file at part new other place passes known lays =
     ⊎_elim
     (λ same.
@@ -68,18 +74,21 @@ fits-same files base (Wrote file at bytes) same fits = omega (arith, same_room f
 fits-same files base (Tore file at n) same fits = omega (arith, same_room files base file same)
 fits-same files base (Synced file) same fits = tt
 
-pub fits-all : (files base : List (List ℕ)) (calls : List Call) → rooms_of files ≡ rooms_of base → AllByRecursion (FitsFile base) calls → AllByRecursion (FitsFile files) calls
+pub fits-all : (files base : List (List ℕ)) (calls : List Call) → rooms_of files ≡ rooms_of base → AllByRecursion (FitsFile base) calls
+    → AllByRecursion (FitsFile files) calls
 fits-all files base [] same fits = tt
 fits-all files base (call ∷ calls) same fits = (fits-same files base call same fits.0, fits-all files base calls same fits.1)
 
 -- each kept call fits its file
-pub fits-at : (files base : List (List ℕ)) (bytes : List ℕ) (calls : List KeptCall) (i : ℕ) (d : KeptCall) → i < length calls → rooms_of files ≡ rooms_of base → AllByRecursion (FitsFile base) (calls_of calls bytes) → FitsFile files (call_of bytes (get_or calls i d))
+pub fits-at : (files base : List (List ℕ)) (bytes : List ℕ) (calls : List KeptCall) (i : ℕ) (d : KeptCall) → i < length calls → rooms_of files ≡ rooms_of base
+    → AllByRecursion (FitsFile base) (calls_of calls bytes) → FitsFile files (call_of bytes (get_or calls i d))
 fits-at files base bytes [] i d below same fits = absurd (omega (arith, below))
 fits-at files base bytes (call ∷ calls) zero d below same fits = fits-same files base (call_of bytes call) same fits.0
 fits-at files base bytes (call ∷ calls) (suc i) d below same fits = fits-at files base bytes calls i d (omega arith) same fits.1
 
 -- what is left at a place is told by what stood there
-synced_content-at : (calls : List Call) (a b : Files) (file place : ℕ) → a file place ≡ b file place → synced_content a calls file place ≡ synced_content b calls file place
+synced_content-at : (calls : List Call) (a b : Files) (file place : ℕ) → a file place ≡ b file place
+    → synced_content a calls file place ≡ synced_content b calls file place
 synced_content-at [] a b file place same = same
 synced_content-at (call ∷ calls) a b file place same =
     synced_content-at calls _ _ file place (ap (λ x. cond (is_synced calls file) x (a file place)) (laid-at call a b file place same) ∙ ap (λ x. cond (is_synced calls file) (laid call b file place) x) same)
@@ -88,7 +97,8 @@ synced_content-at (call ∷ calls) a b file place same =
 pub lay-step : (call : KeptCall) (later : List KeptCall) (bytes : List ℕ) (number n : ℕ) (old new : Files) (count : ℕ → ℕ) (file place : ℕ)
     → ((f : ℕ) → count f ≡ sync_count later f)
     → new file place ≡ cond (ltb 0 (count file) && leb n number) (laid (call_of bytes call) old file place) (old file place)
-    → synced_content new (drop (n - (number + 1)) (calls_of later bytes)) file place ≡ synced_content old (drop (n - number) (calls_of (call ∷ later) bytes)) file place
+    → synced_content new (drop (n - (number + 1)) (calls_of later bytes)) file place ≡ synced_content old (drop (n - number) (calls_of (call ∷ later) bytes))
+    file place
 lay-step call later bytes number n old new count file place counts lays =
     let calls = calls_of later bytes in
     let here = laid (call_of bytes call) old file place in
@@ -96,7 +106,8 @@ lay-step call later bytes number n old new count file place counts lays =
     ⊎_elim
     (λ uncounted.
     let more : n - number ≡ suc (n - (number + 1)) = omega arith in
-    synced_content-at (drop (n - (number + 1)) calls) new old file place (lays ∙ cond-false (ltb 0 (count file) && leb n number) here was (and_right (ltb 0 (count file)) (leb n number) (lt-leb n number uncounted)))
+    synced_content-at (drop (n - (number + 1)) calls) new old file place
+    (lays ∙ cond-false (ltb 0 (count file) && leb n number) here was (and_right (ltb 0 (count file)) (leb n number) (lt-leb n number uncounted)))
     ∙ sym (ap (λ k. synced_content old (drop k (calls_of (call ∷ later) bytes)) file place) more))
     (λ counted.
     let none : n - number ≡ 0 = omega arith in
@@ -116,7 +127,8 @@ laid-uncovered (Tore written at n) content file place out = refl
 laid-uncovered (Synced synced) content file place out = refl
 
 -- at a place that is not pending each write that covers it is synced
-pub synced_content-settled : (calls : List Call) (a b : Files) (file place : ℕ) → a file place ≡ b file place → is_pending calls file place ≡ false → synced_content a calls file place ≡ content_after b calls file place
+pub synced_content-settled : (calls : List Call) (a b : Files) (file place : ℕ) → a file place ≡ b file place → is_pending calls file place ≡ false
+    → synced_content a calls file place ≡ content_after b calls file place
 synced_content-settled [] a b file place same settled = same
 synced_content-settled (call ∷ calls) a b file place same settled =
     let parts = or_parts (is_pending calls file place) (covers call file place && not (is_synced calls file)) settled in
@@ -131,7 +143,8 @@ synced_content-settled (call ∷ calls) a b file place same settled =
     parts.0
 
 -- what each pending place had at the last sync, and what a read gives elsewhere
-pub synced_content-is : (calls : List Call) (base : Files) (file place : ℕ) → synced_content base calls file place ≡ cond (is_pending calls file place) (synced_content base calls file place) (content_after base calls file place)
+pub synced_content-is : (calls : List Call) (base : Files) (file place : ℕ)
+    → synced_content base calls file place ≡ cond (is_pending calls file place) (synced_content base calls file place) (content_after base calls file place)
 synced_content-is calls base file place =
     ⊎_elim
     (λ pending. sym (cond-true (is_pending calls file place) _ _ pending))

@@ -17,10 +17,13 @@ use Rattle.disk_model.proofs.Images.{Reaches-wrote, Reaches-tore, TornIn-push, S
 abbrev pub Since : Files → Files → List Call → ℕ → Files → Type 0
 Since base pokes calls t image = (k : ℕ) × (t ≤ k) × (k ≤ length calls) × Allows base pokes (take k calls) image
 
-pub Elapses-same : (base pokes : Files) (calls : List Call) → Elapses (length calls) (length calls) (Since base pokes calls) (Since base pokes calls) (Allows base pokes calls)
+pub Elapses-same : (base pokes : Files) (calls : List Call) → Elapses (length calls) (length calls) (Since base pokes calls) (Since base pokes calls)
+    (Allows base pokes calls)
 Elapses-same base pokes calls = record { later = le_refl (length calls); nothing_else = λ t image early since. inl since; keeps = λ t image early past. past }
 
-pub Elapses-push : (base pokes : Files) (calls : List Call) (call : Call) → Elapses (length calls) (length (calls ++ call ∷ [])) (Since base pokes calls) (Since base pokes (calls ++ call ∷ [])) (Allows base pokes (calls ++ call ∷ []))
+pub Elapses-push : (base pokes : Files) (calls : List Call) (call : Call)
+    → Elapses (length calls) (length (calls ++ call ∷ [])) (Since base pokes calls) (Since base pokes (calls ++ call ∷ []))
+    (Allows base pokes (calls ++ call ∷ []))
 Elapses-push base pokes calls call =
     let more = length-append calls (call ∷ []) in
     record {
@@ -117,5 +120,6 @@ time-sync result old new file ok err =
 pub settled-sync : {T E : Type 0} (result : Result T E) (old new : MemoryDiskState) (file : ℕ)
     → OnOk result (new ≡ record old { calls = old.calls ++ Synced file ∷ []; made = raised old.made })
     → OnOk result (Settled file (content_of old) (MayLeave new))
-settled-sync (Ok x) old new file ok = subst (λ disk. Settled file (content_of old) (MayLeave disk)) (sym ok) (Settled-synced (contents old.base) (contents old.pokes) old.calls file)
+settled-sync (Ok x) old new file ok = subst (λ disk. Settled file (content_of old) (MayLeave disk)) (sym ok)
+    (Settled-synced (contents old.base) (contents old.pokes) old.calls file)
 settled-sync (Err e) old new file ok = tt

@@ -12,7 +12,8 @@ use Rattle.disk_model.proofs.Draws.{count_before-same}
 use Rattle.disk_model.proofs.ReadFiles.{same_room, pending_since_within}
 
 -- files of zeros with a 1 at each pending place mark these and no others
-pub marked-pending : (base pokes blank marks : List (List ℕ)) (calls : List Call) → AllByRecursion (FitsFile base) calls → rooms_of blank ≡ rooms_of base → AllZeros blank
+pub marked-pending : (base pokes blank marks : List (List ℕ)) (calls : List Call) → AllByRecursion (FitsFile base) calls → rooms_of blank ≡ rooms_of base
+    → AllZeros blank
     → ((file place : ℕ) → contents marks file place ≡ cond (pending_since (contents pokes) calls file place && ltb place (length (file_of blank file))) 1 (contents blank file place))
     → (file place : ℕ) → is_marked_in marks file place ≡ pending_since (contents pokes) calls file place
 marked-pending base pokes blank marks calls fits rooms zeros filled file place =
@@ -27,10 +28,14 @@ marked-pending base pokes blank marks calls fits rooms zeros filled file place =
     (cases_Bool (pending_since (contents pokes) calls file place))
 
 -- the files as they are read with a byte drawn at each pending place
-pub with_draws-pending : (base pokes files marks : List (List ℕ)) (calls : List Call) (seed file place : ℕ) → IsRead base pokes files calls → rooms_of marks ≡ rooms_of base
+pub with_draws-pending : (base pokes files marks : List (List ℕ)) (calls : List Call) (seed file place : ℕ) → IsRead base pokes files calls
+    → rooms_of marks ≡ rooms_of base
     → ((f p : ℕ) → is_marked_in marks f p ≡ pending_since (contents pokes) calls f p)
-    → with_draws seed marks (contents files) file place ≡ cond (pending_since (contents pokes) calls file place) (drawn seed (count_before (pending_since (contents pokes) calls) base file place) % 256) (content_since (contents base) (contents pokes) calls file place)
+    → with_draws seed marks (contents files) file place ≡ cond (pending_since (contents pokes) calls file place)
+    (drawn seed (count_before (pending_since (contents pokes) calls) base file place) % 256)
+    (content_since (contents base) (contents pokes) calls file place)
 with_draws-pending base pokes files marks calls seed file place read rooms marked =
     ap (λ b. cond b (drawn seed (count_before (is_marked_in marks) marks file place) % 256) (contents files file place)) (marked file place)
-    ∙ ap (λ draw. cond (pending_since (contents pokes) calls file place) (drawn seed draw % 256) (contents files file place)) (count_before-same (is_marked_in marks) (pending_since (contents pokes) calls) marks base file place rooms marked)
+    ∙ ap (λ draw. cond (pending_since (contents pokes) calls file place) (drawn seed draw % 256) (contents files file place))
+    (count_before-same (is_marked_in marks) (pending_since (contents pokes) calls) marks base file place rooms marked)
     ∙ ap (λ byte. cond (pending_since (contents pokes) calls file place) (drawn seed (count_before (pending_since (contents pokes) calls) base file place) % 256) byte) (read.reads file place)

@@ -19,40 +19,48 @@ abbrev pub Passes : {D : Type 0} → Ghosts D → D → D → Type 0
 Passes g old new = Elapses (g.moment old) (g.moment new) (g.left_since old) (g.left_since new) (g.may_leave new)
 
 -- no call
-pub at_each_moment_none : {D : Type 0} (g : Ghosts D) (disk : D) (P : Files → Type 0) → OnlyNow g → g.tells_images → ((image : Files) → g.may_leave disk image → P image) → AtEachMoment g disk disk P
+pub at_each_moment_none : {D : Type 0} (g : Ghosts D) (disk : D) (P : Files → Type 0) → OnlyNow g → g.tells_images
+    → ((image : Files) → g.may_leave disk image → P image) → AtEachMoment g disk disk P
 at_each_moment_none g disk P only told has = leaves_at_once (g.moment disk) (g.left_since disk) P (λ image left. has image (only disk image told left))
 
 -- each image of the later state is one of those since the first
-pub at_each_moment_now : {D : Type 0} (g : Ghosts D) (old new : D) (P : Files → Type 0) → CountsNow g → g.tells_images → AtEachMoment g old new P → (image : Files) → g.may_leave new image → P image
+pub at_each_moment_now : {D : Type 0} (g : Ghosts D) (old new : D) (P : Files → Type 0) → CountsNow g → g.tells_images → AtEachMoment g old new P
+    → (image : Files) → g.may_leave new image → P image
 at_each_moment_now g old new P counts told leaves image left = leaves.each image (counts new (g.moment old) image told leaves.later left)
 
 -- one call more
-pub at_each_moment_then : {D : Type 0} (g : Ghosts D) (first old new : D) (P : Files → Type 0) → AtEachMoment g first old P → Passes g old new → ((image : Files) → g.may_leave new image → P image) → AtEachMoment g first new P
+pub at_each_moment_then : {D : Type 0} (g : Ghosts D) (first old new : D) (P : Files → Type 0) → AtEachMoment g first old P → Passes g old new
+    → ((image : Files) → g.may_leave new image → P image) → AtEachMoment g first new P
 at_each_moment_then g first old new P before time has =
     leaves_then (g.moment first) (g.moment old) (g.moment new) (g.left_since first) (g.left_since old) (g.left_since new) (g.may_leave new) P before time has
 
 -- several calls more
-pub at_each_moment_on : {D : Type 0} (g : Ghosts D) (first old new : D) (P Q : Files → Type 0) → AtEachMoment g first old P → AtEachMoment g old new Q → ((image : Files) → Q image → P image) → AtEachMoment g first new P
+pub at_each_moment_on : {D : Type 0} (g : Ghosts D) (first old new : D) (P Q : Files → Type 0) → AtEachMoment g first old P → AtEachMoment g old new Q
+    → ((image : Files) → Q image → P image) → AtEachMoment g first new P
 at_each_moment_on g first old new P Q before more has =
     leaves_on (g.moment first) (g.moment old) (g.moment new) (g.left_since first) (g.left_since old) (g.left_since new) P Q before more has
 
 -- a weaker fact of each content
-pub at_each_moment_weaker : {D : Type 0} (g : Ghosts D) (old new : D) (P Q : Files → Type 0) → AtEachMoment g old new P → ((image : Files) → P image → Q image) → AtEachMoment g old new Q
+pub at_each_moment_weaker : {D : Type 0} (g : Ghosts D) (old new : D) (P Q : Files → Type 0) → AtEachMoment g old new P → ((image : Files) → P image → Q image)
+    → AtEachMoment g old new Q
 at_each_moment_weaker g old new P Q leaves has = leaves_weaker (g.moment old) (g.moment new) (g.left_since old) (g.left_since new) P Q leaves has
 
 -- one call at first
-pub at_each_moment_call : {D : Type 0} (g : Ghosts D) (old new : D) (P : Files → Type 0) → OnlyNow g → g.tells_images → ((image : Files) → g.may_leave old image → P image) → Passes g old new
+pub at_each_moment_call : {D : Type 0} (g : Ghosts D) (old new : D) (P : Files → Type 0) → OnlyNow g → g.tells_images
+    → ((image : Files) → g.may_leave old image → P image) → Passes g old new
     → ((image : Files) → g.may_leave new image → P image) → AtEachMoment g old new P
 at_each_moment_call g old new P only told had time has = at_each_moment_then g old old new P (at_each_moment_none g old P only told had) time has
 
 -- calls that add no image
-pub at_each_moment_no_more : {D : Type 0} (g : Ghosts D) (first old new : D) (P : Files → Type 0) → CountsNow g → g.tells_images → AtEachMoment g first old P → Passes g old new → NoMore (g.may_leave old) (g.may_leave new)
+pub at_each_moment_no_more : {D : Type 0} (g : Ghosts D) (first old new : D) (P : Files → Type 0) → CountsNow g → g.tells_images → AtEachMoment g first old P
+    → Passes g old new → NoMore (g.may_leave old) (g.may_leave new)
     → AtEachMoment g first new P
 at_each_moment_no_more g first old new P counts told before time fewer =
     at_each_moment_then g first old new P before time (λ image left. at_each_moment_now g first old P counts told before image (fewer image left))
 
 -- calls that only read, after others
-pub at_each_moment_read : {D : Type 0} (g : Ghosts D) (first old new : D) (P : Files → Type 0) → CountsNow g → g.tells_images → AtEachMoment g first old P → OnlyReads g old new → AtEachMoment g first new P
+pub at_each_moment_read : {D : Type 0} (g : Ghosts D) (first old new : D) (P : Files → Type 0) → CountsNow g → g.tells_images → AtEachMoment g first old P
+    → OnlyReads g old new → AtEachMoment g first new P
 at_each_moment_read g first old new P counts told before reads =
     at_each_moment_on g first old new P (g.may_leave old) before (reads.time told) (at_each_moment_now g first old P counts told before)
 
@@ -65,7 +73,8 @@ only_reads_none g disk only = record {
 }
 
 -- one call that leaves what is read and adds no image
-pub only_reads_call : {D : Type 0} (g : Ghosts D) (old new : D) → OnlyNow g → Same (g.reads old) (g.reads new) → (g.tells_images → NoMore (g.may_leave old) (g.may_leave new)) → (g.tells_images → Passes g old new) → OnlyReads g old new
+pub only_reads_call : {D : Type 0} (g : Ghosts D) (old new : D) → OnlyNow g → Same (g.reads old) (g.reads new)
+    → (g.tells_images → NoMore (g.may_leave old) (g.may_leave new)) → (g.tells_images → Passes g old new) → OnlyReads g old new
 only_reads_call g old new only keeps crash time = record {
   keeps = keeps;
   crash = crash;

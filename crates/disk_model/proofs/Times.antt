@@ -15,7 +15,8 @@ pub leaves_then : (first before now : ℕ) (at_first past since : ℕ → Files 
 leaves_then first before now at_first past since images P leaves elapses has = record {
   later = omega (arith, leaves.later, elapses.later);
   each = λ image s. ⊎_elim (λ p. leaves.each image p) (λ i. has image i) (elapses.nothing_else first image leaves.later s);
-  nothing_else = λ t image early s. ⊎_elim (λ p. leaves.nothing_else t image early p) (λ i. inr (has image i)) (elapses.nothing_else t image (omega (arith, early, leaves.later)) s);
+  nothing_else = λ t image early s. ⊎_elim (λ p. leaves.nothing_else t image early p) (λ i. inr (has image i))
+      (elapses.nothing_else t image (omega (arith, early, leaves.later)) s);
   keeps = λ t image early p. elapses.keeps t image (omega (arith, early, leaves.later)) (leaves.keeps t image early p);
 }
 
@@ -26,7 +27,8 @@ pub leaves_on : (first before now : ℕ) (at_first past since : ℕ → Files �
 leaves_on first before now at_first past since P Q leaves more has = record {
   later = omega (arith, leaves.later, more.later);
   each = λ image s. ⊎_elim (λ p. leaves.each image p) (λ q. has image q) (more.nothing_else first image leaves.later s);
-  nothing_else = λ t image early s. ⊎_elim (λ p. leaves.nothing_else t image early p) (λ q. inr (has image q)) (more.nothing_else t image (omega (arith, early, leaves.later)) s);
+  nothing_else = λ t image early s. ⊎_elim (λ p. leaves.nothing_else t image early p) (λ q. inr (has image q))
+      (more.nothing_else t image (omega (arith, early, leaves.later)) s);
   keeps = λ t image early p. more.keeps t image (omega (arith, early, leaves.later)) (leaves.keeps t image early p);
 }
 

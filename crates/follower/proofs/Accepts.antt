@@ -33,12 +33,14 @@ module _ {D : Type 0} (g : Ghosts D) where
     later = le_refl (g.faults s.base.disk.now);
   }
 
-  module _ (bytes : List ℕ) (s t : Store D g) (have : ℕ) (live : Bool) (is_live : live ≡ true) (same : SameStore s.base t.base) (next : IsNextFor (viewed s have live) bytes) where
+  module _ (bytes : List ℕ) (s t : Store D g) (have : ℕ) (live : Bool) (is_live : live ≡ true) (same : SameStore s.base t.base)
+      (next : IsNextFor (viewed s have live) bytes) where
     crash_next : AtEachMoment g s.base.disk.now t.base.disk.now (λ left. Redoes left (committed s) ⊎ Redoes left (taken (committed s) bytes))
         → AtEachMoment g s.base.disk.now t.base.disk.now (λ left. Redoes left (committed s) ⊎ (IsNextFor (viewed s have live) bytes × Redoes left (taken (committed s) bytes)))
     crash_next leaves = at_each_moment_weaker g s.base.disk.now t.base.disk.now _ _ leaves (λ left. ⊎_elim (λ before. inl before) (λ after. inr (next, after)))
 
-    pub accepts_applied : (number : ℕ) → number ≡ number_of bytes → Applies g bytes s t (Ok tt) → Accepts g bytes (viewed s have live) (viewed t number true) (Applied number)
+    pub accepts_applied : (number : ℕ) → number ≡ number_of bytes → Applies g bytes s t (Ok tt)
+        → Accepts g bytes (viewed s have live) (viewed t number true) (Applied number)
     accepts_applied number is applies = record {
       answers = (next, is, record { records = applies.comes_to.records; stored = applies.comes_to.stored; have = is; live = refl });
       crash = λ told images. crash_next (applies.crash told images);

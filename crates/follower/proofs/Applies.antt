@@ -49,15 +49,19 @@ module _ {D : Type 0} (g : Ghosts D) where
   pub images_of : (b : Base D g) → IsTrue b.live → IsOnDisk g b.disk.now (λ left. Redoes left (base.committed b))
   images_of b live = on_disk g b.disk.now b.metas.records b.changed.pairs b.tail (base.committed b) (b.kept live) (λ reads. refl)
 
-  crash_read : (bytes : List ℕ) (old new : Store D g) → IsTrue old.base.live → OnlyReadsBeneath g old.base new.base → g.tells_reads → g.tells_images → AtEachMoment g old.base.disk.now new.base.disk.now (HasEither g bytes old)
+  crash_read : (bytes : List ℕ) (old new : Store D g) → IsTrue old.base.live → OnlyReadsBeneath g old.base new.base → g.tells_reads → g.tells_images
+      → AtEachMoment g old.base.disk.now new.base.disk.now (HasEither g bytes old)
   crash_read bytes old new live reads told images =
-      at_each_moment_weaker g old.base.disk.now new.base.disk.now (g.may_leave old.base.disk.now) (HasEither g bytes old) (reads.disk.time images) (λ image left. inl ((images_of old.base live).images told images image left))
+      at_each_moment_weaker g old.base.disk.now new.base.disk.now (g.may_leave old.base.disk.now) (HasEither g bytes old) (reads.disk.time images)
+      (λ image left. inl ((images_of old.base live).images told images image left))
 
   -- there was no memory
-  pub applies_not : (bytes : List ℕ) (old new : Store D g) → IsTrue old.base.live → OnlyReadsBeneath g old.base new.base → Applies g bytes old new (Err faults.Memory)
+  pub applies_not : (bytes : List ℕ) (old new : Store D g) → IsTrue old.base.live → OnlyReadsBeneath g old.base new.base
+      → Applies g bytes old new (Err faults.Memory)
   applies_not bytes old new live reads = record { comes_to = reads; crash = crash_read bytes old new live reads; later = reads.later }
 
-  module _ (bytes : List ℕ) (old mid new : Store D g) (live : IsTrue old.base.live) (reads : OnlyReadsBeneath g old.base mid.base) (has : working mid ≡ taken (committed old) bytes)
+  module _ (bytes : List ℕ) (old mid new : Store D g) (live : IsTrue old.base.live) (reads : OnlyReadsBeneath g old.base mid.base)
+      (has : working mid ≡ taken (committed old) bytes)
       (crash : g.tells_reads → g.tells_images → AtEachMoment g mid.base.disk.now new.base.disk.now (λ left. Redoes left (committed mid) ⊎ Redoes left (working mid)))
       (later : g.faults mid.base.disk.now ≤ g.faults new.base.disk.now) where
     either : (left : Files) → Redoes left (committed mid) ⊎ Redoes left (working mid) → HasEither g bytes old left
@@ -65,7 +69,8 @@ module _ {D : Type 0} (g : Ghosts D) where
 
     crash_all : g.tells_reads → g.tells_images → AtEachMoment g old.base.disk.now new.base.disk.now (HasEither g bytes old)
     crash_all told images =
-        at_each_moment_on g old.base.disk.now mid.base.disk.now new.base.disk.now (HasEither g bytes old) (λ left. Redoes left (committed mid) ⊎ Redoes left (working mid)) (crash_read bytes old mid live reads told images) (crash told images) either
+        at_each_moment_on g old.base.disk.now mid.base.disk.now new.base.disk.now (HasEither g bytes old)
+        (λ left. Redoes left (committed mid) ⊎ Redoes left (working mid)) (crash_read bytes old mid live reads told images) (crash told images) either
 
     -- it is committed
     pub applies_now : IsWritten mid.base new.base → Applies g bytes old new (Ok tt)
@@ -85,7 +90,8 @@ module _ {D : Type 0} (g : Ghosts D) where
         }
 
     -- the disk failed
-    pub applies_perhaps : IsInDoubt mid.base new.base → Rose (g.faults mid.base.disk.now) (g.faults new.base.disk.now) → Applies g bytes old new (Err faults.Disk)
+    pub applies_perhaps : IsInDoubt mid.base new.base → Rose (g.faults mid.base.disk.now) (g.faults new.base.disk.now)
+        → Applies g bytes old new (Err faults.Disk)
     applies_perhaps doubt rose =
         let before = reads.later in
         record {

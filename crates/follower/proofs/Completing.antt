@@ -1,5 +1,7 @@
 -- Keys that come after a key, and bytes that are made a shipment by records of such keys.
-use Rattle.std.proofs.Common.{◌≡◌, ◌∙◌, ◌⊎◌, ⊎_elim, inl, inr, ap, sym, subst, refl, ℕ, zero, suc, ◌+◌, ◌*◌, ◌-◌, ◌^◌, ◌<◌, ◌≤◌, true, List, [], ◌∷◌, ◌++◌, replicate, Option, None, Some, length, take, arith, append_assoc, length-append, length-take-le, mod-lt}
+use Rattle.std.proofs.Common.{◌≡◌, ◌∙◌, ◌⊎◌, ⊎_elim, inl, inr, ap, sym, subst, refl, ℕ, zero, suc, ◌+◌, ◌*◌, ◌-◌, ◌^◌}
+use Rattle.std.proofs.Common.{◌<◌, ◌≤◌, true, List, [], ◌∷◌, ◌++◌, replicate, Option, None, Some, length, take, arith}
+use Rattle.std.proofs.Common.{append_assoc, length-append, length-take-le, mod-lt}
 use Rattle.std.proofs.lemmas.Bool.{cases_lt}
 use Rattle.std.proofs.lemmas.List.{length-replicate}
 use Rattle.std.specs.Int.{byte_at, bytes_low_first}
@@ -68,7 +70,8 @@ record IsFollowed (shape : Shape) (last : Option Key) (n : ℕ) (key : Key) : Ty
   left : n ≤ keys_after shape key
   file : key.file < 256
 
-a_name : (shape : Shape) (last : Option Key) (id n : ℕ) → id < 4096 → suc n ≤ 4096 - id + 2 * shape.limit → IsAbove last (record { file = 6; id = id }) → (key : Key) × IsFollowed shape last n key
+a_name : (shape : Shape) (last : Option Key) (id n : ℕ) → id < 4096 → suc n ≤ 4096 - id + 2 * shape.limit → IsAbove last (record { file = 6; id = id })
+    → (key : Key) × IsFollowed shape last n key
 a_name shape last id n lt le above = (
   record { file = 6; id = id },
   record {
@@ -78,7 +81,8 @@ a_name shape last id n lt le above = (
   },
 )
 
-an_index : (shape : Shape) (last : Option Key) (id n : ℕ) → suc n ≤ 2 * shape.limit - id → IsAbove last (record { file = 8; id = id }) → (key : Key) × IsFollowed shape last n key
+an_index : (shape : Shape) (last : Option Key) (id n : ℕ) → suc n ≤ 2 * shape.limit - id → IsAbove last (record { file = 8; id = id }) → (key : Key)
+    × IsFollowed shape last n key
 an_index shape last id n le above = (
   record { file = 8; id = id },
   record {
@@ -111,7 +115,8 @@ next_key shape (Some last) n le =
     an_index shape (Some last) 0 n (omega (arith, le, names, index)) (precedes_less last (record { file = 8; id = 0 }) (inl lt)))
     (λ (same : last.file ≡ 8).
     let index = keys_in-same shape 8 last same in
-    an_index shape (Some last) (last.id + 1) n (omega (arith, le, names, index)) (precedes_less last (record { file = 8; id = last.id + 1 }) (inr (same, omega arith))))
+    an_index shape (Some last) (last.id + 1) n (omega (arith, le, names, index))
+    (precedes_less last (record { file = 8; id = last.id + 1 }) (inr (same, omega arith))))
     (λ (past : 8 < last.file). let index = keys_in-above shape 8 last past in absurd (omega (arith, le, names, index))))
 
 -- records that may come after the last one
@@ -125,7 +130,8 @@ pub record AreMore (shape : Shape) (last : Option Key) (n : ℕ) (writes : Pairs
 abbrev blank : Rec
 blank = record { bytes = zero_bytes 64 }
 
-pub more_writes : (n : ℕ) (shape : Shape) (last : Option Key) → is_allowed shape ≡ true → n ≤ keys_left shape last → (writes : Pairs) × AreMore shape last n writes
+pub more_writes : (n : ℕ) (shape : Shape) (last : Option Key) → is_allowed shape ≡ true → n ≤ keys_left shape last → (writes : Pairs)
+    × AreMore shape last n writes
 more_writes zero shape last allowed le = ([], record { ascend = tt; many = refl; whole = tt; small = tt; bytes = tt })
 more_writes (suc n) shape last allowed le =
     let found = next_key shape last n le in
@@ -154,7 +160,8 @@ last_files shape file id allowed from within =
     inr
     (λ past. let low = is_record_file-low file (IsKey-room_of shape (record { file = file; id = id }) allowed within).file in absurd (omega arith)))
 
-keys_fall : (shape : Shape) (key next : Key) → is_allowed shape ≡ true → 6 ≤ key.file → Precedes key next → next.id < room_of shape next.file → suc (keys_after shape next) ≤ keys_after shape key
+keys_fall : (shape : Shape) (key next : Key) → is_allowed shape ≡ true → 6 ≤ key.file → Precedes key next → next.id < room_of shape next.file
+    → suc (keys_after shape next) ≤ keys_after shape key
 keys_fall shape key next allowed from precedes within =
     ⊎_elim
     (λ (name : next.file ≡ 6).
@@ -178,30 +185,37 @@ keys_fall shape key next allowed from precedes within =
     precedes)
     (last_files shape next.file next.id allowed (⊎_elim (λ (lt : key.file < next.file). omega arith) (λ (same : (key.file ≡ next.file) × (key.id < next.id)). omega (arith, same.0)) precedes) within)
 
-ascend_fits : (shape : Shape) (key : Key) (writes : Pairs) → is_allowed shape ≡ true → 6 ≤ key.file → Ascend shape (Some key) writes → length writes ≤ keys_after shape key
+ascend_fits : (shape : Shape) (key : Key) (writes : Pairs) → is_allowed shape ≡ true → 6 ≤ key.file → Ascend shape (Some key) writes
+    → length writes ≤ keys_after shape key
 ascend_fits shape key [] allowed from ascend = omega arith
 ascend_fits shape key (write ∷ later) allowed from ascend =
     let precedes = less_precedes key write.0 ascend.0.above in
     let falls = keys_fall shape key write.0 allowed from precedes (shipped_room shape write.0 ascend.0.shipped) in
-    let next : 6 ≤ write.0.file = ⊎_elim (λ (lt : key.file < write.0.file). omega arith) (λ (same : (key.file ≡ write.0.file) × (key.id < write.0.id)). omega (arith, same.0)) precedes in
+    let next : 6 ≤ write.0.file = ⊎_elim (λ (lt : key.file < write.0.file). omega arith)
+    (λ (same : (key.file ≡ write.0.file) × (key.id < write.0.id)). omega (arith, same.0)) precedes in
     let rest = ascend_fits shape write.0 later allowed next ascend.1 in
     omega (arith, falls, rest)
 
 -- as many records as a shipment may have come after a key only where enough keys do
-pub ascend_left : (shape : Shape) (key : Key) (writes : Pairs) → is_allowed shape ≡ true → length writes ≤ 2047 → Ascend shape (Some key) writes → length writes ≤ keys_after shape key
+pub ascend_left : (shape : Shape) (key : Key) (writes : Pairs) → is_allowed shape ≡ true → length writes ≤ 2047 → Ascend shape (Some key) writes
+    → length writes ≤ keys_after shape key
 ascend_left shape key writes allowed few ascend =
-    ⊎_elim (λ (lt : key.file < 6). let names = keys_in-below shape 6 key lt in omega (arith, names, few)) (λ (ge : 6 ≤ key.file). ascend_fits shape key writes allowed ge ascend) (cases_lt key.file 6)
+    ⊎_elim (λ (lt : key.file < 6). let names = keys_in-below shape 6 key lt in omega (arith, names, few))
+    (λ (ge : 6 ≤ key.file). ascend_fits shape key writes allowed ge ascend) (cases_lt key.file 6)
 
 -- ---- bytes that are made a shipment
 
-shipment_of : (shape : Shape) (bytes : List ℕ) (writes : Pairs) (last : Option Key) (index n : ℕ) → length bytes ≡ 10 + 69 * index → count_of bytes ≡ index + n → index + n ≤ 2047 → AreMore shape last n writes → Decides shape (bytes ++ flat_map write_bytes writes) last index
+shipment_of : (shape : Shape) (bytes : List ℕ) (writes : Pairs) (last : Option Key) (index n : ℕ) → length bytes ≡ 10 + 69 * index → count_of bytes ≡ index + n
+    → index + n ≤ 2047 → AreMore shape last n writes → Decides shape (bytes ++ flat_map write_bytes writes) last index
     → IsShipment shape (bytes ++ flat_map write_bytes writes)
 shipment_of shape bytes writes last index n long counts few more decides =
     let all = bytes ++ flat_map write_bytes writes in
-    let count : count_of all ≡ count_of bytes = little_from-shares bytes all 2 8 10 (shares_append bytes (flat_map write_bytes writes) 10 (omega (arith, long))) (omega arith) in
+    let count : count_of all ≡ count_of bytes = little_from-shares bytes all 2 8 10 (shares_append bytes (flat_map write_bytes writes) 10 (omega (arith, long)))
+    (omega arith) in
     let many = more.many in
     let left : count_of all - index ≡ length writes = omega (arith, count, counts, many) in
-    let reads : writes_in all (10 + 69 * index) (count_of all - index) ≡ writes = ap (λ (m : ℕ). writes_in all (10 + 69 * index) m) left ∙ writes_back bytes writes (10 + 69 * index) (sym long) more.whole more.small in
+    let reads : writes_in all (10 + 69 * index) (count_of all - index) ≡ writes = ap (λ (m : ℕ). writes_in all (10 + 69 * index) m) left
+    ∙ writes_back bytes writes (10 + 69 * index) (sym long) more.whole more.small in
     let both = length-append bytes (flat_map write_bytes writes) in
     let records = length-writes writes more.whole in
     record {
@@ -212,7 +226,8 @@ shipment_of shape bytes writes last index n long counts few more decides =
 
 -- Bytes begin a shipment if, with some more, they are the head and some of its records, after which
 -- enough keys may come.
-pub begins_by : (shape : Shape) (bytes pad : List ℕ) (n : ℕ) (last : Option Key) (index more : ℕ) → is_allowed shape ≡ true → n ≤ length bytes → n + length pad ≡ 10 + 69 * index → AreBytes pad → count_of (take n bytes ++ pad) ≡ index + more → index + more ≤ 2047 → more ≤ keys_left shape last
+pub begins_by : (shape : Shape) (bytes pad : List ℕ) (n : ℕ) (last : Option Key) (index more : ℕ) → is_allowed shape ≡ true → n ≤ length bytes
+    → n + length pad ≡ 10 + 69 * index → AreBytes pad → count_of (take n bytes ++ pad) ≡ index + more → index + more ≤ 2047 → more ≤ keys_left shape last
     → ((rest : List ℕ) → Decides shape (take n bytes ++ (pad ++ rest)) last index) → BeginsShipment shape (take n bytes)
 begins_by shape bytes pad n last index more allowed within long are_bytes counts few left decides =
     let found = more_writes more shape last allowed left in

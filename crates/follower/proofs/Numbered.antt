@@ -1,5 +1,6 @@
 -- A follower's records are a store with the sender's graph, as the sender's are.
-use Rattle.std.proofs.Common.{◌≡◌, ◌≢◌, ◌∙◌, ap, sym, subst, inl, inr, ℕ, zero, suc, ◌+◌, ◌<◌, ◌≤◌, Bool, true, cond, List, [], ◌∷◌, Option, None, Some, length, refl, arith}
+use Rattle.std.proofs.Common.{◌≡◌, ◌≢◌, ◌∙◌, ap, sym, subst, inl, inr, ℕ, zero, suc, ◌+◌, ◌<◌, ◌≤◌, Bool, true, cond}
+use Rattle.std.proofs.Common.{List, [], ◌∷◌, Option, None, Some, length, refl, arith}
 use mathlib.Core.Bool.{false≢true}
 use Rattle.std.specs.List.{slice_get}
 use Rattle.rec_bytes.specs.declared.key.Key.{Key}
@@ -52,9 +53,11 @@ sender_number shape sent (suc j) is below =
 -- ---- what a content of a follower's disk stands for
 
 pub follower_well : (shape : Shape) (sent : List (List ℕ)) (j : ℕ) → IsSent shape sent → j ≤ length sent → IsIndexed (follower_records shape sent j) shape
-follower_well shape sent j is below = indexed_numbered (sender_records shape sent j) (number_record j) shape (sender_number shape sent j is below) (number_rest j) (is.stored j below)
+follower_well shape sent j is below = indexed_numbered (sender_records shape sent j) (number_record j) shape (sender_number shape sent j is below)
+    (number_rest j) (is.stored j below)
 
-pub taken_stands : (shape : Shape) (sent : List (List ℕ)) (j : ℕ) (content : _) → IsSent shape sent → j ≤ length sent → HoldsSent shape sent j content → StandsFor content shape (sent_graph shape sent j)
+pub taken_stands : (shape : Shape) (sent : List (List ℕ)) (j : ℕ) (content : _) → IsSent shape sent → j ≤ length sent → HoldsSent shape sent j content
+    → StandsFor content shape (sent_graph shape sent j)
 taken_stands shape sent j content is below (inl redoes) = inr (record {
   space = follower_records shape sent j;
   redoes = redoes;

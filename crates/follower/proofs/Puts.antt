@@ -1,5 +1,6 @@
 -- The records of a shipment, put one by one.
-use Rattle.std.proofs.Common.{◌≡◌, ◌∙◌, ap, sym, ℕ, zero, suc, ◌+◌, ◌*◌, ◌<◌, Bool, true, false, cond, List, [], ◌∷◌, ◌++◌, Option, None, Some, length, take, refl, arith}
+use Rattle.std.proofs.Common.{◌≡◌, ◌∙◌, ap, sym, ℕ, zero, suc, ◌+◌, ◌*◌, ◌<◌, Bool, true, false, cond, List, [], ◌∷◌}
+use Rattle.std.proofs.Common.{◌++◌, Option, None, Some, length, take, refl, arith}
 use Rattle.std.specs.List.{slice_get}
 use Rattle.std.proofs.lemmas.List.{take_more}
 use Rattle.std.proofs.lemmas.Option.{get_or_from_slice_get, slice_get_within}
@@ -30,12 +31,14 @@ abbrev pub put_all : (Key → Rec) → Pairs → Key → Rec
 put_all records [] = records
 put_all records (write ∷ later) = put_all (put records write.0 write.1) later
 
-put_all-append : (records : Key → Rec) (writes : Pairs) (write : Key × Rec) → put_all records (writes ++ write ∷ []) ≡ put (put_all records writes) write.0 write.1
+put_all-append : (records : Key → Rec) (writes : Pairs) (write : Key × Rec)
+    → put_all records (writes ++ write ∷ []) ≡ put (put_all records writes) write.0 write.1
 put_all-append records [] write = refl
 put_all-append records (first ∷ later) write = put_all-append (put records first.0 first.1) later write
 
 -- a record put before others of greater keys
-laid_over-put : (records : Key → Rec) (write : Key × Rec) (later : Pairs) → IsBelow write.0 later → (q : Key) → laid_over (put records write.0 write.1) later q ≡ laid_over records (write ∷ later) q
+laid_over-put : (records : Key → Rec) (write : Key × Rec) (later : Pairs) → IsBelow write.0 later → (q : Key)
+    → laid_over (put records write.0 write.1) later q ≡ laid_over records (write ∷ later) q
 laid_over-put records write later below q = by (key_eq q write.0) refl
   where
     by : (same : Bool) → key_eq q write.0 ≡ same → laid_over (put records write.0 write.1) later q ≡ laid_over records (write ∷ later) q
@@ -66,9 +69,11 @@ pub ascend_ordered : (shape : Shape) (writes : Pairs) → Ascend shape None writ
 ascend_ordered shape [] ascend = tt
 ascend_ordered shape (write ∷ later) ascend = ascend_above shape write.0 later ascend.1
 
-ascend_shipped : (shape : Shape) (last : Option Key) (writes : Pairs) (i : ℕ) (write : Key × Rec) → Ascend shape last writes → slice_get writes i ≡ Some write → is_shipped shape write.0 ≡ true
+ascend_shipped : (shape : Shape) (last : Option Key) (writes : Pairs) (i : ℕ) (write : Key × Rec) → Ascend shape last writes → slice_get writes i ≡ Some write
+    → is_shipped shape write.0 ≡ true
 ascend_shipped shape last [] i write ascend got = let e = got in cc
-ascend_shipped shape last (first ∷ later) zero write ascend got = let e : first ≡ write = some_same first write got in ap (λ (w : Key × Rec). is_shipped shape w.0) (sym e) ∙ ascend.0.shipped
+ascend_shipped shape last (first ∷ later) zero write ascend got = let e : first ≡ write = some_same first write got in
+    ap (λ (w : Key × Rec). is_shipped shape w.0) (sym e) ∙ ascend.0.shipped
   where
     some_same : {X : Type 0} (x y : X) → let one : Option X = Some x in one ≡ Some y → x ≡ y
     some_same x y e = cc
@@ -84,12 +89,14 @@ slice_get-writes_in bytes place (suc n) (suc i) lt =
     slice_get-writes_in bytes (place + 69) n i (omega arith) ∙ ap (λ (p : ℕ). Some (write_in bytes p)) there
 
 -- the key of each is one that a store can have
-pub write_key : (shape : Shape) (bytes : List ℕ) (i : ℕ) → is_allowed shape ≡ true → IsShipment shape bytes → i < count_of bytes → IsKey (write_in bytes (10 + 69 * i)).0
+pub write_key : (shape : Shape) (bytes : List ℕ) (i : ℕ) → is_allowed shape ≡ true → IsShipment shape bytes → i < count_of bytes
+    → IsKey (write_in bytes (10 + 69 * i)).0
 write_key shape bytes i allowed is lt =
     shipped_key shape (write_in bytes (10 + 69 * i)).0 allowed (ascend_shipped shape None (writes_of bytes) i (write_in bytes (10 + 69 * i)) is.ascend (slice_get-writes_in bytes 10 (count_of bytes) i lt))
 
 -- one record more
-pub put_all-more : (records now next : Key → Rec) (bytes : List ℕ) (i : ℕ) (key : Key) (rec : Rec) → i < count_of bytes → now ≡ put_all records (take i (writes_of bytes)) → let write : Key × Rec = (key, rec) in write ≡ write_in bytes (10 + 69 * i) → next ≡ put now key rec
+pub put_all-more : (records now next : Key → Rec) (bytes : List ℕ) (i : ℕ) (key : Key) (rec : Rec) → i < count_of bytes
+    → now ≡ put_all records (take i (writes_of bytes)) → let write : Key × Rec = (key, rec) in write ≡ write_in bytes (10 + 69 * i) → next ≡ put now key rec
     → next ≡ put_all records (take (i + 1) (writes_of bytes))
 put_all-more records now next bytes i key rec lt before is put_is =
     let write = write_in bytes (10 + 69 * i) in
@@ -101,7 +108,8 @@ put_all-more records now next bytes i key rec lt before is put_is =
     ∙ put_all-append records (take i (writes_of bytes)) write)
 
 -- all of them, and the number
-pub put_all-taken : (shape : Shape) (records now next : Key → Rec) (bytes : List ℕ) (i : ℕ) (rec : Rec) → IsShipment shape bytes → i ≡ count_of bytes → now ≡ put_all records (take i (writes_of bytes)) → rec ≡ number_record (number_of bytes) → next ≡ put now taken_key rec
+pub put_all-taken : (shape : Shape) (records now next : Key → Rec) (bytes : List ℕ) (i : ℕ) (rec : Rec) → IsShipment shape bytes → i ≡ count_of bytes
+    → now ≡ put_all records (take i (writes_of bytes)) → rec ≡ number_record (number_of bytes) → next ≡ put now taken_key rec
     → next ≡ taken records bytes
 put_all-taken shape records now next bytes i rec is all before number put_is =
     let long : length (writes_of bytes) ≡ count_of bytes = length-writes_in bytes 10 (count_of bytes) in

@@ -1,5 +1,7 @@
 -- Lists that begin with the same bytes, and what of a shipment they tell.
-use Rattle.std.proofs.Common.{◌≡◌, ◌∙◌, ◌↔◌, ap, sym, subst, refl, ℕ, zero, suc, ◌+◌, ◌*◌, ◌-◌, ◌^◌, ◌<◌, ◌≤◌, List, ◌∷◌, ◌++◌, Option, None, Some, length, take, get_or, arith, length-append, length-take-le, get_or-take, pow-suc}
+use Rattle.std.proofs.Common.{◌≡◌, ◌∙◌, ◌↔◌, ap, sym, subst, refl, ℕ, zero, suc, ◌+◌, ◌*◌, ◌-◌, ◌^◌, ◌<◌, ◌≤◌, List}
+use Rattle.std.proofs.Common.{◌∷◌, ◌++◌, Option, None, Some, length, take, get_or, arith, length-append, length-take-le}
+use Rattle.std.proofs.Common.{get_or-take, pow-suc}
 use lib.ListN.{get_or-append}
 use Rattle.byteorder.specs.Endian.{little_from}
 use Rattle.rec_bytes.specs.declared.key.Key.{Key}
@@ -80,7 +82,8 @@ decides_first shape bytes =
     let all : count_of bytes - 0 ≡ count_of bytes = omega arith in
     (λ a. subst (λ (n : ℕ). Ascend shape None (writes_in bytes 10 n)) all a, λ a. subst (λ (n : ℕ). Ascend shape None (writes_in bytes 10 n)) (sym all) a)
 
-pub decides_more : (shape : Shape) (bytes : List ℕ) (last : Option Key) (index : ℕ) (key : Key) → index < count_of bytes → key ≡ key_at bytes (10 + 69 * index) → IsNext shape last key → Decides shape bytes last index → Decides shape bytes (Some key) (index + 1)
+pub decides_more : (shape : Shape) (bytes : List ℕ) (last : Option Key) (index : ℕ) (key : Key) → index < count_of bytes → key ≡ key_at bytes (10 + 69 * index)
+    → IsNext shape last key → Decides shape bytes last index → Decides shape bytes (Some key) (index + 1)
 decides_more shape bytes last index key lt is next decides =
     let later = writes_in bytes (10 + 69 * (index + 1)) (count_of bytes - (index + 1)) in
     let first = writes_in-first bytes index (count_of bytes) lt in (
@@ -89,11 +92,14 @@ decides_more shape bytes last index key lt is next decides =
     )
 
 -- the next record of a shipment, and those after it
-pub decided_next : (shape : Shape) (bytes : List ℕ) (last : Option Key) (index : ℕ) → index < count_of bytes → Decides shape bytes last index → IsShipment shape bytes
-    → IsNext shape last (key_at bytes (10 + 69 * index)) × Ascend shape (Some (key_at bytes (10 + 69 * index))) (writes_in bytes (10 + 69 * (index + 1)) (count_of bytes - (index + 1)))
+pub decided_next : (shape : Shape) (bytes : List ℕ) (last : Option Key) (index : ℕ) → index < count_of bytes → Decides shape bytes last index
+    → IsShipment shape bytes
+    → IsNext shape last (key_at bytes (10 + 69 * index)) × Ascend shape (Some (key_at bytes (10 + 69 * index)))
+    (writes_in bytes (10 + 69 * (index + 1)) (count_of bytes - (index + 1)))
 decided_next shape bytes last index lt decides is = subst (Ascend shape last) (writes_in-first bytes index (count_of bytes) lt) (decides.1 is.ascend)
 
-pub is_shipment : (shape : Shape) (bytes : List ℕ) (last : Option Key) (index : ℕ) → count_of bytes ≤ 2047 → index ≡ count_of bytes → length bytes ≡ 10 + 69 * count_of bytes → Decides shape bytes last index → IsShipment shape bytes
+pub is_shipment : (shape : Shape) (bytes : List ℕ) (last : Option Key) (index : ℕ) → count_of bytes ≤ 2047 → index ≡ count_of bytes
+    → length bytes ≡ 10 + 69 * count_of bytes → Decides shape bytes last index → IsShipment shape bytes
 is_shipment shape bytes last index few all whole decides =
     let rest : count_of bytes - index ≡ 0 = omega arith in
     record { few = few; whole = whole; ascend = decides.0 (subst (λ (n : ℕ). Ascend shape last (writes_in bytes (10 + 69 * index) n)) (sym rest) tt) }

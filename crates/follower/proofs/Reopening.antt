@@ -30,10 +30,13 @@ use Rattle.follower.proofs.StoreRecords.{stored-read}
 pub own-again : {D : Type 0} {g : Ghosts D} (s t : Store D g) → t.base.own ≡ s.base.own → length s.base.own.pairs ≡ 0 → t.base.own.pairs ≡ []
 own-again s t same none = ap (λ (held : Held). held.pairs) same ∙ nil_from_length s.base.own.pairs none
 
-module _ {D : Type 0} (g : Ghosts D) (counts : CountsNow g) (s t u : Store D g) (old_have : ℕ) (old_live : Bool) (same : SameStore s.base t.base) (reads : OnlyReadsBase t.base u.base)
+module _ {D : Type 0} (g : Ghosts D) (counts : CountsNow g) (s t u : Store D g) (old_have : ℕ) (old_live : Bool) (same : SameStore s.base t.base)
+    (reads : OnlyReadsBase t.base u.base)
     (crash : g.tells_reads → g.tells_images → (space : Key → Rec) → Redoes (content s) space → AtEachMoment g s.base.disk.now t.base.disk.now (λ left. g.may_leave s.base.disk.now left ⊎ Redoes left space))
-    (read : g.tells_reads → (space : Key → Rec) → Redoes (content s) space → Redoes (content t) space) (clean : g.tells_reads → content s log_file 0 ≢ open_byte → OnlyReads g s.base.disk.now t.base.disk.now)
-    (careful : IsCareful g s.base.disk.now t.base.disk.now) (later : g.faults s.base.disk.now ≤ g.faults t.base.disk.now) (more : g.faults t.base.disk.now ≤ g.faults u.base.disk.now) where
+    (read : g.tells_reads → (space : Key → Rec) → Redoes (content s) space → Redoes (content t) space)
+    (clean : g.tells_reads → content s log_file 0 ≢ open_byte → OnlyReads g s.base.disk.now t.base.disk.now)
+    (careful : IsCareful g s.base.disk.now t.base.disk.now) (later : g.faults s.base.disk.now ≤ g.faults t.base.disk.now)
+    (more : g.faults t.base.disk.now ≤ g.faults u.base.disk.now) where
   -- files that are no store are left as they were by calls that only read too
   careful-read : IsCareful g s.base.disk.now u.base.disk.now
   careful-read told = ⊎_elim (λ only. inl (only_reads_on g s.base.disk.now t.base.disk.now u.base.disk.now only reads.disk)) (λ is. inr is) (careful told)
@@ -54,12 +57,14 @@ module _ {D : Type 0} (g : Ghosts D) (counts : CountsNow g) (s t u : Store D g) 
       store = recovered.store;
       newest = λ told old. recovered.newest told (subst IsOld (committed-read t.base u.base reads) old);
       have = number;
-      stored = stored-read g t.base.disk.now u.base.disk.now (λ left. Redoes left (committed u)) reads.disk (subst (λ (records : Key → Rec). IsOnDisk g t.base.disk.now (λ left. Redoes left records)) (sym (committed-read t.base u.base reads)) recovered.stored);
+      stored = stored-read g t.base.disk.now u.base.disk.now (λ left. Redoes left (committed u)) reads.disk
+          (subst (λ (records : Key → Rec). IsOnDisk g t.base.disk.now (λ left. Redoes left records)) (sym (committed-read t.base u.base reads)) recovered.stored);
       no_entry = λ told. HasEntries-read [] 0 (content t) (content u) (recovered.no_entry told) (reads.disk.keeps log_file);
       settled = λ told images. settled_read g t.base.disk.now u.base.disk.now reads.disk images (recovered.settled told images);
       live = refl;
     };
-    crash = λ told images space redoes. at_each_moment_read g s.base.disk.now t.base.disk.now u.base.disk.now _ counts images (crash told images space redoes) reads.disk;
+    crash = λ told images space redoes. at_each_moment_read g s.base.disk.now t.base.disk.now u.base.disk.now _ counts images (crash told images space redoes)
+        reads.disk;
     read = read-read;
     careful = careful-read;
     clean = clean-read;
@@ -77,7 +82,8 @@ module _ {D : Type 0} (g : Ghosts D) (counts : CountsNow g) (s t u : Store D g) 
       cause = λ e. omega (arith, later, rose);
       live = refl;
     };
-    crash = λ told images space redoes. at_each_moment_read g s.base.disk.now t.base.disk.now u.base.disk.now _ counts images (crash told images space redoes) reads.disk;
+    crash = λ told images space redoes. at_each_moment_read g s.base.disk.now t.base.disk.now u.base.disk.now _ counts images (crash told images space redoes)
+        reads.disk;
     read = read-read;
     careful = careful-read;
     clean = clean-read;

@@ -1,5 +1,8 @@
 -- Which keys may stand in a slot, and which bytes begin one.
-use Rattle.std.proofs.Common.{◌≡◌, ◌≢◌, ◌∙◌, ◌⊎◌, ⊎_elim, inl, inr, ap, sym, subst, refl, ℕ, zero, suc, ◌+◌, ◌-◌, ◌*◌, ◌/◌, ◌%◌, ◌^◌, ◌<◌, ◌≤◌, Bool, true, false, cond, not, ◌&&◌, nat_eq, nat_lt, nat_cmp, Ordering, Less, Equal, Greater, Option, None, Some, arith, div-add-mod', mod-lt, mul-le-mul_left, mul-le-mul_right, mul_comm, pow-suc, List, get_or}
+use Rattle.std.proofs.Common.{◌≡◌, ◌≢◌, ◌∙◌, ◌⊎◌, ⊎_elim, inl, inr, ap, sym, subst, refl, ℕ, zero, suc, ◌+◌, ◌-◌, ◌*◌}
+use Rattle.std.proofs.Common.{◌/◌, ◌%◌, ◌^◌, ◌<◌, ◌≤◌, Bool, true, false, cond, not, ◌&&◌, nat_eq, nat_lt, nat_cmp}
+use Rattle.std.proofs.Common.{Ordering, Less, Equal, Greater, Option, None, Some, arith, div-add-mod', mod-lt}
+use Rattle.std.proofs.Common.{mul-le-mul_left, mul-le-mul_right, mul_comm, pow-suc, List, get_or}
 use Rattle.std.proofs.lemmas.Bool.{cases_lt}
 use Rattle.std.proofs.lemmas.Bool.Decides.{nat_tests}
 use Rattle.std.specs.Ordering.{ordering_then}
@@ -122,7 +125,8 @@ keys_in-above shape file key gt = by (nat_lt key.file file) (nat_eq key.file fil
     by false true p q = absurd (cc)
 
 -- after a smaller id there come no fewer
-keys_in-falls : (shape : Shape) (at file i j : ℕ) → i ≤ j → keys_in_after shape at (record { file = file; id = j }) ≤ keys_in_after shape at (record { file = file; id = i })
+keys_in-falls : (shape : Shape) (at file i j : ℕ) → i ≤ j → keys_in_after shape at (record { file = file; id = j }) ≤ keys_in_after shape at
+    (record { file = file; id = i })
 keys_in-falls shape at file i j le = by (nat_lt file at) (nat_eq file at) (room_of shape at)
   where
     by : (a b : Bool) (n : ℕ) → cond a n (cond b (n - (j + 1)) 0) ≤ cond a n (cond b (n - (i + 1)) 0)
@@ -144,7 +148,8 @@ least_above-above (Some last) file id above =
     by true le = le
     by false le = omega arith
 
-above_least_above : (last : Option Key) (file id most : ℕ) → IsAbove last (record { file = file; id = most }) → least_above last file ≤ id → IsAbove last (record { file = file; id = id })
+above_least_above : (last : Option Key) (file id most : ℕ) → IsAbove last (record { file = file; id = most }) → least_above last file ≤ id
+    → IsAbove last (record { file = file; id = id })
 above_least_above None file id most above le = tt
 above_least_above (Some last) file id most above le =
     precedes_less last (record { file = file; id = id })
@@ -167,7 +172,8 @@ module _ (last : Option Key) (file : ℕ) where
   pub least_next-free : is_kept_back (record { file = file; id = least_next last file }) ≡ false
   least_next-free = by (is_kept_back (record { file = file; id = least_above last file })) refl
     where
-      by : (b : Bool) → is_kept_back (record { file = file; id = least_above last file }) ≡ b → is_kept_back (record { file = file; id = cond b (least_above last file + 1) (least_above last file) }) ≡ false
+      by : (b : Bool) → is_kept_back (record { file = file; id = least_above last file }) ≡ b
+          → is_kept_back (record { file = file; id = cond b (least_above last file + 1) (least_above last file) }) ≡ false
       by false e = e
       by true e = next (least_above last file) e
         where
@@ -181,7 +187,8 @@ module _ (last : Option Key) (file : ℕ) where
           ))
 
   -- no id below it may come next
-  pub least_next-least : (id : ℕ) → is_kept_back (record { file = file; id = id }) ≡ false → IsAbove last (record { file = file; id = id }) → least_next last file ≤ id
+  pub least_next-least : (id : ℕ) → is_kept_back (record { file = file; id = id }) ≡ false → IsAbove last (record { file = file; id = id })
+      → least_next last file ≤ id
   least_next-least id free above = by (is_kept_back (record { file = file; id = least_above last file })) refl
     where
       le : least_above last file ≤ id
@@ -198,7 +205,8 @@ module _ (last : Option Key) (file : ℕ) where
 
 -- ---- the least id with a low part
 
-pub is_least_from : (first low power gap id : ℕ) → IsPower power → low < power → gap ≡ first - low → id ≡ low + (gap + (power - 1)) / power * power → IsLeastFrom first low power id
+pub is_least_from : (first low power gap id : ℕ) → IsPower power → low < power → gap ≡ first - low → id ≡ low + (gap + (power - 1)) / power * power
+    → IsLeastFrom first low power id
 is_least_from first low power gap id is_power below gap_is id_is = record {
   is = (high, id_is ∙ ap (λ (n : ℕ). low + n) (mul_comm high power));
   from = omega (arith, parts, less);
@@ -230,13 +238,16 @@ is_least_from first low power gap id is_power below gap_is id_is = record {
         (cases_lt other ((gap + (power - 1)) / power))
 
 -- where any key with this low part may stand in the slot, that of the least id may
-pub least_stands : (slot : Slot) (file low power id : ℕ) → IsPower power → low < power → IsLeastFrom (least_next slot.last file) low power id → BeginsIn slot file low power → MayStand slot (record { file = file; id = id })
+pub least_stands : (slot : Slot) (file low power id : ℕ) → IsPower power → low < power → IsLeastFrom (least_next slot.last file) low power id
+    → BeginsIn slot file low power → MayStand slot (record { file = file; id = id })
 least_stands slot file low power id is_power below least (high, stands) = record {
   next = record {
     shipped = shipped_by slot.shape (record { file = file; id = id }) room free;
-    above = above_least_above slot.last file id (low + power * high) stands.next.above (let one = least_above-first_in slot.last file in let two = least.from in omega arith);
+    above = above_least_above slot.last file id (low + power * high) stands.next.above
+        (let one = least_above-first_in slot.last file in let two = least.from in omega arith);
   };
-  left = let names = keys_in-falls slot.shape 6 file id (low + power * high) le in let index = keys_in-falls slot.shape 8 file id (low + power * high) le in let left = stands.left in omega arith;
+  left = let names = keys_in-falls slot.shape 6 file id (low + power * high) le in let index = keys_in-falls slot.shape 8 file id (low + power * high) le in
+      let left = stands.left in omega arith;
 }
   where
     most_free : is_kept_back (record { file = file; id = low + power * high }) ≡ false
@@ -276,7 +287,8 @@ least_stands slot file low power id is_power below least (high, stands) = record
       where
         none : (s h : ℕ) → 256 ≤ s → s * h < 9 → s * h ≡ 0
         none s zero wide lt = omega arith
-        none s (suc h) wide lt = let more : 1 * s ≤ suc h * s = mul-le-mul_right s (omega arith) in let turned : s * suc h ≡ suc h * s = mul_comm s (suc h) in absurd (omega (arith, more, turned))
+        none s (suc h) wide lt = let more : 1 * s ≤ suc h * s = mul-le-mul_right s (omega arith) in let turned : s * suc h ≡ suc h * s = mul_comm s (suc h) in
+            absurd (omega (arith, more, turned))
 
     free : is_kept_back (record { file = file; id = id }) ≡ false
     free = three_ways file 0 (is_kept_back (record { file = file; id = id }) ≡ false) (λ lt. absurd (omega arith)) in_meta
@@ -289,10 +301,13 @@ stands_small slot file id allowed stands =
     let most = room_of-most slot.shape file allowed in
     omega arith
 
-pub stands_begins : (slot : Slot) (file low power id least : ℕ) → IsLeastFrom least low power id → MayStand slot (record { file = file; id = id }) → BeginsIn slot file low power
-stands_begins slot file low power id least is stands = let parts = is.is in (parts.0, subst (λ (n : ℕ). MayStand slot (record { file = file; id = n })) parts.1 stands)
+pub stands_begins : (slot : Slot) (file low power id least : ℕ) → IsLeastFrom least low power id → MayStand slot (record { file = file; id = id })
+    → BeginsIn slot file low power
+stands_begins slot file low power id least is stands = let parts = is.is in
+    (parts.0, subst (λ (n : ℕ). MayStand slot (record { file = file; id = n })) parts.1 stands)
 
-pub none_begins : (slot : Slot) (file low power id : ℕ) → is_allowed slot.shape ≡ true → IsPower power → low < power → IsLeastFrom (least_next slot.last file) low power id → 2 ^ 32 ≤ id → ¬ BeginsIn slot file low power
+pub none_begins : (slot : Slot) (file low power id : ℕ) → is_allowed slot.shape ≡ true → IsPower power → low < power
+    → IsLeastFrom (least_next slot.last file) low power id → 2 ^ 32 ≤ id → ¬ BeginsIn slot file low power
 none_begins slot file low power id allowed is_power below least great begins =
     let small = stands_small slot file id allowed (least_stands slot file low power id is_power below least begins) in omega (arith, small, great)
 
@@ -311,7 +326,8 @@ pub record IsNextByte (bytes : List ℕ) (at next power : ℕ) : Type 0 where
   pub product : power * get_or bytes at 0 ≤ power * 255
   pub power_is : power * 256 ≡ 256 ^ next
 
-pub is_next_byte : (bytes : List ℕ) (at known next power : ℕ) → known < 4 → next ≡ suc known → power ≡ 256 ^ known → ((k : ℕ) → get_or bytes k 0 < 256) → IsNextByte bytes at next power
+pub is_next_byte : (bytes : List ℕ) (at known next power : ℕ) → known < 4 → next ≡ suc known → power ≡ 256 ^ known → ((k : ℕ) → get_or bytes k 0 < 256)
+    → IsNextByte bytes at next power
 is_next_byte bytes at known next power lt is power_is small = record {
   small = let most = pow_small known lt in omega (arith, most, power_is);
   product = let byte = small at in mul-le-mul_left power (omega arith);
@@ -321,7 +337,8 @@ is_next_byte bytes at known next power lt is power_is small = record {
 pub is_power_more : (bytes : List ℕ) (at next power : ℕ) → 0 < power → IsNextByte bytes at next power → IsPower (power * 256)
 is_power_more bytes at next power some is = let small = is.small in record { one_or_more = inr (omega arith); small = omega arith }
 
-pub low_more : (bytes : List ℕ) (place known next low power : ℕ) → next ≡ suc known → low ≡ little_from (place + 1) known bytes → power ≡ 256 ^ known → low + power * get_or bytes (place + 1 + known) 0 ≡ little_from (place + 1) next bytes
+pub low_more : (bytes : List ℕ) (place known next low power : ℕ) → next ≡ suc known → low ≡ little_from (place + 1) known bytes → power ≡ 256 ^ known
+    → low + power * get_or bytes (place + 1 + known) 0 ≡ little_from (place + 1) next bytes
 low_more bytes place known next low power is low_is power_is =
     let parts = little_from-parts bytes known 1 (place + 1) next (omega arith) in
     let byte : get_or bytes (place + 1 + known) 0 ≡ little_from (place + 1 + known) 1 bytes = omega arith in
@@ -330,16 +347,21 @@ low_more bytes place known next low power is low_is power_is =
     ∙ ap (λ (n : ℕ). little_from (place + 1) known bytes + 256 ^ known * n) byte ∙ sym parts
 
 -- the bytes of a key that are known
-pub begins_key : (slot : Slot) (bytes : List ℕ) (place known low power : ℕ) → low ≡ little_from (place + 1) known bytes → power ≡ 256 ^ known → BeginsIn slot (get_or bytes place 0) low power → BeginsKey slot bytes place (suc known)
+pub begins_key : (slot : Slot) (bytes : List ℕ) (place known low power : ℕ) → low ≡ little_from (place + 1) known bytes → power ≡ 256 ^ known
+    → BeginsIn slot (get_or bytes place 0) low power → BeginsKey slot bytes place (suc known)
 begins_key slot bytes place known low power low_is power_is begins =
-    subst (λ (l : ℕ). BeginsIn slot (get_or bytes place 0) l (256 ^ known)) low_is (subst (λ (s : ℕ). BeginsIn slot (get_or bytes place 0) low s) power_is begins)
+    subst (λ (l : ℕ). BeginsIn slot (get_or bytes place 0) l (256 ^ known)) low_is
+    (subst (λ (s : ℕ). BeginsIn slot (get_or bytes place 0) low s) power_is begins)
 
-pub key_begins_in : (slot : Slot) (bytes : List ℕ) (place known low power : ℕ) → low ≡ little_from (place + 1) known bytes → power ≡ 256 ^ known → BeginsKey slot bytes place (suc known) → BeginsIn slot (get_or bytes place 0) low power
+pub key_begins_in : (slot : Slot) (bytes : List ℕ) (place known low power : ℕ) → low ≡ little_from (place + 1) known bytes → power ≡ 256 ^ known
+    → BeginsKey slot bytes place (suc known) → BeginsIn slot (get_or bytes place 0) low power
 key_begins_in slot bytes place known low power low_is power_is begins =
-    subst (λ (s : ℕ). BeginsIn slot (get_or bytes place 0) low s) (sym power_is) (subst (λ (l : ℕ). BeginsIn slot (get_or bytes place 0) l (256 ^ known)) (sym low_is) begins)
+    subst (λ (s : ℕ). BeginsIn slot (get_or bytes place 0) low s) (sym power_is)
+    (subst (λ (l : ℕ). BeginsIn slot (get_or bytes place 0) l (256 ^ known)) (sym low_is) begins)
 
 -- the key is whole
-pub whole_stands : (slot : Slot) (file low power : ℕ) → is_allowed slot.shape ≡ true → power ≡ 2 ^ 32 → BeginsIn slot file low power → MayStand slot (record { file = file; id = low })
+pub whole_stands : (slot : Slot) (file low power : ℕ) → is_allowed slot.shape ≡ true → power ≡ 2 ^ 32 → BeginsIn slot file low power
+    → MayStand slot (record { file = file; id = low })
 whole_stands slot file low power allowed all (high, stands) =
     let few = stands_small slot file (low + power * high) allowed stands in
     let product : power * high ≡ 4294967296 * high = ap (λ (n : ℕ). n * high) all in
@@ -348,5 +370,6 @@ whole_stands slot file low power allowed all (high, stands) =
 
 pub whole_begins : (slot : Slot) (bytes : List ℕ) (place : ℕ) (key : Key) → key ≡ key_at bytes place → MayStand slot key → BeginsKey slot bytes place 5
 whole_begins slot bytes place key is stands =
-    let same : key_at bytes place ≡ record { file = get_or bytes place 0; id = little_from (place + 1) 4 bytes + 256 ^ 4 * 0 } = ap (λ (n : ℕ). record { file = get_or bytes place 0; id = n }) (omega arith) in
+    let same : key_at bytes place ≡ record { file = get_or bytes place 0; id = little_from (place + 1) 4 bytes + 256 ^ 4 * 0 } =
+    ap (λ (n : ℕ). record { file = get_or bytes place 0; id = n }) (omega arith) in
     (0, subst (MayStand slot) (is ∙ same) stands)

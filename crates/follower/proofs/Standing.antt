@@ -63,8 +63,10 @@ made_over-blank content shape sent blank =
     ap (λ (records : Key → Rec). laid_over records (creation_pairs shape)) blank.records ∙ sym (follower_records-none shape sent)
 
 -- it finds as many as the content has
-pub opens_as : (config : Config) (sent : List (List ℕ)) (content : Files) (j : ℕ) (found : Shape) (records : Key → Rec) → IsSent (shape_of config) sent → j ≤ length sent
-    → HoldsSent (shape_of config) sent j content → Opens content config found records → (records ≡ follower_records (shape_of config) sent j) × (found ≡ shape_of config)
+pub opens_as : (config : Config) (sent : List (List ℕ)) (content : Files) (j : ℕ) (found : Shape) (records : Key → Rec) → IsSent (shape_of config) sent
+    → j ≤ length sent
+    → HoldsSent (shape_of config) sent j content → Opens content config found records → (records ≡ follower_records (shape_of config) sent j)
+    × (found ≡ shape_of config)
 opens_as config sent content j found records is below (inl redoes) (inl new) =
     absurd (none_made content (shape_of config) new.0 (record { space = follower_records (shape_of config) sent j; redoes = redoes; made = follower_made (shape_of config) sent j is below }))
 opens_as config sent content j found records is below (inl redoes) (inr (before, was, store, suits, brought)) =
@@ -81,6 +83,7 @@ opens_as config sent content j found records is below (inr blank) (inr (before, 
     absurd (none_made content found blank.1.unmade (record { space = before; redoes = was; made = store }))
 
 -- what a stop leaves while an opening makes the store
-pub old_or_new_taken : (shape : Shape) (sent : List (List ℕ)) (content left : Files) → IsBlank content → IsOldOrNew content shape left → HoldsSent shape sent 0 left
+pub old_or_new_taken : (shape : Shape) (sent : List (List ℕ)) (content left : Files) → IsBlank content → IsOldOrNew content shape left
+    → HoldsSent shape sent 0 left
 old_or_new_taken shape sent content left blank (inl old) = inr (refl, record { unmade = old.0; records = old.1 ∙ blank.records })
 old_or_new_taken shape sent content left blank (inr new) = inl (subst (Redoes left) (made_over-blank content shape sent blank) new)

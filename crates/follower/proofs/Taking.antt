@@ -19,7 +19,8 @@ use Rattle.follower.specs.Shipment.{number_of, writes_of}
 use Rattle.follower.specs.Taken.{follower_records, laid_all, number_in, number_record, sender_records, taken}
 
 -- one shipment more
-laid_all-append : (records : Key → Rec) (sent : List (List ℕ)) (bytes : List ℕ) → laid_all records (sent ++ bytes ∷ []) ≡ laid_over (laid_all records sent) (writes_of bytes)
+laid_all-append : (records : Key → Rec) (sent : List (List ℕ)) (bytes : List ℕ)
+    → laid_all records (sent ++ bytes ∷ []) ≡ laid_over (laid_all records sent) (writes_of bytes)
 laid_all-append records [] bytes = refl
 laid_all-append records (first ∷ later) bytes = laid_all-append (laid_over records (writes_of first)) later bytes
 
@@ -33,7 +34,8 @@ sender_records-more shape sent j bytes got =
     ∙ laid_all-append (new_records shape) (take j sent) bytes
 
 -- a record set before others are laid over it doesn't count where it is set after them too
-put_over : (records : Key → Rec) (key : Key) (one other : Rec) (pairs : Pairs) (q : Key) → put (laid_over (put records key one) pairs) key other q ≡ put (laid_over records pairs) key other q
+put_over : (records : Key → Rec) (key : Key) (one other : Rec) (pairs : Pairs) (q : Key)
+    → put (laid_over (put records key one) pairs) key other q ≡ put (laid_over records pairs) key other q
 put_over records key one other pairs q = by_key (key_eq q key)
   where
     by_key : (same : Bool) → cond same other (held_at pairs q (cond same one (records q))) ≡ cond same other (held_at pairs q (records q))

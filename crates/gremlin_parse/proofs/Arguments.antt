@@ -13,7 +13,9 @@ use Rattle.gremlin_parse.proofs.Productions.{is_production}
 -- ---- productions
 
 -- An argument is a symbol, and ended where a blank or the last part is.
-one_is : (argument : Argument) (symbols : List Symbol) → is_production no_blanks symbols ≡ true → halts (class_of (symbol_of argument)) (no_blanks (class_of (symbol_of argument))) symbols ≡ true → is_production no_blanks (AnyGap ∷ symbol_of argument ∷ symbols) ≡ true
+one_is : (argument : Argument) (symbols : List Symbol) → is_production no_blanks symbols ≡ true
+    → halts (class_of (symbol_of argument)) (no_blanks (class_of (symbol_of argument))) symbols ≡ true
+    → is_production no_blanks (AnyGap ∷ symbol_of argument ∷ symbols) ≡ true
 one_is arguments.Element symbols is ends = rw (is, ends) refl
 one_is arguments.Direction symbols is ends = rw (is, ends) refl
 one_is arguments.Name symbols is ends = rw (is, ends) refl
@@ -21,7 +23,8 @@ one_is arguments.Number symbols is ends = rw (is, ends) refl
 one_is arguments.Value symbols is ends = rw (is, ends) refl
 
 -- what stands after an argument begins with a blank, or with what the last part may begin
-after_halts : (argument : Argument) (list : List Argument) → halts (class_of (symbol_of argument)) (no_blanks (class_of (symbol_of argument))) (spaced list) ≡ true
+after_halts : (argument : Argument) (list : List Argument) → halts (class_of (symbol_of argument)) (no_blanks (class_of (symbol_of argument)))
+    (spaced list) ≡ true
 after_halts arguments.Element [] = refl
 after_halts arguments.Element (next ∷ list) = refl
 after_halts arguments.Direction [] = refl
@@ -47,9 +50,12 @@ spaced_halts (argument ∷ list) = refl
 contents_begin : (list : List Argument) (all more : List Given) → length list ≤ length all → contents_in list (all ++ more) ≡ contents_in list all
 contents_begin [] all more few = refl
 contents_begin (argument ∷ list) [] more few = absurd (omega arith)
-contents_begin (argument ∷ list) (one ∷ all) more few = let later = contents_begin list all more (omega arith) in (λ i. (tt, (content_in argument one, later i)))
+contents_begin (argument ∷ list) (one ∷ all) more few = let later = contents_begin list all more (omega arith) in
+    (λ i. (tt, (content_in argument one, later i)))
 
-argument_before : (argument : Argument) (list : List Argument) (one : Given) (others : Givens) (bytes at after rest : List ℕ) → length (argument ∷ list) ≤ 4 → Reads AnyGap tt bytes at → ReadsArgument argument one at after → ReadsAll (spaced list) (contents_in list (listed others)) after rest → ReadsAll (spaced (argument ∷ list)) (contents_in (argument ∷ list) (one ∷ others.first ∷ others.second ∷ others.third ∷ [])) bytes rest
+argument_before : (argument : Argument) (list : List Argument) (one : Given) (others : Givens) (bytes at after rest : List ℕ) → length (argument ∷ list) ≤ 4
+    → Reads AnyGap tt bytes at → ReadsArgument argument one at after → ReadsAll (spaced list) (contents_in list (listed others)) after rest
+    → ReadsAll (spaced (argument ∷ list)) (contents_in (argument ∷ list) (one ∷ others.first ∷ others.second ∷ others.third ∷ [])) bytes rest
 argument_before argument list one others bytes at after rest few gap reads later =
     let same = contents_begin list (others.first ∷ others.second ∷ others.third ∷ []) (others.fourth ∷ []) (omega arith) in
     (at, gap, (after, reads, subst (λ contents. ReadsAll (spaced list) contents after rest) same later))
@@ -59,8 +65,13 @@ drop_one argument [] = refl
 drop_one argument (next ∷ list) = refl
 
 -- the first argument of some, and the others
-pub first_read : (list : List Argument) (one : Given) (others : Givens) (bytes at after rest : List ℕ) → 1 ≤ length list → length list ≤ 4 → Reads AnyGap tt bytes at → ReadsArgument (get_or list 0 arguments.Element) one at after → ReadsAll (spaced (take (length list - 1) (drop 1 list))) (contents_in (take (length list - 1) (drop 1 list)) (listed others)) after rest → ReadsAll (spaced list) (contents_in list (one ∷ others.first ∷ others.second ∷ others.third ∷ [])) bytes rest
+pub first_read : (list : List Argument) (one : Given) (others : Givens) (bytes at after rest : List ℕ) → 1 ≤ length list → length list ≤ 4
+    → Reads AnyGap tt bytes at → ReadsArgument (get_or list 0 arguments.Element) one at after
+    → ReadsAll (spaced (take (length list - 1) (drop 1 list))) (contents_in (take (length list - 1) (drop 1 list)) (listed others)) after rest
+    → ReadsAll (spaced list) (contents_in list (one ∷ others.first ∷ others.second ∷ others.third ∷ [])) bytes rest
 first_read [] one others bytes at after rest some few gap reads later = absurd (omega arith)
 first_read (argument ∷ list) one others bytes at after rest some few gap reads later =
-    let tail : take (length (argument ∷ list) - 1) (drop 1 (argument ∷ list)) ≡ list = ap (take (length (argument ∷ list) - 1)) (drop_one argument list) ∙ take_all (length (argument ∷ list) - 1) list (omega arith) in
-    argument_before argument list one others bytes at after rest few gap reads (subst (λ l. ReadsAll (spaced l) (contents_in l (listed others)) after rest) tail later)
+    let tail : take (length (argument ∷ list) - 1) (drop 1 (argument ∷ list)) ≡ list = ap (take (length (argument ∷ list) - 1)) (drop_one argument list)
+    ∙ take_all (length (argument ∷ list) - 1) list (omega arith) in
+    argument_before argument list one others bytes at after rest few gap reads
+    (subst (λ l. ReadsAll (spaced l) (contents_in l (listed others)) after rest) tail later)

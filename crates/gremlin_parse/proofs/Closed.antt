@@ -15,7 +15,8 @@ one_byte b (r ∷ s ∷ read) next more is = cc
 named : (name bytes rest : List ℕ) → (takes : Takes AnyName name bytes rest) → (bytes ≡ name ++ rest) × IsName name
 named name bytes rest takes = (takes.bytes_are ∙ ap (λ p. p ++ rest) takes.is.0, takes.is.1)
 
-pub closed_takes : (double : Bool) (name bytes at_quote rest : List ℕ) → Takes AnyName name bytes at_quote → Reads (Sign (quote_byte double ∷ [])) tt at_quote rest → Takes (AnyClosed double) name bytes rest
+pub closed_takes : (double : Bool) (name bytes at_quote rest : List ℕ) → Takes AnyName name bytes at_quote
+    → Reads (Sign (quote_byte double ∷ [])) tt at_quote rest → Takes (AnyClosed double) name bytes rest
 closed_takes double name bytes at_quote rest takes sign =
     let two = named name bytes at_quote takes in
     let quote : at_quote ≡ quote_byte double ∷ rest = sign.takes.bytes_are ∙ ap (λ p. p ++ rest) sign.takes.is in
@@ -26,7 +27,8 @@ closed_takes double name bytes at_quote rest takes sign =
       ends = tt;
     }
 
-pub leaves_closed : (double : Bool) (name bytes at_quote : List ℕ) (stop : Stop) → Takes AnyName name bytes at_quote → Leaves (Sign (quote_byte double ∷ [])) at_quote stop → Leaves (AnyClosed double) bytes stop
+pub leaves_closed : (double : Bool) (name bytes at_quote : List ℕ) (stop : Stop) → Takes AnyName name bytes at_quote
+    → Leaves (Sign (quote_byte double ∷ [])) at_quote stop → Leaves (AnyClosed double) bytes stop
 leaves_closed double name bytes at_quote stops.Memory takes leaves = absurd leaves
 leaves_closed double name bytes at_quote (stops.Syntax left) takes leaves =
     let two = named name bytes at_quote takes in

@@ -11,8 +11,13 @@ use Rattle.plain_graph.specs.declared.command.Target.TheVariants as targets
 use Rattle.plain_graph.specs.declared.direction.Direction.{Direction}
 use Rattle.plain_graph.specs.declared.direction.Direction.TheVariants as directions
 use Rattle.plain_graph.specs.declared.pairs.Pair.{Pair}
-use Rattle.gremlin_parse.specs.Commands.{Asks, IsAfter, IsCommand, IsLast, IsLastOf, IsPlain, IsTail, KeepsBounds, KeepsTail, LacksMemory, LastContent, LastOf, NeedsNoMemory, SpellsAfter, command_of, element_of, head_words, last_part, parts_of, plain_command, production, word_of}
-use Rattle.gremlin_parse.specs.Grammar.{most_id, Part, Blanks, Gap, Exactly, Name, Number, Written, IsPart, IsMadeOf, target_parts, between_parts, direction_name, pairs_to_end, name_to_end, IsBounded}
+use Rattle.gremlin_parse.specs.Commands.{Asks, IsAfter, IsCommand, IsLast, IsLastOf, IsPlain, IsTail, KeepsBounds}
+use Rattle.gremlin_parse.specs.Commands.{KeepsTail, LacksMemory, LastContent, LastOf, NeedsNoMemory, SpellsAfter}
+use Rattle.gremlin_parse.specs.Commands.{command_of, element_of, head_words, last_part, parts_of, plain_command}
+use Rattle.gremlin_parse.specs.Commands.{production, word_of}
+use Rattle.gremlin_parse.specs.Grammar.{most_id, Part, Blanks, Gap, Exactly, Name, Number, Written, IsPart, IsMadeOf}
+use Rattle.gremlin_parse.specs.Grammar.{target_parts, between_parts, direction_name, pairs_to_end, name_to_end}
+use Rattle.gremlin_parse.specs.Grammar.{IsBounded}
 use Rattle.gremlin_parse.specs.Queries.{IsKeptQuery}
 use Rattle.gremlin_parse.specs.Lines.{IsKeptTail, Spells}
 use Rattle.gremlin_parse.specs.Reading.{Then}
@@ -29,7 +34,8 @@ use Rattle.gremlin_parse.proofs.Runs.{Halts}
 use Rattle.gremlin_parse.proofs.Tables.{lookup_in, ThenWord-after, words_agree}
 use Rattle.gremlin_parse.proofs.Symbols.{NameByte, no_blanks}
 use Rattle.gremlin_parse.proofs.Productions.{HaltsAt, follows_halts, read_follows}
-use Rattle.gremlin_parse.proofs.Spelling.{AllowsAll, parts_with, ThenParts, then_parts_map, then_parts_choice, follows_of_parts, parts_of_follows, follows_agree, read_allowed, read_bounded}
+use Rattle.gremlin_parse.proofs.Spelling.{AllowsAll, parts_with, ThenParts, then_parts_map, then_parts_choice}
+use Rattle.gremlin_parse.proofs.Spelling.{follows_of_parts, parts_of_follows, follows_agree, read_allowed, read_bounded}
 use Rattle.gremlin_parse.proofs.Lasts.{one_last}
 use Rattle.gremlin_parse.proofs.QueryLaws.{IsAsked, query_is_asked, query_of_kept}
 use Rattle.gremlin_parse.proofs.Forms.{query_form}
@@ -41,7 +47,8 @@ last_of_halts : (command : Command) (head : Head) (contents : Contents (producti
 last_of_halts command head contents = λ class halts rest (last, is, made). (last_closes head).ends class halts rest (last, made)
 
 pub spells_halts : (command : Command) (head : Head) → Halts is_name_byte (SpellsAfter command head)
-spells_halts command head = follows_halts NameByte (no_blanks NameByte) (production head) (production_halts head) (IsLastOf command head) (λ contents. last_of_halts command head contents NameByte)
+spells_halts command head = follows_halts NameByte (no_blanks NameByte) (production head) (production_halts head) (IsLastOf command head)
+    (λ contents. last_of_halts command head contents NameByte)
 
 -- the contents of a spelled command
 pub record Spelled (command : Command) (head : Head) (bytes : List ℕ) : Type 0 where
@@ -53,7 +60,8 @@ pub record Spelled (command : Command) (head : Head) (bytes : List ℕ) : Type 0
 
 pub spelled_of_contents : (command : Command) (head : Head) (bytes : List ℕ) → Spelled command head bytes → SpellsAfter command head bytes
 spelled_of_contents command head bytes spelled =
-    follows_of_parts (production head) spelled.contents (IsLastOf command head) spelled.allowed bytes (then_parts_map (LastOf head spelled.last) (IsLastOf command head spelled.contents) (λ rest made. (spelled.last, spelled.is, made)) (parts_with (production head) spelled.contents) bytes spelled.made)
+    follows_of_parts (production head) spelled.contents (IsLastOf command head) spelled.allowed bytes
+    (then_parts_map (LastOf head spelled.last) (IsLastOf command head spelled.contents) (λ rest made. (spelled.last, spelled.is, made)) (parts_with (production head) spelled.contents) bytes spelled.made)
 
 pub contents_of_spelled : (command : Command) (head : Head) (bytes : List ℕ) → SpellsAfter command head bytes → Spelled command head bytes
 contents_of_spelled command head bytes spells =
@@ -61,7 +69,8 @@ contents_of_spelled command head bytes spells =
     let One : Type 0 = (last : LastContent head) × (command ≡ command_of head found.contents last) in
     let Made : One → List ℕ → Type 0 = λ one rest. LastOf head one.0 rest in
     let Both : List ℕ → Type 0 = λ rest. (one : One) × Made one rest in
-    let chosen = then_parts_choice One Made (parts_with (production head) found.contents) bytes (then_parts_map (IsLastOf command head found.contents) Both (λ rest (last, is, made). ((last, is), made)) (parts_with (production head) found.contents) bytes found.is) in
+    let chosen = then_parts_choice One Made (parts_with (production head) found.contents) bytes
+    (then_parts_map (IsLastOf command head found.contents) Both (λ rest (last, is, made). ((last, is), made)) (parts_with (production head) found.contents) bytes found.is) in
     record { contents = found.contents; allowed = found.allowed; last = chosen.0.0; is = chosen.0.1; made = chosen.1 }
 
 -- after the word, some command is one
@@ -76,20 +85,25 @@ some_spelled head bytes is =
 pub spelled_is_some : (command : Command) (head : Head) (bytes : List ℕ) → SpellsAfter command head bytes → IsAfter head bytes
 spelled_is_some command head bytes spells =
     let spelled = contents_of_spelled command head bytes spells in
-    follows_of_parts (production head) spelled.contents (λ _. IsLast head) spelled.allowed bytes (then_parts_map (LastOf head spelled.last) (IsLast head) (λ rest made. (spelled.last, made)) (parts_with (production head) spelled.contents) bytes spelled.made)
+    follows_of_parts (production head) spelled.contents (λ _. IsLast head) spelled.allowed bytes
+    (then_parts_map (LastOf head spelled.last) (IsLast head) (λ rest made. (spelled.last, made)) (parts_with (production head) spelled.contents) bytes spelled.made)
 
 -- the command of the word that stands there
-pub tail_of_word : (command : Command) (head : Head) (bytes rest : List ℕ) → TakesWord head_words bytes head rest → SpellsAfter command head rest → IsTail command bytes
+pub tail_of_word : (command : Command) (head : Head) (bytes rest : List ℕ) → TakesWord head_words bytes head rest → SpellsAfter command head rest
+    → IsTail command bytes
 tail_of_word command head bytes rest (run, cut, is) spells = inr ((run, head), lookup_in head_words run head is, (run, rest, cut.bytes_are, refl, spells))
 
 -- ---- one command
 
 -- the same last bytes are of the same command
-last_agrees : (head : Head) (contents : Contents (production head)) (one two : LastContent head) (rest : List ℕ) → LastOf head one rest → LastOf head two rest → command_of head contents two ≡ command_of head contents one
+last_agrees : (head : Head) (contents : Contents (production head)) (one two : LastContent head) (rest : List ℕ) → LastOf head one rest → LastOf head two rest
+    → command_of head contents two ≡ command_of head contents one
 last_agrees head contents one two rest made other = ap (command_of head contents) (one_last (last_part head) one two rest made other)
 
-same_command : (command other : Command) (head : Head) (contents : Contents (production head)) (rest : List ℕ) → IsLastOf command head contents rest → IsLastOf other head contents rest → other ≡ command
-same_command command other head contents rest (last, is, made) (second, is_other, others) = is_other ∙ last_agrees head contents last second rest made others ∙ sym is
+same_command : (command other : Command) (head : Head) (contents : Contents (production head)) (rest : List ℕ) → IsLastOf command head contents rest
+    → IsLastOf other head contents rest → other ≡ command
+same_command command other head contents rest (last, is, made) (second, is_other, others) = is_other ∙ last_agrees head contents last second rest made others
+    ∙ sym is
 
 -- One tail is of one command.
 pub commands_agree : (command other : Command) (bytes : List ℕ) → IsTail command bytes → IsTail other bytes → other ≡ command
@@ -98,7 +112,8 @@ commands_agree command other bytes (inl (blank, end)) (inr two) = absurd (no_wor
 commands_agree command other bytes (inr one) (inl (empty, end)) = absurd (no_word_in_nothing (SpellsAfter command) bytes end one)
 commands_agree command other bytes (inr one) (inr two) =
     let word = words_agree head_words head_table (SpellsAfter command) (SpellsAfter other) (spells_halts command) (spells_halts other) bytes one two in
-    let found = follows_agree no_blanks (production word.kind) (production_is word.kind) (IsLastOf command word.kind) (IsLastOf other word.kind) (last_of_halts command word.kind) (last_of_halts other word.kind) word.rest word.one word.two in
+    let found = follows_agree no_blanks (production word.kind) (production_is word.kind) (IsLastOf command word.kind) (IsLastOf other word.kind)
+    (last_of_halts command word.kind) (last_of_halts other word.kind) word.rest word.one word.two in
     same_command command other word.kind found.contents found.rest found.one found.two
 
 -- Where a word of a command that asks for memory stands, no other command does.
@@ -116,7 +131,8 @@ asked_memory (commands.Query query) is = λ none. none
 asked_memory (commands.Mutate reading mutation) is = λ none. none
 asked_memory command is = absurd is
 
-asks_memory : (head : Head) (rest : List ℕ) → Asks head → (contents : Contents (production head)) (last : LastContent head) → ThenParts (parts_with (production head) contents) (LastOf head last) rest → ¬ NeedsNoMemory (command_of head contents last)
+asks_memory : (head : Head) (rest : List ℕ) → Asks head → (contents : Contents (production head)) (last : LastContent head)
+    → ThenParts (parts_with (production head) contents) (LastOf head last) rest → ¬ NeedsNoMemory (command_of head contents last)
 asks_memory (heads.Alone word) rest asks contents last made = absurd asks
 asks_memory heads.Delete rest asks contents last made = absurd asks
 asks_memory heads.View rest asks contents last made = absurd asks
@@ -140,9 +156,11 @@ abbrev pub tail_parts : (head : Head) → Contents (production head) → LastCon
 tail_parts head contents last = parts_with (production head) contents ++ last_parts (last_part head) last
 
 -- the parts of an element between others
-element_parts : (word name : List ℕ) (id : ℕ) (more : List Part) → InTable (name, tt) (plain target_names) → ((Exactly word ∷ Gap ∷ []) ++ target_parts (element_of name id)) ++ more ≡ Exactly word ∷ Gap ∷ Exactly name ∷ Gap ∷ Number most_id id ∷ more
+element_parts : (word name : List ℕ) (id : ℕ) (more : List Part) → InTable (name, tt) (plain target_names)
+    → ((Exactly word ∷ Gap ∷ []) ++ target_parts (element_of name id)) ++ more ≡ Exactly word ∷ Gap ∷ Exactly name ∷ Gap ∷ Number most_id id ∷ more
 element_parts word name id more allowed =
-    let Made : Entry (Unit {0}) → Type 0 = λ entry. ((Exactly word ∷ Gap ∷ []) ++ target_parts (element_of entry.0 id)) ++ more ≡ Exactly word ∷ Gap ∷ Exactly entry.0 ∷ Gap ∷ Number most_id id ∷ more in
+    let Made : Entry (Unit {0}) → Type 0 = λ entry. ((Exactly word ∷ Gap ∷ []) ++ target_parts (element_of entry.0 id)) ++ more ≡ Exactly word ∷ Gap ∷ Exactly
+    entry.0 ∷ Gap ∷ Number most_id id ∷ more in
     let Here : Entry (Unit {0}) → Type 0 = λ entry. (name, tt) ≡ entry in
     ⊎_elim
     (λ (node : Here (codes "node", tt)). subst Made (sym node) refl)
@@ -151,25 +169,36 @@ element_parts word name id more allowed =
 
 -- a name of a direction is that of the direction it stands for
 named_direction : (name : List ℕ) → InTable (name, tt) (plain direction_names) → direction_name (direction_named name) ≡ name
-named_direction name (inl out) = let same : name ≡ codes "out" = ap (λ (e : Entry (Unit {0})). e.0) out in subst (λ n. direction_name (direction_named n) ≡ n) (sym same) refl
-named_direction name (inr (inl enters)) = let same : name ≡ codes "in" = ap (λ (e : Entry (Unit {0})). e.0) enters in subst (λ n. direction_name (direction_named n) ≡ n) (sym same) refl
-named_direction name (inr (inr (inl both))) = let same : name ≡ codes "both" = ap (λ (e : Entry (Unit {0})). e.0) both in subst (λ n. direction_name (direction_named n) ≡ n) (sym same) refl
+named_direction name (inl out) = let same : name ≡ codes "out" = ap (λ (e : Entry (Unit {0})). e.0) out in
+    subst (λ n. direction_name (direction_named n) ≡ n) (sym same) refl
+named_direction name (inr (inl enters)) = let same : name ≡ codes "in" = ap (λ (e : Entry (Unit {0})). e.0) enters in
+    subst (λ n. direction_name (direction_named n) ≡ n) (sym same) refl
+named_direction name (inr (inr (inl both))) = let same : name ≡ codes "both" = ap (λ (e : Entry (Unit {0})). e.0) both in
+    subst (λ n. direction_name (direction_named n) ≡ n) (sym same) refl
 named_direction name (inr (inr (inr none))) = absurd none
 
 -- the parts of two nodes, a direction and what stands last
-between : (word : List ℕ) (from to : ℕ) (name : List ℕ) (label : Option (List ℕ)) → InTable (name, tt) (plain direction_names) → between_parts word from to (direction_named name) ++ name_to_end label ≡ (Exactly word ∷ Gap ∷ Number most_id from ∷ Gap ∷ Number most_id to ∷ Gap ∷ Exactly name ∷ []) ++ name_to_end label
+between : (word : List ℕ) (from to : ℕ) (name : List ℕ) (label : Option (List ℕ)) → InTable (name, tt) (plain direction_names)
+    → between_parts word from to (direction_named name) ++ name_to_end label
+    ≡ (Exactly word ∷ Gap ∷ Number most_id from ∷ Gap ∷ Number most_id to ∷ Gap ∷ Exactly name ∷ []) ++ name_to_end label
 between word from to name label allowed =
-    ap (λ (n : List ℕ). (Exactly word ∷ Gap ∷ Number most_id from ∷ Gap ∷ Number most_id to ∷ Gap ∷ Exactly n ∷ []) ++ name_to_end label) (named_direction name allowed)
+    ap (λ (n : List ℕ). (Exactly word ∷ Gap ∷ Number most_id from ∷ Gap ∷ Number most_id to ∷ Gap ∷ Exactly n ∷ []) ++ name_to_end label)
+    (named_direction name allowed)
 
-pub command_parts : (head : Head) (contents : Contents (production head)) (last : LastContent head) → IsPlain head → AllowsAll (production head) contents → parts_of (command_of head contents last) ≡ Exactly (word_of head) ∷ tail_parts head contents last
+pub command_parts : (head : Head) (contents : Contents (production head)) (last : LastContent head) → IsPlain head → AllowsAll (production head) contents
+    → parts_of (command_of head contents last) ≡ Exactly (word_of head) ∷ tail_parts head contents last
 command_parts (heads.Alone words.Begin) contents last plain allows = refl
-command_parts heads.Set contents last plain allows = element_parts (codes "set") contents.1.0 contents.1.1.1.0 (Gap ∷ Name contents.1.1.1.1.1.0 ∷ Gap ∷ Written contents.1.1.1.1.1.1.1.0 ∷ Blanks ∷ []) allows.1.0
-command_parts heads.Unset contents last plain allows = element_parts (codes "unset") contents.1.0 contents.1.1.1.0 (Gap ∷ Name contents.1.1.1.1.1.0 ∷ Blanks ∷ []) allows.1.0
+command_parts heads.Set contents last plain allows = element_parts (codes "set") contents.1.0 contents.1.1.1.0
+    (Gap ∷ Name contents.1.1.1.1.1.0 ∷ Gap ∷ Written contents.1.1.1.1.1.1.1.0 ∷ Blanks ∷ []) allows.1.0
+command_parts heads.Unset contents last plain allows = element_parts (codes "unset") contents.1.0 contents.1.1.1.0
+    (Gap ∷ Name contents.1.1.1.1.1.0 ∷ Blanks ∷ []) allows.1.0
 command_parts heads.Delete contents last plain allows = element_parts (codes "delete") contents.1.0 contents.1.1.1.0 (Blanks ∷ []) allows.1.0
 command_parts heads.Expand contents last plain allows =
-    ap (λ (name : List ℕ). Exactly (codes "expand") ∷ Gap ∷ Number most_id contents.1.0 ∷ Gap ∷ Exactly name ∷ Gap ∷ Name contents.1.1.1.1.1.0 ∷ Blanks ∷ []) (named_direction contents.1.1.1.0 allows.1.1.1.0)
+    ap (λ (name : List ℕ). Exactly (codes "expand") ∷ Gap ∷ Number most_id contents.1.0 ∷ Gap ∷ Exactly name ∷ Gap ∷ Name contents.1.1.1.1.1.0 ∷ Blanks ∷ [])
+    (named_direction contents.1.1.1.0 allows.1.1.1.0)
 command_parts heads.Degree contents last plain allows =
-    ap (λ (name : List ℕ). (Exactly (codes "degree") ∷ Gap ∷ Number most_id contents.1.0 ∷ Gap ∷ Exactly name ∷ []) ++ name_to_end last) (named_direction contents.1.1.1.0 allows.1.1.1.0)
+    ap (λ (name : List ℕ). (Exactly (codes "degree") ∷ Gap ∷ Number most_id contents.1.0 ∷ Gap ∷ Exactly name ∷ []) ++ name_to_end last)
+    (named_direction contents.1.1.1.0 allows.1.1.1.0)
 command_parts heads.Path contents last plain allows = between (codes "path") contents.1.0 contents.1.1.1.0 contents.1.1.1.1.1.0 last allows.1.1.1.1.1.0
 command_parts heads.Levels contents last plain allows = between (codes "levels") contents.1.0 contents.1.1.1.0 contents.1.1.1.1.1.0 last allows.1.1.1.1.1.0
 command_parts heads.View contents (views.Element target) plain allows = refl
@@ -317,23 +346,28 @@ sentence_of commands.ViewIndexes is = inr (record { head = heads.View; plain = r
 sentence_of (commands.Query query) is = absurd is
 sentence_of (commands.Mutate reading mutation) is = absurd is
 
-pub sentence_parts : (command : Command) → (sentence : Sentence command) → parts_of command ≡ Exactly (word_of sentence.head) ∷ tail_parts sentence.head sentence.contents sentence.last
+pub sentence_parts : (command : Command) → (sentence : Sentence command)
+    → parts_of command ≡ Exactly (word_of sentence.head) ∷ tail_parts sentence.head sentence.contents sentence.last
 sentence_parts command sentence = ap parts_of sentence.is ∙ command_parts sentence.head sentence.contents sentence.last sentence.plain sentence.allowed
 
 -- ---- what readers have read
 
 -- the command whose symbols were read, and what stands last
-pub spells_read : (head : Head) (contents : Contents (production head)) (last : LastContent head) (bytes rest : List ℕ) → ReadsAll (production head) contents bytes rest → LastOf head last rest → SpellsAfter (command_of head contents last) head bytes
+pub spells_read : (head : Head) (contents : Contents (production head)) (last : LastContent head) (bytes rest : List ℕ)
+    → ReadsAll (production head) contents bytes rest → LastOf head last rest → SpellsAfter (command_of head contents last) head bytes
 spells_read head contents last bytes rest reads made =
     read_follows (production head) contents (IsLastOf (command_of head contents last) head) bytes rest reads (last, refl, made)
 
 -- Its parts are within their bounds.
-pub read_keeps : (head : Head) → IsPlain head → (contents : Contents (production head)) (last : LastContent head) (bytes rest : List ℕ) → ReadsAll (production head) contents bytes rest → AllByRecursion IsBounded (last_parts (last_part head) last) → KeepsBounds (command_of head contents last)
+pub read_keeps : (head : Head) → IsPlain head → (contents : Contents (production head)) (last : LastContent head) (bytes rest : List ℕ)
+    → ReadsAll (production head) contents bytes rest → AllByRecursion IsBounded (last_parts (last_part head) last) → KeepsBounds (command_of head contents last)
 read_keeps head plain contents last bytes rest reads within =
-    subst (AllByRecursion IsBounded) (sym (command_parts head contents last plain (read_allowed (production head) contents bytes rest reads))) (tt, read_bounded (production head) contents bytes rest reads (last_parts (last_part head) last) within)
+    subst (AllByRecursion IsBounded) (sym (command_parts head contents last plain (read_allowed (production head) contents bytes rest reads)))
+    (tt, read_bounded (production head) contents bytes rest reads (last_parts (last_part head) last) within)
 
 -- A command but a query keeps its bounds, whatever bytes spell it.
-pub plain_keeps : (head : Head) → IsPlain head → (command : Command) (rest bytes : List ℕ) → SpellsAfter command head rest → KeepsBounds command → KeepsTail command bytes
+pub plain_keeps : (head : Head) → IsPlain head → (command : Command) (rest bytes : List ℕ) → SpellsAfter command head rest → KeepsBounds command
+    → KeepsTail command bytes
 plain_keeps head plain command rest bytes spells keeps =
     let spelled = contents_of_spelled command head rest spells in
     keeps_command command (subst IsCommand (sym spelled.is) (is_command head spelled.contents spelled.last plain)) keeps
@@ -345,7 +379,8 @@ plain_keeps head plain command rest bytes spells keeps =
 
 -- a query after its word
 pub query_spelled : (command : Command) (bytes rest : List ℕ) → TakesWord head_words bytes heads.Query rest → IsKeptQuery command rest → KeepsTail command bytes
-query_spelled command bytes rest (run, cut, is) kept = keeps_query command (query_is_asked command rest (query_of_kept command rest kept)) (run, rest, cut.bytes_are, entry_word (run, heads.Query) (lookup_in head_words run heads.Query is), kept)
+query_spelled command bytes rest (run, cut, is) kept = keeps_query command (query_is_asked command rest (query_of_kept command rest kept))
+    (run, rest, cut.bytes_are, entry_word (run, heads.Query) (lookup_in head_words run heads.Query is), kept)
   where
     keeps_query : (command : Command) → IsAsked command → Then (Exactly (codes "g")) (IsKeptQuery command) bytes → KeepsTail command bytes
     keeps_query (commands.Query query) is kept = kept
@@ -374,7 +409,8 @@ maybe_form None all = tt
 maybe_form (Some name) all = short_name name all.1.0
 
 -- the parts after those of an element
-after_element : (target : Target) (more : List Part) (word : List ℕ) → AllByRecursion IsSpelled (((Exactly word ∷ Gap ∷ []) ++ target_parts target) ++ more) → AllByRecursion IsSpelled more
+after_element : (target : Target) (more : List Part) (word : List ℕ) → AllByRecursion IsSpelled (((Exactly word ∷ Gap ∷ []) ++ target_parts target) ++ more)
+    → AllByRecursion IsSpelled more
 after_element (targets.Node id) more word all = all.1.1.1.1.1
 after_element (targets.Edge id) more word all = all.1.1.1.1.1
 

@@ -1,5 +1,7 @@
 -- Numbers that stand whole.
-use Rattle.std.proofs.Common.{◌≡◌, ◌≢◌, ◌≤◌, ◌<◌, ◌+◌, ◌-◌, ◌*◌, suc, zero, take, drop, get_or, inl, inr, ℕ, nat_eq, Bool, true, false, not, ◌&&◌, List, [], ◌∷◌, ◌++◌, length, refl, sym, ap, ◌∙◌, subst, ⊎_elim, arith}
+use Rattle.std.proofs.Common.{◌≡◌, ◌≢◌, ◌≤◌, ◌<◌, ◌+◌, ◌-◌, ◌*◌, suc, zero, take, drop, get_or, inl, inr, ℕ, nat_eq}
+use Rattle.std.proofs.Common.{Bool, true, false, not, ◌&&◌, List, [], ◌∷◌, ◌++◌, length, refl, sym, ap, ◌∙◌, subst}
+use Rattle.std.proofs.Common.{⊎_elim, arith}
 use Rattle.std.specs.List.{prefix_len}
 use Rattle.std.proofs.lemmas.Bool.{cond-true, cases_Bool}
 use borrow.Author.Tests.{eqb-true}
@@ -34,7 +36,8 @@ zero_alone (b ∷ c ∷ prefix) rest more is whole =
     cc
 
 -- The number that stands whole at the head is the only one.
-pub one_number : (n m : ℕ) (bytes rest more : List ℕ) → Takes (AnyNumber most_id) n bytes rest → Takes (AnyNumber most_id) m bytes more → (n ≡ m) × (rest ≡ more)
+pub one_number : (n m : ℕ) (bytes rest more : List ℕ) → Takes (AnyNumber most_id) n bytes rest → Takes (AnyNumber most_id) m bytes more → (n ≡ m)
+    × (rest ≡ more)
 one_number n m bytes rest more one two =
     let whole : one.prefix ++ rest ≡ two.prefix ++ more = sym one.bytes_are ∙ two.bytes_are in
     let same : (one.prefix ≡ two.prefix) × (rest ≡ more) =
@@ -67,8 +70,10 @@ pub stays_above : (most n : ℕ) (bytes : List ℕ) → most < n → most < valu
 stays_above most n bytes above = let more = value_grows n bytes in omega (arith, more)
 
 -- one digit more
-pub value_more : (n i : ℕ) (bytes : List ℕ) → i < length bytes → value_after (n * 10 + (get_or bytes i 0 - 48)) (drop (i + 1) bytes) ≡ value_after n (drop i bytes)
-value_more n i bytes lt = let next : suc i ≡ i + 1 = omega arith in ap (λ k. value_after (n * 10 + (get_or bytes i 0 - 48)) (drop k bytes)) (sym next) ∙ sym (ap (value_after n) (cells i bytes lt))
+pub value_more : (n i : ℕ) (bytes : List ℕ) → i < length bytes → value_after (n * 10 + (get_or bytes i 0 - 48)) (drop (i + 1) bytes) ≡ value_after n
+    (drop i bytes)
+value_more n i bytes lt = let next : suc i ≡ i + 1 = omega arith in ap (λ k. value_after (n * 10 + (get_or bytes i 0 - 48)) (drop k bytes)) (sym next)
+    ∙ sym (ap (value_after n) (cells i bytes lt))
   where
     cells : (i : ℕ) (bytes : List ℕ) → i < length bytes → drop i bytes ≡ get_or bytes i 0 ∷ drop (suc i) bytes
     cells i [] lt = absurd (omega arith)
@@ -76,7 +81,8 @@ value_more n i bytes lt = let next : suc i ≡ i + 1 = omega arith in ap (λ k. 
     cells (suc i) (b ∷ bytes) lt = cells i bytes (omega arith)
 
 pub above_at : (most n i : ℕ) (bytes : List ℕ) → i < length bytes → most < n * 10 + (get_or bytes i 0 - 48) → most < value_after n (drop i bytes)
-above_at most n i bytes lt above = subst (λ v. most < v) (value_more n i bytes lt) (stays_above most (n * 10 + (get_or bytes i 0 - 48)) (drop (i + 1) bytes) above)
+above_at most n i bytes lt above = subst (λ v. most < v) (value_more n i bytes lt)
+    (stays_above most (n * 10 + (get_or bytes i 0 - 48)) (drop (i + 1) bytes) above)
 
 digits_are : (bytes : List ℕ) → Passes is_digit bytes → are_digits bytes ≡ true
 digits_are [] passes = refl
@@ -87,7 +93,8 @@ not_same b c other = ⊎_elim (λ (same : nat_eq b c ≡ true). absurd (other (e
 
 run_is_number : (b : ℕ) (run : List ℕ) → b ≢ 48 → Passes is_digit (b ∷ run) → is_number (b ∷ run) ≡ true
 run_is_number b [] other passes = passes.0
-run_is_number b (c ∷ run) other passes = ap (λ (t : Bool). t && (not (nat_eq b 48) && are_digits (c ∷ run))) passes.0 ∙ ap (λ (t : Bool). not t && are_digits (c ∷ run)) (not_same b 48 other) ∙ digits_are (c ∷ run) passes.1
+run_is_number b (c ∷ run) other passes = ap (λ (t : Bool). t && (not (nat_eq b 48) && are_digits (c ∷ run))) passes.0
+    ∙ ap (λ (t : Bool). not t && are_digits (c ∷ run)) (not_same b 48 other) ∙ digits_are (c ∷ run) passes.1
 
 abbrev NumberOf : List ℕ → ℕ → Type 0
 NumberOf bytes len = Takes (AnyNumber most_id) (value_after 0 (take len bytes)) bytes (drop len bytes)
@@ -134,10 +141,12 @@ no_count b bytes none is = let one = cond-true (is_digit b) (1 + prefix_len is_d
 
 pub no_number : (bytes : List ℕ) (len : ℕ) → CountsNumber bytes len → len ≡ 0 → ¬ StartsNumber bytes
 no_number [] len counts none = λ is. is
-no_number (b ∷ bytes) len counts none = λ is. ⊎_elim (λ ((zero_is, one) : (b ≡ 48) × (len ≡ 1)). absurd (omega (arith, one, none))) (λ ((other, count) : (b ≢ 48) × (len ≡ prefix_len is_digit (b ∷ bytes))). no_count b bytes (sym count ∙ none) is) counts
+no_number (b ∷ bytes) len counts none = λ is. ⊎_elim (λ ((zero_is, one) : (b ≡ 48) × (len ≡ 1)). absurd (omega (arith, one, none)))
+    (λ ((other, count) : (b ≢ 48) × (len ≡ prefix_len is_digit (b ∷ bytes))). no_count b bytes (sym count ∙ none) is) counts
 
 -- the number of so many bytes
-pub takes_number : (bytes digits rest : List ℕ) (n len : ℕ) → CountsNumber bytes len → len ≢ 0 → digits ≡ take len bytes → rest ≡ drop len bytes → n ≡ value_after 0 digits → Takes (AnyNumber most_id) n bytes rest
+pub takes_number : (bytes digits rest : List ℕ) (n len : ℕ) → CountsNumber bytes len → len ≢ 0 → digits ≡ take len bytes → rest ≡ drop len bytes
+    → n ≡ value_after 0 digits → Takes (AnyNumber most_id) n bytes rest
 takes_number bytes digits rest n len counts some digits_are_these rest_is value =
     let takes = number_of bytes len counts some in
     let value_is : n ≡ value_after 0 (take len bytes) = value ∙ ap (value_after 0) digits_are_these in

@@ -1,5 +1,6 @@
 -- What comes to each step of a query, and how many steps are before it: the productions say of the written steps what the table of places says of names.
-use Rattle.std.proofs.Common.{◌≡◌, ◌<◌, ◌≤◌, ◌+◌, ℕ, nat_lt, if◌then◌else◌, Bool, true, false, Option, Some, None, List, [], ◌∷◌, ◌++◌, length, refl, sym, ap, ◌∙◌, subst, length-append, arith}
+use Rattle.std.proofs.Common.{◌≡◌, ◌<◌, ◌≤◌, ◌+◌, ℕ, nat_lt, if◌then◌else◌, Bool, true, false, Option, Some, None, List}
+use Rattle.std.proofs.Common.{[], ◌∷◌, ◌++◌, length, refl, sym, ap, ◌∙◌, subst, length-append, arith}
 use Rattle.std.proofs.lemmas.Bool.Decides.{nat_tests}
 use Rattle.plain_graph.specs.declared.query.BodyStep.{BodyStep}
 use Rattle.plain_graph.specs.declared.query.Query.{Query}
@@ -7,7 +8,9 @@ use Rattle.plain_graph.specs.declared.query.Step.{Step}
 use Rattle.plain_graph.specs.declared.query.Step.TheVariants as steps
 use Rattle.gremlin_parse.specs.Productions.{WrittenStep, Does, Maps, takes, gives, counts, Fit, given, count_all, with_written, with_all}
 use Rattle.gremlin_parse.specs.Queries.{count_before}
-use Rattle.gremlin_parse.specs.Stages.{are_vertices, are_edges, are_elements, first_items, fits, is_by, items_after, items_from, late_fault, mapped, maps_count, stage_of, step_count, step_fault, steps_of}
+use Rattle.gremlin_parse.specs.Stages.{are_vertices, are_edges, are_elements, first_items, fits, is_by, items_after}
+use Rattle.gremlin_parse.specs.Stages.{items_from, late_fault, mapped, maps_count, stage_of, step_count, step_fault}
+use Rattle.gremlin_parse.specs.Stages.{steps_of}
 use Rattle.gremlin_parse.specs.declared.bad_token.BadToken.TheVariants.{UnfitStep, LateStep}
 use Rattle.gremlin_parse.specs.declared.stage.Items.{Items}
 use Rattle.gremlin_parse.specs.declared.stage.Items.TheVariants as items
@@ -43,7 +46,8 @@ never : {A : Type 0} (t : Bool) → t ≡ false → t ≡ true → A
 never t fails holds = let clash : false ≡ true = sym fails ∙ holds in cc
 
 -- Where elements are maps, the steps that may follow leave them so.
-mapped_gives : (keys : List (List ℕ)) (these : Items) (step : Step) → takes (mapped (Some keys) these) (Does step) ≡ true → mapped (Some keys) (items_after these step) ≡ items_after (mapped (Some keys) these) step
+mapped_gives : (keys : List (List ℕ)) (these : Items) (step : Step) → takes (mapped (Some keys) these) (Does step) ≡ true
+    → mapped (Some keys) (items_after these step) ≡ items_after (mapped (Some keys) these) step
 mapped_gives keys these (steps.Neighbours hop) fit = never (are_vertices (mapped (Some keys) these)) (no_vertices keys these) fit
 mapped_gives keys these (steps.Incident hop) fit = never (are_vertices (mapped (Some keys) these)) (no_vertices keys these) fit
 mapped_gives keys these steps.OutV fit = never (are_edges (mapped (Some keys) these)) (no_edges keys these) fit
@@ -58,11 +62,13 @@ mapped_gives keys these (steps.Limit most) fit = refl
 mapped_gives keys these (steps.Order key descending) fit = refl
 mapped_gives keys these (steps.Repeat body times) fit = never (are_vertices (mapped (Some keys) these)) (no_vertices keys these) fit
 
-does_give : (maps : Option (List (List ℕ))) (these : Items) (step : Step) → takes (mapped maps these) (Does step) ≡ true → mapped maps (items_after these step) ≡ items_after (mapped maps these) step
+does_give : (maps : Option (List (List ℕ))) (these : Items) (step : Step) → takes (mapped maps these) (Does step) ≡ true
+    → mapped maps (items_after these step) ≡ items_after (mapped maps these) step
 does_give None these step fit = refl
 does_give (Some keys) these step fit = mapped_gives keys these step fit
 
-maps_give : (maps : Option (List (List ℕ))) (these : Items) (keys : List (List ℕ)) → are_elements (mapped maps these) ≡ true → mapped (Some keys) these ≡ items.Maps
+maps_give : (maps : Option (List (List ℕ))) (these : Items) (keys : List (List ℕ)) → are_elements (mapped maps these) ≡ true
+    → mapped (Some keys) these ≡ items.Maps
 maps_give None items.Vertices keys fit = refl
 maps_give None items.Edges keys fit = refl
 maps_give None items.Values keys fit = cc
@@ -83,7 +89,8 @@ maps_counted None these fit = refl
 maps_counted (Some keys) these fit = never (are_elements (mapped (Some keys) these)) (no_elements keys these) fit
 
 -- how many steps there are with one that takes what comes to it
-pub written_steps : (query : Query) (step : WrittenStep) → takes (items_of query) step ≡ true → steps_of (with_written query step) ≡ steps_of query + counts step
+pub written_steps : (query : Query) (step : WrittenStep) → takes (items_of query) step ≡ true
+    → steps_of (with_written query step) ≡ steps_of query + counts step
 written_steps query (Does step) fit = let one = steps_in-append query.steps step in omega (arith, one)
 written_steps query (Maps keys) fit = let none = maps_counted query.maps (items_from (first_items query.source) query.steps) fit in omega (arith, none)
 
@@ -130,18 +137,21 @@ in_time n early = grind (arith, nat_tests)
 pub never_late : (n : ℕ) → n < 32 → late_fault n ≡ None
 never_late n early = ap (λ (t : Bool). if t then None else Some LateStep) (in_time n early)
 
-pub faultless_name : (query : Query) (this : StepWord) (bytes : List ℕ) → is_by this ≡ false → step_fault (stage_of query) this bytes ≡ None → (fits (items_of query) this bytes ≡ true) × (steps_of query < 32)
+pub faultless_name : (query : Query) (this : StepWord) (bytes : List ℕ) → is_by this ≡ false → step_fault (stage_of query) this bytes ≡ None
+    → (fits (items_of query) this bytes ≡ true) × (steps_of query < 32)
 faultless_name query this bytes other none = by_word (is_by this) other none
   where
     by_fit : (t : Bool) → (if t then late_fault (steps_of query) else Some UnfitStep) ≡ None → (t ≡ true) × (steps_of query < 32)
     by_fit true none = (refl, before_33rd (steps_of query) none)
     by_fit false none = cc
 
-    by_word : (t : Bool) → t ≡ false → (if t then None else (if fits (items_of query) this bytes then late_fault (steps_of query) else Some UnfitStep)) ≡ None → (fits (items_of query) this bytes ≡ true) × (steps_of query < 32)
+    by_word : (t : Bool) → t ≡ false → (if t then None else (if fits (items_of query) this bytes then late_fault (steps_of query) else Some UnfitStep)) ≡ None
+        → (fits (items_of query) this bytes ≡ true) × (steps_of query < 32)
     by_word true other none = cc
     by_word false other none = by_fit (fits (items_of query) this bytes) none
 
-pub name_faultless : (query : Query) (this : StepWord) (bytes : List ℕ) → is_by this ≡ false → fits (items_of query) this bytes ≡ true → steps_of query < 32 → step_fault (stage_of query) this bytes ≡ None
+pub name_faultless : (query : Query) (this : StepWord) (bytes : List ℕ) → is_by this ≡ false → fits (items_of query) this bytes ≡ true → steps_of query < 32
+    → step_fault (stage_of query) this bytes ≡ None
 name_faultless query this bytes other fit early =
     ap (λ (t : Bool). if t then None else (if fits (items_of query) this bytes then late_fault (steps_of query) else Some UnfitStep)) other
     ∙ ap (λ (t : Bool). if t then late_fault (steps_of query) else Some UnfitStep) fit ∙ never_late (steps_of query) early
@@ -155,5 +165,7 @@ InTime query body = count_before query body ≤ 32
 pub one_more : (query : Query) (body : List BodyStep) (step : BodyStep) → count_before query body < 32 → InTime query (body ++ step ∷ [])
 one_more query body step early = let len : length (body ++ step ∷ []) ≡ length body + 1 = length-append body (step ∷ []) in omega (arith, len, early)
 
-pub one_less : (query : Query) (body : List BodyStep) (step : BodyStep) (more : List BodyStep) → InTime query (body ++ step ∷ more) → count_before query body < 32
-one_less query body step more early = let len : length (body ++ step ∷ more) ≡ length body + length (step ∷ more) = length-append body (step ∷ more) in omega (arith, len, early)
+pub one_less : (query : Query) (body : List BodyStep) (step : BodyStep) (more : List BodyStep) → InTime query (body ++ step ∷ more)
+    → count_before query body < 32
+one_less query body step more early = let len : length (body ++ step ∷ more) ≡ length body + length (step ∷ more) = length-append body (step ∷ more) in
+    omega (arith, len, early)

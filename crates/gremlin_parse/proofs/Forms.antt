@@ -13,7 +13,19 @@ use Rattle.plain_graph.specs.declared.query.BodyStep.{BodyStep}
 use Rattle.plain_graph.specs.declared.query.Query.{Query}
 use Rattle.plain_graph.specs.declared.value.Value.{Value}
 use Rattle.gremlin_parse.specs.Grammar.{IsBounded}
-use Rattle.gremlin_parse.specs.Queries.{Into, OfQuery, OfBody, NamesFor, OfStep, OfHop, OfLabels, Subject, NewVertex, NewEdges, Elements, Quoted, OneName, Key, OrderKey, VertexLabel, EdgeType, PairKey, Place, Start, SourceName, FirstId, AfterId, NextId, Steps, StepName, Opens, FirstName, AfterName, AfterKey, ValueOf, RelationName, Compared, ClosesFilter, Most, Ordered, OrderedName, ByFirst, AfterOrderKey, OrderDirection, DirectionName, Quote, InQuotes, BodyFirst, BodyName, OpensBody, InBody, TimesWord, TimesOf, VertexCloses, TypeCloses, AfterType, ToWord, OpensTo, ToFirst, ToUnderscore, ToAnonymous, ToVertex, OpensId, ToId, IdCloses, ToCloses, Dropped, Changed, PropertyName, OpensProperty, AfterPairKey, PairValue, PairCloses, after_filter, after_names, after_quoted, after_step, changed, is_loose, mutation_of, opened, opened_body, opened_names, turn, with_pair, IsKeptQuery, FoundLabel, Opening, OfMaps, PairFor, OfChange, OfSource, after_pair, opened_source, shown}
+use Rattle.gremlin_parse.specs.Queries.{Into, OfQuery, OfBody, NamesFor, OfStep, OfHop, OfLabels, Subject, NewVertex}
+use Rattle.gremlin_parse.specs.Queries.{NewEdges, Elements, Quoted, OneName, Key, OrderKey, VertexLabel, EdgeType}
+use Rattle.gremlin_parse.specs.Queries.{PairKey, Place, Start, SourceName, FirstId, AfterId, NextId, Steps, StepName}
+use Rattle.gremlin_parse.specs.Queries.{Opens, FirstName, AfterName, AfterKey, ValueOf, RelationName, Compared}
+use Rattle.gremlin_parse.specs.Queries.{ClosesFilter, Most, Ordered, OrderedName, ByFirst, AfterOrderKey}
+use Rattle.gremlin_parse.specs.Queries.{OrderDirection, DirectionName, Quote, InQuotes, BodyFirst, BodyName, OpensBody}
+use Rattle.gremlin_parse.specs.Queries.{InBody, TimesWord, TimesOf, VertexCloses, TypeCloses, AfterType, ToWord}
+use Rattle.gremlin_parse.specs.Queries.{OpensTo, ToFirst, ToUnderscore, ToAnonymous, ToVertex, OpensId, ToId, IdCloses}
+use Rattle.gremlin_parse.specs.Queries.{ToCloses, Dropped, Changed, PropertyName, OpensProperty, AfterPairKey}
+use Rattle.gremlin_parse.specs.Queries.{PairValue, PairCloses, after_filter, after_names, after_quoted, after_step}
+use Rattle.gremlin_parse.specs.Queries.{changed, is_loose, mutation_of, opened, opened_body, opened_names, turn}
+use Rattle.gremlin_parse.specs.Queries.{with_pair, IsKeptQuery, FoundLabel, Opening, OfMaps, PairFor, OfChange}
+use Rattle.gremlin_parse.specs.Queries.{OfSource, after_pair, opened_source, shown}
 use Rattle.gremlin_parse.specs.declared.source.SourceKind.{SourceKind}
 use Rattle.gremlin_parse.specs.declared.source.SourceKind.TheVariants as sources
 use Rattle.gremlin_parse.specs.declared.step_word.BodyWord.{BodyWord}
@@ -122,7 +134,8 @@ opened_source_form sources.Edges = tt
 opened_source_form sources.NewVertex = tt
 opened_source_form sources.Found = tt
 
-after_pair_form : (purpose : PairFor) (key : List ℕ) (value : Value) → PairForm purpose × IsShortName key × IsKept value → PlaceForm (after_pair purpose key value)
+after_pair_form : (purpose : PairFor) (key : List ℕ) (value : Value) → PairForm purpose × IsShortName key × IsKept value
+    → PlaceForm (after_pair purpose key value)
 after_pair_form (OfChange subject pairs) key value (form, short, kept) = (form.0, one_pair_more pairs key value form.1 short kept)
 after_pair_form (OfSource label) key value form = tt
 

@@ -5,7 +5,8 @@ use Rattle.gremlin_parse.specs.Grammar.{is_blank}
 use Rattle.gremlin_parse.specs.Keywords.{Entry, InTable, lookup, TakesWord, LeavesTable, ThenWord}
 use Rattle.gremlin_parse.specs.Symbols.{Contents, ReadsAll, LeavesOne}
 use Rattle.gremlin_parse.specs.Stopping.{Bads, IsStop, StopsWith}
-use Rattle.gremlin_parse.specs.Commands.{StopsAfter, word_of, head_words, arguments_of, last_part, production, IsLast, BadLast, IsAfter, BadAfter, IsSomeTail, BadTail}
+use Rattle.gremlin_parse.specs.Commands.{StopsAfter, word_of, head_words, arguments_of, last_part, production, IsLast}
+use Rattle.gremlin_parse.specs.Commands.{BadLast, IsAfter, BadAfter, IsSomeTail, BadTail}
 use Rattle.gremlin_parse.specs.Lasts.{is_query}
 use Rattle.gremlin_parse.specs.Tags.{is_at}
 use Rattle.gremlin_parse.specs.declared.bad_token.BadToken.{BadToken}
@@ -62,10 +63,12 @@ pub last_closes : (head : Head) → Closes no_blanks (IsLast head) (BadLast head
 last_closes head = of_kind.last_closes (last_part head)
 
 after_halts : (head : Head) → Halts is_name_byte (IsAfter head)
-after_halts head = follows_halts NameByte (no_blanks NameByte) (production head) (production_halts head) (λ _. IsLast head) (λ _. (last_closes head).ends NameByte)
+after_halts head = follows_halts NameByte (no_blanks NameByte) (production head) (production_halts head) (λ _. IsLast head)
+    (λ _. (last_closes head).ends NameByte)
 
 pub bad_after_halts : (kind : BadToken) (left : ℕ) (head : Head) → Halts is_name_byte (BadAfter head kind left)
-bad_after_halts kind left head = bad_follows_halts NameByte (no_blanks NameByte) (production head) (production_halts head) (BadLast head) kind left ((last_closes head).bads_end kind left NameByte)
+bad_after_halts kind left head = bad_follows_halts NameByte (no_blanks NameByte) (production head) (production_halts head) (BadLast head) kind left
+    ((last_closes head).bads_end kind left NameByte)
 
 after_line : (head : Head) → (line : List ℕ) × IsAfter head line
 after_line head = some_line no_blanks (production head) (production_is head) (λ _. IsLast head) (λ _. ((last_closes head).line, (last_closes head).some))
@@ -74,14 +77,18 @@ after_line head = some_line no_blanks (production head) (production_is head) (λ
 
 -- a stop in one of the symbols after the word
 pub stop_in_head : (head : Head) (Lack : Type 0) (bytes : List ℕ) (stop : Stop) → LeavesOne (production head) bytes stop → StopsAfter head Lack bytes stop
-stop_in_head head Lack bytes stop leaves = stop_among no_blanks (production head) (production_is head) (IsLast head) (BadLast head) (last_closes head) Lack bytes stop leaves
+stop_in_head head Lack bytes stop leaves = stop_among no_blanks (production head) (production_is head) (IsLast head) (BadLast head) (last_closes head) Lack
+    bytes stop leaves
 
 -- a stop after all of them
-pub stop_after_head : (head : Head) (Lack : Type 0) (contents : Contents (production head)) (bytes rest : List ℕ) (stop : Stop) → ReadsAll (production head) contents bytes rest → IsStop (IsLast head) (BadLast head) Lack rest stop → StopsAfter head Lack bytes stop
-stop_after_head head Lack contents bytes rest stop reads at = stop_after_all no_blanks (production head) (production_is head) (IsLast head) (BadLast head) (last_closes head) Lack contents bytes rest stop reads at
+pub stop_after_head : (head : Head) (Lack : Type 0) (contents : Contents (production head)) (bytes rest : List ℕ) (stop : Stop)
+    → ReadsAll (production head) contents bytes rest → IsStop (IsLast head) (BadLast head) Lack rest stop → StopsAfter head Lack bytes stop
+stop_after_head head Lack contents bytes rest stop reads at = stop_after_all no_blanks (production head) (production_is head) (IsLast head) (BadLast head)
+    (last_closes head) Lack contents bytes rest stop reads at
 
 -- where less is known of a want of memory
-pub stop_lacks : (Line : List ℕ → Type 0) (Bad : Bads) (Less More : Type 0) (bytes : List ℕ) (stop : Stop) → (Less → More) → IsStop Line Bad Less bytes stop → IsStop Line Bad More bytes stop
+pub stop_lacks : (Line : List ℕ → Type 0) (Bad : Bads) (Less More : Type 0) (bytes : List ℕ) (stop : Stop) → (Less → More) → IsStop Line Bad Less bytes stop
+    → IsStop Line Bad More bytes stop
 stop_lacks Line Bad Less More bytes stops.Memory lacks at = lacks at
 stop_lacks Line Bad Less More bytes (stops.Syntax left) lacks at = at
 stop_lacks Line Bad Less More bytes (stops.Bad kind left) lacks at = at
@@ -102,18 +109,23 @@ query_head head query = cc
 -- ---- stops at and after the first word
 
 -- Where there are bytes, they are those of a command or a query.
-stop_of_some : (Lack : Type 0) (bytes : List ℕ) (stop : Stop) → bytes ≢ [] → IsStop (ThenWord head_words IsAfter) BadTail Lack bytes stop → IsStop IsSomeTail BadTail Lack bytes stop
+stop_of_some : (Lack : Type 0) (bytes : List ℕ) (stop : Stop) → bytes ≢ [] → IsStop (ThenWord head_words IsAfter) BadTail Lack bytes stop
+    → IsStop IsSomeTail BadTail Lack bytes stop
 stop_of_some Lack bytes stop some at =
-    stop_of_second (λ b. b ≡ []) (ThenWord head_words IsAfter) IsSomeTail BadTail BadTail (λ b line. inr line) (λ b tail. tail) (λ read b more end. absurd (no_end read b more end)) Lack bytes stop some (λ kind left bad. bad) (λ kind left bad. bad) at
+    stop_of_second (λ b. b ≡ []) (ThenWord head_words IsAfter) IsSomeTail BadTail BadTail (λ b line. inr line) (λ b tail. tail)
+    (λ read b more end. absurd (no_end read b more end)) Lack bytes stop some (λ kind left bad. bad) (λ kind left bad. bad) at
   where
     no_end : (read : List ℕ) (b : ℕ) (more : List ℕ) → read ++ b ∷ more ≡ [] → ⊥
     no_end [] b more end = cc
     no_end (c ∷ read) b more end = cc
 
-pub tail_at_word : (Lack : Type 0) (bytes : List ℕ) (stop : Stop) → bytes ≢ [] → StopsWith (LeavesTable head_words bytes) stop → IsStop IsSomeTail BadTail Lack bytes stop
-tail_at_word Lack bytes stop some at = stop_of_some Lack bytes stop some (stop_at_word _ _ head_table IsAfter BadAfter after_halts bad_after_halts after_line Lack bytes stop at)
+pub tail_at_word : (Lack : Type 0) (bytes : List ℕ) (stop : Stop) → bytes ≢ [] → StopsWith (LeavesTable head_words bytes) stop
+    → IsStop IsSomeTail BadTail Lack bytes stop
+tail_at_word Lack bytes stop some at = stop_of_some Lack bytes stop some
+    (stop_at_word _ _ head_table IsAfter BadAfter after_halts bad_after_halts after_line Lack bytes stop at)
 
-pub tail_after_word : (Lack LackLeft : Type 0) (bytes rest : List ℕ) (head : Head) (stop : Stop) → bytes ≢ [] → (LackLeft → Lack) → TakesWord head_words bytes head rest → StopsAfter head LackLeft rest stop → IsStop IsSomeTail BadTail Lack bytes stop
+pub tail_after_word : (Lack LackLeft : Type 0) (bytes rest : List ℕ) (head : Head) (stop : Stop) → bytes ≢ [] → (LackLeft → Lack)
+    → TakesWord head_words bytes head rest → StopsAfter head LackLeft rest stop → IsStop IsSomeTail BadTail Lack bytes stop
 tail_after_word Lack LackLeft bytes rest head stop some lack takes at =
     stop_of_some Lack bytes stop some (stop_after (ThenWord head_words IsAfter) BadTail Lack (IsAfter head) (BadAfter head) LackLeft bytes takes.0 rest stop takes.1.bytes_are lack (goes_word _ _ head_table IsAfter BadAfter after_halts bad_after_halts head bytes rest takes) at)
 

@@ -32,20 +32,28 @@ module _ {Word Place : Type 0} (Bound : Part → Type 0) (Fact : Place → Type 
       (content : Content symbol) → Bound (part symbol content) → (bytes : List ℕ) → IsPart (part symbol content) bytes → Fact (to content)
   EachOther (Either one two) = EachOther one × EachOther two
 
-  from_other : (Goal : Type 0) (other : Other Word Place) → EachOther other → (After : Place → Language) → ((next : Place) (rest : List ℕ) → Fact next → After next rest → Goal) → (bytes : List ℕ) → ThenOther Bound other After bytes → Goal
+  from_other : (Goal : Type 0) (other : Other Word Place) → EachOther other → (After : Place → Language)
+      → ((next : Place) (rest : List ℕ) → Fact next → After next rest → Goal) → (bytes : List ℕ) → ThenOther Bound other After bytes → Goal
   from_other Goal Nothing each After step bytes none = absurd none
-  from_other Goal (Words table fault to) each After step bytes (entry, within, bound, (prefix, rest, whole, same, after)) = step (to entry.1) rest (each entry.1) after
-  from_other Goal (Token symbol to) each After step bytes (content, allows, bound, (prefix, rest, whole, is, after)) = step (to content) rest (each content bound prefix is) after
+  from_other Goal (Words table fault to) each After step bytes (entry, within, bound, (prefix, rest, whole, same, after)) =
+      step (to entry.1) rest (each entry.1) after
+  from_other Goal (Token symbol to) each After step bytes (content, allows, bound, (prefix, rest, whole, is, after)) =
+      step (to content) rest (each content bound prefix is) after
   from_other Goal (Either one two) each After step bytes (inl then) = from_other Goal one each.0 After step bytes then
   from_other Goal (Either one two) each After step bytes (inr then) = from_other Goal two each.1 After step bytes then
 
-module _ {Word Place End : Type 0} (turn : Place → Turn Word Place End) (is_loose : Place → Bool) (Bound : Part → Type 0) (Fact : Place → Type 0) (EndFact : End → Type 0) where
+module _ {Word Place End : Type 0} (turn : Place → Turn Word Place End) (is_loose : Place → Bool) (Bound : Part → Type 0) (Fact : Place → Type 0)
+    (EndFact : End → Type 0) where
   -- What each place gives the next ones, and the last one its end, a line's end has.
-  pub leads_keep : ((place : Place) → Fact place → EachSign Fact (turn place).signs × EachOther Bound Fact (turn place).other) → ((place : Place) (end : End) → Fact place → (turn place).ends ≡ Some end → EndFact end) → (end : End) (n : ℕ) (place : Place) (bytes : List ℕ) → Fact place → Leads turn is_loose Bound end n place bytes → EndFact end
+  pub leads_keep : ((place : Place) → Fact place → EachSign Fact (turn place).signs × EachOther Bound Fact (turn place).other)
+      → ((place : Place) (end : End) → Fact place → (turn place).ends ≡ Some end → EndFact end) → (end : End) (n : ℕ) (place : Place) (bytes : List ℕ)
+      → Fact place → Leads turn is_loose Bound end n place bytes → EndFact end
   leads_keep each ends end zero place bytes fact (is, none) = ends place end fact is
   leads_keep each ends end (suc n) place bytes fact at =
       let After : Place → Language = Loosely turn is_loose (λ next rest. Leads turn is_loose Bound end n next rest) in
-      let step : (next : Place) (rest : List ℕ) → Fact next → After next rest → EndFact end = λ next rest kept after. unblank (EndFact end) (is_loose next) (Leads turn is_loose Bound end n next) (λ these leads. leads_keep each ends end n next these kept leads) rest after in
+      let step : (next : Place) (rest : List ℕ) → Fact next → After next rest
+      → EndFact end = λ next rest kept after. unblank (EndFact end) (is_loose next) (Leads turn is_loose Bound end n next)
+      (λ these leads. leads_keep each ends end n next these kept leads) rest after in
       ⊎_elim
       (λ ((b, next, is, (prefix, rest, whole, same, after)) : ThenSign (turn place).signs After bytes). step next rest (at_sign Fact (turn place).signs b next (each place fact).0 is) after)
       (λ (other : ThenOther Bound (turn place).other After bytes). from_other Bound Fact (EndFact end) (turn place).other (each place fact).1 After step bytes other)

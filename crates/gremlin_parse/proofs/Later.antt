@@ -10,7 +10,8 @@ use Rattle.gremlin_parse.proofs.QueryPlaces.{are, some}
 use Rattle.gremlin_parse.proofs.Walks.{LeavesEither}
 
 -- Neither lacks memory, and the first is no bad token.
-pub leaves_either : (One Two : Stop → Type 0) → ¬ One stops.Memory → ¬ Two stops.Memory → ((kind : BadToken) (left : ℕ) → ¬ One (stops.Bad kind left)) → (one two : Stop) → One one → Two two → LeavesEither turn is_loose are some One Two (later one two)
+pub leaves_either : (One Two : Stop → Type 0) → ¬ One stops.Memory → ¬ Two stops.Memory → ((kind : BadToken) (left : ℕ) → ¬ One (stops.Bad kind left))
+    → (one two : Stop) → One one → Two two → LeavesEither turn is_loose are some One Two (later one two)
 leaves_either One Two kept held faultless stops.Memory two first second = absurd (kept first)
 leaves_either One Two kept held faultless (stops.Bad kind left) two first second = absurd (faultless kind left first)
 leaves_either One Two kept held faultless (stops.Syntax left) stops.Memory first second = absurd (held second)

@@ -12,15 +12,19 @@ use Rattle.gremlin_parse.specs.declared.stop.Stop.TheVariants as stops
 use Rattle.gremlin_parse.proofs.QueryReads.{token_shorter}
 
 -- No word goes on so, and none with a fault stands there.
-pub words_left : {Word : Type 0} → (table : List (Entry Word)) (fault : Word → List ℕ → Option BadToken) (bytes : List ℕ) → ((kind : BadToken) (place : ℕ) → ¬ IsBadWord table fault kind place bytes) → (stop : Stop) → StopsWith (LeavesTable table bytes) stop → LeavesWords table fault bytes stop
+pub words_left : {Word : Type 0} → (table : List (Entry Word)) (fault : Word → List ℕ → Option BadToken) (bytes : List ℕ)
+    → ((kind : BadToken) (place : ℕ) → ¬ IsBadWord table fault kind place bytes) → (stop : Stop) → StopsWith (LeavesTable table bytes) stop
+    → LeavesWords table fault bytes stop
 words_left table fault bytes none stops.Memory leaves = absurd leaves
 words_left table fault bytes none (stops.Syntax left) leaves = (leaves, none)
 words_left table fault bytes none (stops.Bad kind left) leaves = absurd leaves
 
 -- the name of a step of a body, and its parenthesis
-pub body_opening_within : (bytes after_name at_open rest : List ℕ) (word : BodyWord) → TakesWord body_words bytes word after_name → Reads AnyBlanks tt after_name at_open → ReadsToken (40 ∷ []) at_open rest → length rest ≤ length bytes
+pub body_opening_within : (bytes after_name at_open rest : List ℕ) (word : BodyWord) → TakesWord body_words bytes word after_name
+    → Reads AnyBlanks tt after_name at_open → ReadsToken (40 ∷ []) at_open rest → length rest ≤ length bytes
 body_opening_within bytes after_name at_open rest word (run, cut, is) blanks opening =
     let first : length bytes ≡ length run + length after_name = ap length cut.bytes_are ∙ length-append run after_name in
-    let second : length after_name ≡ length blanks.takes.prefix + length at_open = ap length blanks.takes.bytes_are ∙ length-append blanks.takes.prefix at_open in
+    let second : length after_name ≡ length blanks.takes.prefix + length at_open = ap length blanks.takes.bytes_are
+    ∙ length-append blanks.takes.prefix at_open in
     let third = token_shorter 40 at_open rest opening in
     omega (arith, first, second, third)

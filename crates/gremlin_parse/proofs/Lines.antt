@@ -1,10 +1,13 @@
 -- From the bytes after the blanks to the whole line.
-use Rattle.std.proofs.Common.{◌≡◌, ◌+◌, ◌-◌, ◌≤◌, ◌⊎◌, inl, inr, ℕ, true, false, codes, Option, Some, None, List, [], ◌∷◌, ◌++◌, length, refl, sym, ap, ◌∙◌, subst, ⊎_elim, append_assoc, length-append, arith}
+use Rattle.std.proofs.Common.{◌≡◌, ◌+◌, ◌-◌, ◌≤◌, ◌⊎◌, inl, inr, ℕ, true, false, codes, Option, Some, None, List, []}
+use Rattle.std.proofs.Common.{◌∷◌, ◌++◌, length, refl, sym, ap, ◌∙◌, subst, ⊎_elim, append_assoc, length-append, arith}
 use Rattle.std.proofs.lemmas.List.{append-nil}
 use Rattle.std.specs.List.{AllByRecursion}
 use Rattle.plain_graph.specs.declared.command.Command.{Command}
 use Rattle.plain_graph.specs.declared.command.Command.TheVariants as commands
-use Rattle.gremlin_parse.specs.Commands.{BadAfter, BadLast, BadTail, IsAfter, IsCommand, IsPlain, IsSomeTail, IsTail, KeepsBounds, KeepsTail, LacksMemory, LastContent, LastOf, SpellsAfter, command_of, head_words, last_part, parts_of, production, word_of}
+use Rattle.gremlin_parse.specs.Commands.{BadAfter, BadLast, BadTail, IsAfter, IsCommand, IsPlain, IsSomeTail, IsTail}
+use Rattle.gremlin_parse.specs.Commands.{KeepsBounds, KeepsTail, LacksMemory, LastContent, LastOf, SpellsAfter}
+use Rattle.gremlin_parse.specs.Commands.{command_of, head_words, last_part, parts_of, production, word_of}
 use Rattle.gremlin_parse.specs.Grammar.{Part, Blanks, Exactly, IsMadeOf, IsBounded, AreBlanks, is_blank}
 use Rattle.gremlin_parse.specs.Lines.{AfterFront, AfterG, BadLine, IsLooseTail, IsKeptTail, IsFaultyTail, NeedsMemory, SpellsLoosely, Spells, IsLine}
 use Rattle.gremlin_parse.specs.Tags.{IsTag, LeavesTag, ReadsTag, after_tag, is_at, session_first}
@@ -28,12 +31,17 @@ use Rattle.gremlin_parse.proofs.Runs.{EndsRun-first_byte, Halts, run_is_unique}
 use Rattle.gremlin_parse.proofs.Tables.{lookup_in, words_agree}
 use Rattle.gremlin_parse.proofs.Symbols.{NameByte, no_blanks, takes_again, after_symbol}
 use Rattle.gremlin_parse.proofs.Productions.{Goes, stop_after}
-use Rattle.gremlin_parse.proofs.Spelling.{parts_with, made_of_then, then_of_made, then_parts_map, bad_then_of_parts, bad_then_map, bad_parts_choice, bad_follows_of_then, then_of_bad_follows, no_bad_within}
+use Rattle.gremlin_parse.proofs.Spelling.{parts_with, made_of_then, then_of_made, then_parts_map, bad_then_of_parts}
+use Rattle.gremlin_parse.proofs.Spelling.{bad_then_map, bad_parts_choice, bad_follows_of_then, then_of_bad_follows}
+use Rattle.gremlin_parse.proofs.Spelling.{no_bad_within}
 use Rattle.gremlin_parse.proofs.Repeats.{all_split, bad_parts_within}
 use Rattle.gremlin_parse.proofs.Lasts.{some_last, last_no_bad, last_made, made_last, bad_last, last_bad}
-use Rattle.gremlin_parse.proofs.Heads.{named, entry_word, production_is, last_closes, bad_after_halts, word_halts, word_untagged, head_table, no_word_in_nothing}
+use Rattle.gremlin_parse.proofs.Heads.{named, entry_word, production_is, last_closes, bad_after_halts, word_halts}
+use Rattle.gremlin_parse.proofs.Heads.{word_untagged, head_table, no_word_in_nothing}
 use Rattle.gremlin_parse.proofs.Tags.{after_tagged, after_unfinished, after_untagged, rest_is, unfinished_of}
-use Rattle.gremlin_parse.proofs.Commands.{spells_halts, Spelled, spelled_of_contents, contents_of_spelled, some_spelled, spelled_is_some, tail_parts, command_parts, is_command, Sentence, sentence_of, sentence_parts}
+use Rattle.gremlin_parse.proofs.Commands.{spells_halts, Spelled, spelled_of_contents, contents_of_spelled, some_spelled}
+use Rattle.gremlin_parse.proofs.Commands.{spelled_is_some, tail_parts, command_parts, is_command, Sentence, sentence_of}
+use Rattle.gremlin_parse.proofs.Commands.{sentence_parts}
 
 -- ---- spelled by parts, and by the table
 
@@ -49,17 +57,21 @@ tail_plain command is bytes made =
     (λ (sentence : Sentence command).
     let head = sentence.head in
     let parts = parts_with (production head) sentence.contents in
-    let these : IsMadeOf (Exactly (word_of head) ∷ tail_parts head sentence.contents sentence.last) bytes = subst (λ parts. IsMadeOf parts bytes) (sentence_parts command sentence) made in
+    let these : IsMadeOf (Exactly (word_of head) ∷ tail_parts head sentence.contents sentence.last) bytes =
+    subst (λ parts. IsMadeOf parts bytes) (sentence_parts command sentence) made in
     let (word, after, whole, word_is, tail) = these in
-    let last = then_parts_map (IsMadeOf (last_parts (last_part head) sentence.last)) (LastOf head sentence.last) (made_last (last_part head) sentence.plain sentence.last) parts after (then_of_made parts (last_parts (last_part head) sentence.last) after tail) in
+    let last = then_parts_map (IsMadeOf (last_parts (last_part head) sentence.last)) (LastOf head sentence.last)
+    (made_last (last_part head) sentence.plain sentence.last) parts after (then_of_made parts (last_parts (last_part head) sentence.last) after tail) in
     let spelled : Spelled command head after = record { contents = sentence.contents; allowed = sentence.allowed; last = sentence.last; is = sentence.is; made = last } in
     let found : IsTail command bytes = inr ((word_of head, head), lookup_in head_words (word_of head) head (named head), (word, after, whole, word_is, spelled_of_contents command head after spelled)) in
     found)
     (sentence_of command is)
 
 loose_tail : (command : Command) (bytes : List ℕ) → IsLooseTail command bytes → IsTail command bytes
-loose_tail (commands.Query query) bytes (word, rest, whole, word_is, to) = inr ((codes "g", heads.Query), lookup_in head_words (codes "g") heads.Query (named heads.Query), (word, rest, whole, word_is, (commands.Query query, refl, to)))
-loose_tail (commands.Mutate reading mutation) bytes (word, rest, whole, word_is, to) = inr ((codes "g", heads.Query), lookup_in head_words (codes "g") heads.Query (named heads.Query), (word, rest, whole, word_is, (commands.Mutate reading mutation, refl, to)))
+loose_tail (commands.Query query) bytes (word, rest, whole, word_is, to) =
+    inr ((codes "g", heads.Query), lookup_in head_words (codes "g") heads.Query (named heads.Query), (word, rest, whole, word_is, (commands.Query query, refl, to)))
+loose_tail (commands.Mutate reading mutation) bytes (word, rest, whole, word_is, to) =
+    inr ((codes "g", heads.Query), lookup_in head_words (codes "g") heads.Query (named heads.Query), (word, rest, whole, word_is, (commands.Mutate reading mutation, refl, to)))
 loose_tail command bytes made = tail_plain command tt bytes made
 
 loosely : (command : Command) → IsCommand command → (bytes : List ℕ) → IsMadeOf (parts_of command) bytes → IsLooseTail command bytes
@@ -89,9 +101,13 @@ tail_loose command bytes (inr (entry, within, (word, after, whole, word_is, spel
     let head = entry.1 in
     let spelled = contents_of_spelled command head after spells in
     let parts = parts_with (production head) spelled.contents in
-    let tail : IsMadeOf (tail_parts head spelled.contents spelled.last) after = made_of_then parts (last_parts (last_part head) spelled.last) after (then_parts_map (LastOf head spelled.last) (IsMadeOf (last_parts (last_part head) spelled.last)) (last_made (last_part head) plain spelled.last) parts after spelled.made) in
-    let these : IsMadeOf (Exactly (word_of head) ∷ tail_parts head spelled.contents spelled.last) bytes = (word, after, whole, word_is ∙ entry_word entry within, tail) in
-    let made : IsMadeOf (parts_of (command_of head spelled.contents spelled.last)) bytes = subst (λ parts. IsMadeOf parts bytes) (sym (command_parts head spelled.contents spelled.last plain spelled.allowed)) these in
+    let tail : IsMadeOf (tail_parts head spelled.contents spelled.last) after =
+    made_of_then parts (last_parts (last_part head) spelled.last) after
+    (then_parts_map (LastOf head spelled.last) (IsMadeOf (last_parts (last_part head) spelled.last)) (last_made (last_part head) plain spelled.last) parts after spelled.made) in
+    let these : IsMadeOf (Exactly (word_of head) ∷ tail_parts head spelled.contents spelled.last) bytes =
+    (word, after, whole, word_is ∙ entry_word entry within, tail) in
+    let made : IsMadeOf (parts_of (command_of head spelled.contents spelled.last)) bytes =
+    subst (λ parts. IsMadeOf parts bytes) (sym (command_parts head spelled.contents spelled.last plain spelled.allowed)) these in
     subst (λ c. IsLooseTail c bytes) (sym spelled.is) (loosely (command_of head spelled.contents spelled.last) (is_command head spelled.contents spelled.last plain) bytes made))
     (query_or_plain entry.1)
 
@@ -114,7 +130,8 @@ spelled_after command rest bytes takes tail = (takes.prefix, bytes, takes.bytes_
 
 some_tail : (command : Command) (bytes : List ℕ) → IsTail command bytes → IsSomeTail bytes
 some_tail command bytes (inl (blank, end)) = inl end
-some_tail command bytes (inr (entry, within, (word, after, whole, word_is, spells))) = inr (entry, within, (word, after, whole, word_is, spelled_is_some command entry.1 after spells))
+some_tail command bytes (inr (entry, within, (word, after, whole, word_is, spells))) =
+    inr (entry, within, (word, after, whole, word_is, spelled_is_some command entry.1 after spells))
 
 tail_some : (bytes : List ℕ) → IsSomeTail bytes → (command : Command) × IsTail command bytes
 tail_some bytes (inl end) = (commands.Blank, inl (refl, end))
@@ -131,8 +148,10 @@ faulty_of_bad kind left bytes (entry, within, (word, after, whole, word_is, bad)
     let head = entry.1 in
     let found = then_of_bad_follows no_blanks (production head) (production_is head) (BadLast head) kind left after bad in
     let parts = parts_with (production head) found.contents in
-    let (last, tail) = bad_parts_choice (LastContent head) (last_parts (last_part head)) (some_last (last_part head)) parts kind left after (bad_then_map (BadLast head) (BadInOne (last_parts (last_part head))) kind left (bad_last (last_part head) plain kind left) parts after found.bad) in
-    let these : BadParts (Exactly (word_of head) ∷ tail_parts head found.contents last) kind left bytes = inr (word, after, whole, word_is ∙ entry_word entry within, tail) in
+    let (last, tail) = bad_parts_choice (LastContent head) (last_parts (last_part head)) (some_last (last_part head)) parts kind left after
+    (bad_then_map (BadLast head) (BadInOne (last_parts (last_part head))) kind left (bad_last (last_part head) plain kind left) parts after found.bad) in
+    let these : BadParts (Exactly (word_of head) ∷ tail_parts head found.contents last) kind left bytes =
+    inr (word, after, whole, word_is ∙ entry_word entry within, tail) in
     inl (command_of head found.contents last, is_command head found.contents last plain, subst (λ parts. BadParts parts kind left bytes) (sym (command_parts head found.contents last plain found.allowed)) these))
     (query_or_plain entry.1)
 
@@ -144,7 +163,8 @@ faulty_within kind left bytes (inr (word, rest, whole, word_is, bad)) =
     omega (arith, le, len)
 
 -- a bad token after what names the session, and the blanks
-bad_onto : (kind : BadToken) (left : ℕ) (front blanks bytes : List ℕ) → AreBlanks blanks → after_tag (front ++ (blanks ++ bytes)) ≡ blanks ++ bytes → BadTail kind left bytes → BadLine kind left (front ++ (blanks ++ bytes))
+bad_onto : (kind : BadToken) (left : ℕ) (front blanks bytes : List ℕ) → AreBlanks blanks → after_tag (front ++ (blanks ++ bytes)) ≡ blanks ++ bytes
+    → BadTail kind left bytes → BadLine kind left (front ++ (blanks ++ bytes))
 bad_onto kind left front blanks bytes are_blanks rest_is bad =
     let line : List ℕ = front ++ (blanks ++ bytes) in
     let faulty = faulty_of_bad kind left bytes bad in
@@ -155,7 +175,8 @@ bad_onto kind left front blanks bytes are_blanks rest_is bad =
     let there : AfterFront (IsFaultyTail kind left) (blanks ++ bytes) = (blanks, bytes, refl, are_blanks, faulty) in
     (length line - left, place, (left, place, subst (AfterFront (IsFaultyTail kind left)) (sym rest_is) there))
 
-tail_of_sentence : (command : Command) (kind : BadToken) (left : ℕ) (bytes : List ℕ) → Sentence command → BadParts (parts_of command) kind left bytes → BadTail kind left bytes
+tail_of_sentence : (command : Command) (kind : BadToken) (left : ℕ) (bytes : List ℕ) → Sentence command → BadParts (parts_of command) kind left bytes
+    → BadTail kind left bytes
 tail_of_sentence command kind left bytes sentence bad = word_first (subst (λ parts. BadParts parts kind left bytes) (sentence_parts command sentence) bad)
   where
     word_first : BadParts (Exactly (word_of sentence.head) ∷ tail_parts sentence.head sentence.contents sentence.last) kind left bytes → BadTail kind left bytes
@@ -163,7 +184,9 @@ tail_of_sentence command kind left bytes sentence bad = word_first (subst (λ pa
     word_first (inr (word, after, whole, word_is, later)) =
         let head = sentence.head in
         let parts = parts_with (production head) sentence.contents in
-        let then = bad_then_map (BadParts (last_parts (last_part head) sentence.last)) (BadLast head) kind left (λ rest these. last_bad (last_part head) sentence.plain kind left rest (sentence.last, these)) parts after (bad_then_of_parts parts (last_parts (last_part head) sentence.last) kind left after later) in
+        let then = bad_then_map (BadParts (last_parts (last_part head) sentence.last)) (BadLast head) kind left
+        (λ rest these. last_bad (last_part head) sentence.plain kind left rest (sentence.last, these)) parts after
+        (bad_then_of_parts parts (last_parts (last_part head) sentence.last) kind left after later) in
         ((word_of head, head), lookup_in head_words (word_of head) head (named head), (word, after, whole, word_is, bad_follows_of_then (production head) sentence.contents sentence.allowed (BadLast head) kind left after then))
 
 bad_of_faulty : (kind : BadToken) (left : ℕ) (bytes : List ℕ) → IsFaultyTail kind left bytes → BadTail kind left bytes
@@ -172,14 +195,17 @@ bad_of_faulty kind left bytes (inl (command, is, bad)) =
     (λ (blank : command ≡ commands.Blank). absurd (subst (λ c. BadParts (parts_of c) kind left bytes) blank bad))
     (λ (sentence : Sentence command). tail_of_sentence command kind left bytes sentence bad)
     (sentence_of command is)
-bad_of_faulty kind left bytes (inr (word, rest, whole, word_is, bad)) = ((codes "g", heads.Query), lookup_in head_words (codes "g") heads.Query (named heads.Query), (word, rest, whole, word_is, bad))
+bad_of_faulty kind left bytes (inr (word, rest, whole, word_is, bad)) =
+    ((codes "g", heads.Query), lookup_in head_words (codes "g") heads.Query (named heads.Query), (word, rest, whole, word_is, bad))
 
 bad_tail_of_line : (kind : BadToken) (left : ℕ) (line : List ℕ) → BadLine kind left line → Then Blanks (BadTail kind left) (after_tag line)
 bad_tail_of_line kind left line (at, place, (other, there, front)) =
     let same : other ≡ left = omega (arith, place, there) in
-    front_map (IsFaultyTail kind left) (BadTail kind left) (bad_of_faulty kind left) (after_tag line) (subst (λ (n : ℕ). AfterFront (IsFaultyTail kind n) (after_tag line)) same front)
+    front_map (IsFaultyTail kind left) (BadTail kind left) (bad_of_faulty kind left) (after_tag line)
+    (subst (λ (n : ℕ). AfterFront (IsFaultyTail kind n) (after_tag line)) same front)
 
-pub bad_tail_after : (kind : BadToken) (left : ℕ) (line rest bytes : List ℕ) → rest ≡ after_tag line → Takes AnyBlanks tt rest bytes → BadLine kind left line → BadTail kind left bytes
+pub bad_tail_after : (kind : BadToken) (left : ℕ) (line rest bytes : List ℕ) → rest ≡ after_tag line → Takes AnyBlanks tt rest bytes → BadLine kind left line
+    → BadTail kind left bytes
 bad_tail_after kind left line rest bytes rest_is takes bad =
     let behind : Then Blanks (BadTail kind left) rest = subst (Then Blanks (BadTail kind left)) (sym rest_is) (bad_tail_of_line kind left line bad) in
     (after_symbol AnyBlanks refl (BadTail kind left) (word_halts (λ head. BadAfter head kind left)) tt tt tt rest bytes takes behind).1
@@ -188,7 +214,8 @@ bad_tail_after kind left line rest bytes rest_is takes bad =
 
 kept_loose : (command : Command) (bytes : List ℕ) → IsKeptTail command bytes → IsLooseTail command bytes
 kept_loose (commands.Query query) bytes (word, rest, whole, word_is, kept) = (word, rest, whole, word_is, query_of_kept (commands.Query query) rest kept)
-kept_loose (commands.Mutate reading mutation) bytes (word, rest, whole, word_is, kept) = (word, rest, whole, word_is, query_of_kept (commands.Mutate reading mutation) rest kept)
+kept_loose (commands.Mutate reading mutation) bytes (word, rest, whole, word_is, kept) =
+    (word, rest, whole, word_is, query_of_kept (commands.Mutate reading mutation) rest kept)
 kept_loose command bytes tail = tail.0
 
 pub spelled_loosely : (line : List ℕ) (command : Command) → Spells line command → SpellsLoosely line command
@@ -200,7 +227,8 @@ spelled_loosely line command spells = front_map (IsKeptTail command) (IsLooseTai
 abbrev IsBehind : List ℕ → List ℕ → List ℕ → Type 0
 IsBehind front blanks bytes = (more : List ℕ) → IsSomeTail more ⊎ (first_byte more ≡ first_byte bytes) → after_tag (front ++ (blanks ++ more)) ≡ blanks ++ more
 
-goes_line : (front rest bytes : List ℕ) → (takes : Takes AnyBlanks tt rest bytes) → IsBehind front takes.prefix bytes → Goes IsLine BadLine (front ++ takes.prefix) IsSomeTail BadTail bytes
+goes_line : (front rest bytes : List ℕ) → (takes : Takes AnyBlanks tt rest bytes) → IsBehind front takes.prefix bytes
+    → Goes IsLine BadLine (front ++ takes.prefix) IsSomeTail BadTail bytes
 goes_line front rest bytes takes behind = record {
   line = record {
     onto = λ more some.
@@ -210,17 +238,21 @@ goes_line front rest bytes takes behind = record {
     back = λ more same (command, spelled).
         some_tail command more (tail_after command (takes.prefix ++ more) more (takes_again AnyBlanks tt rest bytes more takes same) (subst (AfterFront (IsLooseTail command)) (rest_of more (inr same)) spelled));
   };
-  onto = λ kind left bad. subst (BadLine kind left) (sym (append_assoc front takes.prefix bytes)) (bad_onto kind left front takes.prefix bytes takes.is (behind bytes (inr refl)) bad);
+  onto = λ kind left bad. subst (BadLine kind left) (sym (append_assoc front takes.prefix bytes))
+      (bad_onto kind left front takes.prefix bytes takes.is (behind bytes (inr refl)) bad);
   back = λ kind left bad.
-      bad_tail_after kind left ((front ++ takes.prefix) ++ bytes) (takes.prefix ++ bytes) bytes (sym (rest_of bytes (inr refl))) (takes_again AnyBlanks tt rest bytes bytes takes refl) bad;
+      bad_tail_after kind left ((front ++ takes.prefix) ++ bytes) (takes.prefix ++ bytes) bytes (sym (rest_of bytes (inr refl)))
+      (takes_again AnyBlanks tt rest bytes bytes takes refl) bad;
 }
   where
     rest_of : (more : List ℕ) → IsSomeTail more ⊎ (first_byte more ≡ first_byte bytes) → after_tag ((front ++ takes.prefix) ++ more) ≡ takes.prefix ++ more
     rest_of more either = ap after_tag (append_assoc front takes.prefix more) ∙ behind more either
 
-stop_behind : (Lack LackLeft : Type 0) (front rest bytes : List ℕ) (stop : Stop) → (takes : Takes AnyBlanks tt rest bytes) → IsBehind front takes.prefix bytes → (LackLeft → Lack) → IsStop IsSomeTail BadTail LackLeft bytes stop → IsStop IsLine BadLine Lack (front ++ rest) stop
+stop_behind : (Lack LackLeft : Type 0) (front rest bytes : List ℕ) (stop : Stop) → (takes : Takes AnyBlanks tt rest bytes) → IsBehind front takes.prefix bytes
+    → (LackLeft → Lack) → IsStop IsSomeTail BadTail LackLeft bytes stop → IsStop IsLine BadLine Lack (front ++ rest) stop
 stop_behind Lack LackLeft front rest bytes stop takes behind lack at =
-    stop_after IsLine BadLine Lack IsSomeTail BadTail LackLeft (front ++ rest) (front ++ takes.prefix) bytes stop (ap (λ (r : List ℕ). front ++ r) takes.bytes_are ∙ sym (append_assoc front takes.prefix bytes)) lack (goes_line front rest bytes takes behind) at
+    stop_after IsLine BadLine Lack IsSomeTail BadTail LackLeft (front ++ rest) (front ++ takes.prefix) bytes stop
+    (ap (λ (r : List ℕ). front ++ r) takes.bytes_are ∙ sym (append_assoc front takes.prefix bytes)) lack (goes_line front rest bytes takes behind) at
 
 -- ---- the sign before a session
 
@@ -247,7 +279,8 @@ no_line_at blanks bytes are none = λ (command, spelled).
 
 no_bad_at : (blanks bytes : List ℕ) → AreBlanks blanks → session_first bytes ≡ None → (kind : BadToken) (left : ℕ) → ¬ BadLine kind left (blanks ++ 64 ∷ bytes)
 no_bad_at blanks bytes are none kind left = λ bad.
-    let tail = bad_tail_after kind left (blanks ++ 64 ∷ bytes) (blanks ++ 64 ∷ bytes) (64 ∷ bytes) (sym (after_unfinished blanks bytes are none)) (takes_at blanks bytes are) bad in
+    let tail = bad_tail_after kind left (blanks ++ 64 ∷ bytes) (blanks ++ 64 ∷ bytes) (64 ∷ bytes) (sym (after_unfinished blanks bytes are none))
+    (takes_at blanks bytes are) bad in
     let clash : true ≡ false = word_untagged (λ head. BadAfter head kind left) (64 ∷ bytes) tail in cc
 
 -- a line of blanks after the name of a session
@@ -295,24 +328,32 @@ lacks_line line rest bytes rest_is takes lacks = λ command none spells.
     lacks command none (tail_after command rest bytes takes loosely)
 
 -- where reading stops in the line
-pub stop_of_line : (line : List ℕ) (session : Option ℕ) (rest bytes : List ℕ) (stop : Stop) → ReadsTag line session rest → Takes AnyBlanks tt rest bytes → IsStop IsSomeTail BadTail (LacksMemory bytes) bytes stop → IsStop IsLine BadLine (NeedsMemory line) line stop
-stop_of_line line None rest bytes stop (plain, same) takes at = subst (λ (l : List ℕ). IsStop IsLine BadLine (NeedsMemory line) l stop) same (stop_behind (NeedsMemory line) (LacksMemory bytes) [] rest bytes stop takes behind (lacks_line line rest bytes (rest_is line None rest (plain, same)) takes) at)
+pub stop_of_line : (line : List ℕ) (session : Option ℕ) (rest bytes : List ℕ) (stop : Stop) → ReadsTag line session rest → Takes AnyBlanks tt rest bytes
+    → IsStop IsSomeTail BadTail (LacksMemory bytes) bytes stop → IsStop IsLine BadLine (NeedsMemory line) line stop
+stop_of_line line None rest bytes stop (plain, same) takes at = subst (λ (l : List ℕ). IsStop IsLine BadLine (NeedsMemory line) l stop) same
+    (stop_behind (NeedsMemory line) (LacksMemory bytes) [] rest bytes stop takes behind (lacks_line line rest bytes (rest_is line None rest (plain, same)) takes) at)
   where
     starts : EndsRun is_at bytes
     starts = starts_after plain.blanks plain.bytes plain.are_blanks plain.starts plain.plain (same ∙ plain.line_is)
       where
         starts_after : (blanks more : List ℕ) → AreBlanks blanks → EndsRun is_blank more → EndsRun is_at more → rest ≡ blanks ++ more → EndsRun is_at bytes
-        starts_after blanks more are ends plain whole = subst (EndsRun is_at) (run_is_unique is_blank blanks takes.prefix more bytes are takes.is ends takes.ends (sym whole ∙ takes.bytes_are)).1 plain
+        starts_after blanks more are ends plain whole = subst (EndsRun is_at)
+            (run_is_unique is_blank blanks takes.prefix more bytes are takes.is ends takes.ends (sym whole ∙ takes.bytes_are)).1 plain
 
     behind : IsBehind [] takes.prefix bytes
     behind more (inl some) = after_untagged takes.prefix more takes.is (some_starts more some) (some_untagged more some)
-    behind more (inr alike) = after_untagged takes.prefix more takes.is (EndsRun-first_byte is_blank bytes more alike takes.ends) (EndsRun-first_byte is_at bytes more alike starts)
-stop_of_line line (Some session) rest bytes stop (front, whole, tag) takes at = subst (λ (l : List ℕ). IsStop IsLine BadLine (NeedsMemory line) l stop) (sym whole) (stop_behind (NeedsMemory line) (LacksMemory bytes) front rest bytes stop takes (λ more either. after_tagged front session tag (takes.prefix ++ more)) (lacks_line line rest bytes (rest_is line (Some session) rest (front, whole, tag)) takes) at)
+    behind more (inr alike) = after_untagged takes.prefix more takes.is (EndsRun-first_byte is_blank bytes more alike takes.ends)
+        (EndsRun-first_byte is_at bytes more alike starts)
+stop_of_line line (Some session) rest bytes stop (front, whole, tag) takes at =
+    subst (λ (l : List ℕ). IsStop IsLine BadLine (NeedsMemory line) l stop) (sym whole)
+    (stop_behind (NeedsMemory line) (LacksMemory bytes) front rest bytes stop takes (λ more either. after_tagged front session tag (takes.prefix ++ more)) (lacks_line line rest bytes (rest_is line (Some session) rest (front, whole, tag)) takes) at)
 
-plain_no_bad : (command : Command) → IsCommand command → (bytes : List ℕ) → IsTail command bytes → KeepsBounds command → (kind : BadToken) (left : ℕ) → ¬ BadTail kind left bytes
+plain_no_bad : (command : Command) → IsCommand command → (bytes : List ℕ) → IsTail command bytes → KeepsBounds command → (kind : BadToken) (left : ℕ)
+    → ¬ BadTail kind left bytes
 plain_no_bad command is bytes (inl (blank, end)) keeps kind left = λ bad. no_word_in_nothing (λ head. BadAfter head kind left) bytes end bad
 plain_no_bad command is bytes (inr word) keeps kind left = λ bad.
-    let both = words_agree head_words head_table (SpellsAfter command) (λ head. BadAfter head kind left) (spells_halts command) (bad_after_halts kind left) bytes word bad in
+    let both = words_agree head_words head_table (SpellsAfter command) (λ head. BadAfter head kind left) (spells_halts command) (bad_after_halts kind left)
+    bytes word bad in
     let head = both.kind in
     ⊎_elim
     (λ (query : head ≡ heads.Query). let (asked, same, to) = subst (λ (h : Head). SpellsAfter command h both.rest) query both.one in absurd (asked_is_none asked (query_is_asked asked both.rest to) (subst IsCommand same is)))
@@ -320,10 +361,13 @@ plain_no_bad command is bytes (inr word) keeps kind left = λ bad.
     let spelled = contents_of_spelled command head both.rest both.one in
     let parts = parts_with (production head) spelled.contents in
     let last : List Part = last_parts (last_part head) spelled.last in
-    let all : AllByRecursion IsBounded (Exactly (word_of head) ∷ (parts ++ last)) = subst (AllByRecursion IsBounded) (ap parts_of spelled.is ∙ command_parts head spelled.contents spelled.last plain spelled.allowed) keeps in
+    let all : AllByRecursion IsBounded (Exactly (word_of head) ∷ (parts ++ last)) =
+    subst (AllByRecursion IsBounded) (ap parts_of spelled.is ∙ command_parts head spelled.contents spelled.last plain spelled.allowed) keeps in
     let within = all_split parts last all.1 in
     let closes = last_closes head in
-    no_bad_within no_blanks (production head) (production_is head) spelled.contents spelled.allowed within.0 (LastOf head spelled.last) (λ class halts rest made. closes.ends class halts rest (spelled.last, made)) (BadLast head) kind left (closes.bads_end kind left) (last_no_bad (last_part head) plain spelled.last within.1 kind left) both.rest spelled.made both.two)
+    no_bad_within no_blanks (production head) (production_is head) spelled.contents spelled.allowed within.0 (LastOf head spelled.last)
+    (λ class halts rest made. closes.ends class halts rest (spelled.last, made)) (BadLast head) kind left (closes.bads_end kind left)
+    (last_no_bad (last_part head) plain spelled.last within.1 kind left) both.rest spelled.made both.two)
     (query_or_plain head)
 
 -- the query that is kept, by the word
@@ -335,18 +379,21 @@ kept_halts : (command : Command) (head : Head) → Halts is_name_byte (KeptAfter
 kept_halts command heads.Query = λ rest kept. query_halts NameByte refl rest (command, query_of_kept command rest kept)
 kept_halts command head = λ rest none. absurd none
 
-kept_no_bad_after : (command : Command) (head : Head) (rest : List ℕ) (kind : BadToken) (left : ℕ) → KeptAfter command head rest → ¬ BadAfter head kind left rest
+kept_no_bad_after : (command : Command) (head : Head) (rest : List ℕ) (kind : BadToken) (left : ℕ) → KeptAfter command head rest
+    → ¬ BadAfter head kind left rest
 kept_no_bad_after command heads.Query rest kind left kept = kept_query_no_bad command rest kept kind left
 kept_no_bad_after command head rest kind left none = absurd none
 
 no_bad_query : (command : Command) (bytes : List ℕ) → AfterG (IsKeptQuery command) bytes → (kind : BadToken) (left : ℕ) → ¬ BadTail kind left bytes
 no_bad_query command bytes (word, rest, bytes_are, word_is, kept) kind left = λ bad.
     let here : ThenWord head_words (KeptAfter command) bytes = ((codes "g", heads.Query), lookup_in head_words (codes "g") heads.Query (named heads.Query), (word, rest, bytes_are, word_is, kept)) in
-    let both = words_agree head_words head_table (KeptAfter command) (λ head. BadAfter head kind left) (kept_halts command) (bad_after_halts kind left) bytes here bad in
+    let both = words_agree head_words head_table (KeptAfter command) (λ head. BadAfter head kind left) (kept_halts command) (bad_after_halts kind left) bytes
+    here bad in
     kept_no_bad_after command both.kind both.rest kind left both.one both.two
 
 -- A command within its bounds leaves no bad token.
-pub no_bad_tail : (command : Command) (bytes : List ℕ) → IsTail command bytes → KeepsTail command bytes → (kind : BadToken) (left : ℕ) → ¬ BadTail kind left bytes
+pub no_bad_tail : (command : Command) (bytes : List ℕ) → IsTail command bytes → KeepsTail command bytes → (kind : BadToken) (left : ℕ)
+    → ¬ BadTail kind left bytes
 no_bad_tail (commands.Query query) bytes tail keeps kind left = no_bad_query (commands.Query query) bytes keeps kind left
 no_bad_tail (commands.Mutate reading mutation) bytes tail keeps kind left = no_bad_query (commands.Mutate reading mutation) bytes keeps kind left
 no_bad_tail command bytes tail keeps kind left = plain_no_bad command tt bytes tail keeps kind left
@@ -356,7 +403,8 @@ no_bad_tail command bytes tail keeps kind left = plain_no_bad command tt bytes t
 g_halts : (After : List ℕ → Type 0) → Halts is_blank (Then (Exactly (codes "g")) After)
 g_halts After = λ bytes (prefix, rest, bytes_are, same, after). subst (EndsRun is_blank) (sym (bytes_are ∙ ap (λ w. w ++ rest) same)) refl
 
-keeps_after : (command : Command) (rest bytes : List ℕ) → Takes AnyBlanks tt rest bytes → AfterFront (AfterG (IsKeptQuery command)) rest → AfterG (IsKeptQuery command) bytes
+keeps_after : (command : Command) (rest bytes : List ℕ) → Takes AnyBlanks tt rest bytes → AfterFront (AfterG (IsKeptQuery command)) rest
+    → AfterG (IsKeptQuery command) bytes
 keeps_after command rest bytes takes spells = (after_symbol AnyBlanks refl (Then (Exactly (codes "g")) (IsKeptQuery command)) (g_halts (IsKeptQuery command)) tt tt tt rest bytes takes spells).1
 
 pub spelled_keeps : (rest bytes : List ℕ) (command : Command) → Takes AnyBlanks tt rest bytes → AfterFront (IsKeptTail command) rest → KeepsTail command bytes
@@ -364,10 +412,13 @@ spelled_keeps rest bytes (commands.Query query) takes spells = keeps_after (comm
 spelled_keeps rest bytes (commands.Mutate reading mutation) takes spells = keeps_after (commands.Mutate reading mutation) rest bytes takes spells
 spelled_keeps rest bytes command takes (blanks, last, whole, are_blanks, tail) = tail.1
 
-spelled_of_tail : (rest bytes : List ℕ) (command : Command) → Takes AnyBlanks tt rest bytes → IsTail command bytes → KeepsTail command bytes → AfterFront (IsKeptTail command) rest
+spelled_of_tail : (rest bytes : List ℕ) (command : Command) → Takes AnyBlanks tt rest bytes → IsTail command bytes → KeepsTail command bytes
+    → AfterFront (IsKeptTail command) rest
 spelled_of_tail rest bytes (commands.Query query) takes tail keeps = (takes.prefix, bytes, takes.bytes_are, takes.is, keeps)
 spelled_of_tail rest bytes (commands.Mutate reading mutation) takes tail keeps = (takes.prefix, bytes, takes.bytes_are, takes.is, keeps)
 spelled_of_tail rest bytes command takes tail keeps = (takes.prefix, bytes, takes.bytes_are, takes.is, (tail_loose command bytes tail, keeps))
 
-pub spells_of_tail : (line rest bytes : List ℕ) (command : Command) → rest ≡ after_tag line → Takes AnyBlanks tt rest bytes → IsTail command bytes → KeepsTail command bytes → Spells line command
-spells_of_tail line rest bytes command rest_is takes tail keeps = subst (AfterFront (IsKeptTail command)) rest_is (spelled_of_tail rest bytes command takes tail keeps)
+pub spells_of_tail : (line rest bytes : List ℕ) (command : Command) → rest ≡ after_tag line → Takes AnyBlanks tt rest bytes → IsTail command bytes
+    → KeepsTail command bytes → Spells line command
+spells_of_tail line rest bytes command rest_is takes tail keeps = subst (AfterFront (IsKeptTail command)) rest_is
+    (spelled_of_tail rest bytes command takes tail keeps)

@@ -1,5 +1,7 @@
 -- What is shown of an element that is viewed is a line that makes it again.
-use Rattle.std.proofs.Common.{◌≡◌, ◌≢◌, ◌≤◌, ◌<◌, ◌+◌, ◌-◌, ◌*◌, ◌/◌, ◌%◌, ◌^◌, ◌⊎◌, inl, inr, ℕ, ℤ, pos, negsuc, suc, nat_eq, Bool, true, false, not, ◌&&◌, if◌then◌else◌, Option, Some, None, List, [], ◌∷◌, ◌++◌, codes, decimal, flat_map, refl, sym, ap, ◌∙◌, subst, append_assoc, arith}
+use Rattle.std.proofs.Common.{◌≡◌, ◌≢◌, ◌≤◌, ◌<◌, ◌+◌, ◌-◌, ◌*◌, ◌/◌, ◌%◌, ◌^◌, ◌⊎◌, inl, inr, ℕ, ℤ, pos, negsuc, suc}
+use Rattle.std.proofs.Common.{nat_eq, Bool, true, false, not, ◌&&◌, if◌then◌else◌, Option, Some, None, List, [], ◌∷◌}
+use Rattle.std.proofs.Common.{◌++◌, codes, decimal, flat_map, refl, sym, ap, ◌∙◌, subst, append_assoc, arith}
 use Rattle.std.specs.Fmt.{signed_decimal}
 use Rattle.std.specs.List.{AllByRecursion}
 use Rattle.std.proofs.lemmas.Bool.Decides.{nat_tests}
@@ -145,7 +147,8 @@ pairs_keep (pair ∷ pairs) (short, kept, later) = (tt, (short.1, (tt, (kept, pa
 -- ---- lines
 
 -- What is shown of a node makes a node of this label with these pairs.
-pub node_making_spells : (id : ℕ) (label : List ℕ) (pairs : List Pair) → IsShortName label → ArePairs pairs → Spells (making_text (items.Vertex id) (record { label = Some label; pairs = pairs })) (commands.Node label pairs)
+pub node_making_spells : (id : ℕ) (label : List ℕ) (pairs : List Pair) → IsShortName label → ArePairs pairs
+    → Spells (making_text (items.Vertex id) (record { label = Some label; pairs = pairs })) (commands.Node label pairs)
 node_making_spells id label pairs short are =
     let line = making_text (items.Vertex id) (record { label = Some label; pairs = pairs }) in
     let made : IsMadeOf (parts_of (commands.Node label pairs)) line = (codes "node", codes " " ++ (label ++ assigned pairs), simp append_assoc, refl, (codes " ", label ++ assigned pairs, refl, ((refl, tt), λ none. cc), (label, assigned pairs, refl, (refl, short.0), pairs_made pairs are))) in
@@ -153,7 +156,9 @@ node_making_spells id label pairs short are =
     ([], line, refl, tt, (made, keeps))
 
 -- What is shown of an edge makes an edge of this type between these nodes with these pairs.
-pub edge_making_spells : (id : ℕ) (label : List ℕ) (from to : ℕ) (shown : Option (List ℕ)) (pairs : List Pair) → from ≤ most_id → to ≤ most_id → IsShortName label → ArePairs pairs → Spells (making_text (items.Edge id label from to) (record { label = shown; pairs = pairs })) (commands.Edge from label to pairs)
+pub edge_making_spells : (id : ℕ) (label : List ℕ) (from to : ℕ) (shown : Option (List ℕ)) (pairs : List Pair) → from ≤ most_id → to ≤ most_id
+    → IsShortName label → ArePairs pairs → Spells (making_text (items.Edge id label from to) (record { label = shown; pairs = pairs }))
+    (commands.Edge from label to pairs)
 edge_making_spells id label from to shown pairs from_few to_few short are =
     let line = making_text (items.Edge id label from to) (record { label = shown; pairs = pairs }) in
     let first = decimal_is_number from (omega (arith, from_few)) in

@@ -19,7 +19,9 @@ replace_last-append before last step =
     ap (λ k. take k (before ++ last ∷ []) ++ step ∷ []) n ∙ ap (λ (list : List Step). list ++ step ∷ []) (take-append_seam before (last ∷ []))
 
 -- what comes after the steps with one put there
-pub items_from-put_step : (items : Items) (list : List Step) (word : StepWord) (step : Step) → (word ≡ words.By → (before : List Step) × (list ≡ before ++ plain_order ∷ [])) → IsOrderStep word step → items_from items (put_step word list step) ≡ items_after (items_from items list) step
+pub items_from-put_step : (items : Items) (list : List Step) (word : StepWord) (step : Step)
+    → (word ≡ words.By → (before : List Step) × (list ≡ before ++ plain_order ∷ [])) → IsOrderStep word step
+    → items_from items (put_step word list step) ≡ items_after (items_from items list) step
 items_from-put_step items list (words.Bare bare) step last order = items_from-append items list step
 items_from-put_step items list (words.Names names) step last order = items_from-append items list step
 items_from-put_step items list (words.Body word) step last order = items_from-append items list step
@@ -30,7 +32,8 @@ items_from-put_step items list words.Order step last order = items_from-append i
 items_from-put_step items list (words.Change change) step last order = items_from-append items list step
 items_from-put_step items list words.By step last (key, descending, is) =
     let (before, list_is) = last refl in
-    let put : replace_last list step ≡ before ++ step ∷ [] = ap (λ (these : List Step). replace_last these step) list_is ∙ replace_last-append before plain_order step in
+    let put : replace_last list step ≡ before ++ step ∷ [] = ap (λ (these : List Step). replace_last these step) list_is
+    ∙ replace_last-append before plain_order step in
     let before_is : items_from items list ≡ items_from items before = ap (items_from items) list_is ∙ items_from-append items before plain_order in
     ap (items_from items) put ∙ items_from-append items before step ∙ ap (λ (these : Items). items_after these step) (sym before_is)
 
@@ -39,7 +42,8 @@ steps_in-append [] step = omega arith
 steps_in-append (first ∷ list) step = let later = steps_in-append list step in omega (arith, later)
 
 -- how many steps there are with one put there
-pub steps_in-put_step : (list : List Step) (word : StepWord) (step : Step) → (word ≡ words.By → (before : List Step) × (list ≡ before ++ plain_order ∷ [])) → IsOrderStep word step → steps_in (put_step word list step) ≡ steps_in list + added_count word step
+pub steps_in-put_step : (list : List Step) (word : StepWord) (step : Step) → (word ≡ words.By → (before : List Step) × (list ≡ before ++ plain_order ∷ []))
+    → IsOrderStep word step → steps_in (put_step word list step) ≡ steps_in list + added_count word step
 steps_in-put_step list (words.Bare bare) step last order = steps_in-append list step
 steps_in-put_step list (words.Names names) step last order = steps_in-append list step
 steps_in-put_step list (words.Body word) step last order = steps_in-append list step
@@ -50,14 +54,17 @@ steps_in-put_step list words.Order step last order = steps_in-append list step
 steps_in-put_step list (words.Change change) step last order = steps_in-append list step
 steps_in-put_step list words.By step last (key, descending, is) =
     let (before, list_is) = last refl in
-    let put : replace_last list step ≡ before ++ step ∷ [] = ap (λ (these : List Step). replace_last these step) list_is ∙ replace_last-append before plain_order step in
+    let put : replace_last list step ≡ before ++ step ∷ [] = ap (λ (these : List Step). replace_last these step) list_is
+    ∙ replace_last-append before plain_order step in
     let one : step_count step ≡ 1 = ap (λ (s : Step). step_count s) is in
-    let after : steps_in (replace_last list step) ≡ steps_in before + step_count step = ap (λ (these : List Step). steps_in these) put ∙ steps_in-append before step in
+    let after : steps_in (replace_last list step) ≡ steps_in before + step_count step = ap (λ (these : List Step). steps_in these) put
+    ∙ steps_in-append before step in
     let ahead : steps_in list ≡ steps_in before + 1 = ap (λ (these : List Step). steps_in these) list_is ∙ steps_in-append before plain_order in
     omega (arith, one, after, ahead)
 
 -- An order without a `by` is the last step.
-pub order_is_last : (list : List Step) (word : StepWord) (step : Step) → IsOrderStep word step → is_order word ≡ true → (before : List Step) × (put_step word list step ≡ before ++ plain_order ∷ [])
+pub order_is_last : (list : List Step) (word : StepWord) (step : Step) → IsOrderStep word step → is_order word ≡ true → (before : List Step)
+    × (put_step word list step ≡ before ++ plain_order ∷ [])
 order_is_last list (words.Bare bare) step order is = cc
 order_is_last list (words.Names names) step order is = cc
 order_is_last list (words.Body of_body) step order is = cc

@@ -1,5 +1,6 @@
 -- Pairs to the line's end: a pair is an item, and any blanks are the end.
-use Rattle.std.proofs.Common.{◌≡◌, ◌≢◌, ◌<◌, ◌+◌, inl, inr, ℕ, true, false, ◌&&◌, List, [], ◌∷◌, ◌++◌, length, codes, pos, refl, sym, ap, ◌∙◌, subst, ⊎_elim, append_assoc, length-append, arith}
+use Rattle.std.proofs.Common.{◌≡◌, ◌≢◌, ◌<◌, ◌+◌, inl, inr, ℕ, true, false, ◌&&◌, List, [], ◌∷◌, ◌++◌, length, codes}
+use Rattle.std.proofs.Common.{pos, refl, sym, ap, ◌∙◌, subst, ⊎_elim, append_assoc, length-append, arith}
 use Rattle.std.specs.List.{AllByRecursion}
 use Rattle.plain_graph.specs.Names.{IsName}
 use Rattle.plain_graph.specs.declared.pairs.Pair.{Pair}
@@ -17,7 +18,8 @@ use Rattle.gremlin_parse.proofs.Names.{name_starts, name_start_is_no_blank}
 use Rattle.gremlin_parse.proofs.Symbols.{passes, no_blanks, part_halts, takes_unique}
 use Rattle.gremlin_parse.proofs.Productions.{HaltsAt, Closes, Then-name-starts, stop_among, stop_after_all, read_within}
 use Rattle.gremlin_parse.proofs.Spelling.{HasNoBad, read_parts}
-use Rattle.gremlin_parse.proofs.Repeats.{Language, IsItem, IsSpelledBy, IsEndOf, production_item, items_close, items_agree, no_bad_items, SoFar, one_more, stop_so_far, all_read, all_bounded}
+use Rattle.gremlin_parse.proofs.Repeats.{Language, IsItem, IsSpelledBy, IsEndOf, production_item, items_close}
+use Rattle.gremlin_parse.proofs.Repeats.{items_agree, no_bad_items, SoFar, one_more, stop_so_far, all_read, all_bounded}
 
 pair_spelled : IsSpelledBy pair_parts pair_symbols
 pair_spelled = record {
@@ -60,7 +62,8 @@ end_halts = λ class halts bytes (prefix, rest, whole, are, end).
     subst (EndsRun (passes class)) (sym whole) (part_halts class true AnyBlanks [] (ap (λ t. t && true) halts) tt tt prefix rest are (λ _. subst (EndsRun (passes class)) (sym end) tt))
 
 pub end_no_bad : HasNoBad (Blanks ∷ [])
-end_no_bad kind left bytes = λ bad. ⊎_elim (λ here. absurd here.5) (λ ((prefix, rest, whole, are, later) : Then Blanks (BadParts [] kind left) bytes). later) bad
+end_no_bad kind left bytes = λ bad. ⊎_elim (λ here. absurd here.5) (λ ((prefix, rest, whole, are, later) : Then Blanks (BadParts [] kind left) bytes). later)
+    bad
 
 not_a_pair : (After : Language) (bytes : List ℕ) → AtEnd bytes → ¬ Follows pair_symbols (λ _. After) bytes
 not_a_pair After bytes end = λ (content, allows, (gap, more, whole, gap_is, (name, allows_name, then))).
@@ -72,12 +75,14 @@ no_bad_pair Bad kind left bytes end = λ bad. refuse bad
     refuse : BadFollows pair_symbols Bad kind left bytes → ⊥
     refuse (inl here) = here.1
     refuse (inr (content, allows, (gap, more, whole, gap_is, inl (name, bad, rest, takes, place)))) =
-        no_name gap more (subst AreBlanks whole (end_blanks bytes end)) (subst StartsName (sym takes.bytes_are) (name_starts takes.prefix rest (subst IsName (sym takes.is.0) takes.is.1)))
+        no_name gap more (subst AreBlanks whole (end_blanks bytes end))
+        (subst StartsName (sym takes.bytes_are) (name_starts takes.prefix rest (subst IsName (sym takes.is.0) takes.is.1)))
     refuse (inr (content, allows, (gap, more, whole, gap_is, inr (name, allows_name, then)))) =
         no_name gap more (subst AreBlanks whole (end_blanks bytes end)) (Then-name-starts _ name more then)
 
 -- After blanks a pair may come.
-pair_goes_on : (After : Language) (line : List ℕ) → After line → (read : List ℕ) (b : ℕ) (more : List ℕ) → AtEnd (read ++ b ∷ more) → (line : List ℕ) × Follows pair_symbols (λ _. After) (read ++ b ∷ line)
+pair_goes_on : (After : Language) (line : List ℕ) → After line → (read : List ℕ) (b : ℕ) (more : List ℕ) → AtEnd (read ++ b ∷ more) → (line : List ℕ)
+    × Follows pair_symbols (λ _. After) (read ++ b ∷ line)
 pair_goes_on After line some read b more end =
     let blanks = first_blanks read b more (end_blanks (read ++ b ∷ more) end) in (
       codes "a=0" ++ line,
@@ -139,14 +144,16 @@ pairs_close = items_close pair_item
 pub pairs_agree : (list others : List Pair) (bytes : List ℕ) → IsMadeOf (pairs_to_end list) bytes → IsMadeOf (pairs_to_end others) bytes → others ≡ list
 pairs_agree = items_agree pair_item
 
-pub no_bad_pairs : (list : List Pair) (bytes : List ℕ) → AllByRecursion IsBounded (pairs_to_end list) → IsMadeOf (pairs_to_end list) bytes → (kind : BadToken) (left : ℕ) → ¬ BadInPairs kind left bytes
+pub no_bad_pairs : (list : List Pair) (bytes : List ℕ) → AllByRecursion IsBounded (pairs_to_end list) → IsMadeOf (pairs_to_end list) bytes
+    → (kind : BadToken) (left : ℕ) → ¬ BadInPairs kind left bytes
 no_bad_pairs = no_bad_items pair_item
 
 -- the pairs that were read, and what is left
 abbrev pub PairsSoFar : List ℕ → List Pair → List ℕ → Type 0
 PairsSoFar bytes list rest = SoFar pair_item (Unit {0}) bytes list rest
 
-pub pair_more : (bytes rest after : List ℕ) (list : List Pair) (key : List ℕ) (value : Value) → PairsSoFar bytes list rest → ¬ AtEnd rest → ReadsAll pair_symbols (pair_contents key value) rest after → PairsSoFar bytes (list ++ pair_of (pair_contents key value) ∷ []) after
+pub pair_more : (bytes rest after : List ℕ) (list : List Pair) (key : List ℕ) (value : Value) → PairsSoFar bytes list rest → ¬ AtEnd rest
+    → ReadsAll pair_symbols (pair_contents key value) rest after → PairsSoFar bytes (list ++ pair_of (pair_contents key value) ∷ []) after
 pair_more bytes rest after list key value so_far other reads =
     one_more pair_item (Unit {0}) bytes rest after list (pair_of (pair_contents key value)) so_far other
     (λ stop at. stop_after_all no_blanks pair_symbols refl SpellsPairs BadInPairs pairs_close (Unit {0}) (pair_contents key value) rest after stop reads at)
@@ -156,7 +163,8 @@ pair_more bytes rest after list key value so_far other reads =
     bounded : ReadsAll pair_symbols (pair_contents key value) rest after → AllByRecursion IsBounded (pair_parts (pair_of (pair_contents key value)))
     bounded (gap, gap_reads, (name, name_reads, (sign, sign_reads, (end, value_reads, same)))) = (tt, (name_reads.bounded, (tt, (value_reads.bounded, tt))))
 
-pub pairs_stop : (bytes rest : List ℕ) (list : List Pair) (stop : Stop) → PairsSoFar bytes list rest → ¬ AtEnd rest → LeavesOne pair_symbols rest stop → IsStop SpellsPairs BadInPairs (Unit {0}) bytes stop
+pub pairs_stop : (bytes rest : List ℕ) (list : List Pair) (stop : Stop) → PairsSoFar bytes list rest → ¬ AtEnd rest → LeavesOne pair_symbols rest stop
+    → IsStop SpellsPairs BadInPairs (Unit {0}) bytes stop
 pairs_stop bytes rest list stop so_far other leaves =
     stop_so_far pair_item (Unit {0}) bytes rest list stop so_far other (stop_among no_blanks pair_symbols refl SpellsPairs BadInPairs pairs_close (Unit {0}) rest stop leaves)
 
@@ -176,7 +184,8 @@ pub at_end : (bytes rest : List ℕ) → Takes AnyBlanks tt bytes rest → rest 
 at_end bytes rest takes end = (takes.prefix, rest, takes.bytes_are, takes.is, end)
 
 -- A pair has some byte.
-pub pair_shorter : (key : List ℕ) (value : Value) (bytes rest : List ℕ) → ReadsAll pair_symbols (pair_contents key value) bytes rest → length rest < length bytes
+pub pair_shorter : (key : List ℕ) (value : Value) (bytes rest : List ℕ) → ReadsAll pair_symbols (pair_contents key value) bytes rest
+    → length rest < length bytes
 pair_shorter key value bytes rest (middle, reads, later) =
     let after = read_within (AnyName ∷ Sign (codes "=") ∷ AnyValue ∷ []) (key, (tt, (value, tt))) middle rest later in
     let len : length bytes ≡ length reads.takes.prefix + length middle = ap length reads.takes.bytes_are ∙ length-append reads.takes.prefix middle in

@@ -17,14 +17,18 @@ use Rattle.gremlin_parse.proofs.TokenQueries.{query_produced}
 use Rattle.gremlin_parse.proofs.TokenGoes.{produced_spelled}
 
 pub query_line : (line : List ℕ) (query : Query) → Spells line (commands.Query query) → IsProducedLine line (commands.Query query)
-query_line line query (blanks, rest, whole, are, (letter, more, cut, is, kept)) = (blanks, rest, whole, are, (letter, more, cut, is, query_produced (commands.Query query) more kept))
+query_line line query (blanks, rest, whole, are, (letter, more, cut, is, kept)) =
+    (blanks, rest, whole, are, (letter, more, cut, is, query_produced (commands.Query query) more kept))
 
-pub change_line : (line : List ℕ) (reading : Option Query) (mutation : Mutation) → Spells line (commands.Mutate reading mutation) → IsProducedLine line (commands.Mutate reading mutation)
-change_line line reading mutation (blanks, rest, whole, are, (letter, more, cut, is, kept)) = (blanks, rest, whole, are, (letter, more, cut, is, query_produced (commands.Mutate reading mutation) more kept))
+pub change_line : (line : List ℕ) (reading : Option Query) (mutation : Mutation) → Spells line (commands.Mutate reading mutation)
+    → IsProducedLine line (commands.Mutate reading mutation)
+change_line line reading mutation (blanks, rest, whole, are, (letter, more, cut, is, kept)) =
+    (blanks, rest, whole, are, (letter, more, cut, is, query_produced (commands.Mutate reading mutation) more kept))
 
 kept_tail : (command : Command) (bytes : List ℕ) → AfterG (IsProduced command) bytes → IsKeptTail command bytes
 kept_tail (commands.Query query) bytes (letter, more, cut, is, produced) = (letter, more, cut, is, produced_spelled (commands.Query query) more produced)
-kept_tail (commands.Mutate reading mutation) bytes (letter, more, cut, is, produced) = (letter, more, cut, is, produced_spelled (commands.Mutate reading mutation) more produced)
+kept_tail (commands.Mutate reading mutation) bytes (letter, more, cut, is, produced) =
+    (letter, more, cut, is, produced_spelled (commands.Mutate reading mutation) more produced)
 kept_tail command bytes (letter, more, cut, is, (tokens, none, are)) = absurd none
 
 pub line_spelled : (line : List ℕ) (command : Command) → IsProducedLine line command → Spells line command
@@ -35,4 +39,5 @@ no_fault line command fault (blanks, rest, whole, are, (letter, more, cut, is, p
     let spelled : Spells line command = line_spelled line command (blanks, rest, whole, are, (letter, more, cut, is, produced)) in
     let start : rest ≡ codes "g" ++ more = cut ∙ ap (λ (l : List ℕ). l ++ more) is in
     let takes : Takes AnyBlanks tt (after_tag line) rest = record { prefix = blanks; bytes_are = whole; is = are; ends = subst (EndsRun is_blank) (sym start) refl } in
-    no_fault_of line (after_tag line) rest command refl takes (tail_after command (after_tag line) rest takes (spelled_loosely line command spelled)) (spelled_keeps (after_tag line) rest command takes spelled) fault
+    no_fault_of line (after_tag line) rest command refl takes (tail_after command (after_tag line) rest takes (spelled_loosely line command spelled))
+    (spelled_keeps (after_tag line) rest command takes spelled) fault

@@ -6,7 +6,8 @@ use Rattle.plain_graph.specs.declared.mutation.Mutation.TheVariants as mutations
 use Rattle.gremlin_parse.specs.Grammar.{Part, IsBounded}
 use Rattle.gremlin_parse.specs.Stopping.{IsStop}
 use Rattle.gremlin_parse.specs.Turns.{ThenSign, ThenOther, Loosely, Leads, LineFrom, KeptFrom, BadFrom}
-use Rattle.gremlin_parse.specs.Queries.{Place, Start, Steps, Ordered, Dropped, Changed, changed, turn, is_loose, LineTo, QueryTo, IsQuery, IsKeptQuery, BadQuery, StopsInQuery, shown}
+use Rattle.gremlin_parse.specs.Queries.{Place, Start, Steps, Ordered, Dropped, Changed, changed, turn, is_loose, LineTo}
+use Rattle.gremlin_parse.specs.Queries.{QueryTo, IsQuery, IsKeptQuery, BadQuery, StopsInQuery, shown}
 use Rattle.gremlin_parse.specs.declared.bad_token.BadToken.{BadToken}
 use Rattle.gremlin_parse.specs.declared.stop.Stop.{Stop}
 use Rattle.gremlin_parse.specs.declared.stop.Stop.TheVariants as stops
@@ -52,10 +53,12 @@ start_halts NameByte free = refl
 start_halts Digit free = refl
 
 pub query_halts : HaltsAt no_blanks SomeQuery
-query_halts class free bytes is = loose_ending turn is_loose (LineFrom turn is_loose) (line_ending turn is_loose) class Start (start_halts class free) bytes (query_of_some bytes is)
+query_halts class free bytes is = loose_ending turn is_loose (LineFrom turn is_loose) (line_ending turn is_loose) class Start (start_halts class free) bytes
+    (query_of_some bytes is)
 
 bad_query_halts : (kind : BadToken) (left : ℕ) → HaltsAt no_blanks (BadQuery kind left)
-bad_query_halts kind left class free bytes bad = loose_ending turn is_loose (λ next rest. BadFrom turn is_loose next kind left rest) (bad_ending turn is_loose kind left) class Start (start_halts class free) bytes bad
+bad_query_halts kind left class free bytes bad = loose_ending turn is_loose (λ next rest. BadFrom turn is_loose next kind left rest)
+    (bad_ending turn is_loose kind left) class Start (start_halts class free) bytes bad
 
 pub queries_close : Closes no_blanks SomeQuery BadQuery
 queries_close = record {
@@ -73,22 +76,28 @@ no_blank_starts Bound end n = leads_bare turn is_loose Bound end n Blank Start r
 
 pub queries_agree : (one two : Command) (bytes : List ℕ) → QueryTo one bytes → QueryTo two bytes → two ≡ one
 queries_agree one two bytes first second =
-    let ends : (command : Command) → Halts (passes Blank) (LineTo command Start) = λ command rest (n, leads). no_blank_starts (λ _. Unit {0}) command n rest leads in
+    let ends : (command : Command) → Halts (passes Blank) (LineTo command Start) = λ command rest (n, leads).
+    no_blank_starts (λ _. Unit {0}) command n rest leads in
     let (rest, (n, leads), (m, again)) = blanks_agree true (LineTo one Start) (LineTo two Start) (ends one) (ends two) bytes first second in
     sym (leads_agree turn is_loose are some (λ _. Unit {0}) (λ _. Unit {0}) one two n m Start rest leads again)
 
 -- A query within its bounds has no bad token.
 pub kept_query_no_bad : (command : Command) (bytes : List ℕ) → IsKeptQuery command bytes → (kind : BadToken) (left : ℕ) → ¬ BadQuery kind left bytes
 kept_query_no_bad command bytes kept kind left = λ bad.
-    let (rest, (n, leads), (m, bads)) = blanks_agree true (KeptFrom turn is_loose command Start) (BadFrom turn is_loose Start kind left) (λ rest (n, leads). no_blank_starts IsBounded command n rest leads) (λ rest (m, bads). bad_bare turn is_loose kind left m Blank Start refl rest bads) bytes kept bad in
+    let (rest, (n, leads), (m, bads)) = blanks_agree true (KeptFrom turn is_loose command Start) (BadFrom turn is_loose Start kind left)
+    (λ rest (n, leads). no_blank_starts IsBounded command n rest leads) (λ rest (m, bads). bad_bare turn is_loose kind left m Blank Start refl rest bads)
+    bytes kept bad in
     kept_no_bad turn is_loose are some command kind left n m Start rest leads bads
 
-loosen : (end : Command) (n : ℕ) (place : Place) (bytes : List ℕ) → Leads turn is_loose IsBounded end n place bytes → Leads turn is_loose (λ _. Unit {0}) end n place bytes
+loosen : (end : Command) (n : ℕ) (place : Place) (bytes : List ℕ) → Leads turn is_loose IsBounded end n place bytes
+    → Leads turn is_loose (λ _. Unit {0}) end n place bytes
 loosen end zero place bytes at = at
 loosen end (suc n) place bytes at =
     let From : Place → Language = Loosely turn is_loose (λ next rest. Leads turn is_loose IsBounded end n next rest) in
     let To : Place → Language = Loosely turn is_loose (λ next rest. Leads turn is_loose (λ _. Unit {0}) end n next rest) in
-    let step : (next : Place) (rest : List ℕ) → From next rest → To next rest = λ next rest. blanks_map (is_loose next) (Leads turn is_loose IsBounded end n next) (Leads turn is_loose (λ _. Unit {0}) end n next) (λ these leads. loosen end n next these leads) rest in
+    let step : (next : Place) (rest : List ℕ) → From next rest → To next rest = λ next rest.
+    blanks_map (is_loose next) (Leads turn is_loose IsBounded end n next) (Leads turn is_loose (λ _. Unit {0}) end n next)
+    (λ these leads. loosen end n next these leads) rest in
     ⊎_elim
     (λ (sign : ThenSign (turn place).signs From bytes). inl (sign_map From To step (turn place).signs bytes sign))
     (λ (other : ThenOther IsBounded (turn place).other From bytes). inr (other_map IsBounded (λ _. Unit {0}) (λ this bound. tt) From To step (turn place).other bytes other))

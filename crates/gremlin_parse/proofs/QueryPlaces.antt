@@ -1,5 +1,6 @@
 -- The places of queries: what may follow each ends it, and each has a line.
-use Rattle.std.proofs.Common.{◌≡◌, inl, inr, ℕ, zero, nat_eq, cond, Bool, true, false, ◌||◌, Option, Some, None, List, [], ◌∷◌, ◌++◌, map, codes, pos, refl, sym, ap, ◌∙◌, subst, ⊎_elim}
+use Rattle.std.proofs.Common.{◌≡◌, inl, inr, ℕ, zero, nat_eq, cond, Bool, true, false, ◌||◌, Option, Some, None, List}
+use Rattle.std.proofs.Common.{[], ◌∷◌, ◌++◌, map, codes, pos, refl, sym, ap, ◌∙◌, subst, ⊎_elim}
 use Rattle.std.proofs.lemmas.Bool.Decides.{nat_tests}
 use Rattle.std.proofs.Common.{arith}
 use Rattle.plain_graph.specs.declared.command.Command.{Command}
@@ -24,7 +25,24 @@ use Rattle.plain_graph.specs.declared.value.Value.{Value}
 use Rattle.plain_graph.specs.declared.filter.Relation.{Relation}
 use Rattle.gremlin_parse.specs.Reading.{StartsNumber}
 use Rattle.gremlin_parse.specs.Turns.{Turn, Other, Nothing, Token, ThenOther, WithBlanks, Loosely, LineFrom, sign_at}
-use Rattle.gremlin_parse.specs.Queries.{step_words, body_words, as_step_word, bare_step, Into, OfQuery, OfBody, NamesFor, OfStep, OfMaps, OfHop, OfLabels, Quoted, OneName, Key, OrderKey, Place, Start, SourceName, Opening, FirstId, AfterId, NextId, Steps, StepName, Opens, Closing, FirstName, AfterName, AfterKey, ValueOf, AfterP, RelationName, OpensValue, Compared, ClosesValue, ClosesFilter, relation_names, relation_of, relation_filter, Most, OrderCloses, Ordered, OrderedName, ByFirst, AfterOrderKey, OrderDirection, AfterOrderWord, DirectionName, ByCloses, ordered_words, sort_names, is_descending, direction_of, plain_order, reordered, Quote, InQuotes, BodyFirst, Underscore, AfterAnonymous, BodyName, OpensBody, InBody, AfterBody, TimesWord, OpensTimes, TimesOf, Subject, NewVertex, NewEdges, Elements, VertexLabel, EdgeType, PairKey, AfterFoundLabel, VertexCloses, TypeCloses, AfterType, ToWord, OpensTo, ToFirst, ToUnderscore, ToAnonymous, ToVertex, OpensId, ToId, IdCloses, ToCloses, DropCloses, Dropped, Changed, PropertyName, OpensProperty, AfterPairKey, PairValue, PairCloses, property_words, changed, with_pair, body_name, query_from, with_step, opened, opened_names, opened_body, after_step, after_filter, after_names, after_quoted, value_filter, turn, is_loose, FoundLabel, PairFor, OfChange, OfSource, after_pair, elements_of, named_source, opened_source, shown}
+use Rattle.gremlin_parse.specs.Queries.{step_words, body_words, as_step_word, bare_step, Into, OfQuery, OfBody}
+use Rattle.gremlin_parse.specs.Queries.{NamesFor, OfStep, OfMaps, OfHop, OfLabels, Quoted, OneName, Key, OrderKey}
+use Rattle.gremlin_parse.specs.Queries.{Place, Start, SourceName, Opening, FirstId, AfterId, NextId, Steps, StepName}
+use Rattle.gremlin_parse.specs.Queries.{Opens, Closing, FirstName, AfterName, AfterKey, ValueOf, AfterP, RelationName}
+use Rattle.gremlin_parse.specs.Queries.{OpensValue, Compared, ClosesValue, ClosesFilter, relation_names, relation_of}
+use Rattle.gremlin_parse.specs.Queries.{relation_filter, Most, OrderCloses, Ordered, OrderedName, ByFirst}
+use Rattle.gremlin_parse.specs.Queries.{AfterOrderKey, OrderDirection, AfterOrderWord, DirectionName, ByCloses}
+use Rattle.gremlin_parse.specs.Queries.{ordered_words, sort_names, is_descending, direction_of, plain_order, reordered}
+use Rattle.gremlin_parse.specs.Queries.{Quote, InQuotes, BodyFirst, Underscore, AfterAnonymous, BodyName, OpensBody}
+use Rattle.gremlin_parse.specs.Queries.{InBody, AfterBody, TimesWord, OpensTimes, TimesOf, Subject, NewVertex, NewEdges}
+use Rattle.gremlin_parse.specs.Queries.{Elements, VertexLabel, EdgeType, PairKey, AfterFoundLabel, VertexCloses}
+use Rattle.gremlin_parse.specs.Queries.{TypeCloses, AfterType, ToWord, OpensTo, ToFirst, ToUnderscore, ToAnonymous}
+use Rattle.gremlin_parse.specs.Queries.{ToVertex, OpensId, ToId, IdCloses, ToCloses, DropCloses, Dropped, Changed}
+use Rattle.gremlin_parse.specs.Queries.{PropertyName, OpensProperty, AfterPairKey, PairValue, PairCloses}
+use Rattle.gremlin_parse.specs.Queries.{property_words, changed, with_pair, body_name, query_from, with_step, opened}
+use Rattle.gremlin_parse.specs.Queries.{opened_names, opened_body, after_step, after_filter, after_names, after_quoted}
+use Rattle.gremlin_parse.specs.Queries.{value_filter, turn, is_loose, FoundLabel, PairFor, OfChange, OfSource}
+use Rattle.gremlin_parse.specs.Queries.{after_pair, elements_of, named_source, opened_source, shown}
 use Rattle.plain_graph.specs.declared.value.Value.TheVariants as values
 use Rattle.gremlin_parse.specs.declared.source.SourceKind.{SourceKind}
 use Rattle.gremlin_parse.specs.declared.source.SourceKind.TheVariants as sources
@@ -74,13 +92,15 @@ abbrev times_rest : List ℕ
 times_rest = codes "times" ++ 40 ∷ 49 ∷ 41 ∷ []
 
 times_of_line : (query : Query) (body : List BodyStep) → Line (TimesOf query body) (49 ∷ 41 ∷ [])
-times_of_line query body = line_join turn is_loose (TimesOf query body) (49 ∷ 41 ∷ []) (inr (1, tt, tt, (codes "1", 41 ∷ [], refl, (refl, refl), loose_line (Closing query (steps.Repeat body 1)) (41 ∷ []) (closes_line query (steps.Repeat body 1)))))
+times_of_line query body = line_join turn is_loose (TimesOf query body) (49 ∷ 41 ∷ [])
+    (inr (1, tt, tt, (codes "1", 41 ∷ [], refl, (refl, refl), loose_line (Closing query (steps.Repeat body 1)) (41 ∷ []) (closes_line query (steps.Repeat body 1)))))
 
 opens_times_line : (query : Query) (body : List BodyStep) → Line (OpensTimes query body) (40 ∷ 49 ∷ 41 ∷ [])
 opens_times_line query body = by_sign (OpensTimes query body) 40 (TimesOf query body) (49 ∷ 41 ∷ []) refl (times_of_line query body)
 
 times_word_line : (query : Query) (body : List BodyStep) → Line (TimesWord query body) times_rest
-times_word_line query body = line_join turn is_loose (TimesWord query body) times_rest (inr (tt, tt, tt, (codes "times", 40 ∷ 49 ∷ 41 ∷ [], refl, refl, loose_line (OpensTimes query body) (40 ∷ 49 ∷ 41 ∷ []) (opens_times_line query body))))
+times_word_line query body = line_join turn is_loose (TimesWord query body) times_rest
+    (inr (tt, tt, tt, (codes "times", 40 ∷ 49 ∷ 41 ∷ [], refl, refl, loose_line (OpensTimes query body) (40 ∷ 49 ∷ 41 ∷ []) (opens_times_line query body))))
 
 after_body_line : (query : Query) (body : List BodyStep) → Line (AfterBody query body) (46 ∷ times_rest)
 after_body_line query body = by_sign (AfterBody query body) 46 (TimesWord query body) times_rest refl (times_word_line query body)
@@ -131,7 +151,8 @@ id_closes_line : (query : Query) (label : List ℕ) (to : ℕ) → Line (IdClose
 id_closes_line query label to = by_sign (IdCloses query label to) 41 (ToCloses query label to) (41 ∷ []) refl (to_closes_line query label to)
 
 to_id_line : (query : Query) (label : List ℕ) → Line (ToId query label) (48 ∷ 41 ∷ 41 ∷ [])
-to_id_line query label = line_join turn is_loose (ToId query label) (48 ∷ 41 ∷ 41 ∷ []) (inr (0, tt, tt, (codes "0", 41 ∷ 41 ∷ [], refl, (refl, refl), loose_line (IdCloses query label 0) (41 ∷ 41 ∷ []) (id_closes_line query label 0))))
+to_id_line query label = line_join turn is_loose (ToId query label) (48 ∷ 41 ∷ 41 ∷ [])
+    (inr (0, tt, tt, (codes "0", 41 ∷ 41 ∷ [], refl, (refl, refl), loose_line (IdCloses query label 0) (41 ∷ 41 ∷ []) (id_closes_line query label 0))))
 
 -- the rest of `to` from the parenthesis of its vertex on, and from the vertex on
 abbrev id_rest : List ℕ
@@ -157,7 +178,8 @@ abbrev to_rest : List ℕ
 to_rest = codes "to" ++ 40 ∷ vertex_rest
 
 to_word_line : (query : Query) (label : List ℕ) → Line (ToWord query label) to_rest
-to_word_line query label = line_join turn is_loose (ToWord query label) to_rest (inr (tt, tt, tt, (codes "to", 40 ∷ vertex_rest, refl, refl, loose_line (OpensTo query label) (40 ∷ vertex_rest) (opens_to_line query label))))
+to_word_line query label = line_join turn is_loose (ToWord query label) to_rest
+    (inr (tt, tt, tt, (codes "to", 40 ∷ vertex_rest, refl, refl, loose_line (OpensTo query label) (40 ∷ vertex_rest) (opens_to_line query label))))
 
 after_type_line : (query : Query) (label : List ℕ) → Line (AfterType query label) (46 ∷ to_rest)
 after_type_line query label = by_sign (AfterType query label) 46 (ToWord query label) to_rest refl (to_word_line query label)
@@ -203,19 +225,24 @@ quoted_pair_line purpose =
     (line_join turn is_loose (InQuotes (PairKey purpose) false) (97 ∷ 39 ∷ rest) (inr (codes "a", tt, tt, (codes "a" ++ 39 ∷ [], rest, refl, (refl, (refl, tt)), loose_line (AfterPairKey purpose (codes "a")) rest (pair_key_line purpose (codes "a"))))))
 
 found_label_line : (label : List ℕ) → Line (AfterFoundLabel label) (44 ∷ 39 ∷ 97 ∷ 39 ∷ 44 ∷ 48 ∷ 41 ∷ [])
-found_label_line label = by_sign (AfterFoundLabel label) 44 (Quote (PairKey (OfSource label))) (39 ∷ 97 ∷ 39 ∷ 44 ∷ 48 ∷ 41 ∷ []) refl (quoted_pair_line (OfSource label))
+found_label_line label = by_sign (AfterFoundLabel label) 44 (Quote (PairKey (OfSource label))) (39 ∷ 97 ∷ 39 ∷ 44 ∷ 48 ∷ 41 ∷ []) refl
+    (quoted_pair_line (OfSource label))
 
 after_quoted_line : (quoted : Quoted) (name : List ℕ) → Line (after_quoted quoted name) (rest_of_quoted quoted)
-after_quoted_line (OneName purpose names) name = by_sign (AfterName purpose (names ++ name ∷ [])) 41 (after_names purpose (names ++ name ∷ [])) (rest_of_names purpose) refl (after_names_line purpose (names ++ name ∷ []))
-after_quoted_line (Key into) name = by_sign (AfterKey into name) 41 (after_filter into (filters.Has name)) (rest_after into) refl (after_filter_line into (filters.Has name))
-after_quoted_line (OrderKey query) name = by_sign (AfterOrderKey query name) 41 (Steps (reordered query (Some name) false)) [] refl (steps_line (reordered query (Some name) false))
+after_quoted_line (OneName purpose names) name = by_sign (AfterName purpose (names ++ name ∷ [])) 41 (after_names purpose (names ++ name ∷ []))
+    (rest_of_names purpose) refl (after_names_line purpose (names ++ name ∷ []))
+after_quoted_line (Key into) name = by_sign (AfterKey into name) 41 (after_filter into (filters.Has name)) (rest_after into) refl
+    (after_filter_line into (filters.Has name))
+after_quoted_line (OrderKey query) name = by_sign (AfterOrderKey query name) 41 (Steps (reordered query (Some name) false)) [] refl
+    (steps_line (reordered query (Some name) false))
 after_quoted_line VertexLabel name = vertex_line name
 after_quoted_line (EdgeType query) name = type_line query name
 after_quoted_line FoundLabel name = found_label_line name
 after_quoted_line (PairKey purpose) name = pair_key_line purpose name
 
 in_quotes_line : (quoted : Quoted) (double : Bool) → Line (InQuotes quoted double) (97 ∷ quote_byte double ∷ rest_of_quoted quoted)
-in_quotes_line quoted double = line_join turn is_loose (InQuotes quoted double) (97 ∷ quote_byte double ∷ rest_of_quoted quoted) (inr (codes "a", tt, tt, (codes "a" ++ quote_byte double ∷ [], rest_of_quoted quoted, refl, (refl, (refl, tt)), loose_line (after_quoted quoted (codes "a")) (rest_of_quoted quoted) (after_quoted_line quoted (codes "a")))))
+in_quotes_line quoted double = line_join turn is_loose (InQuotes quoted double) (97 ∷ quote_byte double ∷ rest_of_quoted quoted)
+    (inr (codes "a", tt, tt, (codes "a" ++ quote_byte double ∷ [], rest_of_quoted quoted, refl, (refl, (refl, tt)), loose_line (after_quoted quoted (codes "a")) (rest_of_quoted quoted) (after_quoted_line quoted (codes "a")))))
 
 quote_line : (quoted : Quoted) → Line (Quote quoted) (39 ∷ 97 ∷ 39 ∷ rest_of_quoted quoted)
 quote_line quoted = by_sign (Quote quoted) 39 (InQuotes quoted false) (97 ∷ 39 ∷ rest_of_quoted quoted) refl (in_quotes_line quoted false)
@@ -247,7 +274,8 @@ pub body_table : IsWordTable (map as_step_word body_words)
 body_table = word_table (map as_step_word body_words) refl
 
 body_apart : (next : Place) (bytes : List ℕ) → StandsWhole (map as_step_word body_words) bytes → NoSign ((95, next) ∷ []) bytes
-body_apart next bytes stands = subst (NoSign ((95, next) ∷ [])) (sym stands.bytes_are) (all_in (λ (e : Entry StepWord). NoSign ((95, next) ∷ []) (e.0 ++ stands.rest)) (map as_step_word body_words) stands.entry (refl, (refl, (refl, (refl, (refl, tt))))) stands.within)
+body_apart next bytes stands = subst (NoSign ((95, next) ∷ [])) (sym stands.bytes_are)
+    (all_in (λ (e : Entry StepWord). NoSign ((95, next) ∷ []) (e.0 ++ stands.rest)) (map as_step_word body_words) stands.entry (refl, (refl, (refl, (refl, (refl, tt))))) stands.within)
 
 quoted_halts : (quoted : Quoted) (name : List ℕ) → place_halts turn is_loose NoByte (after_quoted quoted name) ≡ true
 quoted_halts (OneName purpose names) name = refl
@@ -279,10 +307,12 @@ abbrev BeginsValue : Into → List ℕ → List ℕ → Type 0
 BeginsValue into key bytes = Begins {Word = StepWord} (Token AnyValue (λ value. ClosesFilter into (value_filter key value))) bytes
 
 relation_starts : (word rest : List ℕ) → InTable (word, tt) (plain relation_names) → Starts starts_relation (word ++ rest)
-relation_starts word rest within = all_in (λ (e : Entry (Unit {0})). Starts starts_relation (e.0 ++ rest)) (plain relation_names) (word, tt) (refl, (refl, (refl, (refl, (refl, (refl, tt)))))) within
+relation_starts word rest within = all_in (λ (e : Entry (Unit {0})). Starts starts_relation (e.0 ++ rest)) (plain relation_names) (word, tt)
+    (refl, (refl, (refl, (refl, (refl, (refl, tt)))))) within
 
 begins_relation : (into : Into) (key bytes : List ℕ) → BeginsRelation into key bytes → Starts starts_relation bytes
-begins_relation into key bytes (inl (word, within, (prefix, rest, whole, is, after))) = subst (Starts starts_relation) (sym (whole ∙ ap (λ p. p ++ rest) is)) (relation_starts word rest within)
+begins_relation into key bytes (inl (word, within, (prefix, rest, whole, is, after))) =
+    subst (Starts starts_relation) (sym (whole ∙ ap (λ p. p ++ rest) is)) (relation_starts word rest within)
 begins_relation into key bytes (inr (kind, left, (word, bad, rest, takes, at))) = absurd bad
 
 integer_starts : (b : ℕ) → is_integer_start b ≡ true → starts_value b ≡ true
@@ -306,8 +336,10 @@ written_starts (values.Text text) prefix rest is = by_kind (prefix ++ rest) (val
     by_kind (b ∷ bytes) starts = quote_starts b starts
 
 begins_value : (into : Into) (key bytes : List ℕ) → BeginsValue into key bytes → Starts starts_value bytes
-begins_value into key bytes (inl (value, allows, (prefix, rest, whole, is, after))) = subst (Starts starts_value) (sym whole) (written_starts value prefix rest is)
-begins_value into key bytes (inr (kind, left, (value, bad, rest, takes, at))) = subst (Starts starts_value) (sym takes.bytes_are) (written_starts value takes.prefix rest takes.is)
+begins_value into key bytes (inl (value, allows, (prefix, rest, whole, is, after))) =
+    subst (Starts starts_value) (sym whole) (written_starts value prefix rest is)
+begins_value into key bytes (inr (kind, left, (value, bad, rest, takes, at))) =
+    subst (Starts starts_value) (sym takes.bytes_are) (written_starts value takes.prefix rest takes.is)
 
 relation_no_p : (b : ℕ) → starts_relation b ≡ true → nat_eq 80 b ≡ false
 relation_no_p b is = grind (arith, nat_tests)
@@ -333,13 +365,16 @@ closes_value_line into filter = by_sign (ClosesValue into filter) 41 (ClosesFilt
 compared_line : (into : Into) (key : List ℕ) (relation : Relation) → Line (Compared into key relation) (48 ∷ 41 ∷ 41 ∷ rest_after into)
 compared_line into key relation =
     let filter = relation_filter key relation (values.Int (pos 0)) in
-    line_join turn is_loose (Compared into key relation) (48 ∷ 41 ∷ 41 ∷ rest_after into) (inr (values.Int (pos 0), tt, tt, (codes "0", 41 ∷ 41 ∷ rest_after into, refl, inl (0, refl, (refl, refl)), loose_line (ClosesValue into filter) (41 ∷ 41 ∷ rest_after into) (closes_value_line into filter))))
+    line_join turn is_loose (Compared into key relation) (48 ∷ 41 ∷ 41 ∷ rest_after into)
+    (inr (values.Int (pos 0), tt, tt, (codes "0", 41 ∷ 41 ∷ rest_after into, refl, inl (0, refl, (refl, refl)), loose_line (ClosesValue into filter) (41 ∷ 41 ∷ rest_after into) (closes_value_line into filter))))
 
 opens_value_line : (into : Into) (key : List ℕ) (relation : Relation) → Line (OpensValue into key relation) (40 ∷ 48 ∷ 41 ∷ 41 ∷ rest_after into)
-opens_value_line into key relation = by_sign (OpensValue into key relation) 40 (Compared into key relation) (48 ∷ 41 ∷ 41 ∷ rest_after into) refl (compared_line into key relation)
+opens_value_line into key relation = by_sign (OpensValue into key relation) 40 (Compared into key relation) (48 ∷ 41 ∷ 41 ∷ rest_after into) refl
+    (compared_line into key relation)
 
 relation_line : (into : Into) (key : List ℕ) → Line (RelationName into key) (codes "eq" ++ 40 ∷ 48 ∷ 41 ∷ 41 ∷ rest_after into)
-relation_line into key = line_join turn is_loose (RelationName into key) (codes "eq" ++ 40 ∷ 48 ∷ 41 ∷ 41 ∷ rest_after into) (inr (codes "eq", inl refl, tt, (codes "eq", 40 ∷ 48 ∷ 41 ∷ 41 ∷ rest_after into, refl, refl, loose_line (OpensValue into key (relation_of (codes "eq"))) (40 ∷ 48 ∷ 41 ∷ 41 ∷ rest_after into) (opens_value_line into key (relation_of (codes "eq"))))))
+relation_line into key = line_join turn is_loose (RelationName into key) (codes "eq" ++ 40 ∷ 48 ∷ 41 ∷ 41 ∷ rest_after into)
+    (inr (codes "eq", inl refl, tt, (codes "eq", 40 ∷ 48 ∷ 41 ∷ 41 ∷ rest_after into, refl, refl, loose_line (OpensValue into key (relation_of (codes "eq"))) (40 ∷ 48 ∷ 41 ∷ 41 ∷ rest_after into) (opens_value_line into key (relation_of (codes "eq"))))))
 
 -- ---- what a direction of an order begins with
 
@@ -354,11 +389,13 @@ abbrev BeginsOrder : Query → Option (List ℕ) → List ℕ → Type 0
 BeginsOrder query key bytes = Begins {Word = StepWord} (Token (Sign (codes "Order")) (λ _. AfterOrderWord query key)) bytes
 
 begins_sort : (query : Query) (key : Option (List ℕ)) (bytes : List ℕ) → BeginsSort query key bytes → Starts starts_sort bytes
-begins_sort query key bytes (inl (word, within, (prefix, rest, whole, is, after))) = subst (Starts starts_sort) (sym (whole ∙ ap (λ p. p ++ rest) is)) (all_in (λ (e : Entry (Unit {0})). Starts starts_sort (e.0 ++ rest)) (plain sort_names) (word, tt) (refl, (refl, tt)) within)
+begins_sort query key bytes (inl (word, within, (prefix, rest, whole, is, after))) =
+    subst (Starts starts_sort) (sym (whole ∙ ap (λ p. p ++ rest) is)) (all_in (λ (e : Entry (Unit {0})). Starts starts_sort (e.0 ++ rest)) (plain sort_names) (word, tt) (refl, (refl, tt)) within)
 begins_sort query key bytes (inr (kind, left, (word, bad, rest, takes, at))) = absurd bad
 
 begins_order : (query : Query) (key : Option (List ℕ)) (bytes : List ℕ) → BeginsOrder query key bytes → Starts (λ b. nat_eq b 79) bytes
-begins_order query key bytes (inl (content, allows, (prefix, rest, whole, is, after))) = subst (Starts (λ b. nat_eq b 79)) (sym (whole ∙ ap (λ p. p ++ rest) is)) refl
+begins_order query key bytes (inl (content, allows, (prefix, rest, whole, is, after))) =
+    subst (Starts (λ b. nat_eq b 79)) (sym (whole ∙ ap (λ p. p ++ rest) is)) refl
 begins_order query key bytes (inr (kind, left, (content, bad, rest, takes, at))) = absurd bad
 
 no_sort_order : (bytes : List ℕ) → Starts starts_sort bytes → Starts (λ b. nat_eq b 79) bytes → ⊥
@@ -440,10 +477,12 @@ direction_apart query (b ∷ bytes) (inl sort) = sort_no_sign query b (begins_so
 direction_apart query (b ∷ bytes) (inr order) = order_no_sign query b (begins_order query None (b ∷ bytes) order)
 
 by_closes_line : (query : Query) (key : Option (List ℕ)) (descending : Bool) → Line (ByCloses query key descending) (41 ∷ [])
-by_closes_line query key descending = by_sign (ByCloses query key descending) 41 (Steps (reordered query key descending)) [] refl (steps_line (reordered query key descending))
+by_closes_line query key descending = by_sign (ByCloses query key descending) 41 (Steps (reordered query key descending)) [] refl
+    (steps_line (reordered query key descending))
 
 sort_line : (query : Query) (key : Option (List ℕ)) → Line (DirectionName query key) (codes "asc" ++ 41 ∷ [])
-sort_line query key = line_join turn is_loose (DirectionName query key) (codes "asc" ++ 41 ∷ []) (inr (codes "asc", inl refl, tt, (codes "asc", 41 ∷ [], refl, refl, loose_line (ByCloses query key false) (41 ∷ []) (by_closes_line query key false))))
+sort_line query key = line_join turn is_loose (DirectionName query key) (codes "asc" ++ 41 ∷ [])
+    (inr (codes "asc", inl refl, tt, (codes "asc", 41 ∷ [], refl, refl, loose_line (ByCloses query key false) (41 ∷ []) (by_closes_line query key false))))
 
 after_order_word_line : (query : Query) (key : Option (List ℕ)) → Line (AfterOrderWord query key) (46 ∷ (codes "asc" ++ 41 ∷ []))
 after_order_word_line query key = by_sign (AfterOrderWord query key) 46 (DirectionName query key) (codes "asc" ++ 41 ∷ []) refl (sort_line query key)
@@ -468,7 +507,8 @@ begins_number bytes (inl (number, allows, (prefix, rest, whole, is, after))) = s
 begins_number bytes (inr (kind, left, (number, bad, rest, takes, at))) = subst StartsNumber (sym takes.bytes_are) (number_starts takes.prefix rest takes.is.0)
 
 -- a place where no sign stands
-other_is : (place : Place) (other : Other StepWord Place) → turn place ≡ record { ends = None; signs = []; other = other } → turn_halts Blank (turn place) ≡ true → IsEnded turn is_loose other → IsPlace turn is_loose place
+other_is : (place : Place) (other : Other StepWord Place) → turn place ≡ record { ends = None; signs = []; other = other }
+    → turn_halts Blank (turn place) ≡ true → IsEnded turn is_loose other → IsPlace turn is_loose place
 other_is place other is halts ended = record {
   no_blank = halts;
   apart = subst (λ (t : Turn StepWord Place Command). StartsApart turn is_loose t.signs t.other) (sym is) (λ bytes begins. no_signs bytes);
@@ -560,14 +600,16 @@ opened_body_some into of_body.HasLabel = opened_names_some (OfLabels into)
 opened_body_some into of_body.Has = (_, quote_line (Key into))
 
 opens_body_some : (query : Query) (body : List BodyStep) (word : BodyWord) → (line : List ℕ) × Line (OpensBody query body word) line
-opens_body_some query body word = let later = opened_body_some (OfBody query body) word in (40 ∷ later.0, by_sign (OpensBody query body word) 40 (opened_body (OfBody query body) word) later.0 refl later.1)
+opens_body_some query body word = let later = opened_body_some (OfBody query body) word in
+    (40 ∷ later.0, by_sign (OpensBody query body word) 40 (opened_body (OfBody query body) word) later.0 refl later.1)
 
 -- a line from a place where the first word of a body may stand
 body_some : (place : Place) (query : Query) (body : List BodyStep) → (turn place).other ≡ body_name query body → (line : List ℕ) × Line place line
 body_some place query body is =
     let out = of_body.Neighbours directions.Outgoing in
     let later = opens_body_some query body out in
-    let other : ThenOther (λ _. Unit {0}) (body_name query body) (Loosely turn is_loose (LineFrom turn is_loose)) (codes "out" ++ later.0) = (as_step_word (codes "out", out), inl refl, tt, (codes "out", later.0, refl, refl, loose_line (OpensBody query body out) later.0 later.1)) in
+    let other : ThenOther (λ _. Unit {0}) (body_name query body) (Loosely turn is_loose (LineFrom turn is_loose)) (codes "out" ++ later.0) =
+    (as_step_word (codes "out", out), inl refl, tt, (codes "out", later.0, refl, refl, loose_line (OpensBody query body out) later.0 later.1)) in
     (codes "out" ++ later.0, line_join turn is_loose place (codes "out" ++ later.0) (inr (subst (λ o. ThenOther (λ _. Unit {0}) o (Loosely turn is_loose (LineFrom turn is_loose)) (codes "out" ++ later.0)) (sym is) other)))
 
 order_closes_line : (query : Query) → Line (OrderCloses query) (41 ∷ [])
@@ -600,7 +642,8 @@ abbrev opened_property : List ℕ
 opened_property = 40 ∷ 39 ∷ 97 ∷ 39 ∷ 44 ∷ 48 ∷ 41 ∷ []
 
 opens_property_line : (subject : Subject) (pairs : List Pair) → Line (OpensProperty subject pairs) opened_property
-opens_property_line subject pairs = by_sign (OpensProperty subject pairs) 40 (Quote (PairKey (OfChange subject pairs))) (39 ∷ 97 ∷ 39 ∷ 44 ∷ 48 ∷ 41 ∷ []) refl (quote_line (PairKey (OfChange subject pairs)))
+opens_property_line subject pairs = by_sign (OpensProperty subject pairs) 40 (Quote (PairKey (OfChange subject pairs))) (39 ∷ 97 ∷ 39 ∷ 44 ∷ 48 ∷ 41 ∷ []) refl
+    (quote_line (PairKey (OfChange subject pairs)))
 
 source_line : Line SourceName (86 ∷ 40 ∷ 41 ∷ [])
 unfolding opened_source_some
@@ -644,8 +687,10 @@ some (ByCloses query key descending) = (_, by_closes_line query key descending)
 some (Quote quoted) = (_, quote_line quoted)
 some (InQuotes quoted double) = (_, in_quotes_line quoted double)
 some (BodyFirst query) = body_some (BodyFirst query) query [] refl
-some (Underscore query) = let later = body_some (BodyName query []) query [] refl in (95 ∷ 46 ∷ later.0, by_sign (Underscore query) 95 (AfterAnonymous query) (46 ∷ later.0) refl (by_sign (AfterAnonymous query) 46 (BodyName query []) later.0 refl later.1))
-some (AfterAnonymous query) = let later = body_some (BodyName query []) query [] refl in (46 ∷ later.0, by_sign (AfterAnonymous query) 46 (BodyName query []) later.0 refl later.1)
+some (Underscore query) = let later = body_some (BodyName query []) query [] refl in
+    (95 ∷ 46 ∷ later.0, by_sign (Underscore query) 95 (AfterAnonymous query) (46 ∷ later.0) refl (by_sign (AfterAnonymous query) 46 (BodyName query []) later.0 refl later.1))
+some (AfterAnonymous query) = let later = body_some (BodyName query []) query [] refl in
+    (46 ∷ later.0, by_sign (AfterAnonymous query) 46 (BodyName query []) later.0 refl later.1)
 some (BodyName query body) = body_some (BodyName query body) query body refl
 some (OpensBody query body word) = opens_body_some query body word
 some (InBody query body) = (_, in_body_line query body)

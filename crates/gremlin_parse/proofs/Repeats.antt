@@ -1,5 +1,6 @@
 -- Items, one after the other, and what stands after the last: where reading stops among them, and that bytes spell one list of them.
-use Rattle.std.proofs.Common.{◌≡◌, ◌+◌, ◌⊎◌, inl, inr, ℕ, true, false, List, [], ◌∷◌, ◌++◌, length, flat_map, refl, sym, ap, ◌∙◌, subst, ⊎_elim, append_assoc, length-append, arith}
+use Rattle.std.proofs.Common.{◌≡◌, ◌+◌, ◌⊎◌, inl, inr, ℕ, true, false, List, [], ◌∷◌, ◌++◌, length, flat_map, refl, sym}
+use Rattle.std.proofs.Common.{ap, ◌∙◌, subst, ⊎_elim, append_assoc, length-append, arith}
 use Rattle.std.specs.List.{AllByRecursion}
 use Rattle.std.proofs.lemmas.List.{append-nil}
 use Rattle.gremlin_parse.specs.Grammar.{Part, IsMadeOf, IsBounded}
@@ -11,7 +12,10 @@ use Rattle.gremlin_parse.specs.declared.stop.Stop.{Stop}
 use Rattle.gremlin_parse.specs.declared.stop.Stop.TheVariants as stops
 use Rattle.gremlin_parse.proofs.Symbols.{Class, halts}
 use Rattle.gremlin_parse.proofs.Productions.{Enders, HaltsAt, AreWithin, Closes, is_production, follows_halts, bad_follows_halts}
-use Rattle.gremlin_parse.proofs.Spelling.{parts_with, AllowsAll, ThenParts, made_of_then, then_of_made, then_parts_map, then_parts_choice, bad_then_of_parts, bad_then_map, bad_parts_choice, HasNoBad, follows_of_parts, parts_of_follows, follows_agree, bad_follows_of_then, then_of_bad_follows, no_bad_within}
+use Rattle.gremlin_parse.proofs.Spelling.{parts_with, AllowsAll, ThenParts, made_of_then, then_of_made, then_parts_map}
+use Rattle.gremlin_parse.proofs.Spelling.{then_parts_choice, bad_then_of_parts, bad_then_map, bad_parts_choice}
+use Rattle.gremlin_parse.proofs.Spelling.{HasNoBad, follows_of_parts, parts_of_follows, follows_agree}
+use Rattle.gremlin_parse.proofs.Spelling.{bad_follows_of_then, then_of_bad_follows, no_bad_within}
 
 pub bad_parts_within : (parts : List Part) → AreWithin (BadParts parts)
 bad_parts_within [] = λ kind place bytes bad. absurd bad
@@ -27,7 +31,8 @@ bad_parts_within (this ∷ parts) = λ kind place bytes bad.
 -- ---- the first of two languages, or the second
 
 -- Where the bytes are none of the first language, and what may go on as one of it may go on as one of the second, a stop of the second is a stop of both.
-pub stop_of_second : (First Second Both : List ℕ → Type 0) (BadSecond BadBoth : Bads) → ((bytes : List ℕ) → Second bytes → Both bytes) → ((bytes : List ℕ) → Both bytes → First bytes ⊎ Second bytes) → ((read : List ℕ) (b : ℕ) (more : List ℕ) → First (read ++ b ∷ more) → (line : List ℕ) × Second (read ++ b ∷ line)) → (Lack : Type 0) (bytes : List ℕ) (stop : Stop) → ¬ First bytes → ((kind : BadToken) (left : ℕ) → BadSecond kind left bytes → BadBoth kind left bytes) → ((kind : BadToken) (left : ℕ) → BadBoth kind left bytes → BadSecond kind left bytes) → IsStop Second BadSecond Lack bytes stop → IsStop Both BadBoth Lack bytes stop
+pub stop_of_second : (First Second Both : List ℕ → Type 0) (BadSecond BadBoth : Bads) → ((bytes : List ℕ) → Second bytes → Both bytes)
+    → ((bytes : List ℕ) → Both bytes → First bytes ⊎ Second bytes) → ((read : List ℕ) (b : ℕ) (more : List ℕ) → First (read ++ b ∷ more) → (line : List ℕ) × Second (read ++ b ∷ line)) → (Lack : Type 0) (bytes : List ℕ) (stop : Stop) → ¬ First bytes → ((kind : BadToken) (left : ℕ) → BadSecond kind left bytes → BadBoth kind left bytes) → ((kind : BadToken) (left : ℕ) → BadBoth kind left bytes → BadSecond kind left bytes) → IsStop Second BadSecond Lack bytes stop → IsStop Both BadBoth Lack bytes stop
 stop_of_second First Second Both BadSecond BadBoth join cases goes_on Lack bytes stops.Memory other bad_join bad_cases stop = stop
 stop_of_second First Second Both BadSecond BadBoth join cases goes_on Lack bytes (stops.Syntax left) other bad_join bad_cases (stop, no_bad) = (
   record {
@@ -36,7 +41,8 @@ stop_of_second First Second Both BadSecond BadBoth join cases goes_on Lack bytes
     bytes_are = stop.bytes_are;
     left_is = stop.left_is;
     viable = (stop.viable.0, join (stop.read ++ stop.viable.0) stop.viable.1);
-    none = λ more same both. ⊎_elim (λ (first : First (stop.read ++ more)). refuse more same first) (λ (second : Second (stop.read ++ more)). stop.none more same second) (cases (stop.read ++ more) both);
+    none = λ more same both. ⊎_elim (λ (first : First (stop.read ++ more)). refuse more same first)
+        (λ (second : Second (stop.read ++ more)). stop.none more same second) (cases (stop.read ++ more) both);
   },
   λ kind place bad. no_bad kind place (bad_cases kind place bad),
 )
@@ -92,12 +98,16 @@ pub record IsItem {X : Type 0} (item : X → List Part) (last : List Part) (ende
   -- An item is not the end, and stands where the end could go on.
   pub apart : (After : Language) (bytes : List ℕ) → IsMadeOf last bytes → ¬ One After bytes
   pub bads_apart : (Bad : Bads) (kind : BadToken) (left : ℕ) (bytes : List ℕ) → IsMadeOf last bytes → ¬ BadOne Bad kind left bytes
-  pub goes_on : (After : Language) (line : List ℕ) → After line → (read : List ℕ) (b : ℕ) (more : List ℕ) → IsMadeOf last (read ++ b ∷ more) → (line : List ℕ) × One After (read ++ b ∷ line)
+  pub goes_on : (After : Language) (line : List ℕ) → After line → (read : List ℕ) (b : ℕ) (more : List ℕ) → IsMadeOf last (read ++ b ∷ more) → (line : List ℕ)
+      × One After (read ++ b ∷ line)
   pub last_line : (line : List ℕ) × IsMadeOf last line
   pub last_no_bad : HasNoBad last
   -- one way
-  pub one_way : (After Other : Language) → HaltsAt enders After → HaltsAt enders Other → (x y : X) (bytes : List ℕ) → ThenParts (item x) After bytes → ThenParts (item y) Other bytes → SameItem X x y After Other
-  pub no_bad : (After : Language) (Bad : Bads) (kind : BadToken) (left : ℕ) → HaltsAt enders After → HaltsAt enders (Bad kind left) → ((rest : List ℕ) → After rest → ¬ Bad kind left rest) → (x : X) → AllByRecursion IsBounded (item x) → (bytes : List ℕ) → ThenParts (item x) After bytes → ¬ BadOne Bad kind left bytes
+  pub one_way : (After Other : Language) → HaltsAt enders After → HaltsAt enders Other → (x y : X) (bytes : List ℕ) → ThenParts (item x) After bytes
+      → ThenParts (item y) Other bytes → SameItem X x y After Other
+  pub no_bad : (After : Language) (Bad : Bads) (kind : BadToken) (left : ℕ) → HaltsAt enders After → HaltsAt enders (Bad kind left)
+      → ((rest : List ℕ) → After rest → ¬ Bad kind left rest) → (x : X) → AllByRecursion IsBounded (item x) → (bytes : List ℕ) → ThenParts (item x) After bytes
+      → ¬ BadOne Bad kind left bytes
 
 module _ {X : Type 0} (item : X → List Part) (last : List Part) where
   -- the parts of items, and the last ones
@@ -114,7 +124,8 @@ module _ {X : Type 0} (item : X → List Part) (last : List Part) where
   pub listed_then : (x : X) (list : List X) (bytes : List ℕ) → ThenParts (item x) (IsMadeOf (listed list)) bytes → IsMadeOf (listed (x ∷ list)) bytes
   listed_then x list bytes then = subst (λ parts. IsMadeOf parts bytes) (sym (listed-cons x list)) (made_of_then (item x) (listed list) bytes then)
 
-module _ {X : Type 0} {item : X → List Part} {last : List Part} {enders : Enders} {One : Language → Language} {BadOne : Bads → Bads} (is : IsItem item last enders One BadOne) where
+module _ {X : Type 0} {item : X → List Part} {last : List Part} {enders : Enders} {One : Language → Language} {BadOne : Bads → Bads}
+    (is : IsItem item last enders One BadOne) where
   abbrev Items : Language
   Items bytes = IsOneOf (listed item last) bytes
 
@@ -143,11 +154,13 @@ module _ {X : Type 0} {item : X → List Part} {last : List Part} {enders : Ende
   bad_cases : (kind : BadToken) (left : ℕ) (bytes : List ℕ) → BadItems kind left bytes → BadOne BadItems kind left bytes
   bad_cases kind left bytes ([], bad) = absurd (is.last_no_bad kind left bytes bad)
   bad_cases kind left bytes (x ∷ list, bad) =
-      let then = bad_then_of_parts (item x) (listed item last list) kind left bytes (subst (λ parts. BadParts parts kind left bytes) (listed-cons item last x list) bad) in
+      let then = bad_then_of_parts (item x) (listed item last list) kind left bytes
+      (subst (λ parts. BadParts parts kind left bytes) (listed-cons item last x list) bad) in
       is.bad_join BadItems kind left x bytes (bad_then_map (BadParts (listed item last list)) BadItems kind left (λ rest these. (list, these)) (item x) bytes then)
 
   items_end : HaltsAt enders Items
-  items_end = λ class halts bytes items. ⊎_elim (λ (end : IsMadeOf last bytes). is.last_ends class halts bytes end) (λ (one : One Items bytes). is.ends Items class halts bytes one) (cases bytes items)
+  items_end = λ class halts bytes items. ⊎_elim (λ (end : IsMadeOf last bytes). is.last_ends class halts bytes end)
+      (λ (one : One Items bytes). is.ends Items class halts bytes one) (cases bytes items)
 
   bad_items_end : (kind : BadToken) (left : ℕ) → HaltsAt enders (BadItems kind left)
   bad_items_end kind left = λ class halts bytes bad. is.bads_end BadItems kind left class halts bytes (bad_cases kind left bytes bad)
@@ -163,9 +176,11 @@ module _ {X : Type 0} {item : X → List Part} {last : List Part} {enders : Ende
   }
 
   -- Where the bytes are not the end, a stop in an item is a stop of all.
-  pub stop_of_item : (Lack : Type 0) (bytes : List ℕ) (stop : Stop) → ¬ IsMadeOf last bytes → IsStop (One Items) (BadOne BadItems) Lack bytes stop → IsStop Items BadItems Lack bytes stop
+  pub stop_of_item : (Lack : Type 0) (bytes : List ℕ) (stop : Stop) → ¬ IsMadeOf last bytes → IsStop (One Items) (BadOne BadItems) Lack bytes stop
+      → IsStop Items BadItems Lack bytes stop
   stop_of_item Lack bytes stop other at =
-      stop_of_second (IsMadeOf last) (One Items) Items (BadOne BadItems) BadItems items_of_item cases (is.goes_on Items is.last_line.0 ([], is.last_line.1)) Lack bytes stop other (λ kind left bad. bads_of_item kind left bytes bad) (λ kind left bad. bad_cases kind left bytes bad) at
+      stop_of_second (IsMadeOf last) (One Items) Items (BadOne BadItems) BadItems items_of_item cases (is.goes_on Items is.last_line.0 ([], is.last_line.1))
+      Lack bytes stop other (λ kind left bad. bads_of_item kind left bytes bad) (λ kind left bad. bad_cases kind left bytes bad) at
 
   -- The bytes spell one list of items.
   pub items_agree : (list others : List X) (bytes : List ℕ) → IsMadeOf (listed item last list) bytes → IsMadeOf (listed item last others) bytes → others ≡ list
@@ -173,16 +188,21 @@ module _ {X : Type 0} {item : X → List Part} {last : List Part} {enders : Ende
   items_agree [] (y ∷ others) bytes made other = absurd (is.apart Items bytes made (first_item y others bytes other))
   items_agree (x ∷ list) [] bytes made other = absurd (is.apart Items bytes other (first_item x list bytes made))
   items_agree (x ∷ list) (y ∷ others) bytes made other =
-      let same = is.one_way (IsMadeOf (listed item last list)) (IsMadeOf (listed item last others)) (λ class halts rest these. items_end class halts rest (list, these)) (λ class halts rest these. items_end class halts rest (others, these)) x y bytes (then_listed item last x list bytes made) (then_listed item last y others bytes other) in
+      let same = is.one_way (IsMadeOf (listed item last list)) (IsMadeOf (listed item last others))
+      (λ class halts rest these. items_end class halts rest (list, these)) (λ class halts rest these. items_end class halts rest (others, these)) x y bytes
+      (then_listed item last x list bytes made) (then_listed item last y others bytes other) in
       let later = items_agree list others same.rest same.one same.two in
       (λ i. same.is i ∷ later i)
 
   -- Items within their bounds leave no bad token.
-  pub no_bad_items : (list : List X) (bytes : List ℕ) → AllByRecursion IsBounded (listed item last list) → IsMadeOf (listed item last list) bytes → (kind : BadToken) (left : ℕ) → ¬ BadItems kind left bytes
+  pub no_bad_items : (list : List X) (bytes : List ℕ) → AllByRecursion IsBounded (listed item last list) → IsMadeOf (listed item last list) bytes
+      → (kind : BadToken) (left : ℕ) → ¬ BadItems kind left bytes
   no_bad_items [] bytes within made kind left = λ bad. is.bads_apart BadItems kind left bytes made (bad_cases kind left bytes bad)
   no_bad_items (x ∷ list) bytes within made kind left = λ bad.
       let both = all_split (item x) (listed item last list) (subst (AllByRecursion IsBounded) (listed-cons item last x list) within) in
-      is.no_bad (IsMadeOf (listed item last list)) BadItems kind left (λ class halts rest these. items_end class halts rest (list, these)) (bad_items_end kind left) (λ rest these. no_bad_items list rest both.1 these kind left) x both.0 bytes (then_listed item last x list bytes made) (bad_cases kind left bytes bad)
+      is.no_bad (IsMadeOf (listed item last list)) BadItems kind left (λ class halts rest these. items_end class halts rest (list, these))
+      (bad_items_end kind left) (λ rest these. no_bad_items list rest both.1 these kind left) x both.0 bytes (then_listed item last x list bytes made)
+      (bad_cases kind left bytes bad)
 
   -- ---- read one by one
 
@@ -192,21 +212,30 @@ module _ {X : Type 0} {item : X → List Part} {last : List Part} {enders : Ende
     pub spells : (later : List X) → IsMadeOf (listed item last later) rest → IsMadeOf (listed item last (list ++ later)) bytes
     pub bounded : (later : List X) → AllByRecursion IsBounded (listed item last later) → AllByRecursion IsBounded (listed item last (list ++ later))
 
-  pub one_more : (Lack : Type 0) (bytes rest after : List ℕ) (list : List X) (x : X) → SoFar Lack bytes list rest → ¬ IsMadeOf last rest → ((stop : Stop) → IsStop Items BadItems Lack after stop → IsStop (One Items) (BadOne BadItems) Lack rest stop) → ((later : List X) → IsMadeOf (listed item last later) after → ThenParts (item x) (IsMadeOf (listed item last later)) rest) → AllByRecursion IsBounded (item x) → SoFar Lack bytes (list ++ x ∷ []) after
+  pub one_more : (Lack : Type 0) (bytes rest after : List ℕ) (list : List X) (x : X) → SoFar Lack bytes list rest → ¬ IsMadeOf last rest
+      → ((stop : Stop) → IsStop Items BadItems Lack after stop → IsStop (One Items) (BadOne BadItems) Lack rest stop)
+      → ((later : List X) → IsMadeOf (listed item last later) after → ThenParts (item x) (IsMadeOf (listed item last later)) rest)
+      → AllByRecursion IsBounded (item x) → SoFar Lack bytes (list ++ x ∷ []) after
   one_more Lack bytes rest after list x so_far other stops spells within = record {
     stops = λ stop at. so_far.stops stop (stop_of_item Lack rest stop other (stops stop at));
-    spells = λ later made. subst (λ items. IsMadeOf (listed item last items) bytes) (sym (append_assoc list (x ∷ []) later)) (so_far.spells (x ∷ later) (listed_then item last x later rest (spells later made)));
-    bounded = λ later these. subst (λ items. AllByRecursion IsBounded (listed item last items)) (sym (append_assoc list (x ∷ []) later)) (so_far.bounded (x ∷ later) (subst (AllByRecursion IsBounded) (sym (listed-cons item last x later)) (all_join (item x) (listed item last later) within these)));
+    spells = λ later made. subst (λ items. IsMadeOf (listed item last items) bytes) (sym (append_assoc list (x ∷ []) later))
+        (so_far.spells (x ∷ later) (listed_then item last x later rest (spells later made)));
+    bounded = λ later these. subst (λ items. AllByRecursion IsBounded (listed item last items)) (sym (append_assoc list (x ∷ []) later))
+        (so_far.bounded (x ∷ later) (subst (AllByRecursion IsBounded) (sym (listed-cons item last x later)) (all_join (item x) (listed item last later) within these)));
   }
 
-  pub stop_so_far : (Lack : Type 0) (bytes rest : List ℕ) (list : List X) (stop : Stop) → SoFar Lack bytes list rest → ¬ IsMadeOf last rest → IsStop (One Items) (BadOne BadItems) Lack rest stop → IsStop Items BadItems Lack bytes stop
+  pub stop_so_far : (Lack : Type 0) (bytes rest : List ℕ) (list : List X) (stop : Stop) → SoFar Lack bytes list rest → ¬ IsMadeOf last rest
+      → IsStop (One Items) (BadOne BadItems) Lack rest stop → IsStop Items BadItems Lack bytes stop
   stop_so_far Lack bytes rest list stop so_far other at = so_far.stops stop (stop_of_item Lack rest stop other at)
 
-  pub all_read : (Lack : Type 0) (bytes rest : List ℕ) (list : List X) → SoFar Lack bytes list rest → IsMadeOf last rest → IsMadeOf (listed item last list) bytes
+  pub all_read : (Lack : Type 0) (bytes rest : List ℕ) (list : List X) → SoFar Lack bytes list rest → IsMadeOf last rest
+      → IsMadeOf (listed item last list) bytes
   all_read Lack bytes rest list so_far end = subst (λ items. IsMadeOf (listed item last items) bytes) (append-nil list) (so_far.spells [] end)
 
-  pub all_bounded : (Lack : Type 0) (bytes rest : List ℕ) (list : List X) → SoFar Lack bytes list rest → AllByRecursion IsBounded last → AllByRecursion IsBounded (listed item last list)
-  all_bounded Lack bytes rest list so_far within = subst (λ items. AllByRecursion IsBounded (listed item last items)) (append-nil list) (so_far.bounded [] within)
+  pub all_bounded : (Lack : Type 0) (bytes rest : List ℕ) (list : List X) → SoFar Lack bytes list rest → AllByRecursion IsBounded last
+      → AllByRecursion IsBounded (listed item last list)
+  all_bounded Lack bytes rest list so_far within = subst (λ items. AllByRecursion IsBounded (listed item last items)) (append-nil list)
+      (so_far.bounded [] within)
 
 -- ---- items of a production
 
@@ -219,30 +248,38 @@ pub record IsSpelledBy {X : Type 0} (item : X → List Part) (symbols : List Sym
   pub of_contents : (x : X) → of (contents x) ≡ x
   pub of_parts : (these : Contents symbols) → AllowsAll symbols these → parts_with symbols these ≡ item (of these)
 
-module _ {X : Type 0} (item : X → List Part) (symbols : List Symbol) (spelled : IsSpelledBy item symbols) (enders : Enders) (is : is_production enders symbols ≡ true) where
-  follows_of_item : (After : Contents symbols → Language) (x : X) (bytes : List ℕ) → ThenParts (item x) (After (spelled.contents x)) bytes → Follows symbols After bytes
-  follows_of_item After x bytes then = follows_of_parts symbols (spelled.contents x) After (spelled.allowed x) bytes (subst (λ parts. ThenParts parts (After (spelled.contents x)) bytes) (sym (spelled.parts x)) then)
+module _ {X : Type 0} (item : X → List Part) (symbols : List Symbol) (spelled : IsSpelledBy item symbols) (enders : Enders)
+    (is : is_production enders symbols ≡ true) where
+  follows_of_item : (After : Contents symbols → Language) (x : X) (bytes : List ℕ) → ThenParts (item x) (After (spelled.contents x)) bytes
+      → Follows symbols After bytes
+  follows_of_item After x bytes then = follows_of_parts symbols (spelled.contents x) After (spelled.allowed x) bytes
+      (subst (λ parts. ThenParts parts (After (spelled.contents x)) bytes) (sym (spelled.parts x)) then)
 
   item_of_follows : (After : Language) (bytes : List ℕ) → Follows symbols (λ _. After) bytes → (x : X) × ThenParts (item x) After bytes
   item_of_follows After bytes follows =
       let found = parts_of_follows symbols (λ _. After) bytes follows in
       (spelled.of found.contents, subst (λ parts. ThenParts parts After bytes) (spelled.of_parts found.contents found.allowed) found.is)
 
-  bad_of_item : (Bad : Bads) (kind : BadToken) (left : ℕ) (x : X) (bytes : List ℕ) → BadThen (item x) Bad kind left bytes → BadFollows symbols Bad kind left bytes
-  bad_of_item Bad kind left x bytes bad = bad_follows_of_then symbols (spelled.contents x) (spelled.allowed x) Bad kind left bytes (subst (λ parts. BadThen parts Bad kind left bytes) (sym (spelled.parts x)) bad)
+  bad_of_item : (Bad : Bads) (kind : BadToken) (left : ℕ) (x : X) (bytes : List ℕ) → BadThen (item x) Bad kind left bytes
+      → BadFollows symbols Bad kind left bytes
+  bad_of_item Bad kind left x bytes bad = bad_follows_of_then symbols (spelled.contents x) (spelled.allowed x) Bad kind left bytes
+      (subst (λ parts. BadThen parts Bad kind left bytes) (sym (spelled.parts x)) bad)
 
-  item_of_bad : (Bad : Bads) (kind : BadToken) (left : ℕ) (bytes : List ℕ) → BadFollows symbols Bad kind left bytes → (x : X) × BadThen (item x) Bad kind left bytes
+  item_of_bad : (Bad : Bads) (kind : BadToken) (left : ℕ) (bytes : List ℕ) → BadFollows symbols Bad kind left bytes → (x : X)
+      × BadThen (item x) Bad kind left bytes
   item_of_bad Bad kind left bytes bad =
       let found = then_of_bad_follows enders symbols is Bad kind left bytes bad in
       (spelled.of found.contents, subst (λ parts. BadThen parts Bad kind left bytes) (spelled.of_parts found.contents found.allowed) found.bad)
 
-  one_item : (After Other : Language) → HaltsAt enders After → HaltsAt enders Other → (x y : X) (bytes : List ℕ) → ThenParts (item x) After bytes → ThenParts (item y) Other bytes → SameItem X x y After Other
+  one_item : (After Other : Language) → HaltsAt enders After → HaltsAt enders Other → (x y : X) (bytes : List ℕ) → ThenParts (item x) After bytes
+      → ThenParts (item y) Other bytes → SameItem X x y After Other
   one_item After Other ends others x y bytes one two =
       let First : Contents symbols → Language = λ these rest. (these ≡ spelled.contents x) × After rest in
       let Second : Contents symbols → Language = λ these rest. (these ≡ spelled.contents y) × Other rest in
       let firsts = follows_of_item First x bytes (then_parts_map After (First (spelled.contents x)) (λ rest these. (refl, these)) (item x) bytes one) in
       let seconds = follows_of_item Second y bytes (then_parts_map Other (Second (spelled.contents y)) (λ rest these. (refl, these)) (item y) bytes two) in
-      let found = follows_agree enders symbols is First Second (λ these class halts rest (same, after). ends class halts rest after) (λ these class halts rest (same, after). others class halts rest after) bytes firsts seconds in
+      let found = follows_agree enders symbols is First Second (λ these class halts rest (same, after). ends class halts rest after)
+      (λ these class halts rest (same, after). others class halts rest after) bytes firsts seconds in
       record {
         is = sym (spelled.of_contents y) ∙ ap spelled.of (sym found.two.0 ∙ found.one.0) ∙ spelled.of_contents x;
         rest = found.rest;
@@ -250,9 +287,12 @@ module _ {X : Type 0} (item : X → List Part) (symbols : List Symbol) (spelled 
         two = found.two.1;
       }
 
-  no_bad_item : (After : Language) (Bad : Bads) (kind : BadToken) (left : ℕ) → HaltsAt enders After → HaltsAt enders (Bad kind left) → ((rest : List ℕ) → After rest → ¬ Bad kind left rest) → (x : X) → AllByRecursion IsBounded (item x) → (bytes : List ℕ) → ThenParts (item x) After bytes → ¬ BadFollows symbols Bad kind left bytes
+  no_bad_item : (After : Language) (Bad : Bads) (kind : BadToken) (left : ℕ) → HaltsAt enders After → HaltsAt enders (Bad kind left)
+      → ((rest : List ℕ) → After rest → ¬ Bad kind left rest) → (x : X) → AllByRecursion IsBounded (item x) → (bytes : List ℕ) → ThenParts (item x) After bytes
+      → ¬ BadFollows symbols Bad kind left bytes
   no_bad_item After Bad kind left ends bads none x within bytes then =
-      no_bad_within enders symbols is (spelled.contents x) (spelled.allowed x) (subst (AllByRecursion IsBounded) (sym (spelled.parts x)) within) After ends Bad kind left bads none bytes (subst (λ parts. ThenParts parts After bytes) (sym (spelled.parts x)) then)
+      no_bad_within enders symbols is (spelled.contents x) (spelled.allowed x) (subst (AllByRecursion IsBounded) (sym (spelled.parts x)) within) After ends Bad
+      kind left bads none bytes (subst (λ parts. ThenParts parts After bytes) (sym (spelled.parts x)) then)
 
   -- What is to be known of the end beside the item's symbols.
   pub record IsEndOf (last : List Part) : Type 1 where
@@ -260,7 +300,8 @@ module _ {X : Type 0} (item : X → List Part) (symbols : List Symbol) (spelled 
     pub last_ends : HaltsAt enders (IsMadeOf last)
     pub apart : (After : Language) (bytes : List ℕ) → IsMadeOf last bytes → ¬ Follows symbols (λ _. After) bytes
     pub bads_apart : (Bad : Bads) (kind : BadToken) (left : ℕ) (bytes : List ℕ) → IsMadeOf last bytes → ¬ BadFollows symbols Bad kind left bytes
-    pub goes_on : (After : Language) (line : List ℕ) → After line → (read : List ℕ) (b : ℕ) (more : List ℕ) → IsMadeOf last (read ++ b ∷ more) → (line : List ℕ) × Follows symbols (λ _. After) (read ++ b ∷ line)
+    pub goes_on : (After : Language) (line : List ℕ) → After line → (read : List ℕ) (b : ℕ) (more : List ℕ) → IsMadeOf last (read ++ b ∷ more) → (line : List ℕ)
+        × Follows symbols (λ _. After) (read ++ b ∷ line)
     pub last_line : (line : List ℕ) × IsMadeOf last line
     pub last_no_bad : HasNoBad last
 

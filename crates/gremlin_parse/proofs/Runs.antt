@@ -1,5 +1,6 @@
 -- Runs of bytes that pass a test, and the byte after a run.
-use Rattle.std.proofs.Common.{◌≡◌, ◌≢◌, ◌==◌, ℕ, suc, ◌+◌, Bool, true, false, not, ◌&&◌, ◌-◌, ◌≤◌, List, [], ◌∷◌, ◌++◌, length, get_or, take, drop, refl, sym, ap, ◌∙◌, ⊎_elim, subst, arith}
+use Rattle.std.proofs.Common.{◌≡◌, ◌≢◌, ◌==◌, ℕ, suc, ◌+◌, Bool, true, false, not, ◌&&◌, ◌-◌, ◌≤◌, List, [], ◌∷◌, ◌++◌}
+use Rattle.std.proofs.Common.{length, get_or, take, drop, refl, sym, ap, ◌∙◌, ⊎_elim, subst, arith}
 use Rattle.std.specs.List.{prefix_len}
 use Rattle.std.proofs.lemmas.Bool.{cases_Bool, cond-true, cond-false, eqb-true}
 use Rattle.std.proofs.lemmas.List.{take_rest}
@@ -31,7 +32,8 @@ cut_run p (b ∷ bytes) =
     let Cut : ℕ → Type 0 = λ n. CutsRun p (b ∷ bytes) (take n (b ∷ bytes)) (drop n (b ∷ bytes)) in
     ⊎_elim
     (λ (yes : p b ≡ true).
-    let longer : CutsRun p (b ∷ bytes) (b ∷ take (prefix_len p bytes) bytes) (drop (prefix_len p bytes) bytes) = record { bytes_are = ap (λ rest. b ∷ rest) here.bytes_are; passes = (yes, here.passes); ends = here.ends } in
+    let longer : CutsRun p (b ∷ bytes) (b ∷ take (prefix_len p bytes) bytes) (drop (prefix_len p bytes) bytes) =
+    record { bytes_are = ap (λ rest. b ∷ rest) here.bytes_are; passes = (yes, here.passes); ends = here.ends } in
     let n_is : suc (prefix_len p bytes) ≡ prefix_len p (b ∷ bytes) = omega (arith, cond-true (p b) (1 + prefix_len p bytes) 0 yes) in
     let at_suc : Cut (suc (prefix_len p bytes)) = longer in
     subst Cut n_is at_suc)
@@ -54,7 +56,8 @@ EndsRun-first_byte p (b ∷ bytes) (c ∷ more) same ends =
     let e : c ≡ b = cc in ap p e ∙ ends
 
 -- A cut into a run as long as it can be and the rest is the only one.
-pub run_is_unique : (p : ℕ → Bool) (run other rest more : List ℕ) → Passes p run → Passes p other → EndsRun p rest → EndsRun p more → run ++ rest ≡ other ++ more → (run ≡ other) × (rest ≡ more)
+pub run_is_unique : (p : ℕ → Bool) (run other rest more : List ℕ) → Passes p run → Passes p other → EndsRun p rest → EndsRun p more
+    → run ++ rest ≡ other ++ more → (run ≡ other) × (rest ≡ more)
 run_is_unique p [] [] rest more ps qs ends stops e = (refl, e)
 run_is_unique p [] (c ∷ other) [] more ps qs ends stops e = cc
 run_is_unique p [] (c ∷ other) (b ∷ rest) more ps qs ends stops e =

@@ -63,16 +63,24 @@ step_word entry (inr (inr (inr (inr (inr (inr (inr (inr (inr (inr (inr (inr (inl
 step_word entry (inr (inr (inr (inr (inr (inr (inr (inr (inr (inr (inr (inr (inr (inl same)))))))))))))) = subst IsStepWord (sym same) (refl, refl)
 step_word entry (inr (inr (inr (inr (inr (inr (inr (inr (inr (inr (inr (inr (inr (inr (inl same))))))))))))))) = subst IsStepWord (sym same) (refl, refl)
 step_word entry (inr (inr (inr (inr (inr (inr (inr (inr (inr (inr (inr (inr (inr (inr (inr (inl same)))))))))))))))) = subst IsStepWord (sym same) (refl, refl)
-step_word entry (inr (inr (inr (inr (inr (inr (inr (inr (inr (inr (inr (inr (inr (inr (inr (inr (inl same))))))))))))))))) = subst IsStepWord (sym same) (refl, refl)
-step_word entry (inr (inr (inr (inr (inr (inr (inr (inr (inr (inr (inr (inr (inr (inr (inr (inr (inr (inl same)))))))))))))))))) = subst IsStepWord (sym same) (refl, refl)
-step_word entry (inr (inr (inr (inr (inr (inr (inr (inr (inr (inr (inr (inr (inr (inr (inr (inr (inr (inr (inl same))))))))))))))))))) = subst IsStepWord (sym same) (refl, refl)
-step_word entry (inr (inr (inr (inr (inr (inr (inr (inr (inr (inr (inr (inr (inr (inr (inr (inr (inr (inr (inr (inl same)))))))))))))))))))) = subst IsStepWord (sym same) (refl, refl)
-step_word entry (inr (inr (inr (inr (inr (inr (inr (inr (inr (inr (inr (inr (inr (inr (inr (inr (inr (inr (inr (inr (inl same))))))))))))))))))))) = subst IsStepWord (sym same) (refl, refl)
-step_word entry (inr (inr (inr (inr (inr (inr (inr (inr (inr (inr (inr (inr (inr (inr (inr (inr (inr (inr (inr (inr (inr (inl same)))))))))))))))))))))) = subst IsStepWord (sym same) (refl, refl)
-step_word entry (inr (inr (inr (inr (inr (inr (inr (inr (inr (inr (inr (inr (inr (inr (inr (inr (inr (inr (inr (inr (inr (inr none)))))))))))))))))))))) = absurd none
+step_word entry (inr (inr (inr (inr (inr (inr (inr (inr (inr (inr (inr (inr (inr (inr (inr (inr (inl same))))))))))))))))) =
+    subst IsStepWord (sym same) (refl, refl)
+step_word entry (inr (inr (inr (inr (inr (inr (inr (inr (inr (inr (inr (inr (inr (inr (inr (inr (inr (inl same)))))))))))))))))) =
+    subst IsStepWord (sym same) (refl, refl)
+step_word entry (inr (inr (inr (inr (inr (inr (inr (inr (inr (inr (inr (inr (inr (inr (inr (inr (inr (inr (inl same))))))))))))))))))) =
+    subst IsStepWord (sym same) (refl, refl)
+step_word entry (inr (inr (inr (inr (inr (inr (inr (inr (inr (inr (inr (inr (inr (inr (inr (inr (inr (inr (inr (inl same)))))))))))))))))))) =
+    subst IsStepWord (sym same) (refl, refl)
+step_word entry (inr (inr (inr (inr (inr (inr (inr (inr (inr (inr (inr (inr (inr (inr (inr (inr (inr (inr (inr (inr (inl same))))))))))))))))))))) =
+    subst IsStepWord (sym same) (refl, refl)
+step_word entry (inr (inr (inr (inr (inr (inr (inr (inr (inr (inr (inr (inr (inr (inr (inr (inr (inr (inr (inr (inr (inr (inl same)))))))))))))))))))))) =
+    subst IsStepWord (sym same) (refl, refl)
+step_word entry (inr (inr (inr (inr (inr (inr (inr (inr (inr (inr (inr (inr (inr (inr (inr (inr (inr (inr (inr (inr (inr (inr none)))))))))))))))))))))) =
+    absurd none
 
 -- No other name begins as `by` does, and none with a blank.
-pub name_starts : (this : StepWord) → is_by this ≡ false → (more : List ℕ) → (after_token (codes "by") (step_letters this ++ more) ≡ None) × EndsRun is_blank (step_letters this ++ more)
+pub name_starts : (this : StepWord) → is_by this ≡ false → (more : List ℕ) → (after_token (codes "by") (step_letters this ++ more) ≡ None)
+    × EndsRun is_blank (step_letters this ++ more)
 name_starts (words.Bare bare.OutV) other more = (refl, refl)
 name_starts (words.Bare bare.InV) other more = (refl, refl)
 name_starts (words.Bare bare.Id) other more = (refl, refl)

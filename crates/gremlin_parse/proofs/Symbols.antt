@@ -1,16 +1,19 @@
 -- Each symbol of a production: it stands whole in one way, and what may follow it is told by a byte.
-use Rattle.std.proofs.Common.{◌≡◌, ◌≢◌, ◌<◌, inl, inr, ℕ, Bool, true, false, not, ◌&&◌, Some, None, List, [], ◌∷◌, ◌++◌, codes, pos, refl, sym, ap, ◌∙◌, subst, ⊎_elim, append_assoc, arith}
+use Rattle.std.proofs.Common.{◌≡◌, ◌≢◌, ◌<◌, inl, inr, ℕ, Bool, true, false, not, ◌&&◌, Some, None, List, [], ◌∷◌, ◌++◌}
+use Rattle.std.proofs.Common.{codes, pos, refl, sym, ap, ◌∙◌, subst, ⊎_elim, append_assoc, arith}
 use Rattle.std.proofs.lemmas.List.{append_cancel_left}
 use Rattle.std.proofs.lemmas.Bool.Decides.{nat_tests}
 use Rattle.plain_graph.specs.Names.{IsName, is_name_byte, is_name_start}
 use Rattle.gremlin_parse.specs.Numbers.{is_digit}
 use Rattle.plain_graph.specs.declared.value.Value.{Value}
 use Rattle.plain_graph.specs.declared.value.Value.TheVariants as values
-use Rattle.gremlin_parse.specs.Grammar.{Part, Blanks, Gap, Exactly, Name, Number, Times, Written, Closed, Called, quote_byte, IsPart, IsBounded, AreBlanks, is_blank}
+use Rattle.gremlin_parse.specs.Grammar.{Part, Blanks, Gap, Exactly, Name, Number, Times, Written, Closed, Called}
+use Rattle.gremlin_parse.specs.Grammar.{quote_byte, IsPart, IsBounded, AreBlanks, is_blank}
 use Rattle.gremlin_parse.specs.Faults.{EndsRun, IsOutOfBounds}
 use Rattle.gremlin_parse.specs.Reading.{first_byte, Passes, Then, StartsName, StartsNumber}
 use Rattle.gremlin_parse.specs.Keywords.{Entry, InTable, plain}
-use Rattle.gremlin_parse.specs.Symbols.{Symbol, AnyBlanks, AnyGap, Sign, OneWord, AnyName, AnyNumber, AnyTimes, AnyValue, AnyClosed, Content, part, Allows, Ends, Takes, IsBad}
+use Rattle.gremlin_parse.specs.Symbols.{Symbol, AnyBlanks, AnyGap, Sign, OneWord, AnyName, AnyNumber, AnyTimes}
+use Rattle.gremlin_parse.specs.Symbols.{AnyValue, AnyClosed, Content, part, Allows, Ends, Takes, IsBad}
 use Rattle.gremlin_parse.specs.declared.bad_token.BadToken.{BadToken}
 use Rattle.gremlin_parse.specs.declared.bad_token.BadToken.TheVariants.{LongName, LongText, WideNumber, WrongTimes, UnfitStep, LateStep}
 use Rattle.gremlin_parse.proofs.Runs.{both, turned, Halts, run_is_unique, EndsRun-first_byte}
@@ -28,14 +31,18 @@ quote_is_no_name_byte : (double : Bool) → is_name_byte (quote_byte double) ≡
 quote_is_no_name_byte true = refl
 quote_is_no_name_byte false = refl
 
-pub closed_bytes : (double : Bool) (name bytes prefix rest : List ℕ) → prefix ≡ name ++ quote_byte double ∷ [] → bytes ≡ prefix ++ rest → bytes ≡ name ++ quote_byte double ∷ rest
+pub closed_bytes : (double : Bool) (name bytes prefix rest : List ℕ) → prefix ≡ name ++ quote_byte double ∷ [] → bytes ≡ prefix ++ rest
+    → bytes ≡ name ++ quote_byte double ∷ rest
 closed_bytes double name bytes prefix rest is whole = whole ∙ ap (λ p. p ++ rest) is ∙ append_assoc name (quote_byte double ∷ []) rest
 
 -- A name before a closing quote is the run of name bytes.
-pub closed_run : (double : Bool) (name run rest more : List ℕ) → IsName name → IsName run → EndsRun is_name_byte more → name ++ quote_byte double ∷ rest ≡ run ++ more → (name ≡ run) × (quote_byte double ∷ rest ≡ more)
-closed_run double name run rest more is runs ends whole = run_is_unique is_name_byte name run (quote_byte double ∷ rest) more (IsName-passes name is) (IsName-passes run runs) (quote_is_no_name_byte double) ends whole
+pub closed_run : (double : Bool) (name run rest more : List ℕ) → IsName name → IsName run → EndsRun is_name_byte more
+    → name ++ quote_byte double ∷ rest ≡ run ++ more → (name ≡ run) × (quote_byte double ∷ rest ≡ more)
+closed_run double name run rest more is runs ends whole = run_is_unique is_name_byte name run (quote_byte double ∷ rest) more (IsName-passes name is)
+    (IsName-passes run runs) (quote_is_no_name_byte double) ends whole
 
-closed_unique : (double : Bool) (name other rest more : List ℕ) → IsName name → IsName other → name ++ quote_byte double ∷ rest ≡ other ++ quote_byte double ∷ more → (name ≡ other) × (rest ≡ more)
+closed_unique : (double : Bool) (name other rest more : List ℕ) → IsName name → IsName other
+    → name ++ quote_byte double ∷ rest ≡ other ++ quote_byte double ∷ more → (name ≡ other) × (rest ≡ more)
 closed_unique double name other rest more is others whole =
     let same = closed_run double name other rest (quote_byte double ∷ more) is others (quote_is_no_name_byte double) whole in
     (same.0, tails (quote_byte double) rest more same.1)
@@ -44,7 +51,8 @@ closed_unique double name other rest more is others whole =
     tails b rest more same = cc
 
 -- The symbol that stands whole at the head has one content, and one rest.
-pub takes_unique : (symbol : Symbol) (content other : Content symbol) (bytes rest more : List ℕ) → Takes symbol content bytes rest → Takes symbol other bytes more → (content ≡ other) × (rest ≡ more)
+pub takes_unique : (symbol : Symbol) (content other : Content symbol) (bytes rest more : List ℕ) → Takes symbol content bytes rest
+    → Takes symbol other bytes more → (content ≡ other) × (rest ≡ more)
 takes_unique AnyBlanks content other bytes rest more one two =
     (unit content other, (run_is_unique is_blank one.prefix two.prefix rest more one.is two.is one.ends two.ends (sym one.bytes_are ∙ two.bytes_are)).1)
 takes_unique AnyGap content other bytes rest more one two =
@@ -60,16 +68,21 @@ takes_unique AnyName name other bytes rest more one two =
     let same = run_is_unique is_name_byte one.prefix two.prefix rest more passes others one.ends two.ends (sym one.bytes_are ∙ two.bytes_are) in
     (sym one.is.0 ∙ same.0 ∙ two.is.0, same.1)
 takes_unique (AnyNumber most) number other bytes rest more one two =
-    one_number number other bytes rest more (record { prefix = one.prefix; bytes_are = one.bytes_are; is = one.is; ends = one.ends }) (record { prefix = two.prefix; bytes_are = two.bytes_are; is = two.is; ends = two.ends })
+    one_number number other bytes rest more (record { prefix = one.prefix; bytes_are = one.bytes_are; is = one.is; ends = one.ends })
+    (record { prefix = two.prefix; bytes_are = two.bytes_are; is = two.is; ends = two.ends })
 takes_unique AnyTimes number other bytes rest more one two =
-    one_number number other bytes rest more (record { prefix = one.prefix; bytes_are = one.bytes_are; is = one.is; ends = one.ends }) (record { prefix = two.prefix; bytes_are = two.bytes_are; is = two.is; ends = two.ends })
+    one_number number other bytes rest more (record { prefix = one.prefix; bytes_are = one.bytes_are; is = one.is; ends = one.ends })
+    (record { prefix = two.prefix; bytes_are = two.bytes_are; is = two.is; ends = two.ends })
 takes_unique (AnyClosed double) name other bytes rest more one two =
-    let same = closed_unique double name other rest more one.is.1 two.is.1 (sym (closed_bytes double name bytes one.prefix rest one.is.0 one.bytes_are) ∙ closed_bytes double other bytes two.prefix more two.is.0 two.bytes_are) in
+    let same = closed_unique double name other rest more one.is.1 two.is.1
+    (sym (closed_bytes double name bytes one.prefix rest one.is.0 one.bytes_are) ∙ closed_bytes double other bytes two.prefix more two.is.0 two.bytes_are)
+    in
     same
 takes_unique AnyValue value other bytes rest more one two = one_value value other bytes rest more one two
 
 -- what ends a symbol depends on the first byte only
-pub Ends-first_byte : (symbol : Symbol) (content : Content symbol) (prefix rest more : List ℕ) → first_byte more ≡ first_byte rest → Ends symbol content prefix rest → Ends symbol content prefix more
+pub Ends-first_byte : (symbol : Symbol) (content : Content symbol) (prefix rest more : List ℕ) → first_byte more ≡ first_byte rest
+    → Ends symbol content prefix rest → Ends symbol content prefix more
 Ends-first_byte AnyBlanks content prefix rest more same ends = EndsRun-first_byte is_blank rest more same ends
 Ends-first_byte AnyGap content prefix rest more same ends = EndsRun-first_byte is_blank rest more same ends
 Ends-first_byte (Sign sign) content prefix rest more same ends = tt
@@ -149,7 +162,8 @@ some_keywords [] is = cc
 some_keywords (word ∷ words) is = is
 
 -- What begins with no byte with which the symbol can go on ends it.
-pub ends_symbol : (symbol : Symbol) → is_symbol symbol ≡ true → (content : Content symbol) → Allows symbol content → (prefix : List ℕ) → IsPart (part symbol content) prefix → (rest : List ℕ) → EndsRun (passes (class_of symbol)) rest → Ends symbol content prefix rest
+pub ends_symbol : (symbol : Symbol) → is_symbol symbol ≡ true → (content : Content symbol) → Allows symbol content → (prefix : List ℕ)
+    → IsPart (part symbol content) prefix → (rest : List ℕ) → EndsRun (passes (class_of symbol)) rest → Ends symbol content prefix rest
 ends_symbol AnyBlanks is content allows prefix part_is rest ends = ends
 ends_symbol AnyGap is content allows prefix part_is rest ends = ends
 ends_symbol (Sign sign) is content allows prefix part_is rest ends = tt
@@ -176,14 +190,16 @@ module _ (symbol : Symbol) (is : is_symbol symbol ≡ true) (After : List ℕ �
   }
 
   -- After the symbol that stands there, the bytes are of the language.
-  pub after_symbol : (content other : Content symbol) → Allows symbol other → (bytes rest : List ℕ) → Takes symbol content bytes rest → Then (part symbol other) After bytes → (content ≡ other) × After rest
+  pub after_symbol : (content other : Content symbol) → Allows symbol other → (bytes rest : List ℕ) → Takes symbol content bytes rest
+      → Then (part symbol other) After bytes → (content ≡ other) × After rest
   after_symbol content other allows bytes rest takes then =
       let there = whole other allows bytes then in
       let same = takes_unique symbol content other bytes rest there.rest takes there.takes in
       (same.0, subst After (sym same.1) there.after)
 
 -- the same symbol before other bytes that begin alike
-pub takes_again : (symbol : Symbol) (content : Content symbol) (bytes rest more : List ℕ) → (takes : Takes symbol content bytes rest) → first_byte more ≡ first_byte rest → Takes symbol content (takes.prefix ++ more) more
+pub takes_again : (symbol : Symbol) (content : Content symbol) (bytes rest more : List ℕ) → (takes : Takes symbol content bytes rest)
+    → first_byte more ≡ first_byte rest → Takes symbol content (takes.prefix ++ more) more
 takes_again symbol content bytes rest more takes same = record { prefix = takes.prefix; bytes_are = refl; is = takes.is; ends = Ends-first_byte symbol content takes.prefix rest more same takes.ends }
 
 -- ---- the first byte of a symbol
@@ -251,7 +267,8 @@ pub first_ends : (p : ℕ → Bool) (word rest : List ℕ) → first_fails p wor
 first_ends p [] rest fails = cc
 first_ends p (b ∷ word) rest fails = turned (p b) fails
 
-word_ends : (p : ℕ → Bool) (words : List (List ℕ)) → all_fail p words ≡ true → (word rest : List ℕ) → InTable (word, tt) (plain words) → EndsRun p (word ++ rest)
+word_ends : (p : ℕ → Bool) (words : List (List ℕ)) → all_fail p words ≡ true → (word rest : List ℕ) → InTable (word, tt) (plain words)
+    → EndsRun p (word ++ rest)
 word_ends p [] fail word rest within = absurd within
 word_ends p (first ∷ words) fail word rest within =
     let two = both (first_fails p first) (all_fail p words) fail in
@@ -260,7 +277,8 @@ word_ends p (first ∷ words) fail word rest within =
     (λ (later : InTable (word, tt) (plain words)). word_ends p words two.1 word rest later)
     within
 
-pub blanks_end : (p : ℕ → Bool) → ((b : ℕ) → is_blank b ≡ true → p b ≡ false) → (blanks rest : List ℕ) → AreBlanks blanks → EndsRun p rest → EndsRun p (blanks ++ rest)
+pub blanks_end : (p : ℕ → Bool) → ((b : ℕ) → is_blank b ≡ true → p b ≡ false) → (blanks rest : List ℕ) → AreBlanks blanks → EndsRun p rest
+    → EndsRun p (blanks ++ rest)
 blanks_end p fails [] rest are ends = ends
 blanks_end p fails (b ∷ blanks) rest are ends = fails b are.0
 
@@ -293,25 +311,37 @@ halts class end (AnyTimes ∷ symbols) = no_digits class
 halts class end (AnyValue ∷ symbols) = no_values class
 halts class end (AnyClosed double ∷ symbols) = no_names class
 
-pub closed_starts : (double : Bool) (name bytes prefix rest : List ℕ) → (prefix ≡ name ++ quote_byte double ∷ []) × IsName name → bytes ≡ prefix ++ rest → StartsName bytes
-closed_starts double name bytes prefix rest (same, is) whole = subst StartsName (sym (closed_bytes double name bytes prefix rest same whole)) (name_starts name (quote_byte double ∷ rest) is)
+pub closed_starts : (double : Bool) (name bytes prefix rest : List ℕ) → (prefix ≡ name ++ quote_byte double ∷ []) × IsName name → bytes ≡ prefix ++ rest
+    → StartsName bytes
+closed_starts double name bytes prefix rest (same, is) whole = subst StartsName (sym (closed_bytes double name bytes prefix rest same whole))
+    (name_starts name (quote_byte double ∷ rest) is)
 
 -- the first byte of a symbol and of what follows it
-pub part_halts : (class : Class) (end : Bool) (symbol : Symbol) (symbols : List Symbol) → halts class end (symbol ∷ symbols) ≡ true → (content : Content symbol) → Allows symbol content → (prefix rest : List ℕ) → IsPart (part symbol content) prefix → (halts class end symbols ≡ true → EndsRun (passes class) rest) → EndsRun (passes class) (prefix ++ rest)
+pub part_halts : (class : Class) (end : Bool) (symbol : Symbol) (symbols : List Symbol) → halts class end (symbol ∷ symbols) ≡ true → (content : Content symbol)
+    → Allows symbol content → (prefix rest : List ℕ) → IsPart (part symbol content) prefix → (halts class end symbols ≡ true → EndsRun (passes class) rest)
+    → EndsRun (passes class) (prefix ++ rest)
 part_halts class end AnyBlanks symbols is content allows prefix rest part_is later =
     let two = both (no_blanks class) (halts class end symbols) is in
     blanks_end (passes class) (blank_fails class two.0) prefix rest part_is (later two.1)
 part_halts class end AnyGap symbols is content allows prefix rest part_is later = gap_ends (passes class) (blank_fails class is) prefix rest part_is.0 part_is.1
-part_halts class end (Sign sign) symbols is content allows prefix rest part_is later = subst (λ w. EndsRun (passes class) (w ++ rest)) (sym part_is) (first_ends (passes class) sign rest is)
-part_halts class end (OneWord words) symbols is word allows prefix rest part_is later = subst (λ w. EndsRun (passes class) (w ++ rest)) (sym part_is) (word_ends (passes class) words is word rest allows)
-part_halts class end AnyName symbols is name allows prefix rest part_is later = name_ends (passes class) (name_fails class is) (prefix ++ rest) (name_starts prefix rest (subst IsName (sym part_is.0) part_is.1))
-part_halts class end (AnyNumber most) symbols is number allows prefix rest part_is later = number_ends (passes class) (digit_fails class is) (prefix ++ rest) (number_starts prefix rest part_is.0)
-part_halts class end AnyTimes symbols is number allows prefix rest part_is later = number_ends (passes class) (digit_fails class is) (prefix ++ rest) (number_starts prefix rest part_is.0)
-part_halts class end (AnyClosed double) symbols is name allows prefix rest part_is later = name_ends (passes class) (name_fails class is) (prefix ++ rest) (closed_starts double name (prefix ++ rest) prefix rest part_is refl)
-part_halts class end AnyValue symbols is value allows prefix rest part_is later = value_ends class is value (prefix ++ rest) (value_starts value prefix rest part_is)
+part_halts class end (Sign sign) symbols is content allows prefix rest part_is later =
+    subst (λ w. EndsRun (passes class) (w ++ rest)) (sym part_is) (first_ends (passes class) sign rest is)
+part_halts class end (OneWord words) symbols is word allows prefix rest part_is later =
+    subst (λ w. EndsRun (passes class) (w ++ rest)) (sym part_is) (word_ends (passes class) words is word rest allows)
+part_halts class end AnyName symbols is name allows prefix rest part_is later =
+    name_ends (passes class) (name_fails class is) (prefix ++ rest) (name_starts prefix rest (subst IsName (sym part_is.0) part_is.1))
+part_halts class end (AnyNumber most) symbols is number allows prefix rest part_is later =
+    number_ends (passes class) (digit_fails class is) (prefix ++ rest) (number_starts prefix rest part_is.0)
+part_halts class end AnyTimes symbols is number allows prefix rest part_is later =
+    number_ends (passes class) (digit_fails class is) (prefix ++ rest) (number_starts prefix rest part_is.0)
+part_halts class end (AnyClosed double) symbols is name allows prefix rest part_is later =
+    name_ends (passes class) (name_fails class is) (prefix ++ rest) (closed_starts double name (prefix ++ rest) prefix rest part_is refl)
+part_halts class end AnyValue symbols is value allows prefix rest part_is later =
+    value_ends class is value (prefix ++ rest) (value_starts value prefix rest part_is)
 
 -- A bad token begins with no byte of the class.
-pub bad_halts : (class : Class) (end : Bool) (symbol : Symbol) (symbols : List Symbol) → halts class end (symbol ∷ symbols) ≡ true → (kind : BadToken) (left : ℕ) (bytes : List ℕ) → IsBad symbol kind left bytes → EndsRun (passes class) bytes
+pub bad_halts : (class : Class) (end : Bool) (symbol : Symbol) (symbols : List Symbol) → halts class end (symbol ∷ symbols) ≡ true
+    → (kind : BadToken) (left : ℕ) (bytes : List ℕ) → IsBad symbol kind left bytes → EndsRun (passes class) bytes
 bad_halts class end AnyBlanks symbols is kind left bytes (content, bad, rest, takes, place) = absurd bad
 bad_halts class end AnyGap symbols is kind left bytes (content, bad, rest, takes, place) = absurd bad
 bad_halts class end (Sign sign) symbols is kind left bytes (content, bad, rest, takes, place) = absurd bad
@@ -322,7 +352,8 @@ bad_halts class end (AnyNumber most) symbols is kind left bytes (number, bad, re
     subst (EndsRun (passes class)) (sym takes.bytes_are) (number_ends (passes class) (digit_fails class is) (takes.prefix ++ rest) (number_starts takes.prefix rest takes.is.0))
 bad_halts class end AnyTimes symbols is kind left bytes (number, bad, rest, takes, place) =
     subst (EndsRun (passes class)) (sym takes.bytes_are) (number_ends (passes class) (digit_fails class is) (takes.prefix ++ rest) (number_starts takes.prefix rest takes.is.0))
-bad_halts class end (AnyClosed double) symbols is kind left bytes (name, bad, rest, takes, place) = name_ends (passes class) (name_fails class is) bytes (closed_starts double name bytes takes.prefix rest takes.is takes.bytes_are)
+bad_halts class end (AnyClosed double) symbols is kind left bytes (name, bad, rest, takes, place) =
+    name_ends (passes class) (name_fails class is) bytes (closed_starts double name bytes takes.prefix rest takes.is takes.bytes_are)
 bad_halts class end AnyValue symbols is kind left bytes (value, bad, rest, takes, place) =
     subst (EndsRun (passes class)) (sym takes.bytes_are) (value_ends class is value (takes.prefix ++ rest) (value_starts value takes.prefix rest takes.is))
 
@@ -348,7 +379,8 @@ not_bad LateStep (Number most number) within = λ bad. bad
 not_bad LongName (Times number) within = λ bad. bad
 not_bad LongText (Times number) within = λ bad. bad
 not_bad WideNumber (Times number) within = λ bad. bad
-not_bad WrongTimes (Times number) within = λ bad. ⊎_elim (λ (below : number < 1). absurd (omega (arith, within.0))) (λ (above : 16 < number). absurd (omega (arith, within.1))) bad
+not_bad WrongTimes (Times number) within = λ bad. ⊎_elim (λ (below : number < 1). absurd (omega (arith, within.0)))
+    (λ (above : 16 < number). absurd (omega (arith, within.1))) bad
 not_bad UnfitStep (Times number) within = λ bad. bad
 not_bad LateStep (Times number) within = λ bad. bad
 not_bad LongName (Written (values.Int number)) within = λ bad. bad

@@ -1,5 +1,7 @@
 -- A word of a table is the run of name bytes at the head: one word, or a stop after its longest prefix.
-use Rattle.std.proofs.Common.{◌≡◌, ◌≤◌, ◌+◌, ◌-◌, ◌⊎◌, inl, inr, ℕ, suc, zero, max, nat_eq, cond, Bool, true, false, not, ◌&&◌, Some, None, List, [], ◌∷◌, ◌++◌, length, map, take, drop, refl, sym, ap, ◌∙◌, subst, ⊎_elim, append_assoc, length-append, arith}
+use Rattle.std.proofs.Common.{◌≡◌, ◌≤◌, ◌+◌, ◌-◌, ◌⊎◌, inl, inr, ℕ, suc, zero, max, nat_eq, cond, Bool, true, false}
+use Rattle.std.proofs.Common.{not, ◌&&◌, Some, None, List, [], ◌∷◌, ◌++◌, length, map, take, drop, refl, sym, ap, ◌∙◌}
+use Rattle.std.proofs.Common.{subst, ⊎_elim, append_assoc, length-append, arith}
 use Rattle.std.specs.List.{AllByRecursion}
 use Rattle.std.specs.Cmp.Lexicographic.{pointwise, same_text, other_text}
 use Rattle.std.proofs.lemmas.Bool.{cases_Bool}
@@ -30,7 +32,9 @@ common_more : (b c : ℕ) (word run : List ℕ) → b ≡ c → common (b ∷ wo
 common_more b c word run same = grind (arith, nat_tests)
 
 -- A word of which no more than the read bytes stand there, and which goes on as the bytes do, is the run.
-is_run : (read run_left rest more word after : List ℕ) → Passes is_name_byte (read ++ run_left) → EndsRun is_name_byte rest → Passes is_name_byte word → EndsRun is_name_byte after → word ++ after ≡ read ++ more → first_byte more ≡ first_byte (run_left ++ rest) → common word (read ++ run_left) ≤ length read → word ≡ read ++ run_left
+is_run : (read run_left rest more word after : List ℕ) → Passes is_name_byte (read ++ run_left) → EndsRun is_name_byte rest → Passes is_name_byte word
+    → EndsRun is_name_byte after → word ++ after ≡ read ++ more → first_byte more ≡ first_byte (run_left ++ rest) → common word (read ++ run_left) ≤ length read
+    → word ≡ read ++ run_left
 is_run [] [] rest more [] after run ends passes stops whole first few = refl
 is_run [] (c ∷ run_left) rest more [] after run ends passes stops whole first few = absurd (ends_clash c after stops (ap first_byte whole ∙ first) run.0)
 is_run [] [] rest more (b ∷ word) after run ends passes stops whole first few = absurd (ends_clash b rest ends (sym first ∙ sym (ap first_byte whole)) passes.0)
@@ -66,7 +70,8 @@ common_prefix [] run = ([], take_zero run)
 common_prefix (b ∷ word) [] = (b ∷ word, refl)
 common_prefix (b ∷ word) (c ∷ run) = prefix (common_prefix word run) (nat_eq c b) refl
   where
-    prefix : (more : List ℕ) × (word ≡ take (common word run) run ++ more) → (t : Bool) → nat_eq c b ≡ t → (more : List ℕ) × (b ∷ word ≡ take (cond t (1 + common word run) 0) (c ∷ run) ++ more)
+    prefix : (more : List ℕ) × (word ≡ take (common word run) run ++ more) → (t : Bool) → nat_eq c b ≡ t → (more : List ℕ)
+        × (b ∷ word ≡ take (cond t (1 + common word run) 0) (c ∷ run) ++ more)
     prefix (more, is) true same =
         let head = eqb-true c b same in
         let next : suc (common word run) ≡ 1 + common word run = omega arith in
@@ -107,7 +112,8 @@ common_run (b ∷ word) [] (c ∷ rest) passes ends = other (nat_eq c b) refl
 common_run (b ∷ word) (c ∷ run) rest passes ends = ap (λ n. cond (nat_eq c b) (1 + n) 0) (common_run word run rest passes.1 ends)
 
 pub pointwise_same : (word : List ℕ) → pointwise nat_eq word word ≡ true
-pointwise_same word = ⊎_elim (λ (same : pointwise nat_eq word word ≡ true). same) (λ (other : pointwise nat_eq word word ≡ false). absurd (other_text word word (sym other) refl)) (cases_Bool (pointwise nat_eq word word))
+pointwise_same word = ⊎_elim (λ (same : pointwise nat_eq word word ≡ true). same)
+    (λ (other : pointwise nat_eq word word ≡ false). absurd (other_text word word (sym other) refl)) (cases_Bool (pointwise nat_eq word word))
 
 module _ {K : Type 0} where
   -- Each entry passes a test, which computes over the table.
@@ -158,37 +164,45 @@ module _ {K : Type 0} where
 
   pub all_in : (P : Entry K → Type 0) (table : List (Entry K)) (entry : Entry K) → AllByRecursion P table → InTable entry table → P entry
   all_in P [] entry all within = absurd within
-  all_in P (first ∷ table) entry all within = ⊎_elim (λ (same : entry ≡ first). subst P (sym same) all.0) (λ (later : InTable entry table). all_in P table entry all.1 later) within
+  all_in P (first ∷ table) entry all within = ⊎_elim (λ (same : entry ≡ first). subst P (sym same) all.0)
+      (λ (later : InTable entry table). all_in P table entry all.1 later) within
 
   pub lookup_in : (table : List (Entry K)) (run : List ℕ) (kind : K) → lookup table run ≡ Some kind → InTable (run, kind) table
   lookup_in [] run kind is = cc
   lookup_in (first ∷ table) run kind is = found (lookup_in table run kind) (pointwise nat_eq first.0 run) refl is
     where
-      found : (lookup table run ≡ Some kind → InTable (run, kind) table) → (t : Bool) → pointwise nat_eq first.0 run ≡ t → cond t (Some first.1) (lookup table run) ≡ Some kind → InTable (run, kind) (first ∷ table)
+      found : (lookup table run ≡ Some kind → InTable (run, kind) table) → (t : Bool) → pointwise nat_eq first.0 run ≡ t
+          → cond t (Some first.1) (lookup table run) ≡ Some kind → InTable (run, kind) (first ∷ table)
       found later true same here =
           let word = same_text first.0 run (sym same) in
           let kind_is : first.1 ≡ kind = cc in
           inl (λ i. (sym word i, sym kind_is i))
       found later false same here = inr (later here)
 
-  one_kind : (table : List (Entry K)) → IsWordTable table → (run : List ℕ) (kind : K) → lookup table run ≡ Some kind → (entry : Entry K) → InTable entry table → run ≡ entry.0 → entry.1 ≡ kind
+  one_kind : (table : List (Entry K)) → IsWordTable table → (run : List ℕ) (kind : K) → lookup table run ≡ Some kind → (entry : Entry K) → InTable entry table
+      → run ≡ entry.0 → entry.1 ≡ kind
   one_kind table words run kind is entry within same =
       let named : lookup table entry.0 ≡ Some entry.1 = all_in (λ (e : Entry K). lookup table e.0 ≡ Some e.1) table entry words.named within in
       let both : Some entry.1 ≡ Some kind = sym named ∙ ap (lookup table) (sym same) ∙ is in
       cc
 
   -- After the word that stands there, the bytes are of its language.
-  pub ThenWord-after : (table : List (Entry K)) → IsWordTable table → (After : K → List ℕ → Type 0) → ((kind : K) → Halts is_name_byte (After kind)) → (bytes rest : List ℕ) (kind : K) → TakesWord table bytes kind rest → ThenWord table After bytes → After kind rest
+  pub ThenWord-after : (table : List (Entry K)) → IsWordTable table → (After : K → List ℕ → Type 0) → ((kind : K) → Halts is_name_byte (After kind))
+      → (bytes rest : List ℕ) (kind : K) → TakesWord table bytes kind rest → ThenWord table After bytes → After kind rest
   ThenWord-after table words After ends bytes rest kind (run, cut, is) (entry, within, (prefix, more, whole, front_is, after)) =
       let passes : Passes is_name_byte entry.0 = word_passes entry.0 (all_in (λ (e : Entry K). is_word e.0 ≡ true) table entry words.words within) in
-      let same = run_is_unique is_name_byte run prefix rest more cut.passes (subst (Passes is_name_byte) (sym front_is) passes) cut.ends (ends entry.1 more after) (sym cut.bytes_are ∙ whole) in
+      let same = run_is_unique is_name_byte run prefix rest more cut.passes (subst (Passes is_name_byte) (sym front_is) passes) cut.ends
+      (ends entry.1 more after) (sym cut.bytes_are ∙ whole) in
       let kind_is = one_kind table words run kind is entry within (same.0 ∙ front_is) in
       subst (After kind) (sym same.1) (subst (λ k. After k more) kind_is after)
 
-  pub continues_table : (table : List (Entry K)) → IsWordTable table → (After : K → List ℕ → Type 0) → ((kind : K) → Halts is_name_byte (After kind)) → (bytes run rest : List ℕ) (kind : K) → CutsRun is_name_byte bytes run rest → lookup table run ≡ Some kind → Continues (ThenWord table After) run (After kind) rest
+  pub continues_table : (table : List (Entry K)) → IsWordTable table → (After : K → List ℕ → Type 0) → ((kind : K) → Halts is_name_byte (After kind))
+      → (bytes run rest : List ℕ) (kind : K) → CutsRun is_name_byte bytes run rest → lookup table run ≡ Some kind
+      → Continues (ThenWord table After) run (After kind) rest
   continues_table table words After ends bytes run rest kind cut is = record {
     onto = λ more after. ((run, kind), lookup_in table run kind is, (run, more, refl, refl, after));
-    back = λ more same whole. ThenWord-after table words After ends (run ++ more) more kind (run, record { bytes_are = refl; passes = cut.passes; ends = EndsRun-first_byte is_name_byte rest more same cut.ends }, is) whole;
+    back = λ more same whole. ThenWord-after table words After ends (run ++ more) more kind
+        (run, record { bytes_are = refl; passes = cut.passes; ends = EndsRun-first_byte is_name_byte rest more same cut.ends }, is) whole;
   }
 
   -- a word that has as much in common with the run as any
@@ -223,7 +237,8 @@ module _ {K : Type 0} where
   reach_within [] run = omega arith
   reach_within (first ∷ table) run = let one = common_within first.0 run in let two = reach_within table run in omega (arith, one, two)
 
-  reach_run : (table : List (Entry K)) → AllByRecursion (λ (entry : Entry K). is_word entry.0 ≡ true) table → (run rest : List ℕ) → EndsRun is_name_byte rest → reach table (run ++ rest) ≡ reach table run
+  reach_run : (table : List (Entry K)) → AllByRecursion (λ (entry : Entry K). is_word entry.0 ≡ true) table → (run rest : List ℕ) → EndsRun is_name_byte rest
+      → reach table (run ++ rest) ≡ reach table run
   reach_run [] words run rest ends = refl
   reach_run (first ∷ table) words run rest ends =
       let one = common_run first.0 run rest (word_passes first.0 words.0) ends in
@@ -231,7 +246,8 @@ module _ {K : Type 0} where
       (λ i. max (one i) (two i))
 
   -- A word that is the run at the head stands whole there.
-  pub whole_word_of : (table : List (Entry K)) → IsWordTable table → (bytes rest : List ℕ) (kind : K) → TakesWord table bytes kind rest → whole_word table bytes ≡ Some kind
+  pub whole_word_of : (table : List (Entry K)) → IsWordTable table → (bytes rest : List ℕ) (kind : K) → TakesWord table bytes kind rest
+      → whole_word table bytes ≡ Some kind
   whole_word_of table words bytes rest kind (run, cut, is) =
       let most = reach_most table run (run, kind) (lookup_in table run kind is) in
       let all = common_same run in
@@ -257,7 +273,9 @@ module _ {K : Type 0} where
   }
 
   -- where reading stops at no word of the table
-  pub stops_in_table : (first : Entry K) (later : List (Entry K)) → IsWordTable (first ∷ later) → (After : K → List ℕ → Type 0) → ((kind : K) → Halts is_name_byte (After kind)) → ((kind : K) → (line : List ℕ) × After kind line) → (bytes : List ℕ) (left : ℕ) → LeavesTable (first ∷ later) bytes left → StopsBefore (ThenWord (first ∷ later) After) bytes left
+  pub stops_in_table : (first : Entry K) (later : List (Entry K)) → IsWordTable (first ∷ later) → (After : K → List ℕ → Type 0)
+      → ((kind : K) → Halts is_name_byte (After kind)) → ((kind : K) → (line : List ℕ) × After kind line) → (bytes : List ℕ) (left : ℕ)
+      → LeavesTable (first ∷ later) bytes left → StopsBefore (ThenWord (first ∷ later) After) bytes left
   stops_in_table first later words After ends some bytes left (run, rest, cut, none, left_is) =
       let table : List (Entry K) = first ∷ later in
       let n : ℕ = reach table run in
@@ -280,18 +298,23 @@ module _ {K : Type 0} where
         viable = (prefix.0 ++ line.0, (most.entry, most.within, (most.entry.0, line.0, sym (append_assoc read prefix.0 line.0) ∙ ap (λ w. w ++ line.0) (sym word_is), refl, line.1)));
         none = λ more same (entry, is_in, (word, after, whole, word_is, is)).
             let passes : Passes is_name_byte entry.0 = word_passes entry.0 (all_in (λ (e : Entry K). is_word e.0 ≡ true) table entry words.words is_in) in
-            let few : common entry.0 (read ++ drop n run) ≤ length read = let le = reach_most table run entry is_in in let e : common entry.0 (read ++ drop n run) ≡ common entry.0 run = ap (common entry.0) cut_run_is in omega (arith, le, e, read_len) in
-            let is_the_run : entry.0 ≡ read ++ drop n run = is_run read (drop n run) rest more entry.0 after (subst (Passes is_name_byte) (sym cut_run_is) cut.passes) cut.ends passes (ends entry.1 after is) (ap (λ w. w ++ after) (sym word_is) ∙ sym whole) same few in
+            let few : common entry.0 (read ++ drop n run) ≤ length read = let le = reach_most table run entry is_in in
+            let e : common entry.0 (read ++ drop n run) ≡ common entry.0 run = ap (common entry.0) cut_run_is in omega (arith, le, e, read_len) in
+            let is_the_run : entry.0 ≡ read ++ drop n run = is_run read (drop n run) rest more entry.0 after
+            (subst (Passes is_name_byte) (sym cut_run_is) cut.passes) cut.ends passes (ends entry.1 after is)
+            (ap (λ w. w ++ after) (sym word_is) ∙ sym whole) same few in
             let named : lookup table entry.0 ≡ Some entry.1 = all_in (λ (e : Entry K). lookup table e.0 ≡ Some e.1) table entry words.named is_in in
             let clash : None ≡ Some entry.1 = sym none ∙ ap (lookup table) (sym cut_run_is ∙ sym is_the_run) ∙ named in
             cc;
       }
 
   -- Where no word of the table stands, nothing of it is spelled.
-  pub no_word : (table : List (Entry K)) → IsWordTable table → (After : K → List ℕ → Type 0) → ((kind : K) → Halts is_name_byte (After kind)) → (bytes : List ℕ) (left : ℕ) → LeavesTable table bytes left → ¬ ThenWord table After bytes
+  pub no_word : (table : List (Entry K)) → IsWordTable table → (After : K → List ℕ → Type 0) → ((kind : K) → Halts is_name_byte (After kind))
+      → (bytes : List ℕ) (left : ℕ) → LeavesTable table bytes left → ¬ ThenWord table After bytes
   no_word table words After ends bytes left (run, rest, cut, none, left_is) = λ (entry, within, (prefix, more, whole, front_is, after)).
       let passes : Passes is_name_byte entry.0 = word_passes entry.0 (all_in (λ (e : Entry K). is_word e.0 ≡ true) table entry words.words within) in
-      let same = run_is_unique is_name_byte run prefix rest more cut.passes (subst (Passes is_name_byte) (sym front_is) passes) cut.ends (ends entry.1 more after) (sym cut.bytes_are ∙ whole) in
+      let same = run_is_unique is_name_byte run prefix rest more cut.passes (subst (Passes is_name_byte) (sym front_is) passes) cut.ends
+      (ends entry.1 more after) (sym cut.bytes_are ∙ whole) in
       let named : lookup table entry.0 ≡ Some entry.1 = all_in (λ (e : Entry K). lookup table e.0 ≡ Some e.1) table entry words.named within in
       let clash : None ≡ Some entry.1 = sym none ∙ ap (lookup table) (same.0 ∙ front_is) ∙ named in
       cc
@@ -304,7 +327,8 @@ module _ {K : Type 0} where
     pub two : Two kind rest
 
   -- Two languages of the same words agree on the word and on what is after it.
-  pub words_agree : (table : List (Entry K)) → IsWordTable table → (One Two : K → List ℕ → Type 0) → ((kind : K) → Halts is_name_byte (One kind)) → ((kind : K) → Halts is_name_byte (Two kind)) → (bytes : List ℕ) → ThenWord table One bytes → ThenWord table Two bytes → Agrees One Two
+  pub words_agree : (table : List (Entry K)) → IsWordTable table → (One Two : K → List ℕ → Type 0) → ((kind : K) → Halts is_name_byte (One kind))
+      → ((kind : K) → Halts is_name_byte (Two kind)) → (bytes : List ℕ) → ThenWord table One bytes → ThenWord table Two bytes → Agrees One Two
   words_agree table words One Two ends stops bytes (entry, within, (prefix, rest, whole, front_is, after)) two =
       let passes : Passes is_name_byte entry.0 = word_passes entry.0 (all_in (λ (e : Entry K). is_word e.0 ≡ true) table entry words.words within) in
       let named : lookup table entry.0 ≡ Some entry.1 = all_in (λ (e : Entry K). lookup table e.0 ≡ Some e.1) table entry words.named within in
@@ -318,7 +342,8 @@ module _ {K : Type 0} where
   lookup-forget [] run none = refl
   lookup-forget (first ∷ table) run none = here (lookup-forget table run) (pointwise nat_eq first.0 run) none
     where
-      here : (lookup table run ≡ None → lookup (map forget table) run ≡ None) → (t : Bool) → cond t (Some first.1) (lookup table run) ≡ None → cond t (Some tt) (lookup (map forget table) run) ≡ None
+      here : (lookup table run ≡ None → lookup (map forget table) run ≡ None) → (t : Bool) → cond t (Some first.1) (lookup table run) ≡ None
+          → cond t (Some tt) (lookup (map forget table) run) ≡ None
       here later true is = cc
       here later false is = later is
 

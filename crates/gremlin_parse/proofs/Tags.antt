@@ -1,11 +1,13 @@
 -- What names the session of a line, whatever stands after it.
-use Rattle.std.proofs.Common.{◌≡◌, inl, inr, ℕ, ◌-◌, ◌≤◌, Bool, true, ◌&&◌, cond, Option, Some, None, List, [], ◌∷◌, ◌++◌, length, take, drop, get_or, refl, sym, ap, ◌∙◌, append_assoc}
+use Rattle.std.proofs.Common.{◌≡◌, inl, inr, ℕ, ◌-◌, ◌≤◌, Bool, true, ◌&&◌, cond, Option, Some, None, List, [], ◌∷◌}
+use Rattle.std.proofs.Common.{◌++◌, length, take, drop, get_or, refl, sym, ap, ◌∙◌, append_assoc}
 use Rattle.gremlin_parse.specs.Grammar.{AreBlanks, is_blank}
 use Rattle.gremlin_parse.specs.Faults.{EndsRun}
 use Rattle.gremlin_parse.specs.Reading.{first_byte}
 use Rattle.gremlin_parse.specs.Stopping.{StopsWith}
 use Rattle.gremlin_parse.specs.Symbols.{AnyBlanks, Takes}
-use Rattle.gremlin_parse.specs.Tags.{IsTag, LeavesSession, LeavesTag, ReadsSession, ReadsTag, after_tag, is_at, is_session, named_by, rest_by, session_first, tag_first, tag_in}
+use Rattle.gremlin_parse.specs.Tags.{IsTag, LeavesSession, LeavesTag, ReadsSession, ReadsTag, after_tag, is_at}
+use Rattle.gremlin_parse.specs.Tags.{is_session, named_by, rest_by, session_first, tag_first, tag_in}
 use Rattle.gremlin_parse.specs.declared.stop.Stop.{Stop}
 use Rattle.gremlin_parse.specs.declared.stop.Stop.TheVariants as stops
 use Rattle.gremlin_parse.proofs.Runs.{EndsRun-first_byte, first_and_rest}
@@ -25,7 +27,8 @@ tag_behind : (blanks bytes : List ℕ) → AreBlanks blanks → EndsRun is_blank
 tag_behind blanks bytes are ends = blanks_before blanks bytes are ∙ after_blanks bytes ends
 
 -- a session and a blank
-session_found : (digit blank : ℕ) (rest : List ℕ) → is_session digit ≡ true → is_blank blank ≡ true → session_first (digit ∷ blank ∷ rest) ≡ Some (digit - 48, rest)
+session_found : (digit blank : ℕ) (rest : List ℕ) → is_session digit ≡ true → is_blank blank ≡ true
+    → session_first (digit ∷ blank ∷ rest) ≡ Some (digit - 48, rest)
 session_found digit blank rest is ends =
     ap (λ (a : Bool). cond (a && is_blank blank) (Some (digit - 48, rest)) None) is ∙ ap (λ (a : Bool). cond (true && a) (Some (digit - 48, rest)) None) ends
 
@@ -48,8 +51,10 @@ no_at (b ∷ bytes) ends = ap (λ (is : Bool). cond is (session_first bytes) Non
 -- after a tag, all that follows
 pub tagged : (front : List ℕ) (session : ℕ) → IsTag front session → (more : List ℕ) → tag_in (front ++ more) ≡ Some (session, more)
 tagged front session tag more =
-    let whole : front ++ more ≡ tag.blanks ++ 64 ∷ tag.digit ∷ tag.blank ∷ more = ap (λ f. f ++ more) tag.front_is ∙ append_assoc tag.blanks (64 ∷ tag.digit ∷ tag.blank ∷ []) more in
-    let here : tag_in (tag.blanks ++ 64 ∷ tag.digit ∷ tag.blank ∷ more) ≡ session_first (tag.digit ∷ tag.blank ∷ more) = tag_behind tag.blanks (64 ∷ tag.digit ∷ tag.blank ∷ more) tag.are_blanks refl in
+    let whole : front ++ more ≡ tag.blanks ++ 64 ∷ tag.digit ∷ tag.blank ∷ more = ap (λ f. f ++ more) tag.front_is
+    ∙ append_assoc tag.blanks (64 ∷ tag.digit ∷ tag.blank ∷ []) more in
+    let here : tag_in (tag.blanks ++ 64 ∷ tag.digit ∷ tag.blank ∷ more) ≡ session_first (tag.digit ∷ tag.blank ∷ more) =
+    tag_behind tag.blanks (64 ∷ tag.digit ∷ tag.blank ∷ more) tag.are_blanks refl in
     ap tag_in whole ∙ here ∙ session_found tag.digit tag.blank more tag.is_digit tag.ends ∙ ap (λ (s : ℕ). Some (s, more)) (sym tag.session_is)
 
 pub after_tagged : (front : List ℕ) (session : ℕ) → IsTag front session → (more : List ℕ) → after_tag (front ++ more) ≡ more
@@ -120,7 +125,8 @@ pub at_first : (bytes : List ℕ) → 1 ≤ length bytes → get_or bytes 0 0 �
 at_first bytes some is = first_and_rest bytes some ∙ ap (λ (b : ℕ). b ∷ take (length bytes - 1) (drop 1 bytes)) is
 
 -- the name of a session, after blanks and the sign
-pub reads_tag : (line bytes after : List ℕ) (session : ℕ) (rest : List ℕ) → Takes AnyBlanks tt line bytes → bytes ≡ 64 ∷ after → ReadsSession after session rest → ReadsTag line (Some session) rest
+pub reads_tag : (line bytes after : List ℕ) (session : ℕ) (rest : List ℕ) → Takes AnyBlanks tt line bytes → bytes ≡ 64 ∷ after → ReadsSession after session rest
+    → ReadsTag line (Some session) rest
 reads_tag line bytes after session rest takes at (digit, blank, after_is, is, ends, session_is) =
     let front : List ℕ = takes.prefix ++ 64 ∷ digit ∷ blank ∷ [] in
     let all : bytes ≡ 64 ∷ digit ∷ blank ∷ rest = at ∙ ap (λ (a : List ℕ). 64 ∷ a) after_is in (

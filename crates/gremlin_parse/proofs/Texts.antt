@@ -1,5 +1,7 @@
 -- Texts between quotes: the pieces of their bytes, and the one way to read them.
-use Rattle.std.proofs.Common.{◌≡◌, ◌≢◌, ◌<◌, ◌+◌, inl, inr, ℕ, Bool, true, false, cond, Some, Option, IsSome, unwrap_or, ◌-◌, List, [], ◌∷◌, ◌++◌, length, take, drop, eqb, refl, sym, ap, ◌∙◌, subst, append_assoc, length-append, arith}
+use Rattle.std.proofs.Common.{◌≡◌, ◌≢◌, ◌<◌, ◌+◌, inl, inr, ℕ, Bool, true, false, cond, Some, Option, IsSome, unwrap_or}
+use Rattle.std.proofs.Common.{◌-◌, List, [], ◌∷◌, ◌++◌, length, take, drop, eqb, refl, sym, ap, ◌∙◌, subst}
+use Rattle.std.proofs.Common.{append_assoc, length-append, arith}
 use Rattle.std.proofs.lemmas.List.{append-nil}
 use Rattle.std.proofs.Math.Seq.{take-append_seam, drop-append_seam}
 use borrow.Author.Tests.{eqb-true}
@@ -28,7 +30,8 @@ pub record SamePiece (b c : ℕ) (piece other rest more : List ℕ) : Type 0 whe
   pub is : piece ≡ other
   pub later : rest ≡ more
 
-pub one_piece : (quote b c : ℕ) (piece other rest more : List ℕ) → IsPiece quote b piece → IsPiece quote c other → piece ++ rest ≡ other ++ more → SamePiece b c piece other rest more
+pub one_piece : (quote b c : ℕ) (piece other rest more : List ℕ) → IsPiece quote b piece → IsPiece quote c other → piece ++ rest ≡ other ++ more
+    → SamePiece b c piece other rest more
 one_piece quote b c piece other rest more (inl (is, close, plain)) (inl (is_other, closes, plains)) whole =
     let here : b ∷ rest ≡ c ∷ more = ap (λ p. p ++ rest) (sym is) ∙ whole ∙ ap (λ p. p ++ more) is_other in
     let same : b ≡ c = cc in
@@ -57,7 +60,8 @@ pub record Later (quote : ℕ) (text inside other others more rest : List ℕ) :
   pub more_is : more ≡ left ++ quote ∷ rest
 
 -- Where pieces stand at the head of a text and its closing quote, they are its first ones.
-pub pieces_go_on : (quote : ℕ) → is_quote quote ≡ true → (text inside other others more rest : List ℕ) → ArePieces quote text inside → ArePieces quote other others → inside ++ more ≡ others ++ quote ∷ rest → Later quote text inside other others more rest
+pub pieces_go_on : (quote : ℕ) → is_quote quote ≡ true → (text inside other others more rest : List ℕ) → ArePieces quote text inside
+    → ArePieces quote other others → inside ++ more ≡ others ++ quote ∷ rest → Later quote text inside other others more rest
 pieces_go_on quote is [] inside other others more rest none pieces whole = record {
   text_left = other;
   left = others;
@@ -67,23 +71,28 @@ pieces_go_on quote is [] inside other others more rest none pieces whole = recor
   more_is = sym (ap (λ i. i ++ more) none) ∙ whole;
 }
 pieces_go_on quote is (b ∷ text) inside [] others more rest (piece, later, inside_is, this, pieces) none whole =
-    let here : piece ++ (later ++ more) ≡ quote ∷ rest = sym (append_assoc piece later more) ∙ ap (λ i. i ++ more) (sym inside_is) ∙ whole ∙ ap (λ o. o ++ quote ∷ rest) none in
+    let here : piece ++ (later ++ more) ≡ quote ∷ rest = sym (append_assoc piece later more) ∙ ap (λ i. i ++ more) (sym inside_is) ∙ whole
+    ∙ ap (λ o. o ++ quote ∷ rest) none in
     absurd (piece_no_quote quote b is piece (later ++ more) rest this here)
-pieces_go_on quote is (b ∷ text) inside (c ∷ other) others more rest (piece, later, inside_is, this, pieces) (second, afters, others_are, that, others_pieces) whole =
-    let here : piece ++ (later ++ more) ≡ second ++ (afters ++ quote ∷ rest) = sym (append_assoc piece later more) ∙ ap (λ i. i ++ more) (sym inside_is) ∙ whole ∙ ap (λ o. o ++ quote ∷ rest) others_are ∙ append_assoc second afters (quote ∷ rest) in
+pieces_go_on quote is (b ∷ text) inside (c ∷ other) others more rest (piece, later, inside_is, this, pieces) (second, afters, others_are, that, others_pieces)
+    whole =
+    let here : piece ++ (later ++ more) ≡ second ++ (afters ++ quote ∷ rest) = sym (append_assoc piece later more) ∙ ap (λ i. i ++ more) (sym inside_is) ∙ whole
+    ∙ ap (λ o. o ++ quote ∷ rest) others_are ∙ append_assoc second afters (quote ∷ rest) in
     let same = one_piece quote b c piece second (later ++ more) (afters ++ quote ∷ rest) this that here in
     let after = pieces_go_on quote is text later other afters more rest pieces others_pieces same.later in
     record {
       text_left = after.text_left;
       left = after.left;
       other_is = (λ i. sym same.byte i ∷ after.other_is i);
-      others_are = others_are ∙ ap (λ p. p ++ afters) (sym same.is) ∙ ap (λ a. piece ++ a) after.others_are ∙ sym (append_assoc piece later after.left) ∙ ap (λ i. i ++ after.left) (sym inside_is);
+      others_are = others_are ∙ ap (λ p. p ++ afters) (sym same.is) ∙ ap (λ a. piece ++ a) after.others_are ∙ sym (append_assoc piece later after.left)
+          ∙ ap (λ i. i ++ after.left) (sym inside_is);
       pieces = after.pieces;
       more_is = after.more_is;
     }
 
 -- The text between two quotes is the only one, and so is what stands after it.
-pub one_text : (quote : ℕ) → is_quote quote ≡ true → (text inside other others rest more : List ℕ) → ArePieces quote text inside → ArePieces quote other others → inside ++ quote ∷ rest ≡ others ++ quote ∷ more → (text ≡ other) × (rest ≡ more)
+pub one_text : (quote : ℕ) → is_quote quote ≡ true → (text inside other others rest more : List ℕ) → ArePieces quote text inside → ArePieces quote other others
+    → inside ++ quote ∷ rest ≡ others ++ quote ∷ more → (text ≡ other) × (rest ≡ more)
 one_text quote is text inside other others rest more pieces others_pieces whole =
     let later = pieces_go_on quote is text inside other others (quote ∷ rest) more pieces others_pieces whole in
     let last = ended later.text_left later.left later.pieces later.more_is in
@@ -95,7 +104,8 @@ one_text quote is text inside other others rest more pieces others_pieces whole 
         absurd (piece_no_quote quote b is piece (after ++ quote ∷ more) rest this (sym (append_assoc piece after (quote ∷ more)) ∙ ap (λ i. i ++ quote ∷ more) (sym inside_is) ∙ sym here))
 
 -- one piece more
-pub pieces_more : (quote b : ℕ) (text inside piece : List ℕ) → ArePieces quote text inside → IsPiece quote b piece → ArePieces quote (text ++ b ∷ []) (inside ++ piece)
+pub pieces_more : (quote b : ℕ) (text inside piece : List ℕ) → ArePieces quote text inside → IsPiece quote b piece
+    → ArePieces quote (text ++ b ∷ []) (inside ++ piece)
 pieces_more quote b [] inside piece none this = (piece, [], ap (λ i. i ++ piece) none ∙ sym (append-nil piece), this, refl)
 pieces_more quote b (c ∷ text) inside piece (first, later, inside_is, that, pieces) this =
     (first, later ++ piece, ap (λ i. i ++ piece) inside_is ∙ append_assoc first later piece, that, pieces_more quote b text later piece pieces this)
@@ -122,7 +132,8 @@ plain_piece quote first bytes after whole close plain = record { b = first; piec
 
 -- a backslash and its letter
 pub escape_piece : (quote first : ℕ) (bytes after rest : List ℕ) → bytes ≡ first ∷ after → first ≡ 92 → TakesLetter after rest → TakesPiece quote bytes rest
-escape_piece quote first bytes after rest whole is (letter, b, after_is, stands) = record { b = b; piece = 92 ∷ letter ∷ []; bytes_are = whole ∙ (λ i. is i ∷ after_is i); is = inr (letter, refl, stands) }
+escape_piece quote first bytes after rest whole is (letter, b, after_is, stands) =
+    record { b = b; piece = 92 ∷ letter ∷ []; bytes_are = whole ∙ (λ i. is i ∷ after_is i); is = inr (letter, refl, stands) }
 
 -- A piece has some byte, so what follows it is shorter.
 pub piece_shorter : (quote : ℕ) (bytes rest : List ℕ) → TakesPiece quote bytes rest → length rest < length bytes
@@ -150,7 +161,8 @@ pub record TextSoFar (quote : ℕ) (bytes rest : List ℕ) (len : ℕ) : Type 0 
   pub pieces : ArePieces quote text inside
   pub len_is : len ≡ length text
 
-pub text_more : (quote : ℕ) (bytes rest after : List ℕ) (len : ℕ) → TextSoFar quote bytes rest len → TakesPiece quote rest after → TextSoFar quote bytes after (len + 1)
+pub text_more : (quote : ℕ) (bytes rest after : List ℕ) (len : ℕ) → TextSoFar quote bytes rest len → TakesPiece quote rest after
+    → TextSoFar quote bytes after (len + 1)
 text_more quote bytes rest after len so_far takes = record {
   text = so_far.text ++ takes.b ∷ [];
   inside = so_far.inside ++ takes.piece;
@@ -163,12 +175,16 @@ pub text_stops : (quote : ℕ) (bytes rest : List ℕ) (len left : ℕ) → Text
 text_stops quote bytes rest len left so_far leaves = record { text = so_far.text; inside = so_far.inside; rest = rest; bytes_are = so_far.bytes_are; pieces = so_far.pieces; leaves = leaves }
 
 -- the whole text, cut where its closing quote stands
-pub text_closes : (quote : ℕ) (bytes rest : List ℕ) (len : ℕ) → TextSoFar quote bytes rest len → StartsWith quote rest → (cut closed : List ℕ) → cut ≡ take (length bytes - length rest) bytes → closed ≡ drop (length bytes - length rest) bytes → (after : List ℕ) → after ≡ drop 1 closed → ReadsQuoted quote cut len bytes after
+pub text_closes : (quote : ℕ) (bytes rest : List ℕ) (len : ℕ) → TextSoFar quote bytes rest len → StartsWith quote rest → (cut closed : List ℕ)
+    → cut ≡ take (length bytes - length rest) bytes → closed ≡ drop (length bytes - length rest) bytes → (after : List ℕ) → after ≡ drop 1 closed
+    → ReadsQuoted quote cut len bytes after
 text_closes quote bytes rest len so_far (more, starts) cut closed cut_is closed_is after after_is =
     let sizes : length bytes ≡ length so_far.inside + length rest = ap length so_far.bytes_are ∙ length-append so_far.inside rest in
     let n : length bytes - length rest ≡ length so_far.inside = omega arith in
-    let inside_is : cut ≡ so_far.inside = cut_is ∙ ap (λ k. take k bytes) n ∙ ap (take (length so_far.inside)) so_far.bytes_are ∙ take-append_seam so_far.inside rest in
-    let rest_is : closed ≡ rest = closed_is ∙ ap (λ k. drop k bytes) n ∙ ap (drop (length so_far.inside)) so_far.bytes_are ∙ drop-append_seam so_far.inside rest in
+    let inside_is : cut ≡ so_far.inside = cut_is ∙ ap (λ k. take k bytes) n ∙ ap (take (length so_far.inside)) so_far.bytes_are
+    ∙ take-append_seam so_far.inside rest in
+    let rest_is : closed ≡ rest = closed_is ∙ ap (λ k. drop k bytes) n ∙ ap (drop (length so_far.inside)) so_far.bytes_are
+    ∙ drop-append_seam so_far.inside rest in
     let more_is : after ≡ more = after_is ∙ ap (drop 1) (rest_is ∙ starts) in
     let text_is : unescaped cut ≡ so_far.text = ap unescaped inside_is ∙ unescaped_pieces quote so_far.text so_far.inside so_far.pieces in
     record {

@@ -1,11 +1,20 @@
 -- Queries by their tokens: tokens that lead from a place to a line's end, and that what the table of places makes of bytes they make of tokens.
-use Rattle.std.proofs.Common.{◌≡◌, ◌⊎◌, inl, inr, ℕ, zero, suc, nat_eq, cond, Bool, true, false, Option, Some, None, List, [], ◌∷◌, ◌++◌, codes, refl, sym, ap, ◌∙◌, subst}
+use Rattle.std.proofs.Common.{◌≡◌, ◌⊎◌, inl, inr, ℕ, zero, suc, nat_eq, cond, Bool, true, false, Option, Some, None}
+use Rattle.std.proofs.Common.{List, [], ◌∷◌, ◌++◌, codes, refl, sym, ap, ◌∙◌, subst}
 use Rattle.plain_graph.specs.declared.command.Command.{Command}
 use Rattle.gremlin_parse.specs.Grammar.{Blanks, Exactly, Closed, IsBounded, quote_byte}
 use Rattle.gremlin_parse.specs.Keywords.{Entry, InTable}
 use Rattle.gremlin_parse.specs.Productions.{Token, Whole, Quoted, AreFrom, word}
-use Rattle.gremlin_parse.specs.Queries.{Into, OfQuery, OfBody, NamesFor, OfStep, OfMaps, OfHop, OfLabels, PairFor, OfChange, OfSource, OneName, Key, OrderKey, VertexLabel, EdgeType, FoundLabel, PairKey, Place, SourceName, Opening, FirstId, AfterId, NextId, StepName, Opens, FirstName, AfterName, AfterKey, ValueOf, RelationName, Compared, ClosesFilter, Most, OrderedName, ByFirst, AfterOrderKey, OrderDirection, DirectionName, Quote, InQuotes, BodyFirst, Underscore, AfterAnonymous, BodyName, OpensBody, InBody, TimesWord, TimesOf, ToWord, ToFirst, ToUnderscore, ToAnonymous, ToId, Dropped, PropertyName, PairValue, PairCloses}
-use Rattle.gremlin_parse.specs.Queries.{Quoted as Purpose, after_filter, after_names, after_pair, after_quoted, is_loose, opened, opened_body, opened_source, turn}
+use Rattle.gremlin_parse.specs.Queries.{Into, OfQuery, OfBody, NamesFor, OfStep, OfMaps, OfHop, OfLabels, PairFor}
+use Rattle.gremlin_parse.specs.Queries.{OfChange, OfSource, OneName, Key, OrderKey, VertexLabel, EdgeType, FoundLabel}
+use Rattle.gremlin_parse.specs.Queries.{PairKey, Place, SourceName, Opening, FirstId, AfterId, NextId, StepName, Opens}
+use Rattle.gremlin_parse.specs.Queries.{FirstName, AfterName, AfterKey, ValueOf, RelationName, Compared, ClosesFilter}
+use Rattle.gremlin_parse.specs.Queries.{Most, OrderedName, ByFirst, AfterOrderKey, OrderDirection, DirectionName, Quote}
+use Rattle.gremlin_parse.specs.Queries.{InQuotes, BodyFirst, Underscore, AfterAnonymous, BodyName, OpensBody, InBody}
+use Rattle.gremlin_parse.specs.Queries.{TimesWord, TimesOf, ToWord, ToFirst, ToUnderscore, ToAnonymous, ToId, Dropped}
+use Rattle.gremlin_parse.specs.Queries.{PropertyName, PairValue, PairCloses}
+use Rattle.gremlin_parse.specs.Queries.{Quoted as Purpose, after_filter, after_names, after_pair, after_quoted}
+use Rattle.gremlin_parse.specs.Queries.{is_loose, opened, opened_body, opened_source, turn}
 use Rattle.plain_graph.specs.declared.filter.Filter.{Filter}
 use Rattle.plain_graph.specs.declared.query.Query.{Query}
 use Rattle.plain_graph.specs.declared.value.Value.{Value}
@@ -39,8 +48,10 @@ SignWalk (sign ∷ signs) After token = SignTo sign.0 sign.1 After token ⊎ Sig
 -- the token of another part, where the fault of a word is free: none at its bytes
 abbrev pub OtherWalk : Other StepWord Place → ((List ℕ → Option BadToken) → Type 0) → (Place → Type 0) → Token → Type 0
 OtherWalk Nothing Free After token = ⊥
-OtherWalk (Words table fault to) Free After token = (entry : Entry StepWord) × InTable entry table × (token ≡ word entry.0) × Free (fault entry.1) × After (to entry.1)
-OtherWalk (Symbolic symbol to) Free After token = (content : Content symbol) × Allows symbol content × (token ≡ Whole (part symbol content)) × After (to content)
+OtherWalk (Words table fault to) Free After token = (entry : Entry StepWord) × InTable entry table × (token ≡ word entry.0) × Free (fault entry.1)
+    × After (to entry.1)
+OtherWalk (Symbolic symbol to) Free After token = (content : Content symbol) × Allows symbol content × (token ≡ Whole (part symbol content))
+    × After (to content)
 OtherWalk (Either one two) Free After token = OtherWalk one Free After token ⊎ OtherWalk two Free After token
 
 -- There is no such fault at some bytes of these tokens.
@@ -51,7 +62,8 @@ SomeFree tokens fault = (bytes : List ℕ) × AreFrom tokens bytes × (fault byt
 abbrev pub Walks : Command → Place → List Token → Type 0
 Walks end place [] = (turn place).ends ≡ Some end
 Walks end place (token ∷ tokens) =
-    SignWalk (turn place).signs (λ next. Walks end next tokens) token ⊎ OtherWalk (turn place).other (SomeFree (token ∷ tokens)) (λ next. Walks end next tokens) token
+    SignWalk (turn place).signs (λ next. Walks end next tokens) token ⊎ OtherWalk (turn place).other (SomeFree (token ∷ tokens)) (λ next. Walks end next tokens)
+    token
 
 -- ---- what each place has
 
@@ -187,7 +199,8 @@ Tokened end place bytes = (tokens : List Token) × Walks end place tokens × Are
 
 -- what stands from the place on, by tokens; inside a token the rest of it first
 abbrev pub Spelled : Command → Place → List ℕ → Type 0
-Spelled end (InQuotes quoted double) bytes = (name : List ℕ) × IsBounded (Closed double name) × Then (Closed double name) (Then Blanks (Tokened end (after_quoted quoted name))) bytes
+Spelled end (InQuotes quoted double) bytes = (name : List ℕ) × IsBounded (Closed double name)
+    × Then (Closed double name) (Then Blanks (Tokened end (after_quoted quoted name))) bytes
 Spelled end (Underscore query) bytes = Then (Exactly (95 ∷ [])) (Then Blanks (Tokened end (AfterAnonymous query))) bytes
 Spelled end (ToUnderscore query label) bytes = Then (Exactly (95 ∷ [])) (Then Blanks (Tokened end (ToAnonymous query label))) bytes
 Spelled end place bytes = Tokened end place bytes
@@ -225,20 +238,24 @@ after_sign end b to is rest at =
 
 -- the same of another part
 abbrev OtherFound : Other StepWord Place → Command → List ℕ → Type 0
-OtherFound other end bytes = (token : Token) × (tokens : List Token) × OtherWalk other (SomeFree (token ∷ tokens)) (λ next. Walks end next tokens) token × AreFrom (token ∷ tokens) bytes
+OtherFound other end bytes = (token : Token) × (tokens : List Token) × OtherWalk other (SomeFree (token ∷ tokens)) (λ next. Walks end next tokens) token
+    × AreFrom (token ∷ tokens) bytes
 
-sign_walk : (end : Command) (signs : List (ℕ × Place)) → AreSigns signs → (b : ℕ) (next : Place) → sign_at signs b ≡ Some next → (rest : List ℕ) → LooselySpelled end next rest → Found (SignWalk signs) end (b ∷ rest)
+sign_walk : (end : Command) (signs : List (ℕ × Place)) → AreSigns signs → (b : ℕ) (next : Place) → sign_at signs b ≡ Some next → (rest : List ℕ)
+    → LooselySpelled end next rest → Found (SignWalk signs) end (b ∷ rest)
 sign_walk end [] all b next is rest at = cc
 sign_walk end (sign ∷ signs) all b next is rest at = here (λ later. sign_walk end signs all.1 b next later rest at) (nat_eq sign.0 b) refl is
   where
-    here : (sign_at signs b ≡ Some next → Found (SignWalk signs) end (b ∷ rest)) → (t : Bool) → nat_eq sign.0 b ≡ t → cond t (Some sign.1) (sign_at signs b) ≡ Some next → Found (SignWalk (sign ∷ signs)) end (b ∷ rest)
+    here : (sign_at signs b ≡ Some next → Found (SignWalk signs) end (b ∷ rest)) → (t : Bool) → nat_eq sign.0 b ≡ t
+        → cond t (Some sign.1) (sign_at signs b) ≡ Some next → Found (SignWalk (sign ∷ signs)) end (b ∷ rest)
     here later true same found =
         let to : sign.1 ≡ next = cc in
         let (token, tokens, walk, from) = after_sign end sign.0 sign.1 all.0 rest (subst (λ p. LooselySpelled end p rest) (sym to) at) in
         subst (λ c. Found (SignWalk (sign ∷ signs)) end (c ∷ rest)) (eqb-true sign.0 b same) (token, tokens, inl walk, from)
     here later false same found = let (token, tokens, walk, from) = later found in (token, tokens, inr walk, from)
 
-other_walk : (end : Command) (other : Other StepWord Place) → IsLooseAfter other → (bytes : List ℕ) → ThenOther IsBounded other (LooselySpelled end) bytes → OtherFound other end bytes
+other_walk : (end : Command) (other : Other StepWord Place) → IsLooseAfter other → (bytes : List ℕ) → ThenOther IsBounded other (LooselySpelled end) bytes
+    → OtherFound other end bytes
 other_walk end Nothing loose bytes none = absurd none
 other_walk end (Words table fault to) loose bytes (entry, within, bound, (prefix, rest, whole, same, after)) =
     let (blanks, last, cut, are, (tokens, walks, from)) = loosened end (to entry.1) (loose entry.1) rest after in
@@ -247,8 +264,10 @@ other_walk end (Words table fault to) loose bytes (entry, within, bound, (prefix
 other_walk end (Symbolic symbol to) loose bytes (content, allows, bound, (prefix, rest, whole, is, after)) =
     let (blanks, last, cut, are, (tokens, walks, from)) = loosened end (to content) (loose content) rest after in
     (Whole (part symbol content), tokens, (content, allows, refl, walks), (prefix, rest, whole, (is, bound), (blanks, last, cut, are, from)))
-other_walk end (Either one two) loose bytes (inl then) = let (token, tokens, walk, from) = other_walk end one loose.0 bytes then in (token, tokens, inl walk, from)
-other_walk end (Either one two) loose bytes (inr then) = let (token, tokens, walk, from) = other_walk end two loose.1 bytes then in (token, tokens, inr walk, from)
+other_walk end (Either one two) loose bytes (inl then) = let (token, tokens, walk, from) = other_walk end one loose.0 bytes then in
+    (token, tokens, inl walk, from)
+other_walk end (Either one two) loose bytes (inr then) = let (token, tokens, walk, from) = other_walk end two loose.1 bytes then in
+    (token, tokens, inr walk, from)
 
 tokened : (end : Command) (place : Place) (bytes : List ℕ) → AtTurn IsBounded (turn place) (LooselySpelled end) bytes → Tokened end place bytes
 tokened end place bytes (inl (b, next, is, (prefix, rest, whole, same, after))) =
@@ -260,7 +279,8 @@ tokened end place bytes (inr other) =
     (token ∷ tokens, inr walk, from)
 
 -- the only sign of a place
-only_sign : (end : Command) (to : Place) → is_loose to ≡ true → (bytes : List ℕ) → ThenSign ((95, to) ∷ []) (LooselySpelled end) bytes → Then (Exactly (95 ∷ [])) (Then Blanks (Tokened end to)) bytes
+only_sign : (end : Command) (to : Place) → is_loose to ≡ true → (bytes : List ℕ) → ThenSign ((95, to) ∷ []) (LooselySpelled end) bytes
+    → Then (Exactly (95 ∷ [])) (Then Blanks (Tokened end to)) bytes
 only_sign end to loose bytes (b, next, is, (prefix, rest, whole, same, after)) = here (nat_eq 95 b) refl is
   where
     here : (t : Bool) → nat_eq 95 b ≡ t → cond t (Some to) None ≡ Some next → Then (Exactly (95 ∷ [])) (Then Blanks (Tokened end to)) bytes

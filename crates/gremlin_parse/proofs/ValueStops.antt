@@ -29,7 +29,8 @@ record Blocks (Language : List ℕ → Type 0) (bytes : List ℕ) (left : ℕ) :
 blocks_refuse : (Language : List ℕ → Type 0) (bytes : List ℕ) (left : ℕ) → Blocks Language bytes left → ¬ Language bytes
 blocks_refuse Language bytes left blocks is = blocks.none blocks.unread refl (subst Language blocks.bytes_are is)
 
-blocks_stop : (Language : List ℕ → Type 0) (bytes : List ℕ) (left : ℕ) → (blocks : Blocks Language bytes left) → (more : List ℕ) → Language (blocks.read ++ more) → StopsBefore Language bytes left
+blocks_stop : (Language : List ℕ → Type 0) (bytes : List ℕ) (left : ℕ) → (blocks : Blocks Language bytes left) → (more : List ℕ)
+    → Language (blocks.read ++ more) → StopsBefore Language bytes left
 blocks_stop Language bytes left blocks more line = record { read = blocks.read; unread = blocks.unread; bytes_are = blocks.bytes_are; left_is = blocks.left_is; viable = (more, line); none = blocks.none }
 
 -- ---- after a minus
@@ -53,12 +54,15 @@ negative_blocks After bytes left (after, minus, left_is, numberless) = record {
   unread = after;
   bytes_are = minus;
   left_is = left_is;
-  none = λ more same (value, allows, (prefix, rest, whole, written, last)). numberless (StartsNumber-first_byte more after same (minus_starts value prefix rest more written whole));
+  none = λ more same (value, allows, (prefix, rest, whole, written, last)).
+      numberless (StartsNumber-first_byte more after same (minus_starts value prefix rest more written whole));
 }
 
-negative_stops : (After : List ℕ → Type 0) (line bytes : List ℕ) (left : ℕ) → After line → LeavesNegative bytes left → StopsBefore (One AnyValue After) bytes left
+negative_stops : (After : List ℕ → Type 0) (line bytes : List ℕ) (left : ℕ) → After line → LeavesNegative bytes left
+    → StopsBefore (One AnyValue After) bytes left
 unfolding negative_blocks
-negative_stops After line bytes left some leaves = blocks_stop (One AnyValue After) bytes left (negative_blocks After bytes left leaves) (codes "0" ++ line) (values.Int (pos 0), tt, (codes "-0", line, refl, inr (0, codes "0", refl, refl, (refl, refl)), some))
+negative_stops After line bytes left some leaves = blocks_stop (One AnyValue After) bytes left (negative_blocks After bytes left leaves) (codes "0" ++ line)
+    (values.Int (pos 0), tt, (codes "-0", line, refl, inr (0, codes "0", refl, refl, (refl, refl)), some))
 
 -- ---- in a text
 
@@ -70,7 +74,8 @@ record QuotedLine (quote : ℕ) (bytes : List ℕ) : Type 0 where
   pub bytes_are : bytes ≡ inside ++ quote ∷ rest
   pub pieces : ArePieces quote text inside
 
-quoted_line : (quote : ℕ) (bytes : List ℕ) → is_quote quote ≡ true → (value : Value) (prefix rest : List ℕ) → IsWritten value prefix → quote ∷ bytes ≡ prefix ++ rest → QuotedLine quote bytes
+quoted_line : (quote : ℕ) (bytes : List ℕ) → is_quote quote ≡ true → (value : Value) (prefix rest : List ℕ) → IsWritten value prefix
+    → quote ∷ bytes ≡ prefix ++ rest → QuotedLine quote bytes
 quoted_line quote bytes is (values.Int number) prefix rest written whole =
     absurd (integer_no_quote quote (subst (StartsKind (values.Int number)) (sym whole) (value_starts (values.Int number) prefix rest written)) is)
 quoted_line quote bytes is (values.Bool truth) prefix rest written whole =
@@ -86,7 +91,8 @@ not_nothing [] b rest more whole none = cc
 not_nothing (c ∷ left) b rest more whole none = cc
 
 -- After a backslash a text has a letter.
-backslash_starts : (quote : ℕ) → is_quote quote ≡ true → (text left rest more : List ℕ) → ArePieces quote text left → 92 ∷ more ≡ left ++ quote ∷ rest → StartsEscape more
+backslash_starts : (quote : ℕ) → is_quote quote ≡ true → (text left rest more : List ℕ) → ArePieces quote text left → 92 ∷ more ≡ left ++ quote ∷ rest
+    → StartsEscape more
 backslash_starts quote is [] left rest more none whole =
     let here : 92 ∷ more ≡ quote ∷ rest = whole ∙ ap (λ l. l ++ quote ∷ rest) none in
     let same : quote ≡ 92 = cc in
@@ -139,17 +145,23 @@ module _ (After : List ℕ → Type 0) (quote : ℕ) (is : is_quote quote ≡ tr
   quoted_stops : (line : List ℕ) → After line → LeavesPiece leaves.rest left → StopsBefore (One AnyValue After) (quote ∷ after) left
   unfolding quoted_blocks
   quoted_stops line some (inl (end, nothing_left)) =
-      blocks_stop (One AnyValue After) (quote ∷ after) left (quoted_blocks (inl (end, nothing_left))) (quote ∷ line) (text_line leaves.text leaves.inside line leaves.pieces some)
+      blocks_stop (One AnyValue After) (quote ∷ after) left (quoted_blocks (inl (end, nothing_left))) (quote ∷ line)
+      (text_line leaves.text leaves.inside line leaves.pieces some)
   quoted_stops line some (inr (wrong, backslash, left_is, letterless)) =
-      let escape : ArePieces quote (leaves.text ++ 10 ∷ []) (leaves.inside ++ 92 ∷ 110 ∷ []) = pieces_more quote 10 leaves.text leaves.inside (92 ∷ 110 ∷ []) leaves.pieces (inr (110, refl, refl)) in
-      let same : (leaves.inside ++ 92 ∷ 110 ∷ []) ++ quote ∷ line ≡ (leaves.inside ++ 92 ∷ []) ++ 110 ∷ quote ∷ line = append_assoc leaves.inside (92 ∷ 110 ∷ []) (quote ∷ line) ∙ sym (append_assoc leaves.inside (92 ∷ []) (110 ∷ quote ∷ line)) in
-      blocks_stop (One AnyValue After) (quote ∷ after) left (quoted_blocks (inr (wrong, backslash, left_is, letterless))) (110 ∷ quote ∷ line) (subst (λ b. One AnyValue After (quote ∷ b)) same (text_line (leaves.text ++ 10 ∷ []) (leaves.inside ++ 92 ∷ 110 ∷ []) line escape some))
+      let escape : ArePieces quote (leaves.text ++ 10 ∷ []) (leaves.inside ++ 92 ∷ 110 ∷ []) =
+      pieces_more quote 10 leaves.text leaves.inside (92 ∷ 110 ∷ []) leaves.pieces (inr (110, refl, refl)) in
+      let same : (leaves.inside ++ 92 ∷ 110 ∷ []) ++ quote ∷ line ≡ (leaves.inside ++ 92 ∷ []) ++ 110 ∷ quote ∷ line =
+      append_assoc leaves.inside (92 ∷ 110 ∷ []) (quote ∷ line) ∙ sym (append_assoc leaves.inside (92 ∷ []) (110 ∷ quote ∷ line)) in
+      blocks_stop (One AnyValue After) (quote ∷ after) left (quoted_blocks (inr (wrong, backslash, left_is, letterless))) (110 ∷ quote ∷ line)
+      (subst (λ b. One AnyValue After (quote ∷ b)) same (text_line (leaves.text ++ 10 ∷ []) (leaves.inside ++ 92 ∷ 110 ∷ []) line escape some))
 
 text_blocks : (After : List ℕ → Type 0) (bytes : List ℕ) (left : ℕ) → LeavesText bytes left → Blocks (One AnyValue After) bytes left
-text_blocks After bytes left (quote, after, is, whole, leaves) = subst (λ b. Blocks (One AnyValue After) b left) (sym whole) (quoted_blocks After quote is after left leaves leaves.leaves)
+text_blocks After bytes left (quote, after, is, whole, leaves) = subst (λ b. Blocks (One AnyValue After) b left) (sym whole)
+    (quoted_blocks After quote is after left leaves leaves.leaves)
 
 text_stops : (After : List ℕ → Type 0) (line bytes : List ℕ) (left : ℕ) → After line → LeavesText bytes left → StopsBefore (One AnyValue After) bytes left
-text_stops After line bytes left some (quote, after, is, whole, leaves) = subst (λ b. StopsBefore (One AnyValue After) b left) (sym whole) (quoted_stops After quote is after left leaves line some leaves.leaves)
+text_stops After line bytes left some (quote, after, is, whole, leaves) =
+    subst (λ b. StopsBefore (One AnyValue After) b left) (sym whole) (quoted_stops After quote is after left leaves line some leaves.leaves)
 
 -- ---- in true or false
 
@@ -177,9 +189,11 @@ entry_truth entry (inr (inl is)) = ap (λ (e : Entry Bool). e.0) is ∙ sym (ap 
 entry_truth entry (inr (inr none)) = absurd none
 
 value_of_word : (After : List ℕ → Type 0) (bytes : List ℕ) → ThenWord truth_words (λ _. After) bytes → One AnyValue After bytes
-value_of_word After bytes (entry, within, (prefix, rest, whole, is, after)) = (values.Bool entry.1, tt, (prefix, rest, whole, is ∙ entry_truth entry within, after))
+value_of_word After bytes (entry, within, (prefix, rest, whole, is, after)) =
+    (values.Bool entry.1, tt, (prefix, rest, whole, is ∙ entry_truth entry within, after))
 
-word_of_value : (After : List ℕ → Type 0) (bytes : List ℕ) → EndsRun is_integer_start bytes → EndsRun is_quote bytes → One AnyValue After bytes → ThenWord truth_words (λ _. After) bytes
+word_of_value : (After : List ℕ → Type 0) (bytes : List ℕ) → EndsRun is_integer_start bytes → EndsRun is_quote bytes → One AnyValue After bytes
+    → ThenWord truth_words (λ _. After) bytes
 word_of_value After bytes no_number quoteless (value, allows, (prefix, rest, whole, written, after)) =
     let line = truth_line value bytes no_number quoteless (subst (StartsKind value) (sym whole) (value_starts value prefix rest written)) in
     ((truth_word line.truth, line.truth), truth_entry line.truth, (prefix, rest, whole, subst (λ (v : Value). IsWritten v prefix) line.is written, after))
@@ -202,7 +216,8 @@ module _ (After : List ℕ → Type 0) (ends : Halts is_name_byte After) where
   pub value_refuses : (bytes : List ℕ) (left : ℕ) → LeavesAt AnyValue bytes left → ¬ One AnyValue After bytes
   value_refuses bytes left (inl leaves) = blocks_refuse (One AnyValue After) bytes left (negative_blocks After bytes left leaves)
   value_refuses bytes left (inr (inl leaves)) = blocks_refuse (One AnyValue After) bytes left (text_blocks After bytes left leaves)
-  value_refuses bytes left (inr (inr (no_number, quoteless, leaves))) = λ one. no_word truth_words truth_table (λ _. After) (λ _. ends) bytes left leaves (word_of_value After bytes no_number quoteless one)
+  value_refuses bytes left (inr (inr (no_number, quoteless, leaves))) = λ one.
+      no_word truth_words truth_table (λ _. After) (λ _. ends) bytes left leaves (word_of_value After bytes no_number quoteless one)
 
 -- No value out of its bounds stands there.
 pub no_bad_value : (bytes : List ℕ) (left : ℕ) → LeavesAt AnyValue bytes left → (kind : BadToken) (place : ℕ) → ¬ IsBad AnyValue kind place bytes
@@ -211,9 +226,12 @@ no_bad_value bytes left leaves kind place = λ (value, bad, rest, takes, at). re
     Any : List ℕ → Type 0
     Any rest = Unit {0}
 
-    refuse : (value : Value) → IsBadValue value kind → (prefix rest : List ℕ) → bytes ≡ prefix ++ rest → IsWritten value prefix → LeavesAt AnyValue bytes left → ⊥
-    refuse value bad prefix rest whole written (inl negative) = blocks_refuse (One AnyValue Any) bytes left (negative_blocks Any bytes left negative) (value, tt, (prefix, rest, whole, written, tt))
-    refuse value bad prefix rest whole written (inr (inl text)) = blocks_refuse (One AnyValue Any) bytes left (text_blocks Any bytes left text) (value, tt, (prefix, rest, whole, written, tt))
+    refuse : (value : Value) → IsBadValue value kind → (prefix rest : List ℕ) → bytes ≡ prefix ++ rest → IsWritten value prefix → LeavesAt AnyValue bytes left
+        → ⊥
+    refuse value bad prefix rest whole written (inl negative) = blocks_refuse (One AnyValue Any) bytes left (negative_blocks Any bytes left negative)
+        (value, tt, (prefix, rest, whole, written, tt))
+    refuse value bad prefix rest whole written (inr (inl text)) = blocks_refuse (One AnyValue Any) bytes left (text_blocks Any bytes left text)
+        (value, tt, (prefix, rest, whole, written, tt))
     refuse value bad prefix rest whole written (inr (inr (no_number, quoteless, truth))) =
         let line = truth_line value bytes no_number quoteless (subst (StartsKind value) (sym whole) (value_starts value prefix rest written)) in
         subst (λ (v : Value). IsBadValue v kind) line.is bad

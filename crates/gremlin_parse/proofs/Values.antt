@@ -1,5 +1,6 @@
 -- Values that stand whole: each in one way, told apart by their first byte; and where reading stops in one.
-use Rattle.std.proofs.Common.{◌≡◌, ◌≤◌, inl, inr, ℕ, ◌||◌, eqb, get_or, Bool, true, false, List, [], ◌∷◌, ◌++◌, length, refl, sym, ap, ◌∙◌, subst, append_assoc, arith}
+use Rattle.std.proofs.Common.{◌≡◌, ◌≤◌, inl, inr, ℕ, ◌||◌, eqb, get_or, Bool, true, false, List, [], ◌∷◌, ◌++◌, length}
+use Rattle.std.proofs.Common.{refl, sym, ap, ◌∙◌, subst, append_assoc, arith}
 use Rattle.std.proofs.lemmas.Bool.Decides.{nat_tests}
 use Rattle.std.proofs.lemmas.Bool.{true≢false}
 use Rattle.plain_graph.specs.Names.{is_name_byte, is_name_start}
@@ -42,7 +43,8 @@ value_starts (values.Int number) prefix rest (inl (size, is, digits)) = digits_s
     digits_start : (bytes : List ℕ) → StartsNumber bytes → StartsKind (values.Int number) bytes
     digits_start [] starts = starts
     digits_start (b ∷ bytes) starts = ap (λ t. t || eqb b 45) starts
-value_starts (values.Int number) prefix rest (inr (size, digits, is, minus, digits_are)) = subst (λ p. StartsKind (values.Int number) (p ++ rest)) (sym minus) refl
+value_starts (values.Int number) prefix rest (inr (size, digits, is, minus, digits_are)) =
+    subst (λ p. StartsKind (values.Int number) (p ++ rest)) (sym minus) refl
 value_starts (values.Bool true) prefix rest is = subst (λ p. StartsKind (values.Bool true) (p ++ rest)) (sym is) refl
 value_starts (values.Bool false) prefix rest is = subst (λ p. StartsKind (values.Bool false) (p ++ rest)) (sym is) refl
 value_starts (values.Text text) prefix rest (quote, inside, is, whole, pieces) = subst (λ p. StartsKind (values.Text text) (p ++ rest)) (sym whole) is
@@ -91,9 +93,11 @@ same_truth true false same = cc
 same_truth false true same = cc
 same_truth false false same = refl
 
-one_truth : (truth other : Bool) (bytes rest more : List ℕ) → Takes AnyValue (values.Bool truth) bytes rest → Takes AnyValue (values.Bool other) bytes more → (truth ≡ other) × (rest ≡ more)
+one_truth : (truth other : Bool) (bytes rest more : List ℕ) → Takes AnyValue (values.Bool truth) bytes rest → Takes AnyValue (values.Bool other) bytes more
+    → (truth ≡ other) × (rest ≡ more)
 one_truth truth other bytes rest more one two =
-    let same = run_is_unique is_name_byte one.prefix two.prefix rest more (subst (Passes is_name_byte) (sym one.is) (truth_passes truth)) (subst (Passes is_name_byte) (sym two.is) (truth_passes other)) one.ends two.ends (sym one.bytes_are ∙ two.bytes_are) in
+    let same = run_is_unique is_name_byte one.prefix two.prefix rest more (subst (Passes is_name_byte) (sym one.is) (truth_passes truth))
+    (subst (Passes is_name_byte) (sym two.is) (truth_passes other)) one.ends two.ends (sym one.bytes_are ∙ two.bytes_are) in
     (same_truth truth other (sym one.is ∙ same.0 ∙ two.is), same.1)
 
 -- ---- texts
@@ -116,7 +120,8 @@ text_view text bytes rest takes =
     record { quote = quote; inside = inside; is = is; bytes_are = takes.bytes_are ∙ ap (λ p. p ++ rest) prefix_is ∙ quoted_bytes quote inside rest; pieces = pieces }
 
 -- the text that was read
-pub takes_text : (quote : ℕ) (inside : List ℕ) (len : ℕ) (after rest : List ℕ) → is_quote quote ≡ true → ReadsQuoted quote inside len after rest → Takes AnyValue (values.Text (unescaped inside)) (quote ∷ after) rest
+pub takes_text : (quote : ℕ) (inside : List ℕ) (len : ℕ) (after rest : List ℕ) → is_quote quote ≡ true → ReadsQuoted quote inside len after rest
+    → Takes AnyValue (values.Text (unescaped inside)) (quote ∷ after) rest
 takes_text quote inside len after rest is reads = record {
   prefix = quote ∷ (inside ++ quote ∷ []);
   bytes_are = ap (λ b. quote ∷ b) reads.bytes_are ∙ sym (quoted_bytes quote inside rest);
@@ -124,7 +129,8 @@ takes_text quote inside len after rest is reads = record {
   ends = tt;
 }
 
-one_quoted : (text other bytes rest more : List ℕ) → Takes AnyValue (values.Text text) bytes rest → Takes AnyValue (values.Text other) bytes more → (text ≡ other) × (rest ≡ more)
+one_quoted : (text other bytes rest more : List ℕ) → Takes AnyValue (values.Text text) bytes rest → Takes AnyValue (values.Text other) bytes more
+    → (text ≡ other) × (rest ≡ more)
 one_quoted text other bytes rest more takes taken =
     let one = text_view text bytes rest takes in
     let two = text_view other bytes more taken in
@@ -137,25 +143,30 @@ one_quoted text other bytes rest more takes taken =
 -- ---- one way
 
 -- The value that stands whole at the head is the only one.
-pub one_value : (value other : Value) (bytes rest more : List ℕ) → Takes AnyValue value bytes rest → Takes AnyValue other bytes more → (value ≡ other) × (rest ≡ more)
+pub one_value : (value other : Value) (bytes rest more : List ℕ) → Takes AnyValue value bytes rest → Takes AnyValue other bytes more → (value ≡ other)
+    × (rest ≡ more)
 one_value value other bytes rest more one two =
     let starts : StartsKind value bytes = subst (StartsKind value) (sym one.bytes_are) (value_starts value one.prefix rest one.is) in
     let others : StartsKind other bytes = subst (StartsKind other) (sym two.bytes_are) (value_starts other two.prefix more two.is) in
     of_kind value other (kind_of_start value other bytes starts others) one two
   where
     of_kind : (value other : Value) → SameKind value other → Takes AnyValue value bytes rest → Takes AnyValue other bytes more → (value ≡ other) × (rest ≡ more)
-    of_kind (values.Int number) (values.Int other) same one two = let found = one_integer number other bytes rest more one two in (ap (λ z. values.Int z) found.0, found.1)
+    of_kind (values.Int number) (values.Int other) same one two = let found = one_integer number other bytes rest more one two in
+        (ap (λ z. values.Int z) found.0, found.1)
     of_kind (values.Int number) (values.Bool other) same one two = absurd same
     of_kind (values.Int number) (values.Text other) same one two = absurd same
     of_kind (values.Bool truth) (values.Int other) same one two = absurd same
-    of_kind (values.Bool truth) (values.Bool other) same one two = let found = one_truth truth other bytes rest more one two in (ap (λ t. values.Bool t) found.0, found.1)
+    of_kind (values.Bool truth) (values.Bool other) same one two = let found = one_truth truth other bytes rest more one two in
+        (ap (λ t. values.Bool t) found.0, found.1)
     of_kind (values.Bool truth) (values.Text other) same one two = absurd same
     of_kind (values.Text text) (values.Int other) same one two = absurd same
     of_kind (values.Text text) (values.Bool other) same one two = absurd same
-    of_kind (values.Text text) (values.Text other) same one two = let found = one_quoted text other bytes rest more one two in (ap (λ t. values.Text t) found.0, found.1)
+    of_kind (values.Text text) (values.Text other) same one two = let found = one_quoted text other bytes rest more one two in
+        (ap (λ t. values.Text t) found.0, found.1)
 
 -- what ends a value depends on the first byte only
-pub EndsWritten-first_byte : (value : Value) (prefix rest more : List ℕ) → first_byte more ≡ first_byte rest → EndsWritten value prefix rest → EndsWritten value prefix more
+pub EndsWritten-first_byte : (value : Value) (prefix rest more : List ℕ) → first_byte more ≡ first_byte rest → EndsWritten value prefix rest
+    → EndsWritten value prefix more
 EndsWritten-first_byte (values.Int number) prefix rest more same (inl zero_is) = inl zero_is
 EndsWritten-first_byte (values.Int number) prefix rest more same (inr (inl minus)) = inr (inl minus)
 EndsWritten-first_byte (values.Int number) prefix rest more same (inr (inr stops)) = inr (inr (EndsRun-first_byte is_digit rest more same stops))
@@ -173,7 +184,8 @@ ends_value (values.Bool truth) prefix rest ends = ends
 ends_value (values.Text text) prefix rest ends = tt
 
 -- What ends a value that is out of its bounds ends it as a token, too.
-pub bad_value_ends : (value : Value) (kind : BadToken) (prefix rest : List ℕ) → IsWritten value prefix → IsBadValue value kind → EndsWritten value prefix rest → EndsValue value rest
+pub bad_value_ends : (value : Value) (kind : BadToken) (prefix rest : List ℕ) → IsWritten value prefix → IsBadValue value kind → EndsWritten value prefix rest
+    → EndsValue value rest
 bad_value_ends (values.Int number) LongName prefix rest written bad ends = absurd bad
 bad_value_ends (values.Int number) LongText prefix rest written bad ends = absurd bad
 bad_value_ends (values.Int number) WrongTimes prefix rest written bad ends = absurd bad
@@ -193,7 +205,8 @@ value_ends_token (values.Text text) prefix rest ends = tt
 -- ---- what the readers have read
 
 -- Where a number begins and doesn't go on, no value goes on.
-pub integer_leaves : (bytes : List ℕ) (stop : Stop) → 1 ≤ length bytes → is_integer_start (get_or bytes 0 0) ≡ true → LeavesInteger bytes stop → Leaves AnyValue bytes stop
+pub integer_leaves : (bytes : List ℕ) (stop : Stop) → 1 ≤ length bytes → is_integer_start (get_or bytes 0 0) ≡ true → LeavesInteger bytes stop
+    → Leaves AnyValue bytes stop
 integer_leaves bytes stops.Memory some starts leaves = absurd leaves
 integer_leaves bytes (stops.Syntax left) some starts (inl negative) = inl negative
 integer_leaves [] (stops.Syntax left) some starts (inr (left_is, none)) = absurd (omega arith)
@@ -201,7 +214,8 @@ integer_leaves (b ∷ bytes) (stops.Syntax left) some starts (inr (left_is, none
 integer_leaves bytes (stops.Bad kind left) some starts leaves = leaves
 
 -- Where no number and no text begins, and no word of the two stands, no value goes on.
-pub truth_leaves : (bytes : List ℕ) (stop : Stop) → 1 ≤ length bytes → is_quote (get_or bytes 0 0) ≡ false → is_integer_start (get_or bytes 0 0) ≡ false → StopsWith (LeavesTable truth_words bytes) stop → Leaves AnyValue bytes stop
+pub truth_leaves : (bytes : List ℕ) (stop : Stop) → 1 ≤ length bytes → is_quote (get_or bytes 0 0) ≡ false → is_integer_start (get_or bytes 0 0) ≡ false
+    → StopsWith (LeavesTable truth_words bytes) stop → Leaves AnyValue bytes stop
 truth_leaves bytes stops.Memory some quoteless numberless leaves = absurd leaves
 truth_leaves [] (stops.Syntax left) some quoteless numberless leaves = absurd (omega arith)
 truth_leaves (b ∷ bytes) (stops.Syntax left) some quoteless numberless leaves = inr (inr (numberless, quoteless, leaves))

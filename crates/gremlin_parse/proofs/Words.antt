@@ -25,12 +25,14 @@ module _ {K : Type 0} (name : K → List ℕ) where
   entry_named (first ∷ table) named entry (inl same) = ap (λ (e : Entry K). e.0) same ∙ named.0 ∙ ap (λ (e : Entry K). name e.1) (sym same)
   entry_named (first ∷ table) named entry (inr later) = entry_named table named.1 entry later
 
-  name_in : (table : List (Entry K)) → AreNamed table → (run : List ℕ) (kind : K) → InTable (run, kind) table → InTable (name kind, tt) (plain (map (λ (e : Entry K). e.0) table))
+  name_in : (table : List (Entry K)) → AreNamed table → (run : List ℕ) (kind : K) → InTable (run, kind) table
+      → InTable (name kind, tt) (plain (map (λ (e : Entry K). e.0) table))
   name_in [] named run kind within = absurd within
   name_in (first ∷ table) named run kind (inl same) = inl (λ i. ((ap (λ (e : Entry K). name e.1) same ∙ sym named.0) i, tt))
   name_in (first ∷ table) named run kind (inr later) = inr (name_in table named.1 run kind later)
 
-  pub word_read : (table : List (Entry K)) → AreNamed table → (bytes rest : List ℕ) (kind : K) → TakesWord table bytes kind rest → Reads (OneWord (map (λ (e : Entry K). e.0) table)) (name kind) bytes rest
+  pub word_read : (table : List (Entry K)) → AreNamed table → (bytes rest : List ℕ) (kind : K) → TakesWord table bytes kind rest
+      → Reads (OneWord (map (λ (e : Entry K). e.0) table)) (name kind) bytes rest
   word_read table named bytes rest kind (run, cut, is) =
       let within = lookup_in table run kind is in
       record {
@@ -43,7 +45,8 @@ forget-plain : {K : Type 0} (table : List (Entry K)) → plain (map (λ (e : Ent
 forget-plain [] = refl
 forget-plain (first ∷ table) = ap (λ (t : List (Entry (Unit {0}))). (first.0, tt) ∷ t) (forget-plain table)
 
-pub word_leaves : {K : Type 0} (table : List (Entry K)) (bytes : List ℕ) (stop : Stop) → StopsWith (LeavesTable table bytes) stop → Leaves (OneWord (map (λ (e : Entry K). e.0) table)) bytes stop
+pub word_leaves : {K : Type 0} (table : List (Entry K)) (bytes : List ℕ) (stop : Stop) → StopsWith (LeavesTable table bytes) stop
+    → Leaves (OneWord (map (λ (e : Entry K). e.0) table)) bytes stop
 word_leaves table bytes stops.Memory leaves = leaves
 word_leaves table bytes (stops.Syntax left) leaves = subst (λ t. LeavesTable t bytes left) (sym (forget-plain table)) (leaves_plain table bytes left leaves)
 word_leaves table bytes (stops.Bad kind left) leaves = absurd leaves

@@ -36,7 +36,8 @@ page_laws = record {
 }
 
 -- fewer pages
-pub agrees_within : (content : Files) (old new : Pages) → Agrees content old → ((entry : PageKey × List ℕ) → Contains new.entries entry → Contains old.entries entry) → Agrees content new
+pub agrees_within : (content : Files) (old new : Pages) → Agrees content old
+    → ((entry : PageKey × List ℕ) → Contains new.entries entry → Contains old.entries entry) → Agrees content new
 agrees_within content old new agrees within = record { kept = λ key bytes valid i. agrees.kept key bytes valid (within (page_of key, bytes) i) }
 
 -- the same records
@@ -44,13 +45,15 @@ pub agrees_same : (old new : Files) (pages : Pages) → ((key : Key) → record_
 agrees_same old new pages same agrees = record { kept = λ key bytes valid i. agrees.kept key bytes valid i ∙ sym (same key) }
 
 -- the record of a page that is found
-pub agrees_found : (content : Files) (pages : Pages) (key : Key) (bytes : List ℕ) → IsKey key → Agrees content pages → kept_page key pages ≡ Some bytes → record_in bytes key.id ≡ record_at content key
+pub agrees_found : (content : Files) (pages : Pages) (key : Key) (bytes : List ℕ) → IsKey key → Agrees content pages → kept_page key pages ≡ Some bytes
+    → record_in bytes key.id ≡ record_at content key
 agrees_found content pages key bytes valid agrees found =
     let entry = Contains-lookup (page_eq (page_of key)) pages.entries bytes found in
     agrees.kept key bytes valid (subst (λ page. Contains pages.entries (page, bytes)) (sym (page_eq-true (page_of key) entry.0 entry.2)) entry.1)
 
 -- one page more, as it stands in the content; others may have gone
-pub agrees_put : (content : Files) (cache : Pages) (page : PageKey) (bytes : List ℕ) → Agrees content cache → IsPage content page bytes → Agrees content (record cache { entries = put_entries page_eq cache page bytes })
+pub agrees_put : (content : Files) (cache : Pages) (page : PageKey) (bytes : List ℕ) → Agrees content cache → IsPage content page bytes
+    → Agrees content (record cache { entries = put_entries page_eq cache page bytes })
 agrees_put content cache page bytes agrees is = record {
   kept = λ key held valid i. ⊎_elim
       (λ was. agrees.kept key held valid was)
@@ -62,11 +65,13 @@ agrees_put content cache page bytes agrees is = record {
 
 -- the page of a record was taken out, so it is not there
 pub gone_forgotten : (key : Key) (page : PageKey) (before after : Pages) → page ≡ page_of key
-    → IsDistinct page_eq (keys_of before.entries) → IsDistinct page_eq (keys_of after.entries) → after.entries ≡ remove_entry (page_eq page) before.entries → (bytes : List ℕ) → ¬ Contains after.entries (page_of key, bytes)
+    → IsDistinct page_eq (keys_of before.entries) → IsDistinct page_eq (keys_of after.entries) → after.entries ≡ remove_entry (page_eq page) before.entries
+    → (bytes : List ℕ) → ¬ Contains after.entries (page_of key, bytes)
 gone_forgotten key page before after its once then is bytes i =
     let found : lookup (page_eq (page_of key)) after.entries ≡ Some bytes = lookup-from_Contains page_laws (page_of key) bytes after.entries then i in
     let gone : lookup (page_eq (page_of key)) after.entries ≡ cond (page_eq page (page_of key)) None (lookup (page_eq (page_of key)) before.entries)
-    = ap (lookup (page_eq (page_of key))) is ∙ lookup-remove_entry page_laws (page_eq page) (λ x y e. ap (λ w. page_eq w y) (page_eq-true page x e)) (page_of key) before.entries once in
+    = ap (lookup (page_eq (page_of key))) is ∙ lookup-remove_entry page_laws (page_eq page) (λ x y e. ap (λ w. page_eq w y) (page_eq-true page x e))
+    (page_of key) before.entries once in
     let same : page_eq page (page_of key) ≡ true = ap (λ p. page_eq p (page_of key)) its ∙ page_eq-same (page_of key) in
     absurd (none_there (page_eq page (page_of key)) (lookup (page_eq (page_of key)) before.entries) bytes same (sym gone ∙ found))
   where
@@ -76,12 +81,14 @@ gone_forgotten key page before after its once then is bytes i =
 
 -- the page of a record was taken out, and the record written
 pub agrees_forgotten : (old new : Files) (key : Key) (page : PageKey) (before after : Pages) → page ≡ page_of key → SameButRecord key old new
-    → IsDistinct page_eq (keys_of before.entries) → IsDistinct page_eq (keys_of after.entries) → after.entries ≡ remove_entry (page_eq page) before.entries → Agrees old before → Agrees new after
+    → IsDistinct page_eq (keys_of before.entries) → IsDistinct page_eq (keys_of after.entries) → after.entries ≡ remove_entry (page_eq page) before.entries
+    → Agrees old before → Agrees new after
 agrees_forgotten old new key page before after its same once then is agrees = record {
   kept = λ other bytes valid i.
       let found : lookup (page_eq (page_of other)) after.entries ≡ Some bytes = lookup-from_Contains page_laws (page_of other) bytes after.entries then i in
       let gone : lookup (page_eq (page_of other)) after.entries ≡ cond (page_eq page (page_of other)) None (lookup (page_eq (page_of other)) before.entries)
-      = ap (lookup (page_eq (page_of other))) is ∙ lookup-remove_entry page_laws (page_eq page) (λ x y e. ap (λ w. page_eq w y) (page_eq-true page x e)) (page_of other) before.entries once in
+      = ap (lookup (page_eq (page_of other))) is ∙ lookup-remove_entry page_laws (page_eq page) (λ x y e. ap (λ w. page_eq w y) (page_eq-true page x e))
+      (page_of other) before.entries once in
       let apart = kept_apart (page_eq page (page_of other)) (lookup (page_eq (page_of other)) before.entries) bytes (sym gone ∙ found) in
       let differ = other_key other key (ap (λ p. page_eq p (page_of other)) (sym its) ∙ apart) in
       agrees.kept other bytes valid (Contains-remove_entry (page_eq page) before.entries (page_of other, bytes) (subst (λ pages. Contains pages (page_of other, bytes)) is i))
@@ -113,9 +120,11 @@ pub unused_cases : (test : PageKey → Bool) (entries : List (PageKey × List �
 unused_cases test [] is = refl
 unused_cases test (entry ∷ rest) is = pick (test entry.0) is (unused_cases test rest)
   where
-    pick : (here : Bool) → cond here (Some entry.1) (lookup test rest) ≡ None → (lookup test rest ≡ None → lookup_entry test rest ≡ None) → cond here (Some entry) (lookup_entry test rest) ≡ None
+    pick : (here : Bool) → cond here (Some entry.1) (lookup test rest) ≡ None → (lookup test rest ≡ None → lookup_entry test rest ≡ None)
+        → cond here (Some entry) (lookup_entry test rest) ≡ None
     pick true none later = absurd (false≢true (sym (ap is_some none)))
     pick false none later = later none
 
 pub unused : (test : PageKey → Bool) (entries : List (PageKey × List ℕ)) → lookup test entries ≡ None → promoted test entries ≡ entries
-unused test entries is = ap (λ (found : Option (PageKey × List ℕ)). option_map_or (λ e. e ∷ remove_entry test entries) found entries) (unused_cases test entries is)
+unused test entries is = ap (λ (found : Option (PageKey × List ℕ)). option_map_or (λ e. e ∷ remove_entry test entries) found entries)
+    (unused_cases test entries is)

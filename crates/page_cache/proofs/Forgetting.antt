@@ -1,5 +1,6 @@
 -- Pages that are taken out one after the other.
-use Rattle.std.proofs.Common.{◌≡◌, ◌∙◌, ℕ, suc, zero, ◌+◌, ◌≤◌, List, [], ◌∷◌, Option, Some, Contains, ap, sym, subst, refl, arith, drop, length, unwrap_or, is_some, ⊎_elim}
+use Rattle.std.proofs.Common.{◌≡◌, ◌∙◌, ℕ, suc, zero, ◌+◌, ◌≤◌, List, [], ◌∷◌, Option, Some, Contains, ap, sym, subst}
+use Rattle.std.proofs.Common.{refl, arith, drop, length, unwrap_or, is_some, ⊎_elim}
 use Rattle.std.proofs.lemmas.Bool.{false≢true}
 use Rattle.std.specs.List.{slice_get}
 use Rattle.lru.proofs.CallerLemmas.{Contains-remove_entry}
@@ -42,7 +43,8 @@ forgotten_more pairs i write start now next is out gone before =
     }
 
 -- The pages that are left have none of the records, so they agree with a content that has others there.
-pub forgotten_agrees : (pairs : Pairs) (i : ℕ) (start now : Pages) (old new : Files) → length pairs ≤ i → HasForgotten pairs i start now → KeepsOthers pairs old new → Agrees old start → Agrees new now
+pub forgotten_agrees : (pairs : Pairs) (i : ℕ) (start now : Pages) (old new : Files) → length pairs ≤ i → HasForgotten pairs i start now
+    → KeepsOthers pairs old new → Agrees old start → Agrees new now
 forgotten_agrees pairs i start now old new end all keeps agrees = record {
   kept = λ key bytes valid there.
       agrees.kept key bytes valid (all.within (page_of key, bytes) there) ∙ sym (keeps key (all.apart key bytes there ∙ find_pair-end pairs i key end));

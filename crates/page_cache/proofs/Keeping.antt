@@ -1,5 +1,7 @@
 -- Which pages stay when one is used or put in.
-use Rattle.std.proofs.Common.{◌≡◌, ◌∙◌, ◌⊎◌, ⊎_elim, inl, inr, ℕ, suc, ◌+◌, ◌-◌, ◌≤◌, Bool, true, false, cond, IsSome, IsTrue, List, [], ◌∷◌, length, take, length-take-le, Option, None, Some, is_some, ap, sym, subst, refl, arith, nat_le}
+use Rattle.std.proofs.Common.{◌≡◌, ◌∙◌, ◌⊎◌, ⊎_elim, inl, inr, ℕ, suc, ◌+◌, ◌-◌, ◌≤◌, Bool, true, false, cond, IsSome}
+use Rattle.std.proofs.Common.{IsTrue, List, [], ◌∷◌, length, take, length-take-le, Option, None, Some, is_some, ap, sym}
+use Rattle.std.proofs.Common.{subst, refl, arith, nat_le}
 use Rattle.std.proofs.lemmas.Bool.{false≢true}
 use Rattle.std.proofs.lemmas.Bool.Decides.{nat_tests}
 use Rattle.std.proofs.lemmas.List.{take_all}
@@ -35,11 +37,13 @@ kept_used key old new used other = ⊎_elim
 pub kept_put : (key : Key) (bytes : List ℕ) (old : Pages) → kept_page key (with_page key bytes old) ≡ Some bytes
 kept_put key bytes old = lookup-put_entries page_eq old (page_of key) bytes page_laws
 
-length-without : (test : PageKey → Bool) (entries : List (PageKey × List ℕ)) (entry : PageKey × List ℕ) → lookup_entry test entries ≡ Some entry → length (remove_entry test entries) + 1 ≡ length entries
+length-without : (test : PageKey → Bool) (entries : List (PageKey × List ℕ)) (entry : PageKey × List ℕ) → lookup_entry test entries ≡ Some entry
+    → length (remove_entry test entries) + 1 ≡ length entries
 length-without test [] entry is = absurd (false≢true (ap is_some is))
 length-without test (first ∷ rest) entry is = pick (test first.0) is (λ e. length-without test rest entry e)
   where
-    pick : (here : Bool) → cond here (Some first) (lookup_entry test rest) ≡ Some entry → (lookup_entry test rest ≡ Some entry → length (remove_entry test rest) + 1 ≡ length rest)
+    pick : (here : Bool) → cond here (Some first) (lookup_entry test rest) ≡ Some entry
+        → (lookup_entry test rest ≡ Some entry → length (remove_entry test rest) + 1 ≡ length rest)
         → length (cond here rest (first ∷ remove_entry test rest)) + 1 ≡ length (first ∷ rest)
     pick true e later = omega arith
     pick false e later = omega (arith, later e)
@@ -47,7 +51,8 @@ length-without test (first ∷ rest) entry is = pick (test first.0) is (λ e. le
 length-promoted : (test : PageKey → Bool) (entries : List (PageKey × List ℕ)) → length (promoted test entries) ≡ length entries
 length-promoted test entries = pick (lookup_entry test entries) refl
   where
-    pick : (found : Option (PageKey × List ℕ)) → lookup_entry test entries ≡ found → length (option_map_or (λ e. e ∷ remove_entry test entries) found entries) ≡ length entries
+    pick : (found : Option (PageKey × List ℕ)) → lookup_entry test entries ≡ found
+        → length (option_map_or (λ e. e ∷ remove_entry test entries) found entries) ≡ length entries
     pick None is = refl
     pick (Some entry) is = omega (arith, length-without test entries entry is)
 
@@ -84,7 +89,8 @@ stay_pushed page bytes pages = record {
     there key false kept = kept
 
     by : (key : Key) → IsSome (kept_page key pages) → (all : Bool) → nat_le (length pages.entries) (pages.cap - 1) ≡ all
-        → IsSome (cond (page_eq (page_of key) page) (Some bytes) (lookup (page_eq (page_of key)) (take (pages.cap - 1) pages.entries))) ⊎ (pages.cap ≤ suc (length (take (pages.cap - 1) pages.entries)))
+        → IsSome (cond (page_eq (page_of key) page) (Some bytes) (lookup (page_eq (page_of key)) (take (pages.cap - 1) pages.entries)))
+        ⊎ (pages.cap ≤ suc (length (take (pages.cap - 1) pages.entries)))
     by key kept true is =
         let least : length pages.entries ≤ pages.cap - 1 = grind (arith, nat_tests) in
         inl (subst (λ entries. IsSome (cond (page_eq (page_of key) page) (Some bytes) (lookup (page_eq (page_of key)) entries))) (sym (take_all (pages.cap - 1) pages.entries least)) (there key (page_eq (page_of key) page) kept))
@@ -104,7 +110,8 @@ stay_missed key old new none keeps = ⊎_elim
     keeps
 
 -- a page is kept now exactly if it was put in
-pub told_kept : (key : Key) (bytes : List ℕ) (old new : Pages) (kept : Bool) → kept_page key old ≡ None → (IsTrue kept → new ≡ with_page key bytes old) → (kept ≡ false → new ≡ old) → kept ≡ is_some (kept_page key new)
+pub told_kept : (key : Key) (bytes : List ℕ) (old new : Pages) (kept : Bool) → kept_page key old ≡ None → (IsTrue kept → new ≡ with_page key bytes old)
+    → (kept ≡ false → new ≡ old) → kept ≡ is_some (kept_page key new)
 told_kept key bytes old new true none put same = sym (ap (λ (pages : Pages). is_some (kept_page key pages)) (put refl) ∙ ap is_some (kept_put key bytes old))
 told_kept key bytes old new false none put same = sym (ap (λ (pages : Pages). is_some (kept_page key pages)) (same refl) ∙ ap is_some none)
 

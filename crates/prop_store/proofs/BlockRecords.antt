@@ -14,19 +14,22 @@ module _ (text : List ℕ) (next : ℕ) (fits : length text ≤ 48) where
       let two = with_field 1 one format.block_length (length text) in
       field-with_field_other 4 (with_text two format.block_text text) format.block_next next 1 format.kind (omega arith) (inr (omega arith))
       ∙ field-with_text_other two format.block_text text 1 format.kind (omega arith) (inl (omega arith))
-      ∙ field-with_field_other 1 one format.block_length (length text) 1 format.kind (omega arith) (inr (omega arith)) ∙ field-with_field_same 1 zeros format.kind format.block (omega arith) (omega arith)
+      ∙ field-with_field_other 1 one format.block_length (length text) 1 format.kind (omega arith) (inr (omega arith))
+      ∙ field-with_field_same 1 zeros format.kind format.block (omega arith) (omega arith)
 
   pub size-block_record : field 1 (block_record text next) format.block_length ≡ length text
   size-block_record =
       let one = with_field 1 zeros format.kind format.block in
       let two = with_field 1 one format.block_length (length text) in
       field-with_field_other 4 (with_text two format.block_text text) format.block_next next 1 format.block_length (omega arith) (inr (omega arith))
-      ∙ field-with_text_other two format.block_text text 1 format.block_length (omega arith) (inl (omega arith)) ∙ field-with_field_same 1 one format.block_length (length text) (omega arith) (omega arith)
+      ∙ field-with_text_other two format.block_text text 1 format.block_length (omega arith) (inl (omega arith))
+      ∙ field-with_field_same 1 one format.block_length (length text) (omega arith) (omega arith)
 
   pub text-block_record : text_in (block_record text next) format.block_text (length text) ≡ text
   text-block_record =
       let two = with_field 1 (with_field 1 zeros format.kind format.block) format.block_length (length text) in
-      text_in-with_field_other 4 (with_text two format.block_text text) format.block_next next format.block_text (length text) (omega arith) (inl (omega arith)) ∙ text_in-with_text_same two format.block_text text (omega arith)
+      text_in-with_field_other 4 (with_text two format.block_text text) format.block_next next format.block_text (length text) (omega arith) (inl (omega arith))
+      ∙ text_in-with_text_same two format.block_text text (omega arith)
 
   pub next-block_record : next < 2 ^ 32 → field 4 (block_record text next) format.block_next ≡ next
   next-block_record small = field-with_field_same 4 (with_text (with_field 1 (with_field 1 zeros format.kind format.block) format.block_length (length text)) format.block_text text) format.block_next next (omega arith) (omega arith)

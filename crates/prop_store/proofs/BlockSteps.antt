@@ -1,5 +1,6 @@
 -- A block of a text that is taken and written, and what stands of the text so far.
-use Rattle.std.proofs.Common.{◌≡◌, ◌≢◌, ℕ, ◌+◌, ◌*◌, ◌/◌, ◌%◌, ◌<◌, ◌≤◌, ◌^◌, min, true, false, List, [], ◌∷◌, length, take, drop, sym, ap, ◌∙◌, subst, inl, inr, ⊎_elim, arith, refl, length-drop}
+use Rattle.std.proofs.Common.{◌≡◌, ◌≢◌, ℕ, ◌+◌, ◌*◌, ◌/◌, ◌%◌, ◌<◌, ◌≤◌, ◌^◌, min, true, false, List, [], ◌∷◌, length}
+use Rattle.std.proofs.Common.{take, drop, sym, ap, ◌∙◌, subst, inl, inr, ⊎_elim, arith, refl, length-drop}
 use Rattle.std.specs.Prelude.{Err}
 use Rattle.std.proofs.lemmas.Bool.{true≢false}
 use Rattle.std.proofs.lemmas.List.{drop-drop, length-take}
@@ -46,11 +47,14 @@ module _ (s m t : State) (file id : ℕ) (rec : Rec) (took : m ≡ taken s file)
   shape_put = ap (λ (z : State). z.shape) is ∙ ap (λ (z : State). z.shape) took ∙ shape-taken s file
 
   pub beside_put : IsSameBeside file s.records t.records
-  beside_put key out other = others-put m t (key_in file id) rec is key (λ e. out (ap (λ (k : Key). k.file) e)) ∙ ap (λ (z : State). z.records key) took ∙ records-taken s file key other
+  beside_put key out other = others-put m t (key_in file id) rec is key (λ e. out (ap (λ (k : Key). k.file) e)) ∙ ap (λ (z : State). z.records key) took
+      ∙ records-taken s file key other
 
 -- ---- why no block was taken
 
-pub cannot_take : (s : State) (fault : TakeFault) → IsTakeFault s format.strings_file fault → ((free : List ℕ) → CanTake s format.strings_file free → NotDamaged {T = ℕ} (Err fault)) → KeepsFile s format.strings_file → IsWriteFault s format.strings_file 1 fault
+pub cannot_take : (s : State) (fault : TakeFault) → IsTakeFault s format.strings_file fault
+    → ((free : List ℕ) → CanTake s format.strings_file free → NotDamaged {T = ℕ} (Err fault)) → KeepsFile s format.strings_file
+    → IsWriteFault s format.strings_file 1 fault
 cannot_take s (Full full live) is sound keeps = (is.0, let a = is.1 in let b = is.2 in omega arith)
 cannot_take s Memory is sound keeps = tt
 cannot_take s Disk is sound keeps = tt
@@ -58,8 +62,10 @@ cannot_take s (Damaged damage) is sound keeps = sound keeps.free (can_take s for
 
 -- ---- a block written
 
-pub block_written : (s m t : State) (piece : List ℕ) (next id : ℕ) (rec : Rec) → 0 < length piece → length piece ≤ 48 → next < 2 ^ 32 → rec ≡ block_record piece next
-    → ((free : List ℕ) → IsFreeList s.records format.strings_file free → HasTaken s.records m.records format.strings_file id free) → id < room_of s.shape format.strings_file → IsKey (key_in format.strings_file id)
+pub block_written : (s m t : State) (piece : List ℕ) (next id : ℕ) (rec : Rec) → 0 < length piece → length piece ≤ 48 → next < 2 ^ 32
+    → rec ≡ block_record piece next
+    → ((free : List ℕ) → IsFreeList s.records format.strings_file free → HasTaken s.records m.records format.strings_file id free)
+    → id < room_of s.shape format.strings_file → IsKey (key_in format.strings_file id)
     → t ≡ after_put m (key_in format.strings_file id) rec → KeepsFile s format.strings_file → MayFollow s next → WritesBlock s t piece next id
 block_written s m t piece next id rec some few small rec_is took room key is keeps follows =
     let here : rec_at t.records format.strings_file id ≡ block_record piece next = record-put m t (key_in format.strings_file id) rec is ∙ rec_is in
@@ -70,8 +76,10 @@ block_written s m t piece next id rec some few small rec_is took room key is kee
     record {
       low = key.id;
       here = here;
-      changes = file_taken s.records m.records t.records s.shape format.strings_file id (block_record piece next) [] [] (inr refl) keeps has room here others used right;
-      live = live_taken s.records m.records t.records s.shape format.strings_file id (block_record piece next) [] [] (inr refl) keeps has room here others used right;
+      changes = file_taken s.records m.records t.records s.shape format.strings_file id (block_record piece next) [] [] (inr refl) keeps has room here others
+          used right;
+      live = live_taken s.records m.records t.records s.shape format.strings_file id (block_record piece next) [] [] (inr refl) keeps has room here others used
+          right;
     }
 
 -- ---- the text so far
@@ -92,7 +100,8 @@ nothing_stands s text none keeps =
 module _ (old now : State) (rest : List ℕ) (first : ℕ) (same_shape : now.shape ≡ old.shape) (stands : StandsFrom old now rest first) where
   -- the file keeps its rules
   pub keeps_now : KeepsFile now format.strings_file
-  keeps_now = subst (λ shape. ChangesFile now.records now.records shape format.strings_file [] []) (sym same_shape) (keeps_file old.records now.records old.shape format.strings_file [] stands.has.blocks stands.has.changes)
+  keeps_now = subst (λ shape. ChangesFile now.records now.records shape format.strings_file [] []) (sym same_shape)
+      (keeps_file old.records now.records old.shape format.strings_file [] stands.has.blocks stands.has.changes)
 
   -- the first block so far may come after another
   pub may_follow : MayFollow now first
@@ -112,18 +121,21 @@ module _ (old now : State) (rest : List ℕ) (first : ℕ) (same_shape : now.sha
       by (b ∷ bs) text e are = let low = are.0.low in omega arith
 
   -- there is no room for one more, and one more at least is needed
-  pub no_room : (needed : ℕ) (fault : TakeFault) → blocks_for (length rest) + 1 ≤ needed → IsWriteFault now format.strings_file 1 fault → IsWriteFault old format.strings_file needed fault
+  pub no_room : (needed : ℕ) (fault : TakeFault) → blocks_for (length rest) + 1 ≤ needed → IsWriteFault now format.strings_file 1 fault
+      → IsWriteFault old format.strings_file needed fault
   no_room needed (Full full live) more is = (is.0, let a = is.1 in let l = stands.live in let e : room_of now.shape format.strings_file ≡ room_of old.shape format.strings_file = ap (λ z. room_of z format.strings_file) same_shape in omega arith)
   no_room needed Memory more is = tt
   no_room needed Disk more is = tt
   no_room needed (Damaged damage) more is = is
 
   -- one more block in front of them
-  pub one_written : (then : State) (text piece : List ℕ) (id : ℕ) → piece ≡ take 48 text → rest ≡ drop 48 text → 0 < length text → WritesBlock now then piece first id → StandsFrom old then text id
+  pub one_written : (then : State) (text piece : List ℕ) (id : ℕ) → piece ≡ take 48 text → rest ≡ drop 48 text → 0 < length text
+      → WritesBlock now then piece first id → StandsFrom old then text id
   one_written then text piece id piece_is rest_is some w =
       let blocks = stands.has.blocks in
       let string_file = rec_at then.records format.strings_file in
-      let changes : ChangesFile now.records then.records old.shape format.strings_file [] (id ∷ []) = subst (λ shape. ChangesFile now.records then.records shape format.strings_file [] (id ∷ [])) same_shape w.changes in
+      let changes : ChangesFile now.records then.records old.shape format.strings_file [] (id ∷ []) =
+      subst (λ shape. ChangesFile now.records then.records shape format.strings_file [] (id ∷ [])) same_shape w.changes in
       let size : length piece ≡ min 48 (length text) = ap (λ (xs : List ℕ). length xs) piece_is ∙ length-take 48 text in
       let few : length piece ≤ 48 = omega arith in
       let block : IsBlock string_file text id (head_of blocks) = record {
@@ -131,10 +143,12 @@ module _ (old now : State) (rest : List ℕ) (first : ℕ) (same_shape : now.sha
         some = some;
         kind = ap (λ r. field 1 r format.kind) w.here ∙ kind-block_record piece first few;
         size = ap (λ r. field 1 r format.block_length) w.here ∙ size-block_record piece first few ∙ size;
-        piece = ap (λ r. text_in r format.block_text (min 48 (length text))) w.here ∙ ap (text_in (block_record piece first) format.block_text) (sym size) ∙ text-block_record piece first few ∙ piece_is;
+        piece = ap (λ r. text_in r format.block_text (min 48 (length text))) w.here ∙ ap (text_in (block_record piece first) format.block_text) (sym size)
+            ∙ text-block_record piece first few ∙ piece_is;
         next_is = ap (λ r. field 4 r format.block_next) w.here ∙ next-block_record piece first few first_small ∙ stands.has.first_is;
       } in
-      let later : AreBlocks string_file rest blocks = blocks_stay (rec_at now.records format.strings_file) string_file rest blocks (λ x i. (changes.kept x (stands.has.changes.live x i) (λ j. j)).1) stands.has.are in
+      let later : AreBlocks string_file rest blocks = blocks_stay (rec_at now.records format.strings_file) string_file rest blocks
+      (λ x i. (changes.kept x (stands.has.changes.live x i) (λ j. j)).1) stands.has.are in
       let are : AreBlocks string_file text (id ∷ blocks) = (block, subst (λ z. AreBlocks string_file z blocks) rest_is later) in
       let left : length rest ≡ length (drop 48 text) = ap (λ (xs : List ℕ). length xs) rest_is in
       record {
@@ -156,7 +170,8 @@ pub blocks_are : (size count : ℕ) → count ≡ size / 48 + min 1 (size % 48) 
 blocks_are size count e = omega arith
 
 -- a piece that a block has
-pub length-numbered_piece : (number : ℕ) (text : List ℕ) → number < blocks_for (length text) → (0 < length (numbered_piece number text)) × (length (numbered_piece number text) ≤ 48) × (0 < length (drop (48 * number) text))
+pub length-numbered_piece : (number : ℕ) (text : List ℕ) → number < blocks_for (length text) → (0 < length (numbered_piece number text))
+    × (length (numbered_piece number text) ≤ 48) × (0 < length (drop (48 * number) text))
 length-numbered_piece number text lt =
     let size = length-drop (48 * number) text in
     let few = length-take 48 (drop (48 * number) text) in

@@ -15,14 +15,16 @@ use Rattle.rec_bytes.proofs.Causes.{passed}
 pub later_on : {before mid now : ℕ} → before ≤ mid → mid ≤ now → before ≤ now
 later_on one other = omega (arith, one, other)
 
-pub cause_passed : {T U : Type 0} (before mid now : ℕ) (r : Result T Fault) (fault : Fault) → before ≤ mid → HasFaultCause {T = U} mid now (Err fault) → IsErrAnd r (λ f. f ≡ fault) → HasFaultCause before now r
+pub cause_passed : {T U : Type 0} (before mid now : ℕ) (r : Result T Fault) (fault : Fault) → before ≤ mid → HasFaultCause {T = U} mid now (Err fault)
+    → IsErrAnd r (λ f. f ≡ fault) → HasFaultCause before now r
 cause_passed before mid now r fault early cause is = passed (λ f. f) faults.Disk faults.Disk before mid now r fault (λ e. e) early cause is
 
 blames_disk : (fault : SpaceFault) → of_space fault ≡ faults.Disk → fault ≡ spaces.Disk
 blames_disk spaces.Memory e = absurd cc
 blames_disk spaces.Disk e = refl
 
-pub space_cause_passed : {T U : Type 0} (before mid now : ℕ) (r : Result T Fault) (fault : SpaceFault) → before ≤ mid → HasCause {T = U} mid now (Err fault) → IsErrAnd r (λ f. f ≡ of_space fault) → HasFaultCause before now r
+pub space_cause_passed : {T U : Type 0} (before mid now : ℕ) (r : Result T Fault) (fault : SpaceFault) → before ≤ mid → HasCause {T = U} mid now (Err fault)
+    → IsErrAnd r (λ f. f ≡ of_space fault) → HasFaultCause before now r
 space_cause_passed before mid now r fault early cause is = passed of_space spaces.Disk faults.Disk before mid now r fault (blames_disk fault) early cause is
 
 -- want of memory blames no disk

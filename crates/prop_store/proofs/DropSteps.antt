@@ -32,7 +32,8 @@ blocks_small string_file text (b ∷ bs) are x (inl e) = let low = are.0.low in 
 blocks_small string_file text (b ∷ bs) are x (inr i) = blocks_small string_file _ bs are.1 x i
 
 -- blocks in use that have a text were given out
-pub blocks_given_out : (s : Records) (shape : Shape) (text blocks : List ℕ) → ChangesFile s s shape format.strings_file blocks blocks → AreBlocks (rec_at s format.strings_file) text blocks → AreGivenOut s format.strings_file blocks
+pub blocks_given_out : (s : Records) (shape : Shape) (text blocks : List ℕ) → ChangesFile s s shape format.strings_file blocks blocks
+    → AreBlocks (rec_at s format.strings_file) text blocks → AreGivenOut s format.strings_file blocks
 blocks_given_out s shape text blocks h are x i = record { low = live_low s format.strings_file x (h.live x i); small = blocks_small (rec_at s format.strings_file) text blocks are x i }
 
 -- A record given back leaves the others.
@@ -40,8 +41,10 @@ pub given_beside : (s t : Records) (file id : ℕ) (free : List ℕ) → HasGive
 given_beside s t file id free given key ne meta = given.others key meta (λ e. ne (ap (λ (k : Key). k.file) e))
 
 -- One record of a property is given back.
-pub record_given : (b t : State) (shape : Shape) (id : ℕ) → ChangesFile b.records b.records shape format.properties_file (id ∷ []) (id ∷ []) → ChangesFile b.records b.records shape format.strings_file [] []
-    → ((free : List ℕ) → CanGive b format.properties_file id free → HasGiven b.records t.records format.properties_file id free) → ChangesRecords b.records t.records shape (id ∷ []) [] [] []
+pub record_given : (b t : State) (shape : Shape) (id : ℕ) → ChangesFile b.records b.records shape format.properties_file (id ∷ []) (id ∷ [])
+    → ChangesFile b.records b.records shape format.strings_file [] []
+    → ((free : List ℕ) → CanGive b format.properties_file id free → HasGiven b.records t.records format.properties_file id free)
+    → ChangesRecords b.records t.records shape (id ∷ []) [] [] []
 record_given b t shape id now none given =
     let live : is_live b.records format.properties_file id ≡ true = now.live id (inl refl) in
     let has = given now.free (record { list = now.split.walk; fresh = λ i. true≢false (sym live ∙ now.split.only id i) }) in
@@ -77,7 +80,8 @@ property_dropped s a b t row e ids held same ids_are released beside given =
     (middle [] (e.id ∷ []) [] [] ((λ i. i), tt)) (middle [] [] [] [] tt) first second
 
 -- What an element's properties have was found, and it was given back: all blocks, and then all properties.
-pub all_dropped : (s a b t : State) (es : List Property) (first : ℕ) (ids blocks : List ℕ) → AreHeld s first es → SameButReads s a → ids ≡ ids_of es → blocks ≡ blocks_of es → b.shape ≡ s.shape
+pub all_dropped : (s a b t : State) (es : List Property) (first : ℕ) (ids blocks : List ℕ) → AreHeld s first es → SameButReads s a → ids ≡ ids_of es
+    → blocks ≡ blocks_of es → b.shape ≡ s.shape
     → (AreOnce blocks → ChangesFile a.records a.records a.shape format.strings_file blocks blocks → ChangesFile a.records b.records a.shape format.strings_file blocks [] × HasFewer a b format.strings_file (length blocks))
     → IsSameBeside format.strings_file a.records b.records
     → (AreOnce ids → ChangesFile b.records b.records b.shape format.properties_file ids ids → ChangesFile b.records t.records b.shape format.properties_file ids [])
@@ -88,14 +92,17 @@ all_dropped s a b t es first ids blocks held same ids_are blocks_are shape relea
     let freed = blocks_released s a b all blocks (blocks_of es) same blocks_are held.are.blocks_once held.properties held.strings released beside in
     let now = file_now s.records b.records s.shape format.properties_file all all freed.properties all freed.properties.live in
     let gone : ChangesFile b.records t.records s.shape format.properties_file all []
-    = subst (λ (z : Shape). ChangesFile b.records b.records z format.properties_file all all → ChangesFile b.records t.records z format.properties_file all []) shape
+    = subst (λ (z : Shape). ChangesFile b.records b.records z format.properties_file all all → ChangesFile b.records t.records z format.properties_file all [])
+    shape
     (subst (λ (xs : List ℕ). AreOnce xs → ChangesFile b.records b.records b.shape format.properties_file xs xs → ChangesFile b.records t.records b.shape format.properties_file xs []) ids_are returned held.are.ids_once) now in
     let last = properties_moved b.records t.records s.shape all [] [] (keeps_file s.records b.records s.shape format.strings_file (blocks_of es) [] freed.strings) aside gone in
     records_then s.records b.records t.records s.shape all all [] (blocks_of es) [] [] all [] [] []
-    (subst (λ xs. Replaces xs all [] []) (append-nil all) (middle [] all [] [] (subst AreOnce (sym (append-nil all)) held.are.ids_once))) (middle [] [] [] [] tt) freed last
+    (subst (λ xs. Replaces xs all [] []) (append-nil all) (middle [] all [] [] (subst AreOnce (sym (append-nil all)) held.are.ids_once)))
+    (middle [] [] [] [] tt) freed last
 
 -- the properties that are held were given out
-pub held_given : (s : State) (owner : Owner) (first : ℕ) (es : List Property) → first ≡ first_of s.records owner → AreHeld s first es → HasProperties s.records owner es
+pub held_given : (s : State) (owner : Owner) (first : ℕ) (es : List Property) → first ≡ first_of s.records owner → AreHeld s first es
+    → HasProperties s.records owner es
 held_given s owner first es first_is held = record {
   are = subst (λ f. AreProperties (property_records s.records) f es) first_is held.are;
   ids_low = λ x i. live_low s.records format.properties_file x (held.properties.live x i);

@@ -45,29 +45,33 @@ module _ (s : State) (owner : Owner) (es : List Property) (owns : OwnsProperties
     record_kind = kind_low (high s.records file) (rec_at s.records file x) x (kind_below (high s.records file) (rec_at s.records file x) x owns.used)
 
     -- ---- a change of its properties
-    module _ (m : State) (new : List Property) (changes : ChangesRecords s.records m.records s.shape (ids_of es) (ids_of new) (blocks_of es) (blocks_of new)) where
-      same_record : rec_at m.records file x ≡ rec_at s.records file x
-      same_record = element_stays s.records m.records m.records s.shape file x es new is.file changes
+    module _ (m : State) (new : List Property) (changes : ChangesRecords s.records m.records s.shape (ids_of es) (ids_of new) (blocks_of es) (blocks_of new))
+      where
+        same_record : rec_at m.records file x ≡ rec_at s.records file x
+        same_record = element_stays s.records m.records m.records s.shape file x es new is.file changes
 
-      -- the place of the first one is written
-      pub first_set : (t : State) (to : ℕ) → t ≡ after_set m owner.key 4 owner.field to → to < 2 ^ 32 → IsLow (high m.records format.properties_file) to → SetsFirst m.records t.records file x to
-      first_set t to set small low = writes_first m.records t.records file x to is.file
-          (λ e. owns.used (record_kind ∙ ap (λ r. field 1 r format.kind) (sym same_record) ∙ e))
-          small low
-          (ap (λ (z : State). z.records owner.key) set ∙ put_same m.records owner.key (with_field 4 (m.records owner.key) owner.field to) ∙ ap (λ at. with_field 4 (m.records owner.key) at to) is.place)
-          (λ key ne. ap (λ (z : State). z.records key) set ∙ put_other m.records owner.key (with_field 4 (m.records owner.key) owner.field to) key ne)
+        -- the place of the first one is written
+        pub first_set : (t : State) (to : ℕ) → t ≡ after_set m owner.key 4 owner.field to → to < 2 ^ 32 → IsLow (high m.records format.properties_file) to
+            → SetsFirst m.records t.records file x to
+        first_set t to set small low = writes_first m.records t.records file x to is.file
+            (λ e. owns.used (record_kind ∙ ap (λ r. field 1 r format.kind) (sym same_record) ∙ e))
+            small low
+            (ap (λ (z : State). z.records owner.key) set ∙ put_same m.records owner.key (with_field 4 (m.records owner.key) owner.field to) ∙ ap (λ at. with_field 4 (m.records owner.key) at to) is.place)
+            (λ key ne. ap (λ (z : State). z.records key) set ∙ put_other m.records owner.key (with_field 4 (m.records owner.key) owner.field to) key ne)
 
-      -- or it is that already
-      pub first_kept : first_of s.records owner ≡ first_property new → SetsFirst m.records m.records file x (first_property new)
-      first_kept e = subst (SetsFirst m.records m.records file x) (ap (λ r. field 4 r (property_place file)) same_record ∙ sym (first_of-is s.records owner is) ∙ e) (stays_first m.records file x)
+        -- or it is that already
+        pub first_kept : first_of s.records owner ≡ first_property new → SetsFirst m.records m.records file x (first_property new)
+        first_kept e = subst (SetsFirst m.records m.records file x) (ap (λ r. field 4 r (property_place file)) same_record ∙ sym (first_of-is s.records owner is) ∙ e) (stays_first m.records file x)
 
-      pub list_changed : (t : State) → SetsFirst m.records t.records file x (first_property new) → AreProperties (property_records m.records) (first_property new) new
-          → ((k : ℕ) → In k (keys_of new) → k < high s.records format.names_file) → ChangesProperties s.records t.records s.shape file x es new
-      list_changed t set now known = changes_properties s.records m.records t.records s.shape file x es new is.file changes set owns.used owns.fits
-          (subst (λ f. AreProperties (property_records s.records) f es) (first_of-is s.records owner is) owns.held.are) now known
+        pub list_changed : (t : State) → SetsFirst m.records t.records file x (first_property new)
+            → AreProperties (property_records m.records) (first_property new) new
+            → ((k : ℕ) → In k (keys_of new) → k < high s.records format.names_file) → ChangesProperties s.records t.records s.shape file x es new
+        list_changed t set now known = changes_properties s.records m.records t.records s.shape file x es new is.file changes set owns.used owns.fits
+            (subst (λ f. AreProperties (property_records s.records) f es) (first_of-is s.records owner is) owns.held.are) now known
 
     -- all were given back, and the place of the first one is none
-    pub all_dropped : (m t : State) (dropped : Dropped) (drops : DropsProperties s m es dropped) → SetsFirst m.records t.records file x format.nil → DropsAllAlone s t owner es dropped
+    pub all_dropped : (m t : State) (dropped : Dropped) (drops : DropsProperties s m es dropped) → SetsFirst m.records t.records file x format.nil
+        → DropsAllAlone s t owner es dropped
     all_dropped m t dropped drops set = record {
       changes = list_changed m [] drops.changes t set (record { first_is = refl; linked = tt; few = omega arith; ids_once = tt; blocks_once = tt; keys_once = tt }) (λ k i. elim i [ ]);
       properties = drops.properties;

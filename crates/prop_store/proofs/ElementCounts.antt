@@ -1,11 +1,14 @@
 -- How the numbers of properties and of blocks change with the properties of one element.
-use Rattle.std.proofs.Common.{◌≡◌, ℕ, zero, suc, ◌+◌, ◌<◌, nat_eq, Bool, true, false, ◌||◌, cond, Option, None, Some, List, [], ◌∷◌, map, find, sym, ap, ◌∙◌, subst, inl, inr, ⊎_elim, arith, refl}
+use Rattle.std.proofs.Common.{◌≡◌, ℕ, zero, suc, ◌+◌, ◌<◌, nat_eq, Bool, true, false, ◌||◌, cond, Option, None, Some}
+use Rattle.std.proofs.Common.{List, [], ◌∷◌, map, find, sym, ap, ◌∙◌, subst, inl, inr, ⊎_elim, arith, refl}
 use Rattle.std.specs.List.{list_any, sum_by}
 use Rattle.std.specs.FinMap as maps
 use Rattle.std.proofs.lemmas.Bool.{eqb-true}
 use Rattle.std.proofs.lemmas.List.{map-append}
 use Rattle.std.proofs.lemmas.List.Sums.{sum_by-cons}
-use Rattle.plain_graph.specs.Graph.{Edge, Graph, Node, block_count, change_edge, change_node, edge_number, edge_properties, has_element, node_number, node_properties, properties_at, property_count, with_change, with_properties}
+use Rattle.plain_graph.specs.Graph.{Edge, Graph, Node, block_count, change_edge, change_node, edge_number}
+use Rattle.plain_graph.specs.Graph.{edge_properties, has_element, node_number, node_properties, properties_at}
+use Rattle.plain_graph.specs.Graph.{property_count, with_change, with_properties}
 use Rattle.plain_graph.specs.Properties.{Properties, blocks_at, blocks_in, blocks_of}
 use Rattle.plain_graph.specs.declared.command.Target.{Target}
 use Rattle.plain_graph.specs.declared.command.Target.TheVariants as targets
@@ -49,12 +52,14 @@ module _ {E : Type 0} (of : E → ℕ) (id : ℕ) where
   found [] h = absurd cc
   found (e ∷ rows) h = by (test e) h (found rows)
     where
-      by : (b : Bool) → (b || list_any test rows) ≡ true → (list_any test rows ≡ true → (d : E) × (find test rows ≡ Some d)) → (d : E) × (cond b (Some e) (find test rows) ≡ Some d)
+      by : (b : Bool) → (b || list_any test rows) ≡ true → (list_any test rows ≡ true → (d : E) × (find test rows ≡ Some d)) → (d : E)
+          × (cond b (Some e) (find test rows) ≡ Some d)
       by true k later = (e, refl)
       by false k later = later k
 
   -- in a sum over the rows, the changed row counts in place of the one that was found
-  sum_changed : (measure : E → ℕ) (change : E → E) (rows : List E) (e : E) → AreOnce (map of rows) → find test rows ≡ Some e → sum_by measure (with_change of id change rows) + measure e ≡ sum_by measure rows + measure (change e)
+  sum_changed : (measure : E → ℕ) (change : E → E) (rows : List E) (e : E) → AreOnce (map of rows) → find test rows ≡ Some e
+      → sum_by measure (with_change of id change rows) + measure e ≡ sum_by measure rows + measure (change e)
   sum_changed measure change [] e once is = absurd cc
   sum_changed measure change (d ∷ rows) e once is = by (test d) (λ h. eqb-true (of d) id h) (sum_changed measure change rows e once.1) is
     where
@@ -86,7 +91,8 @@ pub record AreDistinct (g : Graph) : Type 0 where
   pub edges : AreOnce (map edge_number g.edges)
 
 -- In a sum over all elements, the changed properties of one count in place of those that it had.
-pub sum_over-with_properties : (measure : Properties → ℕ) (g : Graph) (target : Target) (change : Properties → Properties) → AreDistinct g → has_element g target ≡ true
+pub sum_over-with_properties : (measure : Properties → ℕ) (g : Graph) (target : Target) (change : Properties → Properties) → AreDistinct g
+    → has_element g target ≡ true
     → sum_over measure (with_properties g target change) + measure (properties_at g target) ≡ sum_over measure g + measure (change (properties_at g target))
 sum_over-with_properties measure g (targets.Node id) change distinct there =
     let node = found node_number id g.nodes there in
@@ -145,28 +151,33 @@ module _ (s : State) (owner : Owner) (is : IsOwner owner) (h : HasElement s owne
   has_target = has_element-used s.records owner.key.file owner.key.id is.file h.used
 
   -- The numbers of live records after a change of the element's properties.
-  pub live_properties : (change : Properties → Properties) → property_count (with_properties (graph_of s.records) (target_of owner) change) + maps.len (properties_of s owner) ≡ (meta_in s.records format.properties_file).live + maps.len (change (properties_of s owner))
+  pub live_properties : (change : Properties → Properties) → property_count (with_properties (graph_of s.records) (target_of owner) change) + maps.len
+      (properties_of s owner) ≡ (meta_in s.records format.properties_file).live + maps.len (change (properties_of s owner))
   live_properties change =
       let all = property_count-with_properties (graph_of s.records) (target_of owner) change (distinct_in_store s.records) has_target in
       let count = count_properties s.records s.shape h.store in
       omega arith
 
-  pub live_blocks : (change : Properties → Properties) → block_count (with_properties (graph_of s.records) (target_of owner) change) + blocks_in (properties_of s owner) ≡ (meta_in s.records format.strings_file).live + blocks_in (change (properties_of s owner))
+  pub live_blocks : (change : Properties → Properties) → block_count (with_properties (graph_of s.records) (target_of owner) change) + blocks_in
+      (properties_of s owner) ≡ (meta_in s.records format.strings_file).live + blocks_in (change (properties_of s owner))
   live_blocks change =
       let all = block_count-with_properties (graph_of s.records) (target_of owner) change (distinct_in_store s.records) has_target in
       let count = count_blocks s.records s.shape h.store in
       omega arith
 
   -- One property more where the key is new.
-  pub properties_with-live : (key : ℕ) (value : Value) → properties_with s owner key value ≡ (meta_in s.records format.properties_file).live + cond (maps.contains_key (properties_of s owner) (text_at s key)) 0 1
+  pub properties_with-live : (key : ℕ) (value : Value) → properties_with s owner key value ≡ (meta_in s.records format.properties_file).live + cond
+      (maps.contains_key (properties_of s owner) (text_at s key)) 0 1
   properties_with-live key value = by (maps.contains_key (properties_of s owner) (text_at s key)) (len-insert (properties_of s owner) (text_at s key) value)
     where
-      by : (b : Bool) → maps.len (maps.insert (properties_of s owner) (text_at s key) value) ≡ cond b (maps.len (properties_of s owner)) (maps.len (properties_of s owner) + 1) → properties_with s owner key value ≡ (meta_in s.records format.properties_file).live + cond b 0 1
+      by : (b : Bool) → maps.len (maps.insert (properties_of s owner) (text_at s key) value) ≡ cond b (maps.len (properties_of s owner))
+          (maps.len (properties_of s owner) + 1) → properties_with s owner key value ≡ (meta_in s.records format.properties_file).live + cond b 0 1
       by true e = let all = live_properties (λ properties. maps.insert properties (text_at s key) value) in omega arith
       by false e = let all = live_properties (λ properties. maps.insert properties (text_at s key) value) in omega arith
 
   -- The blocks of the value that the key had make room for those of the new one.
-  pub blocks_with-live : (key : ℕ) (value : Value) → blocks_with s owner key value + blocks_at (properties_of s owner) (text_at s key) ≡ (meta_in s.records format.strings_file).live + blocks_of value
+  pub blocks_with-live : (key : ℕ) (value : Value) → blocks_with s owner key value + blocks_at (properties_of s owner)
+      (text_at s key) ≡ (meta_in s.records format.strings_file).live + blocks_of value
   blocks_with-live key value =
       let all = live_blocks (λ properties. maps.insert properties (text_at s key) value) in
       let one = blocks_in-insert (properties_of s owner) (text_at s key) value in

@@ -20,8 +20,10 @@ use Rattle.store_rules.proofs.PropertyLists.{block_live, key_known, listed, owne
 use Rattle.store_rules.proofs.PropertyMaps.{lack_key}
 use Rattle.store_rules.proofs.PropertySteps.{properties_dropped, property_added, property_removed, property_replaced, value_found, value_lacked}
 use Rattle.store_rules.proofs.ViewLaws.{kind_below}
-use Rattle.prop_store.specs.Alone.{DropsAllAlone, HasKeyAt, IsAdded, IsReplaced, IsSetRefusalAlone, LacksKey, MayHaveKey, OwnsProperties, RemovesAlone, SetsAlone, blocks_held}
-use Rattle.prop_store.specs.Changing.{ChangesElement, DropsAll, HasElement, IsSetRefusal, RemovesValue, SetsValue, properties_of, properties_with, set_properties, target_of, text_at}
+use Rattle.prop_store.specs.Alone.{DropsAllAlone, HasKeyAt, IsAdded, IsReplaced, IsSetRefusalAlone, LacksKey}
+use Rattle.prop_store.specs.Alone.{MayHaveKey, OwnsProperties, RemovesAlone, SetsAlone, blocks_held}
+use Rattle.prop_store.specs.Changing.{ChangesElement, DropsAll, HasElement, IsSetRefusal, RemovesValue, SetsValue}
+use Rattle.prop_store.specs.Changing.{properties_of, properties_with, set_properties, target_of, text_at}
 use Rattle.prop_store.specs.Finding.{property_of}
 use Rattle.prop_store.specs.Owner.{IsOwner}
 use Rattle.prop_store.specs.declared.changing.Dropped.{Dropped}
@@ -69,9 +71,11 @@ module _ (s : State) (owner : Owner) (is : IsOwner owner) (has : HasElement s ow
     fits = has.store.ranges.fit file x (meta_of_element file is.file) (kind_below (high s.records file) (rec_at s.records file x) x has.used);
     held = record {
       are = subst (λ f. AreProperties (property_records s.records) f listed_at) (sym (first_of-is s.records owner is)) are_listed;
-      properties = file_now s.records s.records s.shape format.properties_file [] [] (keeps_in_store s.records s.shape format.properties_file (inl refl) has.store) (ids_of listed_at)
+      properties = file_now s.records s.records s.shape format.properties_file [] []
+          (keeps_in_store s.records s.shape format.properties_file (inl refl) has.store) (ids_of listed_at)
           (property_live s.records s.shape has.store file x first listed_at owned are_listed);
-      strings = file_now s.records s.records s.shape format.strings_file [] [] (keeps_in_store s.records s.shape format.strings_file (inr refl) has.store) (blocks_of listed_at)
+      strings = file_now s.records s.records s.shape format.strings_file [] [] (keeps_in_store s.records s.shape format.strings_file (inr refl) has.store)
+          (blocks_of listed_at)
           (block_live s.records s.shape has.store file x first listed_at owned are_listed);
     };
     known = key_known s.records s.shape has.store file x first listed_at owned are_listed;
@@ -86,17 +90,21 @@ module _ (s : State) (owner : Owner) (is : IsOwner owner) (has : HasElement s ow
   count_is = ap maps.len properties_are ∙ len-map_of names mark has.store.names listed_at owns_listed.known are_listed.keys_once
 
   blocks_are : plain.blocks_in (properties_of s owner) ≡ length (blocks_of listed_at)
-  blocks_are = ap plain.blocks_in properties_are ∙ blocks_in-map_of names mark has.store.names (property_records s.records) listed_at are_listed.linked owns_listed.known are_listed.keys_once
+  blocks_are = ap plain.blocks_in properties_are ∙ blocks_in-map_of names mark has.store.names (property_records s.records) listed_at are_listed.linked
+      owns_listed.known are_listed.keys_once
 
   -- ---- one key
 
   -- one more than it has, or as many
   len_with : (key : ℕ) (value : Value) (o : Option Value) → maps.get (properties_of s owner) (text_at s key) ≡ o
       → maps.len (set_properties s owner key value) ≡ cond (is_some o) (maps.len (properties_of s owner)) (maps.len (properties_of s owner) + 1)
-  len_with key value o got = len-insert (properties_of s owner) (text_at s key) value ∙ ap (λ v. cond (is_some v) (maps.len (properties_of s owner)) (maps.len (properties_of s owner) + 1)) got
+  len_with key value o got = len-insert (properties_of s owner) (text_at s key) value
+      ∙ ap (λ v. cond (is_some v) (maps.len (properties_of s owner)) (maps.len (properties_of s owner) + 1)) got
 
-  count_with : (key : ℕ) (value : Value) (o : Option Value) → maps.get (properties_of s owner) (text_at s key) ≡ o → properties_with s owner key value ≡ (meta_of s format.properties_file).live + cond (is_some o) 0 1
-  count_with key value o got = properties_with-live s owner is has key value ∙ ap (λ v. (meta_in s.records format.properties_file).live + cond (is_some v) 0 1) got
+  count_with : (key : ℕ) (value : Value) (o : Option Value) → maps.get (properties_of s owner) (text_at s key) ≡ o
+      → properties_with s owner key value ≡ (meta_of s format.properties_file).live + cond (is_some o) 0 1
+  count_with key value o got = properties_with-live s owner is has key value
+      ∙ ap (λ v. (meta_in s.records format.properties_file).live + cond (is_some v) 0 1) got
 
   live_limit : (meta_of s format.properties_file).live ≤ s.shape.limit
   live_limit = let count = count_properties s.records s.shape has.store in let most = property_count-limit s.records s.shape has.store in omega arith
@@ -112,7 +120,8 @@ module _ (s : State) (owner : Owner) (is : IsOwner owner) (has : HasElement s ow
     parts = subst (AreProperties (property_records s.records) first) at.all are_listed
 
     found_value : maps.get (properties_of s owner) (text_at s key) ≡ Some e.value
-    found_value = subst (λ k. maps.get (properties_of s owner) (text_at s k) ≡ Some e.value) at.key_is (value_found s.records s.shape has.store file x is.file has.used front e back parts)
+    found_value = subst (λ k. maps.get (properties_of s owner) (text_at s k) ≡ Some e.value) at.key_is
+        (value_found s.records s.shape has.store file x is.file has.used front e back parts)
 
     found_blocks : length e.blocks ≡ plain.blocks_at (properties_of s owner) (text_at s key)
     found_blocks = sym (ap plain.blocks_if found_value
@@ -134,7 +143,8 @@ module _ (s : State) (owner : Owner) (is : IsOwner owner) (has : HasElement s ow
 
   -- ---- what a change makes
 
-  changed : (t : State) (after : List Property) → ChangesProperties s.records t.records s.shape file x listed_at after → t.shape ≡ s.shape → IsWellFormed t.records s.shape → ChangesElement s t owner
+  changed : (t : State) (after : List Property) → ChangesProperties s.records t.records s.shape file x listed_at after → t.shape ≡ s.shape
+      → IsWellFormed t.records s.shape → ChangesElement s t owner
   changed t after changes shape store = record { before = listed_at; after = after; changes = changes; store = subst (IsWellFormed t.records) (sym shape) store }
 
   pub drops_graph : (t : State) (dropped : Dropped) → DropsAllAlone s t owner listed_at dropped → t.shape ≡ s.shape → DropsAll s t owner dropped
@@ -161,7 +171,8 @@ module _ (s : State) (owner : Owner) (is : IsOwner owner) (has : HasElement s ow
   -- ---- a key that is one of the store's names
   module _ (key : ℕ) (known : key < mark) where
     -- one more
-    added_graph : (t : State) (after : List Property) (e : Property) (released : ℕ) → e.key ≡ key → ChangesProperties s.records t.records s.shape file x listed_at after → IsAdded listed_at after e released → t.shape ≡ s.shape
+    added_graph : (t : State) (after : List Property) (e : Property) (released : ℕ) → e.key ≡ key
+        → ChangesProperties s.records t.records s.shape file x listed_at after → IsAdded listed_at after e released → t.shape ≡ s.shape
         → SetsValue s t owner key e.value released
     added_graph t after e released key_is changes a shape =
         let none = absent_value key known (subst (LacksKey listed_at) key_is a.lacked) in
@@ -178,11 +189,13 @@ module _ (s : State) (owner : Owner) (is : IsOwner owner) (has : HasElement s ow
         }
 
     -- another value
-    replaced_graph : (t : State) (after : List Property) (e : Property) (released : ℕ) → e.key ≡ key → ChangesProperties s.records t.records s.shape file x listed_at after → IsReplaced listed_at after e released → t.shape ≡ s.shape
+    replaced_graph : (t : State) (after : List Property) (e : Property) (released : ℕ) → e.key ≡ key
+        → ChangesProperties s.records t.records s.shape file x listed_at after → IsReplaced listed_at after e released → t.shape ≡ s.shape
         → SetsValue s t owner key e.value released
     replaced_graph t after e released key_is changes r shape =
         let at = subst (HasKeyAt listed_at r.before r.was r.rest) key_is r.found in
-        let now = subst (λ z. ChangesProperties s.records t.records s.shape file x z (r.before ++ e ∷ r.rest)) at.all (subst (ChangesProperties s.records t.records s.shape file x listed_at) r.all changes) in
+        let now = subst (λ z. ChangesProperties s.records t.records s.shape file x z (r.before ++ e ∷ r.rest)) at.all
+        (subst (ChangesProperties s.records t.records s.shape file x listed_at) r.all changes) in
         let steps = property_replaced s.records t.records s.shape file x has.store r.before r.was e r.rest now (sym r.found.key_is) in
         record {
           changes = changed t after changes shape steps.store;
@@ -191,14 +204,16 @@ module _ (s : State) (owner : Owner) (is : IsOwner owner) (has : HasElement s ow
           few = as_many r.before r.was r.rest key at e.value;
         }
 
-    pub sets_graph : (t : State) (value : Value) (released : ℕ) → SetsAlone s t owner listed_at key value released → t.shape ≡ s.shape → SetsValue s t owner key value released
+    pub sets_graph : (t : State) (value : Value) (released : ℕ) → SetsAlone s t owner listed_at key value released → t.shape ≡ s.shape
+        → SetsValue s t owner key value released
     sets_graph t value released sets shape = subst (λ v. SetsValue s t owner key v released) sets.value_is (⊎_elim
         (λ a. added_graph t sets.after sets.property released sets.key_is sets.changes a shape)
         (λ r. replaced_graph t sets.after sets.property released sets.key_is sets.changes r shape) sets.place)
 
     -- ---- why it is not
     few_with : (value : Value) (o : Option Property) → property_of listed_at key ≡ o → MayHaveKey s listed_at key
-        → (maps.len (set_properties s owner key value) ≤ 32) × (properties_with s owner key value ≤ s.shape.limit) × (blocks_held o ≡ plain.blocks_at (properties_of s owner) (text_at s key))
+        → (maps.len (set_properties s owner key value) ≤ 32) × (properties_with s owner key value ≤ s.shape.limit)
+        × (blocks_held o ≡ plain.blocks_at (properties_of s owner) (text_at s key))
     few_with value None lacks may =
         let none = absent_value key known lacks in
         let room = may lacks in

@@ -21,10 +21,12 @@ use Rattle.prop_store.proofs.RecordMoves.{records_then}
 
 -- reads leave a property and what is made of it
 pub held_same : (s t : State) (row : PropertyRow) (e : Property) → SameButReads s t → IsHeld s row e → IsHeld t row e
-held_same s t row e same h = subst (λ (z : State). IsHeld z row e) (sym same) (record { id_is = h.id_is; value = h.value; once = h.once; properties = h.properties; strings = h.strings })
+held_same s t row e same h = subst (λ (z : State). IsHeld z row e) (sym same)
+    (record { id_is = h.id_is; value = h.value; once = h.once; properties = h.properties; strings = h.strings })
 
 pub drops_same : (s r t : State) (e : Property) (released : ℕ) → SameButReads s r → DropsProperty r t e released → DropsProperty s t e released
-drops_same s r t e released same h = let k = subst (λ (z : State). DropsProperty z t e released) same h in record { released_is = k.released_is; changes = k.changes }
+drops_same s r t e released same h = let k = subst (λ (z : State). DropsProperty z t e released) same h in
+    record { released_is = k.released_is; changes = k.changes }
 
 module _ (s : State) (owner : Owner) (es : List Property) (owns : OwnsProperties s owner es) where
   abbrev first : ℕ
@@ -51,8 +53,10 @@ module _ (s : State) (owner : Owner) (es : List Property) (owns : OwnsProperties
           id_is = id_is;
           value = record { content = ap content_of rec_is ∙ its_record.content; kept = its_record.kept; are = its_record.blocks };
           once = (once_split e.blocks (blocks_of back) (once_split (blocks_of front) (e.blocks ++ blocks_of back) apart).right).left;
-          properties = file_now s.records s.records s.shape format.properties_file (ids_of es) (ids_of es) owns.held.properties (e.id ∷ []) (λ x i. id_live x (in_right x (ids_of front) ((e.id ∷ []) ++ ids_of back) (in_left x (e.id ∷ []) (ids_of back) i)));
-          strings = file_now s.records s.records s.shape format.strings_file (blocks_of es) (blocks_of es) owns.held.strings e.blocks (λ x i. block_in_use x (in_right x (blocks_of front) (e.blocks ++ blocks_of back) (in_left x e.blocks (blocks_of back) i)));
+          properties = file_now s.records s.records s.shape format.properties_file (ids_of es) (ids_of es) owns.held.properties (e.id ∷ [])
+              (λ x i. id_live x (in_right x (ids_of front) ((e.id ∷ []) ++ ids_of back) (in_left x (e.id ∷ []) (ids_of back) i)));
+          strings = file_now s.records s.records s.shape format.strings_file (blocks_of es) (blocks_of es) owns.held.strings e.blocks
+              (λ x i. block_in_use x (in_right x (blocks_of front) (e.blocks ++ blocks_of back) (in_left x e.blocks (blocks_of back) i)));
         }
 
     -- others in its place, of its record and its blocks
@@ -63,9 +67,11 @@ module _ (s : State) (owner : Owner) (es : List Property) (owns : OwnsProperties
         let blocks = blocks_of front ++ (e.blocks ++ blocks_of back) in
         let ids_are : ids_of es ≡ ids = ap ids_of all ∙ ids_parts front e back in
         let blocks_are : blocks_of es ≡ blocks = ap blocks_of all ∙ blocks_parts front e back in
-        let still = records_like s.records s.records s.shape (ids_of es) ids (ids_of es) ids (blocks_of es) blocks (blocks_of es) blocks ids_are ids_are blocks_are blocks_are
+        let still = records_like s.records s.records s.shape (ids_of es) ids (ids_of es) ids (blocks_of es) blocks (blocks_of es) blocks ids_are ids_are
+        blocks_are blocks_are
         (record { properties = owns.held.properties; strings = owns.held.strings; others = λ key a b c d. refl }) in
-        records_like s.records m s.shape ids (ids_of es) (ids_of front ++ (ids_of now ++ ids_of back)) (ids_of (front ++ (now ++ back))) blocks (blocks_of es) (blocks_of front ++ (blocks_of now ++ blocks_of back)) (blocks_of (front ++ (now ++ back)))
+        records_like s.records m s.shape ids (ids_of es) (ids_of front ++ (ids_of now ++ ids_of back)) (ids_of (front ++ (now ++ back))) blocks (blocks_of es)
+        (blocks_of front ++ (blocks_of now ++ blocks_of back)) (blocks_of (front ++ (now ++ back)))
         (sym ids_are) (sym (map-append (λ (z : Property). z.id) front (now ++ back) ∙ ap (λ l. ids_of front ++ l) (map-append (λ (z : Property). z.id) now back))) (sym blocks_are)
         (sym (blocks_both front (now ++ back) ∙ ap (λ l. blocks_of front ++ l) (blocks_both now back)))
         (records_then s.records s.records m s.shape ids ids (ids_of front ++ (ids_of now ++ ids_of back)) blocks blocks (blocks_of front ++ (blocks_of now ++ blocks_of back)) (e.id ∷ []) (ids_of now) e.blocks (blocks_of now)
@@ -73,12 +79,14 @@ module _ (s : State) (owner : Owner) (es : List Property) (owns : OwnsProperties
         (middle (blocks_of front) e.blocks (blocks_of now) (blocks_of back) (blocks_apart (property_records s.records) (property_records s.records) first front e back are_parts)) still changes)
 
     -- the other properties and their blocks stay
-    pub other_kept : (m : Records) (new : List ℕ) → ChangesFile s.records m s.shape format.properties_file (e.id ∷ []) new → (x : ℕ) → In x (ids_of front) ⊎ In x (ids_of back)
+    pub other_kept : (m : Records) (new : List ℕ) → ChangesFile s.records m s.shape format.properties_file (e.id ∷ []) new → (x : ℕ) → In x (ids_of front)
+        ⊎ In x (ids_of back)
         → (is_live m format.properties_file x ≡ true) × (rec_at m format.properties_file x ≡ rec_at s.records format.properties_file x)
     other_kept m new h x i = h.kept x (id_live x (⊎_elim (λ f. in_left x (ids_of front) ((e.id ∷ []) ++ ids_of back) f) (λ b. in_right x (ids_of front) ((e.id ∷ []) ++ ids_of back) (in_right x (e.id ∷ []) (ids_of back) b)) i))
         (not_its_id (property_records s.records) (property_records s.records) first front e back are_parts x i)
 
-    pub other_blocks_kept : (m : Records) (new : List ℕ) → ChangesFile s.records m s.shape format.strings_file e.blocks new → (x : ℕ) → In x (blocks_of front) ⊎ In x (blocks_of back)
+    pub other_blocks_kept : (m : Records) (new : List ℕ) → ChangesFile s.records m s.shape format.strings_file e.blocks new → (x : ℕ) → In x (blocks_of front)
+        ⊎ In x (blocks_of back)
         → (is_live m format.strings_file x ≡ true) × (rec_at m format.strings_file x ≡ rec_at s.records format.strings_file x)
     other_blocks_kept m new h x i = h.kept x (block_in_use x (⊎_elim (λ f. in_left x (blocks_of front) (e.blocks ++ blocks_of back) f) (λ b. in_right x (blocks_of front) (e.blocks ++ blocks_of back) (in_right x e.blocks (blocks_of back) b)) i))
         (not_its_block (property_records s.records) (property_records s.records) first front e back are_parts x i)

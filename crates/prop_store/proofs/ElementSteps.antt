@@ -1,5 +1,6 @@
 -- The place of an element's first property, which a change writes last.
-use Rattle.std.proofs.Common.{◌≡◌, ◌≢◌, ◌⊎◌, ℕ, ◌+◌, ◌<◌, ◌≤◌, ◌^◌, nat_eq, Bool, true, false, cond, Some, None, List, sym, ap, ◌∙◌, subst, inl, inr, ⊎_elim, arith, refl}
+use Rattle.std.proofs.Common.{◌≡◌, ◌≢◌, ◌⊎◌, ℕ, ◌+◌, ◌<◌, ◌≤◌, ◌^◌, nat_eq, Bool, true, false, cond, Some, None, List}
+use Rattle.std.proofs.Common.{sym, ap, ◌∙◌, subst, inl, inr, ⊎_elim, arith, refl}
 use Rattle.rec_bytes.specs.declared.key.Key.{Key}
 use Rattle.rec_bytes.specs.declared.record.Rec.{Rec}
 use Rattle.rec_bytes.specs.declared.shape.Shape.{Shape}
@@ -41,7 +42,8 @@ stays_first s file x = record { first = refl; own = λ n at inside apart. refl; 
 
 -- it is written in a record in use
 module _ (s t : Records) (file x to : ℕ) (is : IsElementFile file) (used : field 1 (rec_at s file x) format.kind ≢ format.free_kind)
-    (small : to < 2 ^ 32) (low : IsLow (high s format.properties_file) to) (here : rec_at t file x ≡ with_field 4 (rec_at s file x) (property_place file) to) (others : (key : Key) → key ≢ key_in file x → t key ≡ s key) where
+    (small : to < 2 ^ 32) (low : IsLow (high s format.properties_file) to) (here : rec_at t file x ≡ with_field 4 (rec_at s file x) (property_place file) to)
+    (others : (key : Key) → key ≢ key_in file x → t key ≡ s key) where
   abbrev r : Rec
   r = rec_at s file x
 
@@ -49,10 +51,12 @@ module _ (s t : Records) (file x to : ℕ) (is : IsElementFile file) (used : fie
   node_kind h = ⊎_elim (λ (e : field 1 r format.kind ≡ format.sparse). inl e)
       (λ (ne : field 1 r format.kind ≢ format.sparse). ⊎_elim (λ (e : field 1 r format.kind ≡ format.dense). inr e)
       (λ (thin : field 1 r format.kind ≢ format.dense). absurd (by (nat_eq (field 1 r format.kind) 0) (nat_eq (field 1 r format.kind) 1) (nat_eq (field 1 r format.kind) 2) h.layout
-      (eq_false (field 1 r format.kind) 0 used) (eq_false (field 1 r format.kind) 1 ne) (eq_false (field 1 r format.kind) 2 thin) h.is)) (nat_cases (field 1 r format.kind) format.dense)) (nat_cases (field 1 r format.kind) format.sparse)
+      (eq_false (field 1 r format.kind) 0 used) (eq_false (field 1 r format.kind) 1 ne) (eq_false (field 1 r format.kind) 2 thin) h.is)) (nat_cases (field 1 r
+      format.kind) format.dense)) (nat_cases (field 1 r format.kind) format.sparse)
     where
       by : (free sparse dense : Bool) (layout : Layout) → free ≡ false → sparse ≡ false → dense ≡ false
-          → cond free (free_layout format.nodes_file) (cond sparse (node_layout format.relationships_file) (cond dense (node_layout format.groups_file) None)) ≡ Some layout → ⊥
+          → cond free (free_layout format.nodes_file) (cond sparse (node_layout format.relationships_file) (cond dense (node_layout format.groups_file) None))
+          ≡ Some layout → ⊥
       by true sparse dense layout e f h k = cc
       by false true dense layout e f h k = cc
       by false false true layout e f h k = cc
@@ -62,7 +66,8 @@ module _ (s t : Records) (file x to : ℕ) (is : IsElementFile file) (used : fie
   rel_kind h = ⊎_elim (λ (e : field 1 r format.kind ≡ format.related). e)
       (λ (ne : field 1 r format.kind ≢ format.related). absurd (by (nat_eq (field 1 r format.kind) 0) (nat_eq (field 1 r format.kind) 1) h.layout (eq_false (field 1 r format.kind) 0 used) (eq_false (field 1 r format.kind) 1 ne) h.is)) (nat_cases (field 1 r format.kind) format.related)
     where
-      by : (free related : Bool) (layout : Layout) → free ≡ false → related ≡ false → cond free (free_layout format.relationships_file) (cond related relationship_layout None) ≡ Some layout → ⊥
+      by : (free related : Bool) (layout : Layout) → free ≡ false → related ≡ false
+          → cond free (free_layout format.relationships_file) (cond related relationship_layout None) ≡ Some layout → ⊥
       by true related layout e f h = cc
       by false true layout e f h = cc
       by false false layout e f h = cc
@@ -73,7 +78,8 @@ module _ (s t : Records) (file x to : ℕ) (is : IsElementFile file) (used : fie
   pub writes_first : SetsFirst s t file x to
   writes_first = record {
     first = ap (λ q. field 4 q (property_place file)) here ∙ field-with_field_same 4 r (property_place file) to place_fits (omega arith);
-    own = λ n at inside apart. ap (λ q. field n q at) here ∙ field-with_field_other 4 r (property_place file) to n at inside (⊎_elim (λ a. inr a) (λ a. inl a) apart);
+    own = λ n at inside apart. ap (λ q. field n q at) here ∙ field-with_field_other 4 r (property_place file) to n at inside
+        (⊎_elim (λ a. inr a) (λ a. inl a) apart);
     fits = λ h. subst (Fits (high s) file) (sym here) (⊎_elim
         (λ (e : file ≡ format.nodes_file). (subst (λ f. Fits (high s) f r → Fits (high s) f (with_field 4 r (property_place f) to)) (sym e)
         (λ k. fits_node_property (high s) r to small low (node_kind k) k)) h)
@@ -82,7 +88,8 @@ module _ (s t : Records) (file x to : ℕ) (is : IsElementFile file) (used : fie
   }
 
 -- no mark falls where properties and blocks changed
-pub marks_records : (s t : Records) (shape : Shape) (ids new_ids blocks new_blocks : List ℕ) → ChangesRecords s t shape ids new_ids blocks new_blocks → (f : ℕ) → high s f ≤ high t f
+pub marks_records : (s t : Records) (shape : Shape) (ids new_ids blocks new_blocks : List ℕ) → ChangesRecords s t shape ids new_ids blocks new_blocks → (f : ℕ)
+    → high s f ≤ high t f
 marks_records s t shape ids new_ids blocks new_blocks h f = ⊎_elim
     (λ (e : f ≡ format.properties_file). subst (λ g. high s g ≤ high t g) (sym e) h.properties.grows)
     (λ (a : f ≢ format.properties_file). ⊎_elim
@@ -92,7 +99,8 @@ marks_records s t shape ids new_ids blocks new_blocks h f = ⊎_elim
     omega arith) (nat_cases f format.strings_file)) (nat_cases f format.properties_file)
 
 -- A change of an element's properties: their records and blocks changed, and then the place of the first one.
-module _ (s m t : Records) (shape : Shape) (file x : ℕ) (old new : List Property) (is : IsElementFile file) (changes : ChangesRecords s m shape (ids_of old) (ids_of new) (blocks_of old) (blocks_of new)) where
+module _ (s m t : Records) (shape : Shape) (file x : ℕ) (old new : List Property) (is : IsElementFile file)
+    (changes : ChangesRecords s m shape (ids_of old) (ids_of new) (blocks_of old) (blocks_of new)) where
   not_property : file ≢ format.properties_file
   not_property e = ⊎_elim (λ (q : file ≡ format.nodes_file). omega arith) (λ (q : file ≡ format.relationships_file). omega arith) is
 
@@ -101,7 +109,8 @@ module _ (s m t : Records) (shape : Shape) (file x : ℕ) (old new : List Proper
 
   -- the element's record is the same before that
   pub element_stays : rec_at m file x ≡ rec_at s file x
-  element_stays = changes.others (key_in file x) not_property not_string (not_meta_key file x format.properties_file (meta_of_element file is)) (not_meta_key file x format.strings_file (meta_of_element file is))
+  element_stays = changes.others (key_in file x) not_property not_string (not_meta_key file x format.properties_file (meta_of_element file is))
+      (not_meta_key file x format.strings_file (meta_of_element file is))
 
   module _ (set : SetsFirst m t file x (first_property new)) where
     meta_stays : (f : ℕ) → t (meta_key_of f) ≡ m (meta_key_of f)
@@ -119,19 +128,24 @@ module _ (s m t : Records) (shape : Shape) (file x : ℕ) (old new : List Proper
     string_stays : (b : ℕ) → rec_at t format.strings_file b ≡ rec_at m format.strings_file b
     string_stays b = set.others (key_in format.strings_file b) (λ e. not_string (sym (ap (λ (k : Key). k.file) e)))
 
-    pub changes_properties : kind_at s file x ≢ format.free_kind → Fits (high s) file (rec_at s file x) → AreProperties (property_records s) (property_from s file x) old
-        → AreProperties (property_records m) (first_property new) new → ((k : ℕ) → In k (keys_of new) → k < high s format.names_file) → ChangesProperties s t shape file x old new
+    pub changes_properties : kind_at s file x ≢ format.free_kind → Fits (high s) file (rec_at s file x)
+        → AreProperties (property_records s) (property_from s file x) old
+        → AreProperties (property_records m) (first_property new) new → ((k : ℕ) → In k (keys_of new) → k < high s format.names_file)
+        → ChangesProperties s t shape file x old new
     changes_properties used fits was now known = record {
       element = is;
       used = used;
       was = was;
       now =
-          let right : AreProperties (property_records m) (property_from t file x) new = record { first_is = set.first; linked = now.linked; few = now.few; ids_once = now.ids_once; blocks_once = now.blocks_once; keys_once = now.keys_once } in
+          let right : AreProperties (property_records m) (property_from t file x) new =
+          record { first_is = set.first; linked = now.linked; few = now.few; ids_once = now.ids_once; blocks_once = now.blocks_once; keys_once = now.keys_once } in
           properties_stay (property_records m) (property_records t) (property_from t file x) new (λ p i. property_stays p) (λ b i. string_stays b) right;
       known = known;
       own = λ n at inside apart. set.own n at inside apart ∙ ap (λ r. field n r at) element_stays;
-      fits = fits_more (high m) (high t) file (rec_at t file x) no_fall (set.fits (subst (Fits (high m) file) (sym element_stays) (fits_more (high s) (high m) file (rec_at s file x) (marks_records s m shape (ids_of old) (ids_of new) (blocks_of old) (blocks_of new) changes) fits)));
-      properties = framed shape format.properties_file s m t (ids_of old) (ids_of new) changes.properties (meta_stays format.properties_file) property_stays no_fall;
+      fits = fits_more (high m) (high t) file (rec_at t file x) no_fall
+          (set.fits (subst (Fits (high m) file) (sym element_stays) (fits_more (high s) (high m) file (rec_at s file x) (marks_records s m shape (ids_of old) (ids_of new) (blocks_of old) (blocks_of new) changes) fits)));
+      properties = framed shape format.properties_file s m t (ids_of old) (ids_of new) changes.properties (meta_stays format.properties_file) property_stays
+          no_fall;
       strings = framed shape format.strings_file s m t (blocks_of old) (blocks_of new) changes.strings (meta_stays format.strings_file) string_stays no_fall;
       others = λ key a b c d e. set.others key e ∙ changes.others key a b c d;
     }

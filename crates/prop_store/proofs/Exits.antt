@@ -20,11 +20,14 @@ pub space_exit : {T : Type 0} (r : Result T Fault) (fault : SpaceFault) → IsEr
 space_exit r fault h = let p = err_from_is_err_and r h in subst NotDamaged (sym p.1) (subst (λ f. NotDamaged {T = ℕ} (Err f)) (sym p.2) (space_undamaged fault))
 
 -- and one that is passed on as it is, is none where it was none
-pub same_exit : {T U : Type 0} (r : Result T Fault) (q : Result U Fault) (fault : Fault) → q ≡ Err fault → IsErrAnd r (λ f. f ≡ fault) → NotDamaged q → NotDamaged r
-same_exit r q fault is h sound = let p = err_from_is_err_and r h in subst NotDamaged (sym p.1) (subst (λ f. NotDamaged {T = ℕ} (Err f)) (sym p.2) (subst NotDamaged is sound))
+pub same_exit : {T U : Type 0} (r : Result T Fault) (q : Result U Fault) (fault : Fault) → q ≡ Err fault → IsErrAnd r (λ f. f ≡ fault) → NotDamaged q
+    → NotDamaged r
+same_exit r q fault is h sound = let p = err_from_is_err_and r h in subst NotDamaged (sym p.1)
+    (subst (λ f. NotDamaged {T = ℕ} (Err f)) (sym p.2) (subst NotDamaged is sound))
 
 -- a fault of a space has what both of its causes have
-pub space_has : {T : Type 0} (P : Fault → Type 0) → P faults.Memory → P faults.Disk → (r : Result T Fault) (fault : SpaceFault) → IsErrAnd r (λ f. f ≡ of_space fault) → IfErr r P
+pub space_has : {T : Type 0} (P : Fault → Type 0) → P faults.Memory → P faults.Disk → (r : Result T Fault) (fault : SpaceFault)
+    → IsErrAnd r (λ f. f ≡ of_space fault) → IfErr r P
 space_has {T} P memory disk r fault h = let p = err_from_is_err_and r h in subst (λ (z : Result T Fault). IfErr z P) (sym p.1) (subst P (sym p.2) (by fault))
   where
     by : (fault : SpaceFault) → P (of_space fault)
@@ -42,7 +45,8 @@ when_damaged faults.Disk p = tt
 when_damaged (faults.Damaged damage) p = p
 
 -- nor is it by reads before
-pub unwritten_after : (s m t : State) (fault : Fault) → SameButReads s m → IfSome (damage_of fault) (λ _. SameButReads m t) → IfSome (damage_of fault) (λ _. SameButReads s t)
+pub unwritten_after : (s m t : State) (fault : Fault) → SameButReads s m → IfSome (damage_of fault) (λ _. SameButReads m t)
+    → IfSome (damage_of fault) (λ _. SameButReads s t)
 unwritten_after s m t faults.Memory same later = tt
 unwritten_after s m t faults.Disk same later = tt
 unwritten_after s m t (faults.Damaged damage) same later = same_then s m t same later

@@ -43,24 +43,30 @@ middle front a b back once =
           (in_either x front (b ++ back) i);
       placed = λ x i. in_right x front (b ++ back) (in_left x b back i);
       kept = λ x i out. ⊎_elim (λ (f : In x front). in_left x front (b ++ back) f)
-          (λ r. ⊎_elim (λ (j : In x a). absurd (out j)) (λ (k : In x back). in_right x front (b ++ back) (in_right x b back k)) (in_either x a back r)) (in_either x front (a ++ back) i);
+          (λ r. ⊎_elim (λ (j : In x a). absurd (out j)) (λ (k : In x back). in_right x front (b ++ back) (in_right x b back k)) (in_either x a back r))
+          (in_either x front (a ++ back) i);
     }
 
 module _ (shape : Shape) (file : ℕ) where
   -- after one change another, in part of the list
-  pub composed : (s m t : Records) (old mid a b new : List ℕ) → Replaces mid a b new → ChangesFile s m shape file old mid → ChangesFile m t shape file a b → ChangesFile s t shape file old new
+  pub composed : (s m t : Records) (old mid a b new : List ℕ) → Replaces mid a b new → ChangesFile s m shape file old mid → ChangesFile m t shape file a b
+      → ChangesFile s t shape file old new
   composed s m t old mid a b new r h k = file_then s m t shape file old mid new h (file_like m t shape file a b k mid new r.there r.placed
       (λ x i. ⊎_elim (λ (j : In x a). inl j) (λ (out : ¬ In x a). inr (r.kept x i out)) (in_cases x a))
       (λ x i. ⊎_elim (λ (j : In x b). inl j) (λ (j : In x mid × (¬ In x a)). inr (j.0, h.live x j.0, j.1)) (r.from x i)))
 
   -- a change of other files leaves this one's, where no mark falls
-  pub framed : (s m t : Records) (old new : List ℕ) → ChangesFile s m shape file old new → t (meta_key_of file) ≡ m (meta_key_of file) → ((x : ℕ) → rec_at t file x ≡ rec_at m file x) → ((f : ℕ) → high m f ≤ high t f)
+  pub framed : (s m t : Records) (old new : List ℕ) → ChangesFile s m shape file old new → t (meta_key_of file) ≡ m (meta_key_of file)
+      → ((x : ℕ) → rec_at t file x ≡ rec_at m file x) → ((f : ℕ) → high m f ≤ high t f)
       → ChangesFile s t shape file old new
-  framed s m t old new h meta each more = file_then s m t shape file old new new h (file_same m t shape file [] [] (keeps_file s m shape file old new h) meta each more new h.live)
+  framed s m t old new h meta each more = file_then s m t shape file old new new h
+      (file_same m t shape file [] [] (keeps_file s m shape file old new h) meta each more new h.live)
 
   -- a record in use is written anew
-  pub rewritten : (s t : Records) (id : ℕ) → ChangesFile s s shape file (id ∷ []) (id ∷ []) → t (meta_key_of file) ≡ s (meta_key_of file) → ((x : ℕ) → x ≢ id → rec_at t file x ≡ rec_at s file x)
-      → field 1 (rec_at t file id) format.kind ≢ format.free_kind → Fits (high t) file (rec_at t file id) → ((f : ℕ) → high s f ≤ high t f) → ChangesFile s t shape file (id ∷ []) (id ∷ [])
+  pub rewritten : (s t : Records) (id : ℕ) → ChangesFile s s shape file (id ∷ []) (id ∷ []) → t (meta_key_of file) ≡ s (meta_key_of file)
+      → ((x : ℕ) → x ≢ id → rec_at t file x ≡ rec_at s file x)
+      → field 1 (rec_at t file id) format.kind ≢ format.free_kind → Fits (high t) file (rec_at t file id) → ((f : ℕ) → high s f ≤ high t f)
+      → ChangesFile s t shape file (id ∷ []) (id ∷ [])
   rewritten s t id h meta each used here more =
       let same : meta_in t file ≡ meta_in s file = ap metas.meta_of meta in
       let mark : high t file ≡ high s file = ap (λ (q : Meta). q.high) same in
@@ -83,7 +89,8 @@ module _ (shape : Shape) (file : ℕ) where
         grows = omega arith;
         meta = subst (IsMetaInRange shape file) (sym meta) h.meta;
         fits = λ x lt. ⊎_elim (λ (e : x ≡ id). subst (λ z. Fits (high t) file (rec_at t file z)) (sym e) here)
-            (λ (ne : x ≢ id). subst (Fits (high t) file) (sym (each x ne)) (fits_more (high s) (high t) file (rec_at s file x) more (h.fits x (omega arith)))) (nat_cases x id);
+            (λ (ne : x ≢ id). subst (Fits (high t) file) (sym (each x ne)) (fits_more (high s) (high t) file (rec_at s file x) more (h.fits x (omega arith))))
+            (nat_cases x id);
         free = h.free;
         split = subst (λ l. IsSplit t file l h.free) (λ i x. sym (live x) i) split;
         live = λ x i. live x ∙ h.live x i;

@@ -1,5 +1,6 @@
 -- Changes of one file of properties or of blocks, one after another.
-use Rattle.std.proofs.Common.{◌≡◌, ◌≢◌, ◌⊎◌, ℕ, ◌+◌, ◌<◌, ◌≤◌, ◌^◌, true, false, List, [], ◌∷◌, ◌++◌, length, sym, ap, ◌∙◌, subst, inl, inr, ⊎_elim, arith, refl}
+use Rattle.std.proofs.Common.{◌≡◌, ◌≢◌, ◌⊎◌, ℕ, ◌+◌, ◌<◌, ◌≤◌, ◌^◌, true, false, List, [], ◌∷◌, ◌++◌, length, sym, ap}
+use Rattle.std.proofs.Common.{◌∙◌, subst, inl, inr, ⊎_elim, arith, refl}
 use Rattle.std.proofs.lemmas.Bool.{true≢false}
 use Rattle.rec_bytes.specs.declared.key.Key.{Key}
 use Rattle.rec_bytes.specs.declared.meta.Meta.{Meta}
@@ -52,7 +53,8 @@ AreAside s file old xs = (x : ℕ) → In x xs → (is_live s file x ≡ true) �
 module _ (s t : Records) (shape : Shape) (file : ℕ) (old new : List ℕ) (h : ChangesFile s t shape file old new) where
   -- Lists that have more in common say the same of the change, and lists of the same members do.
   pub file_like : (xs ys : List ℕ) → ((x : ℕ) → In x old → In x xs) → ((x : ℕ) → In x new → In x ys)
-      → ((x : ℕ) → In x xs → In x old ⊎ In x ys) → ((x : ℕ) → In x ys → In x new ⊎ (In x xs × (is_live s file x ≡ true) × (¬ In x old))) → ChangesFile s t shape file xs ys
+      → ((x : ℕ) → In x xs → In x old ⊎ In x ys) → ((x : ℕ) → In x ys → In x new ⊎ (In x xs × (is_live s file x ≡ true) × (¬ In x old)))
+      → ChangesFile s t shape file xs ys
   file_like xs ys old_in new_in back more = record {
     grows = h.grows;
     meta = h.meta;
@@ -67,14 +69,17 @@ module _ (s t : Records) (shape : Shape) (file : ℕ) (old new : List ℕ) (h : 
   }
 
   -- What stays in use may be named before and after what changed.
-  pub file_beside : (before after : List ℕ) → AreAside s file old before → AreAside s file old after → ChangesFile s t shape file (before ++ (old ++ after)) (before ++ (new ++ after))
+  pub file_beside : (before after : List ℕ) → AreAside s file old before → AreAside s file old after
+      → ChangesFile s t shape file (before ++ (old ++ after)) (before ++ (new ++ after))
   file_beside before after first last = file_like (before ++ (old ++ after)) (before ++ (new ++ after))
       (λ x i. in_right x before (old ++ after) (in_left x old after i))
       (λ x i. in_right x before (new ++ after) (in_left x new after i))
       (λ x i. ⊎_elim (λ j. inr (in_left x before (new ++ after) j))
-      (λ j. ⊎_elim (λ k. inl k) (λ k. inr (in_right x before (new ++ after) (in_right x new after k))) (in_parts x old after j)) (in_parts x before (old ++ after) i))
+      (λ j. ⊎_elim (λ k. inl k) (λ k. inr (in_right x before (new ++ after) (in_right x new after k))) (in_parts x old after j))
+      (in_parts x before (old ++ after) i))
       (λ x i. ⊎_elim (λ j. inr (in_left x before (old ++ after) j, (first x j).0, (first x j).1))
-      (λ j. ⊎_elim (λ k. inl k) (λ k. inr (in_right x before (old ++ after) (in_right x old after k), (last x k).0, (last x k).1)) (in_parts x new after j)) (in_parts x before (new ++ after) i))
+      (λ j. ⊎_elim (λ k. inl k) (λ k. inr (in_right x before (old ++ after) (in_right x old after k), (last x k).0, (last x k).1)) (in_parts x new after j))
+      (in_parts x before (new ++ after) i))
 
   -- A file keeps its rules after a change, whichever of its records in use are named.
   pub file_now : (xs : List ℕ) → ((x : ℕ) → In x xs → is_live t file x ≡ true) → ChangesFile t t shape file xs xs
@@ -94,7 +99,8 @@ module _ (s t : Records) (shape : Shape) (file : ℕ) (old new : List ℕ) (h : 
   keeps_file = file_now [] (λ x i. elim i [ ])
 
 -- One change after another.
-pub file_then : (s t u : Records) (shape : Shape) (file : ℕ) (old mid new : List ℕ) → ChangesFile s t shape file old mid → ChangesFile t u shape file mid new → ChangesFile s u shape file old new
+pub file_then : (s t u : Records) (shape : Shape) (file : ℕ) (old mid new : List ℕ) → ChangesFile s t shape file old mid → ChangesFile t u shape file mid new
+    → ChangesFile s u shape file old new
 file_then s t u shape file old mid new h g = record {
   grows = let a = h.grows in let b = g.grows in omega arith;
   meta = g.meta;
@@ -118,13 +124,16 @@ file_then s t u shape file old mid new h g = record {
     aside x l out i = ⊎_elim (λ j. out j) (λ dead. true≢false (sym l ∙ dead)) (h.from x i)
 
 -- Besides what came first, more comes.
-pub file_more : (s t u : Records) (shape : Shape) (file : ℕ) (old mid more : List ℕ) → ChangesFile s t shape file old mid → ChangesFile t u shape file [] more → ChangesFile s u shape file old (more ++ mid)
-file_more s t u shape file old mid more h g = file_then s t u shape file old mid (more ++ mid) h (file_beside t u shape file [] more g [] mid (λ x i. elim i [ ]) (λ x i. (h.live x i, λ j. j)))
+pub file_more : (s t u : Records) (shape : Shape) (file : ℕ) (old mid more : List ℕ) → ChangesFile s t shape file old mid → ChangesFile t u shape file [] more
+    → ChangesFile s u shape file old (more ++ mid)
+file_more s t u shape file old mid more h g = file_then s t u shape file old mid (more ++ mid) h
+    (file_beside t u shape file [] more g [] mid (λ x i. elim i [ ]) (λ x i. (h.live x i, λ j. j)))
 
 -- What came may be given back in part, and the rest stays.
 pub file_less : (s t u : Records) (shape : Shape) (file : ℕ) (old before less after : List ℕ) → AreAside t file less before → AreAside t file less after
     → ChangesFile s t shape file old (before ++ (less ++ after)) → ChangesFile t u shape file less [] → ChangesFile s u shape file old (before ++ after)
-file_less s t u shape file old before less after first last h g = file_then s t u shape file old (before ++ (less ++ after)) (before ++ after) h (file_beside t u shape file less [] g before after first last)
+file_less s t u shape file old before less after first last h g = file_then s t u shape file old (before ++ (less ++ after)) (before ++ after) h
+    (file_beside t u shape file less [] g before after first last)
 
 -- ---- records beside
 
@@ -140,7 +149,8 @@ marks_beside file s t is beside grows f = ⊎_elim (λ (e : f ≡ file). subst (
     (λ (ne : f ≢ file). let e : high t f ≡ high s f = ap (λ r. (metas.meta_of r).high) (beside (meta_key_of f) (λ (q : format.meta_file ≡ file). is_meta_file-not_meta file is (sym q)) (λ q. ne (ap (λ (k : Key). k.id) q))) in omega arith) (nat_cases f file)
 
 -- A file whose records are the same keeps its rules where no mark of another falls.
-pub file_same : (s t : Records) (shape : Shape) (file : ℕ) (old new : List ℕ) → ChangesFile s s shape file old new → t (meta_key_of file) ≡ s (meta_key_of file) → ((x : ℕ) → rec_at t file x ≡ rec_at s file x) → ((f : ℕ) → high s f ≤ high t f)
+pub file_same : (s t : Records) (shape : Shape) (file : ℕ) (old new : List ℕ) → ChangesFile s s shape file old new → t (meta_key_of file) ≡ s (meta_key_of file)
+    → ((x : ℕ) → rec_at t file x ≡ rec_at s file x) → ((f : ℕ) → high s f ≤ high t f)
     → (xs : List ℕ) → ((x : ℕ) → In x xs → is_live s file x ≡ true) → ChangesFile s t shape file xs xs
 file_same s t shape file old new h meta each marks xs live =
     let same_meta : meta_in t file ≡ meta_in s file = ap metas.meta_of meta in
@@ -190,7 +200,8 @@ room_with shape file room is = room_is (shape_with shape room) file is
 within_room : (shape other : Shape) (file : ℕ) (r : Rec) → IsMetaInRange shape file r → (metas.meta_of r).high ≤ room_of other file → IsMetaInRange other file r
 within_room shape other file r h le = record { high = le; free = h.free; first = h.first; rest = h.rest }
 
-module _ (s t : Records) (shape : Shape) (file id : ℕ) (old new : List ℕ) (is : IsPropertyFile file) (h : ChangesFile s s shape file old new) (live : is_live s file id ≡ true) (given : HasGiven s t file id h.free) where
+module _ (s t : Records) (shape : Shape) (file id : ℕ) (old new : List ℕ) (is : IsPropertyFile file) (h : ChangesFile s s shape file old new)
+    (live : is_live s file id ≡ true) (given : HasGiven s t file id h.free) where
   used : kind_at s file id ≢ format.free_kind
   used e = true≢false (sym live ∙ live_false (kind_at s file id) e)
 
@@ -215,7 +226,8 @@ module _ (s t : Records) (shape : Shape) (file id : ℕ) (old new : List ℕ) (i
   pub file_given : ChangesFile s t shape file (id ∷ []) []
   file_given = record {
     grows = let m = gone.mark in omega arith;
-    meta = let room = gone.meta.high in let m = gone.mark in let b = h.meta.high in within_room narrow shape file (t (meta_key_of file)) gone.meta (omega arith);
+    meta = let room = gone.meta.high in let m = gone.mark in let b = h.meta.high in
+        within_room narrow shape file (t (meta_key_of file)) gone.meta (omega arith);
     fits = λ x lt. ⊎_elim (λ (e : x ≡ id). subst (λ z. Fits (high t) file (rec_at t file z)) (sym e) gone.fits)
         (λ (ne : x ≢ id). subst (Fits (high t) file) (sym (same x ne)) (fits_more (high s) (high t) file (rec_at s file x) (marks_le s t file id gone.change) (h.fits x (let m = gone.mark in omega arith)))) (nat_cases x id);
     free = gone.free;
@@ -233,13 +245,16 @@ module _ (s t : Records) (shape : Shape) (file id : ℕ) (old new : List ℕ) (i
   pub live_given : (meta_in t file).live + 1 ≡ (meta_in s file).live
   live_given =
       let more : length (ids (is_live s file) (high s file)) ≡ length (ids (is_live t file) (high s file)) + 1
-      = ids_with (is_live t file) (is_live s file) (high s file) (high s file) id dead live (λ x ne. sym (live_other s t file id gone.change x ne)) (kind_below (high s file) (rec_at s file id) id used) (inl refl) in
+      = ids_with (is_live t file) (is_live s file) (high s file) (high s file) id dead live (λ x ne. sym (live_other s t file id gone.change x ne))
+      (kind_below (high s file) (rec_at s file id) id used) (inl refl) in
       let e = h.split.exact in
       let l = given.live in
       omega arith
 
-module _ (s m t : Records) (shape : Shape) (file id : ℕ) (rec : Rec) (old new : List ℕ) (is : IsPropertyFile file) (h : ChangesFile s s shape file old new) (taken : HasTaken s m file id h.free) (small : id < room_of shape file)
-    (here : rec_at t file id ≡ rec) (others : (key : Key) → key ≢ key_in file id → t key ≡ m key) (used : field 1 rec format.kind ≢ format.free_kind) (right : Fits (high s) file rec) where
+module _ (s m t : Records) (shape : Shape) (file id : ℕ) (rec : Rec) (old new : List ℕ) (is : IsPropertyFile file) (h : ChangesFile s s shape file old new)
+    (taken : HasTaken s m file id h.free) (small : id < room_of shape file)
+    (here : rec_at t file id ≡ rec) (others : (key : Key) → key ≢ key_in file id → t key ≡ m key) (used : field 1 rec format.kind ≢ format.free_kind)
+    (right : Fits (high s) file rec) where
   meta_stays : t (meta_key_of file) ≡ m (meta_key_of file)
   meta_stays = others (meta_key_of file) (λ e. not_meta_key file id file (meta_of_file file is) (sym e))
 
@@ -269,7 +284,8 @@ module _ (s m t : Records) (shape : Shape) (file id : ℕ) (rec : Rec) (old new 
       let room : room_of roomy file ≡ high t file = room_with shape file (high t file) is in
       let fits : room_of roomy file < 2 ^ 32 = subst (λ n. n < 2 ^ 32) (sym room) (high_fits t file) in
       let within : (meta_in s file).high ≤ room_of roomy file = let b = bounds.1 in omega arith in
-      is_made s m t roomy file id h.free rec (meta_of_file file is) h.split taken here others used (subst (λ n. id < n) (sym room) bounds.0) fits (within_room shape roomy file (s (meta_key_of file)) h.meta within)
+      is_made s m t roomy file id h.free rec (meta_of_file file is) h.split taken here others used (subst (λ n. id < n) (sym room) bounds.0) fits
+      (within_room shape roomy file (s (meta_key_of file)) h.meta within)
 
   live_now : is_live t file id ≡ true
   live_now = live_true (kind_at t file id) (λ e. used (ap (λ r. field 1 r format.kind) (sym here) ∙ sym (kind_low (high t file) (rec_at t file id) id made.below) ∙ e))
@@ -278,7 +294,8 @@ module _ (s m t : Records) (shape : Shape) (file id : ℕ) (rec : Rec) (old new 
   pub file_taken : ChangesFile s t shape file [] (id ∷ [])
   file_taken = record {
     grows = made.change.more;
-    meta = within_room roomy shape file (t (meta_key_of file)) made.meta (⊎_elim (λ (e : high t file ≡ high s file). let b = h.meta.high in omega arith) (λ (k : (id ≡ high s file) × (high t file ≡ high s file + 1)). let a = k.0 in let b = k.1 in omega arith) made.grows);
+    meta = within_room roomy shape file (t (meta_key_of file)) made.meta
+        (⊎_elim (λ (e : high t file ≡ high s file). let b = h.meta.high in omega arith) (λ (k : (id ≡ high s file) × (high t file ≡ high s file + 1)). let a = k.0 in let b = k.1 in omega arith) made.grows);
     fits = λ x lt. ⊎_elim (λ (e : x ≡ id). subst (λ z. Fits (high t) file (rec_at t file z)) (sym e) (subst (Fits (high t) file) (sym here) (fits_more (high s) (high t) file rec (marks_le s t file id made.change) right)))
         (λ (ne : x ≢ id). subst (Fits (high t) file) (sym (same x ne)) (fits_more (high s) (high t) file (rec_at s file x) (marks_le s t file id made.change) (h.fits x (made.change.covers x lt ne)))) (nat_cases x id);
     free = made.free;

@@ -1,6 +1,7 @@
 -- A walk that finds an element's properties and the blocks of their values.
 use Rattle.std.specs.Prelude.{IfSome}
-use Rattle.std.proofs.Common.{◌≡◌, ◌⊎◌, ◌∙◌, ◌++◌, ℕ, List, [], ◌∷◌, Option, None, Some, length, ap, sym, subst, inl, inr, ⊎_elim, refl, append_assoc, append-nil}
+use Rattle.std.proofs.Common.{◌≡◌, ◌⊎◌, ◌∙◌, ◌++◌, ℕ, List, [], ◌∷◌, Option, None, Some, length, ap, sym, subst, inl}
+use Rattle.std.proofs.Common.{inr, ⊎_elim, refl, append_assoc, append-nil}
 use Rattle.std.proofs.lemmas.List.{map-append}
 use Rattle.std.proofs.lemmas.Grind.{flat_map-append}
 use Rattle.rec_bytes.specs.Format as format
@@ -39,7 +40,8 @@ pub record HeldTwice (records : Records) (ids : List ℕ) (b : ℕ) : Type 0 whe
   pub earlier : Owned records before b
 
 -- one property more, with its blocks
-module _ (records : Records) (ids pushed blocks all more : List ℕ) (at : ℕ) (pushed_is : pushed ≡ ids ++ at ∷ []) (all_is : all ≡ blocks ++ more) (owned : (b : ℕ) → In b blocks → Owned records ids b) (has : HasBlocks records at more) where
+module _ (records : Records) (ids pushed blocks all more : List ℕ) (at : ℕ) (pushed_is : pushed ≡ ids ++ at ∷ []) (all_is : all ≡ blocks ++ more)
+    (owned : (b : ℕ) → In b blocks → Owned records ids b) (has : HasBlocks records at more) where
   pub owned_more : (b : ℕ) → In b all → Owned records pushed b
   owned_more b i = subst (λ z. Owned records z b) (sym pushed_is) (⊎_elim
       (λ (j : In b blocks). let o = owned b j in record { property = o.property; among = in_left o.property ids (at ∷ []) o.among; has = o.has })
@@ -50,7 +52,8 @@ module _ (records : Records) (ids pushed blocks all more : List ℕ) (at : ℕ) 
       last [] = inl refl
       last (x ∷ xs) = inr (last xs)
 
-  pub twice_more : (known shared : Option ℕ) → IfSome known (HeldTwice records ids) → IfSome shared (λ b. (known ≡ Some b) ⊎ (In b blocks × In b more)) → IfSome shared (HeldTwice records pushed)
+  pub twice_more : (known shared : Option ℕ) → IfSome known (HeldTwice records ids) → IfSome shared (λ b. (known ≡ Some b) ⊎ (In b blocks × In b more))
+      → IfSome shared (HeldTwice records pushed)
   twice_more known None before found = tt
   twice_more known (Some b) before (inl e) = let t : HeldTwice records ids b = subst (λ z. IfSome z (HeldTwice records ids)) e before in record {
     before = t.before;
@@ -63,7 +66,8 @@ module _ (records : Records) (ids pushed blocks all more : List ℕ) (at : ℕ) 
   twice_more known (Some b) before (inr i) = record { before = ids; property = at; after = []; all = pushed_is; has = has b i.1; earlier = owned b i.0 }
 
 -- a walk along these came to this one
-pub reached : (records : Records) (owner : Owner) (from : Key) (first at : ℕ) (ids : List ℕ) → first ≡ first_of records owner → ArePast records first ids at → from ≡ holder_of format.properties_file owner.key ids → Reached records owner from at (length ids)
+pub reached : (records : Records) (owner : Owner) (from : Key) (first at : ℕ) (ids : List ℕ) → first ≡ first_of records owner → ArePast records first ids at
+    → from ≡ holder_of format.properties_file owner.key ids → Reached records owner from at (length ids)
 reached records owner from first at ids first_is past from_is = record { passed = ids; past = subst (λ z. ArePast records z ids at) first_is past; from_is = from_is; count_is = refl }
 
 -- where the properties end, they are different ones
@@ -71,7 +75,8 @@ pub past_walk : (records : Records) (from : ℕ) (ids : List ℕ) (at : ℕ) →
 past_walk records from [] at past end = past ∙ end
 past_walk records from (p ∷ ps) at past end = (past.0, past.1.some, past_walk records (next_property records p) ps at past.2 end)
 
-pub twice_breaks : (records : Records) (shape : Shape) (from : ℕ) (ids : List ℕ) (at b : ℕ) → ArePast records from ids at → at ≡ format.nil → HeldTwice records ids b → Breaks records shape (damage format.strings_file b 5)
+pub twice_breaks : (records : Records) (shape : Shape) (from : ℕ) (ids : List ℕ) (at b : ℕ) → ArePast records from ids at → at ≡ format.nil
+    → HeldTwice records ids b → Breaks records shape (damage format.strings_file b 5)
 twice_breaks records shape from ids at b past end t =
     let once = subst AreOnce t.all (once_walk (next_property records) from ids (past_walk records from ids at past end)) in
     let apart = (once_split t.before (t.property ∷ t.after) once).apart t.earlier.property t.earlier.among in
@@ -85,7 +90,8 @@ pub record Told (ids blocks : List ℕ) (shared : Option ℕ) (passed : List Pro
   pub blocks_are : blocks ≡ blocks_of passed
   pub none : shared ≡ None
 
-pub told_begins : (records : Records) (owner : Owner) (first : ℕ) (es : List Property) (ids blocks : List ℕ) → ids ≡ [] → blocks ≡ [] → first ≡ first_of records owner → HasProperties records owner es
+pub told_begins : (records : Records) (owner : Owner) (first : ℕ) (es : List Property) (ids blocks : List ℕ) → ids ≡ [] → blocks ≡ []
+    → first ≡ first_of records owner → HasProperties records owner es
     → Walked (property_records records) es first (length ids) (Told ids blocks None)
 told_begins records owner first es ids blocks no_ids no_blocks first_is has =
     subst (λ n. Walked (property_records records) es first n (Told ids blocks None)) (sym (ap (λ (z : List ℕ). length z) no_ids))
@@ -94,11 +100,15 @@ told_begins records owner first es ids blocks no_ids no_blocks first_is has =
 blocks_append : (xs ys : List Property) → blocks_of (xs ++ ys) ≡ blocks_of xs ++ blocks_of ys
 blocks_append xs ys = flat_map-append (λ (e : Property). e.blocks) xs ys
 
-pub told_more : (es passed : List Property) (e : Property) (later : List Property) → es ≡ passed ++ e ∷ later → AreOnce (blocks_of es) → (ids blocks pushed all more : List ℕ) (at : ℕ) (known shared : Option ℕ)
-    → pushed ≡ ids ++ at ∷ [] → all ≡ blocks ++ more → at ≡ e.id → more ≡ e.blocks → IfSome shared (λ b. (known ≡ Some b) ⊎ (In b blocks × In b more)) → Told ids blocks known passed → Told pushed all shared (passed ++ e ∷ [])
+pub told_more : (es passed : List Property) (e : Property) (later : List Property) → es ≡ passed ++ e ∷ later → AreOnce (blocks_of es)
+    → (ids blocks pushed all more : List ℕ) (at : ℕ) (known shared : Option ℕ)
+    → pushed ≡ ids ++ at ∷ [] → all ≡ blocks ++ more → at ≡ e.id → more ≡ e.blocks → IfSome shared (λ b. (known ≡ Some b) ⊎ (In b blocks × In b more))
+    → Told ids blocks known passed → Told pushed all shared (passed ++ e ∷ [])
 told_more es passed e later es_is once ids blocks pushed all more at known shared pushed_is all_is at_is more_is found told = record {
-  ids_are = pushed_is ∙ ap (λ z. z ++ at ∷ []) told.ids_are ∙ ap (λ z. ids_of passed ++ z ∷ []) at_is ∙ sym (map-append (λ (z : Property). z.id) passed (e ∷ []));
-  blocks_are = all_is ∙ ap (λ z. z ++ more) told.blocks_are ∙ ap (λ z. blocks_of passed ++ z) (more_is ∙ sym (append-nil e.blocks)) ∙ sym (blocks_append passed (e ∷ []));
+  ids_are = pushed_is ∙ ap (λ z. z ++ at ∷ []) told.ids_are ∙ ap (λ z. ids_of passed ++ z ∷ []) at_is
+      ∙ sym (map-append (λ (z : Property). z.id) passed (e ∷ []));
+  blocks_are = all_is ∙ ap (λ z. z ++ more) told.blocks_are ∙ ap (λ z. blocks_of passed ++ z) (more_is ∙ sym (append-nil e.blocks))
+      ∙ sym (blocks_append passed (e ∷ []));
   none = none shared found;
 }
   where

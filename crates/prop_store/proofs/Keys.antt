@@ -14,14 +14,17 @@ use Rattle.prop_store.specs.declared.link.Link.{Link}
 use Rattle.prop_store.specs.declared.owner.Owner.{Owner}
 use Rattle.prop_store.proofs.WalkSteps.{WalkHere}
 
-pub found_first : (before : List Property) (e : Property) (after : List Property) (key : ℕ) → (In key (keys_of before) → ⊥) → e.key ≡ key → property_of (before ++ e ∷ after) key ≡ Some e
+pub found_first : (before : List Property) (e : Property) (after : List Property) (key : ℕ) → (In key (keys_of before) → ⊥) → e.key ≡ key
+    → property_of (before ++ e ∷ after) key ≡ Some e
 found_first [] e after key out is = ap (λ b. cond b (Some e) (property_of after key)) (eq_true e.key key is)
 found_first (p ∷ before) e after key out is =
-    ap (λ b. cond b (Some p) (property_of (before ++ e ∷ after) key)) (eq_false p.key key (λ q. out (inl (sym q)))) ∙ found_first before e after key (λ i. out (inr i)) is
+    ap (λ b. cond b (Some p) (property_of (before ++ e ∷ after) key)) (eq_false p.key key (λ q. out (inl (sym q))))
+    ∙ found_first before e after key (λ i. out (inr i)) is
 
 pub absent_key : (es : List Property) (key : ℕ) → (In key (keys_of es) → ⊥) → property_of es key ≡ None
 absent_key [] key out = refl
-absent_key (e ∷ es) key out = ap (λ b. cond b (Some e) (property_of es key)) (eq_false e.key key (λ q. out (inl (sym q)))) ∙ absent_key es key (λ i. out (inr i))
+absent_key (e ∷ es) key out = ap (λ b. cond b (Some e) (property_of es key)) (eq_false e.key key (λ q. out (inl (sym q))))
+    ∙ absent_key es key (λ i. out (inr i))
 
 pub no_key : (es : List Property) (key : ℕ) → property_of es key ≡ None → In key (keys_of es) → ⊥
 no_key [] key none i = i

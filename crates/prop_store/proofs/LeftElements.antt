@@ -19,29 +19,34 @@ among_ids file (x ∷ ids) rest q ne (inl e) = absurd (ne (ap (λ (k : Key). k.f
 among_ids file (x ∷ ids) rest q ne (inr i) = among_ids file ids rest q ne i
 
 -- a record that isn't one of these
-beyond_keys : (ids blocks : List ℕ) (q : Key) → q.file ≢ format.properties_file → q.file ≢ format.strings_file → q ≢ meta_key_of format.properties_file → q ≢ meta_key_of format.strings_file → ¬ IsAmong q (property_keys ids blocks)
+beyond_keys : (ids blocks : List ℕ) (q : Key) → q.file ≢ format.properties_file → q.file ≢ format.strings_file → q ≢ meta_key_of format.properties_file
+    → q ≢ meta_key_of format.strings_file → ¬ IsAmong q (property_keys ids blocks)
 beyond_keys ids blocks q a b c d i =
     ⊎_elim c (λ j. ⊎_elim d (λ (f : ⊥). f) j) (among_ids format.strings_file blocks _ q b (among_ids format.properties_file ids _ q a i))
 
 -- properties that are given back
-module _ (tells : Type 0) (properties blocks : ℕ) (s t : State) (owner : Owner) (is : IsOwner owner) (does : tells) (touches : TouchesProperties tells [] properties blocks s t) where
+module _ (tells : Type 0) (properties blocks : ℕ) (s t : State) (owner : Owner) (is : IsOwner owner) (does : tells)
+    (touches : TouchesProperties tells [] properties blocks s t) where
   by : (file : ℕ) → file ≢ format.nodes_file → file ≢ format.relationships_file → owner.key.file ≢ file
   by file no_node no_rel e = ⊎_elim (λ k. no_node (sym e ∙ k)) (λ k. no_rel (sym e ∙ k)) is.file
 
-  stays : (q : Key) → q.file ≢ format.properties_file → q.file ≢ format.strings_file → q ≢ meta_key_of format.properties_file → q ≢ meta_key_of format.strings_file → t.records q ≡ s.records q
+  stays : (q : Key) → q.file ≢ format.properties_file → q.file ≢ format.strings_file → q ≢ meta_key_of format.properties_file
+      → q ≢ meta_key_of format.strings_file → t.records q ≡ s.records q
   stays q a b c d = ⊎_elim (λ e. e) (λ (i : IsAmong q (property_keys touches.ids touches.block_ids)). absurd (beyond_keys touches.ids touches.block_ids q a b c d i)) ((touches.only.stays does).each q)
 
   -- the element's own record is as it was, and so is the mark of its file
   pub owner_stays : t.records owner.key ≡ s.records owner.key
   owner_stays = stays owner.key (by format.properties_file (omega arith) (omega arith)) (by format.strings_file (omega arith) (omega arith))
-      (λ e. by format.meta_file (omega arith) (omega arith) (ap (λ (k : Key). k.file) e)) (λ e. by format.meta_file (omega arith) (omega arith) (ap (λ (k : Key). k.file) e))
+      (λ e. by format.meta_file (omega arith) (omega arith) (ap (λ (k : Key). k.file) e))
+      (λ e. by format.meta_file (omega arith) (omega arith) (ap (λ (k : Key). k.file) e))
 
   pub owner_used : IsInUse s.records owner → IsInUse t.records owner
   owner_used used e = used (sym (ap (λ m. kind_in m (t.records owner.key) owner.key.id) mark ∙ ap (λ r. kind_in (high s.records owner.key.file) r owner.key.id) owner_stays) ∙ e)
     where
       mark : high t.records owner.key.file ≡ high s.records owner.key.file
       mark = ap (λ r. (metas.meta_of r).high) (stays (meta_key_of owner.key.file) (λ e. absurd (omega arith)) (λ e. absurd (omega arith))
-          (λ e. by format.properties_file (omega arith) (omega arith) (ap (λ (k : Key). k.id) e)) (λ e. by format.strings_file (omega arith) (omega arith) (ap (λ (k : Key). k.id) e)))
+          (λ e. by format.properties_file (omega arith) (omega arith) (ap (λ (k : Key). k.id) e))
+          (λ e. by format.strings_file (omega arith) (omega arith) (ap (λ (k : Key). k.id) e)))
 
   pub left_dropped : LeavesElement s t owner
   left_dropped = record {
@@ -69,5 +74,7 @@ left_then s t u owner a b = record {
 }
 
 -- both, after reads
-pub left_after : (tells : Type 0) (properties blocks : ℕ) (s z t : State) (owner : Owner) → IsOwner owner → tells → SameButReads s z → TouchesProperties tells [] properties blocks z t → LeavesElement s t owner
-left_after tells properties blocks s z t owner is does same touches = left_then s z t owner (left_read s z owner same) (left_dropped tells properties blocks z t owner is does touches)
+pub left_after : (tells : Type 0) (properties blocks : ℕ) (s z t : State) (owner : Owner) → IsOwner owner → tells → SameButReads s z
+    → TouchesProperties tells [] properties blocks z t → LeavesElement s t owner
+left_after tells properties blocks s z t owner is does same touches = left_then s z t owner (left_read s z owner same)
+    (left_dropped tells properties blocks z t owner is does touches)

@@ -1,5 +1,6 @@
 -- Members of lists of identifiers, and lists in which none comes twice.
-use Rattle.std.proofs.Common.{◌≡◌, ◌<◌, ◌+◌, ◌++◌, ◌⊎◌, ⊎_elim, inl, inr, ℕ, zero, suc, List, [], ◌∷◌, get_or, length, drop, ap, ◌∙◌, append_assoc, arith, subst, refl}
+use Rattle.std.proofs.Common.{◌≡◌, ◌<◌, ◌+◌, ◌++◌, ◌⊎◌, ⊎_elim, inl, inr, ℕ, zero, suc, List, [], ◌∷◌, get_or, length}
+use Rattle.std.proofs.Common.{drop, ap, ◌∙◌, append_assoc, arith, subst, refl}
 use Rattle.store_rules.specs.Chains.{In}
 use Rattle.store_rules.specs.Properties.{AreOnce}
 use Rattle.prop_store.specs.BlockList.{AreBelow}
@@ -36,7 +37,8 @@ drop_step xs i j e lt = let same : suc i ≡ j = omega (arith, e) in subst (λ k
 -- ---- all below a mark
 
 pub below_more : (mark : ℕ) (xs ys : List ℕ) (at : ℕ) → AreBelow mark xs → at < mark → ys ≡ xs ++ at ∷ [] → AreBelow mark ys
-below_more mark xs ys at h small e x i = ⊎_elim (λ j. h x j) (λ j. ⊎_elim (λ (q : x ≡ at). omega (arith, q, small)) (λ k. elim k [ ]) j) (in_either x xs (at ∷ []) (subst (λ z. In x z) e i))
+below_more mark xs ys at h small e x i = ⊎_elim (λ j. h x j) (λ j. ⊎_elim (λ (q : x ≡ at). omega (arith, q, small)) (λ k. elim k [ ]) j)
+    (in_either x xs (at ∷ []) (subst (λ z. In x z) e i))
 
 -- ---- none twice
 

@@ -27,8 +27,10 @@ no_blocks string_file (b ∷ bs) h = absurd (let some = h.0.some in omega arith)
 inline_content : (r : Rec) (text : List ℕ) → content_of r ≡ Some (Inline text) → text_in r format.property_text (length text) ≡ text
 inline_content r text is =
     let size = field 2 r format.property_length in
-    let k = by (nat_eq (field 1 r format.kind) format.int) (nat_eq (field 1 r format.kind) format.bool && nat_le (field 1 r format.property_truth) 1) (nat_eq (field 1 r format.kind) format.text_inline && nat_le size 40)
-    (nat_eq (field 1 r format.kind) format.text_in_blocks && (nat_lt 40 size && nat_le size 1024)) (cast_signed w64 (field 8 r format.property_number)) (nat_eq (field 1 r format.property_truth) 1)
+    let k = by (nat_eq (field 1 r format.kind) format.int) (nat_eq (field 1 r format.kind) format.bool && nat_le (field 1 r format.property_truth) 1)
+    (nat_eq (field 1 r format.kind) format.text_inline && nat_le size 40)
+    (nat_eq (field 1 r format.kind) format.text_in_blocks && (nat_lt 40 size && nat_le size 1024)) (cast_signed w64 (field 8 r format.property_number))
+    (nat_eq (field 1 r format.property_truth) 1)
     (text_in r format.property_text size) size (field 4 r format.property_first_block) is in
     let few : size ≤ 40 = fits (field 1 r format.kind) size k.0 in
     let long : length text ≡ size = ap (λ (t : List ℕ). length t) (sym k.1) ∙ length-text_in r format.property_text size (omega arith) in
@@ -37,7 +39,8 @@ inline_content r text is =
     fits : (kind size : ℕ) → (nat_eq kind format.text_inline && nat_le size 40) ≡ true → size ≤ 40
     fits kind size e = grind (arith, nat_tests)
 
-    by : (a b c d : Bool) (number : _) (truth : Bool) (t : List ℕ) (size first : ℕ) → cond a (Some (Number number)) (cond b (Some (Truth truth)) (cond c (Some (Inline t)) (cond d (Some (Long size first)) None))) ≡ Some (Inline text)
+    by : (a b c d : Bool) (number : _) (truth : Bool) (t : List ℕ) (size first : ℕ)
+        → cond a (Some (Number number)) (cond b (Some (Truth truth)) (cond c (Some (Inline t)) (cond d (Some (Long size first)) None))) ≡ Some (Inline text)
         → (c ≡ true) × (t ≡ text)
     by true b c d number truth t size first e = absurd cc
     by false true c d number truth t size first e = absurd cc
@@ -53,7 +56,8 @@ Means string_file r value blocks (forms.Inline size) = (value ≡ values.Text (t
 Means string_file r value blocks (forms.Long size first) = (text : List ℕ) × (value ≡ values.Text text) × HasText string_file first size text blocks
 
 module _ (string_file : ℕ → Rec) (r : Rec) where
-  means_for : (value : Value) (blocks : List ℕ) → HasValue string_file r value blocks → Means string_file r value blocks (form_of (content_for value (head_of blocks)))
+  means_for : (value : Value) (blocks : List ℕ) → HasValue string_file r value blocks
+      → Means string_file r value blocks (form_of (content_for value (head_of blocks)))
   means_for (values.Int n) blocks has = (refl, no_blocks string_file blocks has.are)
   means_for (values.Bool b) blocks has = (refl, no_blocks string_file blocks has.are)
   means_for (values.Text text) blocks has = by_length text
@@ -69,7 +73,8 @@ module _ (string_file : ℕ → Rec) (r : Rec) where
       subst (λ b. Means string_file r (values.Text text) blocks (form_of (cond b (Inline text) (Long (length text) (head_of blocks))))) (sym e)
       (text, refl, record { are = all; size_is = refl; first_is = refl }))
 
-  pub means : (value : Value) (blocks : List ℕ) (form : Form) → HasValue string_file r value blocks → form_in r ≡ Some form → Means string_file r value blocks form
+  pub means : (value : Value) (blocks : List ℕ) (form : Form) → HasValue string_file r value blocks → form_in r ≡ Some form
+      → Means string_file r value blocks form
   means value blocks form has is =
       let same : Some (form_of (content_for value (head_of blocks))) ≡ Some form = sym (ap (option_map form_of) has.content) ∙ sym (form_in-content r) ∙ is in
       subst (Means string_file r value blocks) (inner same) (means_for value blocks has)
@@ -84,7 +89,8 @@ no_form r has none =
     cc
 
 -- only a long text has blocks
-pub none_if_short : (string_file : ℕ → Rec) (r : Rec) (value : Value) (blocks : List ℕ) (form : Form) → HasValue string_file r value blocks → form_in r ≡ Some form → ((size first : ℕ) → form ≡ forms.Long size first → ⊥) → blocks ≡ []
+pub none_if_short : (string_file : ℕ → Rec) (r : Rec) (value : Value) (blocks : List ℕ) (form : Form) → HasValue string_file r value blocks
+    → form_in r ≡ Some form → ((size first : ℕ) → form ≡ forms.Long size first → ⊥) → blocks ≡ []
 none_if_short string_file r value blocks form has is short = by form (means string_file r value blocks form has is) short
   where
     by : (form : Form) → Means string_file r value blocks form → ((size first : ℕ) → form ≡ forms.Long size first → ⊥) → blocks ≡ []

@@ -57,7 +57,8 @@ lists_broken s (Full file live) why = tt
 lists_broken s Memory why = tt
 lists_broken s Disk why = tt
 lists_broken s (PropsFull count) why = tt
-lists_broken s (Damaged d) why = ⊎_elim (list_breaks s.records s.shape format.properties_file refl d) (list_breaks s.records s.shape format.strings_file refl d) why
+lists_broken s (Damaged d) why = ⊎_elim (list_breaks s.records s.shape format.properties_file refl d) (list_breaks s.records s.shape format.strings_file refl d)
+    why
 
 -- the change began with reads
 pub lists_read : (s t : State) (fault : SetFault) → SameButReads s t → BlamesLists t fault → BlamesLists s fault
@@ -65,14 +66,16 @@ lists_read s t (Full file live) same why = tt
 lists_read s t Memory same why = tt
 lists_read s t Disk same why = tt
 lists_read s t (PropsFull count) same why = tt
-lists_read s t (Damaged d) same why = ⊎_elim (λ k. inl (reads_harm_none s t format.properties_file same d k)) (λ k. inr (reads_harm_none s t format.strings_file same d k)) why
+lists_read s t (Damaged d) same why = ⊎_elim (λ k. inl (reads_harm_none s t format.properties_file same d k))
+    (λ k. inr (reads_harm_none s t format.strings_file same d k)) why
 
 pub set_read : (s t : State) (fault : SetFault) → SameButReads s t → SetBlamesBroken t fault → SetBlamesBroken s fault
 set_read s t (Full file live) same why = tt
 set_read s t Memory same why = tt
 set_read s t Disk same why = tt
 set_read s t (PropsFull count) same why = tt
-set_read s t (Damaged d) same why = subst (λ (r : Records). Breaks r s.shape d) (ap (λ (z : State). z.records) same) (subst (λ (h : Shape). Breaks t.records h d) (ap (λ (z : State). z.shape) same) why)
+set_read s t (Damaged d) same why = subst (λ (r : Records). Breaks r s.shape d) (ap (λ (z : State). z.records) same)
+    (subst (λ (h : Shape). Breaks t.records h d) (ap (λ (z : State). z.shape) same) why)
 
 -- what holds of a fault that is passed on holds of the result
 pub set_has : {T : Type 0} (P : SetFault → Type 0) (r : Result T SetFault) (fault : SetFault) → IsErrAnd r (λ f. f ≡ fault) → P fault → IfErr r P
@@ -109,15 +112,18 @@ text_caused_more t blocks some takes.Disk why = tt
 text_caused_more t blocks some (takes.Damaged d) why = tt
 
 -- so it is of a value
-pub set_caused_text : (crowded new : Type 0) (t : State) (blocks : ℕ) (fault : TakeFault) → IsTextCause t blocks fault → IsSetCause crowded new blocks t (of_take fault)
+pub set_caused_text : (crowded new : Type 0) (t : State) (blocks : ℕ) (fault : TakeFault) → IsTextCause t blocks fault
+    → IsSetCause crowded new blocks t (of_take fault)
 set_caused_text crowded new t blocks (takes.Full file live) why = (why.0, inr why.1)
 set_caused_text crowded new t blocks takes.Memory why = tt
 set_caused_text crowded new t blocks takes.Disk why = tt
 set_caused_text crowded new t blocks (takes.Damaged d) why = tt
 
-pub set_caused_take : (crowded new : Type 0) (s t : State) (blocks : ℕ) (fault : TakeFault) → ((meta_of s format.properties_file).live ≡ room_of s.shape format.properties_file → new) → IsTakeFault s format.properties_file fault → SameButReads s t
+pub set_caused_take : (crowded new : Type 0) (s t : State) (blocks : ℕ) (fault : TakeFault)
+    → ((meta_of s format.properties_file).live ≡ room_of s.shape format.properties_file → new) → IsTakeFault s format.properties_file fault → SameButReads s t
     → IsSetCause crowded new blocks t (of_take fault)
-set_caused_take crowded new s t blocks (takes.Full file live) full why same = (take_full s t format.properties_file file live why same, inl (why.0, full (sym why.1 ∙ why.2)))
+set_caused_take crowded new s t blocks (takes.Full file live) full why same =
+    (take_full s t format.properties_file file live why same, inl (why.0, full (sym why.1 ∙ why.2)))
 set_caused_take crowded new s t blocks takes.Memory full why same = tt
 set_caused_take crowded new s t blocks takes.Disk full why same = tt
 set_caused_take crowded new s t blocks (takes.Damaged d) full why same = tt
@@ -132,7 +138,8 @@ set_caused_fault crowded new t blocks faults.Disk = tt
 set_caused_fault crowded new t blocks (faults.Damaged d) = tt
 
 -- where the element isn't crowded, and a property is new only so
-pub set_caused_more : (crowded new then : Type 0) → (new → then) → (t : State) (blocks : ℕ) (fault : SetFault) → IsSetCause ⊥ new blocks t fault → IsSetCause crowded then blocks t fault
+pub set_caused_more : (crowded new then : Type 0) → (new → then) → (t : State) (blocks : ℕ) (fault : SetFault) → IsSetCause ⊥ new blocks t fault
+    → IsSetCause crowded then blocks t fault
 set_caused_more crowded new then to t blocks (PropsFull count) why = absurd why.1
 set_caused_more crowded new then to t blocks (Full file live) why = (why.0, ⊎_elim (λ k. inl (k.0, to k.1)) (λ k. inr k) why.1)
 set_caused_more crowded new then to t blocks Memory why = tt
@@ -144,7 +151,8 @@ set_caused_more crowded new then to t blocks (Damaged d) why = tt
 pub still_read : (s t : State) (d : Damage) → SameButReads s t → Breaks s.records s.shape d → Breaks t.records t.shape d
 still_read s t d same broken = subst (λ (z : State). Breaks z.records z.shape d) (sym same) broken
 
-pub take_still : (s t : State) (fault : TakeFault) → take_faults.BlamesBroken s.records s.shape fault → SameButReads s t → take_faults.BlamesBroken t.records t.shape fault
+pub take_still : (s t : State) (fault : TakeFault) → take_faults.BlamesBroken s.records s.shape fault → SameButReads s t
+    → take_faults.BlamesBroken t.records t.shape fault
 take_still s t (takes.Full file live) why same = tt
 take_still s t takes.Memory why same = tt
 take_still s t takes.Disk why same = tt
@@ -176,7 +184,8 @@ module _ (s a : State) (beside : IsSameBeside format.strings_file s.records a.re
   file = format.properties_file
 
   meta_record_stays : a.records (meta_key_of file) ≡ s.records (meta_key_of file)
-  meta_record_stays = beside (meta_key_of file) (λ e. absurd (omega (arith, e))) (λ e. let k : file ≡ format.strings_file = ap (λ (k : Key). k.id) e in omega arith)
+  meta_record_stays = beside (meta_key_of file) (λ e. absurd (omega (arith, e)))
+      (λ e. let k : file ≡ format.strings_file = ap (λ (k : Key). k.id) e in omega arith)
 
   meta_stays : meta_of a file ≡ meta_of s file
   meta_stays = ap metas.meta_of meta_record_stays
@@ -197,7 +206,8 @@ module _ (s a : State) (beside : IsSameBeside format.strings_file s.records a.re
   property_take fault why = lists_of_take s fault (blames_before s a file fault text_harms_none (blames_list a file fault why))
 
 -- where a record is blamed the disk is not
-pub set_cause : {T : Type 0} (before now : ℕ) (r : Result T SetFault) (fault : Fault) (d : Damage) → IsErrAnd r (λ f. f ≡ of_fault fault) → fault ≡ faults.Damaged d → before ≤ now → HasSetCause before now r
+pub set_cause : {T : Type 0} (before now : ℕ) (r : Result T SetFault) (fault : Fault) (d : Damage) → IsErrAnd r (λ f. f ≡ of_fault fault)
+    → fault ≡ faults.Damaged d → before ≤ now → HasSetCause before now r
 set_cause {T} before now r fault d h is later =
     let p = err_from_is_err_and r h in
     subst (HasSetCause {T = T} before now) (sym p.1) (subst (λ f. HasSetCause {T = T} before now (Err f)) (sym (p.2 ∙ ap of_fault is)) (record { later = later; disk = λ e. absurd cc }))

@@ -1,6 +1,7 @@
 -- What a record that fits says of its links to properties and blocks, and of its kind.
 use Rattle.std.specs.Prelude.{nat_le}
-use Rattle.std.proofs.Common.{◌≡◌, ◌≢◌, ◌⊎◌, ℕ, nat_lt, nat_eq, Bool, true, false, cond, ◌&&◌, Option, None, Some, List, [], ◌∷◌, sym, ap, ◌∙◌, subst, inl, inr, ⊎_elim, arith, refl}
+use Rattle.std.proofs.Common.{◌≡◌, ◌≢◌, ◌⊎◌, ℕ, nat_lt, nat_eq, Bool, true, false, cond, ◌&&◌, Option, None, Some, List}
+use Rattle.std.proofs.Common.{[], ◌∷◌, sym, ap, ◌∙◌, subst, inl, inr, ⊎_elim, arith, refl}
 use Rattle.std.proofs.lemmas.Bool.{eqb-true, or_cases, true≢false}
 use Rattle.std.proofs.lemmas.Bool.Decides.{nat_tests}
 use Rattle.std.specs.Int.{cast_signed}
@@ -10,7 +11,8 @@ use Rattle.rec_bytes.specs.Format as format
 use Rattle.rec_bytes.specs.Record.{field, text_in}
 use Rattle.store_rules.specs.Properties.{Content, Number, Truth, Inline, Long}
 use Rattle.store_rules.specs.PropertyChange.{property_place}
-use Rattle.store_rules.specs.Ranges.{Fits, Layout, Pointer, all_point, bytes_of, free_layout, laid, may, next_property, node_layout, points, relationship_layout}
+use Rattle.store_rules.specs.Ranges.{Fits, Layout, Pointer, all_point, bytes_of, free_layout, laid, may, next_property}
+use Rattle.store_rules.specs.Ranges.{node_layout, points, relationship_layout}
 use Rattle.store_rules.proofs.LinkFits.{IsLow}
 use Rattle.store_rules.proofs.NumberLaws.{and_parts, eq_false}
 use Rattle.prop_store.specs.PropertyRow.{HasContent}
@@ -38,7 +40,8 @@ low_of marks r place into h = ⊎_elim
     (λ (none : nat_eq (field 4 r place) format.nil ≡ true). inl (eqb-true (field 4 r place) format.nil none))
     (or_cases (nat_lt (field 4 r place) (marks into)) (nat_eq (field 4 r place) format.nil) h)
 
-low_pointer : (marks : ℕ → ℕ) (file : ℕ) (r : Rec) (place into : ℕ) → (h : Fits marks file r) → HasPointer (may place into) h.layout.pointers → IsLow (marks into) (field 4 r place)
+low_pointer : (marks : ℕ → ℕ) (file : ℕ) (r : Rec) (place into : ℕ) → (h : Fits marks file r) → HasPointer (may place into) h.layout.pointers
+    → IsLow (marks into) (field 4 r place)
 low_pointer marks file r place into h i = low_of marks r place into (pointer_points marks r (may place into) h.layout.pointers i h.point)
 
 -- where the layout is this one its pointers are these
@@ -56,28 +59,33 @@ first_of_node = may format.node_first_property format.properties_file
 abbrev first_of_rel : Pointer
 first_of_rel = may format.relationship_first_property format.properties_file
 
-node_has : (free sparse dense : Bool) (layout : Layout) → free ≡ false → cond free (free_layout format.nodes_file) (cond sparse (node_layout format.relationships_file) (cond dense (node_layout format.groups_file) None)) ≡ Some layout
+node_has : (free sparse dense : Bool) (layout : Layout) → free ≡ false → cond free (free_layout format.nodes_file)
+    (cond sparse (node_layout format.relationships_file) (cond dense (node_layout format.groups_file) None)) ≡ Some layout
     → HasPointer first_of_node layout.pointers
 node_has true sparse dense layout e h = absurd (true≢false e)
 node_has false true dense layout e h = laid_out first_of_node (node_layout format.relationships_file) layout h (inr (inl refl))
 node_has false false true layout e h = laid_out first_of_node (node_layout format.groups_file) layout h (inr (inl refl))
 node_has false false false layout e h = absurd (none_laid layout h)
 
-rel_has : (free related : Bool) (layout : Layout) → free ≡ false → cond free (free_layout format.relationships_file) (cond related relationship_layout None) ≡ Some layout → HasPointer first_of_rel layout.pointers
+rel_has : (free related : Bool) (layout : Layout) → free ≡ false → cond free (free_layout format.relationships_file)
+    (cond related relationship_layout None) ≡ Some layout → HasPointer first_of_rel layout.pointers
 rel_has true related layout e h = absurd (true≢false e)
 rel_has false true layout e h = laid_out first_of_rel relationship_layout layout h (inr (inr (inr (inr (inr (inr (inl refl)))))))
 rel_has false false layout e h = absurd (none_laid layout h)
 
-node_low : (marks : ℕ → ℕ) (r : Rec) → field 1 r format.kind ≢ format.free_kind → Fits marks format.nodes_file r → IsLow (marks format.properties_file) (field 4 r format.node_first_property)
+node_low : (marks : ℕ → ℕ) (r : Rec) → field 1 r format.kind ≢ format.free_kind → Fits marks format.nodes_file r
+    → IsLow (marks format.properties_file) (field 4 r format.node_first_property)
 node_low marks r used h = low_pointer marks format.nodes_file r format.node_first_property format.properties_file h
     (node_has (nat_eq (field 1 r format.kind) format.free_kind) (nat_eq (field 1 r format.kind) format.sparse) (nat_eq (field 1 r format.kind) format.dense) h.layout (eq_false (field 1 r format.kind) format.free_kind used) h.is)
 
-rel_low : (marks : ℕ → ℕ) (r : Rec) → field 1 r format.kind ≢ format.free_kind → Fits marks format.relationships_file r → IsLow (marks format.properties_file) (field 4 r format.relationship_first_property)
+rel_low : (marks : ℕ → ℕ) (r : Rec) → field 1 r format.kind ≢ format.free_kind → Fits marks format.relationships_file r
+    → IsLow (marks format.properties_file) (field 4 r format.relationship_first_property)
 rel_low marks r used h = low_pointer marks format.relationships_file r format.relationship_first_property format.properties_file h
     (rel_has (nat_eq (field 1 r format.kind) format.free_kind) (nat_eq (field 1 r format.kind) format.related) h.layout (eq_false (field 1 r format.kind) format.free_kind used) h.is)
 
 -- the first property of an element in use
-pub element_low : (marks : ℕ → ℕ) (file : ℕ) (r : Rec) → IsElementFile file → field 1 r format.kind ≢ format.free_kind → Fits marks file r → IsLow (marks format.properties_file) (field 4 r (property_place file))
+pub element_low : (marks : ℕ → ℕ) (file : ℕ) (r : Rec) → IsElementFile file → field 1 r format.kind ≢ format.free_kind → Fits marks file r
+    → IsLow (marks format.properties_file) (field 4 r (property_place file))
 element_low marks file r is used h = ⊎_elim
     (λ (e : file ≡ format.nodes_file). subst (λ f. Fits marks f r → IsLow (marks format.properties_file) (field 4 r (property_place f))) (sym e) (node_low marks r used) h)
     (λ (e : file ≡ format.relationships_file). subst (λ f. Fits marks f r → IsLow (marks format.properties_file) (field 4 r (property_place f))) (sym e) (rel_low marks r used) h) is
@@ -132,11 +140,14 @@ module _ (marks : ℕ → ℕ) (r : Rec) (used : field 1 r format.kind ≢ forma
   -- it says a value
   pub content_if_fits : HasContent r
   content_if_fits =
-      let k = by (nat_eq kind format.free_kind) (nat_eq kind format.int) is_bool is_inline is_long (Number (cast_signed w64 (field 8 r format.property_number))) (Truth (nat_eq (field 1 r format.property_truth) 1))
-      (Inline (text_in r format.property_text size)) (Long size (field 4 r format.property_first_block)) (free_layout format.properties_file) _ _ _ _ (eq_false kind format.free_kind used) h.is in
+      let k = by (nat_eq kind format.free_kind) (nat_eq kind format.int) is_bool is_inline is_long (Number (cast_signed w64 (field 8 r format.property_number)))
+      (Truth (nat_eq (field 1 r format.property_truth) 1))
+      (Inline (text_in r format.property_text size)) (Long size (field 4 r format.property_first_block)) (free_layout format.properties_file) _ _ _ _
+      (eq_false kind format.free_kind used) h.is in
       record { content = k.0; is = k.1 }
     where
-      by : (free a b c d : Bool) (x y z w : Content) (o first second third fourth : Option Layout) → free ≡ false → cond free o (cond a first (cond b second (cond c third (cond d fourth None)))) ≡ Some h.layout
+      by : (free a b c d : Bool) (x y z w : Content) (o first second third fourth : Option Layout) → free ≡ false
+          → cond free o (cond a first (cond b second (cond c third (cond d fourth None)))) ≡ Some h.layout
           → (content : Content) × (cond a (Some x) (cond b (Some y) (cond c (Some z) (cond d (Some w) None))) ≡ Some content)
       by true a b c d x y z w o first second third fourth e l = absurd (true≢false e)
       by false true b c d x y z w o first second third fourth e l = (x, refl)
@@ -152,7 +163,8 @@ next_block = may format.block_next format.strings_file
 
 block_has : (free block ok : Bool) (bytes : ℕ) (layout : Layout) → free ≡ false
     → cond free (free_layout format.strings_file)
-    (cond block (cond ok (laid (next_block ∷ []) (bytes_of format.kind 2 ∷ bytes_of format.block_next 4 ∷ bytes_of format.block_text bytes ∷ [])) None) None) ≡ Some layout → HasPointer next_block layout.pointers × (block ≡ true)
+    (cond block (cond ok (laid (next_block ∷ []) (bytes_of format.kind 2 ∷ bytes_of format.block_next 4 ∷ bytes_of format.block_text bytes ∷ [])) None) None)
+    ≡ Some layout → HasPointer next_block layout.pointers × (block ≡ true)
 block_has true block ok bytes layout e h = absurd (true≢false e)
 block_has false true true bytes layout e h = (laid_out next_block _ layout h (inl refl), refl)
 block_has false true false bytes layout e h = absurd (none_laid layout h)
@@ -163,7 +175,8 @@ module _ (marks : ℕ → ℕ) (r : Rec) (used : field 1 r format.kind ≢ forma
   bytes = field 1 r format.block_length
 
   of_block : HasPointer next_block h.layout.pointers × (nat_eq (field 1 r format.kind) format.block ≡ true)
-  of_block = block_has (nat_eq (field 1 r format.kind) format.free_kind) (nat_eq (field 1 r format.kind) format.block) (nat_lt 0 bytes && nat_le bytes 48) bytes h.layout (eq_false (field 1 r format.kind) format.free_kind used) h.is
+  of_block = block_has (nat_eq (field 1 r format.kind) format.free_kind) (nat_eq (field 1 r format.kind) format.block) (nat_lt 0 bytes && nat_le bytes 48) bytes
+      h.layout (eq_false (field 1 r format.kind) format.free_kind used) h.is
 
   -- the next block
   pub next_block_low : IsLow (marks format.strings_file) (field 4 r format.block_next)

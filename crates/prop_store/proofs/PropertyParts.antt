@@ -20,13 +20,15 @@ keys_parts front e back = map-append (λ (z : Property). z.key) front (e ∷ bac
 pub blocks_both : (front back : List Property) → blocks_of (front ++ back) ≡ blocks_of front ++ blocks_of back
 blocks_both front back = flat_map-append (λ (e : Property). e.blocks) front back
 
-pub blocks_parts : (front : List Property) (e : Property) (back : List Property) → blocks_of (front ++ e ∷ back) ≡ blocks_of front ++ (e.blocks ++ blocks_of back)
+pub blocks_parts : (front : List Property) (e : Property) (back : List Property)
+    → blocks_of (front ++ e ∷ back) ≡ blocks_of front ++ (e.blocks ++ blocks_of back)
 blocks_parts front e back = blocks_both front (e ∷ back)
 
 -- ---- links
 
 -- what the links lead to stays behind some properties
-pub first_same : (front rest other : List Property) → first_property rest ≡ first_property other → first_property (front ++ rest) ≡ first_property (front ++ other)
+pub first_same : (front rest other : List Property) → first_property rest ≡ first_property other
+    → first_property (front ++ rest) ≡ first_property (front ++ other)
 first_same [] rest other e = e
 first_same (f ∷ front) rest other e = refl
 
@@ -58,4 +60,5 @@ last_link link (f ∷ front) = inr (by link f front)
   where
     by : (link : Link) (f : Property) (front : List Property) → LastLink link (f ∷ front)
     by link f [] = record { before = []; last = f; all = refl; link_is = refl }
-    by link f (g ∷ front) = let l = by (next_link f.id) g front in record { before = f ∷ l.before; last = l.last; all = ap (λ es. f ∷ es) l.all; link_is = l.link_is }
+    by link f (g ∷ front) = let l = by (next_link f.id) g front in record
+        { before = f ∷ l.before; last = l.last; all = ap (λ es. f ∷ es) l.all; link_is = l.link_is }

@@ -25,8 +25,10 @@ use Rattle.prop_store.proofs.Midway.{text_harms_none}
 use Rattle.prop_store.proofs.PropertyRecords.{used-property_record}
 
 pub put_harms_no_lists : (s a m t : State) (id key first next : ℕ) (value : Value) (rec : Rec) → IsKept value → rec ≡ property_record key value first next
-    → HarmsNoList s a format.strings_file → IsSameBeside format.strings_file s.records a.records → a.shape ≡ s.shape → m ≡ taken a format.properties_file → id ≡ taken_id (meta_of a format.properties_file) → IsUndamaged a format.properties_file
-    → kind_at a.records format.properties_file id ≡ format.free_kind → id < format.most_ids → id < room_of a.shape format.properties_file → t ≡ after_put m (key_in format.properties_file id) rec → HarmsNoLists s t
+    → HarmsNoList s a format.strings_file → IsSameBeside format.strings_file s.records a.records → a.shape ≡ s.shape → m ≡ taken a format.properties_file
+    → id ≡ taken_id (meta_of a format.properties_file) → IsUndamaged a format.properties_file
+    → kind_at a.records format.properties_file id ≡ format.free_kind → id < format.most_ids → id < room_of a.shape format.properties_file
+    → t ≡ after_put m (key_in format.properties_file id) rec → HarmsNoLists s t
 put_harms_no_lists s a m t id key first next value rec kept rec_is text beside shape took is right fresh few room put = record {
   properties = harms_none_then s a t format.properties_file (text_harms_none s a beside shape)
       (put_harms_none a m t format.properties_file id rec refl took is right fresh few room put (λ e. used-property_record key first next value kept (ap (λ (r : Rec). field 1 r format.kind) (sym rec_is) ∙ e)));
@@ -44,7 +46,8 @@ module _ (s t u : State) (owner : Owner) (to : ℕ) (is : IsOwner owner) (put : 
 
   beside : (file : ℕ) → is_meta_file file ≡ true → owner.key.file ≢ file → HarmsNoList t u file
   beside file is_file other = beside_harms_none t u file (ap (λ (z : State). z.shape) now)
-      (led (meta_key_of file) (λ e. not_meta (owner.key.file) (meta_of_element owner.key.file is.file) (sym (ap (λ (k : Key). k.file) e)))) (λ x. led (key_in file x) (λ e. other (sym (ap (λ (k : Key). k.file) e))))
+      (led (meta_key_of file) (λ e. not_meta (owner.key.file) (meta_of_element owner.key.file is.file) (sym (ap (λ (k : Key). k.file) e))))
+      (λ x. led (key_in file x) (λ e. other (sym (ap (λ (k : Key). k.file) e))))
     where
       not_meta : (file : ℕ) → is_meta_file file ≡ true → file ≢ format.meta_file
       not_meta file known = is_meta_file-not_meta file known

@@ -36,7 +36,8 @@ reads_more n m a b le h = record { count = h.count; within = let x = h.within in
 pub reads_after : (n m : ℕ) (a b c : State) → 1 + n ≤ m → b ≡ after_get a → ReadsAtMost n b c → ReadsAtMost m a c
 reads_after n m a b c le one more = reads_then 1 n m a b c le (reads_one 1 a b (omega arith) one) more
 
-pub costs_after : {T E : Type 0} (n m : T → ℕ) (a b c : State) (r : Result T E) → ((x : T) → 1 + n x ≤ m x) → b ≡ after_get a → IfOk r (λ x. ReadsAtMost (n x) b c) → IfOk r (λ x. ReadsAtMost (m x) a c)
+pub costs_after : {T E : Type 0} (n m : T → ℕ) (a b c : State) (r : Result T E) → ((x : T) → 1 + n x ≤ m x) → b ≡ after_get a
+    → IfOk r (λ x. ReadsAtMost (n x) b c) → IfOk r (λ x. ReadsAtMost (m x) a c)
 costs_after n m a b c (Ok x) le one more = reads_after (n x) (m x) a b c (le x) one more
 costs_after n m a b c (Err e) le one more = tt
 

@@ -13,7 +13,8 @@ use Rattle.prop_store.proofs.FileMoves.{Replaces, composed}
 use Rattle.prop_store.proofs.FileSteps.{IsPropertyFile, file_same, marks_beside, meta_of_file}
 
 -- one change after the other, in part of the lists
-pub records_then : (s m t : Records) (shape : Shape) (ids mid new blocks mid_blocks new_blocks a b c d : List ℕ) → Replaces mid a b new → Replaces mid_blocks c d new_blocks
+pub records_then : (s m t : Records) (shape : Shape) (ids mid new blocks mid_blocks new_blocks a b c d : List ℕ) → Replaces mid a b new
+    → Replaces mid_blocks c d new_blocks
     → ChangesRecords s m shape ids mid blocks mid_blocks → ChangesRecords m t shape a b c d → ChangesRecords s t shape ids new blocks new_blocks
 records_then s m t shape ids mid new blocks mid_blocks new_blocks a b c d r q h k = record {
   properties = composed shape format.properties_file s m t ids mid a b new r h.properties k.properties;
@@ -22,19 +23,22 @@ records_then s m t shape ids mid new blocks mid_blocks new_blocks a b c d r q h 
 }
 
 -- Of another file of properties or of blocks the records are the same.
-module _ (s t : Records) (file other : ℕ) (is : IsPropertyFile file) (is_other : IsPropertyFile other) (ne : other ≢ file) (beside : IsSameBeside file s t) where
-  pub meta_beside : t (meta_key_of other) ≡ s (meta_key_of other)
-  meta_beside = beside (meta_key_of other) (λ e. is_meta_file-not_meta file (meta_of_file file is) (sym e)) (λ e. ne (ap (λ (k : Key). k.id) e))
+module _ (s t : Records) (file other : ℕ) (is : IsPropertyFile file) (is_other : IsPropertyFile other) (ne : other ≢ file) (beside : IsSameBeside file s t)
+  where
+    pub meta_beside : t (meta_key_of other) ≡ s (meta_key_of other)
+    meta_beside = beside (meta_key_of other) (λ e. is_meta_file-not_meta file (meta_of_file file is) (sym e)) (λ e. ne (ap (λ (k : Key). k.id) e))
 
-  pub record_beside : (x : ℕ) → rec_at t other x ≡ rec_at s other x
-  record_beside x = beside (key_in other x) ne (λ e. is_meta_file-not_meta other (meta_of_file other is_other) (ap (λ (k : Key). k.file) e))
+    pub record_beside : (x : ℕ) → rec_at t other x ≡ rec_at s other x
+    record_beside x = beside (key_in other x) ne (λ e. is_meta_file-not_meta other (meta_of_file other is_other) (ap (λ (k : Key). k.file) e))
 
-  -- so it keeps its rules
-  pub file_aside : (shape : Shape) (xs : List ℕ) → ChangesFile s s shape other xs xs → high s file ≤ high t file → ChangesFile s t shape other xs xs
-  file_aside shape xs h grows = file_same s t shape other xs xs h meta_beside record_beside (marks_beside file s t (meta_of_file file is) beside grows) xs h.live
+    -- so it keeps its rules
+    pub file_aside : (shape : Shape) (xs : List ℕ) → ChangesFile s s shape other xs xs → high s file ≤ high t file → ChangesFile s t shape other xs xs
+    file_aside shape xs h grows = file_same s t shape other xs xs h meta_beside record_beside (marks_beside file s t (meta_of_file file is) beside grows) xs
+        h.live
 
 -- blocks alone changed
-pub strings_moved : (s t : Records) (shape : Shape) (ids blocks new_blocks : List ℕ) → ChangesFile s s shape format.properties_file ids ids → IsSameBeside format.strings_file s t → ChangesFile s t shape format.strings_file blocks new_blocks
+pub strings_moved : (s t : Records) (shape : Shape) (ids blocks new_blocks : List ℕ) → ChangesFile s s shape format.properties_file ids ids
+    → IsSameBeside format.strings_file s t → ChangesFile s t shape format.strings_file blocks new_blocks
     → ChangesRecords s t shape ids ids blocks new_blocks
 strings_moved s t shape ids blocks new_blocks h beside k = record {
   properties = file_aside s t format.strings_file format.properties_file (inr refl) (inl refl) (λ e. absurd (omega arith)) beside shape ids h k.grows;
@@ -43,7 +47,8 @@ strings_moved s t shape ids blocks new_blocks h beside k = record {
 }
 
 -- properties alone changed
-pub properties_moved : (s t : Records) (shape : Shape) (ids new_ids blocks : List ℕ) → ChangesFile s s shape format.strings_file blocks blocks → IsSameBeside format.properties_file s t → ChangesFile s t shape format.properties_file ids new_ids
+pub properties_moved : (s t : Records) (shape : Shape) (ids new_ids blocks : List ℕ) → ChangesFile s s shape format.strings_file blocks blocks
+    → IsSameBeside format.properties_file s t → ChangesFile s t shape format.properties_file ids new_ids
     → ChangesRecords s t shape ids new_ids blocks blocks
 properties_moved s t shape ids new_ids blocks h beside k = record {
   properties = k;

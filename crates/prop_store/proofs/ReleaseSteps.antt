@@ -26,17 +26,21 @@ pub record HasLeft (s t : Records) (shape : Shape) (file : ℕ) (blocks rest : L
   pub once : AreOnce rest
   pub fewer : (meta_in t file).live + count ≡ (meta_in s file).live
 
-pub none_given : (s : Records) (shape : Shape) (file : ℕ) (blocks : List ℕ) → AreOnce blocks → ChangesFile s s shape file blocks blocks → HasLeft s s shape file blocks blocks 0
+pub none_given : (s : Records) (shape : Shape) (file : ℕ) (blocks : List ℕ) → AreOnce blocks → ChangesFile s s shape file blocks blocks
+    → HasLeft s s shape file blocks blocks 0
 none_given s shape file blocks once h = record { changes = h; once = once; fewer = omega arith }
 
-pub one_given : (s : Records) (t u : State) (shape : Shape) (file : ℕ) (blocks whole rest : List ℕ) (id count more : ℕ) → IsPropertyFile file → whole ≡ id ∷ rest → more ≡ count + 1
-    → ((free : List ℕ) → CanGive t file id free → HasGiven t.records u.records file id free) → HasLeft s t.records shape file blocks whole count → HasLeft s u.records shape file blocks rest more
+pub one_given : (s : Records) (t u : State) (shape : Shape) (file : ℕ) (blocks whole rest : List ℕ) (id count more : ℕ) → IsPropertyFile file
+    → whole ≡ id ∷ rest → more ≡ count + 1
+    → ((free : List ℕ) → CanGive t file id free → HasGiven t.records u.records file id free) → HasLeft s t.records shape file blocks whole count
+    → HasLeft s u.records shape file blocks rest more
 one_given s t u shape file blocks whole rest id count more is e one gives left =
     let once : AreOnce (id ∷ rest) = subst AreOnce e left.once in
     let changes : ChangesFile s t.records shape file blocks (id ∷ rest) = subst (ChangesFile s t.records shape file blocks) e left.changes in
     let live : is_live t.records file id ≡ true = changes.live id (inl refl) in
     let now = file_now s t.records shape file blocks (id ∷ rest) changes [] (λ x i. elim i [ ]) in
-    let has : HasGiven t.records u.records file id now.free = gives now.free (record { list = now.split.walk; fresh = λ i. true≢false (sym live ∙ now.split.only id i) }) in
+    let has : HasGiven t.records u.records file id now.free = gives now.free
+    (record { list = now.split.walk; fresh = λ i. true≢false (sym live ∙ now.split.only id i) }) in
     record {
       changes = file_less s t.records u.records shape file blocks [] (id ∷ []) rest (λ x i. elim i [ ])
           (λ x i. (changes.live x (inr i), λ j. ⊎_elim (λ (q : x ≡ id). once.0 (subst (λ z. In z rest) q i)) (λ (k : ⊥). k) j))
@@ -58,10 +62,12 @@ pub record LeavesLinked (s t : State) (blocks rest : List ℕ) : Type 0 where
   pub left : AreUsedOnce t.records rest
   pub link : 0 < length blocks → IsLinkBelow (meta_of t format.strings_file).free (meta_of t format.strings_file).high
 
-pub none_linked : (s : State) (blocks : List ℕ) → AreUsedOnce s.records blocks → (0 < length blocks → IsLinkBelow (meta_of s format.strings_file).free (meta_of s format.strings_file).high) → LeavesLinked s s blocks blocks
+pub none_linked : (s : State) (blocks : List ℕ) → AreUsedOnce s.records blocks
+    → (0 < length blocks → IsLinkBelow (meta_of s format.strings_file).free (meta_of s format.strings_file).high) → LeavesLinked s s blocks blocks
 none_linked s blocks used link = record { harmless = λ d why. why; left = used; link = link }
 
-pub one_linked : (s t u : State) (blocks whole rest : List ℕ) (id : ℕ) → 0 < length blocks → whole ≡ id ∷ rest → id < format.most_ids → u ≡ given t format.strings_file id → LeavesLinked s t blocks whole → LeavesLinked s u blocks rest
+pub one_linked : (s t u : State) (blocks whole rest : List ℕ) (id : ℕ) → 0 < length blocks → whole ≡ id ∷ rest → id < format.most_ids
+    → u ≡ given t format.strings_file id → LeavesLinked s t blocks whole → LeavesLinked s u blocks rest
 one_linked s t u blocks whole rest id some e few now left =
     let both : AreUsedOnce t.records (id ∷ rest) = subst (AreUsedOnce t.records) e left.left in
     let used = both.used id (inl refl) in

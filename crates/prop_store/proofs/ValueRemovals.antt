@@ -5,7 +5,8 @@ use Rattle.rec_bytes.specs.Format as format
 use Rattle.rec_bytes.specs.Record.{field, with_field}
 use Rattle.rec_bytes.specs.Space.{State, after_set}
 use Rattle.store_rules.specs.Chains.{In}
-use Rattle.store_rules.specs.Properties.{AreLinked, AreProperties, Property, blocks_of, content_for, content_of, first_property, head_of, ids_of, keys_of, property_records}
+use Rattle.store_rules.specs.Properties.{AreLinked, AreProperties, Property, blocks_of, content_for, content_of}
+use Rattle.store_rules.specs.Properties.{first_property, head_of, ids_of, keys_of, property_records}
 use Rattle.store_rules.specs.Views.{high, is_live, key_in, rec_at}
 use Rattle.store_rules.proofs.LinkFits.{IsLow}
 use Rattle.store_rules.proofs.PropertyStays.{linked_stay}
@@ -27,7 +28,8 @@ use Rattle.prop_store.proofs.PropertyRecords.{used-content}
 use Rattle.prop_store.proofs.RecordMoves.{records_then}
 
 -- behind one, what comes first stays
-first_behind : (before : List Property) (last : Property) (rest other : List Property) → first_property ((before ++ last ∷ []) ++ rest) ≡ first_property ((before ++ last ∷ []) ++ other)
+first_behind : (before : List Property) (last : Property) (rest other : List Property)
+    → first_property ((before ++ last ∷ []) ++ rest) ≡ first_property ((before ++ last ∷ []) ++ other)
 first_behind [] last rest other = refl
 first_behind (b ∷ before) last rest other = refl
 
@@ -37,7 +39,8 @@ fewer_keys [] e back k i = inr i
 fewer_keys (f ∷ front) e back k (inl q) = inl q
 fewer_keys (f ∷ front) e back k (inr i) = inr (fewer_keys front e back k i)
 
-module _ (s : State) (owner : Owner) (is : IsOwner owner) (es : List Property) (owns : OwnsProperties s owner es) (front : List Property) (e : Property) (back : List Property) (all : es ≡ front ++ e ∷ back)
+module _ (s : State) (owner : Owner) (is : IsOwner owner) (es : List Property) (owns : OwnsProperties s owner es) (front : List Property) (e : Property)
+    (back : List Property) (all : es ≡ front ++ e ∷ back)
     (m t : State) (released to : ℕ) (drops : DropsProperty s m e released) (to_is : to ≡ first_property back) (small : to < 2 ^ 32) where
   -- The records as they are before the element's place is written.
   record Relinked : Type 0 where
@@ -49,13 +52,16 @@ module _ (s : State) (owner : Owner) (is : IsOwner owner) (es : List Property) (
   taken_out : ChangesRecords s.records m.records s.shape (ids_of es) (ids_of (front ++ back)) (blocks_of es) (blocks_of (front ++ back))
   taken_out = replaced_records s owner es owns front e back all m.records [] drops.changes
 
-  id_kept : (x : ℕ) → In x (ids_of front) ⊎ In x (ids_of back) → (is_live m.records format.properties_file x ≡ true) × (rec_at m.records format.properties_file x ≡ rec_at s.records format.properties_file x)
+  id_kept : (x : ℕ) → In x (ids_of front) ⊎ In x (ids_of back) → (is_live m.records format.properties_file x ≡ true)
+      × (rec_at m.records format.properties_file x ≡ rec_at s.records format.properties_file x)
   id_kept = other_kept s owner es owns front e back all m.records [] drops.changes.properties
 
-  block_kept : (x : ℕ) → In x (blocks_of front) ⊎ In x (blocks_of back) → (is_live m.records format.strings_file x ≡ true) × (rec_at m.records format.strings_file x ≡ rec_at s.records format.strings_file x)
+  block_kept : (x : ℕ) → In x (blocks_of front) ⊎ In x (blocks_of back) → (is_live m.records format.strings_file x ≡ true)
+      × (rec_at m.records format.strings_file x ≡ rec_at s.records format.strings_file x)
   block_kept = other_blocks_kept s owner es owns front e back all m.records [] drops.changes.strings
 
-  first_low : (later : List Property) → ((x : ℕ) → In x (ids_of later) → is_live m.records format.properties_file x ≡ true) → IsLow (high m.records format.properties_file) (first_property later)
+  first_low : (later : List Property) → ((x : ℕ) → In x (ids_of later) → is_live m.records format.properties_file x ≡ true)
+      → IsLow (high m.records format.properties_file) (first_property later)
   first_low [] live = inl refl
   first_low (d ∷ later) live = inr (live_low m.records format.properties_file d.id (live d.id (inl refl)))
 
@@ -70,7 +76,8 @@ module _ (s : State) (owner : Owner) (is : IsOwner owner) (es : List Property) (
       record {
         last = m;
         changes = taken_out;
-        set = subst (SetsFirst m.records t.records owner.key.file owner.key.id) first (first_set s owner es owns is m (front ++ back) taken_out t to set small to_low);
+        set = subst (SetsFirst m.records t.records owner.key.file owner.key.id) first
+            (first_set s owner es owns is m (front ++ back) taken_out t to set small to_low);
         linked = subst (AreLinked (property_records m.records)) same
             (linked_stay (property_records s.records) (property_records m.records) back (λ x i. (id_kept x (inr i)).1) (λ b i. (block_kept b (inr i)).1)
             (linked_last front (are_parts s owner es owns front e back all).linked));
@@ -81,7 +88,8 @@ module _ (s : State) (owner : Owner) (is : IsOwner owner) (es : List Property) (
       linked_last (f ∷ front) h = linked_last front h.1
 
   -- the link of the one before it did
-  module _ (before : List Property) (last : Property) (front_is : front ≡ before ++ last ∷ []) (set : t ≡ after_set m (key_in format.properties_file last.id) 4 format.property_next to) where
+  module _ (before : List Property) (last : Property) (front_is : front ≡ before ++ last ∷ [])
+      (set : t ≡ after_set m (key_in format.properties_file last.id) 4 format.property_next to) where
     whole : front ++ e ∷ back ≡ before ++ last ∷ e ∷ back
     whole = ap (λ z. z ++ e ∷ back) front_is ∙ append_assoc before (last ∷ []) (e ∷ back)
 
@@ -114,7 +122,8 @@ module _ (s : State) (owner : Owner) (is : IsOwner owner) (es : List Property) (
         (file_now s.records m.records s.shape format.properties_file (e.id ∷ []) [] drops.changes.properties (ids_of front ++ ids_of back) (λ x i. (id_kept x (in_either x (ids_of front) (ids_of back) i)).0))
         (keeps_file s.records m.records s.shape format.strings_file e.blocks [] drops.changes.strings) kept.0
         (subst (λ r. field 1 r format.kind ≢ format.free_kind) (sym kept.1) (used-content (rec_at s.records format.properties_file last.id) _ (last_property before (subst (AreLinked (property_records s.records)) whole (are_parts s owner es owns front e back all).linked)))) small to_low in
-        let changes = records_then s.records m.records t.records s.shape (ids_of es) (ids_of (front ++ back)) (ids_of (front ++ back)) (blocks_of es) (blocks_of (front ++ back)) (blocks_of (front ++ back)) (last.id ∷ []) (last.id ∷ []) [] []
+        let changes = records_then s.records m.records t.records s.shape (ids_of es) (ids_of (front ++ back)) (ids_of (front ++ back)) (blocks_of es)
+        (blocks_of (front ++ back)) (blocks_of (front ++ back)) (last.id ∷ []) (last.id ∷ []) [] []
         (replaces_same (ids_of (front ++ back)) (last.id ∷ []) (λ x i. ⊎_elim (λ (q : x ≡ last.id). subst (λ z. In z (ids_of (front ++ back))) (sym q) (last_left)) (λ j. elim j [ ]) i))
         (replaces_same (blocks_of (front ++ back)) [] (λ x i. elim i [ ])) taken_out moved in
         record {
@@ -130,7 +139,8 @@ module _ (s : State) (owner : Owner) (is : IsOwner owner) (es : List Property) (
               (subst (AreLinked (property_records s.records)) whole (are_parts s owner es owns front e back all).linked));
         }
       where
-        last_property : (before : List Property) → AreLinked (property_records s.records) (before ++ last ∷ e ∷ back) → content_of (rec_at s.records format.properties_file last.id) ≡ Some (content_for last.value (head_of last.blocks))
+        last_property : (before : List Property) → AreLinked (property_records s.records) (before ++ last ∷ e ∷ back)
+            → content_of (rec_at s.records format.properties_file last.id) ≡ Some (content_for last.value (head_of last.blocks))
         last_property [] h = h.0.content
         last_property (b ∷ before) h = last_property before h.1
 
@@ -147,7 +157,8 @@ module _ (s : State) (owner : Owner) (is : IsOwner owner) (es : List Property) (
       by_link l.before l.last l.all (set ∙ ap (λ (l : Link). after_set m l.key 4 l.field to) here))
       (last_link (link_of owner) front)
 
-  pub value_removed : (link : Link) (key : ℕ) → e.key ≡ key → link ≡ link_after (link_of owner) front → t ≡ after_set m link.key 4 link.field to → RemovesAlone s t owner es key released
+  pub value_removed : (link : Link) (key : ℕ) → e.key ≡ key → link ≡ link_after (link_of owner) front → t ≡ after_set m link.key 4 link.field to
+      → RemovesAlone s t owner es key released
   value_removed link key key_is link_is set =
       let r = relinked link link_is set in
       record {

@@ -1,5 +1,6 @@
 -- A value that was set or taken away is the change of one value of a node.
-use Rattle.std.proofs.Common.{◌≡◌, ◌≢◌, ⊎_elim, inl, inr, ℕ, ◌++◌, nat_eq, Bool, true, false, cond, Option, None, Some, List, [], ◌∷◌, ap, sym, ◌∙◌, subst, refl}
+use Rattle.std.proofs.Common.{◌≡◌, ◌≢◌, ⊎_elim, inl, inr, ℕ, ◌++◌, nat_eq, Bool, true, false, cond, Option, None, Some}
+use Rattle.std.proofs.Common.{List, [], ◌∷◌, ap, sym, ◌∙◌, subst, refl}
 use Rattle.plain_graph.specs.declared.value.Value.{Value}
 use Rattle.rec_bytes.specs.Format as format
 use Rattle.rec_bytes.specs.Record.{field}
@@ -36,7 +37,8 @@ value_lacked [] key none = refl
 value_lacked (e ∷ es) key none = value_later e es key (λ is. none (inl (sym is))) ∙ value_lacked es key (λ i. none (inr i))
 
 -- one property of another key more, or another in its place
-value_between : (before : List Property) (e : Property) (rest : List Property) (key : ℕ) → e.key ≢ key → value_in (before ++ e ∷ rest) key ≡ value_in (before ++ rest) key
+value_between : (before : List Property) (e : Property) (rest : List Property) (key : ℕ) → e.key ≢ key
+    → value_in (before ++ e ∷ rest) key ≡ value_in (before ++ rest) key
 value_between [] e rest key other = value_later e rest key other
 value_between (f ∷ before) e rest key other = ap (λ v. cond (nat_eq f.key key) (Some f.value) v) (value_between before e rest key other)
 
@@ -56,7 +58,8 @@ once_after (f ∷ before) e rest once = once_after before e rest once.1
 
 -- ---- a node
 
-module _ (old new : State) (owner : Owner) (es : List Property) (key : ℕ) (node : owner.key.file ≡ format.nodes_file) {most : ℕ} {empty : List ℕ} (well : KeepsRules old.records old.shape most empty) where
+module _ (old new : State) (owner : Owner) (es : List Property) (key : ℕ) (node : owner.key.file ≡ format.nodes_file) {most : ℕ} {empty : List ℕ}
+    (well : KeepsRules old.records old.shape most empty) where
   abbrev label : ℕ
   label = field 4 (rec_at old.records format.nodes_file owner.key.id) format.node_label
 
@@ -65,7 +68,8 @@ module _ (old new : State) (owner : Owner) (es : List Property) (key : ℕ) (nod
   HasSet after value = (value_in after key ≡ Some value) × ((k : ℕ) → k ≢ key → value_in after k ≡ value_in es k)
 
   -- The key has the value now.
-  pub sets_value : (value : Value) (released : ℕ) → SetsAlone old new owner es key value released → ChangesValue old.records new.records label key owner.key.id (value_in es key) (Some value)
+  pub sets_value : (value : Value) (released : ℕ) → SetsAlone old new owner es key value released
+      → ChangesValue old.records new.records label key owner.key.id (value_in es key) (Some value)
   sets_value value released sets = subst (ChangesValue old.records new.records label key owner.key.id (value_in es key)) (after.0 ∙ ap Some sets.value_is)
       (changes_value old.records new.records old.shape owner.key.file owner.key.id es sets.after sets.changes well node key after.1)
     where
@@ -89,7 +93,8 @@ module _ (old new : State) (owner : Owner) (es : List Property) (key : ℕ) (nod
       after = ⊎_elim by_added by_replaced sets.place
 
   -- The key has none now.
-  pub removes_value : (released : ℕ) → RemovesAlone old new owner es key released → ChangesValue old.records new.records label key owner.key.id (value_in es key) None
+  pub removes_value : (released : ℕ) → RemovesAlone old new owner es key released
+      → ChangesValue old.records new.records label key owner.key.id (value_in es key) None
   removes_value released gone = subst (ChangesValue old.records new.records label key owner.key.id (value_in es key)) none
       (changes_value old.records new.records old.shape owner.key.file owner.key.id es (gone.before ++ gone.rest) gone.changes well node key same)
     where
@@ -104,7 +109,8 @@ module _ (old new : State) (owner : Owner) (es : List Property) (key : ℕ) (nod
       same k ne = sym (value_between gone.before gone.was gone.rest k (λ e. ne (sym e ∙ gone.found.key_is))) ∙ sym (ap (λ ps. value_in ps k) gone.found.all)
 
 -- No key of the node has a value now, and the values of others are as they were.
-pub drops_values : (old new : State) (owner : Owner) (es : List Property) (dropped : Dropped) → owner.key.file ≡ format.nodes_file → {most : ℕ} {empty : List ℕ} → KeepsRules old.records old.shape most empty → DropsAllAlone old new owner es dropped
+pub drops_values : (old new : State) (owner : Owner) (es : List Property) (dropped : Dropped) → owner.key.file ≡ format.nodes_file → {most : ℕ} {empty : List ℕ}
+    → KeepsRules old.records old.shape most empty → DropsAllAlone old new owner es dropped
     → (l k n : ℕ) → node_value new.records l k n ≡ cond (nat_eq n owner.key.id) None (node_value old.records l k n)
 drops_values old new owner es dropped node well drops l k n = ⊎_elim
     (λ (here : n ≡ owner.key.id). ap (node_value new.records l k) here ∙ value_now old.records new.records old.shape owner.key.file owner.key.id es [] drops.changes well node l k ∙ both (nat_eq (field 4 (rec_at old.records format.nodes_file owner.key.id) format.node_label) l) None refl

@@ -1,10 +1,13 @@
 -- A loop along the properties of an element.
-use Rattle.std.proofs.Common.{◌≡◌, ◌<◌, ◌≤◌, ◌+◌, ◌∙◌, ◌++◌, append_assoc, append-nil, ℕ, List, [], ◌∷◌, length, drop, length-append, ⊎_elim, ap, sym, subst, arith, inl, inr, refl}
+use Rattle.std.proofs.Common.{◌≡◌, ◌<◌, ◌≤◌, ◌+◌, ◌∙◌, ◌++◌, append_assoc, append-nil, ℕ, List, [], ◌∷◌, length, drop}
+use Rattle.std.proofs.Common.{length-append, ⊎_elim, ap, sym, subst, arith, inl, inr, refl}
 use Rattle.rec_bytes.specs.declared.record.Rec.{Rec}
 use Rattle.rec_bytes.specs.Format as format
 use Rattle.rec_bytes.specs.Record.{field}
 use Rattle.store_rules.specs.Chains.{In}
-use Rattle.store_rules.specs.Properties.{AreBlocks, AreLinked, AreProperties, IsProperty, Property, PropertyRecords, blocks_of, content_for, content_of, first_property, head_of, ids_of, long_text, property_records}
+use Rattle.store_rules.specs.Properties.{AreBlocks, AreLinked, AreProperties, IsProperty, Property, PropertyRecords}
+use Rattle.store_rules.specs.Properties.{blocks_of, content_for, content_of, first_property, head_of, ids_of, long_text}
+use Rattle.store_rules.specs.Properties.{property_records}
 use Rattle.store_rules.specs.Views.{Records, rec_at}
 use Rattle.prop_store.specs.BlockList.{AreSmall}
 use Rattle.prop_store.specs.GivenOut.{AreGivenOut, IsGivenOut}
@@ -23,7 +26,8 @@ pub record Walked (files : PropertyRecords) (es : List Property) (at count : ℕ
   pub count_is : count ≡ length passed
   pub kept : P passed
 
-pub walk_begins : (files : PropertyRecords) (first at : ℕ) (es : List Property) (P : List Property → Type 0) → at ≡ first → AreProperties files first es → P [] → Walked files es at 0 P
+pub walk_begins : (files : PropertyRecords) (first at : ℕ) (es : List Property) (P : List Property → Type 0) → at ≡ first → AreProperties files first es → P []
+    → Walked files es at 0 P
 walk_begins files first at es P is are kept = record { passed = []; left = es; all = refl; linked = are.linked; at_is = is ∙ are.first_is; count_is = refl; kept = kept }
 
 -- the property at hand
@@ -38,7 +42,8 @@ pub record WalkHere (files : PropertyRecords) (es : List Property) (at count : �
   pub count_is : count ≡ length passed
   pub kept : P passed
 
-pub walk_here : (files : PropertyRecords) (es : List Property) (at count : ℕ) (P : List Property → Type 0) → (at ≡ format.nil → ⊥) → Walked files es at count P → WalkHere files es at count P
+pub walk_here : (files : PropertyRecords) (es : List Property) (at count : ℕ) (P : List Property → Type 0) → (at ≡ format.nil → ⊥) → Walked files es at count P
+    → WalkHere files es at count P
 walk_here files es at count P some w = open_here w.left w.all w.linked w.at_is
   where
     open_here : (left : List Property) → es ≡ w.passed ++ left → AreLinked files left → at ≡ first_property left → WalkHere files es at count P
@@ -53,7 +58,8 @@ fewer_passed files es at count P here =
     omega arith
 
 -- after it, by what was read
-pub walk_after : (files : PropertyRecords) (es : List Property) (at count : ℕ) (P Q : List Property → Type 0) (here : WalkHere files es at count P) (rec : Rec) (to : ℕ)
+pub walk_after : (files : PropertyRecords) (es : List Property) (at count : ℕ) (P Q : List Property → Type 0) (here : WalkHere files es at count P) (rec : Rec)
+    (to : ℕ)
     → rec ≡ files.properties at → to ≡ field 4 rec format.property_next → Q (here.passed ++ here.property ∷ []) → Walked files es to (count + 1) Q
 walk_after files es at count P Q here rec to rec_is to_is kept = record {
   passed = here.passed ++ here.property ∷ [];
@@ -70,15 +76,18 @@ pub record WalkOver (es : List Property) (count : ℕ) (P : List Property → Ty
   pub count_is : count ≡ length es
   pub kept : P es
 
-pub walk_over : (files : PropertyRecords) (es : List Property) (at count : ℕ) (P : List Property → Type 0) → at ≡ format.nil → Walked files es at count P → WalkOver es count P
+pub walk_over : (files : PropertyRecords) (es : List Property) (at count : ℕ) (P : List Property → Type 0) → at ≡ format.nil → Walked files es at count P
+    → WalkOver es count P
 walk_over files es at count P none w = open_over w.left w.all w.linked w.at_is
   where
     open_over : (left : List Property) → es ≡ w.passed ++ left → AreLinked files left → at ≡ first_property left → WalkOver es count P
-    open_over [] all linked is = let same : w.passed ≡ es = sym (all ∙ append-nil w.passed) in record { count_is = w.count_is ∙ ap (λ (z : List Property). length z) same; kept = subst P same w.kept }
+    open_over [] all linked is = let same : w.passed ≡ es = sym (all ∙ append-nil w.passed) in
+        record { count_is = w.count_is ∙ ap (λ (z : List Property). length z) same; kept = subst P same w.kept }
     open_over (e ∷ later) all linked is = absurd (let low = linked.0.low in omega arith)
 
 -- no more were passed than there may be
-pub walk_ends : (files : PropertyRecords) (es : List Property) (at count : ℕ) (P : List Property → Type 0) → length es ≤ 32 → 32 ≤ count → Walked files es at count P → at ≡ format.nil
+pub walk_ends : (files : PropertyRecords) (es : List Property) (at count : ℕ) (P : List Property → Type 0) → length es ≤ 32 → 32 ≤ count
+    → Walked files es at count P → at ≡ format.nil
 walk_ends files es at count P few all w = by w.left w.all w.at_is
   where
     by : (left : List Property) → es ≡ w.passed ++ left → at ≡ first_property left → at ≡ format.nil
@@ -92,7 +101,8 @@ id_in [] e after = inl refl
 id_in (p ∷ before) e after = inr (id_in before e after)
 
 -- where all were given out it is right, also after reads
-pub right_property : (records now : Records) (owner : Owner) (es : List Property) (at count : ℕ) (P : List Property → Type 0) → now ≡ records → HasProperties records owner es → WalkHere (property_records records) es at count P
+pub right_property : (records now : Records) (owner : Owner) (es : List Property) (at count : ℕ) (P : List Property → Type 0) → now ≡ records
+    → HasProperties records owner es → WalkHere (property_records records) es at count P
     → IsGivenOut now format.properties_file at × HasContent (rec_at now format.properties_file at)
 right_property records now owner es at count P same has here =
     subst (λ (r : Records). IsGivenOut r format.properties_file at × HasContent (rec_at r format.properties_file at)) (sym same) (
@@ -104,20 +114,24 @@ right_property records now owner es at count P same has here =
     )
 
 -- its record and its blocks have its value
-pub has_value : (records now : Records) (e : Property) (next : ℕ) (rec : Rec) → now ≡ records → IsProperty (property_records records) e next → rec ≡ rec_at records format.properties_file e.id → HasValue (rec_at now format.strings_file) rec e.value e.blocks
+pub has_value : (records now : Records) (e : Property) (next : ℕ) (rec : Rec) → now ≡ records → IsProperty (property_records records) e next
+    → rec ≡ rec_at records format.properties_file e.id → HasValue (rec_at now format.strings_file) rec e.value e.blocks
 has_value records now e next rec same is rec_is =
-    subst (λ (r : Records). HasValue (rec_at r format.strings_file) rec e.value e.blocks) (sym same) (record { content = ap content_of rec_is ∙ is.content; kept = is.kept; are = is.blocks })
+    subst (λ (r : Records). HasValue (rec_at r format.strings_file) rec e.value e.blocks) (sym same)
+    (record { content = ap content_of rec_is ∙ is.content; kept = is.kept; are = is.blocks })
 
 -- and its blocks were given out
 pub blocks_small : (string_file : ℕ → Rec) (text blocks : List ℕ) → AreBlocks string_file text blocks → AreSmall blocks
 blocks_small string_file text [] are x i = elim i [ ]
-blocks_small string_file text (b ∷ bs) are x i = ⊎_elim (λ (e : x ≡ b). let low = are.0.low in omega arith) (λ j. blocks_small string_file (drop 48 text) bs are.1 x j) i
+blocks_small string_file text (b ∷ bs) are x i = ⊎_elim (λ (e : x ≡ b). let low = are.0.low in omega arith)
+    (λ j. blocks_small string_file (drop 48 text) bs are.1 x j) i
 
 pub block_in : (b : ℕ) (before : List Property) (e : Property) (after : List Property) → In b e.blocks → In b (blocks_of (before ++ e ∷ after))
 block_in b [] e after i = in_left b e.blocks (blocks_of after) i
 block_in b (p ∷ before) e after i = in_right b p.blocks (blocks_of (before ++ e ∷ after)) (block_in b before e after i)
 
-pub blocks_given : (records now : Records) (owner : Owner) (es before : List Property) (e : Property) (after : List Property) → now ≡ records → HasProperties records owner es → es ≡ before ++ e ∷ after
+pub blocks_given : (records now : Records) (owner : Owner) (es before : List Property) (e : Property) (after : List Property) → now ≡ records
+    → HasProperties records owner es → es ≡ before ++ e ∷ after
     → AreBlocks (rec_at records format.strings_file) (long_text e.value) e.blocks → AreGivenOut now format.strings_file e.blocks
 blocks_given records now owner es before e after same has all are =
     subst (λ (r : Records). AreGivenOut r format.strings_file e.blocks) (sym same) (λ b i. record {

@@ -34,10 +34,12 @@ at_most_then n m k a b c le h g = record {
 }
   where
     left : (q : Key) → IsAmong q (h.keys ++ meta_keys) → IsAmong q ((h.keys ++ g.keys) ++ meta_keys)
-    left q i = ⊎_elim (λ k. among_left q (h.keys ++ g.keys) meta_keys (among_left q h.keys g.keys k)) (λ k. among_right q (h.keys ++ g.keys) meta_keys k) (among_either q h.keys meta_keys i)
+    left q i = ⊎_elim (λ k. among_left q (h.keys ++ g.keys) meta_keys (among_left q h.keys g.keys k)) (λ k. among_right q (h.keys ++ g.keys) meta_keys k)
+        (among_either q h.keys meta_keys i)
 
     right : (q : Key) → IsAmong q (g.keys ++ meta_keys) → IsAmong q ((h.keys ++ g.keys) ++ meta_keys)
-    right q i = ⊎_elim (λ k. among_left q (h.keys ++ g.keys) meta_keys (among_right q h.keys g.keys k)) (λ k. among_right q (h.keys ++ g.keys) meta_keys k) (among_either q g.keys meta_keys i)
+    right q i = ⊎_elim (λ k. among_left q (h.keys ++ g.keys) meta_keys (among_right q h.keys g.keys k)) (λ k. among_right q (h.keys ++ g.keys) meta_keys k)
+        (among_either q g.keys meta_keys i)
 
 -- the element's record counts as one
 pub beside_writes : (n m : ℕ) (s t : State) (key : Key) → is_meta_file key.file ≡ true → m ≡ n + 1 → WritesBeside key n s t → WritesAtMost m s t
@@ -54,14 +56,17 @@ named ids blocks = map (key_in format.properties_file) ids ++ map (key_in format
 
 -- the meta records of properties and of strings are among all of them
 own_metas : (q : Key) → IsAmong q metas → IsAmong q meta_keys
-own_metas q i = ⊎_elim (λ e. among_metas format.properties_file q refl e) (λ j. ⊎_elim (λ e. among_metas format.strings_file q refl e) (λ (k : ⊥). absurd k) j) i
+own_metas q i = ⊎_elim (λ e. among_metas format.properties_file q refl e) (λ j. ⊎_elim (λ e. among_metas format.strings_file q refl e) (λ (k : ⊥). absurd k) j)
+    i
 
 module _ (ids blocks : List ℕ) where
   named_own : AreOwn (named ids blocks)
-  named_own = own_both (map (key_in format.properties_file) ids) (map (key_in format.strings_file) blocks) (file_own format.properties_file ids refl) (file_own format.strings_file blocks refl)
+  named_own = own_both (map (key_in format.properties_file) ids) (map (key_in format.strings_file) blocks) (file_own format.properties_file ids refl)
+      (file_own format.strings_file blocks refl)
 
   named_count : length (named ids blocks) ≡ length ids + length blocks
-  named_count = let a = length-map ids (key_in format.properties_file) in let b = length-map blocks (key_in format.strings_file) in omega (arith, a, b, length-append (map (key_in format.properties_file) ids) (map (key_in format.strings_file) blocks))
+  named_count = let a = length-map ids (key_in format.properties_file) in let b = length-map blocks (key_in format.strings_file) in
+      omega (arith, a, b, length-append (map (key_in format.properties_file) ids) (map (key_in format.strings_file) blocks))
 
   named_metas : (q : Key) → IsAmong q (property_keys ids blocks) → IsAmong q (named ids blocks ++ meta_keys)
   named_metas q i =
@@ -86,5 +91,6 @@ touched_beside n m k s t key le h = record {
   keys = named h.ids h.block_ids;
   few = let a = h.few_ids in let b = h.few_blocks in omega (arith, named_count h.ids h.block_ids);
   own = named_own h.ids h.block_ids;
-  only = writes_more s t (key ∷ property_keys h.ids h.block_ids) (key ∷ named h.ids h.block_ids ++ meta_keys) (λ q i. ⊎_elim (λ e. inl e) (λ j. inr (named_metas h.ids h.block_ids q j)) i) h.only.writes;
+  only = writes_more s t (key ∷ property_keys h.ids h.block_ids) (key ∷ named h.ids h.block_ids ++ meta_keys)
+      (λ q i. ⊎_elim (λ e. inl e) (λ j. inr (named_metas h.ids h.block_ids q j)) i) h.only.writes;
 }

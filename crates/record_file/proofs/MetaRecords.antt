@@ -1,5 +1,7 @@
 -- The records of the meta file, as they stand in it.
-use Rattle.std.proofs.Common.{◌≡◌, ◌∙◌, ap, sym, subst, ℕ, zero, suc, ◌+◌, ◌*◌, ◌<◌, Bool, true, false, cond, ◌&&◌, nat_eq, nat_lt, List, [], ◌∷◌, Option, Some, None, unwrap_or, length, take, drop, slice_set, length-take, length-drop, refl, arith}
+use Rattle.std.proofs.Common.{◌≡◌, ◌∙◌, ap, sym, subst, ℕ, zero, suc, ◌+◌, ◌*◌, ◌<◌, Bool, true, false, cond, ◌&&◌}
+use Rattle.std.proofs.Common.{nat_eq, nat_lt, List, [], ◌∷◌, Option, Some, None, unwrap_or, length, take, drop}
+use Rattle.std.proofs.Common.{slice_set, length-take, length-drop, refl, arith}
 use Rattle.std.proofs.lemmas.Bool.Decides.{nat_tests}
 use Rattle.std.specs.List.{slice_get}
 use Rattle.disk_model.specs.Contents.{Files, Holds}
@@ -18,7 +20,8 @@ with_metas-same metas records are i key = each key i
     key_is : (k : Key) → k.file ≡ meta_file → k ≡ meta_key_of k.id
     key_is k file = ap (λ (f : ℕ). let q : Key = record { file = f; id = k.id } in q) file
 
-    pick : (a b : Bool) (k : Key) → nat_eq k.file meta_file ≡ a → nat_lt k.id meta_records ≡ b → unwrap_or (cond (a && b) (slice_get metas k.id) None) (records k) ≡ records k
+    pick : (a b : Bool) (k : Key) → nat_eq k.file meta_file ≡ a → nat_lt k.id meta_records ≡ b
+        → unwrap_or (cond (a && b) (slice_get metas k.id) None) (records k) ≡ records k
     pick false b k file id = refl
     pick true false k file id = refl
     pick true true k file id =
@@ -38,7 +41,8 @@ part_is id bytes content below whole holds =
     (subst (λ n. Holds meta_file n (take 64 (drop (id * 64) bytes)) content) (omega arith) (Holds-part meta_file 0 (id * 64) 64 bytes content (omega (arith, whole, below)) holds))
 
 -- one record more is set
-pub slice_get-set : (xs : List Rec) (i k : ℕ) (x : Rec) (wanted : ℕ → Rec) → i < length xs → x ≡ wanted i → ((j : ℕ) → j < i → slice_get xs j ≡ Some (wanted j)) → k < i + 1 → slice_get (slice_set xs i x) k ≡ Some (wanted k)
+pub slice_get-set : (xs : List Rec) (i k : ℕ) (x : Rec) (wanted : ℕ → Rec) → i < length xs → x ≡ wanted i → ((j : ℕ) → j < i → slice_get xs j ≡ Some (wanted j))
+    → k < i + 1 → slice_get (slice_set xs i x) k ≡ Some (wanted k)
 slice_get-set [] i k x wanted within is before below = absurd (omega arith)
 slice_get-set (y ∷ ys) zero zero x wanted within is before below = ap (λ (r : Rec). Some r) is
 slice_get-set (y ∷ ys) zero (suc k) x wanted within is before below = absurd (omega arith)

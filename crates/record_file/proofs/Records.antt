@@ -1,5 +1,6 @@
 -- Records stay where their bytes stay.
-use Rattle.std.proofs.Common.{◌≡◌, ◌∙◌, ap, sym, subst, ◌⊎◌, inl, inr, ℕ, ◌+◌, ◌*◌, ◌≤◌, ◌<◌, Bool, true, false, cond, List, length, take, drop, length-take, refl, arith}
+use Rattle.std.proofs.Common.{◌≡◌, ◌∙◌, ap, sym, subst, ◌⊎◌, inl, inr, ℕ, ◌+◌, ◌*◌, ◌≤◌, ◌<◌, Bool, true, false, cond}
+use Rattle.std.proofs.Common.{List, length, take, drop, length-take, refl, arith}
 use mathlib.Core.Bool.{false≢true}
 use Rattle.std.proofs.lemmas.List.{get_or-drop, get_or-take}
 use Rattle.disk_model.specs.Contents.{Files, Holds, Same, SameOutside, bytes_from}
@@ -20,7 +21,8 @@ Rec-of : (a b : List ℕ) → a ≡ b → let r : Rec = record { bytes = a } in 
 Rec-of a b e = ap (λ (bytes : List ℕ). let r : Rec = record { bytes = bytes } in r) e
 
 -- the record of a key of a file of records is its bytes
-record_at-is : (key : Key) (content : Files) → is_record_file key.file ≡ true → record_at content key ≡ record { bytes = bytes_from (content key.file) (64 * key.id) 64 }
+record_at-is : (key : Key) (content : Files) → is_record_file key.file ≡ true
+    → record_at content key ≡ record { bytes = bytes_from (content key.file) (64 * key.id) 64 }
 unfolding record_at
 record_at-is key content file = ap (λ b. cond b (let r : Rec = record { bytes = bytes_from (content key.file) (64 * key.id) 64 } in r) zeros) file
 
@@ -34,24 +36,29 @@ pub record_at-same : (key : Key) (old new : Files) → (is_record_file key.file 
 record_at-same key old new same =
     (elim (is_record_file key.file) as (λ (b : Bool). is_record_file key.file ≡ b → record_at new key ≡ record_at old key) [
       | true ↦ λ file. record_at-is key new file
-          ∙ Rec-of (bytes_from (new key.file) (64 * key.id) 64) (bytes_from (old key.file) (64 * key.id) 64) (bytes_from-same 64 (64 * key.id) (old key.file) (new key.file) (same file))
+          ∙ Rec-of (bytes_from (new key.file) (64 * key.id) 64) (bytes_from (old key.file) (64 * key.id) 64)
+          (bytes_from-same 64 (64 * key.id) (old key.file) (new key.file) (same file))
           ∙ sym (record_at-is key old file)
       | false ↦ λ file. record_at-none key new file ∙ sym (record_at-none key old file)
     ]) refl
 
 -- a written record is read back
-pub record_at-holds : (key : Key) (rec : Rec) (content : Files) → is_record_file key.file ≡ true → length rec.bytes ≡ 64 → Holds key.file (64 * key.id) rec.bytes content → record_at content key ≡ rec
+pub record_at-holds : (key : Key) (rec : Rec) (content : Files) → is_record_file key.file ≡ true → length rec.bytes ≡ 64
+    → Holds key.file (64 * key.id) rec.bytes content → record_at content key ≡ rec
 record_at-holds key rec content file whole holds =
     record_at-is key content file
-    ∙ Rec-of (bytes_from (content key.file) (64 * key.id) 64) rec.bytes (ap (bytes_from (content key.file) (64 * key.id)) (sym whole) ∙ bytes_from-holds rec.bytes key.file (64 * key.id) content holds)
+    ∙ Rec-of (bytes_from (content key.file) (64 * key.id) 64) rec.bytes
+    (ap (bytes_from (content key.file) (64 * key.id)) (sym whole) ∙ bytes_from-holds rec.bytes key.file (64 * key.id) content holds)
 
 -- where a read gives its bytes
-pub record_at-read : (key : Key) (bytes : List ℕ) (content : Files) → is_record_file key.file ≡ true → length bytes ≡ 64 → Holds key.file (64 * key.id) bytes content
+pub record_at-read : (key : Key) (bytes : List ℕ) (content : Files) → is_record_file key.file ≡ true → length bytes ≡ 64
+    → Holds key.file (64 * key.id) bytes content
     → let r : Rec = record { bytes = bytes } in r ≡ record_at content key
 record_at-read key bytes content file whole holds = sym (record_at-holds key (record { bytes = bytes }) content file whole holds)
 
 -- n bytes of those that stand in a file
-pub Holds-part : (file at start n : ℕ) (bytes : List ℕ) (content : Files) → start + n ≤ length bytes → Holds file at bytes content → Holds file (at + start) (take n (drop start bytes)) content
+pub Holds-part : (file at start n : ℕ) (bytes : List ℕ) (content : Files) → start + n ≤ length bytes → Holds file at bytes content
+    → Holds file (at + start) (take n (drop start bytes)) content
 Holds-part file at start n bytes content within holds i below =
     let short : i < n = omega (arith, length-take {A = ℕ}, below) in
     get_or-take n (drop start bytes) i 0 short ∙ get_or-drop start bytes i 0 ∙ holds (start + i) (omega (arith, within)) ∙ ap (content file) (omega arith)
@@ -75,7 +82,8 @@ record_at-other q key old new differ same =
     false≢true (sym differ ∙ subst (λ k. key_eq q k ≡ true) (key-parts q key within.in_file id) (key_eq-same q))))
 
 -- a settled disk has the records that are read
-pub record_at-settled : (key : Key) (read : Files) (images : Files → Type 0) (image : Files) → ((file : ℕ) → is_record_file file ≡ true → Settled file read images) → images image → record_at image key ≡ record_at read key
+pub record_at-settled : (key : Key) (read : Files) (images : Files → Type 0) (image : Files)
+    → ((file : ℕ) → is_record_file file ≡ true → Settled file read images) → images image → record_at image key ≡ record_at read key
 record_at-settled key read images image settled left = record_at-same key read image (λ file p first end. settled key.file file image left p)
 
 -- bytes of the log leave the records

@@ -54,18 +54,21 @@ redone-last (entry ∷ later) records key =
     redone-last later (laid_over records entry) key ∙ sym (unwrap_or-option_or (last_of later key) (find_pair entry key) (records key))
 
 -- one entry more
-pub redone-append : (entries : List Pairs) (writes : Pairs) (records : Key → Rec) → redone records (entries ++ writes ∷ []) ≡ laid_over (redone records entries) writes
+pub redone-append : (entries : List Pairs) (writes : Pairs) (records : Key → Rec)
+    → redone records (entries ++ writes ∷ []) ≡ laid_over (redone records entries) writes
 redone-append [] writes records = refl
 redone-append (entry ∷ later) writes records = redone-append later writes (laid_over records entry)
 
-pub last_of-append : (entries : List Pairs) (writes : Pairs) (key : Key) → last_of (entries ++ writes ∷ []) key ≡ option_or (find_pair writes key) (last_of entries key)
+pub last_of-append : (entries : List Pairs) (writes : Pairs) (key : Key)
+    → last_of (entries ++ writes ∷ []) key ≡ option_or (find_pair writes key) (last_of entries key)
 last_of-append [] writes key = none (find_pair writes key)
   where
     none : {X : Type 0} (a : Option X) → option_or None a ≡ option_or a None
     none (Some x) = refl
     none None = refl
 last_of-append (entry ∷ later) writes key =
-    ap (λ o. option_or o (find_pair entry key)) (last_of-append later writes key) ∙ option_or-assoc (find_pair writes key) (last_of later key) (find_pair entry key)
+    ap (λ o. option_or o (find_pair entry key)) (last_of-append later writes key)
+    ∙ option_or-assoc (find_pair writes key) (last_of later key) (find_pair entry key)
 
 unwrap_or-same : {X : Type 0} (o : Option X) (a b : X) → (o ≡ None → a ≡ b) → unwrap_or o a ≡ unwrap_or o b
 unwrap_or-same (Some x) a b same = refl
@@ -79,7 +82,8 @@ redone-same entries a b same = λ i key. at key i
     at key = redone-last entries a key ∙ unwrap_or-same (last_of entries key) (a key) (b key) (same key) ∙ sym (redone-last entries b key)
 
 -- A torn write of logged records leaves what the log makes of the records.
-pub RedoesBy-torn : (entries : List Pairs) (tail : ℕ) (space : Key → Rec) (written : Pairs) (old new : Files) → RedoesBy entries tail space old → SameButRecords written old new → AreLogged entries written
+pub RedoesBy-torn : (entries : List Pairs) (tail : ℕ) (space : Key → Rec) (written : Pairs) (old new : Files) → RedoesBy entries tail space old
+    → SameButRecords written old new → AreLogged entries written
     → RedoesBy entries tail space new
 RedoesBy-torn entries tail space written old new by same logged = record {
   log = HasEntries-read entries tail old new by.log same.log;
@@ -87,22 +91,28 @@ RedoesBy-torn entries tail space written old new by same logged = record {
 }
 
 -- and so do reads
-pub RedoesBy-kept : (entries : List Pairs) (tail : ℕ) (space : Key → Rec) (old new : Files) → RedoesBy entries tail space old → Same old new → RedoesBy entries tail space new
+pub RedoesBy-kept : (entries : List Pairs) (tail : ℕ) (space : Key → Rec) (old new : Files) → RedoesBy entries tail space old → Same old new
+    → RedoesBy entries tail space new
 RedoesBy-kept entries tail space old new by same = RedoesBy-torn entries tail space [] old new by (SameButRecords-same [] old new same) (λ key none. refl)
 
 pub Redoes-kept : (space : Key → Rec) (old new : Files) → Redoes old space → Same old new → Redoes new space
-Redoes-kept space old new redoes same = Redoes-by redoes.entries redoes.tail space new (RedoesBy-kept redoes.entries redoes.tail space old new (RedoesBy-of old space redoes) same)
+Redoes-kept space old new redoes same = Redoes-by redoes.entries redoes.tail space new
+    (RedoesBy-kept redoes.entries redoes.tail space old new (RedoesBy-of old space redoes) same)
 
 -- each content that is torn in logged records
-pub RedoesBy-torn_in : (entries : List Pairs) (tail : ℕ) (space : Key → Rec) (written : Pairs) (images : Files → Type 0) → AllRedoBy images entries tail space → AreLogged entries written → (content : Files)
+pub RedoesBy-torn_in : (entries : List Pairs) (tail : ℕ) (space : Key → Rec) (written : Pairs) (images : Files → Type 0) → AllRedoBy images entries tail space
+    → AreLogged entries written → (content : Files)
     → IsTornInRecords images written content → RedoesBy entries tail space content
-RedoesBy-torn_in entries tail space written images all logged content torn = RedoesBy-torn entries tail space written torn.0 content (all torn.0 torn.1) torn.2 logged
+RedoesBy-torn_in entries tail space written images all logged content torn =
+    RedoesBy-torn entries tail space written torn.0 content (all torn.0 torn.1) torn.2 logged
 
-pub AllHaveEntries-redo : (images : Files → Type 0) (entries : List Pairs) (tail : ℕ) (space : Key → Rec) → AllRedoBy images entries tail space → AllHaveEntries images entries tail
+pub AllHaveEntries-redo : (images : Files → Type 0) (entries : List Pairs) (tail : ℕ) (space : Key → Rec) → AllRedoBy images entries tail space
+    → AllHaveEntries images entries tail
 AllHaveEntries-redo images entries tail space all image left = (all image left).log
 
 -- the records of the content with the changed ones over them are what it redoes to
-pub RedoesBy-logged : (content : Files) (changed : Pairs) (tail : ℕ) (is : IsLogged content changed tail) → RedoesBy is.entries tail (laid_over (record_at content) changed) content
+pub RedoesBy-logged : (content : Files) (changed : Pairs) (tail : ℕ) (is : IsLogged content changed tail)
+    → RedoesBy is.entries tail (laid_over (record_at content) changed) content
 RedoesBy-logged content changed tail is = record { log = is.log; makes = λ i key. at key i }
   where
     at : (key : Key) → redone (record_at content) is.entries key ≡ laid_over (record_at content) changed key
@@ -113,13 +123,16 @@ pub AreLogged-changed : (content : Files) (changed : Pairs) (tail : ℕ) (is : I
 AreLogged-changed content changed tail is key none = is.changes key ∙ none
 
 -- and each image redoes to the same
-pub AllRedoBy-alike : (content : Files) (changed : Pairs) (tail : ℕ) (images : Files → Type 0) (is : IsLogged content changed tail) → AreAlike content changed images
+pub AllRedoBy-alike : (content : Files) (changed : Pairs) (tail : ℕ) (images : Files → Type 0) (is : IsLogged content changed tail)
+    → AreAlike content changed images
     → AllRedoBy images is.entries tail (laid_over (record_at content) changed)
 AllRedoBy-alike content changed tail images is alike image left =
-    RedoesBy-torn is.entries tail (laid_over (record_at content) changed) changed content image (RedoesBy-logged content changed tail is) (alike image left) (AreLogged-changed content changed tail is)
+    RedoesBy-torn is.entries tail (laid_over (record_at content) changed) changed content image (RedoesBy-logged content changed tail is) (alike image left)
+    (AreLogged-changed content changed tail is)
 
 -- A changed first gate leaves what the content makes, where its records are those of the space.
-pub Redoes-gate : (entries : List Pairs) (tail : ℕ) (space : Key → Rec) (old content : Files) → RedoesBy entries tail space old → record_at old ≡ space → SameButGate old content
+pub Redoes-gate : (entries : List Pairs) (tail : ℕ) (space : Key → Rec) (old content : Files) → RedoesBy entries tail space old → record_at old ≡ space
+    → SameButGate old content
     → HasEntriesOrNone content entries tail → Redoes content space
 Redoes-gate entries tail space old content by are elsewhere entries_are =
     let same : record_at content ≡ record_at old = λ i key. record_at-log key 0 1 old content elsewhere i in
@@ -135,11 +148,13 @@ Redoes-reset entries tail space images all are content reset =
     Redoes-gate entries tail space reset.old content (all reset.old reset.was_left) (are reset.old reset.was_left) reset.elsewhere reset.entries_are
 
 -- Once the files of records are settled, each image has the records that are read.
-pub records-settled : (read : Files) (images : Files → Type 0) → ((file : ℕ) → is_record_file file ≡ true → Settled file read images) → (image : Files) → images image → record_at image ≡ record_at read
+pub records-settled : (read : Files) (images : Files → Type 0) → ((file : ℕ) → is_record_file file ≡ true → Settled file read images) → (image : Files)
+    → images image → record_at image ≡ record_at read
 records-settled read images settled image left = λ i key. record_at-settled key read images image settled left i
 
 -- the files of records are among all
-pub settled-records : {D : Type 0} (g : Ghosts D) (disk : D) → IsAllSettled g disk → (file : ℕ) → is_record_file file ≡ true → Settled file (g.reads disk) (g.may_leave disk)
+pub settled-records : {D : Type 0} (g : Ghosts D) (disk : D) → IsAllSettled g disk → (file : ℕ) → is_record_file file ≡ true
+    → Settled file (g.reads disk) (g.may_leave disk)
 settled-records g disk settled file is = settled file (IsFile-record file is)
 
 pub settled-log : {D : Type 0} (g : Ghosts D) (disk : D) → IsAllSettled g disk → Settled log_file (g.reads disk) (g.may_leave disk)
@@ -157,7 +172,8 @@ AreAlike-settled g disk changed settled image left = record {
 }
 
 -- one entry more has the records that were put last
-pub IsLogged-more : (old new : Files) (changed own merged : Pairs) (tail next : ℕ) (is : IsLogged old changed tail) → HasEntries new (is.entries ++ own ∷ []) next
+pub IsLogged-more : (old new : Files) (changed own merged : Pairs) (tail next : ℕ) (is : IsLogged old changed tail)
+    → HasEntries new (is.entries ++ own ∷ []) next
     → ((key : Key) → find_pair merged key ≡ option_or (find_pair own key) (find_pair changed key)) → IsLogged new merged next
 IsLogged-more old new changed own merged tail next is log finds = record {
   entries = is.entries ++ own ∷ [];
@@ -187,7 +203,8 @@ AreAlike-more old new changed own merged tail images now alike finds settled sam
     }
 
 -- a content that an append may leave redoes to the space before it or to that with the new records
-pub Redoes-appended : (images : Files → Type 0) (entries : List Pairs) (own : Pairs) (tail : ℕ) (space : Key → Rec) → AllRedoBy images entries tail space → (content : Files)
+pub Redoes-appended : (images : Files → Type 0) (entries : List Pairs) (own : Pairs) (tail : ℕ) (space : Key → Rec) → AllRedoBy images entries tail space
+    → (content : Files)
     → IsAppended images entries own tail content → Redoes content space ⊎ Redoes content (laid_over space own)
 Redoes-appended images entries own tail space all content is =
     let by = all is.old is.was_left in
@@ -202,7 +219,8 @@ Redoes-appended images entries own tail space all content is =
     is.entries_are
 
 -- the space with the merged records is the old one with the new records over it
-pub space-merged : (old new : Files) (changed own merged : Pairs) (tail : ℕ) → ((key : Key) → find_pair merged key ≡ option_or (find_pair own key) (find_pair changed key)) → SameButEntry tail own old new
+pub space-merged : (old new : Files) (changed own merged : Pairs) (tail : ℕ)
+    → ((key : Key) → find_pair merged key ≡ option_or (find_pair own key) (find_pair changed key)) → SameButEntry tail own old new
     → laid_over (record_at new) merged ≡ laid_over (laid_over (record_at old) changed) own
 space-merged old new changed own merged tail finds same = λ i key. at key i
   where
@@ -210,4 +228,5 @@ space-merged old new changed own merged tail finds same = λ i key. at key i
     at key =
         ap (λ (o : Option Rec). unwrap_or o (record_at new key)) (finds key)
         ∙ unwrap_or-option_or (find_pair own key) (find_pair changed key) (record_at new key)
-        ∙ ap (λ (r : Rec). unwrap_or (find_pair own key) (unwrap_or (find_pair changed key) r)) (record_at-log key tail (entry_bytes (length own) + 1) old new same)
+        ∙ ap (λ (r : Rec). unwrap_or (find_pair own key) (unwrap_or (find_pair changed key) r))
+        (record_at-log key tail (entry_bytes (length own) + 1) old new same)

@@ -1,5 +1,6 @@
 -- What writing records one after the other does.
-use Rattle.std.proofs.Common.{◌≡◌, ◌≢◌, ◌∙◌, ap, sym, subst, ⊎_elim, ℕ, zero, suc, ◌+◌, ◌≤◌, false, [], ◌∷◌, Option, Some, None, unwrap_or, is_some, length, drop, refl, arith}
+use Rattle.std.proofs.Common.{◌≡◌, ◌≢◌, ◌∙◌, ap, sym, subst, ⊎_elim, ℕ, zero, suc, ◌+◌, ◌≤◌, false, [], ◌∷◌, Option}
+use Rattle.std.proofs.Common.{Some, None, unwrap_or, is_some, length, drop, refl, arith}
 use mathlib.Core.Bool.{false≢true}
 use Rattle.std.specs.List.{AllByRecursion, slice_get}
 use Rattle.std.specs.declared.cmp.Ordering.TheVariants.{Less, Greater}
@@ -20,7 +21,8 @@ use Rattle.record_file.specs.Records.{IsTornInRecords, SameButRecords}
 use Rattle.record_file.proofs.Records.{cases_key, record_at-kept}
 
 -- two changes of these records
-pub SameButRecords-then : (written : Pairs) (old middle new : Files) → SameButRecords written old middle → SameButRecords written middle new → SameButRecords written old new
+pub SameButRecords-then : (written : Pairs) (old middle new : Files) → SameButRecords written old middle → SameButRecords written middle new
+    → SameButRecords written old new
 SameButRecords-then written old middle new before after = record {
   log = λ place. after.log place ∙ before.log place;
   others = λ key none. after.others key none ∙ before.others key none;
@@ -34,8 +36,10 @@ pub SameButRecords-none : (written : Pairs) (content : Files) → SameButRecords
 SameButRecords-none written content = record { log = λ place. refl; others = λ key none. refl }
 
 -- before the first write
-pub torn_in_records_none : {D : Type 0} (g : Ghosts D) (disk : D) (written : Pairs) → OnlyNow g → g.tells_images → AtEachMoment g disk disk (IsTornInRecords (g.may_leave disk) written)
-torn_in_records_none g disk written only told = at_each_moment_none g disk (IsTornInRecords (g.may_leave disk) written) only told (λ image left. (image, left, SameButRecords-none written image))
+pub torn_in_records_none : {D : Type 0} (g : Ghosts D) (disk : D) (written : Pairs) → OnlyNow g → g.tells_images
+    → AtEachMoment g disk disk (IsTornInRecords (g.may_leave disk) written)
+torn_in_records_none g disk written only told = at_each_moment_none g disk (IsTornInRecords (g.may_leave disk) written) only told
+    (λ image left. (image, left, SameButRecords-none written image))
 
 -- records that are all among these
 abbrev pub AreAmong : Pairs → Pairs → Type 0
@@ -45,7 +49,8 @@ pub AreAmong-none : (written : Pairs) → AreAmong [] written
 AreAmong-none written key none = refl
 
 -- one more of them
-pub AreAmong-put : (old new written : Pairs) (key : Key) → AreAmong old written → find_pair written key ≢ None → ((q : Key) → find_pair old q ≡ None → key_eq q key ≡ false → find_pair new q ≡ None) → AreAmong new written
+pub AreAmong-put : (old new written : Pairs) (key : Key) → AreAmong old written → find_pair written key ≢ None
+    → ((q : Key) → find_pair old q ≡ None → key_eq q key ≡ false → find_pair new q ≡ None) → AreAmong new written
 AreAmong-put old new written key among found waits q none = ⊎_elim
     (λ e. absurd (found (subst (λ k. find_pair written k ≡ None) e none)))
     (λ differ. waits q (among q none) differ)
@@ -57,7 +62,8 @@ SameButRecords-among some written old new among same = record { log = same.log; 
 
 -- one write more of some of these records
 pub torn_in_records_more : {D : Type 0} (g : Ghosts D) (first old new : D) (written some : Pairs) → CountsNow g → g.tells_images
-    → AtEachMoment g first old (IsTornInRecords (g.may_leave first) written) → Passes g old new → ((image : Files) → g.may_leave new image → IsTornInRecords (g.may_leave old) some image)
+    → AtEachMoment g first old (IsTornInRecords (g.may_leave first) written) → Passes g old new
+    → ((image : Files) → g.may_leave new image → IsTornInRecords (g.may_leave old) some image)
     → AreAmong some written → AtEachMoment g first new (IsTornInRecords (g.may_leave first) written)
 torn_in_records_more g first old new written some counts told before time torn among =
     at_each_moment_then g first old new (IsTornInRecords (g.may_leave first) written) before time (λ image left.
@@ -89,7 +95,8 @@ pub find_pair-there : (ps : Pairs) (i : ℕ) (write : Key × Rec) → IsOrdered 
 find_pair-there ps i write ordered is = some≢none (find_pair ps write.0) write.1 (find_pair-get ps i write ordered is)
 
 -- without the pair at the place the same is found at each other key
-pub find_pair-drop : (ps : Pairs) (i : ℕ) (write : Key × Rec) (key : Key) → slice_get ps i ≡ Some write → key_eq key write.0 ≡ false → find_pair (drop i ps) key ≡ find_pair (drop (suc i) ps) key
+pub find_pair-drop : (ps : Pairs) (i : ℕ) (write : Key × Rec) (key : Key) → slice_get ps i ≡ Some write → key_eq key write.0 ≡ false
+    → find_pair (drop i ps) key ≡ find_pair (drop (suc i) ps) key
 find_pair-drop [] i write key is differ = absurd (false≢true (ap is_some is))
 find_pair-drop (pair ∷ rest) zero write key is differ =
     let same : pair ≡ write = ap (λ (o : Option (Key × Rec)). unwrap_or o pair) is in

@@ -1,5 +1,6 @@
 -- What a step of writing the log's entries leaves.
-use Rattle.std.proofs.Common.{◌≡◌, ◌≢◌, ◌∙◌, ap, sym, subst, ℕ, ◌+◌, List, [], ◌∷◌, ◌++◌, Option, Some, None, is_some, length, refl, arith, append_assoc, append-nil}
+use Rattle.std.proofs.Common.{◌≡◌, ◌≢◌, ◌∙◌, ap, sym, subst, ℕ, ◌+◌, List, [], ◌∷◌, ◌++◌, Option, Some, None, is_some}
+use Rattle.std.proofs.Common.{length, refl, arith, append_assoc, append-nil}
 use mathlib.Core.Bool.{false≢true}
 use Rattle.std.specs.Option.{option_or}
 use Rattle.disk_model.specs.Contents.{Files, Same}
@@ -32,7 +33,8 @@ pub record IsRedoneTo (entries : List Pairs) (tail : ℕ) (first now : Files) (p
   pub made : record_at now ≡ redone (record_at first) done
   pub same : SameButLogged entries first now
 
-pub SameButLogged-then : (entries : List Pairs) (old middle new : Files) → SameButLogged entries old middle → SameButLogged entries middle new → SameButLogged entries old new
+pub SameButLogged-then : (entries : List Pairs) (old middle new : Files) → SameButLogged entries old middle → SameButLogged entries middle new
+    → SameButLogged entries old new
 SameButLogged-then entries old middle new before after = record {
   log = λ place. after.log place ∙ before.log place;
   others = λ key none. after.others key none ∙ before.others key none;
@@ -55,14 +57,16 @@ last_of-none [] later entry key none = none_right (last_of later key) (find_pair
 last_of-none (d ∷ ds) later entry key none = last_of-none ds later entry key (none_left (last_of (ds ++ entry ∷ later) key) (find_pair d key) none)
 
 -- a change of the records of an entry
-pub SameButLogged-entry : (entries done later : List Pairs) (entry : Pairs) (old new : Files) → done ++ entry ∷ later ≡ entries → SameButRecords entry old new → SameButLogged entries old new
+pub SameButLogged-entry : (entries done later : List Pairs) (entry : Pairs) (old new : Files) → done ++ entry ∷ later ≡ entries → SameButRecords entry old new
+    → SameButLogged entries old new
 SameButLogged-entry entries done later entry old new all same = record {
   log = same.log;
   others = λ key none. same.others key (last_of-none done later entry key (ap (λ (es : List Pairs). last_of es key) all ∙ none));
 }
 
 -- where the log stays, the entries from a place on stay
-HasEntriesFrom-read : (entries : List Pairs) (place tail : ℕ) (old new : Files) → HasEntriesFrom place old entries tail → ((p : ℕ) → new log_file p ≡ old log_file p) → HasEntriesFrom place new entries tail
+HasEntriesFrom-read : (entries : List Pairs) (place tail : ℕ) (old new : Files) → HasEntriesFrom place old entries tail
+    → ((p : ℕ) → new log_file p ≡ old log_file p) → HasEntriesFrom place new entries tail
 HasEntriesFrom-read [] place tail old new has same = (has.0, λ is_open. has.1 (sym (same place) ∙ is_open))
 HasEntriesFrom-read (entry ∷ later) place tail old new has same = (
   IsEntry-same place old new (λ p from end. same p) has.0,
@@ -71,7 +75,8 @@ HasEntriesFrom-read (entry ∷ later) place tail old new has same = (
 )
 
 -- after a read
-pub IsRedoneTo-read : (entries : List Pairs) (tail : ℕ) (first old now : Files) (piece next : Piece) (place : ℕ) → IsRedoneTo entries tail first old piece place → Same old now → IsPieceOf now next → IsRedoneTo entries tail first now next place
+pub IsRedoneTo-read : (entries : List Pairs) (tail : ℕ) (first old now : Files) (piece next : Piece) (place : ℕ) → IsRedoneTo entries tail first old piece place
+    → Same old now → IsPieceOf now next → IsRedoneTo entries tail first now next place
 IsRedoneTo-read entries tail first old now piece next place was same kept =
     let records : record_at now ≡ record_at old = λ i key. record_at-kept key old now same i in
     record {
@@ -90,17 +95,20 @@ pub record IsNext (entries : List Pairs) (tail : ℕ) (content : Files) (place :
   pub left_is : done ++ entry_at content place ∷ later ≡ entries
   pub rest : HasEntriesFrom (place + entry_bytes (count_at content place)) content later tail
 
-pub IsNext-entry : (entries : List Pairs) (tail : ℕ) (content : Files) (place : ℕ) (done left : List Pairs) → IsEntry content place → HasEntriesFrom place content left tail → done ++ left ≡ entries
+pub IsNext-entry : (entries : List Pairs) (tail : ℕ) (content : Files) (place : ℕ) (done left : List Pairs) → IsEntry content place
+    → HasEntriesFrom place content left tail → done ++ left ≡ entries
     → IsNext entries tail content place done left
 IsNext-entry entries tail content place done [] entry rest all = absurd (rest.1 entry.open_gate)
 IsNext-entry entries tail content place done (e ∷ later) entry rest all = record {
   later = later;
   left_is = ap (λ (x : Pairs). done ++ x ∷ later) rest.1 ∙ all;
-  rest = subst (λ n. HasEntriesFrom (place + entry_bytes n) content later tail) (ap (λ (x : Pairs). length x) (sym rest.1) ∙ length-writes_from (count_at content place) (place + 3) content) rest.2;
+  rest = subst (λ n. HasEntriesFrom (place + entry_bytes n) content later tail)
+      (ap (λ (x : Pairs). length x) (sym rest.1) ∙ length-writes_from (count_at content place) (place + 3) content) rest.2;
 }
 
 -- one entry more
-pub IsRedoneTo-more : (entries : List Pairs) (tail : ℕ) (first old new : Files) (piece next_piece : Piece) (place next : ℕ) → (was : IsRedoneTo entries tail first old piece place)
+pub IsRedoneTo-more : (entries : List Pairs) (tail : ℕ) (first old new : Files) (piece next_piece : Piece) (place next : ℕ)
+    → (was : IsRedoneTo entries tail first old piece place)
     → IsEntry old place → next ≡ place + entry_bytes (count_at old place) → SameButRecords (entry_at old place) old new
     → record_at new ≡ laid_over (record_at old) (entry_at old place) → IsPieceOf new next_piece → IsRedoneTo entries tail first new next_piece next
 IsRedoneTo-more entries tail first old new piece next_piece place next was entry next_is same written kept =
@@ -110,18 +118,21 @@ IsRedoneTo-more entries tail first old new piece next_piece place next was entry
       done = was.done ++ e ∷ [];
       left = at.later;
       all = append_assoc was.done (e ∷ []) at.later ∙ at.left_is;
-      rest = subst (λ p. HasEntriesFrom p new at.later tail) (sym next_is) (HasEntriesFrom-read at.later (place + entry_bytes (count_at old place)) tail old new at.rest same.log);
+      rest = subst (λ p. HasEntriesFrom p new at.later tail) (sym next_is)
+          (HasEntriesFrom-read at.later (place + entry_bytes (count_at old place)) tail old new at.rest same.log);
       kept = kept;
       made = written ∙ ap (λ (records : Key → Rec). laid_over records e) was.made ∙ sym (redone-append was.done e (record_at first));
       same = SameButLogged-then entries first old new was.same (SameButLogged-entry entries was.done at.later e old new at.left_is same);
     }
 
 -- over a closed gate all entries are redone
-all_done : (left done entries : List Pairs) (place tail : ℕ) (content : Files) → HasEntriesFrom place content left tail → content log_file place ≢ 1 → done ++ left ≡ entries → done ≡ entries
+all_done : (left done entries : List Pairs) (place tail : ℕ) (content : Files) → HasEntriesFrom place content left tail → content log_file place ≢ 1
+    → done ++ left ≡ entries → done ≡ entries
 all_done [] done entries place tail content has closed all = sym (append-nil done) ∙ all
 all_done (e ∷ l) done entries place tail content has closed all = absurd (closed has.0.open_gate)
 
-pub IsRedoneTo-end : (entries : List Pairs) (tail : ℕ) (first now : Files) (piece : Piece) (place : ℕ) → (was : IsRedoneTo entries tail first now piece place) → now log_file place ≢ 1
+pub IsRedoneTo-end : (entries : List Pairs) (tail : ℕ) (first now : Files) (piece : Piece) (place : ℕ) → (was : IsRedoneTo entries tail first now piece place)
+    → now log_file place ≢ 1
     → record_at now ≡ redone (record_at first) entries
 IsRedoneTo-end entries tail first now piece place was closed =
     was.made ∙ ap (λ (es : List Pairs). redone (record_at first) es) (all_done was.left was.done entries place tail now was.rest closed was.all)
@@ -137,19 +148,22 @@ none_stands tail first now piece place was entry =
     cons_after was.done at.later (entry_at now place) at.left_is
 
 -- an open gate over another form doesn't stand among entries
-pub none_damaged : (entries : List Pairs) (place tail : ℕ) (content : Files) → HasEntriesFrom place content entries tail → content log_file place ≡ 1 → ¬ IsEntry content place → ⊥
+pub none_damaged : (entries : List Pairs) (place tail : ℕ) (content : Files) → HasEntriesFrom place content entries tail → content log_file place ≡ 1
+    → ¬ IsEntry content place → ⊥
 none_damaged [] place tail content has is_open other = has.1 is_open
 none_damaged (e ∷ l) place tail content has is_open other = other has.0
 
 -- a content that is torn in logged records redoes to the same
-pub RedoesBy-torn_logged : (entries : List Pairs) (tail : ℕ) (space : Key → Rec) (old new : Files) → RedoesBy entries tail space old → SameButLogged entries old new → RedoesBy entries tail space new
+pub RedoesBy-torn_logged : (entries : List Pairs) (tail : ℕ) (space : Key → Rec) (old new : Files) → RedoesBy entries tail space old
+    → SameButLogged entries old new → RedoesBy entries tail space new
 RedoesBy-torn_logged entries tail space old new by same = record {
   log = HasEntries-read entries tail old new by.log same.log;
   makes = redone-same entries (record_at new) (record_at old) same.others ∙ by.makes;
 }
 
 -- after a read the reader is at the entry
-pub IsAtEntry-read : (old mid : Files) (next : Piece) (place count : ℕ) → IsEntry old place → count ≡ count_at old place → Same old mid → IsPieceOf mid next → IsAtEntry mid next place count
+pub IsAtEntry-read : (old mid : Files) (next : Piece) (place count : ℕ) → IsEntry old place → count ≡ count_at old place → Same old mid → IsPieceOf mid next
+    → IsAtEntry mid next place count
 IsAtEntry-read old mid next place count entry count_is same kept = record {
   kept = kept;
   entry = IsEntry-same place old mid (λ p from end. same log_file p) entry;
@@ -157,14 +171,17 @@ IsAtEntry-read old mid next place count entry count_is same kept = record {
 }
 
 -- a content that is torn in records of an entry is torn in logged ones
-pub IsTornInLogged-entry : (images mid : Files → Type 0) (entries : List Pairs) (tail : ℕ) (content : Files) (place : ℕ) (done left : List Pairs) → IsNext entries tail content place done left
-    → ((image : Files) → mid image → IsTornInLogged images entries image) → (image : Files) → IsTornInRecords mid (entry_at content place) image → IsTornInLogged images entries image
+pub IsTornInLogged-entry : (images mid : Files → Type 0) (entries : List Pairs) (tail : ℕ) (content : Files) (place : ℕ) (done left : List Pairs)
+    → IsNext entries tail content place done left
+    → ((image : Files) → mid image → IsTornInLogged images entries image) → (image : Files) → IsTornInRecords mid (entry_at content place) image
+    → IsTornInLogged images entries image
 IsTornInLogged-entry images mid entries tail content place done left at are image torn =
     let old = are torn.0 torn.1 in
     (old.0, old.1, SameButLogged-then entries old.0 torn.0 image old.2 (SameButLogged-entry entries done at.later (entry_at content place) torn.0 image at.left_is torn.2))
 
 -- on a settled disk each image makes what is read
-pub AllRedoBy-settled : {D : Type 0} (g : Ghosts D) (disk : D) (entries : List Pairs) (tail : ℕ) (space : Key → Rec) → IsAllSettled g disk → RedoesBy entries tail space (g.reads disk)
+pub AllRedoBy-settled : {D : Type 0} (g : Ghosts D) (disk : D) (entries : List Pairs) (tail : ℕ) (space : Key → Rec) → IsAllSettled g disk
+    → RedoesBy entries tail space (g.reads disk)
     → AllRedoBy (g.may_leave disk) entries tail space
 AllRedoBy-settled g disk entries tail space settled by image left =
     RedoesBy-torn_logged entries tail space (g.reads disk) image by (record {

@@ -33,7 +33,8 @@ AreLaid base ps i now = (key : Key) → find_pair (drop i ps) key ≡ None → n
 AreLaid-none : (base : Key → Rec) (ps : Pairs) → AreLaid base ps 0 base
 AreLaid-none base ps key none = rw none refl
 
-AreLaid-more : (base now : Key → Rec) (ps : Pairs) (i : ℕ) (write : Key × Rec) → IsOrdered ps → slice_get ps i ≡ Some write → AreLaid base ps i now → AreLaid base ps (i + 1) (put now write.0 write.1)
+AreLaid-more : (base now : Key → Rec) (ps : Pairs) (i : ℕ) (write : Key × Rec) → IsOrdered ps → slice_get ps i ≡ Some write → AreLaid base ps i now
+    → AreLaid base ps (i + 1) (put now write.0 write.1)
 AreLaid-more base now ps i write ordered is are key none =
     let found : find_pair ps write.0 ≡ Some write.1 = find_pair-get ps i write ordered is in
     let next : i + 1 ≡ suc i = omega arith in
@@ -52,7 +53,8 @@ pub record IsTaken (records : List Rec) (base : Key → Rec) (ps : Pairs) (i : �
 pub IsTaken-none : (records : List Rec) (base : Key → Rec) (ps : Pairs) → AreMetasOf base records → IsTaken records base ps 0
 IsTaken-none records base ps are = record { now = base; are = are; laid = AreLaid-none base ps }
 
-pub IsTaken-more : (old new : List Rec) (base : Key → Rec) (ps : Pairs) (i : ℕ) (write : Key × Rec) → IsOrdered ps → slice_get ps i ≡ Some write → IsTaken old base ps i
+pub IsTaken-more : (old new : List Rec) (base : Key → Rec) (ps : Pairs) (i : ℕ) (write : Key × Rec) → IsOrdered ps → slice_get ps i ≡ Some write
+    → IsTaken old base ps i
     → ((space : Key → Rec) → AreMetasOf space old → AreMetasOf (put space write.0 write.1) new) → IsTaken new base ps (i + 1)
 IsTaken-more old new base ps i write ordered is was puts = record {
   now = put was.now write.0 write.1;
@@ -60,7 +62,8 @@ IsTaken-more old new base ps i write ordered is was puts = record {
   laid = AreLaid-more base was.now ps i write ordered is was.laid;
 }
 
-pub IsTaken-all : (records : List Rec) (base : Key → Rec) (ps : Pairs) (i : ℕ) → IsTaken records base ps i → length ps ≤ i → AreMetasOf (laid_over base ps) records
+pub IsTaken-all : (records : List Rec) (base : Key → Rec) (ps : Pairs) (i : ℕ) → IsTaken records base ps i → length ps ≤ i
+    → AreMetasOf (laid_over base ps) records
 IsTaken-all records base ps i is end id below = is.are id below ∙ ap (λ (r : Rec). Some r) (is.laid (meta_key_of id) (find_pair-end ps i (meta_key_of id) end))
 
 -- The log has entries up to the place, and these are the records that they make of the meta file's.
@@ -70,7 +73,8 @@ pub record IsReadTo (content : Files) (place : ℕ) (records : List Rec) : Type 
   pub are : AreMetasOf (redone (record_at content) entries) records
 
 -- one more
-pub IsReadTo-more : (content : Files) (place next : ℕ) (old new : List Rec) → (was : IsReadTo content place old) → IsEntry content place → next ≡ place + entry_bytes (count_at content place)
+pub IsReadTo-more : (content : Files) (place next : ℕ) (old new : List Rec) → (was : IsReadTo content place old) → IsEntry content place
+    → next ≡ place + entry_bytes (count_at content place)
     → ((space : Key → Rec) → AreMetasOf space old → AreMetasOf (laid_over space (entry_at content place)) new) → IsReadTo content next new
 IsReadTo-more content place next old new was entry next_is taken =
     let e = entry_at content place in
@@ -79,11 +83,13 @@ IsReadTo-more content place next old new was entry next_is taken =
     record {
       entries = was.entries ++ e ∷ [];
       before = subst (λ (p : ℕ). HasEntriesUpTo 0 content (was.entries ++ e ∷ []) p) end (HasEntriesUpTo-more was.entries 0 place content was.before entry);
-      are = subst (λ (space : Key → Rec). AreMetasOf space new) (sym (redone-append was.entries e (record_at content))) (taken (redone (record_at content) was.entries) was.are);
+      are = subst (λ (space : Key → Rec). AreMetasOf space new) (sym (redone-append was.entries e (record_at content)))
+          (taken (redone (record_at content) was.entries) was.are);
     }
 
 -- up to a closed gate the entries are the log's
-pub HasEntries-read_to : (content : Files) (place : ℕ) (records : List Rec) → (was : IsReadTo content place records) → content log_file place ≢ 1 → HasEntries content was.entries place
+pub HasEntries-read_to : (content : Files) (place : ℕ) (records : List Rec) → (was : IsReadTo content place records) → content log_file place ≢ 1
+    → HasEntries content was.entries place
 HasEntries-read_to content place records was closed = HasEntriesUpTo-closed was.entries 0 place content was.before closed
 
 -- what stands at a place stands there in each content with the same bytes

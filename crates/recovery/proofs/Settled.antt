@@ -1,5 +1,6 @@
 -- Which files are settled, as they are synced one after the other.
-use Rattle.std.proofs.Common.{◌≡◌, ◌∙◌, ap, sym, ⊎_elim, ℕ, zero, suc, ◌+◌, ◌<◌, ◌≤◌, Bool, true, false, ◌&&◌, nat_eq, nat_lt, List, [], ◌∷◌, length, get_or, refl, arith}
+use Rattle.std.proofs.Common.{◌≡◌, ◌∙◌, ap, sym, ⊎_elim, ℕ, zero, suc, ◌+◌, ◌<◌, ◌≤◌, Bool, true, false, ◌&&◌, nat_eq}
+use Rattle.std.proofs.Common.{nat_lt, List, [], ◌∷◌, length, get_or, refl, arith}
 use Rattle.std.proofs.lemmas.Bool.{cases_lt, false≢true}
 use Rattle.std.proofs.lemmas.Bool.Decides.{nat_tests}
 use Rattle.std.proofs.lemmas.List.{get_or_default}
@@ -15,7 +16,8 @@ use Rattle.rec_bytes.proofs.RecordFiles.{is_among-files}
 use Rattle.recovery.specs.Syncing.{AreRecordsSettled}
 
 -- a settled file stays so where calls only read
-pub Settled-kept : (file : ℕ) (old new : Files) (images now : Files → Type 0) → Settled file old images → Same old new → NoMore images now → Settled file new now
+pub Settled-kept : (file : ℕ) (old new : Files) (images now : Files → Type 0) → Settled file old images → Same old new → NoMore images now
+    → Settled file new now
 Settled-kept file old new images now settled same fewer image left place = settled image (fewer image left) place ∙ sym (same file place)
 
 -- so many files of the list are settled
@@ -23,8 +25,10 @@ abbrev pub AreSettledTo : {D : Type 0} → Ghosts D → D → List RecordFile �
 AreSettledTo g disk files n = (i : ℕ) (d : RecordFile) → i < n → Settled (get_or files i d).file (g.reads disk) (g.may_leave disk)
 
 -- one more
-pub AreSettledTo-more : {D : Type 0} (g : Ghosts D) (old new : D) (files : List RecordFile) (n : ℕ) (other : RecordFile) → AreSettledTo g old files n → n < length files
-    → Same (g.reads old) (g.reads new) → NoMore (g.may_leave old) (g.may_leave new) → Settled (get_or files n other).file (g.reads old) (g.may_leave new) → AreSettledTo g new files (n + 1)
+pub AreSettledTo-more : {D : Type 0} (g : Ghosts D) (old new : D) (files : List RecordFile) (n : ℕ) (other : RecordFile) → AreSettledTo g old files n
+    → n < length files
+    → Same (g.reads old) (g.reads new) → NoMore (g.may_leave old) (g.may_leave new) → Settled (get_or files n other).file (g.reads old) (g.may_leave new)
+    → AreSettledTo g new files (n + 1)
 AreSettledTo-more g old new files n other before within same fewer settled i d below =
     ⊎_elim
     (λ earlier. Settled-kept (get_or files i d).file (g.reads old) (g.reads new) (g.may_leave old) (g.may_leave new) (before i d earlier) same fewer)
@@ -32,11 +36,13 @@ AreSettledTo-more g old new files n other before within same fewer settled i d b
     let here : i ≡ n = omega (arith, below, last) in
     let entry_is : get_or files n other ≡ get_or files i d = get_or_default files n other d within ∙ ap (λ k. get_or files k d) (sym here) in
     λ image left place.
-    ap (λ (e : RecordFile). image e.file place) (sym entry_is) ∙ settled image left place ∙ sym (same (get_or files n other).file place) ∙ ap (λ (e : RecordFile). g.reads new e.file place) entry_is)
+    ap (λ (e : RecordFile). image e.file place) (sym entry_is) ∙ settled image left place ∙ sym (same (get_or files n other).file place)
+    ∙ ap (λ (e : RecordFile). g.reads new e.file place) entry_is)
     (cases_lt i n)
 
 -- a file that is among the list stands at a place of it
-place_in : (files : List RecordFile) (file : ℕ) (d : RecordFile) → list_any (λ entry. nat_eq file entry.file) files ≡ true → (i : ℕ) × (i < length files) × ((get_or files i d).file ≡ file)
+place_in : (files : List RecordFile) (file : ℕ) (d : RecordFile) → list_any (λ entry. nat_eq file entry.file) files ≡ true → (i : ℕ) × (i < length files)
+    × ((get_or files i d).file ≡ file)
 place_in [] file d any = absurd (false≢true any)
 place_in (entry ∷ rest) file d any = pick (nat_eq file entry.file) refl (place_in rest file d) any
   where
@@ -46,7 +52,8 @@ place_in (entry ∷ rest) file d any = pick (nat_eq file entry.file) refl (place
     pick false is later any = let at = later any in (suc at.0, omega (arith, at.1), at.2)
 
 -- all of the list are all files of records
-pub AreRecordsSettled-all : {D : Type 0} (g : Ghosts D) (disk : D) (files : List RecordFile) (n : ℕ) → rooms_of files ≡ record_rooms → AreSettledTo g disk files n → length files ≤ n → AreRecordsSettled g disk
+pub AreRecordsSettled-all : {D : Type 0} (g : Ghosts D) (disk : D) (files : List RecordFile) (n : ℕ) → rooms_of files ≡ record_rooms
+    → AreSettledTo g disk files n → length files ≤ n → AreRecordsSettled g disk
 AreRecordsSettled-all g disk files n is settled all file record_file image left place =
     let d : RecordFile = record { file = 0; room = Limit } in
     let at = place_in files file d (is_among-files files file ∙ ap (λ (rooms : Rooms). list_any (nat_eq file) (map (λ room. room.0) rooms)) is ∙ record_file) in
@@ -57,12 +64,14 @@ each_passes : (test : ℕ → Bool) (files : List RecordFile) → list_all (λ e
 each_passes test [] = refl
 each_passes test (entry ∷ rest) = ap (λ b. test entry.file && b) (each_passes test rest)
 
-passes_at : (test : ℕ → Bool) (files : List RecordFile) (i : ℕ) (d : RecordFile) → list_all (λ entry. test entry.file) files ≡ true → i < length files → test (get_or files i d).file ≡ true
+passes_at : (test : ℕ → Bool) (files : List RecordFile) (i : ℕ) (d : RecordFile) → list_all (λ entry. test entry.file) files ≡ true → i < length files
+    → test (get_or files i d).file ≡ true
 passes_at test [] i d all below = absurd (omega (arith, below))
 passes_at test (entry ∷ rest) i d all below = pick (test entry.file) refl all i below (λ k every. passes_at test rest k d every)
   where
     pick : (ok : Bool) → test entry.file ≡ ok → (ok && list_all (λ e. test e.file) rest) ≡ true → (k : ℕ) → k < length (entry ∷ rest)
-        → ((n : ℕ) → list_all (λ e. test e.file) rest ≡ true → n < length rest → test (get_or rest n d).file ≡ true) → test (get_or (entry ∷ rest) k d).file ≡ true
+        → ((n : ℕ) → list_all (λ e. test e.file) rest ≡ true → n < length rest → test (get_or rest n d).file ≡ true)
+        → test (get_or (entry ∷ rest) k d).file ≡ true
     pick true is all zero below later = is
     pick true is all (suc k) below later = later k all (omega (arith, below))
     pick false is all k below later = absurd (false≢true all)

@@ -36,7 +36,8 @@ same_some : (x y : Rec) → let one : Option Rec = Some x in one ≡ Some y → 
 same_some x y e = cc
 
 -- no entry, and no byte of the meta file
-pub IsUnmade-of : (content : Files) (logged : LoggedMetas) → HasMetas content logged → logged.tail ≡ 0 → AreMetasOf blank_records logged.metas.records → IsUnmade content
+pub IsUnmade-of : (content : Files) (logged : LoggedMetas) → HasMetas content logged → logged.tail ≡ 0 → AreMetasOf blank_records logged.metas.records
+    → IsUnmade content
 IsUnmade-of content logged has at_start blank =
     let log : HasEntries content has.entries 0 = subst (λ t. HasEntries content has.entries t) at_start has.log in
     let none = no_entries has.entries content log in
@@ -59,7 +60,8 @@ blank-unmade content logged has unmade id below =
     has.are id below ∙ ap (λ (r : Rec). Some r) (ap (λ (es : List Pairs). redone (record_at content) es (meta_key_of id)) none ∙ unmade.blank id below)
 
 -- the store's own record in memory is the one that the log makes
-pub own_read : (content : Files) (logged : LoggedMetas) (has : HasMetas content logged) (own : Rec) → find_meta logged.metas.records own_key ≡ Some own → redone (record_at content) has.entries own_key ≡ own
+pub own_read : (content : Files) (logged : LoggedMetas) (has : HasMetas content logged) (own : Rec) → find_meta logged.metas.records own_key ≡ Some own
+    → redone (record_at content) has.entries own_key ≡ own
 own_read content logged has own is =
     let same : Some (redone (record_at content) has.entries own_key) ≡ Some own = sym (has.are 0 (omega arith)) ∙ is in
     same_some _ own same
@@ -69,7 +71,8 @@ pub Redoes-metas : (content : Files) (logged : LoggedMetas) (has : HasMetas cont
 Redoes-metas content logged has = record { entries = has.entries; tail = logged.tail; log = has.log; makes = refl }
 
 -- and so does one of the records
-pub Refuses-records : (content : Files) (space : Key → Rec) (fault : RecoverFault) → Redoes content space → RefusesRecords content space fault → Refuses content fault
+pub Refuses-records : (content : Files) (space : Key → Rec) (fault : RecoverFault) → Redoes content space → RefusesRecords content space fault
+    → Refuses content fault
 Refuses-records content space faults.Disk redoes is = tt
 Refuses-records content space faults.NotAStore redoes is = (space, redoes, is)
 Refuses-records content space (faults.Damaged damage) redoes is = inr (space, redoes, is)
@@ -78,11 +81,13 @@ Refuses-records content space (faults.Damaged damage) redoes is = inr (space, re
 unmade_shape : (content : Files) (space : Key → Rec) → Redoes content space → IsUnmade content → shape_of_record (space own_key) ≡ None
 unmade_shape content space redoes unmade =
     let none : redoes.entries ≡ [] = entries_unique redoes.entries [] 0 redoes.tail 0 content redoes.log unmade.log in
-    let own : space own_key ≡ zeros = ap (λ (s : Key → Rec). s own_key) (sym redoes.makes) ∙ ap (λ (es : List Pairs). redone (record_at content) es own_key) none ∙ unmade.blank 0 (omega arith) in
+    let own : space own_key ≡ zeros = ap (λ (s : Key → Rec). s own_key) (sym redoes.makes)
+    ∙ ap (λ (es : List Pairs). redone (record_at content) es own_key) none ∙ unmade.blank 0 (omega arith) in
     ap shape_of_record own
 
 -- what stands is refused for nothing but the disk
-pub Stands-refused : (content : Files) (space : Key → Rec) (fault : RecoverFault) → Redoes content space → Stands content space → Refuses content fault → fault ≡ faults.Disk
+pub Stands-refused : (content : Files) (space : Key → Rec) (fault : RecoverFault) → Redoes content space → Stands content space → Refuses content fault
+    → fault ≡ faults.Disk
 Stands-refused content space faults.Disk redoes stands refuses = refl
 Stands-refused content space faults.NotAStore redoes stands refuses =
     absurd (⊎_elim

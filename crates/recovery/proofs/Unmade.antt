@@ -25,7 +25,8 @@ unmade_logged : (old new : Files) → SameButLogged [] old new → IsUnmade old 
 unmade_logged old new same = unmade_same old new same.log (λ i key. same.others key refl i)
 
 -- while no entry's records are written
-pub unmade_torn : {D : Type 0} (g : Ghosts D) (first now : D) → IsUnmade (g.reads first) → IsAllSettled g first → AtEachMoment g first now (IsTornInLogged (g.may_leave first) []) → AtEachMoment g first now IsUnmade
+pub unmade_torn : {D : Type 0} (g : Ghosts D) (first now : D) → IsUnmade (g.reads first) → IsAllSettled g first
+    → AtEachMoment g first now (IsTornInLogged (g.may_leave first) []) → AtEachMoment g first now IsUnmade
 unmade_torn g first now unmade settled leaves =
     at_each_moment_weaker g first now _ _ leaves
     (λ left torn. unmade_logged torn.0 left torn.2

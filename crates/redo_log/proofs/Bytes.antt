@@ -1,5 +1,6 @@
 -- The bytes of written records, one behind the other.
-use Rattle.std.proofs.Common.{◌≡◌, ◌∙◌, ap, sym, ⊎_elim, ℕ, suc, ◌+◌, ◌-◌, ◌<◌, ◌≤◌, List, [], ◌∷◌, ◌++◌, Option, unwrap_or, length, take, drop, get_or, arith, length-drop, refl}
+use Rattle.std.proofs.Common.{◌≡◌, ◌∙◌, ap, sym, ⊎_elim, ℕ, suc, ◌+◌, ◌-◌, ◌<◌, ◌≤◌, List, [], ◌∷◌, ◌++◌, Option}
+use Rattle.std.proofs.Common.{unwrap_or, length, take, drop, get_or, arith, length-drop, refl}
 use Rattle.std.proofs.lemmas.Bool.{cases_lt}
 use Rattle.std.specs.Prelude.{Some}
 use Rattle.std.specs.List.{flat_map, slice_get}
@@ -11,7 +12,8 @@ use Rattle.rec_bytes.specs.Pairs.{Pairs}
 use Rattle.redo_log.specs.Appending.{AreWhole, AreWholeFrom, write_bytes}
 
 -- one record more of those from a place on
-take-drop-more : (writes : Pairs) (from i : ℕ) (write : Key × Rec) → from ≤ i → slice_get writes i ≡ Some write → take (i + 1 - from) (drop from writes) ≡ take (i - from) (drop from writes) ++ write ∷ []
+take-drop-more : (writes : Pairs) (from i : ℕ) (write : Key × Rec) → from ≤ i → slice_get writes i ≡ Some write
+    → take (i + 1 - from) (drop from writes) ≡ take (i - from) (drop from writes) ++ write ∷ []
 take-drop-more writes from i write first got =
     let within : i < length writes = slice_get_within writes i write got in
     let inside : i - from < length (drop from writes) = omega (arith, length-drop from writes) in
@@ -19,7 +21,8 @@ take-drop-more writes from i write first got =
     let place : from + (i - from) ≡ i = omega arith in
     let is : get_or (drop from writes) (i - from) write ≡ write =
     get_or-drop from writes (i - from) write ∙ ap (λ k. get_or writes k write) place ∙ get_or_from_slice_get writes i write write got in
-    ap (λ n. take n (drop from writes)) count ∙ take_more (drop from writes) (i - from) write inside ∙ ap (λ (w : Key × Rec). take (i - from) (drop from writes) ++ w ∷ []) is
+    ap (λ n. take n (drop from writes)) count ∙ take_more (drop from writes) (i - from) write inside
+    ∙ ap (λ (w : Key × Rec). take (i - from) (drop from writes) ++ w ∷ []) is
 
 -- the bytes of one record more
 pub filled-more : (old now new : List ℕ) (writes : Pairs) (from i : ℕ) (write : Key × Rec) → from ≤ i → slice_get writes i ≡ Some write
@@ -31,7 +34,8 @@ filled-more old now new writes from i write first got is next =
     ∙ ap (λ (ws : Pairs). old ++ flat_map write_bytes ws) (sym (take-drop-more writes from i write first got))
 
 -- one record more is whole
-pub AreWholeFrom-more : (writes : Pairs) (from i : ℕ) (write : Key × Rec) → AreWholeFrom writes from i → slice_get writes i ≡ Some write → length write.1.bytes ≡ 64 → AreWholeFrom writes from (i + 1)
+pub AreWholeFrom-more : (writes : Pairs) (from i : ℕ) (write : Key × Rec) → AreWholeFrom writes from i → slice_get writes i ≡ Some write
+    → length write.1.bytes ≡ 64 → AreWholeFrom writes from (i + 1)
 AreWholeFrom-more writes from i write before is whole j other first below got =
     ⊎_elim
     (λ earlier. before j other first earlier got)

@@ -5,7 +5,8 @@ use Rattle.rec_bytes.specs.Format.{log_file}
 use Rattle.rec_bytes.specs.Pairs.{Pairs}
 use Rattle.redo_log.specs.Entries.{HasEntries, HasEntriesFrom, HasEntriesUpTo, IsDamaged, IsDamagedLog, IsEntry, entry_at, entry_bytes}
 
-HasEntriesFrom-damaged : (entries before : List Pairs) (place tail damage : ℕ) (content : Files) → HasEntriesFrom place content entries tail → HasEntriesUpTo place content before damage
+HasEntriesFrom-damaged : (entries before : List Pairs) (place tail damage : ℕ) (content : Files) → HasEntriesFrom place content entries tail
+    → HasEntriesUpTo place content before damage
     → IsDamaged content damage → ⊥
 HasEntriesFrom-damaged [] [] place tail damage content has upto damaged = has.1 (ap (content log_file) upto ∙ damaged.0)
 HasEntriesFrom-damaged [] (other ∷ others) place tail damage content has upto damaged = has.1 upto.0.open_gate
@@ -28,7 +29,8 @@ HasEntriesUpTo-more (first ∷ later) place end content upto entry =
     (upto.0, upto.1, HasEntriesUpTo-more later (place + entry_bytes (length first)) end content upto.2 entry)
 
 -- entries up to a closed gate are the log's
-pub HasEntriesUpTo-closed : (entries : List Pairs) (place end : ℕ) (content : Files) → HasEntriesUpTo place content entries end → content log_file end ≢ 1 → HasEntriesFrom place content entries end
+pub HasEntriesUpTo-closed : (entries : List Pairs) (place end : ℕ) (content : Files) → HasEntriesUpTo place content entries end → content log_file end ≢ 1
+    → HasEntriesFrom place content entries end
 HasEntriesUpTo-closed [] place end content upto closed = (upto, subst (λ (p : ℕ). content log_file p ≢ 1) (sym upto) closed)
 HasEntriesUpTo-closed (entry ∷ later) place end content upto closed =
     (upto.0, upto.1, HasEntriesUpTo-closed later (place + entry_bytes (length entry)) end content upto.2 closed)

@@ -18,7 +18,8 @@ abbrev pub made_of : ℕ → List ℕ → List ℕ → Key × Rec
 made_of file number bytes = (record { file = file; id = little_number 4 number }, record { bytes = bytes })
 
 -- of the same parts the same record is made
-pub made_of-same : (file file2 : ℕ) (number number2 bytes bytes2 : List ℕ) → file ≡ file2 → number ≡ number2 → bytes ≡ bytes2 → made_of file number bytes ≡ made_of file2 number2 bytes2
+pub made_of-same : (file file2 : ℕ) (number number2 bytes bytes2 : List ℕ) → file ≡ file2 → number ≡ number2 → bytes ≡ bytes2
+    → made_of file number bytes ≡ made_of file2 number2 bytes2
 made_of-same file file2 number number2 bytes bytes2 same_file same_number same_bytes =
     ap (λ f. made_of f number bytes) same_file ∙ ap (λ n. made_of file2 n bytes) same_number ∙ ap (λ b. made_of file2 number2 b) same_bytes
 
@@ -69,7 +70,8 @@ HasEntriesFrom-tail (entry ∷ later) place tail content has =
     omega (arith, HasEntriesFrom-tail later (place + entry_bytes (length entry)) tail content has.2)
 
 -- where the bytes before the tail stay, the entries stay, with those that follow there
-HasEntriesFrom-then : (entries more : List Pairs) (place tail end : ℕ) (old new : Files) → HasEntriesFrom place old entries tail → SameLog place tail old new → HasEntriesFrom tail new more end
+HasEntriesFrom-then : (entries more : List Pairs) (place tail end : ℕ) (old new : Files) → HasEntriesFrom place old entries tail → SameLog place tail old new
+    → HasEntriesFrom tail new more end
     → HasEntriesFrom place new (entries ++ more) end
 HasEntriesFrom-then [] more place tail end old new has same rest = subst (λ p. HasEntriesFrom p new more end) (sym has.0) rest
 HasEntriesFrom-then (entry ∷ later) more place tail end old new has same rest =
@@ -82,7 +84,8 @@ HasEntriesFrom-then (entry ∷ later) more place tail end old new has same rest 
     )
 
 -- over a closed gate the entries stay
-pub HasEntries-same : (entries : List Pairs) (tail : ℕ) (old new : Files) → HasEntries old entries tail → SameLog 0 tail old new → new log_file tail ≢ 1 → HasEntries new entries tail
+pub HasEntries-same : (entries : List Pairs) (tail : ℕ) (old new : Files) → HasEntries old entries tail → SameLog 0 tail old new → new log_file tail ≢ 1
+    → HasEntries new entries tail
 HasEntries-same entries tail old new has same closed =
     subst (λ (all : List Pairs). HasEntries new all tail) (append-nil entries) (HasEntriesFrom-then entries [] 0 tail tail old new has same (refl, closed))
 

@@ -22,11 +22,13 @@ slice_get-writes_from content place (suc n) (suc i) lt =
     slice_get-writes_from content (place + 69) n i (omega arith) ∙ ap (λ (p : ℕ). Some (write_at content p)) there
 
 -- the record that stands at the place of this index
-pub entry_get : (content : Files) (place index : ℕ) (write : Key × Rec) → index < count_at content place → write ≡ write_at content (write_place place index) → slice_get (entry_at content place) index ≡ Some write
+pub entry_get : (content : Files) (place index : ℕ) (write : Key × Rec) → index < count_at content place → write ≡ write_at content (write_place place index)
+    → slice_get (entry_at content place) index ≡ Some write
 entry_get content place index write below read = slice_get-writes_from content (place + 3) (count_at content place) index below ∙ ap Some (sym read)
 
 -- an open gate, a count that an entry may have, and keys that rise
-pub is_entry : (content : Files) (place count : ℕ) → content log_file place ≡ 1 → count ≡ count_at content place → IsEntrySize place count → AreRisingAbove None (writes_from content (place + 3) count) → IsEntry content place
+pub is_entry : (content : Files) (place count : ℕ) → content log_file place ≡ 1 → count ≡ count_at content place → IsEntrySize place count
+    → AreRisingAbove None (writes_from content (place + 3) count) → IsEntry content place
 is_entry content place count open_gate is size rising =
     let long : length (entry_at content place) ≡ count = length-writes_from content (place + 3) (count_at content place) ∙ sym is in
     let keys = subst (λ (n : ℕ). AreRisingAbove None (writes_from content (place + 3) n)) is rising in
@@ -41,9 +43,11 @@ entry_size content place count is entry =
     let long : length (entry_at content place) ≡ count = length-writes_from content (place + 3) (count_at content place) ∙ sym is in
     record { some = omega (arith, entry.form.some, long); few = omega (arith, entry.form.few, long); fits = subst (λ (n : ℕ). Fits place n) (sym is) entry.fits }
 
-pub entry_rises : (content : Files) (place count : ℕ) → count ≡ count_at content place → IsEntry content place → AreRisingAbove None (writes_from content (place + 3) count)
+pub entry_rises : (content : Files) (place count : ℕ) → count ≡ count_at content place → IsEntry content place
+    → AreRisingAbove None (writes_from content (place + 3) count)
 entry_rises content place count is entry =
-    subst (λ (n : ℕ). AreRisingAbove None (writes_from content (place + 3) n)) (sym is) (ordered_rises (entry_at content place) entry.form.keys entry.form.rising)
+    subst (λ (n : ℕ). AreRisingAbove None (writes_from content (place + 3) n)) (sym is)
+    (ordered_rises (entry_at content place) entry.form.keys entry.form.rising)
 
 -- what a disk shows is itself a content
 pub has_itself : (reads : Files) (piece : Piece) → IsPieceOf reads piece → HasContent reads reads piece

@@ -19,7 +19,8 @@ log_bytes-holds : (bytes : List ℕ) (place : ℕ) (content : Files) → Holds l
 log_bytes-holds bytes place content holds = bytes_from-holds bytes log_file place content holds
 
 -- a record's bytes read back as the record
-write_at-holds : (write : Key × Rec) (place : ℕ) (content : Files) → Holds log_file place (write_bytes write) content → length write.1.bytes ≡ 64 → IsKey write.0 → write_at content place ≡ write
+write_at-holds : (write : Key × Rec) (place : ℕ) (content : Files) → Holds log_file place (write_bytes write) content → length write.1.bytes ≡ 64
+    → IsKey write.0 → write_at content place ≡ write
 write_at-holds write place content holds whole key =
     let head = write.0.file ∷ little_bytes 4 write.0.id in
     let bytes = write.1.bytes in
@@ -30,7 +31,8 @@ write_at-holds write place content holds whole key =
     let rest : log_bytes content (place + 5) 64 ≡ bytes =
     ap (log_bytes content (place + 5)) (sym whole) ∙ log_bytes-holds bytes (place + 5) content (Holds-back log_file place head bytes content holds) in
     let id : little_number 4 (little_bytes 4 write.0.id) ≡ write.0.id = little_number-reads_back 4 write.0.id [] (omega (arith, key.id)) in
-    made_of-same (content log_file place) write.0.file (log_bytes content (place + 1) 4) (little_bytes 4 write.0.id) (log_bytes content (place + 5) 64) bytes file number rest
+    made_of-same (content log_file place) write.0.file (log_bytes content (place + 1) 4) (little_bytes 4 write.0.id) (log_bytes content (place + 5) 64) bytes
+    file number rest
     ∙ ap (λ n. let pair : Key × Rec = (record { file = write.0.file; id = n }, record { bytes = bytes }) in pair) id
 
 -- a written record takes 69 bytes
@@ -44,7 +46,8 @@ length-writes (write ∷ writes) whole =
     omega (arith, length-append (write_bytes write) (flat_map write_bytes writes), length-write_bytes write whole.0, length-writes writes whole.1)
 
 -- the bytes of several records read back as the records
-writes_from-holds : (writes : Pairs) (place : ℕ) (content : Files) → Holds log_file place (flat_map write_bytes writes) content → AreWhole writes → AllByRecursion (λ write. IsKey write.0) writes
+writes_from-holds : (writes : Pairs) (place : ℕ) (content : Files) → Holds log_file place (flat_map write_bytes writes) content → AreWhole writes
+    → AllByRecursion (λ write. IsKey write.0) writes
     → writes_from content place (length writes) ≡ writes
 writes_from-holds [] place content holds whole keys = refl
 writes_from-holds (write ∷ writes) place content holds whole keys =
@@ -62,12 +65,14 @@ pub record IsLaid (content : Files) (tail : ℕ) (writes : Pairs) : Type 0 where
   pub closed : content log_file (tail + entry_bytes (length writes)) ≢ 1
 
 -- the payload and a closed gate behind it lay out the entry
-pub IsLaid-payload : (content : Files) (tail : ℕ) (writes : Pairs) → IsEntryOf writes → AreWhole writes → Holds log_file (tail + 1) (payload_bytes writes ++ 0 ∷ []) content → IsLaid content tail writes
+pub IsLaid-payload : (content : Files) (tail : ℕ) (writes : Pairs) → IsEntryOf writes → AreWhole writes
+    → Holds log_file (tail + 1) (payload_bytes writes ++ 0 ∷ []) content → IsLaid content tail writes
 IsLaid-payload content tail writes form whole holds =
     let number = little_bytes 2 (length writes) in
     let behind = flat_map write_bytes writes in
     let payload : Holds log_file (tail + 1) (payload_bytes writes) content = Holds-front log_file (tail + 1) (payload_bytes writes) (0 ∷ []) content holds in
-    let last : 0 ≡ content log_file (tail + 1 + length (payload_bytes writes) + 0) = Holds-back log_file (tail + 1) (payload_bytes writes) (0 ∷ []) content holds 0 (omega arith) in
+    let last : 0 ≡ content log_file (tail + 1 + length (payload_bytes writes) + 0) =
+    Holds-back log_file (tail + 1) (payload_bytes writes) (0 ∷ []) content holds 0 (omega arith) in
     let size : length (payload_bytes writes) ≡ 2 + 69 * length writes = omega (arith, length-append number behind, length-writes writes whole) in
     let counted : count_at content tail ≡ length writes =
     ap (little_number 2) (log_bytes-holds number (tail + 1) content (Holds-front log_file (tail + 1) number behind content payload))
@@ -83,7 +88,8 @@ IsLaid-payload content tail writes form whole holds =
     }
 
 -- with its gate open it is an entry
-pub IsEntry-laid : (content : Files) (tail : ℕ) (writes : Pairs) → IsEntryOf writes → Fits tail (length writes) → IsLaid content tail writes → content log_file tail ≡ 1 → IsEntry content tail
+pub IsEntry-laid : (content : Files) (tail : ℕ) (writes : Pairs) → IsEntryOf writes → Fits tail (length writes) → IsLaid content tail writes
+    → content log_file tail ≡ 1 → IsEntry content tail
 IsEntry-laid content tail writes form fits laid is_open = record {
   open_gate = is_open;
   form = subst IsEntryOf (sym laid.records) form;

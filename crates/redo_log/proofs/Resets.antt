@@ -18,7 +18,8 @@ pub HasEntries-closed : (content : Files) → content log_file 0 ≢ 1 → HasEn
 HasEntries-closed content closed = (refl, closed)
 
 -- whatever the first gate is after a change of it, the log has the old entries or none
-pub HasEntries-gate : (entries : List Pairs) (tail : ℕ) (old new : Files) → HasEntries old entries tail → old log_file 0 ≡ 1 → SameButGate old new → HasEntriesOrNone new entries tail
+pub HasEntries-gate : (entries : List Pairs) (tail : ℕ) (old new : Files) → HasEntries old entries tail → old log_file 0 ≡ 1 → SameButGate old new
+    → HasEntriesOrNone new entries tail
 HasEntries-gate entries tail old new has was_open same =
     ⊎_elim
     (λ is_open. inl (HasEntries-read entries tail old new has (λ place. ⊎_elim
@@ -29,11 +30,13 @@ HasEntries-gate entries tail old new has was_open same =
     (cases_eq (new log_file 0) 1)
 
 -- nothing was done
-pub IsReset-none : (images : Files → Type 0) (entries : List Pairs) (tail : ℕ) → AllHaveEntries images entries tail → (image : Files) → images image → IsReset images entries tail image
+pub IsReset-none : (images : Files → Type 0) (entries : List Pairs) (tail : ℕ) → AllHaveEntries images entries tail → (image : Files) → images image
+    → IsReset images entries tail image
 IsReset-none images entries tail all image left = record { old = image; was_left = left; elsewhere = λ file place out. refl; entries_are = inl (all image left) }
 
 -- the first gate was open in what is read, and may be anything now
-pub IsReset-torn : (images : Files → Type 0) (entries : List Pairs) (tail : ℕ) (read old new : Files) → AllHaveEntries images entries tail → HasEntries read entries tail → read log_file 0 ≡ 1 → images old → SameButGate old new
+pub IsReset-torn : (images : Files → Type 0) (entries : List Pairs) (tail : ℕ) (read old new : Files) → AllHaveEntries images entries tail
+    → HasEntries read entries tail → read log_file 0 ≡ 1 → images old → SameButGate old new
     → IsReset images entries tail new
 IsReset-torn images entries tail read old new all has is_open was same = record {
   old = old;

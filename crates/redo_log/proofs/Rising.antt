@@ -32,7 +32,8 @@ pub rising_ordered : (writes : Pairs) → AreRisingAbove None writes → IsOrder
 rising_ordered [] rising = tt
 rising_ordered (write ∷ later) rising = rising_above write.0 later rising.1
 
-rises_above : (last : Key) (writes : Pairs) → AllByRecursion (λ (write : Key × Rec). IsKey write.0) writes → IsBelow last writes → IsOrdered writes → AreRisingAbove (Some last) writes
+rises_above : (last : Key) (writes : Pairs) → AllByRecursion (λ (write : Key × Rec). IsKey write.0) writes → IsBelow last writes → IsOrdered writes
+    → AreRisingAbove (Some last) writes
 rises_above last [] valid below ordered = tt
 rises_above last (write ∷ later) valid below ordered = (record { valid = valid.0; above = below.0 }, rises_above write.0 later valid.1 ordered.0 ordered.1)
 
@@ -42,14 +43,17 @@ ordered_rises (write ∷ later) valid ordered = (record { valid = valid.0; above
 
 -- the records from the place of one on, of which there are some
 pub writes_from-first : (content : Files) (start index count : ℕ) → index < count
-    → writes_from content (start + 69 * index) (count - index) ≡ write_at content (start + 69 * index) ∷ writes_from content (start + 69 * (index + 1)) (count - (index + 1))
+    → writes_from content (start + 69 * index) (count - index) ≡ write_at content (start + 69 * index) ∷ writes_from content (start + 69 * (index + 1))
+    (count - (index + 1))
 writes_from-first content start index count lt =
     let more : count - index ≡ suc (count - (index + 1)) = omega arith in
     let next : start + 69 * index + 69 ≡ start + 69 * (index + 1) = omega arith in
-    ap (λ (n : ℕ). writes_from content (start + 69 * index) n) more ∙ ap (λ (p : ℕ). write_at content (start + 69 * index) ∷ writes_from content p (count - (index + 1))) next
+    ap (λ (n : ℕ). writes_from content (start + 69 * index) n) more ∙ ap
+    (λ (p : ℕ). write_at content (start + 69 * index) ∷ writes_from content p (count - (index + 1))) next
 
 -- the next key is the one that it has to be, so those behind it decide
-pub rising_goes_on : (content : Files) (start index count : ℕ) (last : Option Key) (key : Key) (Rising : Type 0) → index < count → key ≡ (write_at content (start + 69 * index)).0 → IsNextKey last key
+pub rising_goes_on : (content : Files) (start index count : ℕ) (last : Option Key) (key : Key) (Rising : Type 0) → index < count
+    → key ≡ (write_at content (start + 69 * index)).0 → IsNextKey last key
     → AreRisingAbove last (writes_from content (start + 69 * index) (count - index)) ↔ Rising
     → AreRisingAbove (Some key) (writes_from content (start + 69 * (index + 1)) (count - (index + 1))) ↔ Rising
 rising_goes_on content start index count last key Rising lt is next decides =
@@ -60,7 +64,8 @@ rising_goes_on content start index count last key Rising lt is next decides =
     )
 
 -- the next key is another one, so the keys don't rise
-pub rising_ends : (content : Files) (start index count : ℕ) (last : Option Key) (key : Key) (Rising : Type 0) → index < count → key ≡ (write_at content (start + 69 * index)).0 → (IsNextKey last key → IsTrue false)
+pub rising_ends : (content : Files) (start index count : ℕ) (last : Option Key) (key : Key) (Rising : Type 0) → index < count
+    → key ≡ (write_at content (start + 69 * index)).0 → (IsNextKey last key → IsTrue false)
     → AreRisingAbove last (writes_from content (start + 69 * index) (count - index)) ↔ Rising
     → IsTrue false ↔ Rising
 rising_ends content start index count last key Rising lt is other decides = (

@@ -23,7 +23,8 @@ pub record IsSent (reads : Files) (at place : ℕ) (piece : List ℕ) (writes : 
   pub stands : Holds log_file at sent reads
 
 -- with those of the records up to a later one
-bytes_before-more : (writes : Pairs) (next later : ℕ) → next ≤ later → bytes_before writes next ++ flat_map write_bytes (take (later - next) (drop next writes)) ≡ bytes_before writes later
+bytes_before-more : (writes : Pairs) (next later : ℕ) → next ≤ later → bytes_before writes next ++ flat_map write_bytes
+    (take (later - next) (drop next writes)) ≡ bytes_before writes later
 bytes_before-more writes next later on =
     let count = little_bytes 2 (length writes) in
     let more = take (later - next) (drop next writes) in
@@ -48,12 +49,14 @@ IsSent-more old new at place piece next_piece writes next later before holds sam
 
 -- the last piece is out
 pub IsSent-all : (old new : Files) (at place : ℕ) (piece last : List ℕ) (writes : Pairs) (next : ℕ) (close : List ℕ)
-    → IsSent old at place piece writes next → length writes ≤ next → last ≡ piece ++ close → Holds log_file place last new → SameOutside log_file place (length last) old new
+    → IsSent old at place piece writes next → length writes ≤ next → last ≡ piece ++ close → Holds log_file place last new
+    → SameOutside log_file place (length last) old new
     → Holds log_file at (payload_bytes writes ++ close) new
 IsSent-all old new at place piece last writes next close before done is holds same =
     let all : before.sent ++ last ≡ payload_bytes writes ++ close =
     ap (λ bytes. before.sent ++ bytes) is ∙ sym (append_assoc before.sent piece close)
-    ∙ ap (λ bytes. bytes ++ close) (before.whole ∙ ap (λ (ws : Pairs). little_bytes 2 (length writes) ++ flat_map write_bytes ws) (take_all next writes done)) in
+    ∙ ap (λ bytes. bytes ++ close) (before.whole ∙ ap (λ (ws : Pairs). little_bytes 2 (length writes) ++ flat_map write_bytes ws) (take_all next writes done))
+    in
     subst (λ bytes. Holds log_file at bytes new) all
     (Holds-append log_file at before.sent last new
     (Holds-before log_file at place (length last) before.sent old new before.stands same (omega (arith, before.place_is)))

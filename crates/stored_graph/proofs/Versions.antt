@@ -62,7 +62,8 @@ graph_of-raised shape space made = pick (nat_lt (version_of (space own_key)) new
       indexes = indexes_from (λ x. kind_in mark (rec_at space index_file x) x) (rec_at space index_file) mark (rec_at space names_file) (high space names_file);
     }
 
-    pick : (old : Bool) → nat_lt (version_of (space own_key)) newest_version ≡ old → graph_of (cond old (laid_over space (raising_pairs shape)) space) ≡ graph_of space
+    pick : (old : Bool) → nat_lt (version_of (space own_key)) newest_version ≡ old
+        → graph_of (cond old (laid_over space (raising_pairs shape)) space) ≡ graph_of space
     pick true is =
         let blank : space (meta_key_of index_file) ≡ zeros = (made.metas index_file (omega arith)).before (grind (arith, nat_tests)) in
         ap below (ap (λ (m : Meta). m.high) (first_meta-says index_file) ∙ sym (ap (λ (r : Rec). field 4 r meta_high) blank ∙ blank_high))

@@ -12,7 +12,8 @@ use Rattle.stored_graph.specs.Stands.{IsZeros, StandsFor}
 
 bytes_of_zeros : (file : ℕ → ℕ) (place n : ℕ) → ((place : ℕ) → file place ≡ 0) → bytes_from file place n ≡ replicate n 0
 bytes_of_zeros file place zero all = refl
-bytes_of_zeros file place (suc n) all = ap (λ (b : ℕ). b ∷ bytes_from file (place + 1) n) (all place) ∙ ap (λ (bs : List ℕ). 0 ∷ bs) (bytes_of_zeros file (place + 1) n all)
+bytes_of_zeros file place (suc n) all = ap (λ (b : ℕ). b ∷ bytes_from file (place + 1) n) (all place)
+    ∙ ap (λ (bs : List ℕ). 0 ∷ bs) (bytes_of_zeros file (place + 1) n all)
 
 zero_record : (content : Files) (key : Key) → IsZeros content → record_at content key ≡ zeros
 unfolding record_at

@@ -25,7 +25,8 @@ use Rattle.recovery.specs.Finding.{IsMade, IsRecoverable}
 use Rattle.txn_core.specs.Config.{Suits, shape_of}
 use Rattle.txn_core.specs.Kept.{IsKept}
 use Rattle.record_file.specs.MetaFile.{AreMetasOf}
-use Rattle.txn_core.specs.Opening.{HasOnly, HasOpeningEntry, IsOldOrNew, IsOldOrRaised, IsRefusal, IsStore, OnlyDiffers, Opens, RefusesOpening, StaysAsItWas, made_over, raising_entries}
+use Rattle.txn_core.specs.Opening.{HasOnly, HasOpeningEntry, IsOldOrNew, IsOldOrRaised, IsRefusal, IsStore, OnlyDiffers}
+use Rattle.txn_core.specs.Opening.{Opens, RefusesOpening, StaysAsItWas, made_over, raising_entries}
 use Rattle.txn_core.specs.declared.open_fault.OpenFault.{OpenFault}
 use Rattle.txn_core.specs.declared.open_fault.OpenFault.TheVariants.{Memory, Disk, NotAStore, Damaged, ConfigDiffers}
 use Rattle.txn_core.specs.declared.config.Config.{Config}
@@ -49,16 +50,20 @@ one_shape content space shape other made redoes has =
 -- where none was made there is none
 pub none_made : (content : Files) (shape : Shape) → IsUnmade content → IsStore content shape → ⊥
 none_made content shape unmade made =
-    let same : made.space ≡ record_at content = redoes_unique content made.space (record_at content) made.redoes (record { entries = []; tail = 0; log = unmade.log; makes = refl }) in
-    let own : shape_of_record zeros ≡ Some shape = ap shape_of_record (sym (ap (λ (records : Key → Rec). records own_key) same ∙ unmade.blank 0 (lit< tt))) ∙ made.made.own in
+    let same : made.space ≡ record_at content = redoes_unique content made.space (record_at content) made.redoes
+    (record { entries = []; tail = 0; log = unmade.log; makes = refl }) in
+    let own : shape_of_record zeros ≡ Some shape = ap shape_of_record (sym (ap (λ (records : Key → Rec). records own_key) same ∙ unmade.blank 0 (lit< tt)))
+    ∙ made.made.own in
     false≢true (ap (λ (o : Option Shape). is_some o) own)
 
 -- reads leave the disk settled
 pub settled_read : {D : Type 0} (g : Ghosts D) (old new : D) → OnlyReads g old new → g.tells_images → IsAllSettled g old → IsAllSettled g new
-settled_read g old new reads told settled file below image left place = settled file below image (reads.crash told image left) place ∙ sym (reads.keeps file place)
+settled_read g old new reads told settled file below image left place = settled file below image (reads.crash told image left) place
+    ∙ sym (reads.keeps file place)
 
 -- the store that is read, as it is in the newest version
-pub made_opened : (content mid : Files) (config : Config) (shape found : Shape) (space : Key → Rec) (made : IsStore content found) → record_at mid ≡ made.space → shape ≡ found → Suits config found → space ≡ raised found (record_at mid) → Opens content config shape space
+pub made_opened : (content mid : Files) (config : Config) (shape found : Shape) (space : Key → Rec) (made : IsStore content found) → record_at mid ≡ made.space
+    → shape ≡ found → Suits config found → space ≡ raised found (record_at mid) → Opens content config shape space
 made_opened content mid config shape found space made same found_is suits is =
     inr (
       made.space,
@@ -69,21 +74,26 @@ made_opened content mid config shape found space made same found_is suits is =
     )
 
 -- and what its log has then
-pub made_log : (content mid now : Files) (shape found : Shape) (made : IsStore content found) → record_at mid ≡ made.space → shape ≡ found → HasOnly now (raising_entries found (record_at mid)) → HasOpeningEntry content shape now
+pub made_log : (content mid now : Files) (shape found : Shape) (made : IsStore content found) → record_at mid ≡ made.space → shape ≡ found
+    → HasOnly now (raising_entries found (record_at mid)) → HasOpeningEntry content shape now
 made_log content mid now shape found made same found_is log =
     inr (made.space, made.redoes, subst (λ (s : Shape). HasOnly now (raising_entries s made.space)) (sym found_is) (subst (λ (r : Key → Rec). HasOnly now (raising_entries found r)) same log))
 
 -- what a stop leaves of it
-pub made_crash : {D : Type 0} (g : Ghosts D) (first mid now : D) (shape found : Shape) (space : Key → Rec) → record_at (g.reads mid) ≡ space → shape ≡ found → AtEachMoment g first mid (λ left. g.may_leave first left ⊎ Redoes left space)
-    → AtEachMoment g mid now (IsOldOrRaised found (record_at (g.reads mid))) → AtEachMoment g first now (λ left. g.may_leave first left ⊎ IsOldOrRaised shape space left)
+pub made_crash : {D : Type 0} (g : Ghosts D) (first mid now : D) (shape found : Shape) (space : Key → Rec) → record_at (g.reads mid) ≡ space → shape ≡ found
+    → AtEachMoment g first mid (λ left. g.may_leave first left ⊎ Redoes left space)
+    → AtEachMoment g mid now (IsOldOrRaised found (record_at (g.reads mid)))
+    → AtEachMoment g first now (λ left. g.may_leave first left ⊎ IsOldOrRaised shape space left)
 made_crash g first mid now shape found space same is before after =
     at_each_moment_on g first mid now _ _ (at_each_moment_weaker g first mid _ _ before (λ left. ⊎_elim (λ was. inl was) (λ redoes. inr (inl redoes)))) after
     (λ left raised. inr (IsOldOrRaised-same found shape (record_at (g.reads mid)) space left (sym is) same raised))
 
-pub made_kept : {D : Type 0} (g : Ghosts D) (mid now : D) (metas : List Rec) (changed : Pairs) → changed ≡ [] → OnlyReads g mid now → (g.tells_reads → HasEntries (g.reads mid) [] 0)
+pub made_kept : {D : Type 0} (g : Ghosts D) (mid now : D) (metas : List Rec) (changed : Pairs) → changed ≡ [] → OnlyReads g mid now
+    → (g.tells_reads → HasEntries (g.reads mid) [] 0)
     → (g.tells_reads → g.tells_images → IsAllSettled g mid) → (g.tells_reads → AreMetasOf (record_at (g.reads mid)) metas) → IsKept g now metas changed 0
 made_kept g mid now metas changed none reads log settled held =
-    kept_settled g now metas changed none (λ told. HasEntries-read [] 0 (g.reads mid) (g.reads now) (log told) (reads.keeps 7)) (λ told images. settled_read g mid now reads images (settled told images))
+    kept_settled g now metas changed none (λ told. HasEntries-read [] 0 (g.reads mid) (g.reads now) (log told) (reads.keeps 7))
+    (λ told images. settled_read g mid now reads images (settled told images))
     (λ told. subst (λ (r : Key → Rec). AreMetasOf r metas) (sym (same_records (g.reads mid) (g.reads now) reads.keeps)) (held told))
 
 -- what a stop leaves before it, while the disk is only read
@@ -92,7 +102,8 @@ pub unmade_left : {D : Type 0} (g : Ghosts D) (first now : D) (config : Config) 
 unmade_left g first now config images reads = at_each_moment_weaker g first now (g.may_leave first) _ (reads.time images) (λ left was. inl was)
 
 -- what a stop leaves while the first entry is appended
-pub unmade_crash : {D : Type 0} (g : Ghosts D) (first mid now : D) (config : Config) (shape : Shape) → IsUnmade (g.reads first) → record_at (g.reads mid) ≡ record_at (g.reads first) → shape ≡ shape_of config
+pub unmade_crash : {D : Type 0} (g : Ghosts D) (first mid now : D) (config : Config) (shape : Shape) → IsUnmade (g.reads first)
+    → record_at (g.reads mid) ≡ record_at (g.reads first) → shape ≡ shape_of config
     → g.tells_images → OnlyReads g first mid → AtEachMoment g mid now (IsOldOrNew (g.reads mid) shape)
     → AtEachMoment g first now (λ left. g.may_leave first left ⊎ IsOldOrNew (g.reads first) (shape_of config) left)
 unmade_crash g first mid now config shape unmade same is images before crash =
@@ -100,7 +111,8 @@ unmade_crash g first mid now config shape unmade same is images before crash =
     (λ left made. inr (⊎_elim (λ none. inl (none.0, none.1 ∙ same)) (λ redoes. inr (Redoes-same left _ _ (ap (λ (records : Key → Rec). laid_over records (creation_pairs shape)) same ∙ ap (made_over (g.reads first)) is) redoes)) made))
 
 -- the new store
-pub unmade_opened : (content mid : Files) (config : Config) (shape made : Shape) (space : Key → Rec) → IsUnmade content → record_at mid ≡ record_at content → made ≡ shape_of config → shape ≡ made → space ≡ made_over mid made → Opens content config shape space
+pub unmade_opened : (content mid : Files) (config : Config) (shape made : Shape) (space : Key → Rec) → IsUnmade content → record_at mid ≡ record_at content
+    → made ≡ shape_of config → shape ≡ made → space ≡ made_over mid made → Opens content config shape space
 unmade_opened content mid config shape made space unmade same made_is shape_is is =
     inl (unmade, shape_is ∙ made_is, is ∙ ap (λ (records : Key → Rec). laid_over records (creation_pairs made)) same ∙ ap (made_over content) (sym shape_is))
 
@@ -133,7 +145,8 @@ if_ok_on (Ok x) P p = p
 if_ok_on (Err e) P p = tt
 
 -- a store of another shape than is asked for is refused so
-pub refuses_differs : (content : Files) (config : Config) (shape : Shape) (fault : OpenFault) → IsStore content shape → OnlyDiffers shape config fault → RefusesOpening content config fault
+pub refuses_differs : (content : Files) (config : Config) (shape : Shape) (fault : OpenFault) → IsStore content shape → OnlyDiffers shape config fault
+    → RefusesOpening content config fault
 refuses_differs content config shape Memory store only = tt
 refuses_differs content config shape Disk store only = tt
 refuses_differs content config shape NotAStore store only = absurd only

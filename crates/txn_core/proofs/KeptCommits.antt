@@ -39,7 +39,8 @@ module _ {D : Type 0} {g : Ghosts D} where
   pub on_disk : (disk : D) (a b : Key → Rec) → a ≡ b → IsOnDisk g disk (λ left. Redoes left a) → IsOnDisk g disk (λ left. Redoes left b)
   on_disk disk a b same stored = subst (λ (space : Key → Rec). IsOnDisk g disk (λ left. Redoes left space)) same stored
 
-  either_on_disk : (disk : D) (a b c d : Key → Rec) → a ≡ b → c ≡ d → IsOnDisk g disk (λ left. Redoes left a ⊎ Redoes left c) → IsOnDisk g disk (λ left. Redoes left b ⊎ Redoes left d)
+  either_on_disk : (disk : D) (a b c d : Key → Rec) → a ≡ b → c ≡ d → IsOnDisk g disk (λ left. Redoes left a ⊎ Redoes left c)
+      → IsOnDisk g disk (λ left. Redoes left b ⊎ Redoes left d)
   either_on_disk disk a b c d one other stored =
       subst (λ (space : Key → Rec). IsOnDisk g disk (λ left. Redoes left b ⊎ Redoes left space)) other
       (subst (λ (space : Key → Rec). IsOnDisk g disk (λ left. Redoes left space ⊎ Redoes left c)) one stored)
@@ -65,7 +66,8 @@ module _ {D : Type 0} {g : Ghosts D} where
         → (g.tells_reads → g.tells_images → AtEachMoment g m.base.disk.now t.base.disk.now (λ left. Redoes left (committed m) ⊎ Redoes left (working m)))
         → g.tells_reads → g.tells_images → AtEachMoment g s.base.disk.now t.base.disk.now (λ left. Redoes left (committed s) ⊎ Redoes left (working s))
     crash_on stored later told images =
-        at_each_moment_on g s.base.disk.now m.base.disk.now t.base.disk.now (λ left. Redoes left (committed s) ⊎ Redoes left (working s)) (λ left. Redoes left (committed m) ⊎ Redoes left (working m))
+        at_each_moment_on g s.base.disk.now m.base.disk.now t.base.disk.now (λ left. Redoes left (committed s) ⊎ Redoes left (working s))
+        (λ left. Redoes left (committed m) ⊎ Redoes left (working m))
         (crash_read m.base.disk.now (λ i. m.base.disk.now) stored told images) (later told images)
         (λ image either. ⊎_elim
         (λ (was : Redoes image (committed m)). inl (subst (Redoes image) same was))
@@ -83,7 +85,8 @@ module _ {D : Type 0} {g : Ghosts D} where
     doubt_on doubt = record { failed = doubt.failed; stored = either_on_disk t.base.disk.now (committed m) (committed s) (working m) (working s) same working_is doubt.stored }
 
     -- what was read, and then not called, is what it was
-    pub dropped_on : t.base.disk.now ≡ m.base.disk.now → IsOnDisk g t.base.disk.now (λ left. Redoes left (committed m)) → IsTrue t.base.live → committed t ≡ committed m → IsDropped s.base t.base
+    pub dropped_on : t.base.disk.now ≡ m.base.disk.now → IsOnDisk g t.base.disk.now (λ left. Redoes left (committed m)) → IsTrue t.base.live
+        → committed t ≡ committed m → IsDropped s.base t.base
     dropped_on is stored live space = record {
       reads = subst (λ (now : D). OnlyReads g s.base.disk.now now) (sym is) reads.base.disk;
       space = space ∙ same;
@@ -126,10 +129,12 @@ module _ {D : Type 0} {g : Ghosts D} where
         -- over what the transaction had
         pub sights_after : IsWritten s.base t.base → KeepsSights g (committed s) t.base.disk.now old new
         sights_after written = λ told space redoes reader is.
-            sight (g.reads t.base.disk.now) space (working s) (committed s) new.open_ones old.open_ones reader redoes (written.stored.read told) (after told reader is)
+            sight (g.reads t.base.disk.now) space (working s) (committed s) new.open_ones old.open_ones reader redoes (written.stored.read told)
+            (after told reader is)
 
         -- over the one or the other
-        pub sights_in_doubt : IsOnDisk g t.base.disk.now (λ left. Redoes left (committed s) ⊎ Redoes left (working s)) → KeepsSights g (committed s) t.base.disk.now old new
+        pub sights_in_doubt : IsOnDisk g t.base.disk.now (λ left. Redoes left (committed s) ⊎ Redoes left (working s))
+            → KeepsSights g (committed s) t.base.disk.now old new
         sights_in_doubt stored = λ told space redoes reader is. ⊎_elim
             (λ (was : Redoes (g.reads t.base.disk.now) (committed s)).
             sight (g.reads t.base.disk.now) space (committed s) (committed s) new.open_ones old.open_ones reader redoes was (before told reader is))
@@ -138,7 +143,8 @@ module _ {D : Type 0} {g : Ghosts D} where
             (stored.read told)
 
         -- whatever comes of the commit
-        pub sights_commit : {T E : Type 0} (result : Result T E) → OnOk result (IsWritten m.base t.base) → OnErr result (IsInDoubt m.base t.base) → KeepsSights g (committed s) t.base.disk.now old new
+        pub sights_commit : {T E : Type 0} (result : Result T E) → OnOk result (IsWritten m.base t.base) → OnErr result (IsInDoubt m.base t.base)
+            → KeepsSights g (committed s) t.base.disk.now old new
         sights_commit (Ok x) done failed = sights_after (written_on done)
         sights_commit (Err e) done failed = sights_in_doubt (doubt_on failed).stored
 

@@ -1,5 +1,6 @@
 -- A store that is made by the first entry of the log.
-use Rattle.std.proofs.Common.{rules, ◌≡◌, ◌∙◌, ap, sym, subst, inl, inr, ⊎_elim, ℕ, zero, suc, ◌+◌, ◌<◌, List, [], ◌∷◌, Some, length, replicate, refl, arith, lit<}
+use Rattle.std.proofs.Common.{rules, ◌≡◌, ◌∙◌, ap, sym, subst, inl, inr, ⊎_elim, ℕ, zero, suc, ◌+◌, ◌<◌, List, [], ◌∷◌}
+use Rattle.std.proofs.Common.{Some, length, replicate, refl, arith, lit<}
 use Rattle.std.specs.List.{slice_get}
 use Rattle.disk_model.specs.Contents.{Files}
 use Rattle.disk_model.specs.Spans.{AtEachMoment, IsAllSettled}
@@ -46,11 +47,14 @@ held_unmade : (content : Files) → IsUnmade content → AreMetasOf (record_at c
 held_unmade content unmade id below = slice_get-replicate meta_records id zeros below ∙ ap (λ (r : Rec). Some r) (sym (unmade.blank id below))
 
 -- where no store was made and no byte is pending
-pub kept_unmade : {D : Type 0} (g : Ghosts D) (disk : D) → (g.tells_reads → IsUnmade (g.reads disk)) → (g.tells_reads → g.tells_images → IsAllSettled g disk) → IsKept g disk blank_metas [] 0
-kept_unmade g disk unmade settled = kept_settled g disk blank_metas [] refl (λ reads. (unmade reads).log) settled (λ reads. held_unmade (g.reads disk) (unmade reads))
+pub kept_unmade : {D : Type 0} (g : Ghosts D) (disk : D) → (g.tells_reads → IsUnmade (g.reads disk)) → (g.tells_reads → g.tells_images → IsAllSettled g disk)
+    → IsKept g disk blank_metas [] 0
+kept_unmade g disk unmade settled = kept_settled g disk blank_metas [] refl (λ reads. (unmade reads).log) settled
+    (λ reads. held_unmade (g.reads disk) (unmade reads))
 
 -- what a stop leaves while the first entry is appended
-pub old_or_new : {D : Type 0} (g : Ghosts D) (disk : D) (shape : Shape) → IsUnmade (g.reads disk) → IsAllSettled g disk → (left : Files) → IsAppended (g.may_leave disk) [] (creation_pairs shape) 0 left → IsOldOrNew (g.reads disk) shape left
+pub old_or_new : {D : Type 0} (g : Ghosts D) (disk : D) (shape : Shape) → IsUnmade (g.reads disk) → IsAllSettled g disk → (left : Files)
+    → IsAppended (g.may_leave disk) [] (creation_pairs shape) 0 left → IsOldOrNew (g.reads disk) shape left
 old_or_new g disk shape unmade settled left is =
     let same : record_at left ≡ record_at (g.reads disk) =
     (λ i key. record_at-log key 0 (entry_bytes (length (creation_pairs shape)) + 1) is.old left is.elsewhere i)
@@ -74,7 +78,8 @@ new_crash g first now shape unmade settled leaves =
     (old_or_new g first shape unmade settled)
 
 -- the records of the new store
-pub new_space : (first now : Files) (shape : Shape) (metas : List Rec) (changed creation merged : Pairs) → metas ≡ blank_metas → changed ≡ [] → creation ≡ creation_pairs shape → IsUnmade first → FindsMerged changed creation merged
+pub new_space : (first now : Files) (shape : Shape) (metas : List Rec) (changed creation merged : Pairs) → metas ≡ blank_metas → changed ≡ []
+    → creation ≡ creation_pairs shape → IsUnmade first → FindsMerged changed creation merged
     → SameButEntry 0 creation first now → laid_over (with_metas metas (record_at now)) merged ≡ made_over first shape
 new_space first now shape metas changed creation merged blank none is unmade finds elsewhere =
     let held : AreMetasOf (record_at now) metas = subst (AreMetasOf (record_at now)) (sym blank)

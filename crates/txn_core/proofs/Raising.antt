@@ -30,7 +30,8 @@ use Rattle.txn_core.proofs.Kept.{Redoes-same, before_or_after, same_records}
 use Rattle.record_file.proofs.MetaRecords.{with_metas-same}
 
 -- the store's own record in memory says the version
-pub version_held : (metas : List Rec) (records : Key → Rec) (own : Rec) → find_meta metas own_key ≡ Some own → version_of (with_metas metas records own_key) ≡ version_of own
+pub version_held : (metas : List Rec) (records : Key → Rec) (own : Rec) → find_meta metas own_key ≡ Some own
+    → version_of (with_metas metas records own_key) ≡ version_of own
 version_held metas records own is = ap (λ (o : Option Rec). version_of (Rattle.std.specs.Prelude.unwrap_or o (records own_key))) is
 
 pub raised_old : (shape : Shape) (space : Key → Rec) → version_of (space own_key) < newest_version → raised shape space ≡ laid_over space (raising_pairs shape)
@@ -62,7 +63,8 @@ raise_crash g first now metas own shape is old kept reads images crash =
     (λ left. ⊎_elim (λ was. inl was) (λ more. inr (Redoes-same left (laid_over space own) (raised shape space) (ap (laid_over space) is ∙ sym (raised_old shape space old)) more)))
 
 -- an entry more leaves a settled disk settled
-pub settled_appended : {D : Type 0} (g : Ghosts D) (first now : D) (own : Pairs) → CountsNow g → g.tells_images → HasEntries (g.reads first) [] 0 → IsAllSettled g first
+pub settled_appended : {D : Type 0} (g : Ghosts D) (first now : D) (own : Pairs) → CountsNow g → g.tells_images → HasEntries (g.reads first) [] 0
+    → IsAllSettled g first
     → ((entries : List Pairs) → AllHaveEntries (g.may_leave first) entries 0 → AtEachMoment g first now (IsAppended (g.may_leave first) entries own 0))
     → SameButEntry 0 own (g.reads first) (g.reads now) → Settled log_file (g.reads now) (g.may_leave now) → IsAllSettled g now
 settled_appended g first now own counts images log settled crash elsewhere logged file below image left place =
@@ -70,18 +72,21 @@ settled_appended g first now own counts images log settled crash elsewhere logge
     ⊎_elim
     (λ record_file.
     let other = is_record_file-not_log file record_file in
-    is.elsewhere file place (λ within. other within.in_file) ∙ settled file below is.old is.was_left place ∙ sym (elsewhere file place (λ within. other within.in_file)))
+    is.elsewhere file place (λ within. other within.in_file) ∙ settled file below is.old is.was_left place
+    ∙ sym (elsewhere file place (λ within. other within.in_file)))
     (λ same. ap (λ f. image f place) same ∙ logged image left place ∙ ap (λ f. g.reads now f place) (sym same))
     (record_file_or_log file below)
 
 -- the records of a content as they were read
-pub space_read : (first mid : Files) (metas : List Rec) → Same first mid → AreMetasOf (record_at first) metas → with_metas metas (record_at mid) ≡ record_at first
+pub space_read : (first mid : Files) (metas : List Rec) → Same first mid → AreMetasOf (record_at first) metas
+    → with_metas metas (record_at mid) ≡ record_at first
 space_read first mid metas same held =
     let records = same_records first mid same in
     with_metas-same metas (record_at mid) (subst (λ (r : Key → Rec). AreMetasOf r metas) (sym records) held) ∙ records
 
 -- each image of a settled disk whose log has no entry redoes to the records of the files
-pub images_old : {D : Type 0} (g : Ghosts D) (disk : D) → HasEntries (g.reads disk) [] 0 → IsAllSettled g disk → (left : Files) → g.may_leave disk left → Redoes left (record_at (g.reads disk))
+pub images_old : {D : Type 0} (g : Ghosts D) (disk : D) → HasEntries (g.reads disk) [] 0 → IsAllSettled g disk → (left : Files) → g.may_leave disk left
+    → Redoes left (record_at (g.reads disk))
 images_old g disk log settled left was = record {
   entries = [];
   tail = 0;
@@ -90,16 +95,22 @@ images_old g disk log settled left was = record {
 }
 
 -- the same under other names
-pub IsOldOrRaised-same : (shape other : Shape) (a b : Key → Rec) (left : Files) → shape ≡ other → a ≡ b → IsOldOrRaised shape a left → IsOldOrRaised other b left
-IsOldOrRaised-same shape other a b left shapes same is = subst (λ (s : Shape). IsOldOrRaised s b left) shapes (subst (λ (x : Key → Rec). IsOldOrRaised shape x left) same is)
+pub IsOldOrRaised-same : (shape other : Shape) (a b : Key → Rec) (left : Files) → shape ≡ other → a ≡ b → IsOldOrRaised shape a left
+    → IsOldOrRaised other b left
+IsOldOrRaised-same shape other a b left shapes same is = subst (λ (s : Shape). IsOldOrRaised s b left) shapes
+    (subst (λ (x : Key → Rec). IsOldOrRaised shape x left) same is)
 
 -- what a stop leaves while a store is read
-pub read_crash : {D : Type 0} (g : Ghosts D) (first mid : D) (shape : Shape) → HasEntries (g.reads first) [] 0 → IsAllSettled g first → OnlyReads g first mid → g.tells_images → AtEachMoment g first mid (IsOldOrRaised shape (record_at (g.reads first)))
-read_crash g first mid shape log settled reads images = at_each_moment_weaker g first mid _ _ (reads.time images) (λ left was. inl (images_old g first log settled left was))
+pub read_crash : {D : Type 0} (g : Ghosts D) (first mid : D) (shape : Shape) → HasEntries (g.reads first) [] 0 → IsAllSettled g first → OnlyReads g first mid
+    → g.tells_images → AtEachMoment g first mid (IsOldOrRaised shape (record_at (g.reads first)))
+read_crash g first mid shape log settled reads images = at_each_moment_weaker g first mid _ _ (reads.time images)
+    (λ left was. inl (images_old g first log settled left was))
 
 -- and while it is raised
-pub raised_crash : {D : Type 0} (g : Ghosts D) (first mid now : D) (metas : List Rec) (shape found : Shape) → HasEntries (g.reads first) [] 0 → IsAllSettled g first → OnlyReads g first mid → g.tells_images → AreMetasOf (record_at (g.reads first)) metas → found ≡ shape
-    → AtEachMoment g mid now (IsOldOrRaised found (with_metas metas (record_at (g.reads mid)))) → AtEachMoment g first now (IsOldOrRaised shape (record_at (g.reads first)))
+pub raised_crash : {D : Type 0} (g : Ghosts D) (first mid now : D) (metas : List Rec) (shape found : Shape) → HasEntries (g.reads first) [] 0
+    → IsAllSettled g first → OnlyReads g first mid → g.tells_images → AreMetasOf (record_at (g.reads first)) metas → found ≡ shape
+    → AtEachMoment g mid now (IsOldOrRaised found (with_metas metas (record_at (g.reads mid))))
+    → AtEachMoment g first now (IsOldOrRaised shape (record_at (g.reads first)))
 raised_crash g first mid now metas shape found log settled reads images held is crash =
     at_each_moment_on g first mid now _ _ (read_crash g first mid shape log settled reads images) crash
     (λ left. IsOldOrRaised-same found shape _ (record_at (g.reads first)) left is (space_read (g.reads first) (g.reads mid) metas reads.keeps held))

@@ -16,7 +16,8 @@ length-with_pair (pair ∷ rest) key rec rising = by_cmp key pair.0 (length (wit
     omega (arith, ap (λ (ps : Pairs). length ps) (step pair rest key rec Less e), new))
     (λ e. omega (arith, ap (λ (ps : Pairs). length ps) (step pair rest key rec Equal e)))
     (λ e.
-    let same : growth (pair ∷ rest) key ≡ growth rest key = ap (λ b. cond (is_some (cond b (Some pair.1) (find_pair rest key))) 0 1) (apart key pair.0 Greater e (λ x. cc)) in
+    let same : growth (pair ∷ rest) key ≡ growth rest key = ap (λ b. cond (is_some (cond b (Some pair.1) (find_pair rest key))) 0 1)
+    (apart key pair.0 Greater e (λ x. cc)) in
     omega (arith, ap (λ (ps : Pairs). length ps) (step pair rest key rec Greater e), same, length-with_pair rest key rec rising.1))
 
 -- by a merge
@@ -30,7 +31,8 @@ growth_by-above : (pair : Key × Rec) (ps other : Pairs) → IsBelow pair.0 othe
 growth_by-above pair ps [] below rising = refl
 growth_by-above pair ps (next ∷ rest) below rising =
     growth_by-step (pair ∷ ps) next rest rising
-    ∙ ap (λ b. cond (is_some (cond b (Some pair.1) (find_pair ps next.0))) 0 1 + growth_by (pair ∷ ps) rest) (apart next.0 pair.0 Greater (reverse pair.0 next.0 Less below.0) (λ e. cc))
+    ∙ ap (λ b. cond (is_some (cond b (Some pair.1) (find_pair ps next.0))) 0 1 + growth_by (pair ∷ ps) rest)
+    (apart next.0 pair.0 Greater (reverse pair.0 next.0 Less below.0) (λ e. cc))
     ∙ ap (λ n. growth ps next.0 + n) (growth_by-above pair ps rest below.1 rising.1) ∙ sym (growth_by-step ps next rest rising)
 
 -- .. and so at most one of rising keys is there by it.
@@ -43,7 +45,8 @@ growth_by-one pair ps (next ∷ rest) rising = by_cmp next.0 pair.0 (growth_by p
     omega (arith, growth_by-step ps next rest rising, growth_by-step (pair ∷ ps) next rest rising, growth_le ps next.0, growth_by-above pair ps rest below rising.1))
     (λ e. another (apart next.0 pair.0 Greater e (λ x. cc)) (growth_by-one pair ps rest rising.1))
   where
-    another : key_eq next.0 pair.0 ≡ false → growth_by ps rest ≤ 1 + growth_by (pair ∷ ps) rest → growth_by ps (next ∷ rest) ≤ 1 + growth_by (pair ∷ ps) (next ∷ rest)
+    another : key_eq next.0 pair.0 ≡ false → growth_by ps rest ≤ 1 + growth_by (pair ∷ ps) rest
+        → growth_by ps (next ∷ rest) ≤ 1 + growth_by (pair ∷ ps) (next ∷ rest)
     another other later =
         let same : growth (pair ∷ ps) next.0 ≡ growth ps next.0 = ap (λ b. cond (is_some (cond b (Some pair.1) (find_pair ps next.0))) 0 1) other in
         omega (arith, growth_by-step ps next rest rising, growth_by-step (pair ∷ ps) next rest rising, same, later)

@@ -22,4 +22,5 @@ merged-none (pair ∷ rest) rising = merged-above pair [] rest rising.0 ∙ ap (
 pub all_ship-merged : (shape : Shape) (ps other : Pairs) → AllShip shape ps → AllShip shape other → AllShip shape (merged ps other)
 all_ship-merged shape ps [] all more = all
 all_ship-merged shape ps (pair ∷ rest) all more =
-    all_ship-merged shape (with_pair ps pair.0 pair.1) rest (all_with (λ (write : Key × Rec). is_shipped shape write.0 ≡ true) ps pair.0 pair.1 all more.0) more.1
+    all_ship-merged shape (with_pair ps pair.0 pair.1) rest (all_with (λ (write : Key × Rec). is_shipped shape write.0 ≡ true) ps pair.0 pair.1 all more.0)
+    more.1

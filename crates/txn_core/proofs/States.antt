@@ -31,13 +31,15 @@ held_twice pairs key below = pick (find_pair pairs key)
 
 module _ {D : Type 0} (g : Ghosts D) where
   -- the record that is handed out
-  pub state_edited : (old mid : Store D g) (key : Key) (below : Rec) → state_of mid ≡ after_get (state_of old) → below ≡ drafted old key → held_at mid.draft.pairs key below ≡ drafted old key
+  pub state_edited : (old mid : Store D g) (key : Key) (below : Rec) → state_of mid ≡ after_get (state_of old) → below ≡ drafted old key
+      → held_at mid.draft.pairs key below ≡ drafted old key
   state_edited old mid key below state is =
       let same : drafted mid key ≡ drafted old key = ap (λ (s : State). s.records key) state in
       ap (held_at mid.draft.pairs key) (is ∙ sym same) ∙ held_twice mid.draft.pairs key (working mid key) ∙ same
 
   -- and written
-  pub state_written : (old mid new : Store D g) (key : Key) (rec : Rec) → state_of mid ≡ after_get (state_of old) → new.base ≡ mid.base → new.reads ≡ mid.reads → new.draft.pairs ≡ with_pair mid.draft.pairs key rec
+  pub state_written : (old mid new : Store D g) (key : Key) (rec : Rec) → state_of mid ≡ after_get (state_of old) → new.base ≡ mid.base → new.reads ≡ mid.reads
+      → new.draft.pairs ≡ with_pair mid.draft.pairs key rec
       → state_of new ≡ after_put (after_get (state_of old)) key rec
   state_written old mid new key rec state base reads draft =
       (λ i. laid_state (beneath (working (record mid { base = base i })) (reads i) (base i).shape) new.draft.pairs)
@@ -45,8 +47,10 @@ module _ {D : Type 0} (g : Ghosts D) where
       ∙ ap (λ (s : State). after_put s key rec) state
 
   -- or not
-  pub state_refused : (old mid new : Store D g) → state_of mid ≡ after_get (state_of old) → new.base ≡ mid.base → new.reads ≡ mid.reads → new.draft.pairs ≡ mid.draft.pairs → state_of new ≡ after_get (state_of old)
-  state_refused old mid new state base reads draft = (λ i. laid_state (beneath (working (record mid { base = base i })) (reads i) (base i).shape) (draft i)) ∙ state
+  pub state_refused : (old mid new : Store D g) → state_of mid ≡ after_get (state_of old) → new.base ≡ mid.base → new.reads ≡ mid.reads
+      → new.draft.pairs ≡ mid.draft.pairs → state_of new ≡ after_get (state_of old)
+  state_refused old mid new state base reads draft = (λ i. laid_state (beneath (working (record mid { base = base i })) (reads i) (base i).shape) (draft i))
+      ∙ state
 
 -- a call that went well blames nobody
 pub no_blame : {T U : Type 0} (before now : ℕ) (r : Result T SpaceFault) (x : U) → HasCause before now r → HasCause {T = U} before now (Ok x)

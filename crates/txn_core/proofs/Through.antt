@@ -35,5 +35,6 @@ module _ {D : Type 0} {g : Ghosts D} (key : Key) where
   }
 
   -- a set above lacks it
-  pub through_beneath : (found in_memory : Bool) (old new : Base D g) (succeeds : Bool) → false ≡ found → ReadsThrough in_memory key old new succeeds → ReadsThrough (found || in_memory) key old new succeeds
+  pub through_beneath : (found in_memory : Bool) (old new : Base D g) (succeeds : Bool) → false ≡ found → ReadsThrough in_memory key old new succeeds
+      → ReadsThrough (found || in_memory) key old new succeeds
   through_beneath found in_memory old new succeeds is through = subst (λ (b : Bool). ReadsThrough (b || in_memory) key old new succeeds) is through

@@ -20,7 +20,8 @@ loop-node-init g c = record {
 pub mark_chain-requires-clause-clear : goal.mark_chain-requires-clause-clear
 mark_chain-requires-clause-clear g c = λ t k own.
     let inv = c.loop-node.invariant in
-    below_clear (g.R.Reads.state c.args.space.now).records c.loop-node.node c.loop-node.marks (inv.marks t) k (subst (λ (r : Records). IsOwnedBy r c.loop-node.node k) inv.same own)
+    below_clear (g.R.Reads.state c.args.space.now).records c.loop-node.node c.loop-node.marks (inv.marks t) k
+    (subst (λ (r : Records). IsOwnedBy r c.loop-node.node k) inv.same own)
 
 pub loop-node-preserved : goal.loop-node-preserved
 loop-node-preserved g c =
@@ -43,7 +44,8 @@ returns-clause-marks g c = λ t.
 
 pub returns-in_err-mark_chain-clause-cause : goal.returns-in_err-mark_chain-clause-cause
 returns-in_err-mark_chain-clause-cause g c =
-    cause_passed _ _ _ c.from_residual.result c.in_err-mark_chain.field-0.0 c.loop-node.invariant.faults c.in_err-mark_chain.ensures.cause c.from_residual.ensures.1
+    cause_passed _ _ _ c.from_residual.result c.in_err-mark_chain.field-0.0 c.loop-node.invariant.faults c.in_err-mark_chain.ensures.cause
+    c.from_residual.ensures.1
 
 pub returns-in_err-mark_chain-clause-same : goal.returns-in_err-mark_chain-clause-same
 returns-in_err-mark_chain-clause-same g c = search (rules, c.loop-node.invariant)

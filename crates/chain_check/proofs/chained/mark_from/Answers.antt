@@ -12,7 +12,8 @@ pub loop-at-init : goal.loop-at-init
 loop-at-init g c = record {
   same = refl;
   written = refl;
-  come = λ t. come_first (g.R.Reads.state c.args.space.now).records c.args.node c.args.first (c.requires.dense t) (c.requires.first t) c.args.marks.now (c.requires.clear t);
+  come = λ t. come_first (g.R.Reads.state c.args.space.now).records c.args.node c.args.first (c.requires.dense t) (c.requires.first t) c.args.marks.now
+      (c.requires.clear t);
   onward = g.met.R.Reads.stays_onward c.args.space.now;
   faults = omega arith;
 }
@@ -47,12 +48,14 @@ pub returns-else-not-marks-at-clause-marks : goal.returns-else-not-marks-at-clau
 returns-else-not-marks-at-clause-marks g c = λ t.
     let records = (g.R.Reads.state c.args.space.now).records in
     let is : marked c.loop-at.marks c.loop-at.at ≡ true = search rules in
-    come_last records c.args.node c.args.first (c.requires.dense t) (c.requires.first t) c.args.marks.now c.loop-at.marks c.loop-at.at (c.loop-at.invariant.come t) (λ own. is)
+    come_last records c.args.node c.args.first (c.requires.dense t) (c.requires.first t) c.args.marks.now c.loop-at.marks c.loop-at.at
+    (c.loop-at.invariant.come t) (λ own. is)
 
 pub returns-after-loop-at-clause-marks : goal.returns-after-loop-at-clause-marks
 returns-after-loop-at-clause-marks g c = λ t.
     let records = (g.R.Reads.state c.args.space.now).records in
-    come_last records c.args.node c.args.first (c.requires.dense t) (c.requires.first t) c.args.marks.now c.loop-at.marks c.loop-at.at (c.loop-at.invariant.come t)
+    come_last records c.args.node c.args.first (c.requires.dense t) (c.requires.first t) c.args.marks.now c.loop-at.marks c.loop-at.at
+    (c.loop-at.invariant.come t)
     (λ own. absurd (let low = owned_low records c.args.node c.loop-at.at own in omega (arith, c.loop-at-test.false, c.loop-at.auto.marks, c.requires.marks)))
 
 pub returns-in_err-next-clause-cause : goal.returns-in_err-next-clause-cause

@@ -17,9 +17,11 @@ returns-in-Some-2-clause-decided g c = λ tells.
     let id = c.in-Some-2.id in
     let met : AreMet s.records marks = search (rules, c.in_ok-damage.ensures.met tells) in
     let found : IfSome c.in_ok-id.field-0 (λ x. (x < high s.records relationships_file) × (¬ RelHolds (kind_at s.records nodes_file) s.records marks x))
-    = subst (λ (r : Records). IfSome c.in_ok-id.field-0 (λ x. (x < high r relationships_file) × (¬ RelHolds (kind_at r nodes_file) r marks x))) c.in_ok-damage.ensures.same (c.in_ok-id.ensures.found tells) in
+    = subst (λ (r : Records). IfSome c.in_ok-id.field-0 (λ x. (x < high r relationships_file) × (¬ RelHolds (kind_at r nodes_file) r marks x)))
+    c.in_ok-damage.ensures.same (c.in_ok-id.ensures.found tells) in
     let bad : (id < high s.records relationships_file) × (¬ RelHolds (kind_at s.records nodes_file) s.records marks id) = search (rules, found) in
-    breaks_by s.records s.shape 3 c.broken.result (damage 2 id 3) c.broken.ensures refl (RelEnds id bad.0 (λ k. bad.1 (rel_holds s.records marks met.told met.once id k)))
+    breaks_by s.records s.shape 3 c.broken.result (damage 2 id 3) c.broken.ensures refl
+    (RelEnds id bad.0 (λ k. bad.1 (rel_holds s.records marks met.told met.once id k)))
 
 pub returns-in-None-clause-decided : goal.returns-in-None-clause-decided
 returns-in-None-clause-decided g c = λ tells.
@@ -27,7 +29,8 @@ returns-in-None-clause-decided g c = λ tells.
     let marks = c.mark_ends.new.marks in
     let met : AreMet s.records marks = search (rules, c.in_ok-damage.ensures.met tells) in
     let none : IfNone c.in_ok-id.field-0 ((x : ℕ) → x < high s.records relationships_file → RelHolds (kind_at s.records nodes_file) s.records marks x)
-    = subst (λ (r : Records). IfNone c.in_ok-id.field-0 ((x : ℕ) → x < high r relationships_file → RelHolds (kind_at r nodes_file) r marks x)) c.in_ok-damage.ensures.same (c.in_ok-id.ensures.none tells) in
+    = subst (λ (r : Records). IfNone c.in_ok-id.field-0 ((x : ℕ) → x < high r relationships_file → RelHolds (kind_at r nodes_file) r marks x))
+    c.in_ok-damage.ensures.same (c.in_ok-id.ensures.none tells) in
     let holds : (x : ℕ) → x < high s.records relationships_file → RelHolds (kind_at s.records nodes_file) s.records marks x = search (rules, none) in
     record { nodes = met.nodes; groups = met.groups; rels = all_keep s.records (λ x lt. rel_kept s.records marks met.told met.once x (holds x lt)) }
 
@@ -37,7 +40,8 @@ returns-in_err-damage-clause-cause g c =
 
 pub returns-in_err-id-clause-cause : goal.returns-in_err-id-clause-cause
 returns-in_err-id-clause-cause g c =
-    cause_passed _ _ _ c.from_residual-in_err-id.result c.in_err-id.field-0.0 c.in_ok-damage.ensures.cause.later c.in_err-id.ensures.cause c.from_residual-in_err-id.ensures.1
+    cause_passed _ _ _ c.from_residual-in_err-id.result c.in_err-id.field-0.0 c.in_ok-damage.ensures.cause.later c.in_err-id.ensures.cause
+    c.from_residual-in_err-id.ensures.1
 
 pub returns-in_err-damage-clause-decided : goal.returns-in_err-damage-clause-decided
 returns-in_err-damage-clause-decided g c _ = never_ok c.from_residual.result _ _ c.from_residual.ensures.1

@@ -18,9 +18,11 @@ returns-clause-none g c = λ tells.
     let is : kinds ≡ c.in_ok-kinds.kinds.items = c.deref.ensures.value in
     let count = c.meta-relationships.result.high in
     let same = c.in_ok-kinds.ensures.same in
-    let mark : count ≡ high records relationships_file = ap (λ (m : Meta). m.high) c.meta-relationships.ensures ∙ ap (λ (r : Records). high r relationships_file) same in
+    let mark : count ≡ high records relationships_file = ap (λ (m : Meta). m.high) c.meta-relationships.ensures
+    ∙ ap (λ (r : Records). high r relationships_file) same in
     IfOk-weaker c.find_false.result (λ found. IfNone found ((x : ℕ) → x < count → RelHolds (kind_of kinds) after c.args.marks.now x)) _
-    (none_loose records after kinds c.args.marks.now count same mark (subst (AreKinds records) (sym is) (c.in_ok-kinds.ensures.kinds tells))) (c.find_false.ensures.none tells)
+    (none_loose records after kinds c.args.marks.now count same mark (subst (AreKinds records) (sym is) (c.in_ok-kinds.ensures.kinds tells)))
+    (c.find_false.ensures.none tells)
 
 pub returns-clause-found : goal.returns-clause-found
 returns-clause-found g c = λ tells.
@@ -30,9 +32,11 @@ returns-clause-found g c = λ tells.
     let is : kinds ≡ c.in_ok-kinds.kinds.items = c.deref.ensures.value in
     let count = c.meta-relationships.result.high in
     let same = c.in_ok-kinds.ensures.same in
-    let mark : count ≡ high records relationships_file = ap (λ (m : Meta). m.high) c.meta-relationships.ensures ∙ ap (λ (r : Records). high r relationships_file) same in
+    let mark : count ≡ high records relationships_file = ap (λ (m : Meta). m.high) c.meta-relationships.ensures
+    ∙ ap (λ (r : Records). high r relationships_file) same in
     IfOk-weaker c.find_false.result (λ found. IfSome found (λ x. (x < count) × (¬ RelHolds (kind_of kinds) after c.args.marks.now x))) _
-    (one_loose records after kinds c.args.marks.now count same mark (subst (AreKinds records) (sym is) (c.in_ok-kinds.ensures.kinds tells))) (c.find_false.ensures.found tells)
+    (one_loose records after kinds c.args.marks.now count same mark (subst (AreKinds records) (sym is) (c.in_ok-kinds.ensures.kinds tells)))
+    (c.find_false.ensures.found tells)
 
 pub returns-in_err-kinds-clause-none : goal.returns-in_err-kinds-clause-none
 returns-in_err-kinds-clause-none g c _ = never_ok c.from_residual.result _ _ c.from_residual.ensures.1

@@ -9,7 +9,8 @@ use Rattle.store_rules.specs.Breaking.Breaks.{GroupChains, NodeChain, RelEnds}
 use Rattle.record_lists.specs.Heads.{AmongHeads, BrokeIs, HeadKeeps, IsOnce}
 use Rattle.record_lists.specs.Marks.{marked}
 use Rattle.chain_check.specs.NodeChains.{AreGroupEnds, AreNodeEnds, IsChained, IsSparse, group_of}
-use Rattle.chain_check.proofs.EndLaws.{all_met, group_twice, head_of_keeps, heads_of_keeps, keeps_of_head, keeps_of_heads, met_once, never_twice, nodes_keep, own_chain}
+use Rattle.chain_check.proofs.EndLaws.{all_met, group_twice, head_of_keeps, heads_of_keeps, keeps_of_head}
+use Rattle.chain_check.proofs.EndLaws.{keeps_of_heads, met_once, never_twice, nodes_keep, own_chain}
 use Rattle.record_lists.proofs.HeadLaws.{told_clear}
 use Rattle.record_lists.proofs.DecidingLaws.{breaks_by}
 use Rattle.record_lists.proofs.Causes.{cause_passed}
@@ -20,13 +21,16 @@ pub returns-in-Some-Head-clause-broken : goal.returns-in-Some-Head-clause-broken
 returns-in-Some-Head-clause-broken g c = λ tells.
     let s = g.R.Reads.state c.args.space.now in
     let id = c.in-Some-Head.id in
-    let b : BrokeIs (IsSparse s.records) (AreNodeEnds s.records) (high s.records nodes_file) c.args.marks.now (Head id) = search (rules, c.in_ok-id.ensures.broken tells) in
-    breaks_by s.records s.shape 3 c.broken.result (damage 1 id 3) (c.broken.ensures ∙ ap (λ i. damage 1 i 3) c.in-Some-Head.id-is) refl (NodeChain id b.0 (λ k. b.1 (head_of_keeps s.records id k)))
+    let b : BrokeIs (IsSparse s.records) (AreNodeEnds s.records) (high s.records nodes_file) c.args.marks.now (Head id) =
+    search (rules, c.in_ok-id.ensures.broken tells) in
+    breaks_by s.records s.shape 3 c.broken.result (damage 1 id 3) (c.broken.ensures ∙ ap (λ i. damage 1 i 3) c.in-Some-Head.id-is) refl
+    (NodeChain id b.0 (λ k. b.1 (head_of_keeps s.records id k)))
 
 pub returns-in-Some-Item-clause-broken : goal.returns-in-Some-Item-clause-broken
 returns-in-Some-Item-clause-broken g c = λ tells.
     let s = g.R.Reads.state c.args.space.now in
-    let b : BrokeIs (IsSparse s.records) (AreNodeEnds s.records) (high s.records nodes_file) c.args.marks.now (Item c.in-Some-Item.end) = search (rules, c.in_ok-id.ensures.broken tells) in
+    let b : BrokeIs (IsSparse s.records) (AreNodeEnds s.records) (high s.records nodes_file) c.args.marks.now (Item c.in-Some-Item.end) =
+    search (rules, c.in_ok-id.ensures.broken tells) in
     absurd (never_twice s.records (high s.records nodes_file) c.args.marks.now c.in-Some-Item.end c.requires.clear b)
 
 pub returns-in-Some-Head-2-clause-broken : goal.returns-in-Some-Head-2-clause-broken
@@ -39,7 +43,8 @@ returns-in-Some-Head-2-clause-broken g c = λ tells.
     let groups = 3 * c.meta-groups.result.high in
     let group_mark : c.meta-groups.result.high ≡ high s.records groups_file = ap (λ (m : Meta). m.high) c.meta-groups.ensures in
     let told : IfSome c.in_ok-id-2.field-0 (BrokeIs (λ k. IsChained chained s.records (group_of k)) (AreGroupEnds s.records) groups first)
-    = subst (λ (r : Records). IfSome c.in_ok-id-2.field-0 (BrokeIs (λ k. IsChained chained r (group_of k)) (AreGroupEnds r) groups first)) c.in_ok-id.ensures.same (c.in_ok-id-2.ensures.broken tells) in
+    = subst (λ (r : Records). IfSome c.in_ok-id-2.field-0 (BrokeIs (λ k. IsChained chained r (group_of k)) (AreGroupEnds r) groups first))
+    c.in_ok-id.ensures.same (c.in_ok-id-2.ensures.broken tells) in
     let b : BrokeIs (λ k. IsChained chained s.records (group_of k)) (AreGroupEnds s.records) groups first (Head id) = search (rules, told) in
     breaks_by s.records s.shape 3 c.broken-in-Some-Head-2.result (damage 3 (id / 3) 3) c.broken-in-Some-Head-2.ensures refl
     (GroupChains (id / 3) (omega (arith, b.0)) (own_chain s.records chained right id b.1) (λ k. b.1 (heads_of_keeps s.records chained right id k)))
@@ -52,12 +57,16 @@ returns-in-Some-Item-2-clause-broken g c = λ tells.
     let end = c.in-Some-Item-2.end in
     let nodes = high s.records nodes_file in
     let groups = 3 * c.meta-groups.result.high in
-    let told : (p : ℕ) → Decides (marked first p) ((marked c.args.marks.now p ≡ true) ⊎ AmongHeads (IsSparse s.records) (AreNodeEnds s.records) nodes p) = search (rules, c.in_ok-id.ensures.marks tells) in
+    let told : (p : ℕ) → Decides (marked first p) ((marked c.args.marks.now p ≡ true) ⊎ AmongHeads (IsSparse s.records) (AreNodeEnds s.records) nodes p) =
+    search (rules, c.in_ok-id.ensures.marks tells) in
     let twice : IfSome c.in_ok-id-2.field-0 (BrokeIs (λ k. IsChained chained s.records (group_of k)) (AreGroupEnds s.records) groups first)
-    = subst (λ (r : Records). IfSome c.in_ok-id-2.field-0 (BrokeIs (λ k. IsChained chained r (group_of k)) (AreGroupEnds r) groups first)) c.in_ok-id.ensures.same (c.in_ok-id-2.ensures.broken tells) in
+    = subst (λ (r : Records). IfSome c.in_ok-id-2.field-0 (BrokeIs (λ k. IsChained chained r (group_of k)) (AreGroupEnds r) groups first))
+    c.in_ok-id.ensures.same (c.in_ok-id-2.ensures.broken tells) in
     let b : BrokeIs (λ k. IsChained chained s.records (group_of k)) (AreGroupEnds s.records) groups first (Item end) = search (rules, twice) in
-    let bad = group_twice s.records chained (c.requires.chained tells) nodes groups first end (told_clear (IsSparse s.records) (AreNodeEnds s.records) nodes c.args.marks.now first c.requires.clear told) b in
-    breaks_by s.records s.shape 3 c.broken-in-Some-Item-2.result (damage 2 bad.0 3) (c.broken-in-Some-Item-2.ensures ∙ ap (λ x. damage 2 x 3) (sym bad.1)) refl (RelEnds bad.0 bad.2 bad.3)
+    let bad = group_twice s.records chained (c.requires.chained tells) nodes groups first end
+    (told_clear (IsSparse s.records) (AreNodeEnds s.records) nodes c.args.marks.now first c.requires.clear told) b in
+    breaks_by s.records s.shape 3 c.broken-in-Some-Item-2.result (damage 2 bad.0 3) (c.broken-in-Some-Item-2.ensures ∙ ap (λ x. damage 2 x 3) (sym bad.1)) refl
+    (RelEnds bad.0 bad.2 bad.3)
 
 pub returns-in-None-2-clause-met : goal.returns-in-None-2-clause-met
 returns-in-None-2-clause-met g c = λ tells.
@@ -69,17 +78,21 @@ returns-in-None-2-clause-met g c = λ tells.
     let nodes = high s.records nodes_file in
     let groups = 3 * c.meta-groups.result.high in
     let group_mark : c.meta-groups.result.high ≡ high s.records groups_file = ap (λ (m : Meta). m.high) c.meta-groups.ensures in
-    let told : (p : ℕ) → Decides (marked first p) ((marked c.args.marks.now p ≡ true) ⊎ AmongHeads (IsSparse s.records) (AreNodeEnds s.records) nodes p) = search (rules, c.in_ok-id.ensures.marks tells) in
-    let node_told : (p : ℕ) → Decides (marked first p) (AmongHeads (IsSparse s.records) (AreNodeEnds s.records) nodes p) = told_clear (IsSparse s.records) (AreNodeEnds s.records) nodes c.args.marks.now first c.requires.clear told in
+    let told : (p : ℕ) → Decides (marked first p) ((marked c.args.marks.now p ≡ true) ⊎ AmongHeads (IsSparse s.records) (AreNodeEnds s.records) nodes p) =
+    search (rules, c.in_ok-id.ensures.marks tells) in
+    let node_told : (p : ℕ) → Decides (marked first p) (AmongHeads (IsSparse s.records) (AreNodeEnds s.records) nodes p) =
+    told_clear (IsSparse s.records) (AreNodeEnds s.records) nodes c.args.marks.now first c.requires.clear told in
     let node_heads : (k : ℕ) → k < nodes → HeadKeeps (IsSparse s.records) (AreNodeEnds s.records) k = search (rules, c.in_ok-id.ensures.keeps tells) in
     let marks : IfNone c.in_ok-id-2.field-0 ((p : ℕ) → Decides (marked last p) ((marked first p ≡ true) ⊎ AmongHeads (λ k. IsChained chained s.records (group_of k)) (AreGroupEnds s.records) groups p))
     = subst (λ (r : Records). IfNone c.in_ok-id-2.field-0 ((p : ℕ) → Decides (marked last p) ((marked first p ≡ true) ⊎ AmongHeads (λ k. IsChained chained r (group_of k)) (AreGroupEnds r) groups p))) c.in_ok-id.ensures.same (c.in_ok-id-2.ensures.marks tells) in
     let group_told : (p : ℕ) → Decides (marked last p) ((marked first p ≡ true) ⊎ AmongHeads (λ k. IsChained chained s.records (group_of k)) (AreGroupEnds s.records) groups p) = search (rules, marks) in
     let keeps : IfNone c.in_ok-id-2.field-0 ((k : ℕ) → k < groups → HeadKeeps (λ k. IsChained chained s.records (group_of k)) (AreGroupEnds s.records) k)
-    = subst (λ (r : Records). IfNone c.in_ok-id-2.field-0 ((k : ℕ) → k < groups → HeadKeeps (λ k. IsChained chained r (group_of k)) (AreGroupEnds r) k)) c.in_ok-id.ensures.same (c.in_ok-id-2.ensures.keeps tells) in
+    = subst (λ (r : Records). IfNone c.in_ok-id-2.field-0 ((k : ℕ) → k < groups → HeadKeeps (λ k. IsChained chained r (group_of k)) (AreGroupEnds r) k))
+    c.in_ok-id.ensures.same (c.in_ok-id-2.ensures.keeps tells) in
     let group_heads : (k : ℕ) → k < groups → HeadKeeps (λ k. IsChained chained s.records (group_of k)) (AreGroupEnds s.records) k = search (rules, keeps) in
     let once : IfNone c.in_ok-id-2.field-0 ((p : ℕ) → IsOnce (λ k. IsChained chained s.records (group_of k)) (AreGroupEnds s.records) groups p)
-    = subst (λ (r : Records). IfNone c.in_ok-id-2.field-0 ((p : ℕ) → IsOnce (λ k. IsChained chained r (group_of k)) (AreGroupEnds r) groups p)) c.in_ok-id.ensures.same (c.in_ok-id-2.ensures.once tells) in
+    = subst (λ (r : Records). IfNone c.in_ok-id-2.field-0 ((p : ℕ) → IsOnce (λ k. IsChained chained r (group_of k)) (AreGroupEnds r) groups p))
+    c.in_ok-id.ensures.same (c.in_ok-id-2.ensures.once tells) in
     let group_once : (p : ℕ) → IsOnce (λ k. IsChained chained s.records (group_of k)) (AreGroupEnds s.records) groups p = search (rules, once) in
     let all_told = subst (λ m. (p : ℕ) → Decides (marked last p) ((marked first p ≡ true) ⊎ AmongHeads (λ k. IsChained chained s.records (group_of k)) (AreGroupEnds s.records) (3 * m) p)) group_mark group_told in
     record {
@@ -96,7 +109,8 @@ returns-in_err-id-clause-cause g c =
 
 pub returns-in_err-id-2-clause-cause : goal.returns-in_err-id-2-clause-cause
 returns-in_err-id-2-clause-cause g c =
-    cause_passed _ _ _ c.from_residual-in_err-id-2.result c.in_err-id-2.field-0.0 c.in_ok-id.ensures.cause.later c.in_err-id-2.ensures.cause c.from_residual-in_err-id-2.ensures.1
+    cause_passed _ _ _ c.from_residual-in_err-id-2.result c.in_err-id-2.field-0.0 c.in_ok-id.ensures.cause.later c.in_err-id-2.ensures.cause
+    c.from_residual-in_err-id-2.ensures.1
 
 pub returns-in_err-id-2-clause-onward : goal.returns-in_err-id-2-clause-onward
 returns-in_err-id-2-clause-onward g c =

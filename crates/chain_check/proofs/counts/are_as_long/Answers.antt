@@ -9,13 +9,15 @@ returns-in_err-out-clause-cause g c =
 
 pub returns-in_err-into-clause-cause : goal.returns-in_err-into-clause-cause
 returns-in_err-into-clause-cause g c =
-    cause_passed _ _ _ c.from_residual-in_err-into.result c.in_err-into.field-0.0 c.in_ok-out.ensures.cause.later c.in_err-into.ensures.cause c.from_residual-in_err-into.ensures.1
+    cause_passed _ _ _ c.from_residual-in_err-into.result c.in_err-into.field-0.0 c.in_ok-out.ensures.cause.later c.in_err-into.ensures.cause
+    c.from_residual-in_err-into.ensures.1
 
 pub returns-in_err-loops-clause-cause : goal.returns-in_err-loops-clause-cause
 returns-in_err-loops-clause-cause g c =
     let later = c.in_ok-out.ensures.cause.later in
     let later1 = c.in_ok-into.ensures.cause.later in
-    cause_passed _ _ _ c.from_residual-in_err-loops.result c.in_err-loops.field-0.0 (omega (arith, later, later1)) c.in_err-loops.ensures.cause c.from_residual-in_err-loops.ensures.1
+    cause_passed _ _ _ c.from_residual-in_err-loops.result c.in_err-loops.field-0.0 (omega (arith, later, later1)) c.in_err-loops.ensures.cause
+    c.from_residual-in_err-loops.ensures.1
 
 pub returns-then-into-clause-told : goal.returns-then-into-clause-told
 returns-then-into-clause-told g c = search rules

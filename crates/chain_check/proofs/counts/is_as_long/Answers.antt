@@ -15,7 +15,8 @@ returns-in-Some-clause-told g c = λ tells.
     let first = c.args.first in
     let high = c.args.high in
     let ids = c.in-Some.ids.items in
-    let found : IsLineIn (chain_line c.side_at.result c.number.result) records high c.number-start.result ids = search (rules, c.in_ok-ids.ensures.found tells) in
+    let found : IsLineIn (chain_line c.side_at.result c.number.result) records high c.number-start.result ids =
+    search (rules, c.in_ok-ids.ensures.found tells) in
     let side = c.side_at.ensures ∙ ap (side_at first) c.number-2.ensures in
     let line : IsLineIn (chain_line (side_at first (field 4 r format.group_type)) (field 4 r format.group_owner)) records high (field 4 r first) ids
     = subst (λ f. IsLineIn (chain_line (side_at first (field 4 r format.group_type)) (field 4 r format.group_owner)) records high f ids) c.number-start.ensures

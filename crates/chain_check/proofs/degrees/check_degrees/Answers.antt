@@ -18,10 +18,12 @@ returns-in-Some-clause-decided g c = λ tells.
     let s = g.R.Reads.state c.args.space.now in
     let degrees = c.in_ok-degrees.degrees in
     let id = c.in-Some.id in
-    let mark : c.meta-nodes.result.high ≡ high s.records nodes_file = ap (λ (m : Meta). m.high) c.meta-nodes.ensures ∙ ap (λ (r : Records). high r nodes_file) c.in_ok-degrees.ensures.same in
+    let mark : c.meta-nodes.result.high ≡ high s.records nodes_file = ap (λ (m : Meta). m.high) c.meta-nodes.ensures
+    ∙ ap (λ (r : Records). high r nodes_file) c.in_ok-degrees.ensures.same in
     let counts = c.in_ok-degrees.ensures.counts tells in
     let found : IfSome c.in_ok-id.field-0 (λ x. (x < c.meta-nodes.result.high) × (¬ HasDegree degrees s.records x))
-    = subst (λ (r : Records). IfSome c.in_ok-id.field-0 (λ x. (x < c.meta-nodes.result.high) × (¬ HasDegree degrees r x))) c.in_ok-degrees.ensures.same (c.in_ok-id.ensures.found tells) in
+    = subst (λ (r : Records). IfSome c.in_ok-id.field-0 (λ x. (x < c.meta-nodes.result.high) × (¬ HasDegree degrees r x))) c.in_ok-degrees.ensures.same
+    (c.in_ok-id.ensures.found tells) in
     let bad : (id < c.meta-nodes.result.high) × (¬ HasDegree degrees s.records id) = search (rules, found) in
     let low : id < length degrees.counts.items = let len = c.in_ok-degrees.ensures.len in omega (arith, bad.0) in
     breaks_by s.records s.shape 7 _ (damage 1 id 7) refl refl (WrongDegree id (omega (arith, bad.0)) (λ (k : DegreeKeeps s.records s.shape.threshold id).
@@ -31,11 +33,13 @@ pub returns-clause-decided : goal.returns-clause-decided
 returns-clause-decided g c = λ tells.
     let s = g.R.Reads.state c.args.space.now in
     let degrees = c.in_ok-degrees.degrees in
-    let mark : c.meta-nodes.result.high ≡ high s.records nodes_file = ap (λ (m : Meta). m.high) c.meta-nodes.ensures ∙ ap (λ (r : Records). high r nodes_file) c.in_ok-degrees.ensures.same in
+    let mark : c.meta-nodes.result.high ≡ high s.records nodes_file = ap (λ (m : Meta). m.high) c.meta-nodes.ensures
+    ∙ ap (λ (r : Records). high r nodes_file) c.in_ok-degrees.ensures.same in
     let counts = c.in_ok-degrees.ensures.counts tells in
     let len = c.in_ok-degrees.ensures.len in
     let none : IfNone c.in_ok-id.field-0 ((x : ℕ) → x < c.meta-nodes.result.high → HasDegree degrees s.records x)
-    = subst (λ (r : Records). IfNone c.in_ok-id.field-0 ((x : ℕ) → x < c.meta-nodes.result.high → HasDegree degrees r x)) c.in_ok-degrees.ensures.same (c.in_ok-id.ensures.none tells) in
+    = subst (λ (r : Records). IfNone c.in_ok-id.field-0 ((x : ℕ) → x < c.meta-nodes.result.high → HasDegree degrees r x)) c.in_ok-degrees.ensures.same
+    (c.in_ok-id.ensures.none tells) in
     let each : (x : ℕ) → x < c.meta-nodes.result.high → HasDegree degrees s.records x = search (rules, none) in
     are_counted s.records s.shape.threshold (λ n. ⊎_elim
     (λ (lt : n < high s.records nodes_file).

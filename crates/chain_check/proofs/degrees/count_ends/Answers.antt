@@ -39,8 +39,10 @@ loop-id-preserved g c =
           let e = c.count_rel.ensures.count n was in let o = inv.low n was in let s = small (is_of_node n c.in_ok-rec.rec) in omega arith;
       counts = λ t n low.
           let was : n < length c.loop-id.counts = omega arith in
-          let got : c.in_ok-rec.rec ≡ rec_at records relationships_file c.loop-id.id = c.in_ok-rec.ensures.got t ∙ ap (λ rs. rec_at rs relationships_file c.loop-id.id) inv.same in
-          c.count_rel.ensures.count n was ∙ ap (λ m. m + cond (is_of_node n c.in_ok-rec.rec) 1 0) (inv.counts t n was) ∙ sym (degree_more records c.loop-id.id (c.loop-id.id + 1) n c.in_ok-rec.rec lt got refl);
+          let got : c.in_ok-rec.rec ≡ rec_at records relationships_file c.loop-id.id = c.in_ok-rec.ensures.got t
+          ∙ ap (λ rs. rec_at rs relationships_file c.loop-id.id) inv.same in
+          c.count_rel.ensures.count n was ∙ ap (λ m. m + cond (is_of_node n c.in_ok-rec.rec) 1 0) (inv.counts t n was)
+          ∙ sym (degree_more records c.loop-id.id (c.loop-id.id + 1) n c.in_ok-rec.rec lt got refl);
       onward = g.met.R.Reads.further_onward c.args.space.now c.loop-id.space c.get.new.self inv.onward c.in_ok-rec.ensures.onward;
       faults = let cause = c.in_ok-rec.ensures.cause in omega (arith, inv.faults, cause.later);
     }

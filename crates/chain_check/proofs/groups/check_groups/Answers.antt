@@ -19,14 +19,16 @@ returns-in-Some-2-clause-decided g c = λ tells.
     = subst (λ (r : Records). IfSome c.in_ok-id.field-0 (λ k. ¬ CountsHold r k)) c.in_ok-damage.ensures.same (c.in_ok-id.ensures.found tells) in
     let grouped : Grouped s.records = search (rules, c.in_ok-damage.ensures.grouped tells) in
     let bad : ¬ CountsHold s.records id = search (rules, found) in
-    breaks_by s.records s.shape 4 c.broken.result (damage 3 id 4) c.broken.ensures refl (GroupOwner id (λ k. bad (counts_hold s.records (linked_of s.records grouped (c.requires.chained tells)) (c.requires.low relationships_file refl) id k)))
+    breaks_by s.records s.shape 4 c.broken.result (damage 3 id 4) c.broken.ensures refl
+    (GroupOwner id (λ k. bad (counts_hold s.records (linked_of s.records grouped (c.requires.chained tells)) (c.requires.low relationships_file refl) id k)))
 
 pub returns-clause-decided : goal.returns-clause-decided
 returns-clause-decided g c = λ tells.
     let s = g.R.Reads.state c.args.space.now in
     let grouped : Grouped s.records = search (rules, c.in_ok-damage.ensures.grouped tells) in
     let none : IfNone c.in_ok-id.field-0 ((k : ℕ) → k < high s.records groups_file → CountsHold s.records k)
-    = subst (λ (r : Records). IfNone c.in_ok-id.field-0 ((k : ℕ) → k < high r groups_file → CountsHold r k)) c.in_ok-damage.ensures.same (c.in_ok-id.ensures.none tells) in
+    = subst (λ (r : Records). IfNone c.in_ok-id.field-0 ((k : ℕ) → k < high r groups_file → CountsHold r k)) c.in_ok-damage.ensures.same
+    (c.in_ok-id.ensures.none tells) in
     let hold : (k : ℕ) → k < high s.records groups_file → CountsHold s.records k = search (rules, none) in
     record { grouped = grouped; exact = are_exact s.records (linked_of s.records grouped (c.requires.chained tells)) (c.requires.low relationships_file refl) grouped hold }
 
@@ -36,7 +38,8 @@ returns-in_err-damage-clause-cause g c =
 
 pub returns-in_err-id-clause-cause : goal.returns-in_err-id-clause-cause
 returns-in_err-id-clause-cause g c =
-    cause_passed _ _ _ c.from_residual-in_err-id.result c.in_err-id.field-0.0 c.in_ok-damage.ensures.cause.later c.in_err-id.ensures.cause c.from_residual-in_err-id.ensures.1
+    cause_passed _ _ _ c.from_residual-in_err-id.result c.in_err-id.field-0.0 c.in_ok-damage.ensures.cause.later c.in_err-id.ensures.cause
+    c.from_residual-in_err-id.ensures.1
 
 pub returns-in_err-id-clause-onward : goal.returns-in_err-id-clause-onward
 returns-in_err-id-clause-onward g c =

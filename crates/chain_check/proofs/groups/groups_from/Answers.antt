@@ -22,7 +22,8 @@ returns-then-not-are_distinct-clause-told g c = λ tells xs h.
     let ids = c.in-Some.ids.items in
     let it : IsLineIn (group_line c.args.node) records c.args.high c.args.first ids = search (rules, c.in_ok-ids.ensures.found tells) in
     let types : c.deref_mut.result.now ≡ map (group_label records) ids
-    = c.deref_mut.ensures.value ∙ c.in_ok-types.ensures.numbers tells ∙ ap (λ (r : Records). map (group_label r) c.deref.result.now) c.in_ok-ids.ensures.same ∙ ap (map (group_label records)) c.deref.ensures.value in
+    = c.deref_mut.ensures.value ∙ c.in_ok-types.ensures.numbers tells ∙ ap (λ (r : Records). map (group_label r) c.deref.result.now) c.in_ok-ids.ensures.same
+    ∙ ap (map (group_label records)) c.deref.ensures.value in
     let bad : c.are_distinct.result ≡ false = search rules in
     let same = groups_one records c.args.node c.args.high c.args.first c.requires xs ids h.line it in
     true≢false (sym (c.are_distinct.ensures.1 (subst (IsDistinct nat_eq) (sym types) (subst (λ ys. IsDistinct nat_eq (map (group_label records) ys)) same h.types))) ∙ bad)
@@ -33,7 +34,8 @@ returns-clause-told g c = λ tells.
     let ids = c.in-Some.ids.items in
     let it : IsLineIn (group_line c.args.node) records c.args.high c.args.first ids = search (rules, c.in_ok-ids.ensures.found tells) in
     let types : c.deref_mut.result.now ≡ map (group_label records) ids
-    = c.deref_mut.ensures.value ∙ c.in_ok-types.ensures.numbers tells ∙ ap (λ (r : Records). map (group_label r) c.deref.result.now) c.in_ok-ids.ensures.same ∙ ap (map (group_label records)) c.deref.ensures.value in
+    = c.deref_mut.ensures.value ∙ c.in_ok-types.ensures.numbers tells ∙ ap (λ (r : Records). map (group_label r) c.deref.result.now) c.in_ok-ids.ensures.same
+    ∙ ap (map (group_label records)) c.deref.ensures.value in
     let well : c.are_distinct.result ≡ true = search rules in
     record { line = it; types = subst (IsDistinct nat_eq) types (c.are_distinct.ensures.0 well) }
 
@@ -43,7 +45,8 @@ returns-in_err-ids-clause-cause g c =
 
 pub returns-in_err-types-clause-cause : goal.returns-in_err-types-clause-cause
 returns-in_err-types-clause-cause g c =
-    cause_passed _ _ _ c.from_residual-in_err-types.result c.in_err-types.field-0.0 c.in_ok-ids.ensures.cause.later c.in_err-types.ensures.cause c.from_residual-in_err-types.ensures.1
+    cause_passed _ _ _ c.from_residual-in_err-types.result c.in_err-types.field-0.0 c.in_ok-ids.ensures.cause.later c.in_err-types.ensures.cause
+    c.from_residual-in_err-types.ensures.1
 
 pub returns-in_err-ids-clause-told : goal.returns-in_err-ids-clause-told
 returns-in_err-ids-clause-told g c _ = never_ok c.from_residual.result _ _ c.from_residual.ensures.1

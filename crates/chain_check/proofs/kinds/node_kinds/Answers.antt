@@ -34,8 +34,10 @@ loop-id-preserved g c =
       kinds = λ tells.
           let lt : id < high records nodes_file = omega (arith, c.loop-id-test.true) in
           let got : c.in_ok-rec.rec ≡ rec_at records nodes_file id = c.in_ok-rec.ensures.got tells ∙ ap (λ (r : Records). rec_at r nodes_file id) inv.same in
-          let one : c.byte.result ≡ kind_at records nodes_file (length kinds) = c.byte.ensures ∙ sym (kind_read records nodes_file id c.in_ok-rec.rec lt got) ∙ ap (kind_at records nodes_file) (sym inv.len) in
-          let more : (n : ℕ) → n < length kinds + 1 → kind_of (kinds ++ c.byte.result ∷ []) n ≡ kind_at records nodes_file n = made_more (kind_at records nodes_file) kinds c.byte.result 0 (inv.kinds tells) one in
+          let one : c.byte.result ≡ kind_at records nodes_file (length kinds) = c.byte.ensures ∙ sym (kind_read records nodes_file id c.in_ok-rec.rec lt got)
+          ∙ ap (kind_at records nodes_file) (sym inv.len) in
+          let more : (n : ℕ) → n < length kinds + 1 → kind_of (kinds ++ c.byte.result ∷ []) n ≡ kind_at records nodes_file n =
+          made_more (kind_at records nodes_file) kinds c.byte.result 0 (inv.kinds tells) one in
           λ n low. ap (λ xs. kind_of xs n) c.in-Ok-push.ensures.items ∙ more n (grind (arith, common_steps));
       onward = g.met.R.Reads.further_onward c.args.space.now c.loop-id.space c.get.new.self inv.onward c.in_ok-rec.ensures.onward;
       faults = let cause = c.in_ok-rec.ensures.cause in omega (arith, inv.faults, cause.later);

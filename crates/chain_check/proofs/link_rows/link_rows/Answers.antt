@@ -30,7 +30,8 @@ loop-id-preserved g c =
       written = ap (λ s. s.written) c.in_ok-rec.ensures.state ∙ inv.written;
       len = grind (arith, common_steps);
       rows = λ tells.
-          let got : c.in_ok-rec.rec ≡ rec_at records relationships_file id = c.in_ok-rec.ensures.got tells ∙ ap (λ (r : Records). rec_at r relationships_file id) inv.same in
+          let got : c.in_ok-rec.rec ≡ rec_at records relationships_file id = c.in_ok-rec.ensures.got tells
+          ∙ ap (λ (r : Records). rec_at r relationships_file id) inv.same in
           let of = λ (x : ℕ). link_row (rec_at records relationships_file x) in
           let one : row ≡ of (length rows) = c.link_row.ensures ∙ ap link_row got ∙ ap of (sym inv.len) in
           let more : (x : ℕ) → x < length rows + 1 → row_at (rows ++ row ∷ []) x ≡ of x = made_more of rows row free_row (inv.rows tells) one in

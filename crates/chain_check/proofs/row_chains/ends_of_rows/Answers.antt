@@ -14,7 +14,8 @@ loop-id-preserved c =
     let one : c.end.result ≡ of id = c.end.ensures.is ∙ ap (row_end c.args.node id) c.row_at.ensures in
     record {
       low = grind (arith, common_steps);
-      ends = c.in_ok-push.ensures.items ∙ ap (λ xs. xs ++ c.end.result ∷ []) c.loop-id.invariant.ends ∙ ap (λ x. map of (take at ids) ++ x ∷ []) one ∙ sym (map_more of ids at 0 c.loop-id-test.true);
+      ends = c.in_ok-push.ensures.items ∙ ap (λ xs. xs ++ c.end.result ∷ []) c.loop-id.invariant.ends ∙ ap (λ x. map of (take at ids) ++ x ∷ []) one
+          ∙ sym (map_more of ids at 0 c.loop-id-test.true);
     }
 
 pub returns-clause-ends : goal.returns-clause-ends

@@ -29,7 +29,8 @@ loop-preserved c =
     record {
       low = grind (arith, common_steps);
       count = search rules;
-      path = path_step (λ x. row_next node (row_at rows x)) _ (length rows) nil c.args.first c.loop.ids.items c.loop.before at c.loop.invariant.path (omega arith) ok _ _ c.in_ok-push.ensures.items link;
+      path = path_step (λ x. row_next node (row_at rows x)) _ (length rows) nil c.args.first c.loop.ids.items c.loop.before at c.loop.invariant.path
+          (omega arith) ok _ _ c.in_ok-push.ensures.items link;
     }
 
 pub returns-then-at-rows-clause-none : goal.returns-then-at-rows-clause-none
@@ -40,7 +41,8 @@ returns-then-at-rows-clause-none c =
 pub returns-then-not-fits-clause-none : goal.returns-then-not-fits-clause-none
 returns-then-not-fits-clause-none c =
     let no : c.fits.result ≡ false = search rules in
-    let bad : row_fits c.args.node c.loop.before (row_at c.args.rows.now c.loop.at) ≡ false = ap (row_fits c.args.node c.loop.before) (sym c.row_at-row.ensures) ∙ sym c.fits.ensures ∙ no in
+    let bad : row_fits c.args.node c.loop.before (row_at c.args.rows.now c.loop.at) ≡ false = ap (row_fits c.args.node c.loop.before) (sym c.row_at-row.ensures)
+    ∙ sym c.fits.ensures ∙ no in
     no_line _ _ (length c.args.rows.now) c.requires nil c.args.first c.loop.ids.items c.loop.before c.loop.at c.loop.invariant.path c.if-at.false (inr bad)
 
 pub returns-else-at-2-clause-none : goal.returns-else-at-2-clause-none

@@ -10,5 +10,6 @@ abbrev pub invariant-loop : goal.invariant-loop
 invariant-loop l = record {
   low : All (λ x. x < length l.rows) l.ids.items;
   count : length l.ids.items ≡ l.counter;
-  path : IsPath (λ x. row_next l.node (row_at l.rows x)) (λ before x. row_fits l.node before (row_at l.rows x)) (length l.rows) nil l.first l.ids.items l.before l.at;
+  path : IsPath (λ x. row_next l.node (row_at l.rows x)) (λ before x. row_fits l.node before (row_at l.rows x)) (length l.rows) nil l.first l.ids.items l.before
+      l.at;
 }

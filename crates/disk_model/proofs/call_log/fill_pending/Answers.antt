@@ -19,7 +19,8 @@ loop-i-preserved c =
     record {
       within = omega arith;
       rooms = c.fill_call.ensures.rooms ∙ c.loop-i.invariant.rooms;
-      synced = λ file. c.fill_call.ensures.synced file ∙ ap (λ s. kept_syncs call file || s) (c.loop-i.invariant.synced file) ∙ sym (ap (λ cs. kept_synced cs file) more);
+      synced = λ file. c.fill_call.ensures.synced file ∙ ap (λ s. kept_syncs call file || s) (c.loop-i.invariant.synced file)
+          ∙ sym (ap (λ cs. kept_synced cs file) more);
       bytes = λ file place.
           let n = contents c.args.pokes.now file place in
           let old_file = file_of old file in
@@ -30,7 +31,8 @@ loop-i-preserved c =
           ∙ ap (λ k. kept_pending (drop (n - k) later) file place || (here && leb n (i - 1))) whole in
           c.fill_call.ensures.bytes file place
           ∙ ap (λ s. cond (((kept_covers call file place && not s) && leb n (i - 1)) && ltb place (length (file_of c.loop-i.files file))) byte (contents c.loop-i.files file place)) (c.loop-i.invariant.synced file)
-          ∙ ap (λ m. cond ((here && leb n (i - 1)) && ltb place m) byte (contents c.loop-i.files file place)) (same_room c.loop-i.files old file c.loop-i.invariant.rooms)
+          ∙ ap (λ m. cond ((here && leb n (i - 1)) && ltb place m) byte (contents c.loop-i.files file place))
+          (same_room c.loop-i.files old file c.loop-i.invariant.rooms)
           ∙ ap (λ x. cond ((here && leb n (i - 1)) && ltb place (length old_file)) byte x) (c.loop-i.invariant.bytes file place)
           ∙ fill_both (here && leb n (i - 1)) (kept_pending (drop (n - i) later) file place) (ltb place (length old_file)) byte was
           ∙ sym (ap (λ b. cond (b && ltb place (length old_file)) byte was) (ap (λ cs. kept_pending (drop (n - (i - 1)) cs) file place) more ∙ before));

@@ -9,5 +9,6 @@ invariant-loop-i l =
     record {
       rooms : rooms_of l.files ≡ rooms_of l.fn.files;
       counts : (file : ℕ) → get_or l.counts file 0 ≡ sync_count (drop l.i l.calls) file;
-      bytes : (file place : ℕ) → synced_content (contents l.files) (drop (contents l.pokes file place - l.i) (calls_of (drop l.i l.calls) l.bytes)) file place ≡ synced_since (contents l.fn.files) (contents l.pokes) (calls_of l.calls l.bytes) file place;
+      bytes : (file place : ℕ) → synced_content (contents l.files) (drop (contents l.pokes file place - l.i) (calls_of (drop l.i l.calls) l.bytes)) file
+          place ≡ synced_since (contents l.fn.files) (contents l.pokes) (calls_of l.calls l.bytes) file place;
     }

@@ -12,7 +12,8 @@ use Rattle.disk_model.proofs.marks.draw_marked.Goals as goal
 pub draw_marked-requires : goal.draw_marked-requires
 draw_marked-requires c =
     let count = same_count c.args.marks.now c.args.files.now c.requires in
-    same_room-read c.args.marks.now c.loop-i.files c.loop-i.i c.index-marks-i.result c.index-files-i.result (c.requires ∙ sym c.loop-i.invariant.rooms) (omega arith) (omega arith) c.index-marks-i.is
+    same_room-read c.args.marks.now c.loop-i.files c.loop-i.i c.index-marks-i.result c.index-files-i.result (c.requires ∙ sym c.loop-i.invariant.rooms)
+    (omega arith) (omega arith) c.index-marks-i.is
 
 pub loop-i-preserved : goal.loop-i-preserved
 loop-i-preserved c =
@@ -27,7 +28,8 @@ loop-i-preserved c =
     let count = same_count marks c.args.files.now c.requires in
     let known : i < length files = omega arith in
     let mark_is : mark ≡ file_of marks i = get_or_read marks i mark (omega arith) c.index-marks-i.is [] in
-    let file_is : get_or files i c.index-files-i.result ≡ file_of c.args.files.now i = get_or_default files i c.index-files-i.result [] known ∙ old.rest i (omega arith) in
+    let file_is : get_or files i c.index-files-i.result ≡ file_of c.args.files.now i = get_or_default files i c.index-files-i.result [] known
+    ∙ old.rest i (omega arith) in
     record {
       state =
           c.draw_marked.ensures.draws
@@ -43,7 +45,8 @@ loop-i-preserved c =
           ap (λ f. get_or f place 0) (get_or-set_same files i new [] known)
           ∙ c.draw_marked.ensures.bytes place
           ∙ ap (λ m. cond (is_marked m place) (drawn c.loop-i.generator (count_below (is_marked m) place) % 256) (get_or (get_or files i c.index-files-i.result) place 0)) mark_is
-          ∙ ap (λ n. cond (is_marked_in marks i place) (n % 256) (get_or (get_or files i c.index-files-i.result) place 0)) (ap (λ state. drawn state draw) old.state ∙ drawn-state_after seed before draw)
+          ∙ ap (λ n. cond (is_marked_in marks i place) (n % 256) (get_or (get_or files i c.index-files-i.result) place 0))
+          (ap (λ state. drawn state draw) old.state ∙ drawn-state_after seed before draw)
           ∙ ap (λ f. cond (is_marked_in marks i place) (drawn seed (count_before (is_marked_in marks) marks i place) % 256) (get_or f place 0)) file_is);
       rest = λ file above. let differs : file ≢ i = omega arith in get_or-set_other files i file new [] differs ∙ old.rest file (omega arith);
     }

@@ -18,13 +18,15 @@ loop-i-preserved c =
       | then-marks-i-gt0 w ↦
           let hit : marked i ≡ true = lt-ltb 0 _ (omega arith) in
           let known : i < length bytes = omega arith in
-          let drew : w.draw.result % 256 ≡ drawn seed (count_below marked i) % 256 = ap (λ n. n % 256) (w.draw.ensures.number ∙ ap (λ state. number_of (next_state state)) old.state) in
+          let drew : w.draw.result % 256 ≡ drawn seed (count_below marked i) % 256 =
+          ap (λ n. n % 256) (w.draw.ensures.number ∙ ap (λ state. number_of (next_state state)) old.state) in
           record {
             state = state_hit marked seed i c.loop-i.generator c.if-marks-i-gt0.generator hit old.state (w.generator-is ∙ w.draw.ensures.state);
             done = below_more _ _
                 (λ k below. let differs : k ≢ i = omega arith in ap (λ bs. get_or bs k 0) w.bytes-is ∙ get_or-set_other bytes i k (w.draw.result % 256) 0 differs ∙ old.done k below)
                 (ap (λ bs. get_or bs i 0) w.bytes-is ∙ get_or-set_same bytes i (w.draw.result % 256) 0 known ∙ drew ∙ sym (cond-true (marked i) _ _ hit));
-            rest = λ k above. let differs : k ≢ i = omega arith in ap (λ bs. get_or bs k 0) w.bytes-is ∙ get_or-set_other bytes i k (w.draw.result % 256) 0 differs ∙ old.rest k (omega arith);
+            rest = λ k above. let differs : k ≢ i = omega arith in ap (λ bs. get_or bs k 0) w.bytes-is
+                ∙ get_or-set_other bytes i k (w.draw.result % 256) 0 differs ∙ old.rest k (omega arith);
           }
       | else-marks-i-gt0 w ↦
           let miss : marked i ≡ false = le-ltb 0 _ (omega arith) in

@@ -8,6 +8,7 @@ abbrev pub invariant-loop-i : goal.invariant-loop-i
 invariant-loop-i l =
     record {
       state : l.generator ≡ state_after l.fn.generator (count_below (is_marked l.marks) l.i);
-      done : (k : ℕ) → k < l.i → get_or l.bytes k 0 ≡ cond (is_marked l.marks k) (drawn l.fn.generator (count_below (is_marked l.marks) k) % 256) (get_or l.fn.bytes k 0);
+      done : (k : ℕ) → k < l.i → get_or l.bytes k 0 ≡ cond (is_marked l.marks k) (drawn l.fn.generator (count_below (is_marked l.marks) k) % 256)
+          (get_or l.fn.bytes k 0);
       rest : (k : ℕ) → l.i ≤ k → get_or l.bytes k 0 ≡ get_or l.fn.bytes k 0;
     }

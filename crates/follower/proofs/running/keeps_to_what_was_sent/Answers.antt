@@ -10,10 +10,12 @@ laws : (g : Over) → Laws g.D.Disk
 laws g = record { read_is_image = g.met.D.Disk.read_is_image; counts = g.met.D.Disk.counts_now; only = g.met.D.Disk.only_now }
 
 pub returns-clause-follows : goal.returns-clause-follows
-returns-clause-follows g c reads images config sent disk events end is zeros run = follows_always g.D.Disk config sent disk events end (laws g) reads images is zeros run
+returns-clause-follows g c reads images config sent disk events end is zeros run =
+    follows_always g.D.Disk config sent disk events end (laws g) reads images is zeros run
 
 pub returns-clause-sound : goal.returns-clause-sound
-returns-clause-sound g c reads images config sent disk events end event is zeros run may = sound_always g.D.Disk config sent disk events end event (laws g) reads images is zeros run may
+returns-clause-sound g c reads images config sent disk events end event is zeros run may =
+    sound_always g.D.Disk config sent disk events end event (laws g) reads images is zeros run may
 
 pub returns-clause-number : goal.returns-clause-number
 returns-clause-number g c config sent j small = number_in-follower_records (shape_of config) sent j small

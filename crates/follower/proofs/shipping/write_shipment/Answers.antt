@@ -8,7 +8,8 @@ use Rattle.follower.specs.Shipping.{shipment_bytes}
 use Rattle.follower.proofs.shipping.write_shipment.Goals as goal
 
 -- the bytes of the head and of the records behind the old ones, where the count is that of the records
-behind_all : (old first now all : List ℕ) (number count : ℕ) (writes : Pairs) → first ≡ old → count ≡ length writes → now ≡ first ++ (little_bytes 8 number ++ little_bytes 2 count)
+behind_all : (old first now all : List ℕ) (number count : ℕ) (writes : Pairs) → first ≡ old → count ≡ length writes
+    → now ≡ first ++ (little_bytes 8 number ++ little_bytes 2 count)
     → all ≡ now ++ flat_map write_bytes writes → all ≡ old ++ shipment_bytes number writes
 behind_all old first now all number count writes same is head rest =
     let records = flat_map write_bytes writes in
@@ -21,5 +22,6 @@ behind_all old first now all number count writes same is head rest =
 
 pub returns-clause-written : goal.returns-clause-written
 returns-clause-written c =
-    behind_all c.args.bytes.now.items c.reserve.new.self.items c.add_head.new.bytes.items c.add_writes.new.bytes.items c.args.number c.len-count.result c.args.writes.now.pairs
+    behind_all c.args.bytes.now.items c.reserve.new.self.items c.add_head.new.bytes.items c.add_writes.new.bytes.items c.args.number c.len-count.result
+    c.args.writes.now.pairs
     c.in_ok-reserve.ensures.items c.len-count.ensures.value c.add_head.ensures.items c.add_writes.ensures.items

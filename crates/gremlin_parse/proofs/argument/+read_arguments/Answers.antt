@@ -3,7 +3,9 @@ use Rattle.gremlin_parse.proofs.Exits.{never_ok}
 use Rattle.gremlin_parse.proofs.argument.+read_arguments.Goals as goal
 
 pub returns-clause-ok : goal.returns-clause-ok
-returns-clause-ok t c = first_read c.args.arguments.now c.in_ok-first.first c.in_ok-others.others c.args.bytes.now c.in_ok-at_argument.at_argument.now c.in_ok-first.after.now c.in_ok-others.rest.now c.in-len1-up.len_at_least c.requires c.in_ok-at_argument.ensures.ok c.in_ok-first.ensures.ok c.in_ok-others.ensures.ok
+returns-clause-ok t c = first_read c.args.arguments.now c.in_ok-first.first c.in_ok-others.others c.args.bytes.now c.in_ok-at_argument.at_argument.now
+    c.in_ok-first.after.now c.in_ok-others.rest.now c.in-len1-up.len_at_least c.requires c.in_ok-at_argument.ensures.ok c.in_ok-first.ensures.ok
+    c.in_ok-others.ensures.ok
 
 pub returns-in_err-at_argument-clause-ok : goal.returns-in_err-at_argument-clause-ok
 returns-in_err-at_argument-clause-ok t c = never_ok c.from_residual.result _ _ c.from_residual.ensures.1

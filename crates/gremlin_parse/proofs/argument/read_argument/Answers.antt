@@ -20,7 +20,8 @@ pub returns-in_err-word-in-Element-clause-ok : goal.returns-in_err-word-in-Eleme
 returns-in_err-word-in-Element-clause-ok c = never_ok c.from_residual.result _ _ c.from_residual.ensures.1
 
 pub returns-in_err-direction-in-Direction-clause-ok : goal.returns-in_err-direction-in-Direction-clause-ok
-returns-in_err-direction-in-Direction-clause-ok c = never_ok c.from_residual-in_err-direction-in-Direction.result _ _ c.from_residual-in_err-direction-in-Direction.ensures.1
+returns-in_err-direction-in-Direction-clause-ok c = never_ok c.from_residual-in_err-direction-in-Direction.result _ _
+    c.from_residual-in_err-direction-in-Direction.ensures.1
 
 pub returns-in_err-name-in-Name-clause-ok : goal.returns-in_err-name-in-Name-clause-ok
 returns-in_err-name-in-Name-clause-ok c = never_ok c.from_residual-in_err-name-in-Name.result _ _ c.from_residual-in_err-name-in-Name.ensures.1

@@ -30,7 +30,8 @@ returns-in_err-last-clause-err c =
     let rest = c.in_ok-givens.rest.now in
     let stop = c.in_err-last.field-0.0 in
     let givens = listed c.in_ok-givens.givens in
-    let reads = subst (λ (list : List Argument). ReadsAll (spaced list) (contents_in list givens) bytes rest) c.arguments_of.ensures.are c.in_ok-givens.ensures.ok in
+    let reads = subst (λ (list : List Argument). ReadsAll (spaced list) (contents_in list givens) bytes rest) c.arguments_of.ensures.are
+    c.in_ok-givens.ensures.ok in
     let at = subst (λ (kind : LastPart). IsStop (SomeLast kind) (BadInLast kind) (Lacks kind) rest stop) c.last_part.ensures c.in_err-last.ensures.err in
     rw (p.1, p.2) (stop_after_head head (Asks head) (contents_in (arguments_of head) givens) bytes rest stop reads (stop_lacks (IsLast head) (BadLast head) (Lacks (last_part head)) (Asks head) rest stop (last_asks head) at))
 
@@ -42,9 +43,11 @@ returns-clause-ok c =
     let rest = c.in_ok-givens.rest.now in
     let givens = listed c.in_ok-givens.givens in
     let last = c.in_ok-last.last in
-    let reads = subst (λ (list : List Argument). ReadsAll (spaced list) (contents_in list givens) bytes rest) c.arguments_of.ensures.are c.in_ok-givens.ensures.ok in
+    let reads = subst (λ (list : List Argument). ReadsAll (spaced list) (contents_in list givens) bytes rest) c.arguments_of.ensures.are
+    c.in_ok-givens.ensures.ok in
     let made = subst (λ (kind : LastPart). LastIs kind (last_content kind last) rest) c.last_part.ensures c.in_ok-last.ensures.ok in
-    subst (λ (command : Command). SpellsAfter command head bytes) (sym c.in_ok-command.ensures.ok) (spells_read head (contents_in (arguments_of head) givens) (last_content (last_part head) last) bytes rest reads made)
+    subst (λ (command : Command). SpellsAfter command head bytes) (sym c.in_ok-command.ensures.ok)
+    (spells_read head (contents_in (arguments_of head) givens) (last_content (last_part head) last) bytes rest reads made)
 
 pub returns-clause-bounds : goal.returns-clause-bounds
 unfolding built
@@ -54,8 +57,10 @@ returns-clause-bounds c =
     let rest = c.in_ok-givens.rest.now in
     let givens = listed c.in_ok-givens.givens in
     let last = c.in_ok-last.last in
-    let reads = subst (λ (list : List Argument). ReadsAll (spaced list) (contents_in list givens) bytes rest) c.arguments_of.ensures.are c.in_ok-givens.ensures.ok in
-    let within = subst (λ (kind : LastPart). AllByRecursion IsBounded (last_parts kind (last_content kind last))) c.last_part.ensures c.in_ok-last.ensures.bounds in
+    let reads = subst (λ (list : List Argument). ReadsAll (spaced list) (contents_in list givens) bytes rest) c.arguments_of.ensures.are
+    c.in_ok-givens.ensures.ok in
+    let within = subst (λ (kind : LastPart). AllByRecursion IsBounded (last_parts kind (last_content kind last))) c.last_part.ensures
+    c.in_ok-last.ensures.bounds in
     subst KeepsBounds (sym c.in_ok-command.ensures.ok) (read_keeps head c.requires (contents_in (arguments_of head) givens) (last_content (last_part head) last) bytes rest reads within)
 
 pub returns-in_err-givens-clause-ok : goal.returns-in_err-givens-clause-ok

@@ -23,7 +23,9 @@ returns-in_err-written-clause-err c =
 pub returns-in-Some-clause-ok : goal.returns-in-Some-clause-ok
 returns-in-Some-clause-ok c = λ into key.
     let relation = c.in_ok-relation.relation in
-    on (ValueOf into key) c.args.bytes.now (OpensValue into key relation) c.in_ok-relation.at_open.now (after_filter into (relation_filter key relation (value_of c.in_ok-written.written))) c.in_ok-written.rest.now (p_relation_leads c.args.bytes.now c.in-Some.at_dot.now c.in_ok-at_relation.at_relation.now c.in_ok-relation.at_open.now relation c.in-Some.ensures.some c.in_ok-at_relation.ensures.ok c.in_ok-relation.ensures.ok into key) (c.in_ok-written.ensures.ok into key relation)
+    on (ValueOf into key) c.args.bytes.now (OpensValue into key relation) c.in_ok-relation.at_open.now
+    (after_filter into (relation_filter key relation (value_of c.in_ok-written.written))) c.in_ok-written.rest.now
+    (p_relation_leads c.args.bytes.now c.in-Some.at_dot.now c.in_ok-at_relation.at_relation.now c.in_ok-relation.at_open.now relation c.in-Some.ensures.some c.in_ok-at_relation.ensures.ok c.in_ok-relation.ensures.ok into key) (c.in_ok-written.ensures.ok into key relation)
 
 pub returns-in_err-written-in-Ok-clause-err : goal.returns-in_err-written-in-Ok-clause-err
 returns-in_err-written-in-Ok-clause-err c =
@@ -33,7 +35,9 @@ returns-in_err-written-in-Ok-clause-err c =
 pub returns-in_ok-written-in-Ok-clause-ok : goal.returns-in_ok-written-in-Ok-clause-ok
 returns-in_ok-written-in-Ok-clause-ok c = λ into key.
     let relation = c.in-Ok.relation in
-    on (ValueOf into key) c.args.bytes.now (OpensValue into key relation) c.in-Ok.at_open.now (after_filter into (relation_filter key relation (value_of c.in_ok-written-in-Ok.written))) c.in_ok-written-in-Ok.rest.now (relation_leads into key relation c.args.bytes.now c.in-Ok.at_open.now c.in-Ok.ensures.ok) (c.in_ok-written-in-Ok.ensures.ok into key relation)
+    on (ValueOf into key) c.args.bytes.now (OpensValue into key relation) c.in-Ok.at_open.now
+    (after_filter into (relation_filter key relation (value_of c.in_ok-written-in-Ok.written))) c.in_ok-written-in-Ok.rest.now
+    (relation_leads into key relation c.args.bytes.now c.in-Ok.at_open.now c.in-Ok.ensures.ok) (c.in_ok-written-in-Ok.ensures.ok into key relation)
 
 pub returns-in_err-at_relation-clause-ok : goal.returns-in_err-at_relation-clause-ok
 returns-in_err-at_relation-clause-ok c = never_ok c.from_residual.result _ _ c.from_residual.ensures.1

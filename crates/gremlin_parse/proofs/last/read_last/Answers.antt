@@ -64,7 +64,8 @@ pub returns-in_err-name-in-MaybeName-clause-ok : goal.returns-in_err-name-in-May
 returns-in_err-name-in-MaybeName-clause-ok c = never_ok c.from_residual-in_err-name-in-MaybeName.result _ _ c.from_residual-in_err-name-in-MaybeName.ensures.1
 
 pub returns-in_err-name-in-MaybeName-clause-bounds : goal.returns-in_err-name-in-MaybeName-clause-bounds
-returns-in_err-name-in-MaybeName-clause-bounds c = never_ok c.from_residual-in_err-name-in-MaybeName.result _ _ c.from_residual-in_err-name-in-MaybeName.ensures.1
+returns-in_err-name-in-MaybeName-clause-bounds c = never_ok c.from_residual-in_err-name-in-MaybeName.result _ _
+    c.from_residual-in_err-name-in-MaybeName.ensures.1
 
 pub returns-in_err-viewed-in-Viewed-clause-ok : goal.returns-in_err-viewed-in-Viewed-clause-ok
 returns-in_err-viewed-in-Viewed-clause-ok c = never_ok c.from_residual-in_err-viewed-in-Viewed.result _ _ c.from_residual-in_err-viewed-in-Viewed.ensures.1

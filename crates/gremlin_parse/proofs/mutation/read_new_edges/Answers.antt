@@ -7,7 +7,8 @@ use Rattle.gremlin_parse.specs.Queries.{Quote, EdgeType, is_loose, turn}
 use Rattle.gremlin_parse.specs.Stages.{steps_of}
 use Rattle.gremlin_parse.specs.Turns.{KeptFrom}
 use Rattle.gremlin_parse.proofs.QueryReads.{stop_of_memory}
-use Rattle.gremlin_parse.proofs.MutationReads.{PropertiesKept, PropertiesStop, none_yet, stop_in_type, stop_after_type, stop_in_to, stop_in_edge_properties, edges_kept}
+use Rattle.gremlin_parse.proofs.MutationReads.{PropertiesKept, PropertiesStop, none_yet, stop_in_type, stop_after_type}
+use Rattle.gremlin_parse.proofs.MutationReads.{stop_in_to, stop_in_edge_properties, edges_kept}
 use Rattle.gremlin_parse.proofs.Exits.{never_ok}
 use Rattle.gremlin_parse.proofs.mutation.read_new_edges.Goals as goal
 
@@ -41,7 +42,8 @@ returns-clause-ok c = λ query same.
     let pairs = c.in_ok-pairs.pairs in
     let to = c.in_ok-to.to in
     let kept = subst (λ (first : List Pair). PropertiesKept (c.args.before + 1) first pairs c.in_ok-to.rest.now) c.new.ensures.items c.in_ok-pairs.ensures.ok in
-    subst (λ (label : List ℕ). KeptFrom turn is_loose (commands.Mutate (Some query) (mutations.AddE label to pairs)) (Quote (EdgeType query)) c.args.bytes.now) (sym c.in_ok-label.ensures.ok) (edges_kept query (c.args.before + 1) c.in_ok-name.name.now c.args.bytes.now c.in_ok-name.at_close.now c.in_ok-at_dot.at_dot.now c.in_ok-to.rest.now to pairs c.in_ok-name.ensures.ok c.in_ok-at_dot.ensures.ok c.in_ok-to.ensures.ok kept (none_yet (steps_of query) c.args.before same))
+    subst (λ (label : List ℕ). KeptFrom turn is_loose (commands.Mutate (Some query) (mutations.AddE label to pairs)) (Quote (EdgeType query)) c.args.bytes.now)
+    (sym c.in_ok-label.ensures.ok) (edges_kept query (c.args.before + 1) c.in_ok-name.name.now c.args.bytes.now c.in_ok-name.at_close.now c.in_ok-at_dot.at_dot.now c.in_ok-to.rest.now to pairs c.in_ok-name.ensures.ok c.in_ok-at_dot.ensures.ok c.in_ok-to.ensures.ok kept (none_yet (steps_of query) c.args.before same))
 
 pub returns-in_err-name-clause-ok : goal.returns-in_err-name-clause-ok
 returns-in_err-name-clause-ok c = never_ok c.from_residual.result _ _ c.from_residual.ensures.1

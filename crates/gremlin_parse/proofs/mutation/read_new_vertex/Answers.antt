@@ -6,7 +6,8 @@ use Rattle.plain_graph.specs.declared.pairs.Pair.{Pair}
 use Rattle.gremlin_parse.specs.Queries.{Quote, VertexLabel, is_loose, turn}
 use Rattle.gremlin_parse.specs.Turns.{KeptFrom}
 use Rattle.gremlin_parse.proofs.QueryReads.{stop_of_memory}
-use Rattle.gremlin_parse.proofs.MutationReads.{PropertiesKept, PropertiesStop, stop_in_vertex_label, stop_after_vertex_label, stop_in_vertex_properties, vertex_kept}
+use Rattle.gremlin_parse.proofs.MutationReads.{PropertiesKept, PropertiesStop, stop_in_vertex_label}
+use Rattle.gremlin_parse.proofs.MutationReads.{stop_after_vertex_label, stop_in_vertex_properties, vertex_kept}
 use Rattle.gremlin_parse.proofs.Exits.{never_ok}
 use Rattle.gremlin_parse.proofs.mutation.read_new_vertex.Goals as goal
 
@@ -34,7 +35,8 @@ pub returns-clause-ok : goal.returns-clause-ok
 returns-clause-ok c =
     let pairs = c.in_ok-pairs.pairs in
     let kept = subst (λ (first : List Pair). PropertiesKept 0 first pairs c.in_ok-rest.rest.now) c.new.ensures.items c.in_ok-pairs.ensures.ok in
-    subst (λ (label : List ℕ). KeptFrom turn is_loose (commands.Mutate None (mutations.AddV label pairs)) (Quote VertexLabel) c.args.bytes.now) (sym c.in_ok-label.ensures.ok) (vertex_kept c.in_ok-name.name.now c.args.bytes.now c.in_ok-name.at_close.now c.in_ok-rest.rest.now pairs c.in_ok-name.ensures.ok c.in_ok-rest.ensures.ok kept)
+    subst (λ (label : List ℕ). KeptFrom turn is_loose (commands.Mutate None (mutations.AddV label pairs)) (Quote VertexLabel) c.args.bytes.now)
+    (sym c.in_ok-label.ensures.ok) (vertex_kept c.in_ok-name.name.now c.args.bytes.now c.in_ok-name.at_close.now c.in_ok-rest.rest.now pairs c.in_ok-name.ensures.ok c.in_ok-rest.ensures.ok kept)
 
 pub returns-in_err-name-clause-ok : goal.returns-in_err-name-clause-ok
 returns-in_err-name-clause-ok c = never_ok c.from_residual.result _ _ c.from_residual.ensures.1

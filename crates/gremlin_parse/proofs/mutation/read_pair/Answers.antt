@@ -25,7 +25,9 @@ returns-in_err-rest-clause-err c =
     rw (p.1, p.2) (stop_after_pair_value c.in_ok-key.key.now c.args.bytes.now c.in_ok-key.at_comma.now c.in_ok-at_value.at_value.now c.in_ok-value.after_value.now c.skip_blanks-at_close.result.now (value_of c.in_ok-value.value) c.in_err-rest.field-0.0 c.in_ok-key.ensures.ok c.in_ok-at_value.ensures.ok c.in_ok-value.ensures.ok c.skip_blanks-at_close.ensures c.in_err-rest.ensures.err)
 
 pub returns-clause-ok : goal.returns-clause-ok
-returns-clause-ok c = pair_read c.in_ok-key.key.now c.args.bytes.now c.in_ok-key.at_comma.now c.in_ok-at_value.at_value.now c.in_ok-value.after_value.now c.skip_blanks-at_close.result.now c.in_ok-rest.rest.now (value_of c.in_ok-value.value) c.in_ok-key.ensures.ok c.in_ok-at_value.ensures.ok c.in_ok-value.ensures.ok c.skip_blanks-at_close.ensures c.in_ok-rest.ensures.ok
+returns-clause-ok c = pair_read c.in_ok-key.key.now c.args.bytes.now c.in_ok-key.at_comma.now c.in_ok-at_value.at_value.now c.in_ok-value.after_value.now
+    c.skip_blanks-at_close.result.now c.in_ok-rest.rest.now (value_of c.in_ok-value.value) c.in_ok-key.ensures.ok c.in_ok-at_value.ensures.ok
+    c.in_ok-value.ensures.ok c.skip_blanks-at_close.ensures c.in_ok-rest.ensures.ok
 
 pub returns-in_err-key-clause-ok : goal.returns-in_err-key-clause-ok
 returns-in_err-key-clause-ok c = never_ok c.from_residual.result _ _ c.from_residual.ensures.1

@@ -9,7 +9,8 @@ returns-in_err-anonymous-clause-err c =
     rw (p.1, p.2) (stop_at_vertex c.args.bytes.now c.in_err-anonymous.field-0.0 c.in_err-anonymous.ensures.err)
 
 pub returns-then-not-anonymous-clause-ok : goal.returns-then-not-anonymous-clause-ok
-returns-then-not-anonymous-clause-ok c = plain_vertex c.args.bytes.now c.in_ok-anonymous.after.now c.skip_blanks.result.now c.in_ok-anonymous.anonymous c.if-not-anonymous.true c.in_ok-anonymous.ensures.ok c.skip_blanks.ensures
+returns-then-not-anonymous-clause-ok c = plain_vertex c.args.bytes.now c.in_ok-anonymous.after.now c.skip_blanks.result.now c.in_ok-anonymous.anonymous
+    c.if-not-anonymous.true c.in_ok-anonymous.ensures.ok c.skip_blanks.ensures
 
 pub returns-in_err-at_dot-clause-err : goal.returns-in_err-at_dot-clause-err
 returns-in_err-at_dot-clause-err c =

@@ -24,7 +24,8 @@ returns-in_err-rest-clause-err c =
     rw (p.1, p.2) (stop_at_to_close c.args.bytes.now c.in_ok-at_id.at_id.now c.in_ok-to.at_close.now c.in_ok-at_end.at_end.now c.in_ok-to.to c.in_err-rest.field-0.0 c.in_ok-at_id.ensures.ok c.in_ok-to.ensures.ok c.in_ok-at_end.ensures.ok c.in_err-rest.ensures.err)
 
 pub returns-clause-ok : goal.returns-clause-ok
-returns-clause-ok c = vertex_id_read c.args.bytes.now c.in_ok-at_id.at_id.now c.in_ok-to.at_close.now c.in_ok-at_end.at_end.now c.in_ok-rest.rest.now c.in_ok-to.to c.in_ok-at_id.ensures.ok c.in_ok-to.ensures.ok c.in_ok-at_end.ensures.ok c.in_ok-rest.ensures.ok
+returns-clause-ok c = vertex_id_read c.args.bytes.now c.in_ok-at_id.at_id.now c.in_ok-to.at_close.now c.in_ok-at_end.at_end.now c.in_ok-rest.rest.now
+    c.in_ok-to.to c.in_ok-at_id.ensures.ok c.in_ok-to.ensures.ok c.in_ok-at_end.ensures.ok c.in_ok-rest.ensures.ok
 
 pub returns-in_err-at_id-clause-ok : goal.returns-in_err-at_id-clause-ok
 returns-in_err-at_id-clause-ok c = never_ok c.from_residual.result _ _ c.from_residual.ensures.1

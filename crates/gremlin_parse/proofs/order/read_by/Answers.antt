@@ -13,7 +13,8 @@ returns-in_err-descending-clause-err c =
     rw (p.1, p.2) (stop_in_direction c.args.bytes.now c.in_err-descending.field-0.0 (sym c.starts_quote.ensures ∙ c.if-starts_quote.false) c.in_default.ensures.none c.in_err-descending.ensures.err)
 
 pub returns-clause-ok : goal.returns-clause-ok
-returns-clause-ok c = keyless_read c.args.bytes.now c.in_ok-descending.rest.now c.in_ok-descending.descending (sym c.starts_quote.ensures ∙ c.if-starts_quote.false) c.in_default.ensures.none c.in_ok-descending.ensures.ok
+returns-clause-ok c = keyless_read c.args.bytes.now c.in_ok-descending.rest.now c.in_ok-descending.descending
+    (sym c.starts_quote.ensures ∙ c.if-starts_quote.false) c.in_default.ensures.none c.in_ok-descending.ensures.ok
 
 pub returns-then-starts_quote-clause-ok : goal.returns-then-starts_quote-clause-ok
 returns-then-starts_quote-clause-ok c = search rules

@@ -9,7 +9,8 @@ returns-in_err-rest-clause-err c =
     rw (p.1, p.2) (stop_after_sort c.args.bytes.now c.in_ok-descending.at_close.now c.in_ok-descending.descending c.in_err-rest.field-0.0 c.in_ok-descending.ensures.ok c.in_err-rest.ensures.err)
 
 pub returns-clause-ok : goal.returns-clause-ok
-returns-clause-ok c = direction_read c.args.bytes.now c.in_ok-descending.at_close.now c.in_ok-rest.rest.now c.in_ok-descending.descending c.in_ok-descending.ensures.ok c.in_ok-rest.ensures.ok
+returns-clause-ok c = direction_read c.args.bytes.now c.in_ok-descending.at_close.now c.in_ok-rest.rest.now c.in_ok-descending.descending
+    c.in_ok-descending.ensures.ok c.in_ok-rest.ensures.ok
 
 pub returns-in_err-rest-clause-ok : goal.returns-in_err-rest-clause-ok
 returns-in_err-rest-clause-ok c = never_ok c.from_residual-in_err-rest.result _ _ c.from_residual-in_err-rest.ensures.1

@@ -17,7 +17,8 @@ returns-in_err-more-clause-err c =
 
 pub returns-then-not-more-clause-ok : goal.returns-then-not-more-clause-ok
 returns-then-not-more-clause-ok c = λ query.
-    subst (λ (key : List ℕ). LeadsTo (ByFirst query) c.args.bytes.now (Steps (reordered query (Some key) false)) c.in_ok-more.at_direction.now) (sym c.in_ok-key.ensures.ok) (key_read c.in_ok-name.name.now c.args.bytes.now c.in_ok-name.after_name.now c.in_ok-more.at_direction.now c.in_ok-more.more c.if-not-more.true c.requires c.in_ok-name.ensures.ok c.in_ok-more.ensures.ok query)
+    subst (λ (key : List ℕ). LeadsTo (ByFirst query) c.args.bytes.now (Steps (reordered query (Some key) false)) c.in_ok-more.at_direction.now)
+    (sym c.in_ok-key.ensures.ok) (key_read c.in_ok-name.name.now c.args.bytes.now c.in_ok-name.after_name.now c.in_ok-more.at_direction.now c.in_ok-more.more c.if-not-more.true c.requires c.in_ok-name.ensures.ok c.in_ok-more.ensures.ok query)
 
 pub returns-in_err-descending-clause-err : goal.returns-in_err-descending-clause-err
 returns-in_err-descending-clause-err c =

@@ -20,7 +20,9 @@ pub loop-rest-preserved : goal.loop-rest-preserved
 loop-rest-preserved c =
     let rest = c.loop-rest.rest.now in
     let blanks = c.skip_blanks.result.now in
-    let more = pair_more c.args.bytes.now rest c.in_ok-key.after.now c.loop-rest.pairs.items c.in_ok-key.key.now (value_of c.in_ok-key.value) c.loop-rest.invariant (not_at_end rest blanks c.skip_blanks.ensures.takes (not_empty blanks c.is_empty.result c.is_empty.ensures c.loop-rest-test.true)) c.in_ok-key.ensures.ok in
+    let more = pair_more c.args.bytes.now rest c.in_ok-key.after.now c.loop-rest.pairs.items c.in_ok-key.key.now (value_of c.in_ok-key.value)
+    c.loop-rest.invariant (not_at_end rest blanks c.skip_blanks.ensures.takes (not_empty blanks c.is_empty.result c.is_empty.ensures c.loop-rest-test.true))
+    c.in_ok-key.ensures.ok in
     subst (λ (list : List Pair). PairsSoFar c.args.bytes.now list c.in_ok-key.after.now) (sym c.in_ok-push_pair.ensures.ok) more
 
 pub returns-clause-ok : goal.returns-clause-ok
@@ -28,10 +30,12 @@ returns-clause-ok c =
     let rest = c.loop-rest.rest.now in
     let blanks = c.skip_blanks.result.now in
     let end = at_end rest blanks c.skip_blanks.ensures.takes (is_nothing blanks c.is_empty.result c.is_empty.ensures c.loop-rest-test.false) in
-    subst (λ (list : List Pair). IsMadeOf (pairs_to_end list) c.args.bytes.now) (sym c.new.ensures) (pairs_read c.args.bytes.now rest c.loop-rest.pairs.items c.loop-rest.invariant end)
+    subst (λ (list : List Pair). IsMadeOf (pairs_to_end list) c.args.bytes.now) (sym c.new.ensures)
+    (pairs_read c.args.bytes.now rest c.loop-rest.pairs.items c.loop-rest.invariant end)
 
 pub returns-clause-bounds : goal.returns-clause-bounds
-returns-clause-bounds c = subst (λ (list : List Pair). AllByRecursion IsBounded (pairs_to_end list)) (sym c.new.ensures) (pairs_bounded c.args.bytes.now c.loop-rest.rest.now c.loop-rest.pairs.items c.loop-rest.invariant)
+returns-clause-bounds c = subst (λ (list : List Pair). AllByRecursion IsBounded (pairs_to_end list)) (sym c.new.ensures)
+    (pairs_bounded c.args.bytes.now c.loop-rest.rest.now c.loop-rest.pairs.items c.loop-rest.invariant)
 
 pub returns-in_err-key-clause-ok : goal.returns-in_err-key-clause-ok
 returns-in_err-key-clause-ok c = never_ok c.from_residual.result _ _ c.from_residual.ensures.1

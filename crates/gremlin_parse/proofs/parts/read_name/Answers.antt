@@ -15,7 +15,8 @@ returns-clause-ok c =
     let bytes = c.args.bytes.now in
     let n = c.word_len-len.result in
     record {
-      takes = takes_name bytes c.split_at.result.0.now c.split_at.result.1.now n c.in-len1-up.len_at_least (sym c.is_name_start.ensures ∙ c.if-is_name_start.true) c.word_len-len.ensures.count c.split_at.ensures.front c.split_at.ensures.back;
+      takes = takes_name bytes c.split_at.result.0.now c.split_at.result.1.now n c.in-len1-up.len_at_least
+          (sym c.is_name_start.ensures ∙ c.if-is_name_start.true) c.word_len-len.ensures.count c.split_at.ensures.front c.split_at.ensures.back;
       allowed = tt;
       bounded = rw (c.split_at.ensures.front, length-take-le n bytes c.word_len-len.ensures.bound) (omega arith);
     }

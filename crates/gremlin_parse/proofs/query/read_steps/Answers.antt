@@ -18,7 +18,8 @@ pub loop-rest-init : goal.loop-rest-init
 loop-rest-init c = record {
   source_is = refl;
   is = c.new-draft.ensures.is;
-  leads = subst (λ (place : Place). LeadsTo (Steps (query_from c.args.source)) c.args.bytes.now place c.args.bytes.now) (sym c.new-draft.ensures.place) (reaches_here turn is_loose are some (Steps (query_from c.args.source)) c.args.bytes.now);
+  leads = subst (λ (place : Place). LeadsTo (Steps (query_from c.args.source)) c.args.bytes.now place c.args.bytes.now) (sym c.new-draft.ensures.place)
+      (reaches_here turn is_loose are some (Steps (query_from c.args.source)) c.args.bytes.now);
 }
 
 pub returns-in_err-word-clause-err : goal.returns-in_err-word-clause-err
@@ -38,7 +39,9 @@ returns-in-Change-clause-ok c =
     let mutation = c.in_ok-mutation.mutation in
     let draft = c.loop-rest.draft in
     let same = stage_is c.args.source draft c.loop-rest.invariant.is ∙ sym c.stage-stage.ensures in
-    let kept = change_kept (Steps (query_from c.args.source)) (drafted c.args.source draft) c.stage-stage.result draft.is_ordered c.in_ok-word.word c.in-Change.change mutation c.args.bytes.now c.loop-rest.rest.now c.in_ok-word.at_arguments.now c.loop-rest.invariant.leads same c.in_ok-word.ensures.ok c.in-Change.is c.in_ok-mutation.ensures.ok in
+    let kept = change_kept (Steps (query_from c.args.source)) (drafted c.args.source draft) c.stage-stage.result draft.is_ordered c.in_ok-word.word
+    c.in-Change.change mutation c.args.bytes.now c.loop-rest.rest.now c.in_ok-word.at_arguments.now c.loop-rest.invariant.leads same c.in_ok-word.ensures.ok
+    c.in-Change.is c.in_ok-mutation.ensures.ok in
     let is = c.reading.ensures ∙ ap (λ (source : Source). drafted source draft) c.loop-rest.invariant.source_is in
     subst (λ (query : Query). KeptFrom turn is_loose (commands.Mutate (Some query) mutation) (Steps (query_from c.args.source)) c.args.bytes.now) (sym is) kept
 
@@ -48,13 +51,16 @@ loop-rest-preserved c =
     record {
       source_is = c.loop-rest.invariant.source_is;
       is = read.is;
-      leads = step_leads c.args.source c.loop-rest.draft c.read.new.self c.stage-stage.result c.in_ok-word.word c.args.bytes.now c.loop-rest.rest.now c.in_ok-word.at_arguments.now c.in_ok-rest.rest.now c.loop-rest.invariant.leads c.loop-rest.invariant.is c.stage-stage.ensures c.in_ok-word.ensures.ok read;
+      leads = step_leads c.args.source c.loop-rest.draft c.read.new.self c.stage-stage.result c.in_ok-word.word c.args.bytes.now c.loop-rest.rest.now
+          c.in_ok-word.at_arguments.now c.in_ok-rest.rest.now c.loop-rest.invariant.leads c.loop-rest.invariant.is c.stage-stage.ensures c.in_ok-word.ensures.ok
+          read;
     }
 
 pub returns-clause-ok : goal.returns-clause-ok
 returns-clause-ok c =
     let draft = c.loop-rest.draft in
-    let kept = query_kept (Steps (query_from c.args.source)) (drafted c.args.source draft) c.args.bytes.now c.loop-rest.rest.now draft.is_ordered c.loop-rest.invariant.leads (is_nothing c.loop-rest.rest.now c.is_empty.result c.is_empty.ensures c.loop-rest-test.false) in
+    let kept = query_kept (Steps (query_from c.args.source)) (drafted c.args.source draft) c.args.bytes.now c.loop-rest.rest.now draft.is_ordered
+    c.loop-rest.invariant.leads (is_nothing c.loop-rest.rest.now c.is_empty.result c.is_empty.ensures c.loop-rest-test.false) in
     let is = c.query.ensures ∙ ap (λ (source : Source). shown (drafted source draft)) c.loop-rest.invariant.source_is in
     subst (λ (query : Query). KeptFrom turn is_loose (commands.Query query) (Steps (query_from c.args.source)) c.args.bytes.now) (sym is) kept
 

@@ -14,10 +14,12 @@ returns-in_err-name-clause-err c =
     rw (p.1, p.2) (stop_in_name c.args.bytes.now c.in_ok-double.at_name.now c.in_ok-double.double c.in_err-name.field-0.0 c.in_ok-double.ensures.ok c.in_err-name.ensures.err)
 
 pub returns-clause-ok : goal.returns-clause-ok
-returns-clause-ok c = quoted_name_read c.args.bytes.now c.in_ok-double.at_name.now c.in_ok-name.rest.now c.skip_blanks.result.now c.in_ok-name.name.now c.in_ok-double.double c.in_ok-double.ensures.ok c.in_ok-name.ensures.ok c.skip_blanks.ensures
+returns-clause-ok c = quoted_name_read c.args.bytes.now c.in_ok-double.at_name.now c.in_ok-name.rest.now c.skip_blanks.result.now c.in_ok-name.name.now
+    c.in_ok-double.double c.in_ok-double.ensures.ok c.in_ok-name.ensures.ok c.skip_blanks.ensures
 
 pub returns-clause-within : goal.returns-clause-within
-returns-clause-within c = quoted_within c.args.bytes.now c.in_ok-double.at_name.now c.in_ok-name.rest.now c.skip_blanks.result.now c.in_ok-name.name.now c.in_ok-double.double c.in_ok-double.ensures.ok c.in_ok-name.ensures.ok c.skip_blanks.ensures
+returns-clause-within c = quoted_within c.args.bytes.now c.in_ok-double.at_name.now c.in_ok-name.rest.now c.skip_blanks.result.now c.in_ok-name.name.now
+    c.in_ok-double.double c.in_ok-double.ensures.ok c.in_ok-name.ensures.ok c.skip_blanks.ensures
 
 pub returns-in_err-double-clause-ok : goal.returns-in_err-double-clause-ok
 returns-in_err-double-clause-ok c = never_ok c.from_residual.result _ _ c.from_residual.ensures.1

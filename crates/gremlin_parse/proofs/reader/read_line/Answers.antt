@@ -23,19 +23,22 @@ pub returns-clause-spelled : goal.returns-clause-spelled
 returns-clause-spelled c =
     let line = c.args.line.now in
     let rest = c.in_ok-session.rest.now in
-    spells_of_tail line rest c.skip_blanks.result.now c.in_ok-command.command (rest_is line c.in_ok-session.session rest c.in_ok-session.ensures.ok) c.skip_blanks.ensures.takes c.in_ok-command.ensures.ok c.in_ok-command.ensures.bounds
+    spells_of_tail line rest c.skip_blanks.result.now c.in_ok-command.command (rest_is line c.in_ok-session.session rest c.in_ok-session.ensures.ok)
+    c.skip_blanks.ensures.takes c.in_ok-command.ensures.ok c.in_ok-command.ensures.bounds
 
 pub returns-clause-only : goal.returns-clause-only
 returns-clause-only c =
     let line = c.args.line.now in
     let rest = c.in_ok-session.rest.now in
-    only_command line rest c.skip_blanks.result.now c.in_ok-command.command (rest_is line c.in_ok-session.session rest c.in_ok-session.ensures.ok) c.skip_blanks.ensures.takes c.in_ok-command.ensures.ok
+    only_command line rest c.skip_blanks.result.now c.in_ok-command.command (rest_is line c.in_ok-session.session rest c.in_ok-session.ensures.ok)
+    c.skip_blanks.ensures.takes c.in_ok-command.ensures.ok
 
 pub returns-clause-no_fault : goal.returns-clause-no_fault
 returns-clause-no_fault c =
     let line = c.args.line.now in
     let rest = c.in_ok-session.rest.now in
-    no_fault_of line rest c.skip_blanks.result.now c.in_ok-command.command (rest_is line c.in_ok-session.session rest c.in_ok-session.ensures.ok) c.skip_blanks.ensures.takes c.in_ok-command.ensures.ok c.in_ok-command.ensures.bounds
+    no_fault_of line rest c.skip_blanks.result.now c.in_ok-command.command (rest_is line c.in_ok-session.session rest c.in_ok-session.ensures.ok)
+    c.skip_blanks.ensures.takes c.in_ok-command.ensures.ok c.in_ok-command.ensures.bounds
 
 pub returns-clause-session : goal.returns-clause-session
 returns-clause-session c =

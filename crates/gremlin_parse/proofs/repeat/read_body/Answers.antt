@@ -14,7 +14,8 @@ returns-in_err-rest-clause-err c =
 
 pub loop-more-init : goal.loop-more-init
 loop-more-init c = record {
-  so_far = no_body_steps c.args.before (c.args.before + 1) c.args.bytes.now c.in_ok-rest.rest.now c.new-steps.result.items c.new-steps.ensures.items refl c.in_ok-rest.ensures.ok;
+  so_far = no_body_steps c.args.before (c.args.before + 1) c.args.bytes.now c.in_ok-rest.rest.now c.new-steps.result.items c.new-steps.ensures.items refl
+      c.in_ok-rest.ensures.ok;
   few = omega (arith, c.requires);
   within = c.in_ok-rest.ensures.within;
 }
@@ -48,7 +49,8 @@ loop-more-preserved c =
 
 pub returns-clause-ok : goal.returns-clause-ok
 returns-clause-ok c = λ query same.
-    subst (λ (body : List BodyStep). LeadsTo (BodyFirst query) c.args.bytes.now (AfterBody query body) c.loop-more.rest.now) (sym c.new.ensures) (body_done c.args.before c.loop-more.count c.args.bytes.now c.loop-more.rest.now c.loop-more.more c.loop-more.steps.items c.loop-more-test.false c.loop-more.invariant.so_far query same)
+    subst (λ (body : List BodyStep). LeadsTo (BodyFirst query) c.args.bytes.now (AfterBody query body) c.loop-more.rest.now) (sym c.new.ensures)
+    (body_done c.args.before c.loop-more.count c.args.bytes.now c.loop-more.rest.now c.loop-more.more c.loop-more.steps.items c.loop-more-test.false c.loop-more.invariant.so_far query same)
 
 pub returns-clause-few : goal.returns-clause-few
 returns-clause-few c =

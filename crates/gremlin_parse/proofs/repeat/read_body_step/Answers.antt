@@ -37,18 +37,25 @@ returns-in_err-at_arguments-clause-within c = never_ok c.from_residual-in_err-at
 
 pub returns-clause-ok : goal.returns-clause-ok
 returns-clause-ok c =
-    let opens = body_opening_read c.args.before c.args.bytes.now c.in_ok-word.after_name.now c.skip_blanks-at_open.result.now c.in_ok-at_arguments.at_arguments.now c.in_ok-word.word c.in_ok-word.ensures.no_fault c.in_ok-word.ensures.ok c.skip_blanks-at_open.ensures c.in_ok-at_arguments.ensures.ok in
+    let opens = body_opening_read c.args.before c.args.bytes.now c.in_ok-word.after_name.now c.skip_blanks-at_open.result.now
+    c.in_ok-at_arguments.at_arguments.now c.in_ok-word.word c.in_ok-word.ensures.no_fault c.in_ok-word.ensures.ok c.skip_blanks-at_open.ensures
+    c.in_ok-at_arguments.ensures.ok in
     IfOk-weaker c.read_body_arguments.result _ _ (λ r reads query body same. on (BodyName query body) c.args.bytes.now (opened_body (OfBody query body) c.in_ok-word.word) c.in_ok-at_arguments.at_arguments.now (InBody query (body ++ r.0 ∷ [])) r.1.now (opens query body same) (reads (OfBody query body))) c.read_body_arguments.ensures.ok
 
 pub returns-clause-early : goal.returns-clause-early
-returns-clause-early c = IfOk-weaker c.read_body_arguments.result _ _ (λ r reads. before_33rd c.args.before c.in_ok-word.ensures.no_fault) c.read_body_arguments.ensures.ok
+returns-clause-early c = IfOk-weaker c.read_body_arguments.result _ _ (λ r reads. before_33rd c.args.before c.in_ok-word.ensures.no_fault)
+    c.read_body_arguments.ensures.ok
 
 pub returns-clause-within : goal.returns-clause-within
 returns-clause-within c =
-    let start = body_opening_within c.args.bytes.now c.in_ok-word.after_name.now c.skip_blanks-at_open.result.now c.in_ok-at_arguments.at_arguments.now c.in_ok-word.word c.in_ok-word.ensures.ok c.skip_blanks-at_open.ensures c.in_ok-at_arguments.ensures.ok in
+    let start = body_opening_within c.args.bytes.now c.in_ok-word.after_name.now c.skip_blanks-at_open.result.now c.in_ok-at_arguments.at_arguments.now
+    c.in_ok-word.word c.in_ok-word.ensures.ok c.skip_blanks-at_open.ensures c.in_ok-at_arguments.ensures.ok in
     IfOk-weaker c.read_body_arguments.result _ _ (λ r le. omega (arith, start, le)) c.read_body_arguments.ensures.within
 
 pub returns-clause-err : goal.returns-clause-err
 returns-clause-err c =
-    let opens = body_opening_read c.args.before c.args.bytes.now c.in_ok-word.after_name.now c.skip_blanks-at_open.result.now c.in_ok-at_arguments.at_arguments.now c.in_ok-word.word c.in_ok-word.ensures.no_fault c.in_ok-word.ensures.ok c.skip_blanks-at_open.ensures c.in_ok-at_arguments.ensures.ok in
-    IfErr-weaker c.read_body_arguments.result _ _ (λ stop stops query body same. (opens query body same).stops stop (stops (OfBody query body))) c.read_body_arguments.ensures.err
+    let opens = body_opening_read c.args.before c.args.bytes.now c.in_ok-word.after_name.now c.skip_blanks-at_open.result.now
+    c.in_ok-at_arguments.at_arguments.now c.in_ok-word.word c.in_ok-word.ensures.no_fault c.in_ok-word.ensures.ok c.skip_blanks-at_open.ensures
+    c.in_ok-at_arguments.ensures.ok in
+    IfErr-weaker c.read_body_arguments.result _ _ (λ stop stops query body same. (opens query body same).stops stop (stops (OfBody query body)))
+    c.read_body_arguments.ensures.err

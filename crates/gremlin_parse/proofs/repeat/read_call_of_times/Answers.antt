@@ -29,7 +29,9 @@ returns-in_err-rest-clause-err c =
     rw (p.1, p.2) (stop_after_times c.args.bytes.now c.in_ok-at_word.at_word.now c.in_ok-at_open.at_open.now c.in_ok-at_number.at_number.now c.in_ok-times.after.now c.skip_blanks-at_close.result.now c.in_ok-times.times c.in_err-rest.field-0.0 c.in_ok-at_word.ensures.ok c.in_ok-at_open.ensures.ok c.in_ok-at_number.ensures.ok c.in_ok-times.ensures.ok c.skip_blanks-at_close.ensures c.in_err-rest.ensures.err)
 
 pub returns-clause-ok : goal.returns-clause-ok
-returns-clause-ok c = times_read c.args.bytes.now c.in_ok-at_word.at_word.now c.in_ok-at_open.at_open.now c.in_ok-at_number.at_number.now c.in_ok-times.after.now c.skip_blanks-at_close.result.now c.in_ok-rest.rest.now c.in_ok-times.times c.in_ok-at_word.ensures.ok c.in_ok-at_open.ensures.ok c.in_ok-at_number.ensures.ok c.in_ok-times.ensures.ok c.skip_blanks-at_close.ensures c.in_ok-rest.ensures.ok
+returns-clause-ok c = times_read c.args.bytes.now c.in_ok-at_word.at_word.now c.in_ok-at_open.at_open.now c.in_ok-at_number.at_number.now
+    c.in_ok-times.after.now c.skip_blanks-at_close.result.now c.in_ok-rest.rest.now c.in_ok-times.times c.in_ok-at_word.ensures.ok c.in_ok-at_open.ensures.ok
+    c.in_ok-at_number.ensures.ok c.in_ok-times.ensures.ok c.skip_blanks-at_close.ensures c.in_ok-rest.ensures.ok
 
 pub returns-in_err-at_word-clause-ok : goal.returns-in_err-at_word-clause-ok
 returns-in_err-at_word-clause-ok c = never_ok c.from_residual.result _ _ c.from_residual.ensures.1

@@ -12,7 +12,9 @@ returns-in_err-times-clause-err c =
 
 pub returns-clause-ok : goal.returns-clause-ok
 returns-clause-ok c = λ query same.
-    on (BodyFirst query) c.args.bytes.now (AfterBody query c.in_ok-body.body) c.in_ok-body.at_dot.now (Steps (with_step query (steps.Repeat c.in_ok-body.body c.in_ok-times.times))) c.in_ok-times.rest.now (c.in_ok-body.ensures.ok query same) (c.in_ok-times.ensures.ok query c.in_ok-body.body)
+    on (BodyFirst query) c.args.bytes.now (AfterBody query c.in_ok-body.body) c.in_ok-body.at_dot.now
+    (Steps (with_step query (steps.Repeat c.in_ok-body.body c.in_ok-times.times))) c.in_ok-times.rest.now (c.in_ok-body.ensures.ok query same)
+    (c.in_ok-times.ensures.ok query c.in_ok-body.body)
 
 pub returns-in_err-times-clause-ok : goal.returns-in_err-times-clause-ok
 returns-in_err-times-clause-ok c = never_ok c.from_residual-in_err-times.result _ _ c.from_residual-in_err-times.ensures.1

@@ -29,9 +29,12 @@ returns-in_err-key-clause-err c =
 
 pub returns-clause-ok : goal.returns-clause-ok
 returns-clause-ok c =
-    let read = found_read c.in_ok-label.label.now c.in_ok-key.key.now c.args.bytes.now c.in_ok-label.at_comma.now c.in_ok-at_key.at_key.now c.in_ok-key.rest.now (value_of c.in_ok-key.written) c.in_ok-label.ensures.ok c.in_ok-at_key.ensures.ok c.in_ok-key.ensures.ok in
-    let labelled = subst (λ (label : List ℕ). Leads c.args.bytes.now label c.in_ok-key.key.now (value_of c.in_ok-key.written) c.in_ok-key.rest.now) (sym c.in_ok-label-2.ensures.ok) read in
-    let keyed = subst (λ (key : List ℕ). Leads c.args.bytes.now c.in_ok-label-2.label key (value_of c.in_ok-key.written) c.in_ok-key.rest.now) (sym c.in_ok-key-2.ensures.ok) labelled in
+    let read = found_read c.in_ok-label.label.now c.in_ok-key.key.now c.args.bytes.now c.in_ok-label.at_comma.now c.in_ok-at_key.at_key.now c.in_ok-key.rest.now
+    (value_of c.in_ok-key.written) c.in_ok-label.ensures.ok c.in_ok-at_key.ensures.ok c.in_ok-key.ensures.ok in
+    let labelled = subst (λ (label : List ℕ). Leads c.args.bytes.now label c.in_ok-key.key.now (value_of c.in_ok-key.written) c.in_ok-key.rest.now)
+    (sym c.in_ok-label-2.ensures.ok) read in
+    let keyed = subst (λ (key : List ℕ). Leads c.args.bytes.now c.in_ok-label-2.label key (value_of c.in_ok-key.written) c.in_ok-key.rest.now)
+    (sym c.in_ok-key-2.ensures.ok) labelled in
     subst (λ (value : Value). Leads c.args.bytes.now c.in_ok-label-2.label c.in_ok-key-2.key value c.in_ok-key.rest.now) (sym c.in_ok-value.ensures.ok) keyed
 
 pub returns-in_err-label-clause-ok : goal.returns-in_err-label-clause-ok

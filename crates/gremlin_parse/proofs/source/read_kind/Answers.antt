@@ -8,7 +8,8 @@ pub returns-in-Some-clause-ok : goal.returns-in-Some-clause-ok
 returns-in-Some-clause-ok c = token_leads SourceName 86 (Opening sources.Vertices) c.args.bytes.now c.in-Some.rest.now refl refl c.in-Some.ensures.some
 
 pub returns-in-Some-read_first-clause-ok : goal.returns-in-Some-read_first-clause-ok
-returns-in-Some-read_first-clause-ok c = token_leads SourceName 69 (Opening sources.Edges) c.args.bytes.now c.in-Some-read_first.rest.now refl refl c.in-Some-read_first.ensures.some
+returns-in-Some-read_first-clause-ok c = token_leads SourceName 69 (Opening sources.Edges) c.args.bytes.now c.in-Some-read_first.rest.now refl refl
+    c.in-Some-read_first.ensures.some
 
 pub returns-in-Ok-clause-ok : goal.returns-in-Ok-clause-ok
 returns-in-Ok-clause-ok c = find_leads c.args.bytes.now c.in-Ok.rest.now c.in-Ok.ensures.ok

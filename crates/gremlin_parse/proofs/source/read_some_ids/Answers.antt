@@ -18,7 +18,8 @@ returns-in_err-more-clause-err c =
 pub loop-more-init : goal.loop-more-init
 loop-more-init c =
     let list = c.in_ok-push_id.ensures.ok ∙ ap (λ (ids : List ℕ). ids ++ c.in_ok-first.first ∷ []) c.new-ids.ensures.items in
-    subst (λ (ids : List ℕ). IdsSoFar c.args.bytes.now c.in_ok-more.more ids c.in_ok-more.rest.now) (sym list) (first_ids c.args.bytes.now c.in_ok-first.after_first.now c.in_ok-more.rest.now c.in_ok-first.first c.in_ok-more.more c.in_ok-first.ensures.ok c.in_ok-more.ensures.ok)
+    subst (λ (ids : List ℕ). IdsSoFar c.args.bytes.now c.in_ok-more.more ids c.in_ok-more.rest.now) (sym list)
+    (first_ids c.args.bytes.now c.in_ok-first.after_first.now c.in_ok-more.rest.now c.in_ok-first.first c.in_ok-more.more c.in_ok-first.ensures.ok c.in_ok-more.ensures.ok)
 
 pub returns-in_err-id-clause-err : goal.returns-in_err-id-clause-err
 returns-in_err-id-clause-err c =
@@ -32,11 +33,13 @@ returns-in_err-again-clause-err c =
 
 pub loop-more-preserved : goal.loop-more-preserved
 loop-more-preserved c =
-    subst (λ (ids : List ℕ). IdsSoFar c.args.bytes.now c.in_ok-again.again ids c.in_ok-again.after.now) (sym c.in_ok-push_id-2.ensures.ok) (ids_more c.args.bytes.now c.loop-more.rest.now c.in_ok-id.after_id.now c.in_ok-again.after.now c.loop-more.ids.items c.in_ok-id.id c.loop-more.more c.in_ok-again.again c.loop-more-test.true c.loop-more.invariant c.in_ok-id.ensures.ok c.in_ok-again.ensures.ok)
+    subst (λ (ids : List ℕ). IdsSoFar c.args.bytes.now c.in_ok-again.again ids c.in_ok-again.after.now) (sym c.in_ok-push_id-2.ensures.ok)
+    (ids_more c.args.bytes.now c.loop-more.rest.now c.in_ok-id.after_id.now c.in_ok-again.after.now c.loop-more.ids.items c.in_ok-id.id c.loop-more.more c.in_ok-again.again c.loop-more-test.true c.loop-more.invariant c.in_ok-id.ensures.ok c.in_ok-again.ensures.ok)
 
 pub returns-clause-ok : goal.returns-clause-ok
 returns-clause-ok c = λ edges.
-    subst (λ (ids : List ℕ). LeadsTo (FirstId edges) c.args.bytes.now (Steps (query_from (elements_of edges ids))) c.loop-more.rest.now) (sym c.new.ensures) (ids_done c.args.bytes.now c.loop-more.rest.now c.loop-more.ids.items c.loop-more.more c.loop-more-test.false c.loop-more.invariant edges)
+    subst (λ (ids : List ℕ). LeadsTo (FirstId edges) c.args.bytes.now (Steps (query_from (elements_of edges ids))) c.loop-more.rest.now) (sym c.new.ensures)
+    (ids_done c.args.bytes.now c.loop-more.rest.now c.loop-more.ids.items c.loop-more.more c.loop-more-test.false c.loop-more.invariant edges)
 
 pub returns-in_err-first-clause-ok : goal.returns-in_err-first-clause-ok
 returns-in_err-first-clause-ok c = never_ok c.from_residual.result _ _ c.from_residual.ensures.1

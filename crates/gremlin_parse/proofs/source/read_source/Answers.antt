@@ -21,7 +21,8 @@ returns-in_err-rest-clause-err c =
     rw (p.1, p.2) (stop_in_opening c.args.bytes.now c.in_ok-at_kind.at_kind.now c.in_ok-kind.at_open.now c.in_ok-kind.kind c.in_err-rest.field-0.0 c.in_ok-at_kind.ensures.ok c.in_ok-kind.ensures.ok c.in_err-rest.ensures.err)
 
 pub returns-clause-ok : goal.returns-clause-ok
-returns-clause-ok c = source_read c.args.bytes.now c.in_ok-at_kind.at_kind.now c.in_ok-kind.at_open.now c.in_ok-rest.rest.now c.in_ok-kind.kind c.in_ok-at_kind.ensures.ok c.in_ok-kind.ensures.ok c.in_ok-rest.ensures.ok
+returns-clause-ok c = source_read c.args.bytes.now c.in_ok-at_kind.at_kind.now c.in_ok-kind.at_open.now c.in_ok-rest.rest.now c.in_ok-kind.kind
+    c.in_ok-at_kind.ensures.ok c.in_ok-kind.ensures.ok c.in_ok-rest.ensures.ok
 
 pub returns-in_err-at_kind-clause-ok : goal.returns-in_err-at_kind-clause-ok
 returns-in_err-at_kind-clause-ok c = never_ok c.from_residual.result _ _ c.from_residual.ensures.1

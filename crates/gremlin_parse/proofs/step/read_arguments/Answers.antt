@@ -35,29 +35,35 @@ returns-in_err-most-in-Limit-clause-err c =
 pub returns-in_ok-rest-in-Bare-clause-ok : goal.returns-in_ok-rest-in-Bare-clause-ok
 returns-in_ok-rest-in-Bare-clause-ok c = λ query same.
     let rest = c.in_ok-rest-in-Bare.rest.now in
-    let read = subst (λ (s : Step). LeadsTo (opened query (words.Bare c.in-Bare.bare)) c.args.bytes.now (Steps (with_step query s)) rest) (sym c.bare_step.ensures) (bare_read query c.in-Bare.bare c.args.bytes.now rest c.in_ok-rest-in-Bare.ensures.ok) in
+    let read = subst (λ (s : Step). LeadsTo (opened query (words.Bare c.in-Bare.bare)) c.args.bytes.now (Steps (with_step query s)) rest)
+    (sym c.bare_step.ensures) (bare_read query c.in-Bare.bare c.args.bytes.now rest c.in_ok-rest-in-Bare.ensures.ok) in
     subst (λ (w : StepWord). LeadsTo (opened query w) c.args.bytes.now (after_word w query c.bare_step.result) rest) (sym c.in-Bare.is) read
 
 pub returns-in_ok-rest-in-Bare-clause-few : goal.returns-in_ok-rest-in-Bare-clause-few
-returns-in_ok-rest-in-Bare-clause-few c = one_more c.args.stage.steps c.args.word c.bare_step.result (ap (λ (s : Step). step_count s) c.bare_step.ensures ∙ one_bare c.in-Bare.bare) c.requires.few
+returns-in_ok-rest-in-Bare-clause-few c = one_more c.args.stage.steps c.args.word c.bare_step.result
+    (ap (λ (s : Step). step_count s) c.bare_step.ensures ∙ one_bare c.in-Bare.bare) c.requires.few
 
 pub returns-in_ok-names-in-Names-clause-ok : goal.returns-in_ok-names-in-Names-clause-ok
 returns-in_ok-names-in-Names-clause-ok c = λ query same.
     let rest = c.in_ok-names-in-Names.rest.now in
-    let read = subst (λ (s : Step). LeadsTo (opened query (words.Names c.in-Names.step)) c.args.bytes.now (Steps (with_step query s)) rest) (sym c.names_step.ensures) (c.in_ok-names-in-Names.ensures.ok (OfStep query c.in-Names.step) refl) in
+    let read = subst (λ (s : Step). LeadsTo (opened query (words.Names c.in-Names.step)) c.args.bytes.now (Steps (with_step query s)) rest)
+    (sym c.names_step.ensures) (c.in_ok-names-in-Names.ensures.ok (OfStep query c.in-Names.step) refl) in
     subst (λ (w : StepWord). LeadsTo (opened query w) c.args.bytes.now (after_word w query c.names_step.result) rest) (sym c.in-Names.is) read
 
 pub returns-in_ok-names-in-Names-clause-few : goal.returns-in_ok-names-in-Names-clause-few
-returns-in_ok-names-in-Names-clause-few c = one_more c.args.stage.steps c.args.word c.names_step.result (ap (λ (s : Step). step_count s) c.names_step.ensures ∙ one_with_names c.in-Names.step c.in_ok-names-in-Names.names) c.requires.few
+returns-in_ok-names-in-Names-clause-few c = one_more c.args.stage.steps c.args.word c.names_step.result
+    (ap (λ (s : Step). step_count s) c.names_step.ensures ∙ one_with_names c.in-Names.step c.in_ok-names-in-Names.names) c.requires.few
 
 pub returns-in_ok-step-in-Body-clause-ok : goal.returns-in_ok-step-in-Body-clause-ok
 returns-in_ok-step-in-Body-clause-ok c = λ query same.
     let rest = c.in_ok-step-in-Body.rest.now in
-    let read = subst (λ (s : Step). LeadsTo (opened query (words.Body c.in-Body.word)) c.args.bytes.now (Steps (with_step query s)) rest) (sym c.step_of.ensures) (c.in_ok-step-in-Body.ensures.ok (OfQuery query)) in
+    let read = subst (λ (s : Step). LeadsTo (opened query (words.Body c.in-Body.word)) c.args.bytes.now (Steps (with_step query s)) rest)
+    (sym c.step_of.ensures) (c.in_ok-step-in-Body.ensures.ok (OfQuery query)) in
     subst (λ (w : StepWord). LeadsTo (opened query w) c.args.bytes.now (after_word w query c.step_of.result) rest) (sym c.in-Body.is) read
 
 pub returns-in_ok-step-in-Body-clause-few : goal.returns-in_ok-step-in-Body-clause-few
-returns-in_ok-step-in-Body-clause-few c = one_more c.args.stage.steps c.args.word c.step_of.result (ap (λ (s : Step). step_count s) c.step_of.ensures ∙ one_of_body c.in_ok-step-in-Body.step) c.requires.few
+returns-in_ok-step-in-Body-clause-few c = one_more c.args.stage.steps c.args.word c.step_of.result
+    (ap (λ (s : Step). step_count s) c.step_of.ensures ∙ one_of_body c.in_ok-step-in-Body.step) c.requires.few
 
 pub returns-in_err-rest-in-Order-clause-err : goal.returns-in_err-rest-in-Order-clause-err
 returns-in_err-rest-in-Order-clause-err c =
@@ -67,7 +73,8 @@ returns-in_err-rest-in-Order-clause-err c =
 pub returns-in_ok-rest-in-Order-clause-ok : goal.returns-in_ok-rest-in-Order-clause-ok
 returns-in_ok-rest-in-Order-clause-ok c = λ query same.
     let rest = c.in_ok-rest-in-Order.rest.now in
-    let read = subst (λ (s : Step). LeadsTo (opened query words.Order) c.args.bytes.now (Ordered (with_step query s)) rest) (sym c.plain_order.ensures) (order_read query c.args.bytes.now rest c.in_ok-rest-in-Order.ensures.ok) in
+    let read = subst (λ (s : Step). LeadsTo (opened query words.Order) c.args.bytes.now (Ordered (with_step query s)) rest) (sym c.plain_order.ensures)
+    (order_read query c.args.bytes.now rest c.in_ok-rest-in-Order.ensures.ok) in
     subst (λ (w : StepWord). LeadsTo (opened query w) c.args.bytes.now (after_word w query c.plain_order.result) rest) (sym c.in-Order.is) read
 
 pub returns-in_err-key-in-By-clause-err : goal.returns-in_err-key-in-By-clause-err
@@ -76,7 +83,8 @@ returns-in_err-key-in-By-clause-err c =
     rw (p.1, p.2) (λ query same. subst (λ (w : StepWord). StopsFrom (opened query w) c.args.bytes.now c.in_err-key-in-By.field-0.0) (sym c.in-By.is) (c.in_err-key-in-By.ensures.err query))
 
 pub returns-in_ok-rest-in-Order-clause-few : goal.returns-in_ok-rest-in-Order-clause-few
-returns-in_ok-rest-in-Order-clause-few c = one_more c.args.stage.steps c.args.word c.plain_order.result (ap (λ (s : Step). step_count s) c.plain_order.ensures) c.requires.few
+returns-in_ok-rest-in-Order-clause-few c = one_more c.args.stage.steps c.args.word c.plain_order.result (ap (λ (s : Step). step_count s) c.plain_order.ensures)
+    c.requires.few
 
 pub returns-in_err-rest-in-Bare-clause-ok : goal.returns-in_err-rest-in-Bare-clause-ok
 returns-in_err-rest-in-Bare-clause-ok c = never_ok c.from_residual.result _ _ c.from_residual.ensures.1
@@ -155,10 +163,12 @@ returns-in-Repeat-clause-ok c =
     IfOk-weaker c.read_repeat.result _ _ (λ r reads query same. subst (λ (w : StepWord). LeadsTo (opened query w) c.args.bytes.now (after_word w query r.0) r.1.now) (sym c.in-Repeat.is) (reads query (ap (λ (s : Stage). s.steps) same))) c.read_repeat.ensures.ok
 
 pub returns-in-Repeat-clause-order : goal.returns-in-Repeat-clause-order
-returns-in-Repeat-clause-order c = IfOk-weaker c.read_repeat.result _ _ (λ r reads. subst (λ (w : StepWord). IsOrderStep w r.0) (sym c.in-Repeat.is) tt) c.read_repeat.ensures.ok
+returns-in-Repeat-clause-order c = IfOk-weaker c.read_repeat.result _ _ (λ r reads. subst (λ (w : StepWord). IsOrderStep w r.0) (sym c.in-Repeat.is) tt)
+    c.read_repeat.ensures.ok
 
 pub returns-in-Repeat-clause-few : goal.returns-in-Repeat-clause-few
-returns-in-Repeat-clause-few c = IfOk-weaker c.read_repeat.result _ _ (λ r few. repeat_few c.args.stage.steps c.args.word r.0 c.in-Repeat.is few) c.read_repeat.ensures.few
+returns-in-Repeat-clause-few c = IfOk-weaker c.read_repeat.result _ _ (λ r few. repeat_few c.args.stage.steps c.args.word r.0 c.in-Repeat.is few)
+    c.read_repeat.ensures.few
 
 pub returns-in-Repeat-clause-within : goal.returns-in-Repeat-clause-within
 returns-in-Repeat-clause-within c = c.read_repeat.ensures.within

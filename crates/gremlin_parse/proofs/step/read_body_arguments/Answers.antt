@@ -37,10 +37,12 @@ pub returns-in_err-labels-in-Neighbours-clause-within : goal.returns-in_err-labe
 returns-in_err-labels-in-Neighbours-clause-within c = never_ok c.from_residual.result _ _ c.from_residual.ensures.1
 
 pub returns-in_err-labels-in-HasLabel-clause-ok : goal.returns-in_err-labels-in-HasLabel-clause-ok
-returns-in_err-labels-in-HasLabel-clause-ok c = never_ok c.from_residual-in_err-labels-in-HasLabel.result _ _ c.from_residual-in_err-labels-in-HasLabel.ensures.1
+returns-in_err-labels-in-HasLabel-clause-ok c = never_ok c.from_residual-in_err-labels-in-HasLabel.result _ _
+    c.from_residual-in_err-labels-in-HasLabel.ensures.1
 
 pub returns-in_err-labels-in-HasLabel-clause-within : goal.returns-in_err-labels-in-HasLabel-clause-within
-returns-in_err-labels-in-HasLabel-clause-within c = never_ok c.from_residual-in_err-labels-in-HasLabel.result _ _ c.from_residual-in_err-labels-in-HasLabel.ensures.1
+returns-in_err-labels-in-HasLabel-clause-within c = never_ok c.from_residual-in_err-labels-in-HasLabel.result _ _
+    c.from_residual-in_err-labels-in-HasLabel.ensures.1
 
 pub returns-in_err-filter-in-Has-clause-ok : goal.returns-in_err-filter-in-Has-clause-ok
 returns-in_err-filter-in-Has-clause-ok c = never_ok c.from_residual-in_err-filter-in-Has.result _ _ c.from_residual-in_err-filter-in-Has.ensures.1

@@ -25,7 +25,8 @@ returns-in_err-more-clause-err c =
 
 pub returns-then-not-more-clause-ok : goal.returns-then-not-more-clause-ok
 returns-then-not-more-clause-ok c = λ into.
-    subst (λ (key : List ℕ). LeadsTo (Quote (Key into)) c.args.bytes.now (after_filter into (filters.Has key)) c.in_ok-more.at_value.now) (sym c.in_ok-key.ensures.ok) (has_read c.in_ok-name.name.now c.args.bytes.now c.in_ok-name.after_name.now c.in_ok-more.at_value.now c.in_ok-more.more c.if-not-more.true c.in_ok-name.ensures.ok c.in_ok-more.ensures.ok into)
+    subst (λ (key : List ℕ). LeadsTo (Quote (Key into)) c.args.bytes.now (after_filter into (filters.Has key)) c.in_ok-more.at_value.now)
+    (sym c.in_ok-key.ensures.ok) (has_read c.in_ok-name.name.now c.args.bytes.now c.in_ok-name.after_name.now c.in_ok-more.at_value.now c.in_ok-more.more c.if-not-more.true c.in_ok-name.ensures.ok c.in_ok-more.ensures.ok into)
 
 pub returns-in_err-relation-clause-err : goal.returns-in_err-relation-clause-err
 returns-in_err-relation-clause-err c =
@@ -42,9 +43,12 @@ returns-clause-ok c = λ into.
     let relation = c.in_ok-relation.relation in
     let written = value_of c.in_ok-relation.written in
     let rest = c.in_ok-relation.rest.now in
-    let read = comparison_read c.in_ok-name.name.now c.args.bytes.now c.in_ok-name.after_name.now c.in_ok-more.at_value.now rest relation written c.in_ok-more.more c.if-not-more.false c.in_ok-name.ensures.ok c.in_ok-more.ensures.ok c.in_ok-relation.ensures.ok into in
-    let keyed = subst (λ (key : List ℕ). LeadsTo (Quote (Key into)) c.args.bytes.now (after_filter into (filters.HasValue key relation written)) rest) (sym c.in_ok-key.ensures.ok) read in
-    subst (λ (value : Value). LeadsTo (Quote (Key into)) c.args.bytes.now (after_filter into (filters.HasValue c.in_ok-key.key relation value)) rest) (sym c.in_ok-value.ensures.ok) keyed
+    let read = comparison_read c.in_ok-name.name.now c.args.bytes.now c.in_ok-name.after_name.now c.in_ok-more.at_value.now rest relation written
+    c.in_ok-more.more c.if-not-more.false c.in_ok-name.ensures.ok c.in_ok-more.ensures.ok c.in_ok-relation.ensures.ok into in
+    let keyed = subst (λ (key : List ℕ). LeadsTo (Quote (Key into)) c.args.bytes.now (after_filter into (filters.HasValue key relation written)) rest)
+    (sym c.in_ok-key.ensures.ok) read in
+    subst (λ (value : Value). LeadsTo (Quote (Key into)) c.args.bytes.now (after_filter into (filters.HasValue c.in_ok-key.key relation value)) rest)
+    (sym c.in_ok-value.ensures.ok) keyed
 
 pub returns-in_err-name-clause-ok : goal.returns-in_err-name-clause-ok
 returns-in_err-name-clause-ok c = never_ok c.from_residual.result _ _ c.from_residual.ensures.1

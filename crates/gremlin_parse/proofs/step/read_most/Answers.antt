@@ -14,7 +14,8 @@ returns-in_err-rest-clause-err c =
     rw (p.1, p.2) (stop_after_most c.args.bytes.now c.in_ok-most.after_most.now c.skip_blanks-at_close.result.now c.in_ok-most.most c.in_err-rest.field-0.0 c.in_ok-most.ensures.ok c.skip_blanks-at_close.ensures c.in_err-rest.ensures.err)
 
 pub returns-clause-ok : goal.returns-clause-ok
-returns-clause-ok c = most_read c.args.bytes.now c.in_ok-most.after_most.now c.skip_blanks-at_close.result.now c.in_ok-rest.rest.now c.in_ok-most.most c.in_ok-most.ensures.ok c.skip_blanks-at_close.ensures c.in_ok-rest.ensures.ok
+returns-clause-ok c = most_read c.args.bytes.now c.in_ok-most.after_most.now c.skip_blanks-at_close.result.now c.in_ok-rest.rest.now c.in_ok-most.most
+    c.in_ok-most.ensures.ok c.skip_blanks-at_close.ensures c.in_ok-rest.ensures.ok
 
 pub returns-in_err-most-clause-ok : goal.returns-in_err-most-clause-ok
 returns-in_err-most-clause-ok c = never_ok c.from_residual.result _ _ c.from_residual.ensures.1

@@ -7,7 +7,8 @@ use Rattle.gremlin_parse.proofs.step.read_names.Goals as goal
 pub returns-in-Some-clause-ok : goal.returns-in-Some-clause-ok
 returns-in-Some-clause-ok c = λ purpose needs.
     let names = c.new-in-Some.ensures ∙ c.new.ensures.items in
-    subst (λ (list : List (List ℕ)). LeadsTo (opened_names purpose) c.args.bytes.now (after_names purpose list) c.in-Some.rest.now) (sym names) (no_names purpose c.args.bytes.now c.in-Some.rest.now (needs ∙ c.if-is_needed.false) c.in-Some.ensures.some)
+    subst (λ (list : List (List ℕ)). LeadsTo (opened_names purpose) c.args.bytes.now (after_names purpose list) c.in-Some.rest.now) (sym names)
+    (no_names purpose c.args.bytes.now c.in-Some.rest.now (needs ∙ c.if-is_needed.false) c.in-Some.ensures.some)
 
 pub returns-then-is_needed-clause-err : goal.returns-then-is_needed-clause-err
 returns-then-is_needed-clause-err c =

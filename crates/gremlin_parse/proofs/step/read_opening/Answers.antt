@@ -21,10 +21,14 @@ returns-in_err-rest-clause-err c =
     rw (p.1, p.2) (stop_at_opening c.args.stage c.args.is_ordered c.args.bytes.now c.in_ok-at_name.at_name.now c.in_ok-word.after_name.now c.skip_blanks-at_open.result.now c.in_ok-word.word c.in_err-rest.field-0.0 c.in_ok-at_name.ensures.ok c.in_ok-word.ensures.no_fault c.in_ok-word.ensures.ok c.skip_blanks-at_open.ensures c.in_err-rest.ensures.err)
 
 pub returns-clause-ok : goal.returns-clause-ok
-returns-clause-ok c = opening_read c.args.stage c.args.is_ordered c.args.bytes.now c.in_ok-at_name.at_name.now c.in_ok-word.after_name.now c.skip_blanks-at_open.result.now c.in_ok-rest.rest.now c.in_ok-word.word c.in_ok-at_name.ensures.ok c.in_ok-word.ensures.no_fault c.in_ok-word.ensures.ok c.skip_blanks-at_open.ensures c.in_ok-rest.ensures.ok
+returns-clause-ok c = opening_read c.args.stage c.args.is_ordered c.args.bytes.now c.in_ok-at_name.at_name.now c.in_ok-word.after_name.now
+    c.skip_blanks-at_open.result.now c.in_ok-rest.rest.now c.in_ok-word.word c.in_ok-at_name.ensures.ok c.in_ok-word.ensures.no_fault c.in_ok-word.ensures.ok
+    c.skip_blanks-at_open.ensures c.in_ok-rest.ensures.ok
 
 pub returns-clause-less : goal.returns-clause-less
-returns-clause-less c = opening_shorter (words_after c.args.is_ordered) c.args.bytes.now c.in_ok-at_name.at_name.now c.in_ok-word.after_name.now c.skip_blanks-at_open.result.now c.in_ok-rest.rest.now c.in_ok-word.word c.in_ok-at_name.ensures.ok c.in_ok-word.ensures.ok c.skip_blanks-at_open.ensures c.in_ok-rest.ensures.ok
+returns-clause-less c = opening_shorter (words_after c.args.is_ordered) c.args.bytes.now c.in_ok-at_name.at_name.now c.in_ok-word.after_name.now
+    c.skip_blanks-at_open.result.now c.in_ok-rest.rest.now c.in_ok-word.word c.in_ok-at_name.ensures.ok c.in_ok-word.ensures.ok c.skip_blanks-at_open.ensures
+    c.in_ok-rest.ensures.ok
 
 pub returns-clause-by : goal.returns-clause-by
 returns-clause-by c = by_is_ordered c.args.is_ordered c.in_ok-at_name.at_name.now c.in_ok-word.after_name.now c.in_ok-word.word c.in_ok-word.ensures.ok

@@ -1,7 +1,8 @@
 use Rattle.std.proofs.Common.{List, ℕ, ◌++◌, ◌∷◌, [], sym, ◌∙◌, ap, subst, arith}
 use Rattle.std.proofs.lemmas.Result.{err_from_is_err_and}
 use Rattle.gremlin_parse.specs.Queries.{after_names, LeadsTo, OneName}
-use Rattle.gremlin_parse.proofs.QueryReads.{NamesSoFar, stop_after_first_name, stop_in_names, stop_after_name, first_names, names_more, names_done, stop_of_memory}
+use Rattle.gremlin_parse.proofs.QueryReads.{NamesSoFar, stop_after_first_name, stop_in_names, stop_after_name}
+use Rattle.gremlin_parse.proofs.QueryReads.{first_names, names_more, names_done, stop_of_memory}
 use Rattle.gremlin_parse.proofs.Exits.{never_ok}
 use Rattle.gremlin_parse.proofs.step.read_some_names.Goals as goal
 
@@ -51,7 +52,8 @@ loop-more-preserved c =
 
 pub returns-clause-ok : goal.returns-clause-ok
 returns-clause-ok c = λ purpose place quotes.
-    subst (λ (names : List (List ℕ)). LeadsTo place c.args.bytes.now (after_names purpose names) c.loop-more.rest.now) (sym c.new.ensures) (names_done c.args.bytes.now c.loop-more.rest.now c.loop-more.names.items c.loop-more.more c.loop-more-test.false c.loop-more.invariant.0 purpose place quotes)
+    subst (λ (names : List (List ℕ)). LeadsTo place c.args.bytes.now (after_names purpose names) c.loop-more.rest.now) (sym c.new.ensures)
+    (names_done c.args.bytes.now c.loop-more.rest.now c.loop-more.names.items c.loop-more.more c.loop-more-test.false c.loop-more.invariant.0 purpose place quotes)
 
 pub returns-clause-within : goal.returns-clause-within
 returns-clause-within c = c.loop-more.invariant.1

@@ -7,7 +7,8 @@ pub returns-in_ok-session-in-64-clause-ok : goal.returns-in_ok-session-in-64-cla
 returns-in_ok-session-in-64-clause-ok c =
     let bytes = c.skip_blanks.result.now in
     let is : get_or bytes 0 0 ≡ 64 = omega arith in
-    reads_tag c.args.line.now bytes (take (length bytes - 1) (drop 1 bytes)) c.in_ok-session-in-64.session c.in_ok-session-in-64.rest.now c.skip_blanks.ensures.takes
+    reads_tag c.args.line.now bytes (take (length bytes - 1) (drop 1 bytes)) c.in_ok-session-in-64.session c.in_ok-session-in-64.rest.now
+    c.skip_blanks.ensures.takes
     (at_first bytes c.in-64.len_at_least is) c.in_ok-session-in-64.ensures.ok
 
 pub returns-in_err-session-in-64-clause-ok : goal.returns-in_err-session-in-64-clause-ok

@@ -17,7 +17,8 @@ loop-after-preserved c =
 pub returns-clause-ok : goal.returns-clause-ok
 returns-clause-ok c =
     let close : StartsWith c.args.quote c.loop-after.rest.now = rw c.in_default.is at c.in_ok-after.ensures.ok in
-    text_closes c.args.quote c.args.bytes.now c.loop-after.rest.now c.loop-after.len c.loop-after.invariant.so_far close c.split_at.result.0.now c.split_at.result.1.now c.split_at.ensures.front c.split_at.ensures.back _ (take_rest c.split_at.result.1.now 1)
+    text_closes c.args.quote c.args.bytes.now c.loop-after.rest.now c.loop-after.len c.loop-after.invariant.so_far close c.split_at.result.0.now
+    c.split_at.result.1.now c.split_at.ensures.front c.split_at.ensures.back _ (take_rest c.split_at.result.1.now 1)
 
 pub returns-in_err-after-clause-ok : goal.returns-in_err-after-clause-ok
 returns-in_err-after-clause-ok c = never_ok c.from_residual.result _ _ c.from_residual.ensures.1

@@ -30,7 +30,8 @@ loop-left-init g c =
     }
 
 pub write_block-requires-clause-few : goal.write_block-requires-clause-few
-write_block-requires-clause-few g c = let lt : c.loop-left.left - 1 < blocks_for (length c.args.text.now) = let few = c.loop-left.invariant.few in omega arith in
+write_block-requires-clause-few g c = let lt : c.loop-left.left - 1 < blocks_for (length c.args.text.now) = let few = c.loop-left.invariant.few in
+    omega arith in
     let size = length-numbered_piece (c.loop-left.left - 1) c.args.text.now lt in
     let is = ap length c.piece_at.ensures in
     omega (arith, size.1, is)
@@ -50,12 +51,14 @@ loop-left-preserved g c =
       stands = λ tells keeps.
           let shape = (g.met.S.Reads.onward_shape _ _ c.loop-left.invariant.onward) in
           let stands = c.loop-left.invariant.stands tells keeps in
-          one_written old now (drop (48 * left) text) c.loop-left.first shape stands then (drop (48 * (left - 1)) text) c.piece_at.result.now c.in_ok-first.first c.piece_at.ensures (drop-piece (left - 1) left text (omega arith)) size.2
+          one_written old now (drop (48 * left) text) c.loop-left.first shape stands then (drop (48 * (left - 1)) text) c.piece_at.result.now
+          c.in_ok-first.first c.piece_at.ensures (drop-piece (left - 1) left text (omega arith)) size.2
           (c.in_ok-first.ensures.written tells (keeps_now old now (drop (48 * left) text) c.loop-left.first shape stands) (may_follow old now (drop (48 * left) text) c.loop-left.first shape stands));
       few = omega arith;
       beside = λ tells. beside_then strings_file old.records now.records then.records (c.loop-left.invariant.beside tells) (c.in_ok-first.ensures.beside tells);
       harmless = λ tells. harms_none_then old now then strings_file (c.loop-left.invariant.harmless tells) (c.in_ok-first.ensures.harmless tells);
-      touches = touches_then [] 0 (blocks_for (length text) - left) 0 1 0 _ old now then (omega arith) (omega arith) c.loop-left.invariant.touches c.write_block.ensures.touches;
+      touches = touches_then [] 0 (blocks_for (length text) - left) 0 1 0 _ old now then (omega arith) (omega arith) c.loop-left.invariant.touches
+          c.write_block.ensures.touches;
       onward = g.met.S.Reads.further_onward _ _ _ c.loop-left.invariant.onward c.in_ok-first.ensures.onward;
       later = omega (arith, c.loop-left.invariant.later, c.in_ok-first.ensures.cause.later);
     }
@@ -80,7 +83,8 @@ returns-in_err-first-clause-touches g c =
     let count = blocks_for (length c.args.text.now) in
     let few = c.loop-left.invariant.few in
     let some = c.loop-left-test.true in
-    touches_then [] 0 (count - c.loop-left.left) 0 1 0 count _ (g.S.Reads.state c.loop-left.space) _ (omega arith) (omega arith) c.loop-left.invariant.touches c.write_block.ensures.touches
+    touches_then [] 0 (count - c.loop-left.left) 0 1 0 count _ (g.S.Reads.state c.loop-left.space) _ (omega arith) (omega arith) c.loop-left.invariant.touches
+    c.write_block.ensures.touches
 
 pub returns-clause-touches : goal.returns-clause-touches
 returns-clause-touches g c = touches_more [] 0 _ 0 _ _ _ (omega arith) (omega arith) c.loop-left.invariant.touches

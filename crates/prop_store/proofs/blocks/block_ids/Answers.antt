@@ -20,7 +20,8 @@ loop-left-init g c = record {
   told = λ tells text blocks has. all_left _ _ _ text blocks _ has (ap (λ (z : List ℕ). z ++ blocks) c.new-ids.ensures);
   sound = λ tells text blocks has given. all_left _ _ _ text blocks _ has given;
   reached = λ tells text. text_begins (g.R.Reads.state c.args.space.now).records c.args.property _ c.args.first c.args.size text refl;
-  passed = λ tells. subst (λ (z : List ℕ). ArePassed (g.R.Reads.state c.args.space.now).records c.args.first c.args.size z c.args.first c.args.size) (sym c.new-ids.ensures) (refl, refl);
+  passed = λ tells. subst (λ (z : List ℕ). ArePassed (g.R.Reads.state c.args.space.now).records c.args.first c.args.size z c.args.first c.args.size)
+      (sym c.new-ids.ensures) (refl, refl);
   few = let none : length c.new-ids.result ≡ 0 = ap (λ (z : List ℕ). length z) c.new-ids.ensures in omega arith;
   reads = reads_none _ _;
   onward = search rules;
@@ -32,8 +33,10 @@ returns-in_err-read_block-clause-sound g c tells text blocks has given =
     let p = err_from_is_err_and c.from_residual.result c.from_residual.ensures.1 in
     let old = g.R.Reads.state c.args.space.now in
     let now = g.R.Reads.state c.loop-left.space in
-    let here = block_here (rec_at old.records strings_file) c.loop-left.at c.loop-left.left _ (search rules) (c.loop-left.invariant.sound tells text blocks has given) in
-    let right = right_here old.records now.records c.loop-left.at c.loop-left.left c.piece_size-piece.result (reads_records _ old now c.loop-left.invariant.reads) c.piece_size-piece.ensures here in
+    let here = block_here (rec_at old.records strings_file) c.loop-left.at c.loop-left.left _ (search rules)
+    (c.loop-left.invariant.sound tells text blocks has given) in
+    let right = right_here old.records now.records c.loop-left.at c.loop-left.left c.piece_size-piece.result
+    (reads_records _ old now c.loop-left.invariant.reads) c.piece_size-piece.ensures here in
     rw (p.1, p.2) (c.in_err-read_block.ensures.sound tells right.0 right.1)
 
 pub returns-in_err-read_block-clause-at_most : goal.returns-in_err-read_block-clause-at_most
@@ -49,23 +52,31 @@ loop-left-preserved g c =
     let more : length c.push.new.self ≡ length ids + 1 = ap (λ (z : List ℕ). length z) c.push.ensures ∙ length_push ids c.loop-left.at in
     record {
       told = λ tells text blocks has.
-          let here = block_here (rec_at old.records strings_file) c.loop-left.at c.loop-left.left _ (search rules) (c.loop-left.invariant.told tells text blocks has) in
+          let here = block_here (rec_at old.records strings_file) c.loop-left.at c.loop-left.left _ (search rules)
+          (c.loop-left.invariant.told tells text blocks has) in
           let got = c.in_ok-read_block.ensures.got tells ∙ ap (λ r. rec_at r strings_file c.loop-left.at) same in
-          text_after (rec_at old.records strings_file) c.loop-left.at c.loop-left.left _ _ here c.read_block.new.rec c.piece_size-piece.result c.number-at.result got c.piece_size-piece.ensures c.number-at.ensures
+          text_after (rec_at old.records strings_file) c.loop-left.at c.loop-left.left _ _ here c.read_block.new.rec c.piece_size-piece.result
+          c.number-at.result got c.piece_size-piece.ensures c.number-at.ensures
           (append_one ids c.loop-left.at here.later c.push.new.self blocks c.push.ensures here.kept);
       sound = λ tells text blocks has given.
-          let here = block_here (rec_at old.records strings_file) c.loop-left.at c.loop-left.left _ (search rules) (c.loop-left.invariant.sound tells text blocks has given) in
+          let here = block_here (rec_at old.records strings_file) c.loop-left.at c.loop-left.left _ (search rules)
+          (c.loop-left.invariant.sound tells text blocks has given) in
           let got = c.in_ok-read_block.ensures.got tells ∙ ap (λ r. rec_at r strings_file c.loop-left.at) same in
-          text_after (rec_at old.records strings_file) c.loop-left.at c.loop-left.left _ _ here c.read_block.new.rec c.piece_size-piece.result c.number-at.result got c.piece_size-piece.ensures c.number-at.ensures
+          text_after (rec_at old.records strings_file) c.loop-left.at c.loop-left.left _ _ here c.read_block.new.rec c.piece_size-piece.result
+          c.number-at.result got c.piece_size-piece.ensures c.number-at.ensures
           (λ x i. here.kept x (inr i));
       reached = λ tells text.
           let got = c.in_ok-read_block.ensures.got tells ∙ ap (λ r. rec_at r strings_file c.loop-left.at) same in
-          text_goes_on old.records c.args.property c.loop-left.from _ c.loop-left.at c.loop-left.left c.piece_size-piece.result c.number-at.result (c.loop-left.invariant.reached tells text) (omega (arith, c.loop-left-test.true)) c.piece_size-piece.ensures
-          (subst (λ (r : Records). IsBlockOf r c.loop-left.at c.piece_size-piece.result) same (c.in_ok-read_block.ensures.block tells)) (c.number-at.ensures ∙ ap (λ r. field 4 r block_next) got) refl;
+          text_goes_on old.records c.args.property c.loop-left.from _ c.loop-left.at c.loop-left.left c.piece_size-piece.result c.number-at.result
+          (c.loop-left.invariant.reached tells text) (omega (arith, c.loop-left-test.true)) c.piece_size-piece.ensures
+          (subst (λ (r : Records). IsBlockOf r c.loop-left.at c.piece_size-piece.result) same (c.in_ok-read_block.ensures.block tells))
+          (c.number-at.ensures ∙ ap (λ r. field 4 r block_next) got) refl;
       passed = λ tells.
           let got = c.in_ok-read_block.ensures.got tells ∙ ap (λ r. rec_at r strings_file c.loop-left.at) same in
-          passed_piece old.records c.args.first c.args.size ids c.push.new.self c.loop-left.at c.loop-left.left c.piece_size-piece.result c.number-at.result (c.loop-left.invariant.passed tells) (omega (arith, c.loop-left-test.true)) c.piece_size-piece.ensures
-          (subst (λ (r : Records). IsBlockOf r c.loop-left.at c.piece_size-piece.result) same (c.in_ok-read_block.ensures.block tells)) (c.number-at.ensures ∙ ap (λ r. field 4 r block_next) got) c.push.ensures;
+          passed_piece old.records c.args.first c.args.size ids c.push.new.self c.loop-left.at c.loop-left.left c.piece_size-piece.result c.number-at.result
+          (c.loop-left.invariant.passed tells) (omega (arith, c.loop-left-test.true)) c.piece_size-piece.ensures
+          (subst (λ (r : Records). IsBlockOf r c.loop-left.at c.piece_size-piece.result) same (c.in_ok-read_block.ensures.block tells))
+          (c.number-at.ensures ∙ ap (λ r. field 4 r block_next) got) c.push.ensures;
       few = omega (arith, c.loop-left.invariant.few, c.piece_size-piece.ensures, more);
       reads = reads_then _ 1 _ _ _ _ (omega (arith, more)) c.loop-left.invariant.reads (reads_one 1 _ _ (omega arith) c.in_ok-read_block.ensures.state);
       onward = g.met.R.Reads.further_onward _ _ _ c.loop-left.invariant.onward c.in_ok-read_block.ensures.onward;
@@ -113,7 +124,8 @@ returns-in_err-read_block-clause-once g c _ = never_ok c.from_residual.result _ 
 
 pub returns-clause-has : goal.returns-clause-has
 returns-clause-has g c tells text =
-    passed_blocks (g.R.Reads.state c.args.space.now).records c.args.property c.args.first c.args.size c.loop-left.ids c.loop-left.at c.loop-left.left text (c.loop-left.invariant.passed tells) c.if-at.false (omega (arith, c.loop-left-test.false))
+    passed_blocks (g.R.Reads.state c.args.space.now).records c.args.property c.args.first c.args.size c.loop-left.ids c.loop-left.at c.loop-left.left text
+    (c.loop-left.invariant.passed tells) c.if-at.false (omega (arith, c.loop-left-test.false))
 
 pub returns-in_err-read_block-clause-has : goal.returns-in_err-read_block-clause-has
 returns-in_err-read_block-clause-has g c _ _ = never_ok c.from_residual.result _ _ c.from_residual.ensures.1

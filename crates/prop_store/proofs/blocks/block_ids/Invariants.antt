@@ -14,8 +14,10 @@ invariant-loop-left g l =
     let old = g.R.Reads.state l.fn.space in
     let string_file = rec_at old.records strings_file in
     record {
-      told : g.R.Reads.tells → (text blocks : List ℕ) → HasText string_file l.fn.first l.fn.size text blocks → TextLeft string_file l.at l.left (λ rest later. l.ids ++ later ≡ blocks);
-      sound : g.R.Reads.tells → (text blocks : List ℕ) → HasText string_file l.fn.first l.fn.size text blocks → AreGivenOut old.records strings_file blocks → TextLeft string_file l.at l.left (λ rest later. AreGivenOut old.records strings_file later);
+      told : g.R.Reads.tells → (text blocks : List ℕ) → HasText string_file l.fn.first l.fn.size text blocks
+          → TextLeft string_file l.at l.left (λ rest later. l.ids ++ later ≡ blocks);
+      sound : g.R.Reads.tells → (text blocks : List ℕ) → HasText string_file l.fn.first l.fn.size text blocks → AreGivenOut old.records strings_file blocks
+          → TextLeft string_file l.at l.left (λ rest later. AreGivenOut old.records strings_file later);
       reached : g.R.Reads.tells → IsTextOf old.records l.fn.property l.fn.first l.fn.size → TextReached old.records l.fn.property l.from l.at l.left;
       passed : g.R.Reads.tells → ArePassed old.records l.fn.first l.fn.size l.ids l.at l.left;
       few : length l.ids + (l.left + 47) / 48 ≤ 22;

@@ -39,13 +39,15 @@ returns-clause-at_most g c = reads_one 1 _ _ (omega arith) c.in_ok-get_into.ensu
 
 -- ---- which record is blamed
 
-block_link : (s : State) (p : ℕ) (from : Key) (id size : ℕ) (fault : Fault) → id ≢ 4294967295 → IsLinkFault s from strings_file id fault → IsBlockFault s p from id size fault
+block_link : (s : State) (p : ℕ) (from : Key) (id size : ℕ) (fault : Fault) → id ≢ 4294967295 → IsLinkFault s from strings_file id fault
+    → IsBlockFault s p from id size fault
 block_link s p from id size Memory some why = tt
 block_link s p from id size Disk some why = tt
 block_link s p from id size (Damaged d) some why = BadLink d some why
 
 -- the kind is the one that was read
-kind_read : (s : State) (id : ℕ) (rec : Rec) → id < high s.records strings_file → rec ≡ rec_at s.records strings_file id → kind_at s.records strings_file id ≡ field 1 rec kind
+kind_read : (s : State) (id : ℕ) (rec : Rec) → id < high s.records strings_file → rec ≡ rec_at s.records strings_file id
+    → kind_at s.records strings_file id ≡ field 1 rec kind
 kind_read s id rec lt is = kind_low (high s.records strings_file) (rec_at s.records strings_file id) id lt ∙ ap (λ r. field 1 r kind) (sym is)
 
 -- a test that failed says that it does not hold
@@ -67,7 +69,8 @@ returns-in_err-test_link-clause-damaged g c tells =
 
 pub returns-in_err-test_link-clause-cause : goal.returns-in_err-test_link-clause-cause
 returns-in_err-test_link-clause-cause g c =
-    link_cause (g.R.Reads.state c.args.space.now) c.args.from strings_file c.args.id (g.R.Reads.faults c.args.space.now) c.from_residual.result c.in_err-test_link.field-0.0 c.from_residual.ensures.1 c.in_err-test_link.ensures.damaged
+    link_cause (g.R.Reads.state c.args.space.now) c.args.from strings_file c.args.id (g.R.Reads.faults c.args.space.now) c.from_residual.result
+    c.in_err-test_link.field-0.0 c.from_residual.ensures.1 c.in_err-test_link.ensures.damaged
 
 pub returns-then-not-is_known-clause-damaged : goal.returns-then-not-is_known-clause-damaged
 returns-then-not-is_known-clause-damaged g c tells =
@@ -81,10 +84,12 @@ returns-then-not-has_form-clause-damaged g c tells =
     let s = g.R.Reads.state c.args.space.now in
     let got = c.in_ok-get_into.ensures.got tells in
     let kind_is = kind_read s c.args.id c.get_into.new.rec c.in_ok-test_link.ensures.given.low got in
-    let known : IsBlockKind (field 1 c.get_into.new.rec kind) = subst IsBlockKind c.byte.ensures (holds c.is_known.result _ c.is_known.ensures c.if-not-is_known.false) in
+    let known : IsBlockKind (field 1 c.get_into.new.rec kind) = subst IsBlockKind c.byte.ensures
+    (holds c.is_known.result _ c.is_known.ensures c.if-not-is_known.false) in
     subst (IsBlockFault s c.args.property c.args.from c.args.id c.args.size) (sym c.damaged-then-not-has_form.ensures)
     (NotSuch (λ k. fails c.has_form.result _ c.has_form.ensures c.if-not-has_form.true (record {
-      kind = ⊎_elim (λ (e : field 1 c.get_into.new.rec kind ≡ free_kind). absurd (k.used (kind_is ∙ e))) (λ (e : field 1 c.get_into.new.rec kind ≡ block). e) known;
+      kind = ⊎_elim (λ (e : field 1 c.get_into.new.rec kind ≡ free_kind). absurd (k.used (kind_is ∙ e))) (λ (e : field 1 c.get_into.new.rec kind ≡ block). e)
+          known;
       length_is = ap (λ r. field 1 r block_length) got ∙ k.size_is;
     })))
 

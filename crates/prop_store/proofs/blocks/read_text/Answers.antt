@@ -20,7 +20,8 @@ use Rattle.prop_store.proofs.blocks.read_text.Goals as goal
 
 pub loop-left-init : goal.loop-left-init
 loop-left-init g c = record {
-  met = λ tells. ap (λ (z : List ℕ). z ++ long_text_from (rec_at (g.R.Reads.state c.args.space.now).records strings_file) c.args.size c.args.first) c.new-bytes.ensures.items;
+  met = λ tells. ap (λ (z : List ℕ). z ++ long_text_from (rec_at (g.R.Reads.state c.args.space.now).records strings_file) c.args.size c.args.first)
+      c.new-bytes.ensures.items;
   sound = λ tells text blocks has given. all_left _ _ _ text blocks _ has given;
   reached = λ tells text. text_begins (g.R.Reads.state c.args.space.now).records c.args.property _ c.args.first c.args.size text refl;
   size = let none : length c.new-bytes.result.items ≡ 0 = ap (λ (z : List ℕ). length z) c.new-bytes.ensures.items in omega arith;
@@ -40,20 +41,28 @@ loop-left-preserved g c =
     let pushed = c.in_ok-extend_from_slice.ensures.items in
     let fits : block_text + c.piece_size-piece.result ≤ 64 = omega (arith, piece) in
     let more : length c.extend_from_slice.new.self.items ≡ length so_far + c.piece_size-piece.result
-    = ap (λ (z : List ℕ). length z) (pushed ∙ ap (λ z. so_far ++ z) c.text.ensures) ∙ length-append so_far (text_in c.read_block.new.rec block_text c.piece_size-piece.result) ∙ ap (λ n. length so_far + n) (length-text_in c.read_block.new.rec block_text c.piece_size-piece.result fits) in
+    = ap (λ (z : List ℕ). length z) (pushed ∙ ap (λ z. so_far ++ z) c.text.ensures)
+    ∙ length-append so_far (text_in c.read_block.new.rec block_text c.piece_size-piece.result)
+    ∙ ap (λ n. length so_far + n) (length-text_in c.read_block.new.rec block_text c.piece_size-piece.result fits) in
     record {
       met = λ tells.
-          piece_read (rec_at old.records strings_file) so_far c.extend_from_slice.new.self.items _ c.text.result.now c.loop-left.at left c.piece_size-piece.result c.number-at.result c.read_block.new.rec (search rules) c.in_ok-read_block.ensures.small
-          (c.in_ok-read_block.ensures.got tells ∙ ap (λ r. rec_at r strings_file c.loop-left.at) same) c.in_ok-read_block.ensures.form piece c.text.ensures pushed c.number-at.ensures (c.loop-left.invariant.met tells);
+          piece_read (rec_at old.records strings_file) so_far c.extend_from_slice.new.self.items _ c.text.result.now c.loop-left.at left
+          c.piece_size-piece.result c.number-at.result c.read_block.new.rec (search rules) c.in_ok-read_block.ensures.small
+          (c.in_ok-read_block.ensures.got tells ∙ ap (λ r. rec_at r strings_file c.loop-left.at) same) c.in_ok-read_block.ensures.form piece c.text.ensures
+          pushed c.number-at.ensures (c.loop-left.invariant.met tells);
       sound = λ tells text blocks has given.
-          let here = block_here (rec_at old.records strings_file) c.loop-left.at left _ (search rules) (c.loop-left.invariant.sound tells text blocks has given) in
+          let here = block_here (rec_at old.records strings_file) c.loop-left.at left _ (search rules)
+          (c.loop-left.invariant.sound tells text blocks has given) in
           let got = c.in_ok-read_block.ensures.got tells ∙ ap (λ r. rec_at r strings_file c.loop-left.at) same in
-          text_after (rec_at old.records strings_file) c.loop-left.at left _ _ here c.read_block.new.rec c.piece_size-piece.result c.number-at.result got piece c.number-at.ensures
+          text_after (rec_at old.records strings_file) c.loop-left.at left _ _ here c.read_block.new.rec c.piece_size-piece.result c.number-at.result got piece
+          c.number-at.ensures
           (λ x i. here.kept x (inr i));
       reached = λ tells text.
           let got = c.in_ok-read_block.ensures.got tells ∙ ap (λ r. rec_at r strings_file c.loop-left.at) same in
-          text_goes_on old.records c.args.property c.loop-left.from _ c.loop-left.at c.loop-left.left c.piece_size-piece.result c.number-at.result (c.loop-left.invariant.reached tells text) (omega (arith, c.loop-left-test.true)) c.piece_size-piece.ensures
-          (subst (λ (r : Records). IsBlockOf r c.loop-left.at c.piece_size-piece.result) same (c.in_ok-read_block.ensures.block tells)) (c.number-at.ensures ∙ ap (λ r. field 4 r block_next) got) refl;
+          text_goes_on old.records c.args.property c.loop-left.from _ c.loop-left.at c.loop-left.left c.piece_size-piece.result c.number-at.result
+          (c.loop-left.invariant.reached tells text) (omega (arith, c.loop-left-test.true)) c.piece_size-piece.ensures
+          (subst (λ (r : Records). IsBlockOf r c.loop-left.at c.piece_size-piece.result) same (c.in_ok-read_block.ensures.block tells))
+          (c.number-at.ensures ∙ ap (λ r. field 4 r block_next) got) refl;
       size = omega (arith, more, c.loop-left.invariant.size, piece);
       reads = reads_then _ 1 _ _ _ _ (omega (arith, piece)) c.loop-left.invariant.reads (reads_one 1 _ _ (omega arith) c.in_ok-read_block.ensures.state);
       onward = g.met.R.Reads.further_onward _ _ _ c.loop-left.invariant.onward c.in_ok-read_block.ensures.onward;
@@ -65,8 +74,10 @@ returns-in_err-read_block-clause-sound g c tells text blocks has given =
     let p = err_from_is_err_and c.from_residual.result c.from_residual.ensures.1 in
     let old = g.R.Reads.state c.args.space.now in
     let now = g.R.Reads.state c.loop-left.space in
-    let here = block_here (rec_at old.records strings_file) c.loop-left.at c.loop-left.left _ (search rules) (c.loop-left.invariant.sound tells text blocks has given) in
-    let right = right_here old.records now.records c.loop-left.at c.loop-left.left c.piece_size-piece.result (reads_records _ old now c.loop-left.invariant.reads) c.piece_size-piece.ensures here in
+    let here = block_here (rec_at old.records strings_file) c.loop-left.at c.loop-left.left _ (search rules)
+    (c.loop-left.invariant.sound tells text blocks has given) in
+    let right = right_here old.records now.records c.loop-left.at c.loop-left.left c.piece_size-piece.result
+    (reads_records _ old now c.loop-left.invariant.reads) c.piece_size-piece.ensures here in
     rw (p.1, p.2) (c.in_err-read_block.ensures.sound tells right.0 right.1)
 
 pub returns-in_err-read_block-clause-at_most : goal.returns-in_err-read_block-clause-at_most
@@ -74,14 +85,16 @@ returns-in_err-read_block-clause-at_most g c =
     reads_then _ 1 _ _ _ _ (omega (arith, c.loop-left.invariant.size)) c.loop-left.invariant.reads c.in_err-read_block.ensures.at_most
 
 pub returns-in_err-extend_from_slice-clause-at_most : goal.returns-in_err-extend_from_slice-clause-at_most
-returns-in_err-extend_from_slice-clause-at_most g c = reads_then _ 1 _ _ _ _ (omega (arith, c.loop-left.invariant.size)) c.loop-left.invariant.reads (reads_one 1 _ _ (omega arith) c.in_ok-read_block.ensures.state)
+returns-in_err-extend_from_slice-clause-at_most g c = reads_then _ 1 _ _ _ _ (omega (arith, c.loop-left.invariant.size)) c.loop-left.invariant.reads
+    (reads_one 1 _ _ (omega arith) c.in_ok-read_block.ensures.state)
 
 pub returns-then-at-clause-sound : goal.returns-then-at-clause-sound
 returns-then-at-clause-sound g c tells text blocks has given =
     absurd (c.if-at.true (text_over _ _ _ _ (omega (arith, c.loop-left-test.false)) (c.loop-left.invariant.sound tells text blocks has given)).none)
 
 pub returns-clause-met : goal.returns-clause-met
-returns-clause-met g c tells = text_read (rec_at (g.R.Reads.state c.args.space.now).records strings_file) c.loop-left.bytes.items _ c.loop-left.at c.loop-left.left (omega (arith, c.loop-left-test.false)) (c.loop-left.invariant.met tells)
+returns-clause-met g c tells = text_read (rec_at (g.R.Reads.state c.args.space.now).records strings_file) c.loop-left.bytes.items _ c.loop-left.at
+    c.loop-left.left (omega (arith, c.loop-left-test.false)) (c.loop-left.invariant.met tells)
 
 pub returns-in_err-read_block-clause-damaged : goal.returns-in_err-read_block-clause-damaged
 returns-in_err-read_block-clause-damaged g c tells text =

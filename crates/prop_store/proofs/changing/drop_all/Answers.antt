@@ -22,7 +22,8 @@ use Rattle.prop_store.proofs.changing.drop_all.Goals.{In_ok-dropped, In_ok-first
 use Rattle.prop_store.proofs.changing.drop_all.Given.{Over}
 
 -- after the first read the properties of the element are there
-held : (g : Over) (c : In_ok-first g) → g.S.Reads.tells → (es : List Property) → OwnsProperties (g.S.Reads.state c.args.space.now) c.args.owner es → AreHeld (g.S.Reads.state c.first.new.space) c.in_ok-first.first es
+held : (g : Over) (c : In_ok-first g) → g.S.Reads.tells → (es : List Property) → OwnsProperties (g.S.Reads.state c.args.space.now) c.args.owner es
+    → AreHeld (g.S.Reads.state c.first.new.space) c.in_ok-first.first es
 held g c tells es owns =
     let s = g.S.Reads.state c.args.space.now in
     subst (λ (z : State). AreHeld z c.in_ok-first.first es) (sym c.first.ensures.state)
@@ -84,11 +85,13 @@ pub returns-in_err-first-clause-at_most : goal.returns-in_err-first-clause-at_mo
 returns-in_err-first-clause-at_most g c = touches_reads _ 32 704 _ _ (reads_same 1 _ _ (reads_one 1 _ _ (omega arith) c.first.ensures.state))
 
 pub returns-in_err-dropped-clause-at_most : goal.returns-in_err-dropped-clause-at_most
-returns-in_err-dropped-clause-at_most g c = touches_after _ 32 704 _ _ _ (reads_same 1 _ _ (reads_one 1 _ _ (omega arith) c.first.ensures.state)) (touches_beside _ 32 704 _ _ c.drop_chain.ensures.at_most)
+returns-in_err-dropped-clause-at_most g c = touches_after _ 32 704 _ _ _ (reads_same 1 _ _ (reads_one 1 _ _ (omega arith) c.first.ensures.state))
+    (touches_beside _ 32 704 _ _ c.drop_chain.ensures.at_most)
 
 pub returns-in_err-set_number-clause-at_most : goal.returns-in_err-set_number-clause-at_most
 returns-in_err-set_number-clause-at_most g c =
-    let dropped = touches_beside (c.args.owner.key ∷ []) 32 704 (g.S.Reads.state c.first.new.space) (g.S.Reads.state c.drop_chain.new.space) c.drop_chain.ensures.at_most in
+    let dropped = touches_beside (c.args.owner.key ∷ []) 32 704 (g.S.Reads.state c.first.new.space) (g.S.Reads.state c.drop_chain.new.space)
+    c.drop_chain.ensures.at_most in
     touches_after _ 32 704 _ _ _ (reads_same 1 _ _ (reads_one 1 _ _ (omega arith) c.first.ensures.state))
     (touches_then _ 32 704 0 0 32 704 _ _ _ (omega arith) (omega arith) dropped (touches_reads _ 0 0 _ _ (reads_same 1 _ _ (reads_one 1 _ _ (omega arith) c.in_err-set_number.ensures.err))))
 
@@ -96,7 +99,8 @@ pub returns-in_ok-set_number-clause-touches : goal.returns-in_ok-set_number-clau
 returns-in_ok-set_number-clause-touches g c =
     let n = c.in_ok-dropped.dropped.properties in
     let m = c.in_ok-dropped.dropped.blocks in
-    let dropped = touches_beside (c.args.owner.key ∷ []) n m (g.S.Reads.state c.first.new.space) (g.S.Reads.state c.drop_chain.new.space) c.in_ok-dropped.ensures.touches in
+    let dropped = touches_beside (c.args.owner.key ∷ []) n m (g.S.Reads.state c.first.new.space) (g.S.Reads.state c.drop_chain.new.space)
+    c.in_ok-dropped.ensures.touches in
     touches_after _ n m _ _ _ (reads_same 1 _ _ (reads_one 1 _ _ (omega arith) c.first.ensures.state))
     (touches_then _ n m 0 0 n m _ _ _ (omega arith) (omega arith) dropped (touches_owner _ _ c.args.owner.key 4 c.args.owner.field _ c.set_number.ensures.writes c.in_ok-set_number.ensures.ok))
 
@@ -104,22 +108,27 @@ pub returns-in_ok-set_number-clause-at_most : goal.returns-in_ok-set_number-clau
 returns-in_ok-set_number-clause-at_most g c =
     let few = c.in_ok-dropped.ensures.few_properties in
     let small = c.in_ok-dropped.ensures.few_blocks in
-    touches_more _ c.in_ok-dropped.dropped.properties c.in_ok-dropped.dropped.blocks 32 704 _ _ (omega arith) (omega arith) (returns-in_ok-set_number-clause-touches g c)
+    touches_more _ c.in_ok-dropped.dropped.properties c.in_ok-dropped.dropped.blocks 32 704 _ _ (omega arith) (omega arith)
+    (returns-in_ok-set_number-clause-touches g c)
 
 pub returns-in_ok-set_number-clause-writes : goal.returns-in_ok-set_number-clause-writes
-returns-in_ok-set_number-clause-writes g c = touched_beside c.in_ok-dropped.dropped.properties c.in_ok-dropped.dropped.blocks _ _ _ c.args.owner.key (omega arith) (returns-in_ok-set_number-clause-touches g c)
+returns-in_ok-set_number-clause-writes g c = touched_beside c.in_ok-dropped.dropped.properties c.in_ok-dropped.dropped.blocks _ _ _ c.args.owner.key
+    (omega arith) (returns-in_ok-set_number-clause-touches g c)
 
 pub returns-else-first-clause-touches : goal.returns-else-first-clause-touches
 returns-else-first-clause-touches g c =
     let n = c.in_ok-dropped.dropped.properties in
     let m = c.in_ok-dropped.dropped.blocks in
-    touches_after _ n m _ _ _ (reads_same 1 _ _ (reads_one 1 _ _ (omega arith) c.first.ensures.state)) (touches_beside _ n m _ _ c.in_ok-dropped.ensures.touches)
+    touches_after _ n m _ _ _ (reads_same 1 _ _ (reads_one 1 _ _ (omega arith) c.first.ensures.state))
+    (touches_beside _ n m _ _ c.in_ok-dropped.ensures.touches)
 
 pub returns-else-first-clause-at_most : goal.returns-else-first-clause-at_most
-returns-else-first-clause-at_most g c = touches_after _ 32 704 _ _ _ (reads_same 1 _ _ (reads_one 1 _ _ (omega arith) c.first.ensures.state)) (touches_beside _ 32 704 _ _ c.drop_chain.ensures.at_most)
+returns-else-first-clause-at_most g c = touches_after _ 32 704 _ _ _ (reads_same 1 _ _ (reads_one 1 _ _ (omega arith) c.first.ensures.state))
+    (touches_beside _ 32 704 _ _ c.drop_chain.ensures.at_most)
 
 pub returns-else-first-clause-writes : goal.returns-else-first-clause-writes
-returns-else-first-clause-writes g c = touched_beside c.in_ok-dropped.dropped.properties c.in_ok-dropped.dropped.blocks _ _ _ c.args.owner.key (omega arith) (returns-else-first-clause-touches g c)
+returns-else-first-clause-writes g c = touched_beside c.in_ok-dropped.dropped.properties c.in_ok-dropped.dropped.blocks _ _ _ c.args.owner.key (omega arith)
+    (returns-else-first-clause-touches g c)
 
 -- ---- which record is blamed
 
@@ -133,37 +142,43 @@ returns-in_err-dropped-clause-damaged g c tells used =
     let s = g.S.Reads.state c.args.space.now in
     let fault = c.in_err-dropped.field-0.0 in
     let said : IsInUse s.records c.args.owner → BlamesBroken s.records s.shape fault
-    = subst (λ (y : State). IsInUse y.records c.args.owner → BlamesBroken y.records y.shape fault) c.first.ensures.state (c.in_err-dropped.ensures.damaged tells) in
+    = subst (λ (y : State). IsInUse y.records c.args.owner → BlamesBroken y.records y.shape fault) c.first.ensures.state
+    (c.in_err-dropped.ensures.damaged tells) in
     same_has (BlamesBroken s.records s.shape) c.from_residual-in_err-dropped.result fault c.from_residual-in_err-dropped.ensures.1 (said used)
 
 -- ---- where damage is told nothing is written
 
 pub returns-in_err-first-clause-unwritten : goal.returns-in_err-first-clause-unwritten
 returns-in_err-first-clause-unwritten g c =
-    space_has (λ fault. IfSome (damage_of fault) (λ _. SameButReads (g.S.Reads.state c.args.space.now) (g.S.Reads.state c.first.new.space))) tt tt c.from_residual.result c.in_err-first.field-0.0 c.from_residual.ensures.1
+    space_has (λ fault. IfSome (damage_of fault) (λ _. SameButReads (g.S.Reads.state c.args.space.now) (g.S.Reads.state c.first.new.space))) tt tt
+    c.from_residual.result c.in_err-first.field-0.0 c.from_residual.ensures.1
 
 pub returns-in_err-dropped-clause-unwritten : goal.returns-in_err-dropped-clause-unwritten
 returns-in_err-dropped-clause-unwritten g c =
     let s = g.S.Reads.state c.args.space.now in
     let m = g.S.Reads.state c.first.new.space in
     let t = g.S.Reads.state c.drop_chain.new.space in
-    same_has (λ fault. IfSome (damage_of fault) (λ _. SameButReads s t)) c.from_residual-in_err-dropped.result c.in_err-dropped.field-0.0 c.from_residual-in_err-dropped.ensures.1
+    same_has (λ fault. IfSome (damage_of fault) (λ _. SameButReads s t)) c.from_residual-in_err-dropped.result c.in_err-dropped.field-0.0
+    c.from_residual-in_err-dropped.ensures.1
     (unwritten_after s m t c.in_err-dropped.field-0.0 (reads_same 1 s m (reads_one 1 s m (omega arith) c.first.ensures.state)) c.in_err-dropped.ensures.unwritten)
 
 pub returns-in_err-set_number-clause-unwritten : goal.returns-in_err-set_number-clause-unwritten
 returns-in_err-set_number-clause-unwritten g c =
-    space_has (λ fault. IfSome (damage_of fault) (λ _. SameButReads (g.S.Reads.state c.args.space.now) (g.S.Reads.state c.set_number.new.space))) tt tt c.from_residual-in_err-set_number.result c.in_err-set_number.field-0.0
+    space_has (λ fault. IfSome (damage_of fault) (λ _. SameButReads (g.S.Reads.state c.args.space.now) (g.S.Reads.state c.set_number.new.space))) tt tt
+    c.from_residual-in_err-set_number.result c.in_err-set_number.field-0.0
     c.from_residual-in_err-set_number.ensures.1
 
 pub returns-in_err-dropped-clause-cause : goal.returns-in_err-dropped-clause-cause
 returns-in_err-dropped-clause-cause g c =
-    cause_passed _ _ _ c.from_residual-in_err-dropped.result c.in_err-dropped.field-0.0 c.in_ok-first.ensures.cause.later c.in_err-dropped.ensures.cause c.from_residual-in_err-dropped.ensures.1
+    cause_passed _ _ _ c.from_residual-in_err-dropped.result c.in_err-dropped.field-0.0 c.in_ok-first.ensures.cause.later c.in_err-dropped.ensures.cause
+    c.from_residual-in_err-dropped.ensures.1
 
 pub returns-in_err-set_number-clause-cause : goal.returns-in_err-set_number-clause-cause
 returns-in_err-set_number-clause-cause g c =
     let later0 = c.in_ok-first.ensures.cause.later in
     let later1 = c.in_ok-dropped.ensures.cause.later in
-    space_cause_passed _ _ _ c.from_residual-in_err-set_number.result c.in_err-set_number.field-0.0 (omega (arith, later0, later1)) c.in_err-set_number.ensures.cause c.from_residual-in_err-set_number.ensures.1
+    space_cause_passed _ _ _ c.from_residual-in_err-set_number.result c.in_err-set_number.field-0.0 (omega (arith, later0, later1))
+    c.in_err-set_number.ensures.cause c.from_residual-in_err-set_number.ensures.1
 
 -- ---- what is left of all other records
 
@@ -171,18 +186,22 @@ pub returns-in_err-first-clause-leaves : goal.returns-in_err-first-clause-leaves
 returns-in_err-first-clause-leaves g c tells = left_read _ _ c.args.owner (reads_same 1 _ _ (reads_one 1 _ _ (omega arith) c.first.ensures.state))
 
 pub returns-in_err-dropped-clause-leaves : goal.returns-in_err-dropped-clause-leaves
-returns-in_err-dropped-clause-leaves g c tells = left_after g.S.Reads.tells 32 704 _ _ _ c.args.owner c.requires.owner tells (reads_same 1 _ _ (reads_one 1 _ _ (omega arith) c.first.ensures.state)) c.drop_chain.ensures.at_most
+returns-in_err-dropped-clause-leaves g c tells = left_after g.S.Reads.tells 32 704 _ _ _ c.args.owner c.requires.owner tells
+    (reads_same 1 _ _ (reads_one 1 _ _ (omega arith) c.first.ensures.state)) c.drop_chain.ensures.at_most
 
 pub returns-in_err-set_number-clause-leaves : goal.returns-in_err-set_number-clause-leaves
-returns-in_err-set_number-clause-leaves g c tells = left_then _ _ _ c.args.owner (left_after g.S.Reads.tells 32 704 _ _ _ c.args.owner c.requires.owner tells (reads_same 1 _ _ (reads_one 1 _ _ (omega arith) c.first.ensures.state)) c.drop_chain.ensures.at_most)
+returns-in_err-set_number-clause-leaves g c tells = left_then _ _ _ c.args.owner
+    (left_after g.S.Reads.tells 32 704 _ _ _ c.args.owner c.requires.owner tells (reads_same 1 _ _ (reads_one 1 _ _ (omega arith) c.first.ensures.state)) c.drop_chain.ensures.at_most)
     (left_read _ _ c.args.owner (reads_same 1 _ _ (reads_one 1 _ _ (omega arith) c.in_err-set_number.ensures.err)))
 
 pub returns-in_ok-set_number-clause-leaves : goal.returns-in_ok-set_number-clause-leaves
-returns-in_ok-set_number-clause-leaves g c tells = left_then _ _ _ c.args.owner (left_after g.S.Reads.tells 32 704 _ _ _ c.args.owner c.requires.owner tells (reads_same 1 _ _ (reads_one 1 _ _ (omega arith) c.first.ensures.state)) c.drop_chain.ensures.at_most)
+returns-in_ok-set_number-clause-leaves g c tells = left_then _ _ _ c.args.owner
+    (left_after g.S.Reads.tells 32 704 _ _ _ c.args.owner c.requires.owner tells (reads_same 1 _ _ (reads_one 1 _ _ (omega arith) c.first.ensures.state)) c.drop_chain.ensures.at_most)
     (left_set _ _ c.args.owner _ (c.in_ok-set_number.ensures.ok tells))
 
 pub returns-else-first-clause-leaves : goal.returns-else-first-clause-leaves
-returns-else-first-clause-leaves g c tells = left_after g.S.Reads.tells 32 704 _ _ _ c.args.owner c.requires.owner tells (reads_same 1 _ _ (reads_one 1 _ _ (omega arith) c.first.ensures.state)) c.drop_chain.ensures.at_most
+returns-else-first-clause-leaves g c tells = left_after g.S.Reads.tells 32 704 _ _ _ c.args.owner c.requires.owner tells
+    (reads_same 1 _ _ (reads_one 1 _ _ (omega arith) c.first.ensures.state)) c.drop_chain.ensures.at_most
 
 pub returns-in_err-dropped-clause-onward : goal.returns-in_err-dropped-clause-onward
 returns-in_err-dropped-clause-onward g c =

@@ -53,7 +53,8 @@ returns-in_err-find-clause-sound g c tells has =
 
 pub returns-in-Absent-clause-alone : goal.returns-in-Absent-clause-alone
 returns-in-Absent-clause-alone g c tells es owns =
-    let f = subst (IsSought (g.S.Reads.state c.args.space.now).records c.args.owner es c.args.key c.find.new.row) c.in-Absent.is (c.in_ok-find.ensures.found tells es owns.held.are) in
+    let f = subst (IsSought (g.S.Reads.state c.args.space.now).records c.args.owner es c.args.key c.find.new.row) c.in-Absent.is
+    (c.in_ok-find.ensures.found tells es owns.held.are) in
     (f.1, reads_same 33 _ _ c.find.ensures.at_most)
 
 pub returns-in-Absent-clause-unset : goal.returns-in-Absent-clause-unset
@@ -82,9 +83,11 @@ returns-in_ok-set_number-in-Found-clause-alone g c tells es owns =
     let t = g.S.Reads.state c.set_number.new.space in
     let at = (goal.at.returns-in_ok-set_number-in-Found-clause-alone g c).In-Found in
     let f = found g at tells es owns in
-    let drops = drops_same s (g.S.Reads.state c.find.new.space) m f.property c.in_ok-released-in-Found.released (reads_same 33 _ _ c.find.ensures.at_most) (c.in_ok-released-in-Found.ensures.dropped tells f.property (held g at tells es owns)) in
+    let drops = drops_same s (g.S.Reads.state c.find.new.space) m f.property c.in_ok-released-in-Found.released (reads_same 33 _ _ c.find.ensures.at_most)
+    (c.in_ok-released-in-Found.ensures.dropped tells f.property (held g at tells es owns)) in
     let next = c.number-next.ensures ∙ ap (λ r. field 4 r property_next) f.rec_is ∙ f.is.next_is in
-    value_removed s c.args.owner c.requires.owner es owns f.before f.property f.after f.all m t c.in_ok-released-in-Found.released c.number-next.result drops next
+    value_removed s c.args.owner c.requires.owner es owns f.before f.property f.after f.all m t c.in_ok-released-in-Found.released c.number-next.result drops
+    next
     (subst (λ n. n < 2 ^ 32) (sym c.number-next.ensures) (field-lt 4 c.find.new.row.rec property_next))
     c.in-Found.link c.args.key f.key_is f.link_is (c.in_ok-set_number-in-Found.ensures.ok tells)
 
@@ -122,14 +125,16 @@ returns-in_err-released-in-Found-clause-at_most g c =
 
 pub returns-in_err-set_number-in-Found-clause-at_most : goal.returns-in_err-set_number-in-Found-clause-at_most
 returns-in_err-set_number-in-Found-clause-at_most g c =
-    let dropped = touches_beside (c.args.owner.key ∷ []) 1 22 (g.S.Reads.state c.find.new.space) (g.S.Reads.state c.drop_property.new.space) c.drop_property.ensures.at_most in
+    let dropped = touches_beside (c.args.owner.key ∷ []) 1 22 (g.S.Reads.state c.find.new.space) (g.S.Reads.state c.drop_property.new.space)
+    c.drop_property.ensures.at_most in
     touches_after _ 2 22 _ _ _ (reads_same 33 _ _ c.find.ensures.at_most)
     (touches_then _ 1 22 0 0 2 22 _ _ _ (omega arith) (omega arith) dropped (touches_reads _ 0 0 _ _ (reads_same 1 _ _ (reads_one 1 _ _ (omega arith) c.in_err-set_number-in-Found.ensures.err))))
 
 pub returns-in_ok-set_number-in-Found-clause-touches : goal.returns-in_ok-set_number-in-Found-clause-touches
 returns-in_ok-set_number-in-Found-clause-touches g c =
     let n = c.in_ok-released-in-Found.released in
-    let dropped = touches_beside (c.args.owner.key ∷ []) 1 n (g.S.Reads.state c.find.new.space) (g.S.Reads.state c.drop_property.new.space) c.in_ok-released-in-Found.ensures.touches in
+    let dropped = touches_beside (c.args.owner.key ∷ []) 1 n (g.S.Reads.state c.find.new.space) (g.S.Reads.state c.drop_property.new.space)
+    c.in_ok-released-in-Found.ensures.touches in
     let placed = subst (IsPlaced c.args.owner c.args.key c.find.new.row) c.in-Found.is c.in_ok-find.ensures.placed in
     touches_after _ 2 n _ _ _ (reads_same 33 _ _ c.find.ensures.at_most)
     (touches_then _ 1 n 1 0 2 n _ _ _ (omega arith) (omega arith) dropped
@@ -152,7 +157,8 @@ pub returns-in_err-released-in-Found-clause-few_writes : goal.returns-in_err-rel
 returns-in_err-released-in-Found-clause-few_writes g c =
     let r = g.S.Reads.state c.find.new.space in
     let m = g.S.Reads.state c.drop_property.new.space in
-    at_most_then 0 23 24 _ r m (omega arith) (reads_write 0 _ r (reads_same 33 _ _ c.find.ensures.at_most)) (touched_count 1 22 23 r m (omega arith) c.drop_property.ensures.at_most)
+    at_most_then 0 23 24 _ r m (omega arith) (reads_write 0 _ r (reads_same 33 _ _ c.find.ensures.at_most))
+    (touched_count 1 22 23 r m (omega arith) c.drop_property.ensures.at_most)
 
 pub returns-in_err-set_number-in-Found-clause-few_writes : goal.returns-in_err-set_number-in-Found-clause-few_writes
 returns-in_err-set_number-in-Found-clause-few_writes g c =
@@ -176,32 +182,38 @@ returns-in_ok-set_number-in-Found-clause-few_writes g c =
 pub returns-in_err-find-clause-damaged : goal.returns-in_err-find-clause-damaged
 returns-in_err-find-clause-damaged g c tells used =
     let s = g.S.Reads.state c.args.space.now in
-    same_has (BlamesBroken s.records s.shape) c.from_residual.result c.in_err-find.field-0.0 c.from_residual.ensures.1 (c.in_err-find.ensures.damaged tells used)
+    same_has (BlamesBroken s.records s.shape) c.from_residual.result c.in_err-find.field-0.0 c.from_residual.ensures.1
+    (c.in_err-find.ensures.damaged tells used)
 
 pub returns-in_err-released-in-Found-clause-damaged : goal.returns-in_err-released-in-Found-clause-damaged
 returns-in_err-released-in-Found-clause-damaged g c tells used =
     let s = g.S.Reads.state c.args.space.now in
     let r = g.S.Reads.state c.find.new.space in
     let reads = c.in_ok-find.ensures.at_most in
-    let read = subst (λ (z : Records). IsReadRow z c.find.new.row) (sym (reads_records 33 s r reads)) (subst (IsReadAt s.records c.find.new.row) c.in-Found.is (c.in_ok-find.ensures.read tells)) in
-    same_has (BlamesBroken s.records s.shape) c.from_residual-in_err-released-in-Found.result c.in_err-released-in-Found.field-0.0 c.from_residual-in_err-released-in-Found.ensures.1
+    let read = subst (λ (z : Records). IsReadRow z c.find.new.row) (sym (reads_records 33 s r reads))
+    (subst (IsReadAt s.records c.find.new.row) c.in-Found.is (c.in_ok-find.ensures.read tells)) in
+    same_has (BlamesBroken s.records s.shape) c.from_residual-in_err-released-in-Found.result c.in_err-released-in-Found.field-0.0
+    c.from_residual-in_err-released-in-Found.ensures.1
     (text_blames s c.find.new.row.id c.in_err-released-in-Found.field-0.0
     (text_fault_same s r (reads_records 33 s r reads) (ap (λ (z : State). z.shape) (reads_same 33 s r reads)) c.find.new.row.id c.in_err-released-in-Found.field-0.0 (c.in_err-released-in-Found.ensures.damaged tells read)))
 
 pub returns-in_err-set_number-in-Found-clause-damaged : goal.returns-in_err-set_number-in-Found-clause-damaged
 returns-in_err-set_number-in-Found-clause-damaged g c tells used =
     let s = g.S.Reads.state c.args.space.now in
-    space_has (BlamesBroken s.records s.shape) tt tt c.from_residual-in_err-set_number-in-Found.result c.in_err-set_number-in-Found.field-0.0 c.from_residual-in_err-set_number-in-Found.ensures.1
+    space_has (BlamesBroken s.records s.shape) tt tt c.from_residual-in_err-set_number-in-Found.result c.in_err-set_number-in-Found.field-0.0
+    c.from_residual-in_err-set_number-in-Found.ensures.1
 
 pub returns-in_err-released-in-Found-clause-cause : goal.returns-in_err-released-in-Found-clause-cause
 returns-in_err-released-in-Found-clause-cause g c =
-    cause_passed _ _ _ c.from_residual-in_err-released-in-Found.result c.in_err-released-in-Found.field-0.0 c.in_ok-find.ensures.cause.later c.in_err-released-in-Found.ensures.cause c.from_residual-in_err-released-in-Found.ensures.1
+    cause_passed _ _ _ c.from_residual-in_err-released-in-Found.result c.in_err-released-in-Found.field-0.0 c.in_ok-find.ensures.cause.later
+    c.in_err-released-in-Found.ensures.cause c.from_residual-in_err-released-in-Found.ensures.1
 
 pub returns-in_err-set_number-in-Found-clause-cause : goal.returns-in_err-set_number-in-Found-clause-cause
 returns-in_err-set_number-in-Found-clause-cause g c =
     let later0 = c.in_ok-find.ensures.cause.later in
     let later1 = c.in_ok-released-in-Found.ensures.cause.later in
-    space_cause_passed _ _ _ c.from_residual-in_err-set_number-in-Found.result c.in_err-set_number-in-Found.field-0.0 (omega (arith, later0, later1)) c.in_err-set_number-in-Found.ensures.cause c.from_residual-in_err-set_number-in-Found.ensures.1
+    space_cause_passed _ _ _ c.from_residual-in_err-set_number-in-Found.result c.in_err-set_number-in-Found.field-0.0 (omega (arith, later0, later1))
+    c.in_err-set_number-in-Found.ensures.cause c.from_residual-in_err-set_number-in-Found.ensures.1
 
 pub returns-in_err-released-in-Found-clause-onward : goal.returns-in_err-released-in-Found-clause-onward
 returns-in_err-released-in-Found-clause-onward g c =

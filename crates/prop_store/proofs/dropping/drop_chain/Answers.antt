@@ -28,10 +28,12 @@ returns-in_err-held-clause-sound g c tells es held =
     rw (p.1, p.2) (c.in_err-held.ensures.sound tells es (held_given s c.args.owner c.args.first es (c.requires.first tells) held))
 
 pub returns-in_err-release-clause-sound : goal.returns-in_err-release-clause-sound
-returns-in_err-release-clause-sound g c tells es held = space_exit c.from_residual-in_err-release.result c.in_err-release.field-0.0 c.from_residual-in_err-release.ensures.1
+returns-in_err-release-clause-sound g c tells es held = space_exit c.from_residual-in_err-release.result c.in_err-release.field-0.0
+    c.from_residual-in_err-release.ensures.1
 
 pub returns-in_err-release_properties-clause-sound : goal.returns-in_err-release_properties-clause-sound
-returns-in_err-release_properties-clause-sound g c tells es held = space_exit c.from_residual-in_err-release_properties.result c.in_err-release_properties.field-0.0 c.from_residual-in_err-release_properties.ensures.1
+returns-in_err-release_properties-clause-sound g c tells es held = space_exit c.from_residual-in_err-release_properties.result
+    c.in_err-release_properties.field-0.0 c.from_residual-in_err-release_properties.ensures.1
 
 pub returns-clause-dropped : goal.returns-clause-dropped
 returns-clause-dropped g c tells es held =
@@ -45,9 +47,11 @@ returns-clause-dropped g c tells es held =
     record {
       properties = ap (λ (xs : List ℕ). length xs) ids_are ∙ length-map es (λ (e : Property). e.id);
       blocks = ap (λ (xs : List ℕ). length xs) blocks_are;
-      changes = all_dropped s a b t es c.args.first c.as_slice-ids.result.now c.as_slice-blocks.result.now held (reads_same 736 s a c.find_held.ensures.at_most) ids_are blocks_are
+      changes = all_dropped s a b t es c.args.first c.as_slice-ids.result.now c.as_slice-blocks.result.now held (reads_same 736 s a c.find_held.ensures.at_most)
+          ids_are blocks_are
           (g.met.S.Reads.onward_shape _ _ (g.met.S.Reads.further_onward _ _ _ c.find_held.ensures.onward c.release.ensures.onward))
-          (c.in_ok-release.ensures.released tells) (c.in_ok-release.ensures.beside tells) (c.in_ok-release_properties.ensures.released tells) (c.in_ok-release_properties.ensures.beside tells);
+          (c.in_ok-release.ensures.released tells) (c.in_ok-release.ensures.beside tells) (c.in_ok-release_properties.ensures.released tells)
+          (c.in_ok-release_properties.ensures.beside tells);
     }
 
 pub returns-in_err-held-clause-at_most : goal.returns-in_err-held-clause-at_most
@@ -56,7 +60,8 @@ returns-in_err-held-clause-at_most g c = touches_reads [] 32 704 _ _ (reads_same
 pub returns-in_err-release-clause-at_most : goal.returns-in_err-release-clause-at_most
 returns-in_err-release-clause-at_most g c =
     let few = c.as_slice-blocks.ensures.fits in
-    touches_more [] 0 (length c.as_slice-blocks.result.now) 32 704 _ _ (omega arith) (omega arith) (touches_freed _ _ _ c.as_slice-blocks.result.now (reads_same 736 _ _ c.find_held.ensures.at_most) c.release.ensures.touches)
+    touches_more [] 0 (length c.as_slice-blocks.result.now) 32 704 _ _ (omega arith) (omega arith)
+    (touches_freed _ _ _ c.as_slice-blocks.result.now (reads_same 736 _ _ c.find_held.ensures.at_most) c.release.ensures.touches)
 
 pub returns-in_err-release_properties-clause-at_most : goal.returns-in_err-release_properties-clause-at_most
 returns-in_err-release_properties-clause-at_most g c =
@@ -67,7 +72,8 @@ returns-in_err-release_properties-clause-at_most g c =
 
 pub returns-clause-touches : goal.returns-clause-touches
 returns-clause-touches g c =
-    touches_all _ _ _ _ c.as_slice-ids.result.now c.as_slice-blocks.result.now (reads_same 736 _ _ c.find_held.ensures.at_most) c.release.ensures.touches c.release_properties.ensures.touches
+    touches_all _ _ _ _ c.as_slice-ids.result.now c.as_slice-blocks.result.now (reads_same 736 _ _ c.find_held.ensures.at_most) c.release.ensures.touches
+    c.release_properties.ensures.touches
 
 pub returns-clause-at_most : goal.returns-clause-at_most
 returns-clause-at_most g c =
@@ -80,7 +86,8 @@ returns-clause-at_most g c =
 pub returns-in_err-held-clause-damaged : goal.returns-in_err-held-clause-damaged
 returns-in_err-held-clause-damaged g c tells used =
     let s = g.S.Reads.state c.args.space.now in
-    same_has (BlamesBroken s.records s.shape) c.from_residual.result c.in_err-held.field-0.0 c.from_residual.ensures.1 (c.in_err-held.ensures.damaged tells used)
+    same_has (BlamesBroken s.records s.shape) c.from_residual.result c.in_err-held.field-0.0 c.from_residual.ensures.1
+    (c.in_err-held.ensures.damaged tells used)
 
 pub returns-in_err-release-clause-damaged : goal.returns-in_err-release-clause-damaged
 returns-in_err-release-clause-damaged g c tells used =
@@ -90,7 +97,8 @@ returns-in_err-release-clause-damaged g c tells used =
 pub returns-in_err-release_properties-clause-damaged : goal.returns-in_err-release_properties-clause-damaged
 returns-in_err-release_properties-clause-damaged g c tells used =
     let s = g.S.Reads.state c.args.space.now in
-    space_has (BlamesBroken s.records s.shape) tt tt c.from_residual-in_err-release_properties.result c.in_err-release_properties.field-0.0 c.from_residual-in_err-release_properties.ensures.1
+    space_has (BlamesBroken s.records s.shape) tt tt c.from_residual-in_err-release_properties.result c.in_err-release_properties.field-0.0
+    c.from_residual-in_err-release_properties.ensures.1
 
 -- ---- where damage is told nothing is written
 
@@ -98,28 +106,33 @@ pub returns-in_err-held-clause-unwritten : goal.returns-in_err-held-clause-unwri
 returns-in_err-held-clause-unwritten g c =
     let s = g.S.Reads.state c.args.space.now in
     let a = g.S.Reads.state c.find_held.new.space in
-    same_has (λ fault. IfSome (damage_of fault) (λ _. SameButReads s a)) c.from_residual.result c.in_err-held.field-0.0 c.from_residual.ensures.1 (when_damaged c.in_err-held.field-0.0 (reads_same 736 s a c.find_held.ensures.at_most))
+    same_has (λ fault. IfSome (damage_of fault) (λ _. SameButReads s a)) c.from_residual.result c.in_err-held.field-0.0 c.from_residual.ensures.1
+    (when_damaged c.in_err-held.field-0.0 (reads_same 736 s a c.find_held.ensures.at_most))
 
 pub returns-in_err-release-clause-unwritten : goal.returns-in_err-release-clause-unwritten
 returns-in_err-release-clause-unwritten g c =
-    space_has (λ fault. IfSome (damage_of fault) (λ _. SameButReads (g.S.Reads.state c.args.space.now) (g.S.Reads.state c.release.new.space))) tt tt c.from_residual-in_err-release.result c.in_err-release.field-0.0 c.from_residual-in_err-release.ensures.1
+    space_has (λ fault. IfSome (damage_of fault) (λ _. SameButReads (g.S.Reads.state c.args.space.now) (g.S.Reads.state c.release.new.space))) tt tt
+    c.from_residual-in_err-release.result c.in_err-release.field-0.0 c.from_residual-in_err-release.ensures.1
 
 pub returns-in_err-release_properties-clause-unwritten : goal.returns-in_err-release_properties-clause-unwritten
 returns-in_err-release_properties-clause-unwritten g c =
-    space_has (λ fault. IfSome (damage_of fault) (λ _. SameButReads (g.S.Reads.state c.args.space.now) (g.S.Reads.state c.release_properties.new.space))) tt tt c.from_residual-in_err-release_properties.result c.in_err-release_properties.field-0.0
+    space_has (λ fault. IfSome (damage_of fault) (λ _. SameButReads (g.S.Reads.state c.args.space.now) (g.S.Reads.state c.release_properties.new.space))) tt tt
+    c.from_residual-in_err-release_properties.result c.in_err-release_properties.field-0.0
     c.from_residual-in_err-release_properties.ensures.1
 
 -- ---- exits with an error
 
 pub returns-in_err-release-clause-cause : goal.returns-in_err-release-clause-cause
 returns-in_err-release-clause-cause g c =
-    space_cause_passed _ _ _ c.from_residual-in_err-release.result c.in_err-release.field-0.0 c.in_ok-held.ensures.cause.later c.in_err-release.ensures.cause c.from_residual-in_err-release.ensures.1
+    space_cause_passed _ _ _ c.from_residual-in_err-release.result c.in_err-release.field-0.0 c.in_ok-held.ensures.cause.later c.in_err-release.ensures.cause
+    c.from_residual-in_err-release.ensures.1
 
 pub returns-in_err-release_properties-clause-cause : goal.returns-in_err-release_properties-clause-cause
 returns-in_err-release_properties-clause-cause g c =
     let later0 = c.in_ok-held.ensures.cause.later in
     let later1 = c.in_ok-release.ensures.cause.later in
-    space_cause_passed _ _ _ c.from_residual-in_err-release_properties.result c.in_err-release_properties.field-0.0 (omega (arith, later0, later1)) c.in_err-release_properties.ensures.cause c.from_residual-in_err-release_properties.ensures.1
+    space_cause_passed _ _ _ c.from_residual-in_err-release_properties.result c.in_err-release_properties.field-0.0 (omega (arith, later0, later1))
+    c.in_err-release_properties.ensures.cause c.from_residual-in_err-release_properties.ensures.1
 
 pub returns-clause-cause : goal.returns-clause-cause
 returns-clause-cause g c = ok_cause _ _ _ _ (omega arith)
@@ -129,11 +142,13 @@ returns-in_err-release-clause-onward g c = g.met.S.Reads.further_onward _ _ _ c.
 
 pub returns-in_err-release_properties-clause-onward : goal.returns-in_err-release_properties-clause-onward
 returns-in_err-release_properties-clause-onward g c =
-    g.met.S.Reads.further_onward _ _ _ (g.met.S.Reads.further_onward _ _ _ c.in_ok-held.ensures.onward c.in_ok-release.ensures.onward) c.in_err-release_properties.ensures.onward
+    g.met.S.Reads.further_onward _ _ _ (g.met.S.Reads.further_onward _ _ _ c.in_ok-held.ensures.onward c.in_ok-release.ensures.onward)
+    c.in_err-release_properties.ensures.onward
 
 pub returns-clause-onward : goal.returns-clause-onward
 returns-clause-onward g c =
-    g.met.S.Reads.further_onward _ _ _ (g.met.S.Reads.further_onward _ _ _ c.in_ok-held.ensures.onward c.in_ok-release.ensures.onward) c.in_ok-release_properties.ensures.onward
+    g.met.S.Reads.further_onward _ _ _ (g.met.S.Reads.further_onward _ _ _ c.in_ok-held.ensures.onward c.in_ok-release.ensures.onward)
+    c.in_ok-release_properties.ensures.onward
 
 pub returns-in_err-held-clause-dropped : goal.returns-in_err-held-clause-dropped
 returns-in_err-held-clause-dropped g c _ _ _ = never_ok c.from_residual.result _ _ c.from_residual.ensures.1
@@ -160,16 +175,20 @@ pub returns-in_err-release-clause-touches : goal.returns-in_err-release-clause-t
 returns-in_err-release-clause-touches g c = never_ok c.from_residual-in_err-release.result _ _ c.from_residual-in_err-release.ensures.1
 
 pub returns-in_err-release_properties-clause-dropped : goal.returns-in_err-release_properties-clause-dropped
-returns-in_err-release_properties-clause-dropped g c _ _ _ = never_ok c.from_residual-in_err-release_properties.result _ _ c.from_residual-in_err-release_properties.ensures.1
+returns-in_err-release_properties-clause-dropped g c _ _ _ = never_ok c.from_residual-in_err-release_properties.result _ _
+    c.from_residual-in_err-release_properties.ensures.1
 
 pub returns-in_err-release_properties-clause-few_properties : goal.returns-in_err-release_properties-clause-few_properties
-returns-in_err-release_properties-clause-few_properties g c = never_ok c.from_residual-in_err-release_properties.result _ _ c.from_residual-in_err-release_properties.ensures.1
+returns-in_err-release_properties-clause-few_properties g c = never_ok c.from_residual-in_err-release_properties.result _ _
+    c.from_residual-in_err-release_properties.ensures.1
 
 pub returns-in_err-release_properties-clause-few_blocks : goal.returns-in_err-release_properties-clause-few_blocks
-returns-in_err-release_properties-clause-few_blocks g c = never_ok c.from_residual-in_err-release_properties.result _ _ c.from_residual-in_err-release_properties.ensures.1
+returns-in_err-release_properties-clause-few_blocks g c = never_ok c.from_residual-in_err-release_properties.result _ _
+    c.from_residual-in_err-release_properties.ensures.1
 
 pub returns-in_err-release_properties-clause-touches : goal.returns-in_err-release_properties-clause-touches
-returns-in_err-release_properties-clause-touches g c = never_ok c.from_residual-in_err-release_properties.result _ _ c.from_residual-in_err-release_properties.ensures.1
+returns-in_err-release_properties-clause-touches g c = never_ok c.from_residual-in_err-release_properties.result _ _
+    c.from_residual-in_err-release_properties.ensures.1
 
 pub returns-in_err-held-clause-cause : goal.returns-in_err-held-clause-cause
 returns-in_err-held-clause-cause g c =

@@ -19,7 +19,8 @@ returns-in_err-blocks-clause-sound g c tells e held =
     rw (p.1, p.2) (c.in_err-blocks.ensures.sound tells e.value e.blocks held.value (blocks_given_out s.records s.shape _ e.blocks held.strings held.value.are))
 
 pub returns-in_err-release-clause-sound : goal.returns-in_err-release-clause-sound
-returns-in_err-release-clause-sound g c tells e held = space_exit c.from_residual-in_err-release.result c.in_err-release.field-0.0 c.from_residual-in_err-release.ensures.1
+returns-in_err-release-clause-sound g c tells e held = space_exit c.from_residual-in_err-release.result c.in_err-release.field-0.0
+    c.from_residual-in_err-release.ensures.1
 
 pub returns-in_err-give-clause-sound : goal.returns-in_err-give-clause-sound
 returns-in_err-give-clause-sound g c tells e held = space_exit c.from_residual-in_err-give.result c.in_err-give.field-0.0 c.from_residual-in_err-give.ensures.1
@@ -43,7 +44,8 @@ returns-in_err-blocks-clause-at_most g c = touches_reads [] 1 22 _ _ (reads_same
 pub returns-in_err-release-clause-at_most : goal.returns-in_err-release-clause-at_most
 returns-in_err-release-clause-at_most g c =
     let few = c.as_slice-ids.ensures.few in
-    touches_more [] 0 (length c.as_slice-ids.result.now) 1 22 _ _ (omega arith) (omega arith) (touches_freed _ _ _ c.as_slice-ids.result.now (reads_same 22 _ _ c.value_blocks.ensures.at_most) c.release.ensures.touches)
+    touches_more [] 0 (length c.as_slice-ids.result.now) 1 22 _ _ (omega arith) (omega arith)
+    (touches_freed _ _ _ c.as_slice-ids.result.now (reads_same 22 _ _ c.value_blocks.ensures.at_most) c.release.ensures.touches)
 
 pub returns-in_err-give-clause-at_most : goal.returns-in_err-give-clause-at_most
 returns-in_err-give-clause-at_most g c =
@@ -53,24 +55,29 @@ returns-in_err-give-clause-at_most g c =
 
 pub returns-clause-touches : goal.returns-clause-touches
 returns-clause-touches g c =
-    touches_dropped _ _ _ _ c.args.row.now.id c.as_slice-ids.result.now (reads_same 22 _ _ c.value_blocks.ensures.at_most) c.release.ensures.touches (record { writes = c.give.ensures.writes; stays = c.give.ensures.stays })
+    touches_dropped _ _ _ _ c.args.row.now.id c.as_slice-ids.result.now (reads_same 22 _ _ c.value_blocks.ensures.at_most) c.release.ensures.touches
+    (record { writes = c.give.ensures.writes; stays = c.give.ensures.stays })
 
 pub returns-clause-at_most : goal.returns-clause-at_most
-returns-clause-at_most g c = let few = c.as_slice-ids.ensures.few in touches_more [] 1 (length c.as_slice-ids.result.now) 1 22 _ _ (omega arith) (omega arith) (returns-clause-touches g c)
+returns-clause-at_most g c = let few = c.as_slice-ids.ensures.few in touches_more [] 1 (length c.as_slice-ids.result.now) 1 22 _ _ (omega arith) (omega arith)
+    (returns-clause-touches g c)
 
 -- ---- which record is blamed
 
 pub returns-in_err-blocks-clause-damaged : goal.returns-in_err-blocks-clause-damaged
 returns-in_err-blocks-clause-damaged g c tells read =
-    same_has (IsTextFault (g.S.Reads.state c.args.space.now) c.args.row.now.id) c.from_residual.result c.in_err-blocks.field-0.0 c.from_residual.ensures.1 (c.in_err-blocks.ensures.damaged tells read)
+    same_has (IsTextFault (g.S.Reads.state c.args.space.now) c.args.row.now.id) c.from_residual.result c.in_err-blocks.field-0.0 c.from_residual.ensures.1
+    (c.in_err-blocks.ensures.damaged tells read)
 
 pub returns-in_err-release-clause-damaged : goal.returns-in_err-release-clause-damaged
 returns-in_err-release-clause-damaged g c tells read =
-    space_has (IsTextFault (g.S.Reads.state c.args.space.now) c.args.row.now.id) tt tt c.from_residual-in_err-release.result c.in_err-release.field-0.0 c.from_residual-in_err-release.ensures.1
+    space_has (IsTextFault (g.S.Reads.state c.args.space.now) c.args.row.now.id) tt tt c.from_residual-in_err-release.result c.in_err-release.field-0.0
+    c.from_residual-in_err-release.ensures.1
 
 pub returns-in_err-give-clause-damaged : goal.returns-in_err-give-clause-damaged
 returns-in_err-give-clause-damaged g c tells read =
-    space_has (IsTextFault (g.S.Reads.state c.args.space.now) c.args.row.now.id) tt tt c.from_residual-in_err-give.result c.in_err-give.field-0.0 c.from_residual-in_err-give.ensures.1
+    space_has (IsTextFault (g.S.Reads.state c.args.space.now) c.args.row.now.id) tt tt c.from_residual-in_err-give.result c.in_err-give.field-0.0
+    c.from_residual-in_err-give.ensures.1
 
 pub returns-in_err-blocks-clause-dropped : goal.returns-in_err-blocks-clause-dropped
 returns-in_err-blocks-clause-dropped g c _ _ _ = never_ok c.from_residual.result _ _ c.from_residual.ensures.1
@@ -111,15 +118,18 @@ pub returns-in_err-blocks-clause-unwritten : goal.returns-in_err-blocks-clause-u
 returns-in_err-blocks-clause-unwritten g c =
     let s = g.S.Reads.state c.args.space.now in
     let a = g.S.Reads.state c.value_blocks.new.space in
-    same_has (λ fault. IfSome (damage_of fault) (λ _. SameButReads s a)) c.from_residual.result c.in_err-blocks.field-0.0 c.from_residual.ensures.1 (when_damaged c.in_err-blocks.field-0.0 (reads_same 22 s a c.value_blocks.ensures.at_most))
+    same_has (λ fault. IfSome (damage_of fault) (λ _. SameButReads s a)) c.from_residual.result c.in_err-blocks.field-0.0 c.from_residual.ensures.1
+    (when_damaged c.in_err-blocks.field-0.0 (reads_same 22 s a c.value_blocks.ensures.at_most))
 
 pub returns-in_err-release-clause-unwritten : goal.returns-in_err-release-clause-unwritten
 returns-in_err-release-clause-unwritten g c =
-    space_has (λ fault. IfSome (damage_of fault) (λ _. SameButReads (g.S.Reads.state c.args.space.now) (g.S.Reads.state c.release.new.space))) tt tt c.from_residual-in_err-release.result c.in_err-release.field-0.0 c.from_residual-in_err-release.ensures.1
+    space_has (λ fault. IfSome (damage_of fault) (λ _. SameButReads (g.S.Reads.state c.args.space.now) (g.S.Reads.state c.release.new.space))) tt tt
+    c.from_residual-in_err-release.result c.in_err-release.field-0.0 c.from_residual-in_err-release.ensures.1
 
 pub returns-in_err-give-clause-unwritten : goal.returns-in_err-give-clause-unwritten
 returns-in_err-give-clause-unwritten g c =
-    space_has (λ fault. IfSome (damage_of fault) (λ _. SameButReads (g.S.Reads.state c.args.space.now) (g.S.Reads.state c.give.new.space))) tt tt c.from_residual-in_err-give.result c.in_err-give.field-0.0 c.from_residual-in_err-give.ensures.1
+    space_has (λ fault. IfSome (damage_of fault) (λ _. SameButReads (g.S.Reads.state c.args.space.now) (g.S.Reads.state c.give.new.space))) tt tt
+    c.from_residual-in_err-give.result c.in_err-give.field-0.0 c.from_residual-in_err-give.ensures.1
 
 pub returns-in_err-blocks-clause-cause : goal.returns-in_err-blocks-clause-cause
 returns-in_err-blocks-clause-cause g c =

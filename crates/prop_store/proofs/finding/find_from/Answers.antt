@@ -27,7 +27,8 @@ loop-count-init g c = record {
   told = λ tells es are. walk_begins _ _ _ es _ (c.requires.first tells) are (c.of-link.ensures, λ i. i);
   met = λ tells. ap (λ z. property_of (ahead (g.R.Reads.state c.args.space.now).records z 0) c.args.key) (c.requires.first tells);
   passed = λ tells. zero-add _ ∙ ap (λ z. length (ahead (g.R.Reads.state c.args.space.now).records z 0)) (c.requires.first tells);
-  reached = λ tells. reached_first (g.R.Reads.state c.args.space.now).records c.args.owner c.of-link.result.key c.args.first (ap (λ (z : Link). z.key) c.of-link.ensures) (c.requires.first tells);
+  reached = λ tells. reached_first (g.R.Reads.state c.args.space.now).records c.args.owner c.of-link.result.key c.args.first
+      (ap (λ (z : Link). z.key) c.of-link.ensures) (c.requires.first tells);
   link = subst IsLink (sym c.of-link.ensures) (record { key = c.requires.owner.key; own = meta_of_element c.args.owner.key.file c.requires.owner.file; place = place_within c.args.owner c.requires.owner });
   from = subst (IsLinkOf c.args.owner) (sym c.of-link.ensures) (inl refl);
   reads = reads_none _ _;
@@ -52,7 +53,8 @@ returns-in_err-property_at-clause-sound g c tells es has =
     let now = g.R.Reads.state c.loop-count.space in
     let p = err_from_is_err_and c.from_residual.result c.from_residual.ensures.1 in
     let here = walk_here _ es _ _ _ c.if-at.false (c.loop-count.invariant.told tells es has.are) in
-    let right = right_property old.records now.records c.args.owner es c.loop-count.at c.loop-count.count _ (reads_records _ old now c.loop-count.invariant.reads) has here in
+    let right = right_property old.records now.records c.args.owner es c.loop-count.at c.loop-count.count _
+    (reads_records _ old now c.loop-count.invariant.reads) has here in
     rw (p.1, p.2) (c.in_err-property_at.ensures.sound tells right.0 right.1)
 
 pub returns-in_err-property_at-clause-at_most : goal.returns-in_err-property_at-clause-at_most
@@ -63,15 +65,19 @@ returns-then-number-key-clause-found g c tells es are =
     let old = g.R.Reads.state c.args.space.now in
     let now = g.R.Reads.state c.loop-count.space in
     let here = walk_here _ es _ _ _ c.if-at.false (c.loop-count.invariant.told tells es are) in
-    let rec_is = c.in_ok-property_at.ensures.got tells ∙ ap (λ r. rec_at r properties_file c.loop-count.at) (reads_records _ old now c.loop-count.invariant.reads) in
-    found_here old.records c.args.owner es c.loop-count.at c.loop-count.count c.args.key c.loop-count.link _ here c.in_ok-property_at.ensures.row.id_is rec_is (sym c.number.ensures ∙ c.if-number-key.true)
+    let rec_is = c.in_ok-property_at.ensures.got tells ∙ ap (λ r. rec_at r properties_file c.loop-count.at)
+    (reads_records _ old now c.loop-count.invariant.reads) in
+    found_here old.records c.args.owner es c.loop-count.at c.loop-count.count c.args.key c.loop-count.link _ here c.in_ok-property_at.ensures.row.id_is rec_is
+    (sym c.number.ensures ∙ c.if-number-key.true)
 
 pub returns-then-number-key-clause-met : goal.returns-then-number-key-clause-met
 returns-then-number-key-clause-met g c tells =
     let old = g.R.Reads.state c.args.space.now in
     let now = g.R.Reads.state c.loop-count.space in
-    let rec_is = c.in_ok-property_at.ensures.got tells ∙ ap (λ r. rec_at r properties_file c.loop-count.at) (reads_records _ old now c.loop-count.invariant.reads) in
-    met_here old.records c.args.owner c.args.key c.loop-count.at c.loop-count.count _ c.if-at.false (omega arith) c.in_ok-property_at.ensures.row.id_is rec_is (sym c.number.ensures ∙ c.if-number-key.true) (c.loop-count.invariant.met tells)
+    let rec_is = c.in_ok-property_at.ensures.got tells ∙ ap (λ r. rec_at r properties_file c.loop-count.at)
+    (reads_records _ old now c.loop-count.invariant.reads) in
+    met_here old.records c.args.owner c.args.key c.loop-count.at c.loop-count.count _ c.if-at.false (omega arith) c.in_ok-property_at.ensures.row.id_is rec_is
+    (sym c.number.ensures ∙ c.if-number-key.true) (c.loop-count.invariant.met tells)
 
 pub returns-then-number-key-clause-cost : goal.returns-then-number-key-clause-cost
 returns-then-number-key-clause-cost g c tells es are =
@@ -89,21 +95,27 @@ loop-count-preserved g c =
     record {
       told = λ tells es are.
           let here = walk_here _ es _ _ _ c.if-at.false (c.loop-count.invariant.told tells es are) in
-          let rec_is = c.in_ok-property_at.ensures.got tells ∙ ap (λ r. rec_at r properties_file c.loop-count.at) (reads_records _ old now c.loop-count.invariant.reads) in
-          let its : here.property.key ≡ field 4 c.property_at.new.row.rec property_key = sym here.is.key ∙ ap (λ r. field 4 r property_key) (ap (rec_at old.records properties_file) (sym here.at_is) ∙ sym rec_is) in
-          walk_after (property_records old.records) es c.loop-count.at c.loop-count.count _ _ here c.property_at.new.row.rec c.number-at.result rec_is c.number-at.ensures
+          let rec_is = c.in_ok-property_at.ensures.got tells ∙ ap (λ r. rec_at r properties_file c.loop-count.at)
+          (reads_records _ old now c.loop-count.invariant.reads) in
+          let its : here.property.key ≡ field 4 c.property_at.new.row.rec property_key = sym here.is.key
+          ∙ ap (λ r. field 4 r property_key) (ap (rec_at old.records properties_file) (sym here.at_is) ∙ sym rec_is) in
+          walk_after (property_records old.records) es c.loop-count.at c.loop-count.count _ _ here c.property_at.new.row.rec c.number-at.result rec_is
+          c.number-at.ensures
           (c.after-link.ensures ∙ ap next_link here.at_is ∙ sym (link_after-one (link_of c.args.owner) here.passed here.property), keys_passed here.passed here.property c.args.key here.kept.1 (λ e. c.if-number-key.false (c.number.ensures ∙ sym its ∙ e)));
       met = λ tells.
           passed_by old.records c.args.key c.loop-count.at c.loop-count.count c.number-at.result c.property_at.new.row.rec _ c.if-at.false (omega arith)
-          (c.in_ok-property_at.ensures.got tells ∙ ap (λ r. rec_at r properties_file c.loop-count.at) (reads_records _ old now c.loop-count.invariant.reads)) c.number-at.ensures
+          (c.in_ok-property_at.ensures.got tells ∙ ap (λ r. rec_at r properties_file c.loop-count.at) (reads_records _ old now c.loop-count.invariant.reads))
+          c.number-at.ensures
           (λ e. c.if-number-key.false (c.number.ensures ∙ e)) (c.loop-count.invariant.met tells);
       passed = λ tells.
           passed_one old.records c.loop-count.at c.loop-count.count c.number-at.result c.property_at.new.row.rec c.if-at.false (omega arith)
-          (c.in_ok-property_at.ensures.got tells ∙ ap (λ r. rec_at r properties_file c.loop-count.at) (reads_records _ old now c.loop-count.invariant.reads)) c.number-at.ensures ∙ c.loop-count.invariant.passed tells;
+          (c.in_ok-property_at.ensures.got tells ∙ ap (λ r. rec_at r properties_file c.loop-count.at) (reads_records _ old now c.loop-count.invariant.reads))
+          c.number-at.ensures ∙ c.loop-count.invariant.passed tells;
       reached = λ tells.
           let same = reads_records _ old now c.loop-count.invariant.reads in
           let rec_is = c.in_ok-property_at.ensures.got tells ∙ ap (λ r. rec_at r properties_file c.loop-count.at) same in
-          reached_next old.records c.args.owner c.loop-count.link.key c.after-link.result.key c.loop-count.at c.loop-count.count c.number-at.result (c.loop-count.invariant.reached tells) c.if-at.false
+          reached_next old.records c.args.owner c.loop-count.link.key c.after-link.result.key c.loop-count.at c.loop-count.count c.number-at.result
+          (c.loop-count.invariant.reached tells) c.if-at.false
           (subst (λ (z : ℕ). kind_at old.records properties_file z ≢ free_kind) c.in_ok-property_at.ensures.row.id_is (subst (λ (r : Records). kind_at r properties_file c.property_at.new.row.id ≢ free_kind) same (c.in_ok-property_at.ensures.read tells).used))
           (c.number-at.ensures ∙ ap (λ r. field 4 r property_next) rec_is) (ap (λ (z : Link). z.key) c.after-link.ensures);
       link = subst IsLink (sym c.after-link.ensures) (record { key = record { file = refl; id = subst (λ z. z < most_ids) c.in_ok-property_at.ensures.row.id_is c.in_ok-property_at.ensures.row.small }; own = refl; place = omega arith });
@@ -150,7 +162,8 @@ returns-then-at-2-clause-damaged g c tells used =
 
 pub returns-in_err-property_at-clause-cause : goal.returns-in_err-property_at-clause-cause
 returns-in_err-property_at-clause-cause g c =
-    cause_passed _ _ _ c.from_residual.result c.in_err-property_at.field-0.0 c.loop-count.invariant.later c.in_err-property_at.ensures.cause c.from_residual.ensures.1
+    cause_passed _ _ _ c.from_residual.result c.in_err-property_at.field-0.0 c.loop-count.invariant.later c.in_err-property_at.ensures.cause
+    c.from_residual.ensures.1
 
 pub returns-in_err-property_at-clause-onward : goal.returns-in_err-property_at-clause-onward
 returns-in_err-property_at-clause-onward g c =

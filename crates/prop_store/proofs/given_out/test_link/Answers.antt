@@ -18,7 +18,8 @@ returns-then-id-meta-clause-damaged g c =
     subst (IsLinkFault s c.args.from c.args.file c.args.id) (sym c.damaged.ensures) (PastMark mark)
 
 -- the mark is above an identifier that no shape has room for
-high_mark : (s : State) (from : Key) (file id mark : ℕ) (shape : Shape) → mark ≡ high s.records file → shape ≡ s.shape → is_allowed shape ≡ true → id < mark → most_ids ≤ id → IsLinkDamage s from file id (damage meta_file file 1)
+high_mark : (s : State) (from : Key) (file id mark : ℕ) (shape : Shape) → mark ≡ high s.records file → shape ≡ s.shape → is_allowed shape ≡ true → id < mark
+    → most_ids ≤ id → IsLinkDamage s from file id (damage meta_file file 1)
 high_mark s from file id mark shape is of_shape allowed lt le =
     HighMark (let most = room_of-most s.shape file (ap is_allowed (sym of_shape) ∙ allowed) in omega (arith, most, is, lt, le))
 

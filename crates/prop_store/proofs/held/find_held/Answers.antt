@@ -30,7 +30,8 @@ loop-at-init g c =
     let sum : length c.new-held.result.blocks.items ≡ 0 = ap (λ (z : List ℕ). length z) no_blocks in
     let old = g.R.Reads.state c.args.space.now in
     record {
-      told = λ tells es has. told_begins old.records c.args.owner c.args.first es c.new-held.result.ids.items c.new-held.result.blocks.items none no_blocks (c.requires.first tells) has;
+      told = λ tells es has. told_begins old.records c.args.owner c.args.first es c.new-held.result.ids.items c.new-held.result.blocks.items none no_blocks
+          (c.requires.first tells) has;
       past = λ tells. subst (λ z. ArePast old.records c.args.first z c.args.first) (sym none) refl;
       from = sym (ap (holder_of properties_file c.args.owner.key) none);
       owned = λ tells b i. elim (subst (In b) no_blocks i) [ ];
@@ -61,19 +62,23 @@ loop-at-preserved g c =
     let same : now.records ≡ old.records = reads_records _ old now i.reads in
     let same_read : read.records ≡ old.records = reads_records 1 now read c.property_at.ensures.at_most ∙ same in
     let id_is = c.in_ok-property_at.ensures.row.id_is in
-    let found = subst (λ (xs : List ℕ). IfSome c.shared_block-shared.result (λ b. (c.loop-at.shared ≡ Some b) ⊎ (In b xs × In b own))) c.as_slice-passed.ensures.value c.shared_block-shared.ensures in
+    let found = subst (λ (xs : List ℕ). IfSome c.shared_block-shared.result (λ b. (c.loop-at.shared ≡ Some b) ⊎ (In b xs × In b own)))
+    c.as_slice-passed.ensures.value c.shared_block-shared.ensures in
     let more : length pushed ≡ length ids + 1 = ap (λ (z : List ℕ). length z) c.push.ensures.ids ∙ length_push ids at in
     let total : length all ≡ length blocks + length own = ap (λ (z : List ℕ). length z) c.push.ensures.blocks ∙ length-append blocks own in
-    let got : g.R.Reads.tells → row.rec ≡ rec_at old.records properties_file at = λ tells. c.in_ok-property_at.ensures.got tells ∙ ap (λ r. rec_at r properties_file at) same in
+    let got : g.R.Reads.tells → row.rec ≡ rec_at old.records properties_file at = λ tells. c.in_ok-property_at.ensures.got tells
+    ∙ ap (λ r. rec_at r properties_file at) same in
     let its : g.R.Reads.tells → IsReadRow old.records row = λ tells. subst (λ (r : Records). IsReadRow r row) same (c.in_ok-property_at.ensures.read tells) in
-    let there : g.R.Reads.tells → IsThere old.records at = λ tells. record { some = c.loop-at-test.true; used = subst (λ z. kind_at old.records properties_file z ≢ free_kind) id_is (its tells).used } in
+    let there : g.R.Reads.tells → IsThere old.records at = λ tells. record
+    { some = c.loop-at-test.true; used = subst (λ z. kind_at old.records properties_file z ≢ free_kind) id_is (its tells).used } in
     let has : g.R.Reads.tells → HasBlocks old.records at own = λ tells.
     subst (HasBlocks old.records at) (sym c.as_slice-own.ensures.is) (subst (λ z. HasBlocks old.records z c.in_ok-blocks.blocks) id_is (subst (λ (r : Records). HasBlocks r row.id c.in_ok-blocks.blocks) same_read
     (c.in_ok-blocks.ensures.has tells (subst (λ (r : Records). IsReadRow r row) (sym same_read) (its tells))))) in
     record {
       told = λ tells es has.
           let here = walk_here _ es _ _ _ c.loop-at-test.true (i.told tells es has) in
-          let value = has_value old.records read.records here.property (first_property here.later) row.rec same_read here.is (got tells ∙ ap (rec_at old.records properties_file) here.at_is) in
+          let value = has_value old.records read.records here.property (first_property here.later) row.rec same_read here.is
+          (got tells ∙ ap (rec_at old.records properties_file) here.at_is) in
           let own_is = c.as_slice-own.ensures.is ∙ c.in_ok-blocks.ensures.followed tells here.property.value here.property.blocks value in
           subst (λ n. Walked (property_records old.records) es c.number-at.result n (Told pushed all c.shared_block-shared.result)) (sym more)
           (walk_after (property_records old.records) es at (length ids) _ (Told pushed all c.shared_block-shared.result) here row.rec c.number-at.result (got tells) c.number-at.ensures
@@ -83,12 +88,14 @@ loop-at-preserved g c =
           (past_more old.records c.args.first ids at c.number-at.result (i.past tells) (there tells) (c.number-at.ensures ∙ ap (λ r. field 4 r property_next) (got tells)));
       from = sym (ap (holder_of properties_file c.args.owner.key) c.push.ensures.ids ∙ holder_more properties_file c.args.owner.key ids at);
       owned = λ tells. owned_more old.records ids pushed blocks all own at c.push.ensures.ids c.push.ensures.blocks (i.owned tells) (has tells);
-      twice = λ tells. twice_more old.records ids pushed blocks all own at c.push.ensures.ids c.push.ensures.blocks (i.owned tells) (has tells) c.loop-at.shared c.shared_block-shared.result (i.twice tells) found;
+      twice = λ tells. twice_more old.records ids pushed blocks all own at c.push.ensures.ids c.push.ensures.blocks (i.owned tells) (has tells) c.loop-at.shared
+          c.shared_block-shared.result (i.twice tells) found;
       small = below_more most_ids ids pushed at i.small (subst (λ z. z < most_ids) id_is c.in_ok-property_at.ensures.row.small) c.push.ensures.ids;
       small_blocks = small_more blocks own all i.small_blocks c.as_slice-own.ensures.small c.push.ensures.blocks;
       few = let few = i.few in omega (arith, more, few, c.if-count.false);
       few_blocks = let few = i.few_blocks in let less = c.as_slice-own.ensures.few in omega (arith, more, total, few, less);
-      reads = reads_then (23 * length ids) 23 _ old now _ (omega (arith, more)) i.reads (reads_then 1 22 23 now read _ (omega arith) c.property_at.ensures.at_most c.value_blocks.ensures.at_most);
+      reads = reads_then (23 * length ids) 23 _ old now _ (omega (arith, more)) i.reads
+          (reads_then 1 22 23 now read _ (omega arith) c.property_at.ensures.at_most c.value_blocks.ensures.at_most);
       onward = g.met.R.Reads.further_onward _ _ _ i.onward (g.met.R.Reads.further_onward _ _ _ c.in_ok-property_at.ensures.onward c.in_ok-blocks.ensures.onward);
       later = omega (arith, i.later, c.in_ok-property_at.ensures.cause.later, c.in_ok-blocks.ensures.cause.later);
     }
@@ -117,7 +124,8 @@ returns-in_err-blocks-clause-sound g c tells es has =
     let here = walk_here _ es _ _ _ c.loop-at-test.true (c.loop-at.invariant.told tells es has) in
     let same = reads_records _ old now c.loop-at.invariant.reads in
     let same_then = reads_records 1 now then c.property_at.ensures.at_most ∙ same in
-    let rec_is = c.in_ok-property_at.ensures.got tells ∙ ap (λ r. rec_at r properties_file c.loop-at.at) same ∙ ap (rec_at old.records properties_file) here.at_is in
+    let rec_is = c.in_ok-property_at.ensures.got tells ∙ ap (λ r. rec_at r properties_file c.loop-at.at) same
+    ∙ ap (rec_at old.records properties_file) here.at_is in
     let value = has_value old.records then.records here.property (first_property here.later) c.property_at.new.row.rec same_then here.is rec_is in
     rw (p.1, p.2) (c.in_err-blocks.ensures.sound tells here.property.value here.property.blocks value (blocks_given old.records then.records c.args.owner es here.passed here.property here.later same_then has here.all here.is.blocks))
 
@@ -162,7 +170,8 @@ returns-in_err-blocks-clause-damaged g c tells used =
     let now = g.R.Reads.state c.loop-at.space in
     let then = g.R.Reads.state c.property_at.new.space in
     let reads = reads_then _ 1 (1 + 23 * length c.loop-at.held.ids.items) old now then (omega arith) c.loop-at.invariant.reads c.property_at.ensures.at_most in
-    let read = subst (λ (r : Records). IsReadRow r c.property_at.new.row) (sym (reads_records 1 now then c.property_at.ensures.at_most)) (c.in_ok-property_at.ensures.read tells) in
+    let read = subst (λ (r : Records). IsReadRow r c.property_at.new.row) (sym (reads_records 1 now then c.property_at.ensures.at_most))
+    (c.in_ok-property_at.ensures.read tells) in
     same_has (BlamesBroken old.records old.shape) c.from_residual-in_err-blocks.result c.in_err-blocks.field-0.0 c.from_residual-in_err-blocks.ensures.1
     (text_blames old c.property_at.new.row.id c.in_err-blocks.field-0.0
     (text_fault_same old then (reads_records _ old then reads) (ap (λ (z : State). z.shape) (reads_same _ old then reads)) c.property_at.new.row.id c.in_err-blocks.field-0.0 (c.in_err-blocks.ensures.damaged tells read)))
@@ -181,12 +190,15 @@ pub returns-then-count-clause-at_most : goal.returns-then-count-clause-at_most
 returns-then-count-clause-at_most g c = let few = c.loop-at.invariant.few in reads_more _ 736 _ _ (omega arith) c.loop-at.invariant.reads
 
 pub returns-in_err-property_at-clause-at_most : goal.returns-in_err-property_at-clause-at_most
-returns-in_err-property_at-clause-at_most g c = let few = c.loop-at.invariant.few in reads_then _ 1 736 _ _ _ (omega (arith, few, c.if-count.false)) c.loop-at.invariant.reads c.in_err-property_at.ensures.at_most
+returns-in_err-property_at-clause-at_most g c = let few = c.loop-at.invariant.few in
+    reads_then _ 1 736 _ _ _ (omega (arith, few, c.if-count.false)) c.loop-at.invariant.reads c.in_err-property_at.ensures.at_most
 
 pub returns-in_err-blocks-clause-at_most : goal.returns-in_err-blocks-clause-at_most
 returns-in_err-blocks-clause-at_most g c =
     let few = c.loop-at.invariant.few in
-    reads_then (1 + 23 * length c.loop-at.held.ids.items) 22 736 _ _ _ (omega (arith, few, c.if-count.false)) (reads_then _ 1 (1 + 23 * length c.loop-at.held.ids.items) _ _ _ (omega arith) c.loop-at.invariant.reads c.property_at.ensures.at_most) c.in_err-blocks.ensures.at_most
+    reads_then (1 + 23 * length c.loop-at.held.ids.items) 22 736 _ _ _ (omega (arith, few, c.if-count.false))
+    (reads_then _ 1 (1 + 23 * length c.loop-at.held.ids.items) _ _ _ (omega arith) c.loop-at.invariant.reads c.property_at.ensures.at_most)
+    c.in_err-blocks.ensures.at_most
 
 pub returns-in-Some-clause-at_most : goal.returns-in-Some-clause-at_most
 returns-in-Some-clause-at_most g c = let few = c.loop-at.invariant.few in reads_more _ 736 _ _ (omega arith) c.loop-at.invariant.reads
@@ -198,11 +210,13 @@ returns-in-None-clause-at_most g c = let few = c.loop-at.invariant.few in reads_
 
 pub returns-in_err-property_at-clause-cause : goal.returns-in_err-property_at-clause-cause
 returns-in_err-property_at-clause-cause g c =
-    cause_passed _ _ _ c.from_residual.result c.in_err-property_at.field-0.0 c.loop-at.invariant.later c.in_err-property_at.ensures.cause c.from_residual.ensures.1
+    cause_passed _ _ _ c.from_residual.result c.in_err-property_at.field-0.0 c.loop-at.invariant.later c.in_err-property_at.ensures.cause
+    c.from_residual.ensures.1
 
 pub returns-in_err-blocks-clause-cause : goal.returns-in_err-blocks-clause-cause
 returns-in_err-blocks-clause-cause g c =
-    cause_passed _ _ _ c.from_residual-in_err-blocks.result c.in_err-blocks.field-0.0 (later_on c.loop-at.invariant.later c.in_ok-property_at.ensures.cause.later) c.in_err-blocks.ensures.cause c.from_residual-in_err-blocks.ensures.1
+    cause_passed _ _ _ c.from_residual-in_err-blocks.result c.in_err-blocks.field-0.0
+    (later_on c.loop-at.invariant.later c.in_ok-property_at.ensures.cause.later) c.in_err-blocks.ensures.cause c.from_residual-in_err-blocks.ensures.1
 
 pub returns-in-None-clause-cause : goal.returns-in-None-clause-cause
 returns-in-None-clause-cause g c = ok_cause _ _ _ _ (omega arith)
@@ -212,7 +226,8 @@ returns-in_err-property_at-clause-onward g c = g.met.R.Reads.further_onward _ _ 
 
 pub returns-in_err-blocks-clause-onward : goal.returns-in_err-blocks-clause-onward
 returns-in_err-blocks-clause-onward g c =
-    g.met.R.Reads.further_onward _ _ _ (g.met.R.Reads.further_onward _ _ _ c.loop-at.invariant.onward c.in_ok-property_at.ensures.onward) c.in_err-blocks.ensures.onward
+    g.met.R.Reads.further_onward _ _ _ (g.met.R.Reads.further_onward _ _ _ c.loop-at.invariant.onward c.in_ok-property_at.ensures.onward)
+    c.in_err-blocks.ensures.onward
 
 pub returns-in_err-property_at-clause-found : goal.returns-in_err-property_at-clause-found
 returns-in_err-property_at-clause-found g c _ _ _ = never_ok c.from_residual.result _ _ c.from_residual.ensures.1

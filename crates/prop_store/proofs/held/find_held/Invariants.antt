@@ -19,7 +19,8 @@ invariant-loop-at g l =
     let ids = l.held.ids.items in
     let blocks = l.held.blocks.items in
     record {
-      told : g.R.Reads.tells → (es : List Property) → HasProperties old.records l.fn.owner es → Walked (property_records old.records) es l.at (length ids) (Told ids blocks l.shared);
+      told : g.R.Reads.tells → (es : List Property) → HasProperties old.records l.fn.owner es
+          → Walked (property_records old.records) es l.at (length ids) (Told ids blocks l.shared);
       past : g.R.Reads.tells → ArePast old.records l.fn.first ids l.at;
       from : l.from ≡ holder_of properties_file l.fn.owner.key ids;
       owned : g.R.Reads.tells → (b : ℕ) → In b blocks → Owned old.records ids b;

@@ -42,7 +42,8 @@ row_link s element from id Disk why = tt
 row_link s element from id (Damaged d) why = BadLink d why
 
 -- the kind is the one that was read
-kind_read : (s : State) (id : ℕ) (rec : Rec) → id < high s.records properties_file → rec ≡ rec_at s.records properties_file id → kind_at s.records properties_file id ≡ field 1 rec kind
+kind_read : (s : State) (id : ℕ) (rec : Rec) → id < high s.records properties_file → rec ≡ rec_at s.records properties_file id
+    → kind_at s.records properties_file id ≡ field 1 rec kind
 kind_read s id rec lt is = kind_low (high s.records properties_file) (rec_at s.records properties_file id) id lt ∙ ap (λ r. field 1 r kind) (sym is)
 
 pub returns-in_err-test_link-clause-damaged : goal.returns-in_err-test_link-clause-damaged
@@ -52,7 +53,8 @@ returns-in_err-test_link-clause-damaged g c tells =
 
 pub returns-in_err-test_link-clause-cause : goal.returns-in_err-test_link-clause-cause
 returns-in_err-test_link-clause-cause g c =
-    link_cause (g.R.Reads.state c.args.space.now) c.args.from properties_file c.args.id (g.R.Reads.faults c.args.space.now) c.from_residual.result c.in_err-test_link.field-0.0 c.from_residual.ensures.1 c.in_err-test_link.ensures.damaged
+    link_cause (g.R.Reads.state c.args.space.now) c.args.from properties_file c.args.id (g.R.Reads.faults c.args.space.now) c.from_residual.result
+    c.in_err-test_link.field-0.0 c.from_residual.ensures.1 c.in_err-test_link.ensures.damaged
 
 pub returns-then-byte-eq-FREE-clause-damaged : goal.returns-then-byte-eq-FREE-clause-damaged
 returns-then-byte-eq-FREE-clause-damaged g c tells =

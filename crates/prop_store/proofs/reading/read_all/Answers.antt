@@ -31,7 +31,8 @@ returns-clause-damaged g c = rw c.in_ok-first.ensures.state at c.read_all_from.e
 
 pub returns-clause-reads : goal.returns-clause-reads
 returns-clause-reads g c =
-    costs_after (λ (props : Vec Prop Global). length props.items + block_total props.items) (λ (props : Vec Prop Global). 1 + length props.items + block_total props.items) _ _ _ c.read_all_from.result
+    costs_after (λ (props : Vec Prop Global). length props.items + block_total props.items)
+    (λ (props : Vec Prop Global). 1 + length props.items + block_total props.items) _ _ _ c.read_all_from.result
     (λ (props : Vec Prop Global). omega arith) c.in_ok-first.ensures.state c.read_all_from.ensures.reads
 
 pub returns-clause-at_most : goal.returns-clause-at_most

@@ -37,7 +37,8 @@ loop-init g c =
       told = λ tells es are. walk_begins _ _ _ es _ (c.requires.first tells) are tt;
       met = λ tells.
           let old = g.R.Reads.state c.args.space.now in
-          ap (λ (z : List Prop). z ++ map prop_of (ahead old.records c.args.first 0)) none ∙ ap (λ z. map prop_of (ahead old.records z 0)) (c.requires.first tells);
+          ap (λ (z : List Prop). z ++ map prop_of (ahead old.records c.args.first 0)) none
+          ∙ ap (λ z. map prop_of (ahead old.records z 0)) (c.requires.first tells);
       reached = λ tells. reached_first (g.R.Reads.state c.args.space.now).records c.args.owner c.args.owner.key c.args.first refl (c.requires.first tells);
       count = no_length;
       few = omega arith;
@@ -57,7 +58,8 @@ returns-in_err-property_at-clause-sound g c tells es has =
     rw (p.1, p.2) (c.in_err-property_at.ensures.sound tells right.0 right.1)
 
 pub returns-in_err-property_at-clause-at_most : goal.returns-in_err-property_at-clause-at_most
-returns-in_err-property_at-clause-at_most g c = reads_then _ 1 736 _ _ _ (omega (arith, c.loop.invariant.few, c.loop.invariant.count)) c.loop.invariant.reads c.in_err-property_at.ensures.at_most
+returns-in_err-property_at-clause-at_most g c = reads_then _ 1 736 _ _ _ (omega (arith, c.loop.invariant.few, c.loop.invariant.count)) c.loop.invariant.reads
+    c.in_err-property_at.ensures.at_most
 
 pub returns-in_err-value-clause-sound : goal.returns-in_err-value-clause-sound
 returns-in_err-value-clause-sound g c tells es has =
@@ -68,17 +70,20 @@ returns-in_err-value-clause-sound g c tells es has =
     let here = walk_here _ es _ _ _ c.if-at.false (c.loop.invariant.told tells es has.are) in
     let same = reads_records _ old now c.loop.invariant.reads in
     let same_then = reads_records 1 now then c.in_ok-property_at.ensures.at_most ∙ same in
-    let rec_is = c.in_ok-property_at.ensures.got tells ∙ ap (λ r. rec_at r properties_file c.loop.at) same ∙ ap (rec_at old.records properties_file) here.at_is in
+    let rec_is = c.in_ok-property_at.ensures.got tells ∙ ap (λ r. rec_at r properties_file c.loop.at) same
+    ∙ ap (rec_at old.records properties_file) here.at_is in
     let value = has_value old.records then.records here.property (first_property here.later) c.property_at.new.row.rec same_then here.is rec_is in
     rw (p.1, p.2) (c.in_err-value.ensures.sound tells here.property.value here.property.blocks value (blocks_given old.records then.records c.args.owner es here.passed here.property here.later same_then has here.all here.is.blocks))
 
 pub returns-in_err-value-clause-at_most : goal.returns-in_err-value-clause-at_most
 returns-in_err-value-clause-at_most g c =
-    reads_then (1 + length c.loop.props.items + block_total c.loop.props.items) 22 736 _ _ _ (omega (arith, c.loop.invariant.few, c.loop.invariant.count)) (reads_then _ 1 (1 + length c.loop.props.items + block_total c.loop.props.items) _ _ _ (omega arith) c.loop.invariant.reads c.in_ok-property_at.ensures.at_most) c.in_err-value.ensures.at_most
+    reads_then (1 + length c.loop.props.items + block_total c.loop.props.items) 22 736 _ _ _ (omega (arith, c.loop.invariant.few, c.loop.invariant.count))
+    (reads_then _ 1 (1 + length c.loop.props.items + block_total c.loop.props.items) _ _ _ (omega arith) c.loop.invariant.reads c.in_ok-property_at.ensures.at_most) c.in_err-value.ensures.at_most
 
 pub returns-in_err-push-clause-at_most : goal.returns-in_err-push-clause-at_most
 returns-in_err-push-clause-at_most g c =
-    reads_then (1 + length c.loop.props.items + block_total c.loop.props.items) 22 736 _ _ _ (omega (arith, c.loop.invariant.few, c.loop.invariant.count)) (reads_then _ 1 (1 + length c.loop.props.items + block_total c.loop.props.items) _ _ _ (omega arith) c.loop.invariant.reads c.in_ok-property_at.ensures.at_most) c.in_ok-value.ensures.at_most
+    reads_then (1 + length c.loop.props.items + block_total c.loop.props.items) 22 736 _ _ _ (omega (arith, c.loop.invariant.few, c.loop.invariant.count))
+    (reads_then _ 1 (1 + length c.loop.props.items + block_total c.loop.props.items) _ _ _ (omega arith) c.loop.invariant.reads c.in_ok-property_at.ensures.at_most) c.in_ok-value.ensures.at_most
 
 pub loop-preserved : goal.loop-preserved
 loop-preserved g c =
@@ -96,9 +101,11 @@ loop-preserved g c =
       told = λ tells es are.
           let here = walk_here _ es _ _ _ c.if-at.false (c.loop.invariant.told tells es are) in
           let got = c.in_ok-property_at.ensures.got tells ∙ ap (λ r. rec_at r properties_file c.loop.at) same in
-          walk_after (property_records old.records) es c.loop.at c.loop.counter _ _ here c.property_at.new.row.rec c.number-at.result got c.number-at.ensures tt;
+          walk_after (property_records old.records) es c.loop.at c.loop.counter _ _ here c.property_at.new.row.rec c.number-at.result got c.number-at.ensures
+          tt;
       met = λ tells.
-          answered_one old.records props c.push.new.self.items _ c.loop.at c.loop.counter c.number-at.result c.number-key.result c.property_at.new.row.rec c.in_ok-value.value pushed c.if-at.false (omega arith)
+          answered_one old.records props c.push.new.self.items _ c.loop.at c.loop.counter c.number-at.result c.number-key.result c.property_at.new.row.rec
+          c.in_ok-value.value pushed c.if-at.false (omega arith)
           (c.in_ok-property_at.ensures.got tells ∙ ap (λ r. rec_at r properties_file c.loop.at) same) c.number-at.ensures c.number-key.ensures
           (c.in_ok-value.ensures.met tells ∙ ap (λ r. value_from (rec_at r strings_file) (content_of c.property_at.new.row.rec)) (reads_records 1 now then c.in_ok-property_at.ensures.at_most ∙ same)) (c.loop.invariant.met tells);
       reached = λ tells.
@@ -109,20 +116,24 @@ loop-preserved g c =
       count = omega (arith, more, c.loop.invariant.count);
       few = omega (arith, total, few, c.loop.invariant.few);
       kept = subst (All (λ (p : Prop). IsKept p.value)) (sym pushed) (All-push (λ (p : Prop). IsKept p.value) props prop c.loop.invariant.kept c.in_ok-value.ensures.kept);
-      reads = reads_then (1 + length props + block_total props) (blocks_of c.in_ok-value.value) _ _ _ _ (omega (arith, more, total)) (reads_then _ 1 (1 + length c.loop.props.items + block_total c.loop.props.items) _ _ _ (omega arith) c.loop.invariant.reads c.in_ok-property_at.ensures.at_most) c.in_ok-value.ensures.reads;
-      onward = g.met.R.Reads.further_onward _ _ _ (g.met.R.Reads.further_onward _ _ _ c.loop.invariant.onward c.in_ok-property_at.ensures.onward) c.in_ok-value.ensures.onward;
+      reads = reads_then (1 + length props + block_total props) (blocks_of c.in_ok-value.value) _ _ _ _ (omega (arith, more, total))
+          (reads_then _ 1 (1 + length c.loop.props.items + block_total c.loop.props.items) _ _ _ (omega arith) c.loop.invariant.reads c.in_ok-property_at.ensures.at_most) c.in_ok-value.ensures.reads;
+      onward = g.met.R.Reads.further_onward _ _ _ (g.met.R.Reads.further_onward _ _ _ c.loop.invariant.onward c.in_ok-property_at.ensures.onward)
+          c.in_ok-value.ensures.onward;
       later = omega (arith, c.loop.invariant.later, c.in_ok-property_at.ensures.cause.later, c.in_ok-value.ensures.cause.later);
     }
 
 pub returns-then-at-clause-met : goal.returns-then-at-clause-met
-returns-then-at-clause-met g c tells = all_answered (g.R.Reads.state c.args.space.now).records c.loop.props.items _ c.loop.at c.loop.counter (inl c.if-at.true) (c.loop.invariant.met tells)
+returns-then-at-clause-met g c tells = all_answered (g.R.Reads.state c.args.space.now).records c.loop.props.items _ c.loop.at c.loop.counter (inl c.if-at.true)
+    (c.loop.invariant.met tells)
 
 pub returns-then-at-clause-read : goal.returns-then-at-clause-read
 returns-then-at-clause-read g c tells es are =
     returns-then-at-clause-met g c tells ∙ ap (map prop_of) (properties_read (property_records (g.R.Reads.state c.args.space.now).records) _ es are)
 
 pub returns-clause-met : goal.returns-clause-met
-returns-clause-met g c tells = all_answered (g.R.Reads.state c.args.space.now).records c.loop.props.items _ c.loop.at c.loop.counter (inr (omega arith)) (c.loop.invariant.met tells)
+returns-clause-met g c tells = all_answered (g.R.Reads.state c.args.space.now).records c.loop.props.items _ c.loop.at c.loop.counter (inr (omega arith))
+    (c.loop.invariant.met tells)
 
 pub returns-clause-read : goal.returns-clause-read
 returns-clause-read g c tells es are =
@@ -144,8 +155,10 @@ returns-in_err-value-clause-damaged g c tells used =
     let old = g.R.Reads.state c.args.space.now in
     let now = g.R.Reads.state c.loop.space in
     let then = g.R.Reads.state c.property_at.new.space in
-    let reads = reads_then _ 1 (1 + length c.loop.props.items + block_total c.loop.props.items) old now then (omega arith) c.loop.invariant.reads c.in_ok-property_at.ensures.at_most in
-    let read = subst (λ (r : Records). IsReadRow r c.property_at.new.row) (sym (reads_records 1 now then c.in_ok-property_at.ensures.at_most)) (c.in_ok-property_at.ensures.read tells) in
+    let reads = reads_then _ 1 (1 + length c.loop.props.items + block_total c.loop.props.items) old now then (omega arith) c.loop.invariant.reads
+    c.in_ok-property_at.ensures.at_most in
+    let read = subst (λ (r : Records). IsReadRow r c.property_at.new.row) (sym (reads_records 1 now then c.in_ok-property_at.ensures.at_most))
+    (c.in_ok-property_at.ensures.read tells) in
     same_has (BlamesBroken old.records old.shape) c.from_residual-in_err-value.result c.in_err-value.field-0.0 c.from_residual-in_err-value.ensures.1
     (text_blames old c.property_at.new.row.id c.in_err-value.field-0.0
     (text_fault_same old then (reads_records _ old then reads) (ap (λ (z : State). z.shape) (reads_same _ old then reads)) c.property_at.new.row.id c.in_err-value.field-0.0 (c.in_err-value.ensures.damaged tells read)))
@@ -164,7 +177,8 @@ pub returns-in_err-value-clause-cause : goal.returns-in_err-value-clause-cause
 returns-in_err-value-clause-cause g c =
     let later0 = c.loop.invariant.later in
     let later1 = c.in_ok-property_at.ensures.cause.later in
-    cause_passed _ _ _ c.from_residual-in_err-value.result c.in_err-value.field-0.0 (omega (arith, later0, later1)) c.in_err-value.ensures.cause c.from_residual-in_err-value.ensures.1
+    cause_passed _ _ _ c.from_residual-in_err-value.result c.in_err-value.field-0.0 (omega (arith, later0, later1)) c.in_err-value.ensures.cause
+    c.from_residual-in_err-value.ensures.1
 
 pub returns-in_err-push-clause-cause : goal.returns-in_err-push-clause-cause
 returns-in_err-push-clause-cause g c =

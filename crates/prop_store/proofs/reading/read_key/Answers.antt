@@ -31,12 +31,14 @@ returns-clause-damaged g c = rw c.in_ok-first.ensures.state at c.read_key_from.e
 
 pub returns-clause-cost : goal.returns-clause-cost
 returns-clause-cost g c = λ tells es are.
-    costs_after (λ value. length es + blocks_if value) (λ value. 1 + length es + blocks_if value) _ _ _ c.read_key_from.result (λ value. omega arith) c.in_ok-first.ensures.state
+    costs_after (λ value. length es + blocks_if value) (λ value. 1 + length es + blocks_if value) _ _ _ c.read_key_from.result (λ value. omega arith)
+    c.in_ok-first.ensures.state
     (c.read_key_from.ensures.cost tells es (subst (λ (s : State). AreProperties (property_records s.records) (first_of s.records c.args.owner) es) (sym c.in_ok-first.ensures.state) are))
 
 pub returns-clause-reads : goal.returns-clause-reads
 returns-clause-reads g c =
-    costs_after (λ value. 32 + blocks_if value) (λ value. 33 + blocks_if value) _ _ _ c.read_key_from.result (λ value. omega arith) c.in_ok-first.ensures.state c.read_key_from.ensures.reads
+    costs_after (λ value. 32 + blocks_if value) (λ value. 33 + blocks_if value) _ _ _ c.read_key_from.result (λ value. omega arith) c.in_ok-first.ensures.state
+    c.read_key_from.ensures.reads
 
 pub returns-clause-at_most : goal.returns-clause-at_most
 returns-clause-at_most g c = reads_after 54 55 _ _ _ (omega arith) c.in_ok-first.ensures.state c.read_key_from.ensures.at_most

@@ -33,47 +33,57 @@ returns-in_err-value-in-Found-clause-sound g c tells es has =
     rw (p.1, p.2) (c.in_err-value-in-Found.ensures.sound tells f.property.value f.property.blocks value (blocks_given old.records now.records c.args.owner es f.before f.property f.after same has f.all f.is.blocks))
 
 pub returns-in_err-value-in-Found-clause-at_most : goal.returns-in_err-value-in-Found-clause-at_most
-returns-in_err-value-in-Found-clause-at_most g c = reads_then 32 22 54 _ _ _ (omega arith) c.in_ok-find_from.ensures.at_most c.in_err-value-in-Found.ensures.at_most
+returns-in_err-value-in-Found-clause-at_most g c = reads_then 32 22 54 _ _ _ (omega arith) c.in_ok-find_from.ensures.at_most
+    c.in_err-value-in-Found.ensures.at_most
 
 pub returns-in_ok-value-in-Found-clause-met : goal.returns-in_ok-value-in-Found-clause-met
 returns-in_ok-value-in-Found-clause-met g c tells =
     let old = g.R.Reads.state c.args.space.now in
-    value_found old.records (g.R.Reads.state c.find_from.new.space).records c.args.owner c.args.key c.find_from.new.row c.in_ok-value-in-Found.value (reads_records 32 old _ c.in_ok-find_from.ensures.at_most)
-    (subst (IsMet old.records c.args.owner c.args.key c.find_from.new.row) c.in-Found.is (c.in_ok-find_from.ensures.met tells)) (c.in_ok-value-in-Found.ensures.met tells)
+    value_found old.records (g.R.Reads.state c.find_from.new.space).records c.args.owner c.args.key c.find_from.new.row c.in_ok-value-in-Found.value
+    (reads_records 32 old _ c.in_ok-find_from.ensures.at_most)
+    (subst (IsMet old.records c.args.owner c.args.key c.find_from.new.row) c.in-Found.is (c.in_ok-find_from.ensures.met tells))
+    (c.in_ok-value-in-Found.ensures.met tells)
 
 pub returns-in_ok-value-in-Found-clause-read : goal.returns-in_ok-value-in-Found-clause-read
 returns-in_ok-value-in-Found-clause-read g c tells es are =
-    returns-in_ok-value-in-Found-clause-met g c tells ∙ ap (λ z. value_of z c.args.key) (properties_read (property_records (g.R.Reads.state c.args.space.now).records) _ es are)
+    returns-in_ok-value-in-Found-clause-met g c tells ∙ ap (λ z. value_of z c.args.key)
+    (properties_read (property_records (g.R.Reads.state c.args.space.now).records) _ es are)
 
 pub returns-in_ok-value-in-Found-clause-cost : goal.returns-in_ok-value-in-Found-clause-cost
-returns-in_ok-value-in-Found-clause-cost g c tells es are = reads_then _ _ _ _ _ _ (omega arith) (c.in_ok-find_from.ensures.cost tells es are) c.in_ok-value-in-Found.ensures.reads
+returns-in_ok-value-in-Found-clause-cost g c tells es are = reads_then _ _ _ _ _ _ (omega arith) (c.in_ok-find_from.ensures.cost tells es are)
+    c.in_ok-value-in-Found.ensures.reads
 
 pub returns-in_ok-value-in-Found-clause-reads : goal.returns-in_ok-value-in-Found-clause-reads
 returns-in_ok-value-in-Found-clause-reads g c = reads_then 32 _ _ _ _ _ (omega arith) c.in_ok-find_from.ensures.at_most c.in_ok-value-in-Found.ensures.reads
 
 pub returns-in_ok-value-in-Found-clause-at_most : goal.returns-in_ok-value-in-Found-clause-at_most
-returns-in_ok-value-in-Found-clause-at_most g c = reads_then 32 22 54 _ _ _ (omega arith) c.in_ok-find_from.ensures.at_most c.in_ok-value-in-Found.ensures.at_most
+returns-in_ok-value-in-Found-clause-at_most g c = reads_then 32 22 54 _ _ _ (omega arith) c.in_ok-find_from.ensures.at_most
+    c.in_ok-value-in-Found.ensures.at_most
 
 -- ---- which record is blamed
 
 pub returns-in_err-find_from-clause-damaged : goal.returns-in_err-find_from-clause-damaged
 returns-in_err-find_from-clause-damaged g c tells used =
     let old = g.R.Reads.state c.args.space.now in
-    same_has (BlamesBroken old.records old.shape) c.from_residual.result c.in_err-find_from.field-0.0 c.from_residual.ensures.1 (c.in_err-find_from.ensures.damaged tells used)
+    same_has (BlamesBroken old.records old.shape) c.from_residual.result c.in_err-find_from.field-0.0 c.from_residual.ensures.1
+    (c.in_err-find_from.ensures.damaged tells used)
 
 pub returns-in_err-value-in-Found-clause-damaged : goal.returns-in_err-value-in-Found-clause-damaged
 returns-in_err-value-in-Found-clause-damaged g c tells used =
     let old = g.R.Reads.state c.args.space.now in
     let now = g.R.Reads.state c.find_from.new.space in
     let reads = c.in_ok-find_from.ensures.at_most in
-    let read = subst (λ (r : Records). IsReadRow r c.find_from.new.row) (sym (reads_records 32 old now reads)) (subst (IsReadAt old.records c.find_from.new.row) c.in-Found.is (c.in_ok-find_from.ensures.read tells)) in
-    same_has (BlamesBroken old.records old.shape) c.from_residual-in_err-value-in-Found.result c.in_err-value-in-Found.field-0.0 c.from_residual-in_err-value-in-Found.ensures.1
+    let read = subst (λ (r : Records). IsReadRow r c.find_from.new.row) (sym (reads_records 32 old now reads))
+    (subst (IsReadAt old.records c.find_from.new.row) c.in-Found.is (c.in_ok-find_from.ensures.read tells)) in
+    same_has (BlamesBroken old.records old.shape) c.from_residual-in_err-value-in-Found.result c.in_err-value-in-Found.field-0.0
+    c.from_residual-in_err-value-in-Found.ensures.1
     (text_blames old c.find_from.new.row.id c.in_err-value-in-Found.field-0.0
     (text_fault_same old now (reads_records 32 old now reads) (ap (λ (z : State). z.shape) (reads_same 32 old now reads)) c.find_from.new.row.id c.in_err-value-in-Found.field-0.0 (c.in_err-value-in-Found.ensures.damaged tells read)))
 
 pub returns-in_err-value-in-Found-clause-cause : goal.returns-in_err-value-in-Found-clause-cause
 returns-in_err-value-in-Found-clause-cause g c =
-    cause_passed _ _ _ c.from_residual-in_err-value-in-Found.result c.in_err-value-in-Found.field-0.0 c.in_ok-find_from.ensures.cause.later c.in_err-value-in-Found.ensures.cause c.from_residual-in_err-value-in-Found.ensures.1
+    cause_passed _ _ _ c.from_residual-in_err-value-in-Found.result c.in_err-value-in-Found.field-0.0 c.in_ok-find_from.ensures.cause.later
+    c.in_err-value-in-Found.ensures.cause c.from_residual-in_err-value-in-Found.ensures.1
 
 pub returns-in_err-value-in-Found-clause-onward : goal.returns-in_err-value-in-Found-clause-onward
 returns-in_err-value-in-Found-clause-onward g c =

@@ -12,7 +12,9 @@ pub give-requires-clause-key : goal.give-requires-clause-key
 give-requires-clause-key g c = record { file = refl; id = c.requires (get_or c.args.blocks.now c.loop-id.id-index 0) (in_at c.args.blocks.now c.loop-id.id-index (omega arith)) }
 
 pub returns-in_err-give-clause-touches : goal.returns-in_err-give-clause-touches
-returns-in_err-give-clause-touches g c = only_given _ _ _ strings_file (get_or c.args.blocks.now c.loop-id.id-index 0) c.args.blocks.now (in_at c.args.blocks.now c.loop-id.id-index (omega arith)) c.loop-id.invariant.touches (record { writes = c.give.ensures.writes; stays = c.give.ensures.stays })
+returns-in_err-give-clause-touches g c = only_given _ _ _ strings_file (get_or c.args.blocks.now c.loop-id.id-index 0) c.args.blocks.now
+    (in_at c.args.blocks.now c.loop-id.id-index (omega arith)) c.loop-id.invariant.touches
+    (record { writes = c.give.ensures.writes; stays = c.give.ensures.stays })
 
 pub loop-id-preserved : goal.loop-id-preserved
 loop-id-preserved g c =
@@ -24,11 +26,15 @@ loop-id-preserved g c =
     let id = get_or blocks i 0 in
     let lt : i < length blocks = omega arith in
     record {
-      released = λ tells once h. one_given old.records now then old.shape strings_file blocks (drop i blocks) (drop (i + 1) blocks) id i (i + 1) (inr refl) (drop_step blocks i (i + 1) refl lt) refl
+      released = λ tells once h. one_given old.records now then old.shape strings_file blocks (drop i blocks) (drop (i + 1) blocks) id i (i + 1) (inr refl)
+          (drop_step blocks i (i + 1) refl lt) refl
           (c.in_ok-give.ensures.given tells) (c.loop-id.invariant.released tells once h);
-      harmless = λ tells used link. one_linked old now then blocks (drop i blocks) (drop (i + 1) blocks) id (omega arith) (drop_step blocks i (i + 1) refl lt) (c.requires id (in_at blocks i lt)) (c.in_ok-give.ensures.ok tells) (c.loop-id.invariant.harmless tells used link);
-      beside = λ tells. beside_then strings_file old.records now.records then.records (c.loop-id.invariant.beside tells) (beside_given now then strings_file id (c.in_ok-give.ensures.ok tells));
-      touches = only_given old now then strings_file id blocks (in_at blocks i lt) c.loop-id.invariant.touches (record { writes = c.give.ensures.writes; stays = c.give.ensures.stays });
+      harmless = λ tells used link. one_linked old now then blocks (drop i blocks) (drop (i + 1) blocks) id (omega arith) (drop_step blocks i (i + 1) refl lt)
+          (c.requires id (in_at blocks i lt)) (c.in_ok-give.ensures.ok tells) (c.loop-id.invariant.harmless tells used link);
+      beside = λ tells. beside_then strings_file old.records now.records then.records (c.loop-id.invariant.beside tells)
+          (beside_given now then strings_file id (c.in_ok-give.ensures.ok tells));
+      touches = only_given old now then strings_file id blocks (in_at blocks i lt) c.loop-id.invariant.touches
+          (record { writes = c.give.ensures.writes; stays = c.give.ensures.stays });
       onward = g.met.S.Reads.further_onward _ _ _ c.loop-id.invariant.onward c.give.ensures.onward;
       later = omega (arith, c.loop-id.invariant.later, c.give.ensures.cause.later);
     }

@@ -13,7 +13,8 @@ give-requires-clause-key g c = record { file = refl; id = c.requires (get_or c.a
 
 pub returns-in_err-give-clause-touches : goal.returns-in_err-give-clause-touches
 returns-in_err-give-clause-touches g c =
-    only_given _ _ _ properties_file (get_or c.args.ids.now c.loop-id.id-index 0) c.args.ids.now (in_at c.args.ids.now c.loop-id.id-index (omega arith)) c.loop-id.invariant.touches (record { writes = c.give.ensures.writes; stays = c.give.ensures.stays })
+    only_given _ _ _ properties_file (get_or c.args.ids.now c.loop-id.id-index 0) c.args.ids.now (in_at c.args.ids.now c.loop-id.id-index (omega arith))
+    c.loop-id.invariant.touches (record { writes = c.give.ensures.writes; stays = c.give.ensures.stays })
 
 pub loop-id-preserved : goal.loop-id-preserved
 loop-id-preserved g c =
@@ -25,10 +26,13 @@ loop-id-preserved g c =
     let id = get_or ids i 0 in
     let lt : i < length ids = omega arith in
     record {
-      released = λ tells once h. one_given old.records now then old.shape properties_file ids (drop i ids) (drop (i + 1) ids) id i (i + 1) (inl refl) (drop_step ids i (i + 1) refl lt) refl
+      released = λ tells once h. one_given old.records now then old.shape properties_file ids (drop i ids) (drop (i + 1) ids) id i (i + 1) (inl refl)
+          (drop_step ids i (i + 1) refl lt) refl
           (c.in_ok-give.ensures.given tells) (c.loop-id.invariant.released tells once h);
-      beside = λ tells. beside_then properties_file old.records now.records then.records (c.loop-id.invariant.beside tells) (beside_given now then properties_file id (c.in_ok-give.ensures.ok tells));
-      touches = only_given old now then properties_file id ids (in_at ids i lt) c.loop-id.invariant.touches (record { writes = c.give.ensures.writes; stays = c.give.ensures.stays });
+      beside = λ tells. beside_then properties_file old.records now.records then.records (c.loop-id.invariant.beside tells)
+          (beside_given now then properties_file id (c.in_ok-give.ensures.ok tells));
+      touches = only_given old now then properties_file id ids (in_at ids i lt) c.loop-id.invariant.touches
+          (record { writes = c.give.ensures.writes; stays = c.give.ensures.stays });
       onward = g.met.S.Reads.further_onward _ _ _ c.loop-id.invariant.onward c.give.ensures.onward;
       later = omega (arith, c.loop-id.invariant.later, c.give.ensures.cause.later);
     }

@@ -15,7 +15,8 @@ invariant-loop-id g l =
     let old = g.S.Reads.state l.fn.space in
     let now = g.S.Reads.state l.space in
     record {
-      released : g.S.Reads.tells → AreOnce l.fn.ids → ChangesFile old.records old.records old.shape properties_file l.fn.ids l.fn.ids → HasLeft old.records now.records old.shape properties_file l.fn.ids (drop l.id-index l.fn.ids) l.id-index;
+      released : g.S.Reads.tells → AreOnce l.fn.ids → ChangesFile old.records old.records old.shape properties_file l.fn.ids l.fn.ids
+          → HasLeft old.records now.records old.shape properties_file l.fn.ids (drop l.id-index l.fn.ids) l.id-index;
       beside : g.S.Reads.tells → IsSameBeside properties_file old.records now.records;
       touches : TouchesOnly g.S.Reads.tells old now (meta_key_of properties_file ∷ map (key_in properties_file) l.fn.ids);
       onward : g.S.Reads.onward l.fn.space l.space;

@@ -32,7 +32,8 @@ use Rattle.rec_bytes.proofs.Causes.{never_ok, ok_cause}
 use Rattle.prop_store.proofs.setting.add.Goals as goal
 
 -- as few are listed
-few_listed : (s : State) (owner : Owner) (is : IsOwner owner) (key : _) (has : HasKey s owner key) → maps.len (properties_of s owner) < 32 → length (listed_at s owner is has.element) < 32
+few_listed : (s : State) (owner : Owner) (is : IsOwner owner) (key : _) (has : HasKey s owner key) → maps.len (properties_of s owner) < 32
+    → length (listed_at s owner is has.element) < 32
 few_listed s owner is key has few = let n = count_is s owner is has.element in omega arith
 
 pub returns-then-meta-room_of-clause-alone_refused : goal.returns-then-meta-room_of-clause-alone_refused
@@ -47,7 +48,8 @@ returns-then-meta-room_of-clause-refused g c tells has none few =
     let s = g.S.Reads.state c.args.space.now in
     let owner = c.args.owner in
     let is = c.requires.owner in
-    refusal_graph s owner is has.element c.args.key has.known c.args.value.now (Full properties_file c.meta-meta.result.live) (returns-then-meta-room_of-clause-alone_refused g c tells _ (owns_listed s owner is has.element) has.known
+    refusal_graph s owner is has.element c.args.key has.known c.args.value.now (Full properties_file c.meta-meta.result.live)
+    (returns-then-meta-room_of-clause-alone_refused g c tells _ (owns_listed s owner is has.element) has.known
     (lacks_key s owner is has.element c.args.key none) (few_listed s owner is c.args.key has few))
 
 pub returns-in_err-id-clause-alone_refused : goal.returns-in_err-id-clause-alone_refused
@@ -55,7 +57,8 @@ returns-in_err-id-clause-alone_refused g c tells es owns known lacks few =
     let s = g.S.Reads.state c.args.space.now in
     let e = c.first.ensures.state in
     let p = err_from_is_err_and c.from_residual-in_err-id.result c.from_residual-in_err-id.ensures.1 in
-    let room : (meta_of s properties_file).live ≢ room_of s.shape properties_file = λ full. c.if-meta-room_of.false (ap (λ (m : Meta). m.live) c.meta-meta.ensures ∙ full ∙ sym (c.room_of.ensures ∙ ap (λ (y : Shape). y.limit) c.shape.ensures.is)) in
+    let room : (meta_of s properties_file).live ≢ room_of s.shape properties_file = λ full.
+    c.if-meta-room_of.false (ap (λ (m : Meta). m.live) c.meta-meta.ensures ∙ full ∙ sym (c.room_of.ensures ∙ ap (λ (y : Shape). y.limit) c.shape.ensures.is)) in
     let put : IsPutFault s 0 (blocks_of c.args.value.now) c.in_err-id.field-0.0 =
     subst (λ (y : State). KeepsFile y strings_file → KeepsFile y properties_file → (meta_of y properties_file).live ≢ room_of y.shape properties_file → IsPutFault y 0 (blocks_of c.args.value.now) c.in_err-id.field-0.0) e
     (c.in_err-id.ensures.refused tells) (keeps_strings s c.args.owner es owns) (keeps_properties s c.args.owner es owns) room in
@@ -66,7 +69,8 @@ returns-in_err-id-clause-refused g c tells has none few =
     let s = g.S.Reads.state c.args.space.now in
     let owner = c.args.owner in
     let is = c.requires.owner in
-    IfErr-weaker _ _ _ (refusal_graph s owner is has.element c.args.key has.known c.args.value.now) (returns-in_err-id-clause-alone_refused g c tells _ (owns_listed s owner is has.element) has.known
+    IfErr-weaker _ _ _ (refusal_graph s owner is has.element c.args.key has.known c.args.value.now)
+    (returns-in_err-id-clause-alone_refused g c tells _ (owns_listed s owner is has.element) has.known
     (lacks_key s owner is has.element c.args.key none) (few_listed s owner is c.args.key has few))
 
 pub returns-clause-alone : goal.returns-clause-alone
@@ -79,9 +83,12 @@ returns-clause-alone g c tells es owns known lacks few =
     let next_is = c.in_ok-next.ensures.got tells in
     let strings : KeepsFile z strings_file = subst (λ (y : State). KeepsFile y strings_file) (sym e) (keeps_strings s owner es owns) in
     let properties : KeepsFile z properties_file = subst (λ (y : State). KeepsFile y properties_file) (sym e) (keeps_properties s owner es owns) in
-    let leads : MayLead z c.in_ok-next.next = subst (λ (y : State). MayLead y c.in_ok-next.next) (sym e) (subst (MayLead s) (sym next_is) (first_leads s owner es owns)) in
-    let puts = puts_read s z m [] [] c.in_ok-id.id c.args.key c.args.value.now c.in_ok-next.next (reads_same 1 s z (reads_one 1 s z (omega arith) e)) (c.in_ok-id.ensures.put tells strings properties leads) in
-    value_added s owner es owns c.requires.owner m (g.S.Reads.state c.set_number.new.space) c.args.key c.args.value.now c.in_ok-id.id c.in_ok-next.next known lacks few next_is puts (c.in_ok-set_number.ensures.ok tells)
+    let leads : MayLead z c.in_ok-next.next = subst (λ (y : State). MayLead y c.in_ok-next.next) (sym e)
+    (subst (MayLead s) (sym next_is) (first_leads s owner es owns)) in
+    let puts = puts_read s z m [] [] c.in_ok-id.id c.args.key c.args.value.now c.in_ok-next.next (reads_same 1 s z (reads_one 1 s z (omega arith) e))
+    (c.in_ok-id.ensures.put tells strings properties leads) in
+    value_added s owner es owns c.requires.owner m (g.S.Reads.state c.set_number.new.space) c.args.key c.args.value.now c.in_ok-id.id c.in_ok-next.next known
+    lacks few next_is puts (c.in_ok-set_number.ensures.ok tells)
 
 pub returns-clause-added : goal.returns-clause-added
 returns-clause-added g c tells has none few =
@@ -99,23 +106,27 @@ pub returns-in_err-next-clause-touches : goal.returns-in_err-next-clause-touches
 returns-in_err-next-clause-touches g c = touches_reads _ 1 _ _ _ (reads_same 1 _ _ (reads_one 1 _ _ (omega arith) c.first.ensures.state))
 
 pub returns-in_err-id-clause-touches : goal.returns-in_err-id-clause-touches
-returns-in_err-id-clause-touches g c = touches_after _ 1 _ _ _ _ (reads_same 1 _ _ (reads_one 1 _ _ (omega arith) c.first.ensures.state)) (touches_beside _ 1 _ _ _ c.put_new.ensures.touches)
+returns-in_err-id-clause-touches g c = touches_after _ 1 _ _ _ _ (reads_same 1 _ _ (reads_one 1 _ _ (omega arith) c.first.ensures.state))
+    (touches_beside _ 1 _ _ _ c.put_new.ensures.touches)
 
 pub returns-in_err-set_number-clause-touches : goal.returns-in_err-set_number-clause-touches
 returns-in_err-set_number-clause-touches g c =
-    let put = touches_beside (c.args.owner.key ∷ []) 1 (blocks_of c.args.value.now) (g.S.Reads.state c.first.new.space) (g.S.Reads.state c.put_new.new.space) c.put_new.ensures.touches in
+    let put = touches_beside (c.args.owner.key ∷ []) 1 (blocks_of c.args.value.now) (g.S.Reads.state c.first.new.space) (g.S.Reads.state c.put_new.new.space)
+    c.put_new.ensures.touches in
     touches_after _ 1 _ _ _ _ (reads_same 1 _ _ (reads_one 1 _ _ (omega arith) c.first.ensures.state))
     (touches_then _ 1 (blocks_of c.args.value.now) 0 0 1 (blocks_of c.args.value.now) _ _ _ (omega arith) (omega arith) put (touches_reads _ 0 0 _ _ (reads_same 1 _ _ (reads_one 1 _ _ (omega arith) c.in_err-set_number.ensures.err))))
 
 pub returns-clause-touches : goal.returns-clause-touches
 returns-clause-touches g c =
-    let put = touches_beside (c.args.owner.key ∷ []) 1 (blocks_of c.args.value.now) (g.S.Reads.state c.first.new.space) (g.S.Reads.state c.put_new.new.space) c.put_new.ensures.touches in
+    let put = touches_beside (c.args.owner.key ∷ []) 1 (blocks_of c.args.value.now) (g.S.Reads.state c.first.new.space) (g.S.Reads.state c.put_new.new.space)
+    c.put_new.ensures.touches in
     touches_after _ 1 _ _ _ _ (reads_same 1 _ _ (reads_one 1 _ _ (omega arith) c.first.ensures.state))
     (touches_then _ 1 (blocks_of c.args.value.now) 0 0 1 (blocks_of c.args.value.now) _ _ _ (omega arith) (omega arith) put
     (touches_owner _ _ c.args.owner.key 4 c.args.owner.field c.in_ok-id.id c.set_number.ensures.writes c.in_ok-set_number.ensures.ok))
 
 pub returns-clause-writes : goal.returns-clause-writes
-returns-clause-writes g c = touched_beside 1 (blocks_of c.args.value.now) (1 + blocks_of c.args.value.now) _ _ c.args.owner.key (omega arith) (returns-clause-touches g c)
+returns-clause-writes g c = touched_beside 1 (blocks_of c.args.value.now) (1 + blocks_of c.args.value.now) _ _ c.args.owner.key (omega arith)
+    (returns-clause-touches g c)
 
 -- ---- which record is blamed
 
@@ -140,17 +151,20 @@ returns-in_err-id-clause-lists g c tells =
 pub returns-in_err-id-clause-damaged : goal.returns-in_err-id-clause-damaged
 returns-in_err-id-clause-damaged g c tells =
     let s = g.S.Reads.state c.args.space.now in
-    IfErr-weaker c.from_residual-in_err-id.result (BlamesLists s) (SetBlamesBroken s) (λ fault why. lists_broken s fault why) (returns-in_err-id-clause-lists g c tells)
+    IfErr-weaker c.from_residual-in_err-id.result (BlamesLists s) (SetBlamesBroken s) (λ fault why. lists_broken s fault why)
+    (returns-in_err-id-clause-lists g c tells)
 
 pub returns-in_err-set_number-clause-lists : goal.returns-in_err-set_number-clause-lists
 returns-in_err-set_number-clause-lists g c tells =
     let s = g.S.Reads.state c.args.space.now in
-    set_has (BlamesLists s) c.from_residual-in_err-set_number.result _ c.from_residual-in_err-set_number.ensures.1 (lists_of_space s c.in_err-set_number.field-0.0)
+    set_has (BlamesLists s) c.from_residual-in_err-set_number.result _ c.from_residual-in_err-set_number.ensures.1
+    (lists_of_space s c.in_err-set_number.field-0.0)
 
 pub returns-in_err-set_number-clause-damaged : goal.returns-in_err-set_number-clause-damaged
 returns-in_err-set_number-clause-damaged g c tells =
     let s = g.S.Reads.state c.args.space.now in
-    set_has (SetBlamesBroken s) c.from_residual-in_err-set_number.result _ c.from_residual-in_err-set_number.ensures.1 (set_still_space s c.in_err-set_number.field-0.0)
+    set_has (SetBlamesBroken s) c.from_residual-in_err-set_number.result _ c.from_residual-in_err-set_number.ensures.1
+    (set_still_space s c.in_err-set_number.field-0.0)
 
 -- ---- what is left of the free lists
 
@@ -182,7 +196,8 @@ returns-in_err-next-clause-caused g c tells =
     let s = g.S.Reads.state c.args.space.now in
     let t = g.S.Reads.state c.first.new.space in
     let n = blocks_of c.args.value.now in
-    set_has (IsSetCause ⊥ (SameButReads s t) n t) c.from_residual.result _ c.from_residual.ensures.1 (set_caused_space ⊥ (SameButReads s t) t n c.in_err-next.field-0.0)
+    set_has (IsSetCause ⊥ (SameButReads s t) n t) c.from_residual.result _ c.from_residual.ensures.1
+    (set_caused_space ⊥ (SameButReads s t) t n c.in_err-next.field-0.0)
 
 pub returns-in_err-id-clause-caused : goal.returns-in_err-id-clause-caused
 returns-in_err-id-clause-caused g c tells =
@@ -201,7 +216,8 @@ returns-in_err-set_number-clause-caused g c tells =
     let s = g.S.Reads.state c.args.space.now in
     let t = g.S.Reads.state c.set_number.new.space in
     let n = blocks_of c.args.value.now in
-    set_has (IsSetCause ⊥ (SameButReads s t) n t) c.from_residual-in_err-set_number.result _ c.from_residual-in_err-set_number.ensures.1 (set_caused_space ⊥ (SameButReads s t) t n c.in_err-set_number.field-0.0)
+    set_has (IsSetCause ⊥ (SameButReads s t) n t) c.from_residual-in_err-set_number.result _ c.from_residual-in_err-set_number.ensures.1
+    (set_caused_space ⊥ (SameButReads s t) t n c.in_err-set_number.field-0.0)
 
 -- ---- what is blamed is broken still
 
@@ -218,15 +234,18 @@ returns-in_err-id-clause-still g c tells =
 pub returns-in_err-set_number-clause-still : goal.returns-in_err-set_number-clause-still
 returns-in_err-set_number-clause-still g c tells =
     let t = g.S.Reads.state c.set_number.new.space in
-    set_has (SetBlamesBroken t) c.from_residual-in_err-set_number.result _ c.from_residual-in_err-set_number.ensures.1 (set_still_space t c.in_err-set_number.field-0.0)
+    set_has (SetBlamesBroken t) c.from_residual-in_err-set_number.result _ c.from_residual-in_err-set_number.ensures.1
+    (set_still_space t c.in_err-set_number.field-0.0)
 
 pub returns-in_err-id-clause-cause : goal.returns-in_err-id-clause-cause
 returns-in_err-id-clause-cause g c =
-    set_cause_passed _ _ _ c.from_residual-in_err-id.result c.in_err-id.field-0.0 c.in_ok-next.ensures.cause.later c.in_err-id.ensures.cause c.from_residual-in_err-id.ensures.1
+    set_cause_passed _ _ _ c.from_residual-in_err-id.result c.in_err-id.field-0.0 c.in_ok-next.ensures.cause.later c.in_err-id.ensures.cause
+    c.from_residual-in_err-id.ensures.1
 
 pub returns-in_err-set_number-clause-cause : goal.returns-in_err-set_number-clause-cause
 returns-in_err-set_number-clause-cause g c =
-    space_set_cause _ _ _ c.from_residual-in_err-set_number.result c.in_err-set_number.field-0.0 (later_on c.in_ok-next.ensures.cause.later c.in_ok-id.ensures.cause.later) c.in_err-set_number.ensures.cause c.from_residual-in_err-set_number.ensures.1
+    space_set_cause _ _ _ c.from_residual-in_err-set_number.result c.in_err-set_number.field-0.0
+    (later_on c.in_ok-next.ensures.cause.later c.in_ok-id.ensures.cause.later) c.in_err-set_number.ensures.cause c.from_residual-in_err-set_number.ensures.1
 
 pub returns-in_err-id-clause-onward : goal.returns-in_err-id-clause-onward
 returns-in_err-id-clause-onward g c =

@@ -14,7 +14,9 @@ use Rattle.prop_store.specs.Fault.{BlamesBroken}
 use Rattle.prop_store.specs.SetFault.{IsSetCause, IsTextCause, of_take}
 use Rattle.prop_store.specs.Setting.{SetBlamesBroken}
 use Rattle.prop_store.proofs.Breaches.{strings_free, text_blames}
-use Rattle.prop_store.proofs.Midway.{lists_broken, lists_of_text, set_cause, set_caused_fault, set_caused_space, set_caused_text, set_has, set_read, set_still_fault, set_still_space, set_still_take}
+use Rattle.prop_store.proofs.Midway.{lists_broken, lists_of_text, set_cause, set_caused_fault, set_caused_space}
+use Rattle.prop_store.proofs.Midway.{set_caused_text, set_has, set_read, set_still_fault, set_still_space}
+use Rattle.prop_store.proofs.Midway.{set_still_take}
 use Rattle.prop_store.proofs.PutSteps.{blocks_needed, again_put, again_text_fault, read_put_fault, space_put_fault}
 use Rattle.prop_store.proofs.PutTouches.{touches_new, touches_texts}
 use Rattle.prop_store.proofs.ReadCounts.{reads_records, reads_same}
@@ -42,7 +44,8 @@ returns-in_err-first-clause-refused g c tells e held =
     let a = g.S.Reads.state c.value_blocks.new.space in
     let b = g.S.Reads.state c.release.new.space in
     rw (p.1, p.2) (again_text_fault s a b c.args.row.now e c.as_slice-ids.result.now held (reads_same 22 s a c.value_blocks.ensures.at_most) (c.as_slice-ids.ensures.is ∙ c.in_ok-blocks.ensures.followed tells e.value e.blocks held.value)
-    (c.in_ok-release.ensures.released tells) (c.in_ok-release.ensures.beside tells) (g.met.S.Reads.onward_shape _ _ c.release.ensures.onward) c.args.value.now c.long_bytes.result.now c.long_bytes.ensures.is c.in_err-first.field-0.0 (c.in_err-first.ensures.refused tells))
+    (c.in_ok-release.ensures.released tells) (c.in_ok-release.ensures.beside tells) (g.met.S.Reads.onward_shape _ _ c.release.ensures.onward) c.args.value.now
+    c.long_bytes.result.now c.long_bytes.ensures.is c.in_err-first.field-0.0 (c.in_err-first.ensures.refused tells))
 
 pub returns-clause-put : goal.returns-clause-put
 returns-clause-put g c tells e held may =
@@ -53,9 +56,13 @@ returns-clause-put g c tells e held may =
     let t = g.S.Reads.state c.put.new.self in
     let ids_are = c.as_slice-ids.ensures.is ∙ c.in_ok-blocks.ensures.followed tells e.value e.blocks held.value in (
       ap (λ (xs : List ℕ). length xs) ids_are,
-      again_put s a b c.args.row.now e c.as_slice-ids.result.now held (reads_same 22 s a c.value_blocks.ensures.at_most) ids_are (c.in_ok-release.ensures.released tells) (c.in_ok-release.ensures.beside tells) (g.met.S.Reads.onward_shape _ _ c.release.ensures.onward)
-          d t c.long_bytes.result.now c.in_ok-first.first c.number-key.result c.number-next.result (field 4 c.args.row.now.rec property_key) (field 4 c.args.row.now.rec property_next) c.args.value.now c.property_record.result
-          c.number-key.ensures c.number-next.ensures c.requires.kept (omega (arith, c.number-key.type_inv)) (omega (arith, c.number-next.type_inv)) c.long_bytes.ensures.is c.property_record.ensures c.requires.row.small (c.in_ok-first.ensures.written tells) (c.in_ok-first.ensures.beside tells) c.in_ok-put.ensures.ok may,
+      again_put s a b c.args.row.now e c.as_slice-ids.result.now held (reads_same 22 s a c.value_blocks.ensures.at_most) ids_are
+          (c.in_ok-release.ensures.released tells) (c.in_ok-release.ensures.beside tells) (g.met.S.Reads.onward_shape _ _ c.release.ensures.onward)
+          d t c.long_bytes.result.now c.in_ok-first.first c.number-key.result c.number-next.result (field 4 c.args.row.now.rec property_key)
+          (field 4 c.args.row.now.rec property_next) c.args.value.now c.property_record.result
+          c.number-key.ensures c.number-next.ensures c.requires.kept (omega (arith, c.number-key.type_inv)) (omega (arith, c.number-next.type_inv))
+          c.long_bytes.ensures.is c.property_record.ensures c.requires.row.small (c.in_ok-first.ensures.written tells) (c.in_ok-first.ensures.beside tells)
+          c.in_ok-put.ensures.ok may,
     )
 
 pub returns-in_err-blocks-clause-at_most : goal.returns-in_err-blocks-clause-at_most
@@ -64,7 +71,8 @@ returns-in_err-blocks-clause-at_most g c = touches_reads [] 1 _ _ _ (reads_same 
 pub returns-in_err-release-clause-at_most : goal.returns-in_err-release-clause-at_most
 returns-in_err-release-clause-at_most g c =
     let few = c.as_slice-ids.ensures.few in
-    touches_more [] 0 (length c.as_slice-ids.result.now) 1 (22 + blocks_of c.args.value.now) _ _ (omega arith) (omega arith) (touches_freed _ _ _ c.as_slice-ids.result.now (reads_same 22 _ _ c.value_blocks.ensures.at_most) c.release.ensures.touches)
+    touches_more [] 0 (length c.as_slice-ids.result.now) 1 (22 + blocks_of c.args.value.now) _ _ (omega arith) (omega arith)
+    (touches_freed _ _ _ c.as_slice-ids.result.now (reads_same 22 _ _ c.value_blocks.ensures.at_most) c.release.ensures.touches)
 
 pub returns-in_err-first-clause-at_most : goal.returns-in_err-first-clause-at_most
 returns-in_err-first-clause-at_most g c =
@@ -75,7 +83,8 @@ returns-in_err-first-clause-at_most g c =
 pub returns-in_err-put-clause-at_most : goal.returns-in_err-put-clause-at_most
 returns-in_err-put-clause-at_most g c =
     let few = c.as_slice-ids.ensures.few in
-    touches_same [] 0 (blocks_of c.args.value.now + length c.as_slice-ids.result.now) 1 (22 + blocks_of c.args.value.now) _ _ _ (omega arith) (omega arith) c.in_err-put.ensures.err
+    touches_same [] 0 (blocks_of c.args.value.now + length c.as_slice-ids.result.now) 1 (22 + blocks_of c.args.value.now) _ _ _ (omega arith) (omega arith)
+    c.in_err-put.ensures.err
     (touches_texts _ _ _ _ c.args.value.now c.as_slice-ids.result.now c.long_bytes.result.now c.long_bytes.ensures.is (reads_same 22 _ _ c.value_blocks.ensures.at_most) c.release.ensures.touches c.write_text.ensures.touches)
 
 pub returns-clause-touches : goal.returns-clause-touches
@@ -84,7 +93,8 @@ returns-clause-touches g c =
     (touches_texts _ _ _ _ c.args.value.now c.as_slice-ids.result.now c.long_bytes.result.now c.long_bytes.ensures.is (reads_same 22 _ _ c.value_blocks.ensures.at_most) c.release.ensures.touches c.write_text.ensures.touches) c.in_ok-put.ensures.ok
 
 pub returns-clause-at_most : goal.returns-clause-at_most
-returns-clause-at_most g c = let few = c.as_slice-ids.ensures.few in touches_more [] 1 _ 1 (22 + blocks_of c.args.value.now) _ _ (omega arith) (omega arith) (returns-clause-touches g c)
+returns-clause-at_most g c = let few = c.as_slice-ids.ensures.few in touches_more [] 1 _ 1 (22 + blocks_of c.args.value.now) _ _ (omega arith) (omega arith)
+    (returns-clause-touches g c)
 
 -- ---- which record is blamed
 
@@ -106,7 +116,8 @@ returns-in_err-first-clause-damaged g c tells read =
     let b = g.S.Reads.state c.release.new.space in
     let fault = c.in_err-first.field-0.0 in
     let ids = c.as_slice-ids.result.now in
-    let used : AreUsedOnce a.records ids = subst (λ (r : Records). AreUsedOnce r ids) (sym (reads_records 22 s a c.value_blocks.ensures.at_most)) (subst (AreUsedOnce s.records) (sym c.as_slice-ids.ensures.is) (c.in_ok-blocks.ensures.once tells)) in
+    let used : AreUsedOnce a.records ids = subst (λ (r : Records). AreUsedOnce r ids) (sym (reads_records 22 s a c.value_blocks.ensures.at_most))
+    (subst (AreUsedOnce s.records) (sym c.as_slice-ids.ensures.is) (c.in_ok-blocks.ensures.once tells)) in
     let harmless = c.in_ok-release.ensures.harmless tells used c.in_ok-test_free.ensures.passed in
     set_has (SetBlamesBroken s) c.from_residual-in_err-first.result _ c.from_residual-in_err-first.ensures.1
     (set_read s a (of_take fault) (reads_same 22 s a c.value_blocks.ensures.at_most)
@@ -129,7 +140,8 @@ pub returns-in_err-release-clause-caused : goal.returns-in_err-release-clause-ca
 returns-in_err-release-clause-caused g c tells =
     let t = g.S.Reads.state c.release.new.space in
     let n = blocks_of c.args.value.now in
-    set_has (IsSetCause ⊥ ⊥ n t) c.from_residual-in_err-release.result _ c.from_residual-in_err-release.ensures.1 (set_caused_space ⊥ ⊥ t n c.in_err-release.field-0.0)
+    set_has (IsSetCause ⊥ ⊥ n t) c.from_residual-in_err-release.result _ c.from_residual-in_err-release.ensures.1
+    (set_caused_space ⊥ ⊥ t n c.in_err-release.field-0.0)
 
 pub returns-in_err-first-clause-caused : goal.returns-in_err-first-clause-caused
 returns-in_err-first-clause-caused g c tells =
@@ -152,7 +164,8 @@ returns-in_err-blocks-clause-still g c tells read =
     let s = g.S.Reads.state c.args.space.now in
     let t = g.S.Reads.state c.value_blocks.new.space in
     let fault = c.in_err-blocks.field-0.0 in
-    set_has (SetBlamesBroken t) c.from_residual.result _ c.from_residual.ensures.1 (set_still_fault s t fault (text_blames s c.args.row.now.id fault (c.in_err-blocks.ensures.damaged tells read)) (reads_same 22 s t c.value_blocks.ensures.at_most))
+    set_has (SetBlamesBroken t) c.from_residual.result _ c.from_residual.ensures.1
+    (set_still_fault s t fault (text_blames s c.args.row.now.id fault (c.in_err-blocks.ensures.damaged tells read)) (reads_same 22 s t c.value_blocks.ensures.at_most))
 
 pub returns-in_err-test_free-clause-still : goal.returns-in_err-test_free-clause-still
 returns-in_err-test_free-clause-still g c tells read =
@@ -169,7 +182,8 @@ returns-in_err-release-clause-still g c tells read =
 pub returns-in_err-first-clause-still : goal.returns-in_err-first-clause-still
 returns-in_err-first-clause-still g c tells read =
     let t = g.S.Reads.state c.write_text.new.space in
-    set_has (SetBlamesBroken t) c.from_residual-in_err-first.result _ c.from_residual-in_err-first.ensures.1 (set_still_take t c.in_err-first.field-0.0 (c.in_err-first.ensures.still tells))
+    set_has (SetBlamesBroken t) c.from_residual-in_err-first.result _ c.from_residual-in_err-first.ensures.1
+    (set_still_take t c.in_err-first.field-0.0 (c.in_err-first.ensures.still tells))
 
 pub returns-in_err-put-clause-still : goal.returns-in_err-put-clause-still
 returns-in_err-put-clause-still g c tells read =
@@ -185,13 +199,15 @@ pub returns-in_err-test_free-clause-caused : goal.returns-in_err-test_free-claus
 returns-in_err-test_free-clause-caused g c tells =
     let t = g.S.Reads.state c.value_blocks.new.space in
     let n = blocks_of c.args.value.now in
-    set_has (IsSetCause ⊥ ⊥ n t) c.from_residual-in_err-test_free.result _ c.from_residual-in_err-test_free.ensures.1 (set_caused_fault ⊥ ⊥ t n c.in_err-test_free.field-0.0)
+    set_has (IsSetCause ⊥ ⊥ n t) c.from_residual-in_err-test_free.result _ c.from_residual-in_err-test_free.ensures.1
+    (set_caused_fault ⊥ ⊥ t n c.in_err-test_free.field-0.0)
 
 pub returns-in_err-test_free-clause-damaged : goal.returns-in_err-test_free-clause-damaged
 returns-in_err-test_free-clause-damaged g c tells read =
     let s = g.S.Reads.state c.args.space.now in
     let a = g.S.Reads.state c.value_blocks.new.space in
-    let bad = subst (λ (r : Records). ¬ IsLinkBelow (meta_in r strings_file).free (meta_in r strings_file).high) (reads_records 22 s a c.value_blocks.ensures.at_most) c.in_err-test_free.ensures.broken in
+    let bad = subst (λ (r : Records). ¬ IsLinkBelow (meta_in r strings_file).free (meta_in r strings_file).high)
+    (reads_records 22 s a c.value_blocks.ensures.at_most) c.in_err-test_free.ensures.broken in
     set_has (SetBlamesBroken s) c.from_residual-in_err-test_free.result _ c.from_residual-in_err-test_free.ensures.1
     (set_still_fault s s c.in_err-test_free.field-0.0 (subst (BlamesBroken s.records s.shape) (sym c.in_err-test_free.ensures.named) (strings_free s bad)) refl)
 
@@ -199,21 +215,26 @@ pub returns-in_err-test_free-clause-refused : goal.returns-in_err-test_free-clau
 returns-in_err-test_free-clause-refused g c tells e held =
     let s = g.S.Reads.state c.args.space.now in
     let a = g.S.Reads.state c.value_blocks.new.space in
-    let bad = subst (λ (r : Records). ¬ IsLinkBelow (meta_in r strings_file).free (meta_in r strings_file).high) (reads_records 22 s a c.value_blocks.ensures.at_most) c.in_err-test_free.ensures.broken in
+    let bad = subst (λ (r : Records). ¬ IsLinkBelow (meta_in r strings_file).free (meta_in r strings_file).high)
+    (reads_records 22 s a c.value_blocks.ensures.at_most) c.in_err-test_free.ensures.broken in
     absurd (bad held.strings.meta.free)
 
 pub returns-in_err-test_free-clause-cause : goal.returns-in_err-test_free-clause-cause
 returns-in_err-test_free-clause-cause g c =
     let cause = c.value_blocks.ensures.cause in
-    set_cause _ _ c.from_residual-in_err-test_free.result c.in_err-test_free.field-0.0 _ c.from_residual-in_err-test_free.ensures.1 c.in_err-test_free.ensures.named cause.later
+    set_cause _ _ c.from_residual-in_err-test_free.result c.in_err-test_free.field-0.0 _ c.from_residual-in_err-test_free.ensures.1
+    c.in_err-test_free.ensures.named cause.later
 
 pub returns-in_err-release-clause-cause : goal.returns-in_err-release-clause-cause
 returns-in_err-release-clause-cause g c =
-    space_set_cause _ _ _ c.from_residual-in_err-release.result c.in_err-release.field-0.0 c.in_ok-blocks.ensures.cause.later c.in_err-release.ensures.cause c.from_residual-in_err-release.ensures.1
+    space_set_cause _ _ _ c.from_residual-in_err-release.result c.in_err-release.field-0.0 c.in_ok-blocks.ensures.cause.later c.in_err-release.ensures.cause
+    c.from_residual-in_err-release.ensures.1
 
 pub returns-in_err-put-clause-cause : goal.returns-in_err-put-clause-cause
 returns-in_err-put-clause-cause g c =
-    space_set_cause _ _ _ c.from_residual-in_err-put.result c.in_err-put.field-0.0 (later_on (later_on c.in_ok-blocks.ensures.cause.later c.in_ok-release.ensures.cause.later) c.in_ok-first.ensures.cause.later) c.in_err-put.ensures.cause c.from_residual-in_err-put.ensures.1
+    space_set_cause _ _ _ c.from_residual-in_err-put.result c.in_err-put.field-0.0
+    (later_on (later_on c.in_ok-blocks.ensures.cause.later c.in_ok-release.ensures.cause.later) c.in_ok-first.ensures.cause.later)
+    c.in_err-put.ensures.cause c.from_residual-in_err-put.ensures.1
 
 pub returns-in_err-blocks-clause-put : goal.returns-in_err-blocks-clause-put
 returns-in_err-blocks-clause-put g c _ _ _ _ = never_ok c.from_residual.result _ _ c.from_residual.ensures.1

@@ -6,7 +6,9 @@ use Rattle.rec_bytes.specs.RecordFiles.{room_of}
 use Rattle.rec_bytes.specs.Space.{meta_of}
 use Rattle.prop_store.specs.SetFault.{IsSetCause, IsTextCause}
 use Rattle.prop_store.specs.Setting.{BlamesLists, SetBlamesBroken}
-use Rattle.prop_store.proofs.Midway.{full_before, set_caused_space, set_caused_take, set_caused_text, set_has, set_still_space, set_still_take, take_still, lists_of_space, lists_of_text, property_take}
+use Rattle.prop_store.proofs.Midway.{full_before, set_caused_space, set_caused_take, set_caused_text, set_has}
+use Rattle.prop_store.proofs.Midway.{set_still_space, set_still_take, take_still, lists_of_space, lists_of_text}
+use Rattle.prop_store.proofs.Midway.{property_take}
 use Rattle.prop_store.proofs.PutSteps.{blocks_needed, property_put, take_put_fault}
 use Rattle.prop_store.proofs.PutLists.{put_harms_no_lists}
 use Rattle.prop_store.proofs.PutTouches.{touches_new, touches_text, touches_text_taken}
@@ -26,13 +28,16 @@ returns-in_err-id-clause-refused g c tells strings properties room =
 
 pub returns-clause-put : goal.returns-clause-put
 returns-clause-put g c tells strings properties may =
-    property_put (g.S.Reads.state c.args.space.now) (g.S.Reads.state c.write_text.new.space) (g.S.Reads.state c.take.new.space) (g.S.Reads.state c.put.new.self) c.long_bytes.result.now c.in_ok-first.first c.in_ok-id.id c.args.key c.args.next c.args.value.now
-    c.property_record.result c.requires c.ranges.key.fits c.ranges.next.fits c.long_bytes.ensures.is c.property_record.ensures (c.in_ok-first.ensures.written tells strings) (c.in_ok-first.ensures.beside tells) (g.met.S.Reads.onward_shape _ _ c.in_ok-first.ensures.onward)
+    property_put (g.S.Reads.state c.args.space.now) (g.S.Reads.state c.write_text.new.space) (g.S.Reads.state c.take.new.space) (g.S.Reads.state c.put.new.self)
+    c.long_bytes.result.now c.in_ok-first.first c.in_ok-id.id c.args.key c.args.next c.args.value.now
+    c.property_record.result c.requires c.ranges.key.fits c.ranges.next.fits c.long_bytes.ensures.is c.property_record.ensures
+    (c.in_ok-first.ensures.written tells strings) (c.in_ok-first.ensures.beside tells) (g.met.S.Reads.onward_shape _ _ c.in_ok-first.ensures.onward)
     (c.in_ok-id.ensures.taken tells) c.in_ok-id.ensures.small c.in_ok-id.ensures.key (c.in_ok-id.ensures.ok tells) c.in_ok-put.ensures.ok properties may
 
 pub returns-in_err-first-clause-touches : goal.returns-in_err-first-clause-touches
 returns-in_err-first-clause-touches g c =
-    touches_more [] 0 (blocks_of c.args.value.now) 1 (blocks_of c.args.value.now) _ _ (omega arith) (omega arith) (touches_text _ _ c.args.value.now c.long_bytes.result.now c.long_bytes.ensures.is c.write_text.ensures.touches)
+    touches_more [] 0 (blocks_of c.args.value.now) 1 (blocks_of c.args.value.now) _ _ (omega arith) (omega arith)
+    (touches_text _ _ c.args.value.now c.long_bytes.result.now c.long_bytes.ensures.is c.write_text.ensures.touches)
 
 pub returns-in_err-id-clause-touches : goal.returns-in_err-id-clause-touches
 returns-in_err-id-clause-touches g c =
@@ -75,8 +80,10 @@ pub returns-clause-harmless : goal.returns-clause-harmless
 returns-clause-harmless g c tells =
     let s = g.S.Reads.state c.args.space.now in
     let a = g.S.Reads.state c.write_text.new.space in
-    put_harms_no_lists s a (g.S.Reads.state c.take.new.space) (g.S.Reads.state c.put.new.self) c.in_ok-id.id c.args.key c.in_ok-first.first c.args.next c.args.value.now c.property_record.result c.requires c.property_record.ensures
-    (c.in_ok-first.ensures.harmless tells) (c.in_ok-first.ensures.beside tells) (g.met.S.Reads.onward_shape _ _ c.in_ok-first.ensures.onward) (c.in_ok-id.ensures.ok tells) c.in_ok-id.ensures.is (c.in_ok-id.ensures.undamaged tells)
+    put_harms_no_lists s a (g.S.Reads.state c.take.new.space) (g.S.Reads.state c.put.new.self) c.in_ok-id.id c.args.key c.in_ok-first.first c.args.next
+    c.args.value.now c.property_record.result c.requires c.property_record.ensures
+    (c.in_ok-first.ensures.harmless tells) (c.in_ok-first.ensures.beside tells) (g.met.S.Reads.onward_shape _ _ c.in_ok-first.ensures.onward)
+    (c.in_ok-id.ensures.ok tells) c.in_ok-id.ensures.is (c.in_ok-id.ensures.undamaged tells)
     (c.in_ok-id.ensures.fresh tells) c.in_ok-id.ensures.key.id c.in_ok-id.ensures.small c.in_ok-put.ensures.ok
 
 pub returns-in_err-first-clause-harmless : goal.returns-in_err-first-clause-harmless
@@ -116,21 +123,24 @@ returns-in_err-put-clause-caused g c tells =
     let t = g.S.Reads.state c.put.new.self in
     let n = blocks_of c.args.value.now in
     let full = (meta_of s properties_file).live ≡ room_of s.shape properties_file in
-    set_has (IsSetCause ⊥ full n t) c.from_residual-in_err-put.result _ c.from_residual-in_err-put.ensures.1 (set_caused_space ⊥ full t n c.in_err-put.field-0.0)
+    set_has (IsSetCause ⊥ full n t) c.from_residual-in_err-put.result _ c.from_residual-in_err-put.ensures.1
+    (set_caused_space ⊥ full t n c.in_err-put.field-0.0)
 
 -- ---- what is blamed is broken still
 
 pub returns-in_err-first-clause-still : goal.returns-in_err-first-clause-still
 returns-in_err-first-clause-still g c tells =
     let t = g.S.Reads.state c.write_text.new.space in
-    set_has (SetBlamesBroken t) c.from_residual.result _ c.from_residual.ensures.1 (set_still_take t c.in_err-first.field-0.0 (c.in_err-first.ensures.still tells))
+    set_has (SetBlamesBroken t) c.from_residual.result _ c.from_residual.ensures.1
+    (set_still_take t c.in_err-first.field-0.0 (c.in_err-first.ensures.still tells))
 
 pub returns-in_err-id-clause-still : goal.returns-in_err-id-clause-still
 returns-in_err-id-clause-still g c tells =
     let a = g.S.Reads.state c.write_text.new.space in
     let t = g.S.Reads.state c.take.new.space in
     let fault = c.in_err-id.field-0.0 in
-    set_has (SetBlamesBroken t) c.from_residual-in_err-id.result _ c.from_residual-in_err-id.ensures.1 (set_still_take t fault (take_still a t fault (c.in_err-id.ensures.damaged tells) c.in_err-id.ensures.err))
+    set_has (SetBlamesBroken t) c.from_residual-in_err-id.result _ c.from_residual-in_err-id.ensures.1
+    (set_still_take t fault (take_still a t fault (c.in_err-id.ensures.damaged tells) c.in_err-id.ensures.err))
 
 pub returns-in_err-put-clause-still : goal.returns-in_err-put-clause-still
 returns-in_err-put-clause-still g c tells =
@@ -139,7 +149,8 @@ returns-in_err-put-clause-still g c tells =
 
 pub returns-in_err-put-clause-cause : goal.returns-in_err-put-clause-cause
 returns-in_err-put-clause-cause g c =
-    space_set_cause _ _ _ c.from_residual-in_err-put.result c.in_err-put.field-0.0 (later_on c.in_ok-first.ensures.cause.later c.in_ok-id.ensures.cause.later) c.in_err-put.ensures.cause c.from_residual-in_err-put.ensures.1
+    space_set_cause _ _ _ c.from_residual-in_err-put.result c.in_err-put.field-0.0 (later_on c.in_ok-first.ensures.cause.later c.in_ok-id.ensures.cause.later)
+    c.in_err-put.ensures.cause c.from_residual-in_err-put.ensures.1
 
 pub returns-in_err-first-clause-put : goal.returns-in_err-first-clause-put
 returns-in_err-first-clause-put g c _ = never_ok c.from_residual.result _ _ c.from_residual.ensures.1

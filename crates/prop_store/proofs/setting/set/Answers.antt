@@ -33,7 +33,8 @@ use Rattle.prop_store.proofs.setting.set.Goals.{After-put_again}
 use Rattle.prop_store.proofs.setting.set.Given.{Over}
 
 -- what holds of an answer
-ok_with : {H : Type 0} {P : H → ℕ → Type 0} {Q : ℕ → Type 0} (r : Result ℕ SetFault) → ((h : H) → IfOk r (P h)) → ((n : ℕ) (h : H) → P h n → Q n) → IfOk r (λ n. H → Q n)
+ok_with : {H : Type 0} {P : H → ℕ → Type 0} {Q : ℕ → Type 0} (r : Result ℕ SetFault) → ((h : H) → IfOk r (P h)) → ((n : ℕ) (h : H) → P h n → Q n)
+    → IfOk r (λ n. H → Q n)
 ok_with (Ok n) g f = λ h. f n h (g h)
 ok_with (Err fault) g f = tt
 
@@ -60,7 +61,8 @@ found g c tells es owns =
     (c.in_ok-count.ensures.found tells es owns.held.are)
 
 -- it is in use
-held : (g : Over) (c : After-put_again g) (tells : g.S.Reads.tells) (es : List Property) (owns : OwnsProperties (g.S.Reads.state c.args.space.now) c.args.owner es)
+held : (g : Over) (c : After-put_again g) (tells : g.S.Reads.tells) (es : List Property)
+    (owns : OwnsProperties (g.S.Reads.state c.args.space.now) c.args.owner es)
     → IsHeld (g.S.Reads.state c.find.new.space) c.find.new.row (found g c tells es owns).property
 held g c tells es owns =
     let s = g.S.Reads.state c.args.space.now in
@@ -83,7 +85,8 @@ returns-in_err-count-clause-refused g c tells has =
 pub returns-then-count-ge-MOST_PROPERTIES-clause-alone_refused :
     goal.returns-then-count-ge-MOST_PROPERTIES-clause-alone_refused
 returns-then-count-ge-MOST_PROPERTIES-clause-alone_refused g c tells es owns known =
-    let f = subst (IsSought (g.S.Reads.state c.args.space.now).records c.args.owner es c.args.key c.find.new.row) c.in-Absent.is (c.in_ok-count.ensures.found tells es owns.held.are) in
+    let f = subst (IsSought (g.S.Reads.state c.args.space.now).records c.args.owner es c.args.key c.find.new.row) c.in-Absent.is
+    (c.in_ok-count.ensures.found tells es owns.held.are) in
     let few = owns.held.are.few in
     let a = f.0 in
     let b = c.if-count-ge-MOST_PROPERTIES.true in
@@ -187,12 +190,14 @@ returns-in_ok-add-in-Absent-clause-touches g c =
     touches_more _ 1 n 1 (n + 0) _ _ (omega arith) (omega arith) (touches_after _ 1 n _ _ _ (reads_same 33 _ _ c.find.ensures.at_most) c.add.ensures.touches)
 
 pub returns-in_ok-add-in-Absent-clause-at_most : goal.returns-in_ok-add-in-Absent-clause-at_most
-returns-in_ok-add-in-Absent-clause-at_most g c = touches_more _ 1 (blocks_of c.args.value.now + 0) 1 _ _ _ (omega arith) (omega arith) (returns-in_ok-add-in-Absent-clause-touches g c)
+returns-in_ok-add-in-Absent-clause-at_most g c = touches_more _ 1 (blocks_of c.args.value.now + 0) 1 _ _ _ (omega arith) (omega arith)
+    (returns-in_ok-add-in-Absent-clause-touches g c)
 
 pub returns-in_ok-add-in-Absent-clause-writes : goal.returns-in_ok-add-in-Absent-clause-writes
 returns-in_ok-add-in-Absent-clause-writes g c =
     let n = blocks_of c.args.value.now in
-    beside_writes (1 + n) (2 + n + 0) _ _ c.args.owner.key (meta_of_element c.args.owner.key.file c.requires.owner.file) (omega arith) (touched_beside 1 (n + 0) (1 + n) _ _ c.args.owner.key (omega arith) (returns-in_ok-add-in-Absent-clause-touches g c))
+    beside_writes (1 + n) (2 + n + 0) _ _ c.args.owner.key (meta_of_element c.args.owner.key.file c.requires.owner.file) (omega arith)
+    (touched_beside 1 (n + 0) (1 + n) _ _ c.args.owner.key (omega arith) (returns-in_ok-add-in-Absent-clause-touches g c))
 
 pub returns-in-Found-clause-touches : goal.returns-in-Found-clause-touches
 returns-in-Found-clause-touches g c =
@@ -200,7 +205,8 @@ returns-in-Found-clause-touches g c =
     let z = g.S.Reads.state c.find.new.space in
     let m = g.S.Reads.state c.put_again.new.space in
     let n = blocks_of c.args.value.now in
-    ok_so (λ r. TouchesProperties g.S.Reads.tells [] 1 (n + r) z m) (λ r. TouchesProperties g.S.Reads.tells (c.args.owner.key ∷ []) 1 (n + r) s m) c.put_again.result c.put_again.ensures.touches
+    ok_so (λ r. TouchesProperties g.S.Reads.tells [] 1 (n + r) z m) (λ r. TouchesProperties g.S.Reads.tells (c.args.owner.key ∷ []) 1 (n + r) s m)
+    c.put_again.result c.put_again.ensures.touches
     (λ r h. touches_after _ 1 (n + r) s z m (same g c) (touches_beside _ 1 (n + r) z m h))
 
 pub returns-in-Found-clause-at_most : goal.returns-in-Found-clause-at_most
@@ -212,7 +218,8 @@ returns-in-Found-clause-writes g c =
     let m = g.S.Reads.state c.put_again.new.space in
     let n = blocks_of c.args.value.now in
     let key = c.args.owner.key in
-    ok_so (λ r. TouchesProperties g.S.Reads.tells (key ∷ []) 1 (n + r) s m) (λ r. WritesAtMost (2 + n + r) s m) c.put_again.result (returns-in-Found-clause-touches g c)
+    ok_so (λ r. TouchesProperties g.S.Reads.tells (key ∷ []) 1 (n + r) s m) (λ r. WritesAtMost (2 + n + r) s m) c.put_again.result
+    (returns-in-Found-clause-touches g c)
     (λ r h. beside_writes (1 + n + r) (2 + n + r) s m key (meta_of_element key.file c.requires.owner.file) (omega arith) (touched_beside 1 (n + r) (1 + n + r) s m key (omega arith) h))
 
 -- ---- which record is blamed
@@ -220,7 +227,8 @@ returns-in-Found-clause-writes g c =
 pub returns-in_err-count-clause-damaged : goal.returns-in_err-count-clause-damaged
 returns-in_err-count-clause-damaged g c tells used =
     let s = g.S.Reads.state c.args.space.now in
-    set_has (SetBlamesBroken s) c.from_residual.result _ c.from_residual.ensures.1 (set_still_fault s s c.in_err-count.field-0.0 (c.in_err-count.ensures.damaged tells used) refl)
+    set_has (SetBlamesBroken s) c.from_residual.result _ c.from_residual.ensures.1
+    (set_still_fault s s c.in_err-count.field-0.0 (c.in_err-count.ensures.damaged tells used) refl)
 
 pub returns-in_err-add-in-Absent-clause-damaged : goal.returns-in_err-add-in-Absent-clause-damaged
 returns-in_err-add-in-Absent-clause-damaged g c tells used =
@@ -234,8 +242,10 @@ pub returns-in-Found-clause-damaged : goal.returns-in-Found-clause-damaged
 returns-in-Found-clause-damaged g c tells used =
     let s = g.S.Reads.state c.args.space.now in
     let z = g.S.Reads.state c.find.new.space in
-    let read = subst (λ (r : Records). IsReadRow r c.find.new.row) (sym (reads_records 33 s z c.find.ensures.at_most)) (subst (IsReadAt s.records c.find.new.row) c.in-Found.is (c.in_ok-count.ensures.read tells)) in
-    IfErr-weaker c.put_again.result (SetBlamesBroken z) (SetBlamesBroken s) (λ fault why. set_read s z fault (same g c) why) (c.put_again.ensures.damaged tells read)
+    let read = subst (λ (r : Records). IsReadRow r c.find.new.row) (sym (reads_records 33 s z c.find.ensures.at_most))
+    (subst (IsReadAt s.records c.find.new.row) c.in-Found.is (c.in_ok-count.ensures.read tells)) in
+    IfErr-weaker c.put_again.result (SetBlamesBroken z) (SetBlamesBroken s) (λ fault why. set_read s z fault (same g c) why)
+    (c.put_again.ensures.damaged tells read)
 
 -- ---- what a refusal carries
 
@@ -276,7 +286,8 @@ returns-in-Found-clause-caused g c tells =
     let n = blocks_of c.args.value.now in
     let crowded = IsCrowded s.records c.args.owner c.args.key × SameButReads s t in
     let lacks = LacksMet s.records c.args.owner c.args.key × SameButReads s t in
-    IfErr-weaker c.put_again.result (IsSetCause ⊥ ⊥ n t) (IsSetCause crowded lacks n t) (λ fault why. set_caused_more crowded ⊥ lacks (λ none. absurd none) t n fault why) (c.put_again.ensures.caused tells)
+    IfErr-weaker c.put_again.result (IsSetCause ⊥ ⊥ n t) (IsSetCause crowded lacks n t)
+    (λ fault why. set_caused_more crowded ⊥ lacks (λ none. absurd none) t n fault why) (c.put_again.ensures.caused tells)
 
 -- ---- what is blamed is broken still
 
@@ -284,23 +295,27 @@ pub returns-in_err-count-clause-still : goal.returns-in_err-count-clause-still
 returns-in_err-count-clause-still g c tells used =
     let s = g.S.Reads.state c.args.space.now in
     let t = g.S.Reads.state c.find.new.space in
-    set_has (SetBlamesBroken t) c.from_residual.result _ c.from_residual.ensures.1 (set_still_fault s t c.in_err-count.field-0.0 (c.in_err-count.ensures.damaged tells used) (reads_same 33 s t c.find.ensures.at_most))
+    set_has (SetBlamesBroken t) c.from_residual.result _ c.from_residual.ensures.1
+    (set_still_fault s t c.in_err-count.field-0.0 (c.in_err-count.ensures.damaged tells used) (reads_same 33 s t c.find.ensures.at_most))
 
 pub returns-in_err-add-in-Absent-clause-still : goal.returns-in_err-add-in-Absent-clause-still
 returns-in_err-add-in-Absent-clause-still g c tells used =
     let t = g.S.Reads.state c.add.new.space in
-    set_has (SetBlamesBroken t) c.from_residual-in_err-add-in-Absent.result c.in_err-add-in-Absent.field-0.0 c.from_residual-in_err-add-in-Absent.ensures.1 (c.in_err-add-in-Absent.ensures.still tells)
+    set_has (SetBlamesBroken t) c.from_residual-in_err-add-in-Absent.result c.in_err-add-in-Absent.field-0.0 c.from_residual-in_err-add-in-Absent.ensures.1
+    (c.in_err-add-in-Absent.ensures.still tells)
 
 pub returns-in-Found-clause-still : goal.returns-in-Found-clause-still
 returns-in-Found-clause-still g c tells used =
     let s = g.S.Reads.state c.args.space.now in
     let z = g.S.Reads.state c.find.new.space in
-    let read = subst (λ (r : Records). IsReadRow r c.find.new.row) (sym (reads_records 33 s z c.find.ensures.at_most)) (subst (IsReadAt s.records c.find.new.row) c.in-Found.is (c.in_ok-count.ensures.read tells)) in
+    let read = subst (λ (r : Records). IsReadRow r c.find.new.row) (sym (reads_records 33 s z c.find.ensures.at_most))
+    (subst (IsReadAt s.records c.find.new.row) c.in-Found.is (c.in_ok-count.ensures.read tells)) in
     c.put_again.ensures.still tells read
 
 pub returns-in_err-add-in-Absent-clause-cause : goal.returns-in_err-add-in-Absent-clause-cause
 returns-in_err-add-in-Absent-clause-cause g c =
-    set_cause_passed _ _ _ c.from_residual-in_err-add-in-Absent.result c.in_err-add-in-Absent.field-0.0 c.in_ok-count.ensures.cause.later c.in_err-add-in-Absent.ensures.cause c.from_residual-in_err-add-in-Absent.ensures.1
+    set_cause_passed _ _ _ c.from_residual-in_err-add-in-Absent.result c.in_err-add-in-Absent.field-0.0 c.in_ok-count.ensures.cause.later
+    c.in_err-add-in-Absent.ensures.cause c.from_residual-in_err-add-in-Absent.ensures.1
 
 pub returns-in_err-add-in-Absent-clause-onward : goal.returns-in_err-add-in-Absent-clause-onward
 returns-in_err-add-in-Absent-clause-onward g c =

@@ -42,13 +42,15 @@ pub returns-in_ok-bytes-in-Inline-clause-kept : goal.returns-in_ok-bytes-in-Inli
 returns-in_ok-bytes-in-Inline-clause-kept g c =
     let size = c.in-Inline.size in
     let few : size ≤ 40 = subst (λ f. FormFits (Some f)) c.in-Inline.is c.requires.fits in
-    let long : length c.new.result ≡ size = ap (λ (z : List ℕ). length z) (c.new.ensures ∙ c.in_ok-bytes-in-Inline.ensures.items ∙ c.text.ensures) ∙ length-text_in c.args.row.now.rec property_text size (omega arith) in
+    let long : length c.new.result ≡ size = ap (λ (z : List ℕ). length z) (c.new.ensures ∙ c.in_ok-bytes-in-Inline.ensures.items ∙ c.text.ensures)
+    ∙ length-text_in c.args.row.now.rec property_text size (omega arith) in
     omega arith
 
 pub returns-in_err-bytes-in-Long-clause-damaged : goal.returns-in_err-bytes-in-Long-clause-damaged
 returns-in_err-bytes-in-Long-clause-damaged g c tells read =
     let old = g.R.Reads.state c.args.space.now in
-    same_has (IsTextFault old c.args.row.now.id) c.from_residual-in_err-bytes-in-Long.result c.in_err-bytes-in-Long.field-0.0 c.from_residual-in_err-bytes-in-Long.ensures.1
+    same_has (IsTextFault old c.args.row.now.id) c.from_residual-in_err-bytes-in-Long.result c.in_err-bytes-in-Long.field-0.0
+    c.from_residual-in_err-bytes-in-Long.ensures.1
     (c.in_err-bytes-in-Long.ensures.damaged tells (text_of_row old.records c.args.row.now c.in-Long.size c.in-Long.first c.requires.form_is c.in-Long.is read))
 
 pub returns-in_err-bytes-in-Inline-clause-met : goal.returns-in_err-bytes-in-Inline-clause-met

@@ -30,7 +30,8 @@ pub returns-in_default-clause-has : goal.returns-in_default-clause-has
 returns-in_default-clause-has g c tells read b i = elim (subst (In b) c.new.ensures i) [ ]
 
 pub returns-in_default-clause-once : goal.returns-in_default-clause-once
-returns-in_default-clause-once g c tells = subst (AreUsedOnce (g.R.Reads.state c.args.space.now).records) (sym c.new.ensures) (record { once = tt; used = λ b i. elim i [ ] })
+returns-in_default-clause-once g c tells = subst (AreUsedOnce (g.R.Reads.state c.args.space.now).records) (sym c.new.ensures)
+    (record { once = tt; used = λ b i. elim i [ ] })
 
 pub returns-in_default-clause-cause : goal.returns-in_default-clause-cause
 returns-in_default-clause-cause g c = ok_cause _ _ _ _ (omega arith)

@@ -18,7 +18,8 @@ on_ok_always : {T E P : Type 0} (result : Result T E) → P → OnOk result P
 on_ok_always (Ok x) p = p
 on_ok_always (Err e) p = tt
 
-if_err_weaker : {T : Type 0} (result : Result T RecoverFault) (P Q : RecoverFault → Type 0) → ((fault : RecoverFault) → P fault → Q fault) → IfErr result P → IfErr result Q
+if_err_weaker : {T : Type 0} (result : Result T RecoverFault) (P Q : RecoverFault → Type 0) → ((fault : RecoverFault) → P fault → Q fault) → IfErr result P
+    → IfErr result Q
 if_err_weaker (Ok x) P Q weaker is = tt
 if_err_weaker (Err e) P Q weaker is = weaker e is
 
@@ -26,23 +27,29 @@ pub returns-clause-found : goal.returns-clause-found
 returns-clause-found g c reads space redoes =
     let first = g.D.Disk.reads c.args.disk.now in
     let synced = g.D.Disk.reads c.sync_files.new.disk in
-    let has : HasMetas first c.in_ok-logged.logged = subst (λ (content : Files). HasMetas content c.in_ok-logged.logged) (same_content first synced c.sync_files.ensures.only_reads.keeps) (c.in_ok-logged.ensures.found reads) in
-    subst (λ (s : Key → Rec). IfOk c.found_of.result (IsFound first s)) (Redoes-unique first (redone (record_at first) has.entries) space (Redoes-metas first c.in_ok-logged.logged has) redoes) (c.found_of.ensures.found first has)
+    let has : HasMetas first c.in_ok-logged.logged = subst (λ (content : Files). HasMetas content c.in_ok-logged.logged)
+    (same_content first synced c.sync_files.ensures.only_reads.keeps) (c.in_ok-logged.ensures.found reads) in
+    subst (λ (s : Key → Rec). IfOk c.found_of.result (IsFound first s))
+    (Redoes-unique first (redone (record_at first) has.entries) space (Redoes-metas first c.in_ok-logged.logged has) redoes)
+    (c.found_of.ensures.found first has)
 
 pub returns-clause-intact : goal.returns-clause-intact
 returns-clause-intact g c reads =
     let first = g.D.Disk.reads c.args.disk.now in
     let synced = g.D.Disk.reads c.sync_files.new.disk in
-    let has : HasMetas first c.in_ok-logged.logged = subst (λ (content : Files). HasMetas content c.in_ok-logged.logged) (same_content first synced c.sync_files.ensures.only_reads.keeps) (c.in_ok-logged.ensures.found reads) in
+    let has : HasMetas first c.in_ok-logged.logged = subst (λ (content : Files). HasMetas content c.in_ok-logged.logged)
+    (same_content first synced c.sync_files.ensures.only_reads.keeps) (c.in_ok-logged.ensures.found reads) in
     on_ok_always c.found_of.result (redone (record_at first) has.entries, Redoes-metas first c.in_ok-logged.logged has)
 
 pub returns-clause-refused : goal.returns-clause-refused
 returns-clause-refused g c reads =
     let first = g.D.Disk.reads c.args.disk.now in
     let synced = g.D.Disk.reads c.sync_files.new.disk in
-    let has : HasMetas first c.in_ok-logged.logged = subst (λ (content : Files). HasMetas content c.in_ok-logged.logged) (same_content first synced c.sync_files.ensures.only_reads.keeps) (c.in_ok-logged.ensures.found reads) in
+    let has : HasMetas first c.in_ok-logged.logged = subst (λ (content : Files). HasMetas content c.in_ok-logged.logged)
+    (same_content first synced c.sync_files.ensures.only_reads.keeps) (c.in_ok-logged.ensures.found reads) in
     let space = redone (record_at first) has.entries in
-    if_err_weaker c.found_of.result (RefusesRecords first space) (Refuses first) (λ fault. Refuses-records first space fault (Redoes-metas first c.in_ok-logged.logged has)) (c.found_of.ensures.refused first has)
+    if_err_weaker c.found_of.result (RefusesRecords first space) (Refuses first)
+    (λ fault. Refuses-records first space fault (Redoes-metas first c.in_ok-logged.logged has)) (c.found_of.ensures.refused first has)
 
 pub returns-in_err-sync_files-clause-found : goal.returns-in_err-sync_files-clause-found
 returns-in_err-sync_files-clause-found g c _ _ _ = never_ok c.from_residual.result _ _ c.from_residual.ensures.1

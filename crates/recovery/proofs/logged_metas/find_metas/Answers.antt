@@ -25,10 +25,12 @@ loop-count-preserved g c =
       kept = λ reads. c.take_entry.ensures.keeps reads (c.entry_at.ensures.keeps reads (was.kept reads));
       read = λ reads.
           let tells = c.in-Entry.ensures.tells reads (was.kept reads) in
-          let at = IsAtEntry-read old mid c.entry_at.new.self place c.in-Entry.count tells.0 tells.1 c.entry_at.ensures.only_reads.keeps (c.entry_at.ensures.keeps reads (was.kept reads)) in
+          let at = IsAtEntry-read old mid c.entry_at.new.self place c.in-Entry.count tells.0 tells.1 c.entry_at.ensures.only_reads.keeps
+          (c.entry_at.ensures.keeps reads (was.kept reads)) in
           let told = Tells-same first old place (Entry c.in-Entry.count c.in-Entry.next) was.only_reads.keeps tells in
           let same : mid ≡ first = same_content first mid to_mid.keeps in
-          IsReadTo-more first place c.in-Entry.next c.loop-count.metas.records c.take_entry.new.metas.records (was.read reads) told.0 (told.2 ∙ ap (λ n. place + entry_bytes n) told.1)
+          IsReadTo-more first place c.in-Entry.next c.loop-count.metas.records c.take_entry.new.metas.records (was.read reads) told.0
+          (told.2 ∙ ap (λ n. place + entry_bytes n) told.1)
           (λ space are. subst (λ (content : Files). AreMetasOf (laid_over space (entry_at content place)) c.take_entry.new.metas.records) same (c.in_ok-take_entry-in-Entry.ensures.taken reads at space are));
       only_reads = only_reads_on disk c.args.disk.now c.entry_at.new.disk c.take_entry.new.disk to_mid c.take_entry.ensures.only_reads;
       later = omega (arith, was.later, c.entry_at.ensures.later, c.take_entry.ensures.cause.later);
@@ -39,7 +41,8 @@ returns-in-End-clause-found g c reads =
     let first = g.D.Disk.reads c.args.disk.now in
     let was = c.loop-count.invariant in
     let read = was.read reads in
-    let closed = Tells-same first (g.D.Disk.reads c.loop-count.disk) c.loop-count.place End was.only_reads.keeps (c.in-End.ensures.tells reads (was.kept reads)) in
+    let closed = Tells-same first (g.D.Disk.reads c.loop-count.disk) c.loop-count.place End was.only_reads.keeps
+    (c.in-End.ensures.tells reads (was.kept reads)) in
     record { entries = read.entries; log = HasEntries-read_to first c.loop-count.place c.loop-count.metas.records read closed; are = read.are }
 
 pub returns-in_err-metas-clause-found : goal.returns-in_err-metas-clause-found

@@ -30,7 +30,8 @@ loop-index-preserved g c =
           let is : slice_get (entry_at first c.args.place) c.loop-index.index ≡ Some write =
           subst (λ (content : Files). slice_get (entry_at content c.args.place) c.loop-index.index ≡ Some write) same
           (c.in_ok-key.ensures.of_entry reads (c.loop-index.invariant.keeps reads at.kept) (subst (λ (content : Files). c.loop-index.index < count_at content c.args.place) (sym same) below)) in
-          IsTaken-more c.loop-index.metas.records c.put.new.self.records space (entry_at first c.args.place) c.loop-index.index write at.entry.form.rising is (c.loop-index.invariant.taken reads at space are) c.put.ensures;
+          IsTaken-more c.loop-index.metas.records c.put.new.self.records space (entry_at first c.args.place) c.loop-index.index write at.entry.form.rising is
+          (c.loop-index.invariant.taken reads at space are) c.put.ensures;
       keeps = λ reads kept. c.write_at.ensures.keeps reads (c.loop-index.invariant.keeps reads kept);
       only_reads = only_reads_on disk c.args.disk.now c.loop-index.disk c.write_at.new.disk c.loop-index.invariant.only_reads c.write_at.ensures.only_reads;
       later = omega (arith, c.loop-index.invariant.later, c.write_at.ensures.cause.later);

@@ -20,8 +20,10 @@ use Rattle.rec_bytes.proofs.Causes.{never_ok}
 use Rattle.recovery.proofs.recovering.recover.Goals as goal
 
 -- while the log is redone, on a disk that was only read before
-redoing : (g : Over) (first found now : g.row.D.Denot) (space : Key → Rec) → g.D.Disk.tells_images → Redoes (g.D.Disk.reads first) space → OnlyReads g.D.Disk first found
-    → (Redoes (g.D.Disk.reads found) space → AtEachMoment g.D.Disk found now (λ content. Redoes content space)) → AtEachMoment g.D.Disk first now (λ content. g.D.Disk.may_leave first content ⊎ Redoes content space)
+redoing : (g : Over) (first found now : g.row.D.Denot) (space : Key → Rec) → g.D.Disk.tells_images → Redoes (g.D.Disk.reads first) space
+    → OnlyReads g.D.Disk first found
+    → (Redoes (g.D.Disk.reads found) space → AtEachMoment g.D.Disk found now (λ content. Redoes content space))
+    → AtEachMoment g.D.Disk first now (λ content. g.D.Disk.may_leave first content ⊎ Redoes content space)
 redoing g first found now space images redoes reads more =
     let disk = g.D.Disk in
     let P : Files → Type 0 = λ content. disk.may_leave first content ⊎ Redoes content space in
@@ -30,7 +32,8 @@ redoing g first found now space images redoes reads more =
     (more (Redoes-kept space (disk.reads first) (disk.reads found) redoes reads.keeps)) (λ content again. inr again)
 
 -- and where no store was made
-staying : (g : Over) (first found now : g.row.D.Denot) → g.D.Disk.tells_images → IsUnmade (g.D.Disk.reads first) → OnlyReads g.D.Disk first found → (IsUnmade (g.D.Disk.reads found) → AtEachMoment g.D.Disk found now IsUnmade)
+staying : (g : Over) (first found now : g.row.D.Denot) → g.D.Disk.tells_images → IsUnmade (g.D.Disk.reads first) → OnlyReads g.D.Disk first found
+    → (IsUnmade (g.D.Disk.reads found) → AtEachMoment g.D.Disk found now IsUnmade)
     → AtEachMoment g.D.Disk first now (λ content. g.D.Disk.may_leave first content ⊎ IsUnmade content)
 staying g first found now images unmade redoes more =
     let disk = g.D.Disk in
@@ -41,15 +44,18 @@ staying g first found now images unmade redoes more =
 
 pub returns-in_err-found-clause-unmade : goal.returns-in_err-found-clause-unmade
 returns-in_err-found-clause-unmade g c reads images unmade =
-    at_each_moment_weaker g.D.Disk c.args.disk.now c.find_store.new.disk (g.D.Disk.may_leave c.args.disk.now) _ (c.find_store.ensures.only_reads.time images) (λ content left. inl left)
+    at_each_moment_weaker g.D.Disk c.args.disk.now c.find_store.new.disk (g.D.Disk.may_leave c.args.disk.now) _ (c.find_store.ensures.only_reads.time images)
+    (λ content left. inl left)
 
 pub returns-in_err-redo-clause-unmade : goal.returns-in_err-redo-clause-unmade
 returns-in_err-redo-clause-unmade g c reads images unmade =
-    staying g c.args.disk.now c.find_store.new.disk c.redo.new.disk images unmade c.find_store.ensures.only_reads (c.redo.ensures.unmade reads images (c.in_ok-found.ensures.settled reads images))
+    staying g c.args.disk.now c.find_store.new.disk c.redo.new.disk images unmade c.find_store.ensures.only_reads
+    (c.redo.ensures.unmade reads images (c.in_ok-found.ensures.settled reads images))
 
 pub returns-clause-unmade : goal.returns-clause-unmade
 returns-clause-unmade g c reads images unmade =
-    staying g c.args.disk.now c.find_store.new.disk c.redo.new.disk images unmade c.find_store.ensures.only_reads (c.redo.ensures.unmade reads images (c.in_ok-found.ensures.settled reads images))
+    staying g c.args.disk.now c.find_store.new.disk c.redo.new.disk images unmade c.find_store.ensures.only_reads
+    (c.redo.ensures.unmade reads images (c.in_ok-found.ensures.settled reads images))
 
 pub returns-in_err-found-clause-sound : goal.returns-in_err-found-clause-sound
 returns-in_err-found-clause-sound g c reads space redoes stands =
@@ -58,7 +64,8 @@ returns-in_err-found-clause-sound g c reads space redoes stands =
 
 pub returns-in_err-redo-clause-crash : goal.returns-in_err-redo-clause-crash
 returns-in_err-redo-clause-crash g c reads images space redoes =
-    redoing g c.args.disk.now c.find_store.new.disk c.redo.new.disk space images redoes c.find_store.ensures.only_reads (c.redo.ensures.crash reads images (c.in_ok-found.ensures.settled reads images) space)
+    redoing g c.args.disk.now c.find_store.new.disk c.redo.new.disk space images redoes c.find_store.ensures.only_reads
+    (c.redo.ensures.crash reads images (c.in_ok-found.ensures.settled reads images) space)
 
 pub returns-in_err-redo-clause-read : goal.returns-in_err-redo-clause-read
 returns-in_err-redo-clause-read g c reads space redoes =
@@ -89,7 +96,8 @@ returns-in_err-redo-clause-sound g c reads space redoes stands =
 
 pub returns-clause-crash : goal.returns-clause-crash
 returns-clause-crash g c reads images space redoes =
-    redoing g c.args.disk.now c.find_store.new.disk c.redo.new.disk space images redoes c.find_store.ensures.only_reads (c.redo.ensures.crash reads images (c.in_ok-found.ensures.settled reads images) space)
+    redoing g c.args.disk.now c.find_store.new.disk c.redo.new.disk space images redoes c.find_store.ensures.only_reads
+    (c.redo.ensures.crash reads images (c.in_ok-found.ensures.settled reads images) space)
 
 pub returns-clause-read : goal.returns-clause-read
 returns-clause-read g c reads space redoes =
@@ -100,7 +108,8 @@ returns-clause-space g c reads space redoes =
     c.in_ok-redo.ensures.space reads space (Redoes-kept space (g.D.Disk.reads c.args.disk.now) (g.D.Disk.reads c.find_store.new.disk) redoes c.find_store.ensures.only_reads.keeps)
 
 -- the log is redone only over what was found
-recoverable : (g : Over) (first : g.row.D.Denot) (found : Found) (intact : IsIntact (g.D.Disk.reads first)) → IsFound (g.D.Disk.reads first) intact.0 found → IsRecoverable (g.D.Disk.reads first)
+recoverable : (g : Over) (first : g.row.D.Denot) (found : Found) (intact : IsIntact (g.D.Disk.reads first)) → IsFound (g.D.Disk.reads first) intact.0 found
+    → IsRecoverable (g.D.Disk.reads first)
 recoverable g first found intact is = (intact.0, intact.1, IsFound-stands (g.D.Disk.reads first) intact.0 found is)
 
 pub returns-in_err-redo-clause-careful : goal.returns-in_err-redo-clause-careful
@@ -114,14 +123,17 @@ returns-clause-careful g c reads =
     inr (recoverable g c.args.disk.now _ intact (c.in_ok-found.ensures.found reads intact.0 intact.1))
 
 -- where the first gate is closed
-redo_closed : (g : Over) (first found now : g.row.D.Denot) → g.D.Disk.reads first log_file 0 ≢ open_byte → OnlyReads g.D.Disk first found → (g.D.Disk.reads found log_file 0 ≢ open_byte → OnlyReads g.D.Disk found now) → OnlyReads g.D.Disk first now
+redo_closed : (g : Over) (first found now : g.row.D.Denot) → g.D.Disk.reads first log_file 0 ≢ open_byte → OnlyReads g.D.Disk first found
+    → (g.D.Disk.reads found log_file 0 ≢ open_byte → OnlyReads g.D.Disk found now) → OnlyReads g.D.Disk first now
 redo_closed g first found now closed only redo = only_reads_on g.D.Disk first found now only (redo (λ is_open. closed (sym (only.keeps log_file 0) ∙ is_open)))
 
 pub returns-in_err-redo-clause-closed : goal.returns-in_err-redo-clause-closed
-returns-in_err-redo-clause-closed g c reads closed = redo_closed g c.args.disk.now c.find_store.new.disk c.redo.new.disk closed c.find_store.ensures.only_reads (c.redo.ensures.closed reads)
+returns-in_err-redo-clause-closed g c reads closed = redo_closed g c.args.disk.now c.find_store.new.disk c.redo.new.disk closed c.find_store.ensures.only_reads
+    (c.redo.ensures.closed reads)
 
 pub returns-clause-closed : goal.returns-clause-closed
-returns-clause-closed g c reads closed = redo_closed g c.args.disk.now c.find_store.new.disk c.redo.new.disk closed c.find_store.ensures.only_reads (c.redo.ensures.closed reads)
+returns-clause-closed g c reads closed = redo_closed g c.args.disk.now c.find_store.new.disk c.redo.new.disk closed c.find_store.ensures.only_reads
+    (c.redo.ensures.closed reads)
 
 pub returns-in_err-found-clause-space : goal.returns-in_err-found-clause-space
 returns-in_err-found-clause-space g c _ _ _ = never_ok c.from_residual.result _ _ c.from_residual.ensures.1

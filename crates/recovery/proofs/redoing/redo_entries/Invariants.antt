@@ -11,8 +11,10 @@ use Rattle.recovery.proofs.redoing.redo_entries.Given as goal
 abbrev pub invariant-loop-count : goal.invariant-loop-count
 invariant-loop-count g l = let disk = g.D.Disk in record {
   within : l.place ≤ 1048575;
-  made : disk.tells_reads → (entries : List Pairs) (tail : ℕ) → HasEntries (disk.reads l.fn.disk) entries tail → IsRedoneTo entries tail (disk.reads l.fn.disk) (disk.reads l.disk) l.reader l.place;
-  crash : disk.tells_reads → disk.tells_images → (entries : List Pairs) (tail : ℕ) → HasEntries (disk.reads l.fn.disk) entries tail → AtEachMoment disk l.fn.disk l.disk (IsTornInLogged (disk.may_leave l.fn.disk) entries);
+  made : disk.tells_reads → (entries : List Pairs) (tail : ℕ) → HasEntries (disk.reads l.fn.disk) entries tail
+      → IsRedoneTo entries tail (disk.reads l.fn.disk) (disk.reads l.disk) l.reader l.place;
+  crash : disk.tells_reads → disk.tells_images → (entries : List Pairs) (tail : ℕ) → HasEntries (disk.reads l.fn.disk) entries tail
+      → AtEachMoment disk l.fn.disk l.disk (IsTornInLogged (disk.may_leave l.fn.disk) entries);
   closed : disk.tells_reads → disk.reads l.fn.disk log_file 0 ≢ open_byte → OnlyReads disk l.fn.disk l.disk;
   first : l.some ≡ false → l.place ≡ 0;
   untouched : l.some ≡ false → OnlyReads disk l.fn.disk l.disk;

@@ -9,7 +9,8 @@ sync-requires g c = record { file = file_low c.all-entry-items.result.now c.loop
 pub loop-entry-preserved : goal.loop-entry-preserved
 loop-entry-preserved g c = record {
   settled = λ reads images.
-      AreSettledTo-more g.D.Disk c.loop-entry.disk c.sync.new.self c.all-entry-items.result.now c.loop-entry.entry-index _ (c.loop-entry.invariant.settled reads images) c.loop-entry-test.true
+      AreSettledTo-more g.D.Disk c.loop-entry.disk c.sync.new.self c.all-entry-items.result.now c.loop-entry.entry-index _
+      (c.loop-entry.invariant.settled reads images) c.loop-entry-test.true
       c.sync.ensures.keeps (c.sync.ensures.crash images) (c.in_ok-sync.ensures.settled reads images);
   only_reads = only_reads_on g.D.Disk c.args.disk.now c.loop-entry.disk c.sync.new.self c.loop-entry.invariant.only_reads
       (only_reads_call g.D.Disk c.loop-entry.disk c.sync.new.self g.met.D.Disk.only_now c.sync.ensures.keeps c.sync.ensures.crash c.sync.ensures.time);
@@ -18,4 +19,5 @@ loop-entry-preserved g c = record {
 
 pub returns-clause-settled : goal.returns-clause-settled
 returns-clause-settled g c reads images =
-    AreRecordsSettled-all g.D.Disk c.loop-entry.disk c.all-entry-items.result.now c.loop-entry.entry-index c.all-entry-items.ensures (c.loop-entry.invariant.settled reads images) c.loop-entry-test.false
+    AreRecordsSettled-all g.D.Disk c.loop-entry.disk c.all-entry-items.result.now c.loop-entry.entry-index c.all-entry-items.ensures
+    (c.loop-entry.invariant.settled reads images) c.loop-entry-test.false

@@ -3,14 +3,17 @@ use Rattle.std.proofs.lemmas.Result.{on_ok_weaker}
 use Rattle.rec_bytes.specs.Pairs.{Pairs}
 use Rattle.rec_bytes.specs.Space.{laid_over}
 use Rattle.record_file.specs.Records.{record_at}
-use Rattle.record_file.proofs.Written.{AreAmong, AreAmong-none, AreAmong-put, AreWritten, AreWritten-all, AreWritten-more, AreWritten-none, SameButRecords-among, SameButRecords-none, SameButRecords-then, find_pair-there, torn_in_records_more, torn_in_records_none}
+use Rattle.record_file.proofs.Written.{AreAmong, AreAmong-none, AreAmong-put, AreWritten, AreWritten-all}
+use Rattle.record_file.proofs.Written.{AreWritten-more, AreWritten-none, SameButRecords-among, SameButRecords-none}
+use Rattle.record_file.proofs.Written.{SameButRecords-then, find_pair-there, torn_in_records_more, torn_in_records_none}
 use Rattle.recovery.proofs.writing.write_records.Goals as goal
 
 pub loop-i-init : goal.loop-i-init
 loop-i-init g c =
     let records = record_at (g.D.Disk.reads c.args.disk.now) in
     record {
-      written = λ reads. subst (λ (run : Pairs). AreWritten records c.args.written.now.pairs 0 (laid_over records run)) (sym c.new-run.ensures) (AreWritten-none records c.args.written.now.pairs);
+      written = λ reads. subst (λ (run : Pairs). AreWritten records c.args.written.now.pairs 0 (laid_over records run)) (sym c.new-run.ensures)
+          (AreWritten-none records c.args.written.now.pairs);
       among = subst (λ (run : Pairs). AreAmong run c.args.written.now.pairs) (sym c.new-run.ensures) (AreAmong-none c.args.written.now.pairs);
       elsewhere = SameButRecords-none c.args.written.now.pairs (g.D.Disk.reads c.args.disk.now);
       crash = λ images. torn_in_records_none g.D.Disk c.args.disk.now c.args.written.now.pairs g.met.D.Disk.only_now images;
@@ -36,8 +39,10 @@ loop-i-preserved g c =
     let pairs = c.args.written.now.pairs in
     let rising = c.len-i-end.ensures.rising in
     record {
-      written = λ reads. AreWritten-more _ pairs c.loop-i.i c.at.result (laid_over (record_at (disk.reads c.loop-i.disk)) c.loop-i.run) (laid_over (record_at (disk.reads c.put.new.disk)) c.put.new.self) rising c.at.ensures.value (was.written reads) (c.in_ok-put.ensures.written reads);
-      among = AreAmong-put c.loop-i.run c.put.new.self pairs c.at.result.0 was.among (find_pair-there pairs c.loop-i.i c.at.result rising c.at.ensures.value) c.put.ensures.waits;
+      written = λ reads. AreWritten-more _ pairs c.loop-i.i c.at.result (laid_over (record_at (disk.reads c.loop-i.disk)) c.loop-i.run)
+          (laid_over (record_at (disk.reads c.put.new.disk)) c.put.new.self) rising c.at.ensures.value (was.written reads) (c.in_ok-put.ensures.written reads);
+      among = AreAmong-put c.loop-i.run c.put.new.self pairs c.at.result.0 was.among (find_pair-there pairs c.loop-i.i c.at.result rising c.at.ensures.value)
+          c.put.ensures.waits;
       elsewhere = SameButRecords-then pairs (disk.reads c.args.disk.now) (disk.reads c.loop-i.disk) (disk.reads c.put.new.disk) was.elsewhere
           (SameButRecords-among c.loop-i.run pairs (disk.reads c.loop-i.disk) (disk.reads c.put.new.disk) was.among c.put.ensures.elsewhere);
       crash = λ images.
@@ -50,7 +55,8 @@ pub returns-clause-written : goal.returns-clause-written
 returns-clause-written g c reads =
     let disk = g.D.Disk in
     let pairs = c.args.written.now.pairs in
-    let all = AreWritten-all _ pairs c.loop-i.i (laid_over (record_at (disk.reads c.loop-i.disk)) c.loop-i.run) (c.loop-i.invariant.written reads) (omega (arith, c.loop-i-test.false, c.len-i-end.ensures.value)) in
+    let all = AreWritten-all _ pairs c.loop-i.i (laid_over (record_at (disk.reads c.loop-i.disk)) c.loop-i.run) (c.loop-i.invariant.written reads)
+    (omega (arith, c.loop-i-test.false, c.len-i-end.ensures.value)) in
     on_ok_weaker c.write.result (λ written. written ∙ all) (c.write.ensures.written reads)
 
 pub returns-clause-elsewhere : goal.returns-clause-elsewhere

@@ -7,7 +7,8 @@ use Rattle.rec_bytes.specs.Pairs.{Pairs}
 use Rattle.redo_log.specs.Appending.{AreWhole, HasOneMore, IsAppended, IsTornFrom, payload_bytes}
 use Rattle.redo_log.specs.Entries.{AllHaveEntries, Fits, HasEntries, IsEntryOf, entry_bytes}
 use Rattle.disk_model.proofs.Contents.{SameOutside-then, SameOutside-same}
-use Rattle.redo_log.proofs.Appends.{HasEntries-behind, HasEntries-read, HasOneMore-read, HasAtMostOneMore-read, IsAppended-torn, leaves_no_more, leaves_gated, AllHaveEntries-settled}
+use Rattle.redo_log.proofs.Appends.{HasEntries-behind, HasEntries-read, HasOneMore-read, HasAtMostOneMore-read}
+use Rattle.redo_log.proofs.Appends.{IsAppended-torn, leaves_no_more, leaves_gated, AllHaveEntries-settled}
 use Rattle.redo_log.proofs.appending.append.Given.{Over}
 use Rattle.rec_bytes.proofs.Causes.{never_ok}
 use Rattle.redo_log.proofs.appending.append.Goals as goal
@@ -21,7 +22,8 @@ abbrev Goes : (g : Over) → g.row.D.Denot → g.row.D.Denot → Type 0
 Goes g before now = let disk = g.D.Disk in Elapses (disk.moment before) (disk.moment now) (disk.left_since before) (disk.left_since now) (disk.may_leave now)
 
 -- with one sync more
-synced : (g : Over) (first before now : g.row.D.Denot) (P : Files → Type 0) → g.D.Disk.tells_images → Leaves g first before P → Goes g before now → NoMore (g.D.Disk.may_leave before) (g.D.Disk.may_leave now) → Leaves g first now P
+synced : (g : Over) (first before now : g.row.D.Denot) (P : Files → Type 0) → g.D.Disk.tells_images → Leaves g first before P → Goes g before now
+    → NoMore (g.D.Disk.may_leave before) (g.D.Disk.may_leave now) → Leaves g first now P
 synced g first before now P images leaves time fewer =
     let disk = g.D.Disk in
     leaves_no_more _ _ _ _ _ _ (disk.may_leave before) _ P leaves (λ image later left. g.met.D.Disk.counts_now before (disk.moment first) image images later left) time fewer
@@ -29,9 +31,11 @@ synced g first before now P images leaves time fewer =
 -- with the gate written too
 gated : (g : Over) (first laid stable now : g.row.D.Denot) (entries : List Pairs) (writes : Pairs) (tail : ℕ) → g.D.Disk.tells_images
     → AllHaveEntries (g.D.Disk.may_leave first) entries tail → IsEntryOf writes → AreWhole writes → Fits tail (length writes)
-    → Leaves g first laid (IsTornFrom (g.D.Disk.may_leave first) (tail + 1) (3 + 69 * length writes)) → Holds log_file (tail + 1) (payload_bytes writes ++ 0 ∷ []) (g.D.Disk.reads laid)
+    → Leaves g first laid (IsTornFrom (g.D.Disk.may_leave first) (tail + 1) (3 + 69 * length writes))
+    → Holds log_file (tail + 1) (payload_bytes writes ++ 0 ∷ []) (g.D.Disk.reads laid)
     → Goes g laid stable → NoMore (g.D.Disk.may_leave laid) (g.D.Disk.may_leave stable) → Settled log_file (g.D.Disk.reads laid) (g.D.Disk.may_leave stable)
-    → Goes g stable now → TornIn log_file tail 1 (g.D.Disk.may_leave stable) (g.D.Disk.may_leave now) → Leaves g first now (IsAppended (g.D.Disk.may_leave first) entries writes tail)
+    → Goes g stable now → TornIn log_file tail 1 (g.D.Disk.may_leave stable) (g.D.Disk.may_leave now)
+    → Leaves g first now (IsAppended (g.D.Disk.may_leave first) entries writes tail)
 gated g first laid stable now entries writes tail images all form whole fits leaves holds time fewer settled gate_time torn =
     let disk = g.D.Disk in
     let wide = IsTornFrom (disk.may_leave first) (tail + 1) (3 + 69 * length writes) in
@@ -62,7 +66,8 @@ returns-in_err-sync-clause-read g c reads entries has =
 
 pub returns-in_err-write-clause-crash : goal.returns-in_err-write-clause-crash
 returns-in_err-write-clause-crash g c reads images entries all =
-    gated g c.args.disk.now c.write_payload.new.disk c.sync.new.self c.write.new.self entries c.args.writes.now.pairs c.args.tail images all c.requires.form c.in_ok-write_payload.ensures.whole c.requires.fits
+    gated g c.args.disk.now c.write_payload.new.disk c.sync.new.self c.write.new.self entries c.args.writes.now.pairs c.args.tail images all c.requires.form
+    c.in_ok-write_payload.ensures.whole c.requires.fits
     (c.write_payload.ensures.crash images) (c.in_ok-write_payload.ensures.written reads)
     (c.sync.ensures.time images) (c.sync.ensures.crash images) (c.in_ok-sync.ensures.settled reads images)
     (c.write.ensures.time images) (c.write.ensures.crash images)
@@ -70,13 +75,15 @@ returns-in_err-write-clause-crash g c reads images entries all =
 pub returns-in_err-write-clause-read : goal.returns-in_err-write-clause-read
 returns-in_err-write-clause-read g c reads entries has =
     let disk = g.D.Disk in
-    HasAtMostOneMore-read entries c.args.writes.now.pairs c.args.tail (disk.reads c.args.disk.now) (disk.reads c.write_payload.new.disk) (disk.reads c.sync.new.self) (disk.reads c.write.new.self)
+    HasAtMostOneMore-read entries c.args.writes.now.pairs c.args.tail (disk.reads c.args.disk.now) (disk.reads c.write_payload.new.disk)
+    (disk.reads c.sync.new.self) (disk.reads c.write.new.self)
     c.requires.form c.in_ok-write_payload.ensures.whole c.requires.fits has
     (c.write_payload.ensures.elsewhere reads) (c.in_ok-write_payload.ensures.written reads) (c.sync.ensures.keeps) (c.write.ensures.elsewhere)
 
 pub returns-in_err-sync-2-clause-crash : goal.returns-in_err-sync-2-clause-crash
 returns-in_err-sync-2-clause-crash g c reads images entries all =
-    let opened = gated g c.args.disk.now c.write_payload.new.disk c.sync.new.self c.write.new.self entries c.args.writes.now.pairs c.args.tail images all c.requires.form c.in_ok-write_payload.ensures.whole c.requires.fits
+    let opened = gated g c.args.disk.now c.write_payload.new.disk c.sync.new.self c.write.new.self entries c.args.writes.now.pairs c.args.tail images all
+    c.requires.form c.in_ok-write_payload.ensures.whole c.requires.fits
     (c.write_payload.ensures.crash images) (c.in_ok-write_payload.ensures.written reads)
     (c.sync.ensures.time images) (c.sync.ensures.crash images) (c.in_ok-sync.ensures.settled reads images)
     (c.write.ensures.time images) (c.write.ensures.crash images) in
@@ -86,7 +93,8 @@ pub returns-in_err-sync-2-clause-read : goal.returns-in_err-sync-2-clause-read
 returns-in_err-sync-2-clause-read g c reads entries has =
     let disk = g.D.Disk in
     let tail = c.args.tail in
-    HasAtMostOneMore-read entries c.args.writes.now.pairs tail (disk.reads c.args.disk.now) (disk.reads c.write_payload.new.disk) (disk.reads c.sync.new.self) (disk.reads c.sync-2.new.self)
+    HasAtMostOneMore-read entries c.args.writes.now.pairs tail (disk.reads c.args.disk.now) (disk.reads c.write_payload.new.disk) (disk.reads c.sync.new.self)
+    (disk.reads c.sync-2.new.self)
     c.requires.form c.in_ok-write_payload.ensures.whole c.requires.fits has
     (c.write_payload.ensures.elsewhere reads) (c.in_ok-write_payload.ensures.written reads) (c.sync.ensures.keeps)
     (SameOutside-then log_file tail 1 (disk.reads c.sync.new.self) (disk.reads c.write.new.self) (disk.reads c.sync-2.new.self) (c.write.ensures.elsewhere)
@@ -94,22 +102,28 @@ returns-in_err-sync-2-clause-read g c reads entries has =
 
 pub returns-clause-crash : goal.returns-clause-crash
 returns-clause-crash g c reads images entries all =
-    let opened = gated g c.args.disk.now c.write_payload.new.disk c.sync.new.self c.write.new.self entries c.args.writes.now.pairs c.args.tail images all c.requires.form c.in_ok-write_payload.ensures.whole c.requires.fits
+    let opened = gated g c.args.disk.now c.write_payload.new.disk c.sync.new.self c.write.new.self entries c.args.writes.now.pairs c.args.tail images all
+    c.requires.form c.in_ok-write_payload.ensures.whole c.requires.fits
     (c.write_payload.ensures.crash images) (c.in_ok-write_payload.ensures.written reads)
     (c.sync.ensures.time images) (c.sync.ensures.crash images) (c.in_ok-sync.ensures.settled reads images)
     (c.write.ensures.time images) (c.write.ensures.crash images) in
     synced g c.args.disk.now c.write.new.self c.sync-2.new.self _ images opened (c.sync-2.ensures.time images) (c.sync-2.ensures.crash images)
 
 -- what a read has before the last sync
-one_more : (g : Over) (c : goal.After-len g) → g.D.Disk.tells_reads → (entries : List Pairs) → HasEntries (g.D.Disk.reads c.args.disk.now) entries c.args.tail → HasOneMore (g.D.Disk.reads c.write.new.self) entries c.args.writes.now.pairs c.args.tail
+one_more : (g : Over) (c : goal.After-len g) → g.D.Disk.tells_reads → (entries : List Pairs) → HasEntries (g.D.Disk.reads c.args.disk.now) entries c.args.tail
+    → HasOneMore (g.D.Disk.reads c.write.new.self) entries c.args.writes.now.pairs c.args.tail
 one_more g c reads entries has =
     let disk = g.D.Disk in
-    HasOneMore-read entries c.args.writes.now.pairs c.args.tail (disk.reads c.args.disk.now) (disk.reads c.write_payload.new.disk) (disk.reads c.sync.new.self) (disk.reads c.write.new.self)
+    HasOneMore-read entries c.args.writes.now.pairs c.args.tail (disk.reads c.args.disk.now) (disk.reads c.write_payload.new.disk) (disk.reads c.sync.new.self)
+    (disk.reads c.write.new.self)
     c.requires.form c.in_ok-write_payload.ensures.whole c.requires.fits has
-    (c.write_payload.ensures.elsewhere reads) (c.in_ok-write_payload.ensures.written reads) (c.sync.ensures.keeps) (c.write.ensures.elsewhere) (c.in_ok-write.ensures.written reads)
+    (c.write_payload.ensures.elsewhere reads) (c.in_ok-write_payload.ensures.written reads) (c.sync.ensures.keeps) (c.write.ensures.elsewhere)
+    (c.in_ok-write.ensures.written reads)
 
 pub returns-clause-appended : goal.returns-clause-appended
-returns-clause-appended g c reads entries has = HasEntries-read (entries ++ c.args.writes.now.pairs ∷ []) (c.args.tail + entry_bytes (length c.args.writes.now.pairs)) (g.D.Disk.reads c.write.new.self) (g.D.Disk.reads c.sync-2.new.self) (one_more g c reads entries has) (c.sync-2.ensures.keeps log_file)
+returns-clause-appended g c reads entries has = HasEntries-read (entries ++ c.args.writes.now.pairs ∷ [])
+    (c.args.tail + entry_bytes (length c.args.writes.now.pairs)) (g.D.Disk.reads c.write.new.self) (g.D.Disk.reads c.sync-2.new.self)
+    (one_more g c reads entries has) (c.sync-2.ensures.keeps log_file)
 
 pub returns-clause-read : goal.returns-clause-read
 returns-clause-read g c reads entries has = inr (returns-clause-appended g c reads entries has)
@@ -118,7 +132,8 @@ pub returns-clause-durable : goal.returns-clause-durable
 returns-clause-durable g c reads images entries all =
     let disk = g.D.Disk in
     let has = all (disk.reads c.args.disk.now) (g.met.D.Disk.read_is_image c.args.disk.now reads images) in
-    AllHaveEntries-settled (disk.may_leave c.sync-2.new.self) (disk.reads c.write.new.self) (entries ++ c.args.writes.now.pairs ∷ []) (c.args.tail + entry_bytes (length c.args.writes.now.pairs)) (c.in_ok-sync-2.ensures.settled reads images) (one_more g c reads entries has)
+    AllHaveEntries-settled (disk.may_leave c.sync-2.new.self) (disk.reads c.write.new.self) (entries ++ c.args.writes.now.pairs ∷ [])
+    (c.args.tail + entry_bytes (length c.args.writes.now.pairs)) (c.in_ok-sync-2.ensures.settled reads images) (one_more g c reads entries has)
 
 pub returns-in_err-write_payload-clause-durable : goal.returns-in_err-write_payload-clause-durable
 returns-in_err-write_payload-clause-durable g c _ _ _ _ = never_ok c.from_residual.result _ _ c.from_residual.ensures.1

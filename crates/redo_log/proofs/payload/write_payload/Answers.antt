@@ -16,7 +16,8 @@ use Rattle.redo_log.proofs.payload.write_payload.Goals as goal
 
 -- a crash from one state of the disk to another leaves a content from before, but for the range
 abbrev Leaves : (g : Over) → g.row.D.Denot → g.row.D.Denot → ℕ → ℕ → Type 0
-Leaves g first now at n = let disk = g.D.Disk in LeavesOnly (disk.moment first) (disk.moment now) (disk.left_since first) (disk.left_since now) (IsTornFrom (disk.may_leave first) at n)
+Leaves g first now at n = let disk = g.D.Disk in LeavesOnly (disk.moment first) (disk.moment now) (disk.left_since first) (disk.left_since now)
+    (IsTornFrom (disk.may_leave first) at n)
 
 -- with one write more in the range
 torn_more : (g : Over) (first before now : g.row.D.Denot) (at n place k : ℕ) → g.D.Disk.tells_images → Leaves g first before at n
@@ -30,7 +31,8 @@ pub returns-in_err-write-clause-crash : goal.returns-in_err-write-clause-crash
 returns-in_err-write-clause-crash g c images =
     let was = c.loop-next.invariant in
     let size : length c.bytes.result.now ≡ length c.loop-next.piece = ap length c.bytes.ensures in
-    torn_more g c.args.disk.now c.loop-next.disk c.write.new.self c.args.at (3 + 69 * length c.args.writes.now.pairs) c.loop-next.place (length c.bytes.result.now)
+    torn_more g c.args.disk.now c.loop-next.disk c.write.new.self c.args.at (3 + 69 * length c.args.writes.now.pairs) c.loop-next.place
+    (length c.bytes.result.now)
     images (was.crash images) (c.write.ensures.time images) (c.write.ensures.crash images) was.behind (omega (arith, was.ends, was.within, size))
 
 pub loop-next-preserved : goal.loop-next-preserved
@@ -49,7 +51,8 @@ loop-next-preserved g c =
     let n = 3 + 69 * length writes in
     let size : length c.bytes.result.now ≡ length piece = ap length c.bytes.ensures in
     let step : length c.bytes-in-loop-next.result.now ≡ length piece = ap length c.bytes-in-loop-next.ensures in
-    let filled : length next_piece ≡ 0 + 69 * (later - next) = c.fill-next-in-loop-next.ensures.length ∙ ap (λ bytes. length bytes + 69 * (later - next)) c.clear.ensures in
+    let filled : length next_piece ≡ 0 + 69 * (later - next) = c.fill-next-in-loop-next.ensures.length
+    ∙ ap (λ bytes. length bytes + 69 * (later - next)) c.clear.ensures in
     let added : next_piece ≡ flat_map write_bytes (take (later - next) (drop next writes)) =
     c.fill-next-in-loop-next.ensures.added ∙ ap (λ bytes. bytes ++ flat_map write_bytes (take (later - next) (drop next writes))) c.clear.ensures in
     let within : later ≤ length writes = omega (arith, was.within, c.fill-next-in-loop-next.ensures.next) in
@@ -81,14 +84,17 @@ returns-clause-written g c reads =
     let disk = g.D.Disk in
     let was = c.loop-next.invariant in
     on_ok_weaker {P = Holds log_file c.loop-next.place c.bytes-2.result.now (disk.reads c.write-2.new.self)} c.write-2.result (λ holds.
-    IsSent-all (disk.reads c.loop-next.disk) (disk.reads c.write-2.new.self) c.args.at c.loop-next.place c.loop-next.piece c.bytes-2.result.now c.args.writes.now.pairs c.loop-next.next (0 ∷ [])
+    IsSent-all (disk.reads c.loop-next.disk) (disk.reads c.write-2.new.self) c.args.at c.loop-next.place c.loop-next.piece c.bytes-2.result.now
+    c.args.writes.now.pairs c.loop-next.next (0 ∷ [])
     (was.sent reads) (omega (arith, was.within)) (c.bytes-2.ensures ∙ c.push.ensures) holds (c.write-2.ensures.elsewhere)) (c.write-2.ensures.written reads)
 
 pub returns-clause-crash : goal.returns-clause-crash
 returns-clause-crash g c images =
     let was = c.loop-next.invariant in
-    let size : length c.bytes-2.result.now ≡ length c.loop-next.piece + 1 = ap length (c.bytes-2.ensures ∙ c.push.ensures) ∙ length-append c.loop-next.piece (0 ∷ []) in
-    torn_more g c.args.disk.now c.loop-next.disk c.write-2.new.self c.args.at (3 + 69 * length c.args.writes.now.pairs) c.loop-next.place (length c.bytes-2.result.now)
+    let size : length c.bytes-2.result.now ≡ length c.loop-next.piece + 1 = ap length (c.bytes-2.ensures ∙ c.push.ensures)
+    ∙ length-append c.loop-next.piece (0 ∷ []) in
+    torn_more g c.args.disk.now c.loop-next.disk c.write-2.new.self c.args.at (3 + 69 * length c.args.writes.now.pairs) c.loop-next.place
+    (length c.bytes-2.result.now)
     images (was.crash images) (c.write-2.ensures.time images) (c.write-2.ensures.crash images) was.behind (omega (arith, was.ends, was.within, size))
 
 on_ok_always : {T E P : Type 0} (result : Result T E) → P → OnOk result P

@@ -17,7 +17,8 @@ returns-clause-of_entry g c = λ told below.
     let content = g.D.Disk.reads c.args.disk.now in
     let long : length c.read.new.out ≡ 69 = search rules in
     let bytes = log_bytes-held content c.place_of_write.result 69 c.read.new.out long (c.in_ok-read.ensures.bytes told) in
-    entry_get content c.args.place c.args.index c.write_of.result below (c.write_of.ensures content c.place_of_write.result bytes ∙ ap (write_at content) c.place_of_write.ensures)
+    entry_get content c.args.place c.args.index c.write_of.result below
+    (c.write_of.ensures content c.place_of_write.result bytes ∙ ap (write_at content) c.place_of_write.ensures)
 
 pub returns-in_err-read-clause-bytes : goal.returns-in_err-read-clause-bytes
 returns-in_err-read-clause-bytes g c _ = never_ok c.from_residual.result _ _ c.from_residual.ensures.1

@@ -25,7 +25,8 @@ returns-clause-crash g c reads images entries tail all =
     at_each_moment_then disk old seen c.write.new.self leaves first (c.write.ensures.time images)
     (λ image left.
     let torn = c.write.ensures.crash images image left in
-    IsReset-torn (disk.may_leave old) entries tail (disk.reads old) torn.0 image all (all (disk.reads old) (g.met.D.Disk.read_is_image old reads images)) is_open (c.read.ensures.crash images torn.0 torn.1) torn.2)
+    IsReset-torn (disk.may_leave old) entries tail (disk.reads old) torn.0 image all (all (disk.reads old) (g.met.D.Disk.read_is_image old reads images))
+    is_open (c.read.ensures.crash images torn.0 torn.1) torn.2)
 
 pub returns-clause-read : goal.returns-clause-read
 returns-clause-read g c reads entries tail has =

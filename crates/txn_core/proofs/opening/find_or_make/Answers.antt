@@ -13,7 +13,9 @@ use Rattle.txn_core.specs.Config.{Suits}
 use Rattle.record_file.specs.MetaFile.{with_metas}
 use Rattle.txn_core.specs.Opening.{HasOnly, IsStore, OnlyDiffers, RefusesOpening, raising_entries}
 use Rattle.txn_core.specs.declared.opening.Start.{Start}
-use Rattle.txn_core.proofs.Finding.{differs_untouched, if_ok_all, if_ok_both, if_ok_on, made_crash, made_log, made_opened, none_made, one_shape, redoes_own, refuses_differs, stays_read, unmade_crash, unmade_left, unmade_mid, unmade_opened}
+use Rattle.txn_core.proofs.Finding.{differs_untouched, if_ok_all, if_ok_both, if_ok_on, made_crash, made_log}
+use Rattle.txn_core.proofs.Finding.{made_opened, none_made, one_shape, redoes_own, refuses_differs, stays_read}
+use Rattle.txn_core.proofs.Finding.{unmade_crash, unmade_left, unmade_mid, unmade_opened}
 use Rattle.txn_core.proofs.opening.find_or_make.Given.{Over}
 use Rattle.rec_bytes.proofs.Causes.{never_ok}
 use Rattle.txn_core.proofs.opening.find_or_make.Goals as goal
@@ -57,7 +59,8 @@ pub returns-in-Ok-Made-clause-kept : goal.returns-in-Ok-Made-clause-kept
 returns-in-Ok-Made-clause-kept g c = c.open_made.ensures.kept c.in-Ok-Made.ensures.emptied c.in-Ok-Made.ensures.settled
 
 pub returns-in-Ok-Made-clause-settled : goal.returns-in-Ok-Made-clause-settled
-returns-in-Ok-Made-clause-settled g c reads images = c.open_made.ensures.settled reads images (c.in-Ok-Made.ensures.emptied reads) (c.in-Ok-Made.ensures.settled reads images)
+returns-in-Ok-Made-clause-settled g c reads images = c.open_made.ensures.settled reads images (c.in-Ok-Made.ensures.emptied reads)
+    (c.in-Ok-Made.ensures.settled reads images)
 
 pub returns-in-Ok-Made-clause-crash : goal.returns-in-Ok-Made-clause-crash
 returns-in-Ok-Made-clause-crash g c reads images space shape redoes is =
@@ -71,16 +74,19 @@ returns-in-Ok-Made-clause-crash_new g c reads images unmade = absurd (none_made 
 pub returns-in-Ok-Made-clause-refused : goal.returns-in-Ok-Made-clause-refused
 returns-in-Ok-Made-clause-refused g c reads =
     let content = g.D.Disk.reads c.args.disk.now in
-    IfErr-weaker c.open_made.result (OnlyDiffers c.in-Ok-Made.shape c.args.config) (RefusesOpening content c.args.config) (λ fault only. refuses_differs content c.args.config c.in-Ok-Made.shape fault (store g c reads) only) c.open_made.ensures.refused
+    IfErr-weaker c.open_made.result (OnlyDiffers c.in-Ok-Made.shape c.args.config) (RefusesOpening content c.args.config)
+    (λ fault only. refuses_differs content c.args.config c.in-Ok-Made.shape fault (store g c reads) only) c.open_made.ensures.refused
 
 pub returns-in-Ok-Made-clause-untouched : goal.returns-in-Ok-Made-clause-untouched
 returns-in-Ok-Made-clause-untouched g c reads =
-    IfErr-weaker c.open_made.result (OnlyDiffers c.in-Ok-Made.shape c.args.config) _ (λ fault only is. differs_untouched c.args.config c.in-Ok-Made.shape fault only is) c.open_made.ensures.refused
+    IfErr-weaker c.open_made.result (OnlyDiffers c.in-Ok-Made.shape c.args.config) _
+    (λ fault only is. differs_untouched c.args.config c.in-Ok-Made.shape fault only is) c.open_made.ensures.refused
 
 pub returns-in-Ok-Made-clause-sound : goal.returns-in-Ok-Made-clause-sound
 returns-in-Ok-Made-clause-sound g c reads space shape redoes has =
     let same = one_shape (g.D.Disk.reads c.args.disk.now) space c.in-Ok-Made.shape shape (store g c reads) redoes has in
-    IfErr-weaker c.open_made.result (OnlyDiffers c.in-Ok-Made.shape c.args.config) (OnlyDiffers shape c.args.config) (λ fault. subst (λ (s : Shape). OnlyDiffers s c.args.config fault) (sym same)) c.open_made.ensures.refused
+    IfErr-weaker c.open_made.result (OnlyDiffers c.in-Ok-Made.shape c.args.config) (OnlyDiffers shape c.args.config)
+    (λ fault. subst (λ (s : Shape). OnlyDiffers s c.args.config fault) (sym same)) c.open_made.ensures.refused
 
 pub returns-in-Ok-Made-clause-careful : goal.returns-in-Ok-Made-clause-careful
 returns-in-Ok-Made-clause-careful g c reads =
@@ -118,7 +124,8 @@ returns-in_err-make_new-in-Ok-Unmade-clause-crash_new g c reads images unmade =
     let content = g.D.Disk.reads c.args.disk.now in
     let same = c.in-Ok-Unmade.ensures.space reads (record_at content) (redoes_own content unmade) in
     let none_now = unmade_mid content (g.D.Disk.reads c.recover.new.disk) unmade same (c.in-Ok-Unmade.ensures.emptied reads) in
-    unmade_crash disk c.args.disk.now c.recover.new.disk c.make_new.new.disk c.args.config c.shape.result unmade same c.shape.ensures images (c.recover.ensures.closed reads unmade.log.1)
+    unmade_crash disk c.args.disk.now c.recover.new.disk c.make_new.new.disk c.args.config c.shape.result unmade same c.shape.ensures images
+    (c.recover.ensures.closed reads unmade.log.1)
     (c.make_new.ensures.crash reads images none_now (c.in-Ok-Unmade.ensures.settled reads images))
 
 pub returns-in_ok-make_new-in-Ok-Unmade-clause-crash_new : goal.returns-in_ok-make_new-in-Ok-Unmade-clause-crash_new
@@ -127,7 +134,8 @@ returns-in_ok-make_new-in-Ok-Unmade-clause-crash_new g c reads images unmade =
     let content = g.D.Disk.reads c.args.disk.now in
     let same = c.in-Ok-Unmade.ensures.space reads (record_at content) (redoes_own content unmade) in
     let none_now = unmade_mid content (g.D.Disk.reads c.recover.new.disk) unmade same (c.in-Ok-Unmade.ensures.emptied reads) in
-    unmade_crash disk c.args.disk.now c.recover.new.disk c.make_new.new.disk c.args.config c.shape.result unmade same c.shape.ensures images (c.recover.ensures.closed reads unmade.log.1)
+    unmade_crash disk c.args.disk.now c.recover.new.disk c.make_new.new.disk c.args.config c.shape.result unmade same c.shape.ensures images
+    (c.recover.ensures.closed reads unmade.log.1)
     (c.make_new.ensures.crash reads images none_now (c.in-Ok-Unmade.ensures.settled reads images))
 
 pub returns-in_ok-make_new-in-Ok-Unmade-clause-opened : goal.returns-in_ok-make_new-in-Ok-Unmade-clause-opened
@@ -139,7 +147,8 @@ returns-in_ok-make_new-in-Ok-Unmade-clause-opened g c reads =
     let content = g.D.Disk.reads c.args.disk.now in
     let same = c.in-Ok-Unmade.ensures.space reads (record_at content) (redoes_own content unmade) in
     let none_now = unmade_mid content (g.D.Disk.reads c.recover.new.disk) unmade same (c.in-Ok-Unmade.ensures.emptied reads) in
-    unmade_opened (disk.reads c.args.disk.now) (disk.reads c.recover.new.disk) c.args.config s.shape c.shape.result _ unmade same c.shape.ensures c.in_ok-make_new-in-Ok-Unmade.ensures.shape
+    unmade_opened (disk.reads c.args.disk.now) (disk.reads c.recover.new.disk) c.args.config s.shape c.shape.result _ unmade same c.shape.ensures
+    c.in_ok-make_new-in-Ok-Unmade.ensures.shape
     (c.in_ok-make_new-in-Ok-Unmade.ensures.space reads none_now)
 
 pub returns-in_ok-make_new-in-Ok-Unmade-clause-log : goal.returns-in_ok-make_new-in-Ok-Unmade-clause-log
@@ -149,7 +158,8 @@ returns-in_ok-make_new-in-Ok-Unmade-clause-log g c reads =
     inl (unmade, subst (λ (s : Shape). HasOnly (g.D.Disk.reads c.make_new.new.disk) (creation_pairs s ∷ [])) (sym c.in_ok-make_new-in-Ok-Unmade.ensures.shape) (c.in_ok-make_new-in-Ok-Unmade.ensures.log reads (c.in-Ok-Unmade.ensures.emptied reads)))
 
 pub returns-in_ok-make_new-in-Ok-Unmade-clause-settled : goal.returns-in_ok-make_new-in-Ok-Unmade-clause-settled
-returns-in_ok-make_new-in-Ok-Unmade-clause-settled g c reads images = c.in_ok-make_new-in-Ok-Unmade.ensures.settled reads images (c.in-Ok-Unmade.ensures.emptied reads) (c.in-Ok-Unmade.ensures.settled reads images)
+returns-in_ok-make_new-in-Ok-Unmade-clause-settled g c reads images = c.in_ok-make_new-in-Ok-Unmade.ensures.settled reads images
+    (c.in-Ok-Unmade.ensures.emptied reads) (c.in-Ok-Unmade.ensures.settled reads images)
 
 pub returns-in_ok-make_new-in-Ok-Unmade-clause-kept : goal.returns-in_ok-make_new-in-Ok-Unmade-clause-kept
 returns-in_ok-make_new-in-Ok-Unmade-clause-kept g c = c.in_ok-make_new-in-Ok-Unmade.ensures.kept
@@ -181,15 +191,18 @@ returns-in-Err-Damaged-clause-unmade g c reads unmade =
 
 pub returns-in-Err-Disk-clause-crash : goal.returns-in-Err-Disk-clause-crash
 returns-in-Err-Disk-clause-crash g c reads images space shape redoes is =
-    at_each_moment_weaker g.D.Disk c.args.disk.now c.recover.new.disk _ _ (c.recover.ensures.crash reads images space redoes) (λ left. ⊎_elim (λ was. inl was) (λ redoes. inr (inl redoes)))
+    at_each_moment_weaker g.D.Disk c.args.disk.now c.recover.new.disk _ _ (c.recover.ensures.crash reads images space redoes)
+    (λ left. ⊎_elim (λ was. inl was) (λ redoes. inr (inl redoes)))
 
 pub returns-in-Err-Disk-clause-crash_new : goal.returns-in-Err-Disk-clause-crash_new
-returns-in-Err-Disk-clause-crash_new g c reads images unmade = unmade_left g.D.Disk c.args.disk.now c.recover.new.disk c.args.config images (c.recover.ensures.closed reads unmade.log.1)
+returns-in-Err-Disk-clause-crash_new g c reads images unmade = unmade_left g.D.Disk c.args.disk.now c.recover.new.disk c.args.config images
+    (c.recover.ensures.closed reads unmade.log.1)
 
 pub returns-in-Ok-Made-clause-differs : goal.returns-in-Ok-Made-clause-differs
 returns-in-Ok-Made-clause-differs g c reads space redoes =
     IfErr-weaker c.open_made.result _ _ (λ fault only asked.
-    stays_read g.D.Disk c.args.disk.now c.recover.new.disk c.open_made.new.disk space g.met.D.Disk.counts_now (c.recover.ensures.read reads space redoes) (λ images. c.recover.ensures.crash reads images space redoes) (only asked)) c.open_made.ensures.differs
+    stays_read g.D.Disk c.args.disk.now c.recover.new.disk c.open_made.new.disk space g.met.D.Disk.counts_now (c.recover.ensures.read reads space redoes)
+    (λ images. c.recover.ensures.crash reads images space redoes) (only asked)) c.open_made.ensures.differs
 
 pub returns-in-Ok-Made-clause-clean : goal.returns-in-Ok-Made-clause-clean
 returns-in-Ok-Made-clause-clean g c reads clean =
@@ -233,7 +246,8 @@ returns-in-Ok-Made-clause-suits g c =
     let r = c.open_made.result in
     let shape = λ (s : Start). s.shape ≡ found in
     let suits = λ (s : Start). Suits c.args.config found in
-    if_ok_all r (λ s. shape s × suits s) _ (λ s of. subst (Suits c.args.config) (sym of.0) of.1) (if_ok_both r shape suits c.open_made.ensures.shape c.open_made.ensures.suits)
+    if_ok_all r (λ s. shape s × suits s) _ (λ s of. subst (Suits c.args.config) (sym of.0) of.1)
+    (if_ok_both r shape suits c.open_made.ensures.shape c.open_made.ensures.suits)
 
 pub returns-in-Ok-Made-clause-no_memory : goal.returns-in-Ok-Made-clause-no_memory
 returns-in-Ok-Made-clause-no_memory g c = c.open_made.ensures.no_memory

@@ -38,14 +38,16 @@ returns-clause-kept g c unmade settled =
     let disk = g.D.Disk in
     let first = c.args.disk.now in
     let blank = subst (λ (pairs : Pairs). IsKept disk first blank_metas pairs 0) (sym c.requires.changed) (kept_unmade disk first unmade settled) in
-    kept_appended disk first c.append.new.disk c.blank.result.records c.args.changed.now.pairs c.args.creation.now.pairs c.merge.new.self.pairs 0 c.in_ok-tail.tail g.met.D.Disk.counts_now
+    kept_appended disk first c.append.new.disk c.blank.result.records c.args.changed.now.pairs c.args.creation.now.pairs c.merge.new.self.pairs 0
+    c.in_ok-tail.tail g.met.D.Disk.counts_now
     (subst (λ (metas : List Rec). IsKept disk first metas c.args.changed.now.pairs 0) (sym c.blank.ensures) blank) c.merge.ensures.finds
     c.in_ok-tail.ensures.next (λ reads. c.in_ok-tail.ensures.appended reads) c.in_ok-tail.ensures.settled c.append.ensures.elsewhere c.append.ensures.crash
 
 pub returns-clause-space : goal.returns-clause-space
 returns-clause-space g c reads unmade =
     let disk = g.D.Disk in
-    new_space (disk.reads c.args.disk.now) (disk.reads c.append.new.disk) c.args.shape c.blank.result.records c.args.changed.now.pairs c.args.creation.now.pairs c.merge.new.self.pairs c.blank.ensures c.requires.changed c.requires.creation unmade
+    new_space (disk.reads c.args.disk.now) (disk.reads c.append.new.disk) c.args.shape c.blank.result.records c.args.changed.now.pairs c.args.creation.now.pairs
+    c.merge.new.self.pairs c.blank.ensures c.requires.changed c.requires.creation unmade
     c.merge.ensures.finds (c.append.ensures.elsewhere reads)
 
 pub returns-clause-few : goal.returns-clause-few
@@ -63,7 +65,8 @@ returns-clause-few g c =
 
 pub returns-clause-settled : goal.returns-clause-settled
 returns-clause-settled g c reads images has settled =
-    settled_appended g.D.Disk c.args.disk.now c.append.new.disk c.args.creation.now.pairs g.met.D.Disk.counts_now images has settled (c.append.ensures.crash reads images) (c.append.ensures.elsewhere reads) (c.in_ok-tail.ensures.settled reads images)
+    settled_appended g.D.Disk c.args.disk.now c.append.new.disk c.args.creation.now.pairs g.met.D.Disk.counts_now images has settled
+    (c.append.ensures.crash reads images) (c.append.ensures.elsewhere reads) (c.in_ok-tail.ensures.settled reads images)
 
 pub returns-clause-log : goal.returns-clause-log
 returns-clause-log g c reads has =

@@ -9,18 +9,21 @@ use Rattle.rec_bytes.proofs.Causes.{never_ok}
 use Rattle.txn_core.proofs.opening.open_made.Goals as goal
 
 pub returns-in_err-start-clause-crash : goal.returns-in_err-start-clause-crash
-returns-in_err-start-clause-crash g c reads images log settled = read_crash g.D.Disk c.args.disk.now c.read_made.new.disk c.args.shape log settled c.read_made.ensures.only_reads images
+returns-in_err-start-clause-crash g c reads images log settled = read_crash g.D.Disk c.args.disk.now c.read_made.new.disk c.args.shape log settled
+    c.read_made.ensures.only_reads images
 
 pub returns-in_err-raise-clause-crash : goal.returns-in_err-raise-clause-crash
 returns-in_err-raise-clause-crash g c reads images log settled =
     let start = c.in_ok-start.start in
-    raised_crash g.D.Disk c.args.disk.now c.read_made.new.disk c.raise.new.disk start.metas.records c.args.shape start.shape log settled c.read_made.ensures.only_reads images (c.in_ok-start.ensures.metas reads) c.in_ok-start.ensures.shape
+    raised_crash g.D.Disk c.args.disk.now c.read_made.new.disk c.raise.new.disk start.metas.records c.args.shape start.shape log settled
+    c.read_made.ensures.only_reads images (c.in_ok-start.ensures.metas reads) c.in_ok-start.ensures.shape
     (c.raise.ensures.crash reads images (made_kept g.D.Disk c.args.disk.now c.read_made.new.disk start.metas.records [] refl c.read_made.ensures.only_reads (λ _. log) (λ _ _. settled) c.in_ok-start.ensures.metas))
 
 pub returns-clause-crash : goal.returns-clause-crash
 returns-clause-crash g c reads images log settled =
     let start = c.in_ok-start.start in
-    raised_crash g.D.Disk c.args.disk.now c.read_made.new.disk c.raise.new.disk start.metas.records c.args.shape start.shape log settled c.read_made.ensures.only_reads images (c.in_ok-start.ensures.metas reads) c.in_ok-start.ensures.shape
+    raised_crash g.D.Disk c.args.disk.now c.read_made.new.disk c.raise.new.disk start.metas.records c.args.shape start.shape log settled
+    c.read_made.ensures.only_reads images (c.in_ok-start.ensures.metas reads) c.in_ok-start.ensures.shape
     (c.raise.ensures.crash reads images (made_kept g.D.Disk c.args.disk.now c.read_made.new.disk start.metas.records [] refl c.read_made.ensures.only_reads (λ _. log) (λ _ _. settled) c.in_ok-start.ensures.metas))
 
 pub returns-clause-kept : goal.returns-clause-kept
@@ -39,21 +42,24 @@ pub returns-clause-settled : goal.returns-clause-settled
 returns-clause-settled g c reads images log settled =
     let first = c.args.disk.now in
     let mid = c.read_made.new.disk in
-    c.in_ok-raise.ensures.settled reads images (HasEntries-read [] 0 (g.D.Disk.reads first) (g.D.Disk.reads mid) log (c.read_made.ensures.only_reads.keeps 7)) (settled_read g.D.Disk first mid c.read_made.ensures.only_reads images settled)
+    c.in_ok-raise.ensures.settled reads images (HasEntries-read [] 0 (g.D.Disk.reads first) (g.D.Disk.reads mid) log (c.read_made.ensures.only_reads.keeps 7))
+    (settled_read g.D.Disk first mid c.read_made.ensures.only_reads images settled)
 
 pub returns-in_err-raise-clause-newest : goal.returns-in_err-raise-clause-newest
 returns-in_err-raise-clause-newest g c reads newest =
     let first = c.args.disk.now in
     let mid = c.read_made.new.disk in
     let start = c.in_ok-start.start in
-    newest_reads g.D.Disk first mid c.raise.new.disk start.metas.records c.read_made.ensures.only_reads (c.in_ok-start.ensures.metas reads) newest c.raise.ensures.newest
+    newest_reads g.D.Disk first mid c.raise.new.disk start.metas.records c.read_made.ensures.only_reads (c.in_ok-start.ensures.metas reads) newest
+    c.raise.ensures.newest
 
 pub returns-clause-newest : goal.returns-clause-newest
 returns-clause-newest g c reads newest =
     let first = c.args.disk.now in
     let mid = c.read_made.new.disk in
     let start = c.in_ok-start.start in
-    newest_reads g.D.Disk first mid c.raise.new.disk start.metas.records c.read_made.ensures.only_reads (c.in_ok-start.ensures.metas reads) newest c.raise.ensures.newest
+    newest_reads g.D.Disk first mid c.raise.new.disk start.metas.records c.read_made.ensures.only_reads (c.in_ok-start.ensures.metas reads) newest
+    c.raise.ensures.newest
 
 pub returns-in_err-start-clause-shape : goal.returns-in_err-start-clause-shape
 returns-in_err-start-clause-shape g c = never_ok c.from_residual.result _ _ c.from_residual.ensures.1

@@ -19,20 +19,25 @@ store g c reads =
 
 pub returns-in-Ok-Made-clause-crash : goal.returns-in-Ok-Made-clause-crash
 returns-in-Ok-Made-clause-crash g c reads images space redoes =
-    at_each_moment_read g.D.Disk c.args.disk.now c.recover.new.disk c.read_same.new.disk _ g.met.D.Disk.counts_now images (c.recover.ensures.crash reads images space redoes) c.read_same.ensures.only_reads
+    at_each_moment_read g.D.Disk c.args.disk.now c.recover.new.disk c.read_same.new.disk _ g.met.D.Disk.counts_now images
+    (c.recover.ensures.crash reads images space redoes) c.read_same.ensures.only_reads
 
 pub returns-in-Ok-Made-clause-read : goal.returns-in-Ok-Made-clause-read
 returns-in-Ok-Made-clause-read g c reads space redoes =
-    Redoes-kept space (g.D.Disk.reads c.recover.new.disk) (g.D.Disk.reads c.read_same.new.disk) (c.recover.ensures.read reads space redoes) c.read_same.ensures.only_reads.keeps
+    Redoes-kept space (g.D.Disk.reads c.recover.new.disk) (g.D.Disk.reads c.read_same.new.disk) (c.recover.ensures.read reads space redoes)
+    c.read_same.ensures.only_reads.keeps
 
 pub returns-in-Ok-Made-clause-space : goal.returns-in-Ok-Made-clause-space
 returns-in-Ok-Made-clause-space g c reads space redoes =
     let mid = g.D.Disk.reads c.recover.new.disk in
-    on_ok_weaker {P = c.in-Ok-Made.found ≡ c.args.shape} c.read_same.result (λ _. same_records mid (g.D.Disk.reads c.read_same.new.disk) c.read_same.ensures.only_reads.keeps ∙ c.in-Ok-Made.ensures.space reads space redoes) c.read_same.ensures.same
+    on_ok_weaker {P = c.in-Ok-Made.found ≡ c.args.shape} c.read_same.result
+    (λ _. same_records mid (g.D.Disk.reads c.read_same.new.disk) c.read_same.ensures.only_reads.keeps ∙ c.in-Ok-Made.ensures.space reads space redoes)
+    c.read_same.ensures.same
 
 pub returns-in-Ok-Made-clause-store : goal.returns-in-Ok-Made-clause-store
 returns-in-Ok-Made-clause-store g c reads =
-    on_ok_weaker {P = c.in-Ok-Made.found ≡ c.args.shape} c.read_same.result (λ same. subst (IsStore (g.D.Disk.reads c.args.disk.now)) same (store g c reads)) c.read_same.ensures.same
+    on_ok_weaker {P = c.in-Ok-Made.found ≡ c.args.shape} c.read_same.result (λ same. subst (IsStore (g.D.Disk.reads c.args.disk.now)) same (store g c reads))
+    c.read_same.ensures.same
 
 pub returns-in-Ok-Made-clause-refused : goal.returns-in-Ok-Made-clause-refused
 returns-in-Ok-Made-clause-refused g c reads =
@@ -40,7 +45,8 @@ returns-in-Ok-Made-clause-refused g c reads =
     let mid = record_at (g.D.Disk.reads c.recover.new.disk) in
     let made = store g c reads in
     let same : mid ≡ made.space = c.in-Ok-Made.ensures.space reads made.space made.redoes in
-    IfErr-weaker c.read_same.result (λ fault. (fault ≡ Disk) ⊎ ((fault ≡ Damaged own_damage) × ((¬ (c.in-Ok-Made.found ≡ c.args.shape)) ⊎ IsOld mid))) (RefusesAgain content c.args.shape)
+    IfErr-weaker c.read_same.result (λ fault. (fault ≡ Disk) ⊎ ((fault ≡ Damaged own_damage) × ((¬ (c.in-Ok-Made.found ≡ c.args.shape)) ⊎ IsOld mid)))
+    (RefusesAgain content c.args.shape)
     (λ fault. ⊎_elim (λ is. subst (RefusesAgain content c.args.shape) (sym is) tt)
     (λ other. subst (RefusesAgain content c.args.shape) (sym other.0)
     (inr (refl, inr (inr (⊎_elim (λ differs. inl (c.in-Ok-Made.found, made, differs)) (λ old. inr (made.space, made.redoes, subst IsOld same old)) other.1))))))
@@ -52,7 +58,8 @@ returns-in-Ok-Made-clause-sound g c reads space redoes is newest =
     let mid = record_at (g.D.Disk.reads c.recover.new.disk) in
     let same = one_shape content space c.in-Ok-Made.found c.args.shape (store g c reads) redoes is in
     let records : mid ≡ space = c.in-Ok-Made.ensures.space reads space redoes in
-    IfErr-weaker c.read_same.result (λ fault. (fault ≡ Disk) ⊎ ((fault ≡ Damaged own_damage) × ((¬ (c.in-Ok-Made.found ≡ c.args.shape)) ⊎ IsOld mid))) (λ fault. fault ≡ Disk)
+    IfErr-weaker c.read_same.result (λ fault. (fault ≡ Disk) ⊎ ((fault ≡ Damaged own_damage) × ((¬ (c.in-Ok-Made.found ≡ c.args.shape)) ⊎ IsOld mid)))
+    (λ fault. fault ≡ Disk)
     (λ fault. ⊎_elim (λ is. is) (λ other. absurd (⊎_elim (λ differs. differs (sym same)) (λ old. newest (subst IsOld records old)) other.1)))
     (c.read_same.ensures.other reads)
 
@@ -88,4 +95,5 @@ returns-in-Err-Damaged-clause-sound g c reads space redoes is newest =
     let e = sym c.in-Err-Damaged.field-0-is ∙ c.in-Err-Damaged.ensures.sound reads space redoes (inr (c.args.shape, is)) in cc
 
 pub returns-in-Ok-Made-clause-clean : goal.returns-in-Ok-Made-clause-clean
-returns-in-Ok-Made-clause-clean g c reads clean = only_reads_on g.D.Disk c.args.disk.now c.recover.new.disk c.read_same.new.disk (c.recover.ensures.closed reads clean) c.read_same.ensures.only_reads
+returns-in-Ok-Made-clause-clean g c reads clean = only_reads_on g.D.Disk c.args.disk.now c.recover.new.disk c.read_same.new.disk
+    (c.recover.ensures.closed reads clean) c.read_same.ensures.only_reads

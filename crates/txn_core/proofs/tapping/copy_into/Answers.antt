@@ -22,7 +22,8 @@ loop-i-preserved c =
     let within : i < length writes = omega (arith, c.loop-i-test.true, c.len-i-end.ensures.value) in
     let next : drop i writes ≡ c.at.result ∷ drop (i + 1) writes = next_pair writes i c.at.result c.at.ensures.value within in
     record {
-      all = ap (λ (ps : Pairs). merged ps (drop (i + 1) writes)) c.put_reserved.ensures.pairs ∙ sym (ap (λ (rest : Pairs). merged copy rest) next) ∙ c.loop-i.invariant.all;
+      all = ap (λ (ps : Pairs). merged ps (drop (i + 1) writes)) c.put_reserved.ensures.pairs ∙ sym (ap (λ (rest : Pairs). merged copy rest) next)
+          ∙ c.loop-i.invariant.all;
       room = omega (arith, c.put_reserved.ensures.room, growth_le copy c.at.result.0, c.loop-i.invariant.room);
       whole = λ rest. c.loop-i.invariant.whole (subst AreWhole (sym next) (c.at.ensures.whole, rest));
     }

@@ -24,7 +24,8 @@ returns-clause-told g c = λ tells.
     let got = c.in_ok-rec.ensures.got tells in
     let is : IsSparse records id = kind_read records format.nodes_file id c.in_ok-rec.rec lt got ∙ sym c.byte.ensures ∙ c.if-byte-ne-SPARSE.false in
     let first : c.number-first.result ≡ first_link records id = c.number-first.ensures ∙ ap (λ r. field 4 r format.node_first_link) got in
-    row_found c.args.self.now.rows.now records id c.number-first.result c.in-Ok.found (IsSparse records id) c.requires.suits.few_rows first is c.in-Ok.ensures.found
+    row_found c.args.self.now.rows.now records id c.number-first.result c.in-Ok.found (IsSparse records id) c.requires.suits.few_rows first is
+    c.in-Ok.ensures.found
 
 pub returns-in_err-rec-clause-told : goal.returns-in_err-rec-clause-told
 returns-in_err-rec-clause-told g c _ = never_ok c.from_residual.result _ _ c.from_residual.ensures.1

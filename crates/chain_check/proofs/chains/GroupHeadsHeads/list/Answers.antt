@@ -35,11 +35,14 @@ returns-clause-told g c = λ tells.
     let live : kind_at records format.groups_file id ≢ 0 = λ z. c.if-byte-eq-FREE.false (c.byte.ensures ∙ sym kind ∙ z) in
     let has : IsChained chained records id = record { live = live; mark = search rules } in
     let row = group_in (rec_at records format.groups_file id) id in
-    let fit : IsSideOf records (group_head id place) (owner_at records id) (side_at place (group_label records id)) = group_side records id place row (row_some (kind_at records format.groups_file id) row live) (place_first c.args.id) in
+    let fit : IsSideOf records (group_head id place) (owner_at records id) (side_at place (group_label records id)) =
+    group_side records id place row (row_some (kind_at records format.groups_file id) row live) (place_first c.args.id) in
     let first : c.number-first.result ≡ first_of records (group_head id place) = c.number-first.ensures ∙ ap (λ r. field 4 r place) got in
-    let found : EndsFound (g.R.Reads.state c.get.new.self).records c.args.self.now.relationships c.side_at.result c.number-node.result c.number-first.result c.in_ok-found.found = c.in_ok-found.ensures.told tells in
+    let found : EndsFound (g.R.Reads.state c.get.new.self).records c.args.self.now.relationships c.side_at.result c.number-node.result c.number-first.result
+    c.in_ok-found.found = c.in_ok-found.ensures.told tells in
     let side : c.side_at.result ≡ side_at place (group_label records id) = c.side_at.ensures ∙ ap (side_at place) label in
-    found_is records (g.R.Reads.state c.get.new.self).records (group_head id place) (owner_at records id) (side_at place (group_label records id)) c.args.self.now.relationships c.number-first.result c.in_ok-found.found fit
+    found_is records (g.R.Reads.state c.get.new.self).records (group_head id place) (owner_at records id) (side_at place (group_label records id))
+    c.args.self.now.relationships c.number-first.result c.in_ok-found.found fit
     (ap (λ s. s.records) c.in_ok-rec.ensures.state) c.requires.suits.relationships c.requires.suits.few_relationships first (IsChained chained records id) has
     (subst (λ o. EndsFound (g.R.Reads.state c.get.new.self).records c.args.self.now.relationships (side_at place (group_label records id)) o c.number-first.result c.in_ok-found.found) node
     (subst (λ s. EndsFound (g.R.Reads.state c.get.new.self).records c.args.self.now.relationships s c.number-node.result c.number-first.result c.in_ok-found.found) side found))
@@ -50,7 +53,8 @@ returns-in_err-rec-clause-cause g c =
 
 pub returns-in_err-found-clause-cause : goal.returns-in_err-found-clause-cause
 returns-in_err-found-clause-cause g c =
-    cause_passed _ _ _ c.from_residual-in_err-found.result c.in_err-found.field-0.0 c.in_ok-rec.ensures.cause.later c.in_err-found.ensures.cause c.from_residual-in_err-found.ensures.1
+    cause_passed _ _ _ c.from_residual-in_err-found.result c.in_err-found.field-0.0 c.in_ok-rec.ensures.cause.later c.in_err-found.ensures.cause
+    c.from_residual-in_err-found.ensures.1
 
 pub returns-in_err-rec-clause-told : goal.returns-in_err-rec-clause-told
 returns-in_err-rec-clause-told g c _ = never_ok c.from_residual.result _ _ c.from_residual.ensures.1

@@ -24,7 +24,8 @@ returns-clause-told g c = λ tells.
     let marked = c.args.self.now.relationships in
     let lt : id < high records format.groups_file = omega (arith, c.requires.id, c.requires.suits.groups) in
     let got = c.in_ok-rec.ensures.got tells in
-    let counted : kind_at records format.groups_file id ≡ 2 = kind_read records format.groups_file id c.in_ok-rec.rec lt got ∙ sym c.byte.ensures ∙ c.if-byte-ne-COUNTED.false in
+    let counted : kind_at records format.groups_file id ≡ 2 = kind_read records format.groups_file id c.in_ok-rec.rec lt got ∙ sym c.byte.ensures
+    ∙ c.if-byte-ne-COUNTED.false in
     let told : IfOk c.are_as_long.result (λ are. Decides are (AreAsLong after marked c.in_ok-rec.rec)) = c.are_as_long.ensures.told tells in
     IfOk-weaker c.are_as_long.result (λ are. Decides are (AreAsLong after marked c.in_ok-rec.rec)) (λ holds. Decides holds (CountsHold records id))
     (λ b d. counts_decided records after marked id c.in_ok-rec.rec b (ap (λ s. s.records) c.in_ok-rec.ensures.state) c.requires.suits.relationships got counted d) told

@@ -9,7 +9,8 @@ use Rattle.chain_check.specs.Degrees.{HasDegree, count_at}
 use Rattle.record_lists.proofs.RecordLaws.{kind_read}
 use Rattle.record_lists.proofs.Causes.{cause_passed}
 use Rattle.chain_check.proofs.degrees.DegreesSentence.holds.Goals as goal
-use Rattle.chain_check.proofs.degrees.DegreesSentence.holds.Goals.{else-kind-eq-SPARSE-via-then-kind-eq-SPARSE+else-degree-self, else-kind-eq-SPARSE-via-else-kind-eq-SPARSE}
+use Rattle.chain_check.proofs.degrees.DegreesSentence.holds.Goals.{else-kind-eq-SPARSE-via-then-kind-eq-SPARSE+else-degree-self}
+use Rattle.chain_check.proofs.degrees.DegreesSentence.holds.Goals.{else-kind-eq-SPARSE-via-else-kind-eq-SPARSE}
 
 pub returns-then-kind-eq-FREE-clause-told : goal.returns-then-kind-eq-FREE-clause-told
 returns-then-kind-eq-FREE-clause-told g c = λ tells.

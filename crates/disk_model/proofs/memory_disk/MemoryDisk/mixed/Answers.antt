@@ -25,7 +25,8 @@ returns-clause-exact c file place =
     let marks_is : c.deref-4.result.now ≡ marks = c.deref-4.ensures.value ∙ take_at marks (drop (length marks) blank.items) blank.len mark_count in
     let count : length new ≡ files.len = omega (arith, same_count new c.deref_mut-2.result.now c.draw_marked.ensures.rooms) in
     let whole : take files.len (new ++ drop (length new) files.items) ≡ new = take_at new (drop (length new) files.items) files.len count in
-    let rooms : rooms_of c.deref_mut.result.now ≡ rooms_of disk.base.items = ap rooms_of blanks ∙ c.in_ok-marks.ensures.rooms ∙ ap rooms_of c.deref.ensures.value ∙ read.same_rooms in
+    let rooms : rooms_of c.deref_mut.result.now ≡ rooms_of disk.base.items = ap rooms_of blanks ∙ c.in_ok-marks.ensures.rooms
+    ∙ ap rooms_of c.deref.ensures.value ∙ read.same_rooms in
     let zeros : AllZeros c.deref_mut.result.now = subst AllZeros (sym blanks) c.in_ok-marks.ensures.zeros in
     let marked = marked-pending disk.base.items disk.pokes.items c.deref_mut.result.now marks disk.log.calls read.fits rooms zeros
     (λ f p. c.fill.ensures.bytes f p ∙ ap (λ ps. cond (pending_since (contents ps) disk.log.calls f p && ltb p (length (file_of c.deref_mut.result.now f))) 1 (contents c.deref_mut.result.now f p)) c.deref-2.ensures.value)

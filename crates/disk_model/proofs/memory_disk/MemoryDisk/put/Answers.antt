@@ -14,7 +14,8 @@ pub invariant_of-self-then-not-is_full : goal.invariant_of-self-then-not-is_full
 invariant_of-self-then-not-is_full c =
     let disk = c.self.inside in
     let fits : c.args.at + length c.args.bytes.now ≤ length (file_of disk.base.items c.args.file) = grind (arith, common_steps) in
-    subst (λ (log : CallLogState). IsRead disk.base.items disk.pokes.items disk.files.items log.calls) (sym c.tore.ensures) (IsRead-tore disk.base.items disk.pokes.items disk.files.items disk.log.calls c.args.file c.args.at (length c.args.bytes.now) c.self.invariant fits)
+    subst (λ (log : CallLogState). IsRead disk.base.items disk.pokes.items disk.files.items log.calls) (sym c.tore.ensures)
+    (IsRead-tore disk.base.items disk.pokes.items disk.files.items disk.log.calls c.args.file c.args.at (length c.args.bytes.now) c.self.invariant fits)
 
 pub invariant_of-self-2 : goal.invariant_of-self-2
 invariant_of-self-2 c =
@@ -22,7 +23,8 @@ invariant_of-self-2 c =
     let fits : c.args.at + length c.args.bytes.now ≤ length (file_of disk.base.items c.args.file) = grind (arith, common_steps) in
     let is : c.write.new.self ≡ overwritten (file_of disk.files.items c.args.file) c.args.at c.args.bytes.now = grind (arith, common_steps) in
     let known : c.args.file < length disk.files.items = omega (arith, same_count disk.files.items disk.base.items c.self.invariant.same_rooms, c.self.invariant.count) in
-    subst (λ (log : CallLogState). IsRead disk.base.items disk.pokes.items (set disk.files.items c.args.file c.write.new.self) log.calls) (sym c.wrote.ensures) (IsRead-wrote disk.base.items disk.pokes.items disk.files.items disk.log.calls c.args.file c.args.at c.args.bytes.now c.write.new.self c.self.invariant known fits is)
+    subst (λ (log : CallLogState). IsRead disk.base.items disk.pokes.items (set disk.files.items c.args.file c.write.new.self) log.calls) (sym c.wrote.ensures)
+    (IsRead-wrote disk.base.items disk.pokes.items disk.files.items disk.log.calls c.args.file c.args.at c.args.bytes.now c.write.new.self c.self.invariant known fits is)
 
 pub write-requires : goal.write-requires
 write-requires c =
@@ -36,7 +38,8 @@ returns-clause-written c =
     let disk = c.self.inside in
     let base = contents disk.base.items in
     let pokes = contents disk.pokes.items in
-    subst (λ (log : CallLogState). Holds c.args.file c.args.at c.args.bytes.now (content_since base pokes log.calls)) (sym c.wrote.ensures) (Holds-wrote base pokes disk.log.calls c.args.file c.args.at c.args.bytes.now c.self.invariant.past)
+    subst (λ (log : CallLogState). Holds c.args.file c.args.at c.args.bytes.now (content_since base pokes log.calls)) (sym c.wrote.ensures)
+    (Holds-wrote base pokes disk.log.calls c.args.file c.args.at c.args.bytes.now c.self.invariant.past)
 
 pub returns-then-room-at-clause-fails : goal.returns-then-room-at-clause-fails
 returns-then-room-at-clause-fails c = grind (arith, common_steps)

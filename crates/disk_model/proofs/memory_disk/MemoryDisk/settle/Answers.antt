@@ -7,4 +7,5 @@ use Rattle.disk_model.proofs.memory_disk.MemoryDisk.settle.Goals as goal
 pub invariant_of-self-2 : goal.invariant_of-self-2
 invariant_of-self-2 c =
     let disk = c.self.inside in
-    subst (λ (log : CallLogState). IsRead disk.base.items disk.pokes.items disk.files.items log.calls) (sym c.synced.ensures) (IsRead-synced disk.base.items disk.pokes.items disk.files.items disk.log.calls c.args.file c.self.invariant)
+    subst (λ (log : CallLogState). IsRead disk.base.items disk.pokes.items disk.files.items log.calls) (sym c.synced.ensures)
+    (IsRead-synced disk.base.items disk.pokes.items disk.files.items disk.log.calls c.args.file c.self.invariant)

@@ -20,14 +20,17 @@ invariant_of-self g c =
 pub returns-in-Ok-clause-accepts : goal.returns-in-Ok-clause-accepts
 returns-in-Ok-clause-accepts g c =
     let old = c.args.self.now in
-    accepts_applied g.D.Disk c.args.bytes.now old.store c.apply_shipment.new.store old.have old.live c.requires.live c.apply_shipment.ensures.same c.requires.next c.number_of-self.result c.number_of-self.ensures c.in-Ok.ensures.applies
+    accepts_applied g.D.Disk c.args.bytes.now old.store c.apply_shipment.new.store old.have old.live c.requires.live c.apply_shipment.ensures.same
+    c.requires.next c.number_of-self.result c.number_of-self.ensures c.in-Ok.ensures.applies
 
 pub returns-in-Err-Memory-clause-accepts : goal.returns-in-Err-Memory-clause-accepts
 returns-in-Err-Memory-clause-accepts g c =
     let old = c.args.self.now in
-    accepts_memory g.D.Disk c.args.bytes.now old.store c.apply_shipment.new.store old.have old.live c.requires.live c.apply_shipment.ensures.same c.requires.next (rw c.in-Err-Memory.field-0-is at c.in-Err-Memory.ensures.applies)
+    accepts_memory g.D.Disk c.args.bytes.now old.store c.apply_shipment.new.store old.have old.live c.requires.live c.apply_shipment.ensures.same
+    c.requires.next (rw c.in-Err-Memory.field-0-is at c.in-Err-Memory.ensures.applies)
 
 pub returns-in-Err-Disk-clause-accepts : goal.returns-in-Err-Disk-clause-accepts
 returns-in-Err-Disk-clause-accepts g c =
     let old = c.args.self.now in
-    accepts_disk g.D.Disk c.args.bytes.now old.store c.apply_shipment.new.store old.have old.live c.requires.live c.apply_shipment.ensures.same c.requires.next (rw c.in-Err-Disk.field-0-is at c.in-Err-Disk.ensures.applies)
+    accepts_disk g.D.Disk c.args.bytes.now old.store c.apply_shipment.new.store old.have old.live c.requires.live c.apply_shipment.ensures.same c.requires.next
+    (rw c.in-Err-Disk.field-0-is at c.in-Err-Disk.ensures.applies)

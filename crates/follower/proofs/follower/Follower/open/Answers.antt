@@ -15,7 +15,8 @@ returns-in-Ok-get-clause-opened g c =
       clean = λ reads clean. c.in-Ok.ensures.clean reads clean;
       later = c.in-Ok.ensures.later;
     } in
-    opened_is g.D.Disk c.args.config c.args.disk.now store now c.wide.result g.met.D.Disk.counts_now leaves c.in-Ok.ensures.opened c.in-Ok.ensures.suits c.in-Ok.ensures.stored c.in-Ok.ensures.settled c.in-Ok.ensures.log c.get.ensures.onward c.get.ensures.cause.later
+    opened_is g.D.Disk c.args.config c.args.disk.now store now c.wide.result g.met.D.Disk.counts_now leaves c.in-Ok.ensures.opened c.in-Ok.ensures.suits
+    c.in-Ok.ensures.stored c.in-Ok.ensures.settled c.in-Ok.ensures.log c.get.ensures.onward c.get.ensures.cause.later
     (λ reads. number-read store now c.in-Ok-get.rec c.wide.result c.get.ensures.onward c.in-Ok.ensures.own c.in-Ok.ensures.draft (c.in-Ok-get.ensures.got reads) c.wide.ensures)
 
 pub returns-in-Err-get-clause-unopened : goal.returns-in-Err-get-clause-unopened

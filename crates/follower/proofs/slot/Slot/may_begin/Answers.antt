@@ -12,6 +12,7 @@ returns-then-id c =
 pub returns : goal.returns
 returns c =
     let least = subst (λ (n : ℕ). IsLeastFrom n c.args.low c.args.power c.least_from-id.result) c.least_next.ensures.is c.least_from-id.ensures in (
-      λ t. stands_begins c.args.self.now c.args.file c.args.low c.args.power c.least_from-id.result (least_next c.args.self.now.last c.args.file) least (c.may_have.ensures.0 t),
+      λ t. stands_begins c.args.self.now c.args.file c.args.low c.args.power c.least_from-id.result (least_next c.args.self.now.last c.args.file) least
+          (c.may_have.ensures.0 t),
       λ begins. c.may_have.ensures.1 (least_stands c.args.self.now c.args.file c.args.low c.args.power c.least_from-id.result c.requires.is_power c.requires.below least begins),
     )

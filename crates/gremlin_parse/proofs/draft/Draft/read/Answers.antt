@@ -8,7 +8,8 @@ pub returns : goal.returns
 returns c =
     let few = subst (λ (stage : Stage). stage.steps + added_count c.args.word c.in_ok-step.step ≤ 32) c.stage.ensures c.in_ok-step.ensures.few in
     record {
-      ok = λ source is. step_read source c.args.self.now c.put.new.self c.args.word c.in_ok-step.step c.args.bytes.now c.in_ok-step.rest.now is c.in_ok-put.ensures.ok c.in_ok-step.ensures.order c.requires.by few (λ query same. c.in_ok-step.ensures.ok query (same ∙ sym c.stage.ensures));
+      ok = λ source is. step_read source c.args.self.now c.put.new.self c.args.word c.in_ok-step.step c.args.bytes.now c.in_ok-step.rest.now is
+          c.in_ok-put.ensures.ok c.in_ok-step.ensures.order c.requires.by few (λ query same. c.in_ok-step.ensures.ok query (same ∙ sym c.stage.ensures));
       within = c.in_ok-step.ensures.within;
       err = tt;
     }

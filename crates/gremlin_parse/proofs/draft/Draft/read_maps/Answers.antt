@@ -13,7 +13,8 @@ returns-in_err-keys-clause-err c =
 
 pub returns-clause-ok : goal.returns-clause-ok
 returns-clause-ok c = λ source is.
-    maps_read source c.args.self.now (record c.args.self.now { maps = Some c.in_ok-keys.keys; is_ordered = false }) c.in_ok-keys.keys c.args.bytes.now c.in_ok-keys.rest.now is
+    maps_read source c.args.self.now (record c.args.self.now { maps = Some c.in_ok-keys.keys; is_ordered = false }) c.in_ok-keys.keys c.args.bytes.now
+    c.in_ok-keys.rest.now is
     (record { steps_are = refl; maps_are = refl; items_are = refl; counted = refl; plain = refl })
     c.requires c.in_ok-keys.ensures.ok
 

@@ -14,7 +14,8 @@ use Rattle.page_cache.proofs.page_cache.PageCache.find_into.Goals as goal
 held : (c : goal.After-read_record) → kept_page c.args.key c.args.self.now ≡ Some c.in-Some.page.now
 held c =
     ap (λ (page : PageKey). lookup (page_eq page) c.args.self.now.entries) (sym c.of-wanted.ensures)
-    ∙ subst (λ (pages : Pages). lookup (page_eq c.of-wanted.result) pages.entries ≡ Some c.in-Some.page.now) c.self.view_is (c.self.invariant c.of-wanted.result c.in-Some.page.now (sym c.in-Some.ensures))
+    ∙ subst (λ (pages : Pages). lookup (page_eq c.of-wanted.result) pages.entries ≡ Some c.in-Some.page.now) c.self.view_is
+    (c.self.invariant c.of-wanted.result c.in-Some.page.now (sym c.in-Some.ensures))
 
 pub returns-in-Some-clause-kept : goal.returns-in-Some-clause-kept
 returns-in-Some-clause-kept c = ap is_some (sym (held c))
@@ -24,7 +25,8 @@ returns-in-Some-clause-record c content agrees there =
     c.read_record.ensures ∙ agrees_found content c.args.self.now c.args.key c.in-Some.page.now c.requires agrees (held c)
 
 -- where the list is looked through
-moved_agrees : (content : Files) (pages moved : Pages) (wanted : PageKey) → moved ≡ lru_cache (promoted (page_eq wanted) pages.entries) pages.cap → Agrees content pages → Agrees content moved
+moved_agrees : (content : Files) (pages moved : Pages) (wanted : PageKey) → moved ≡ lru_cache (promoted (page_eq wanted) pages.entries) pages.cap
+    → Agrees content pages → Agrees content moved
 moved_agrees content pages moved wanted is agrees =
     agrees_within content pages moved agrees (λ entry i. Contains-promoted (page_eq wanted) pages.entries entry (subst (λ (p : Pages). Contains p.entries entry) is i))
 
@@ -40,7 +42,8 @@ invariant_of-self c =
 
 pub invariant_of-self-in-None : goal.invariant_of-self-in-None
 invariant_of-self-in-None c =
-    subst (AreLastKept c.self.inside.last.files) (sym c.get.follows.holds-at-none) (last_promoted c.self.inside.last.files c.self.inside.pages c.of-wanted.result c.self.invariant)
+    subst (AreLastKept c.self.inside.last.files) (sym c.get.follows.holds-at-none)
+    (last_promoted c.self.inside.last.files c.self.inside.pages c.of-wanted.result c.self.invariant)
 
 pub returns-in-Some-get-clause-record : goal.returns-in-Some-get-clause-record
 returns-in-Some-get-clause-record c content agrees there =
@@ -51,7 +54,8 @@ returns-in-Some-get-clause-record c content agrees there =
 
 pub returns-in-Some-get-clause-agrees : goal.returns-in-Some-get-clause-agrees
 returns-in-Some-get-clause-agrees c content agrees =
-    moved_agrees content c.self.inside.pages c.get.follows.lender-at-none c.of-wanted.result c.get.follows.holds-at-none (subst (Agrees content) (sym c.self.view_is) agrees)
+    moved_agrees content c.self.inside.pages c.get.follows.lender-at-none c.of-wanted.result c.get.follows.holds-at-none
+    (subst (Agrees content) (sym c.self.view_is) agrees)
 
 pub returns-in-Some-get-clause-used : goal.returns-in-Some-get-clause-used
 returns-in-Some-get-clause-used c =
@@ -60,11 +64,14 @@ returns-in-Some-get-clause-used c =
 
 pub returns-in-None-clause-agrees : goal.returns-in-None-clause-agrees
 returns-in-None-clause-agrees c content agrees =
-    moved_agrees content c.self.inside.pages c.get.follows.lender-at-none c.of-wanted.result c.get.follows.holds-at-none (subst (Agrees content) (sym c.self.view_is) agrees)
+    moved_agrees content c.self.inside.pages c.get.follows.lender-at-none c.of-wanted.result c.get.follows.holds-at-none
+    (subst (Agrees content) (sym c.self.view_is) agrees)
 
 -- where the page isn't kept
-stays : (pages moved now : Pages) (wanted : PageKey) → moved ≡ lru_cache (promoted (page_eq wanted) pages.entries) pages.cap → lookup (page_eq wanted) pages.entries ≡ None → pages ≡ now → moved ≡ now
-stays pages moved now wanted is none view = is ∙ ap (λ (entries : List (PageKey × List ℕ)). lru_cache entries pages.cap) (unused (page_eq wanted) pages.entries none) ∙ view
+stays : (pages moved now : Pages) (wanted : PageKey) → moved ≡ lru_cache (promoted (page_eq wanted) pages.entries) pages.cap
+    → lookup (page_eq wanted) pages.entries ≡ None → pages ≡ now → moved ≡ now
+stays pages moved now wanted is none view = is ∙ ap (λ (entries : List (PageKey × List ℕ)). lru_cache entries pages.cap)
+    (unused (page_eq wanted) pages.entries none) ∙ view
 
 pub returns-in-None-clause-absent : goal.returns-in-None-clause-absent
 returns-in-None-clause-absent c _ =

@@ -9,7 +9,8 @@ use Rattle.page_cache.proofs.page_cache.PageCache.forget.Goals as goal
 
 pub returns-clause-agrees : goal.returns-clause-agrees
 returns-clause-agrees c old new same agrees =
-    agrees_forgotten old new c.args.key c.of-page.result c.self.inside.pages c.pop.new.self c.of-page.ensures same c.len-before.ensures.valid.0 c.len-after.ensures.valid.0
+    agrees_forgotten old new c.args.key c.of-page.result c.self.inside.pages c.pop.new.self c.of-page.ensures same c.len-before.ensures.valid.0
+    c.len-after.ensures.valid.0
     (ap (λ (cache : LruCache PageKey (List ℕ)). cache.entries) c.pop.ensures.entries)
     (subst (Agrees old) (sym c.self.view_is) agrees)
 

@@ -13,7 +13,8 @@ returns-then-find_into-clause-stay g c = stay_used c.args.key c.args.self.now c.
 
 pub returns-in-Ok-clause-pages : goal.returns-in-Ok-clause-pages
 returns-in-Ok-clause-pages g c =
-    subst (λ pages. KeepsPage c.args.key pages c.load.new.self) (c.spare_page.ensures ∙ (c.find_into.ensures.absent c.if-find_into.false).1) c.load.ensures.pages
+    subst (λ pages. KeepsPage c.args.key pages c.load.new.self) (c.spare_page.ensures ∙ (c.find_into.ensures.absent c.if-find_into.false).1)
+    c.load.ensures.pages
 
 pub returns-in-Ok-clause-told : goal.returns-in-Ok-clause-told
 returns-in-Ok-clause-told g c =

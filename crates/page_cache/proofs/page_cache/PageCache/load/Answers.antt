@@ -10,7 +10,8 @@ use Rattle.page_cache.proofs.page_cache.PageCache.load.Goals as goal
 
 pub returns-clause-record : goal.returns-clause-record
 returns-clause-record g c reads =
-    c.read_record-2.ensures ∙ record_in-is (g.D.Disk.reads c.args.disk.now) c.args.key c.read.new.self c.requires.file (c.in_ok-read.ensures.bytes reads (search rules))
+    c.read_record-2.ensures ∙ record_in-is (g.D.Disk.reads c.args.disk.now) c.args.key c.read.new.self c.requires.file
+    (c.in_ok-read.ensures.bytes reads (search rules))
 
 pub returns-clause-agrees : goal.returns-clause-agrees
 returns-clause-agrees g c reads agrees =

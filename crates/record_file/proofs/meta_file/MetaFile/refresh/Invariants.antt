@@ -9,6 +9,7 @@ use Rattle.record_file.proofs.meta_file.MetaFile.refresh.Given as goal
 
 abbrev pub invariant-loop-id : goal.invariant-loop-id
 invariant-loop-id l = record {
-  done : (records : Key → Rec) → AreMetasOf records l.fn.self.records → (k : ℕ) → k < l.id → slice_get l.self.records k ≡ Some (laid_over records l.written.pairs (meta_key_of k));
+  done : (records : Key → Rec) → AreMetasOf records l.fn.self.records → (k : ℕ) → k < l.id
+      → slice_get l.self.records k ≡ Some (laid_over records l.written.pairs (meta_key_of k));
   rest : (k : ℕ) → l.id ≤ k → slice_get l.self.records k ≡ slice_get l.fn.self.records k;
 }

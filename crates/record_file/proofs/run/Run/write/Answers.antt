@@ -13,7 +13,8 @@ returns-clause-written g c reads =
 pub returns-clause-elsewhere : goal.returns-clause-elsewhere
 returns-clause-elsewhere g c =
     let run = c.self.inside in
-    SameButRecords-held run.first run.bytes run.count (run.count * 64) c.place_of-at.result (g.D.Disk.reads c.args.disk.now) (g.D.Disk.reads c.write.new.self) c.args.self.now c.self.view_is c.self.invariant.0.file c.self.invariant.1 c.self.told (omega arith) c.place_of-at.ensures c.write.ensures.elsewhere
+    SameButRecords-held run.first run.bytes run.count (run.count * 64) c.place_of-at.result (g.D.Disk.reads c.args.disk.now) (g.D.Disk.reads c.write.new.self)
+    c.args.self.now c.self.view_is c.self.invariant.0.file c.self.invariant.1 c.self.told (omega arith) c.place_of-at.ensures c.write.ensures.elsewhere
 
 pub returns-clause-crash : goal.returns-clause-crash
 returns-clause-crash g c images image left =

@@ -10,7 +10,8 @@ returns-in_err-key-clause-keeps g c = λ told content has. c.key_at.ensures.keep
 pub returns-then-not-is_next_key-clause-keys : goal.returns-then-not-is_next_key-clause-keys
 returns-then-not-is_next_key-clause-keys g c = λ told content has.
     rising_ends content c.args.start c.loop-index.index c.args.count c.loop-index.last c.in_ok-key.key _ (omega arith)
-    (c.in_ok-key.ensures.key told content (c.loop-index.invariant.keeps told content has)) c.if-not-is_next_key.ensures.1 (c.loop-index.invariant.keys told content has)
+    (c.in_ok-key.ensures.key told content (c.loop-index.invariant.keeps told content has)) c.if-not-is_next_key.ensures.1
+    (c.loop-index.invariant.keys told content has)
 
 pub returns-then-not-is_next_key-clause-keeps : goal.returns-then-not-is_next_key-clause-keeps
 returns-then-not-is_next_key-clause-keeps g c = λ told content has. c.key_at.ensures.keeps told content (c.loop-index.invariant.keeps told content has)
@@ -19,7 +20,8 @@ pub loop-index-preserved : goal.loop-index-preserved
 loop-index-preserved g c = record {
   keys = λ told content has.
       rising_goes_on content c.args.start c.loop-index.index c.args.count c.loop-index.last c.in_ok-key.key _ (omega arith)
-      (c.in_ok-key.ensures.key told content (c.loop-index.invariant.keeps told content has)) (c.if-not-is_next_key.ensures.0 (search rules)) (c.loop-index.invariant.keys told content has);
+      (c.in_ok-key.ensures.key told content (c.loop-index.invariant.keeps told content has)) (c.if-not-is_next_key.ensures.0 (search rules))
+      (c.loop-index.invariant.keys told content has);
   keeps = λ told content has. c.key_at.ensures.keeps told content (c.loop-index.invariant.keeps told content has);
   only_reads = only_reads_on g.D.Disk c.args.disk.now c.loop-index.disk c.key_at.new.disk c.loop-index.invariant.only_reads c.key_at.ensures.only_reads;
   later = omega (arith, c.loop-index.invariant.later, c.key_at.ensures.cause.later);

@@ -16,7 +16,8 @@ pub returns-clause-of_entry : goal.returns-clause-of_entry
 returns-clause-of_entry g c = λ told kept below.
     let content = g.D.Disk.reads c.args.disk.now in
     let bytes = c.bytes_at.ensures.bytes content (c.cover.ensures.keeps told content (has_itself _ _ kept)).kept in
-    entry_get content c.args.place c.args.index c.write_of.result below (c.write_of.ensures content c.place_of_write-at.result bytes ∙ ap (write_at content) c.place_of_write-at.ensures)
+    entry_get content c.args.place c.args.index c.write_of.result below
+    (c.write_of.ensures content c.place_of_write-at.result bytes ∙ ap (write_at content) c.place_of_write-at.ensures)
 
 pub returns-clause-keeps : goal.returns-clause-keeps
 returns-clause-keeps g c = λ told kept. still_kept _ _ _ (c.cover.ensures.keeps told _ (has_itself _ _ kept))

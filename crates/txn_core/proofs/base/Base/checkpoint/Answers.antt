@@ -15,7 +15,8 @@ use Rattle.txn_core.proofs.base.Base.checkpoint.Goals as goal
 pub returns-in_err-checkpoint-clause-crash : goal.returns-in_err-checkpoint-clause-crash
 returns-in_err-checkpoint-clause-crash g c reads images =
     let b = c.args.self.now in
-    checkpoint_crash g.D.Disk b.disk.now c.checkpoint.new.disk b.metas.records b.changed.pairs b.tail (b.kept c.requires.live) reads images (c.checkpoint.ensures.crash reads images)
+    checkpoint_crash g.D.Disk b.disk.now c.checkpoint.new.disk b.metas.records b.changed.pairs b.tail (b.kept c.requires.live) reads images
+    (c.checkpoint.ensures.crash reads images)
 
 pub returns-in_err-checkpoint-clause-failed : goal.returns-in_err-checkpoint-clause-failed
 returns-in_err-checkpoint-clause-failed g c =
@@ -51,14 +52,16 @@ invariant_of-self-2 g c =
       cached = λ reads. c.forget_all.ensures.agrees (disk.reads b.disk.now) (disk.reads c.checkpoint.new.disk) c.checkpoint.ensures.elsewhere (b.cached reads);
       bounded = record { room = omega (arith, c.clear.ensures.room, ap (λ (pairs : Pairs). length pairs) c.clear.ensures.pairs, b.bounded.room); few = b.bounded.few; closed = b.bounded.closed; most = omega (arith, ap (λ (pairs : Pairs). length pairs) c.clear.ensures.pairs) };
       kept = λ live.
-          kept_settled disk c.checkpoint.new.disk c.refresh.new.self.records c.clear.new.self.pairs c.clear.ensures.pairs c.in_ok-checkpoint.ensures.emptied c.in_ok-checkpoint.ensures.settled
+          kept_settled disk c.checkpoint.new.disk c.refresh.new.self.records c.clear.new.self.pairs c.clear.ensures.pairs c.in_ok-checkpoint.ensures.emptied
+          c.in_ok-checkpoint.ensures.settled
           (λ reads. subst (λ (records : Key → Rec). AreMetasOf records c.refresh.new.self.records) (sym (c.in_ok-checkpoint.ensures.space reads)) (c.refresh.ensures (record_at (disk.reads b.disk.now)) ((b.kept c.requires.live).held reads)));
     }
 
 pub returns-clause-crash : goal.returns-clause-crash
 returns-clause-crash g c reads images =
     let b = c.args.self.now in
-    checkpoint_crash g.D.Disk b.disk.now c.checkpoint.new.disk b.metas.records b.changed.pairs b.tail (b.kept c.requires.live) reads images (c.checkpoint.ensures.crash reads images)
+    checkpoint_crash g.D.Disk b.disk.now c.checkpoint.new.disk b.metas.records b.changed.pairs b.tail (b.kept c.requires.live) reads images
+    (c.checkpoint.ensures.crash reads images)
 
 pub returns-clause-done : goal.returns-clause-done
 returns-clause-done g c =
@@ -66,7 +69,8 @@ returns-clause-done g c =
     let disk = g.D.Disk in
     let kept = b.kept c.requires.live in
     let now =
-    kept_settled disk c.checkpoint.new.disk c.refresh.new.self.records c.clear.new.self.pairs c.clear.ensures.pairs c.in_ok-checkpoint.ensures.emptied c.in_ok-checkpoint.ensures.settled
+    kept_settled disk c.checkpoint.new.disk c.refresh.new.self.records c.clear.new.self.pairs c.clear.ensures.pairs c.in_ok-checkpoint.ensures.emptied
+    c.in_ok-checkpoint.ensures.settled
     (λ reads. subst (λ (records : Key → Rec). AreMetasOf records c.refresh.new.self.records) (sym (c.in_ok-checkpoint.ensures.space reads)) (c.refresh.ensures (record_at (disk.reads b.disk.now)) (kept.held reads))) in
     let space = λ (reads : disk.tells_reads).
     plain_space disk c.checkpoint.new.disk c.refresh.new.self.records c.clear.new.self.pairs 0 now reads

@@ -22,7 +22,8 @@ returns-then-found_into-clause-through g c = through_none c.args.key (holds_comm
 pub returns-then-found_into-clause-told : goal.returns-then-found_into-clause-told
 returns-then-found_into-clause-told g c =
     let b = c.args.self.now in
-    told_found (has_key b.changed.pairs c.args.key) (is_some (find_meta b.metas.records c.args.key)) (is_some (kept_page c.args.key b.cache)) (sym c.if-found_into.true ∙ c.found_into.ensures.found)
+    told_found (has_key b.changed.pairs c.args.key) (is_some (find_meta b.metas.records c.args.key)) (is_some (kept_page c.args.key b.cache))
+    (sym c.if-found_into.true ∙ c.found_into.ensures.found)
 
 pub returns-in-Some-clause-through : goal.returns-in-Some-clause-through
 returns-in-Some-clause-through g c = through_none c.args.key (holds_committed c.args.self.now c.args.key) c.args.self.now
@@ -30,7 +31,8 @@ returns-in-Some-clause-through g c = through_none c.args.key (holds_committed c.
 pub returns-in-Some-clause-told : goal.returns-in-Some-clause-told
 returns-in-Some-clause-told g c =
     let b = c.args.self.now in
-    told_meta (has_key b.changed.pairs c.args.key) (is_some (find_meta b.metas.records c.args.key)) (is_some (kept_page c.args.key b.cache)) (ap is_some c.in-Some.ensures)
+    told_meta (has_key b.changed.pairs c.args.key) (is_some (find_meta b.metas.records c.args.key)) (is_some (kept_page c.args.key b.cache))
+    (ap is_some c.in-Some.ensures)
 
 -- no meta record has the key
 unfound : {X : Type 0} (o : Option X) → ((x : X) → o ≡ Some x → ⊥) → false ≡ is_some o
@@ -41,7 +43,8 @@ pub returns-clause-through : goal.returns-clause-through
 returns-clause-through g c =
     let b = c.args.self.now in
     let none : false ≡ (has_key b.changed.pairs c.args.key || is_some (find_meta b.metas.records c.args.key))
-    = neither (has_key b.changed.pairs c.args.key) (is_some (find_meta b.metas.records c.args.key)) (sym c.if-found_into.false ∙ c.found_into.ensures.found) (unfound c.find.result c.in_default.not-Some ∙ ap is_some c.find.ensures) in
+    = neither (has_key b.changed.pairs c.args.key) (is_some (find_meta b.metas.records c.args.key)) (sym c.if-found_into.false ∙ c.found_into.ensures.found)
+    (unfound c.find.result c.in_default.not-Some ∙ ap is_some c.find.ensures) in
     record {
       memory = λ yes. absurd (false≢true (none ∙ yes));
       hit = c.get_into.ensures.hit;
@@ -54,7 +57,8 @@ pub returns-clause-told : goal.returns-clause-told
 returns-clause-told g c =
     let b = c.args.self.now in
     let none : false ≡ (has_key b.changed.pairs c.args.key || is_some (find_meta b.metas.records c.args.key))
-    = neither (has_key b.changed.pairs c.args.key) (is_some (find_meta b.metas.records c.args.key)) (sym c.if-found_into.false ∙ c.found_into.ensures.found) (unfound c.find.result c.in_default.not-Some ∙ ap is_some c.find.ensures) in
+    = neither (has_key b.changed.pairs c.args.key) (is_some (find_meta b.metas.records c.args.key)) (sym c.if-found_into.false ∙ c.found_into.ensures.found)
+    (unfound c.find.result c.in_default.not-Some ∙ ap is_some c.find.ensures) in
     IfOk-weaker c.get_into.result
     (λ (held : Bool). held ≡ is_some (kept_page c.args.key c.get_into.new.self))
     (λ (held : Bool). held ≡ ((has_key b.changed.pairs c.args.key || is_some (find_meta b.metas.records c.args.key)) || is_some (kept_page c.args.key c.get_into.new.self)))

@@ -12,12 +12,14 @@ returns-then-found_into-clause-through g c = through_none c.args.key (holds_work
 pub returns-then-found_into-clause-told : goal.returns-then-found_into-clause-told
 returns-then-found_into-clause-told g c =
     let b = c.args.self.now in
-    told_found (has_key b.own.pairs c.args.key) (holds_committed b c.args.key) (is_some (kept_page c.args.key b.cache)) (sym c.if-found_into.true ∙ c.found_into.ensures.found)
+    told_found (has_key b.own.pairs c.args.key) (holds_committed b c.args.key) (is_some (kept_page c.args.key b.cache))
+    (sym c.if-found_into.true ∙ c.found_into.ensures.found)
 
 pub returns-clause-through : goal.returns-clause-through
 returns-clause-through g c =
     let b = c.args.self.now in
-    through_beneath c.args.key (has_key b.own.pairs c.args.key) (holds_committed b c.args.key) b c.fetch_committed_into.new.self (is_ok c.fetch_committed_into.result)
+    through_beneath c.args.key (has_key b.own.pairs c.args.key) (holds_committed b c.args.key) b c.fetch_committed_into.new.self
+    (is_ok c.fetch_committed_into.result)
     (sym c.if-found_into.false ∙ c.found_into.ensures.found) c.fetch_committed_into.ensures.through
 
 pub returns-clause-told : goal.returns-clause-told
@@ -25,7 +27,8 @@ returns-clause-told g c =
     let b = c.args.self.now in
     let new = c.fetch_committed_into.new.self in
     let none : false ≡ has_key new.own.pairs c.args.key
-    = sym c.if-found_into.false ∙ c.found_into.ensures.found ∙ sym (ap (λ (own : Held). has_key own.pairs c.args.key) c.fetch_committed_into.ensures.onward.own) in
+    = sym c.if-found_into.false ∙ c.found_into.ensures.found ∙ sym (ap (λ (own : Held). has_key own.pairs c.args.key) c.fetch_committed_into.ensures.onward.own)
+    in
     IfOk-weaker c.fetch_committed_into.result
     (λ (held : Bool). held ≡ (holds_committed new c.args.key || is_some (kept_page c.args.key new.cache)))
     (λ (held : Bool). held ≡ (holds_working new c.args.key || is_some (kept_page c.args.key new.cache)))

@@ -14,7 +14,8 @@ use Rattle.txn_core.proofs.base.Base.write_own.Goals as goal
 pub returns-then-len-eq0-clause-crash : goal.returns-then-len-eq0-clause-crash
 returns-then-len-eq0-clause-crash g c reads images =
     let b = c.args.self.now in
-    kept_now g.D.Disk b.disk.now b.metas.records b.changed.pairs b.tail _ g.met.D.Disk.only_now (b.kept c.requires.live) reads images (λ left redoes. inl redoes)
+    kept_now g.D.Disk b.disk.now b.metas.records b.changed.pairs b.tail _ g.met.D.Disk.only_now (b.kept c.requires.live) reads images
+    (λ left redoes. inl redoes)
 
 pub returns-then-len-eq0-clause-done : goal.returns-then-len-eq0-clause-done
 returns-then-len-eq0-clause-done g c =
@@ -44,7 +45,8 @@ returns-clause-failed g c =
     let now = c.append_own.new.self in
     on_err_weaker {P = IsInDoubt {D = g.row.D.Denot} {g = g.D.Disk} mid now} c.append_own.result
     (λ failed.
-    let same = λ (reads : g.D.Disk.tells_reads) (left : Files). Either-same left (committed mid) (committed b) b.own.pairs mid.own.pairs (c.in_ok-make_room.ensures.done reads) (ap (λ (held : Held). held.pairs) c.make_room.ensures.own) in
+    let same = λ (reads : g.D.Disk.tells_reads) (left : Files). Either-same left (committed mid) (committed b) b.own.pairs mid.own.pairs
+    (c.in_ok-make_room.ensures.done reads) (ap (λ (held : Held). held.pairs) c.make_room.ensures.own) in
     record {
       failed = failed.failed;
       stored = record { read = λ reads. same reads _ (failed.stored.read reads); images = λ reads images image left. same reads image (failed.stored.images reads images image left) };

@@ -10,7 +10,8 @@ returns-in-Ok-edit g c =
       (
         refl,
         (λ w _. record {
-          state = state_written g.D.Disk old mid (record mid { draft = c.edit.follows.lender w }) c.args.key w c.get.ensures.state refl refl (c.edit.follows.holds w (search rules));
+          state = state_written g.D.Disk old mid (record mid { draft = c.edit.follows.lender w }) c.args.key w c.get.ensures.state refl refl
+              (c.edit.follows.holds w (search rules));
           onward = c.get.ensures.onward;
           cause = no_blame _ _ _ _ c.get.ensures.cause;
         }),
@@ -25,7 +26,8 @@ returns-in-Err-edit g c = (
     refl,
     (λ w e. absurd (false≢true e)),
     record {
-      state = state_refused g.D.Disk c.args.self.now c.get.new.self (record c.get.new.self { draft = c.edit.follows.lender-at-none }) c.get.ensures.state refl refl (rw c.in-Err-edit.is at c.edit.follows.holds-at-none);
+      state = state_refused g.D.Disk c.args.self.now c.get.new.self (record c.get.new.self { draft = c.edit.follows.lender-at-none }) c.get.ensures.state refl
+          refl (rw c.in-Err-edit.is at c.edit.follows.holds-at-none);
       onward = c.get.ensures.onward;
       cause = record { later = c.get.ensures.cause.later; disk = search rules };
     },

@@ -20,7 +20,8 @@ pub returns-clause-working : goal.returns-clause-working
 returns-clause-working g c =
     let old = c.args.self.now in
     let new = c.keep.new.self in
-    ap (λ (b : Base g.row.D.Denot g.D.Disk). working b) c.discard.ensures.base ∙ ap (λ (pairs : Pairs). laid_over (committed new) pairs) c.in_ok-keep.ensures.own
+    ap (λ (b : Base g.row.D.Denot g.D.Disk). working b) c.discard.ensures.base
+    ∙ ap (λ (pairs : Pairs). laid_over (committed new) pairs) c.in_ok-keep.ensures.own
     ∙ laid_over-merged (committed new) old.base.own.pairs old.draft.pairs c.in_ok-keep.ensures.rising
     ∙ ap (λ (records : Key → Rec). laid_over (laid_over records old.base.own.pairs) old.draft.pairs) (committed-beneath old.base new c.in_ok-keep.ensures.same)
 

@@ -13,7 +13,8 @@ returns-then-found_into-clause-through g c = through_none c.args.key (holds_draf
 pub returns-then-found_into-clause-told : goal.returns-then-found_into-clause-told
 returns-then-found_into-clause-told g c =
     let s = c.args.self.now in
-    told_found (has_key s.draft.pairs c.args.key) (holds_working s.base c.args.key) (is_some (kept_page c.args.key s.base.cache)) (sym c.if-found_into.true ∙ c.found_into.ensures.found)
+    told_found (has_key s.draft.pairs c.args.key) (holds_working s.base c.args.key) (is_some (kept_page c.args.key s.base.cache))
+    (sym c.if-found_into.true ∙ c.found_into.ensures.found)
 
 pub returns-clause-through : goal.returns-clause-through
 returns-clause-through g c =
@@ -34,7 +35,8 @@ returns-clause-told g c =
 pub returns-clause-state : goal.returns-clause-state
 returns-clause-state g c =
     let s = c.args.self.now in
-    state_read s.draft.pairs (working s.base) (working c.fetch_into.new.self) s.reads c.saturating_add-self.result s.base.shape c.fetch_into.new.self.shape c.fetch_into.ensures.records c.saturating_add-self.ensures c.fetch_into.ensures.onward.shape
+    state_read s.draft.pairs (working s.base) (working c.fetch_into.new.self) s.reads c.saturating_add-self.result s.base.shape c.fetch_into.new.self.shape
+    c.fetch_into.ensures.records c.saturating_add-self.ensures c.fetch_into.ensures.onward.shape
 
 pub returns-clause-onward : goal.returns-clause-onward
 returns-clause-onward g c = record { base = c.fetch_into.ensures.onward; draft = refl }

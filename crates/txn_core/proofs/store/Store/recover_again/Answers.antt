@@ -28,4 +28,5 @@ pub returns-clause-clean : goal.returns-clause-clean
 returns-clause-clean g c reads =
     let disk = g.D.Disk in
     let now = c.recover_again.new.self.disk.now in
-    subst (λ (b : Base g.row.D.Denot disk). content b log_file 0 ≢ open_byte → OnlyReads disk b.disk.now now) c.discard.ensures.base (c.recover_again.ensures.clean reads)
+    subst (λ (b : Base g.row.D.Denot disk). content b log_file 0 ≢ open_byte → OnlyReads disk b.disk.now now) c.discard.ensures.base
+    (c.recover_again.ensures.clean reads)
