@@ -119,7 +119,7 @@ module _ (s t : State) (n : ℕ) (alike : AreAlike s t n) where
       (walk_stays (next_group s.records) (next_group t.records) (first_link s.records n) xs (λ x i. next_as x) walk)
 
   -- a record of no kind was so
-  kind_as : (g : ℕ) → g < group_mark t → HasNoKind t.records g → HasNoKind s.records g
+  pub kind_as : (g : ℕ) → g < group_mark t → HasNoKind t.records g → HasNoKind s.records g
   kind_as g low none =
       let r = rec_at t.records format.groups_file g in
       let q = rec_at s.records format.groups_file g in
@@ -170,7 +170,7 @@ module _ (s t : State) (n : ℕ) (alike : AreAlike s t n) where
 
   -- ---- a group on a group chain was on it
 
-  owned_as : (g : ℕ) → IsOwnedBy t.records n g → IsOwnedBy s.records n g
+  pub owned_as : (g : ℕ) → IsOwnedBy t.records n g → IsOwnedBy s.records n g
   owned_as g own = record { used = used_of_live s.records format.groups_file g (sym (alike.live g) ∙ live_true (kind_at t.records format.groups_file g) own.used); owner = sym (owner_as g) ∙ own.owner }
 
   pub on_as : (g : ℕ) → IsOnChain t.records n g → IsOnChain s.records n g

@@ -1,5 +1,5 @@
 -- The steps in which a group is dropped, told by the space as it was.
-use Rattle.std.proofs.Common.{◌⊎◌, ⊎_elim, inl, inr, arith, ◌≡◌, ℕ, Bool, List, refl, sym, ap, ◌∙◌, subst}
+use Rattle.std.proofs.Common.{◌⊎◌, ⊎_elim, inl, inr, arith, ◌≡◌, ◌≢◌, ℕ, ◌<◌, Bool, List, refl, sym, ap, ◌∙◌, subst}
 use Rattle.id_freelist.specs.Giving.{CanGive, HasGiven, given}
 use Rattle.rec_bytes.specs.declared.damage.Damage.{Damage}
 use Rattle.rec_bytes.specs.declared.record.Rec.{Rec}
@@ -13,11 +13,12 @@ use Rattle.store_rules.proofs.ChainLaws.{walk_of_chain}
 use Rattle.store_rules.specs.Views.{Records, first_link, rec_at}
 use Rattle.rec_bytes.specs.declared.fault.Fault.{Fault}
 use Rattle.rec_bytes.specs.declared.fault.Fault.TheVariants.{Memory, Disk, Damaged}
-use Rattle.group_store.specs.Dropping.{CanDrop, HasDropped, IsDropFault, IsOnChain, dropped, follows}
+use Rattle.group_store.specs.Dropping.{CanDrop, HasDropped, HasLowLinks, IsDropFault, IsOnChain, dropped, follows}
 use Rattle.group_store.specs.Dropping.IsDropDamage.{BadMember}
 use Rattle.group_store.specs.GroupChain.{group_field, next_group, previous_group}
 use Rattle.group_store.specs.Links.{IsLinkDamage, IsRightLink, backed}
 use Rattle.group_store.specs.Links.IsLinkDamage.{LeadsNowhere, HighLink}
+use Rattle.group_store.specs.Loading.{group_mark}
 use Rattle.group_store.specs.Walking.{IsMemberDamage, IsMemberFault}
 use Rattle.group_store.specs.Walking.IsMemberDamage.{HighMember, NoMember, UnknownMember}
 use Rattle.group_store.proofs.Drops.{has_dropped, linked}
@@ -46,6 +47,16 @@ filled_is records g rec test b got is e = ap is_filled (sym got) ∙ sym is ∙ 
 
 pub same_one : (s now : State) → now ≡ after_get s → SameButReads s now
 same_one s now read = subst (SameButReads s) (sym read) refl
+
+-- links that were tested
+pub low_links : (s now : State) (g before after : ℕ) → now ≡ after_get s → before ≡ previous_group s.records g → after ≡ next_group s.records g
+    → (before ≢ format.nil → before < group_mark now) → (after ≢ format.nil → after < group_mark now) → HasLowLinks s g
+low_links s now g before after read b a low_before low_after =
+    let mark : group_mark now ≡ group_mark s = ap group_mark read in
+    record {
+      before = λ some. subst (λ x. x < group_mark s) b (subst (λ m. before < m) mark (low_before (λ e. some (sym b ∙ e))));
+      after = λ some. subst (λ x. x < group_mark s) a (subst (λ m. after < m) mark (low_after (λ e. some (sym a ∙ e))));
+    }
 
 -- ---- the end
 

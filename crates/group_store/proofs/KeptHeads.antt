@@ -120,11 +120,11 @@ module _ (l : State) (g : ℕ) (small : g < 2 ^ 32) where
   abbrev counts : Meta
   counts = record { high = (meta_of l format.groups_file).high; free = g; live = (meta_of l format.groups_file).live - 1 }
 
-  record_given : (q : Key) → q ≢ key_in format.groups_file g → q ≢ meta_key_of format.groups_file → t.records q ≡ l.records q
+  pub record_given : (q : Key) → q ≢ key_in format.groups_file g → q ≢ meta_key_of format.groups_file → t.records q ≡ l.records q
   record_given q ne meta = put_other freed.records (meta_key_of format.groups_file) (t.records (meta_key_of format.groups_file)) q meta
       ∙ put_other l.records (key_in format.groups_file g) (free_record (meta_of l format.groups_file).free) q ne
 
-  mark_groups : high t.records format.groups_file ≡ high l.records format.groups_file
+  pub mark_groups : high t.records format.groups_file ≡ high l.records format.groups_file
   mark_groups = ap (λ (k : Meta). k.high) (meta_of-after_meta freed format.groups_file counts (high_fits l.records format.groups_file) small (let b = live_fits l.records format.groups_file in omega arith))
 
   mark_nodes : high t.records format.nodes_file ≡ high l.records format.nodes_file
@@ -159,7 +159,7 @@ apart s head h node n file (inr a) (inr b) ne e =
     ne (sym b.owner ∙ ap (λ (r : GroupRow). r.owner) row ∙ a.owner)
 
 -- the group of a head was given out
-below : (s : Records) (head : Head) (node : ℕ) → head.key.file ≡ format.groups_file → IsHeadOf s head node → head.key.id < 2 ^ 32
+pub below : (s : Records) (head : Head) (node : ℕ) → head.key.file ≡ format.groups_file → IsHeadOf s head node → head.key.id < 2 ^ 32
 below s head node file (inl a) = absurd (let f = ap (λ (z : Head). z.key.file) a.is in omega arith)
 below s head node file (inr a) =
     let r = rec_at s format.groups_file a.row.id in

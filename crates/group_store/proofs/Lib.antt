@@ -37,6 +37,7 @@ pub mod Makes
 pub mod Moves
 pub mod Openings
 pub mod Opens
+pub mod OtherChains
 pub mod OwnGroups
 pub mod OwnRoom
 pub mod RaisedRecords

@@ -1,5 +1,5 @@
 -- An empty group that is taken out of the chain of its node, and given back.
-use Rattle.std.specs.Prelude.{◌≡◌, ◌≢◌, ℕ, ◌-◌, ◌≤◌, nat_eq, if◌then◌else◌, List, ◌∷◌}
+use Rattle.std.specs.Prelude.{◌≡◌, ◌≢◌, ℕ, ◌-◌, ◌<◌, ◌≤◌, nat_eq, if◌then◌else◌, List, ◌∷◌}
 use Rattle.id_freelist.specs.FreeLists.{IsFreeList}
 use Rattle.id_freelist.specs.Giving.{given}
 use Rattle.node_store.specs.NodeRecord.{node_key}
@@ -89,6 +89,11 @@ pub record IsLinkedIn (records : Records) (node g : ℕ) : Type 0 where
   pub led : leads_to records node (previous_group records g) ≡ g
   pub behind : next_group records g ≢ format.nil
       → IsBehind records g (previous_group records g) (next_group records g)
+
+-- each of the group's links is none, or leads below the mark
+pub record HasLowLinks (s : State) (g : ℕ) : Type 0 where
+  pub before : previous_group s.records g ≢ format.nil → previous_group s.records g < group_mark s
+  pub after : next_group s.records g ≢ format.nil → next_group s.records g < group_mark s
 
 -- the group breaks the fourth rule
 abbrev pub astray_damage : ℕ → Damage

@@ -1,4 +1,4 @@
-ghost use Rattle.std.specs.Prelude.{ℕ, List, [], ◌∷◌, IfErr, OnOk};
+ghost use Rattle.std.specs.Prelude.{◌≡◌, ℕ, List, [], ◌∷◌, IfErr, OnErr, OnOk};
 ghost use Rattle.rec_bytes.specs.Format.{groups_file};
 ghost use Rattle.rec_bytes.specs.Key.{IsKey};
 ghost use Rattle.rec_bytes.specs.RecordFiles.{meta_key_of};
@@ -7,7 +7,7 @@ ghost use Rattle.node_store.specs.NodeRecord.{node_key};
 ghost use Rattle.store_rules.specs.Breaking.{IsHeadOf};
 ghost use Rattle.chain_edit.specs.Breaks.{IsBreakFault};
 ghost use Rattle.chain_edit.specs.Heads.{head_of};
-ghost use Rattle.group_store.specs.Closing.{CanClose, HasClosed};
+ghost use Rattle.group_store.specs.Closing.{CanClose, HasClosed, KeepsOtherChains};
 ghost use Rattle.group_store.specs.Dropping.{IsDropFault, lead_key};
 ghost use Rattle.group_store.specs.Leaving.{KeepsOtherHeads};
 ghost use Rattle.rec_bytes.specs.Fault.{HasFaultCause, NotDamaged, OnDamage};
@@ -29,9 +29,12 @@ pub fn close_chain<S: Space>(space: &mut S, node: u32, head: Head) -> Result<(),
         → IfErr result (IsDropFault (S.state space.old) node head.key.id) }
     ensures breaks { S.tells → IsHeadOf (S.state space.old).records (head_of head) node
         → IfErr result (IsBreakFault (S.state space.old)) }
+    ensures grouped { OnErr result (head.key.file ≡ groups_file) }
     ensures unwritten { OnDamage result (SameButReads (S.state space.old) (S.state space.new)) }
     ensures heads { S.tells → IsHeadOf (S.state space.old).records (head_of head) node → OnOk result
         (KeepsOtherHeads (S.state space.old) (S.state space.new) node) }
+    ensures others { S.tells → IsHeadOf (S.state space.old).records (head_of head) node
+        → OnOk result (KeepsOtherChains (S.state space.old) (S.state space.new) node) }
     ensures writes { (before after : ℕ) × WritesOnly (S.state space.old) (S.state space.new)
         (group_key after ∷ lead_key node before ∷ head.key ∷ meta_key_of groups_file ∷ []) }
     ensures onward { S.onward space.old space.new }

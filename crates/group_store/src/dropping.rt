@@ -9,7 +9,8 @@ ghost use Rattle.store_rules.specs.Rules.{is_filled};
 ghost use Rattle.store_rules.specs.Views.{GroupRow, group_at, rec_at};
 ghost use Rattle.chain_edit.specs.Breaks.{IsBreakFault};
 ghost use Rattle.chain_edit.specs.Walking.{ReadsAtMost};
-ghost use Rattle.group_store.specs.Dropping.{CanDrop, HasDropped, IsAstrayFault, IsBehind};
+ghost use Rattle.group_store.specs.Dropping.{CanDrop, HasDropped, HasLowLinks, IsAstrayFault};
+ghost use Rattle.group_store.specs.Dropping.{IsBehind};
 ghost use Rattle.group_store.specs.Dropping.{IsDropFault, IsLinkedIn, IsOnChain, astray_damage};
 ghost use Rattle.group_store.specs.Dropping.{dropped, lead_key, leads_to, put_back, put_led, seen};
 ghost use Rattle.rec_bytes.specs.Fault.{HasFaultCause, NotDamaged, OnDamage};
@@ -42,6 +43,8 @@ pub fn drop_if_empty<S: Space>(space: &mut S, node: u32, group: u32) -> Result<b
         → S.state space.new ≡ dropped (S.state space.old) node group) }
     ensures linked { S.tells → IfOk result (λ gone. gone ≡ true
         → IsLinkedIn (S.state space.old).records node group) }
+    ensures low { S.tells → IfOk result (λ gone. gone ≡ true
+        → HasLowLinks (S.state space.old) group) }
     ensures damaged { S.tells → IfErr result (IsDropFault (S.state space.old) node group) }
     ensures breaks { S.tells → (row : GroupRow)
         → group_at (S.state space.old).records group ≡ Some row → row.owner ≡ node

@@ -1,10 +1,11 @@
 //! Links of groups, and of a node to its first one.
 
-ghost use Rattle.std.specs.Prelude.{◌≡◌, ◌≢◌, ◌∷◌, [], IfErr, IsOk, OnOk};
+ghost use Rattle.std.specs.Prelude.{◌≡◌, ◌≢◌, ◌<◌, ◌∷◌, [], IfErr, IsOk, OnOk};
 ghost use Rattle.rec_bytes.specs.Key.{IsKey};
 ghost use Rattle.rec_bytes.specs.Space.{HasCause, WritesOnly};
 ghost use Rattle.group_store.specs.GroupRecord.{group_key};
 ghost use Rattle.group_store.specs.Links.{IsLinkDamage, IsRightLink, backed};
+ghost use Rattle.group_store.specs.Loading.{group_mark};
 
 use rec_bytes::{
     Damage, GROUP_PREVIOUS, GROUPS, Key, META, NIL, RANGE_RULE, Reads, Space, SpaceFault, room_of,
@@ -15,6 +16,7 @@ use rec_bytes::{
 /// Where it leads nowhere, the damage is the one that is named.
 pub(crate) fn test_link<R: Reads>(space: &R, link: u32, named: Damage) -> Result<(), Damage>
     ensures key { OnOk result (link ≢ NIL → IsKey (group_key link)) }
+    ensures low { OnOk result (link ≢ NIL → link < group_mark (R.state space.now)) }
     ensures sound { IsRightLink (R.state space.now) link → IsOk result }
     ensures damaged { IfErr result (IsLinkDamage (R.state space.now) link named) }
 {

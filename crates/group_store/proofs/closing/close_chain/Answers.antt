@@ -11,6 +11,7 @@ use Rattle.group_store.proofs.BrokenGroups.{close_breaks}
 use Rattle.group_store.proofs.Closings.{closable, closed_by}
 use Rattle.group_store.proofs.KeptHeads.{heads_closed}
 use Rattle.group_store.proofs.Openings.{handed}
+use Rattle.group_store.proofs.OtherChains.{others_closed}
 use Rattle.group_store.proofs.Causes.{cause_passed}
 use Rattle.rec_bytes.proofs.Causes.{never_ok}
 use Rattle.group_store.proofs.closing.close_chain.Goals as goal
@@ -62,6 +63,11 @@ returns-in_ok-drop_if_empty-clause-heads g c = λ tells owns.
     heads_closed (g.S.Reads.state c.args.space.now) (g.S.Reads.state c.drop_if_empty.new.space) (head_of c.args.head) c.args.node c.if-head-eq-GROUPS.true owns
     c.in_ok-drop_if_empty.field-0 c.in_ok-drop_if_empty.ensures.kept (c.in_ok-drop_if_empty.ensures.ok tells)
 
+pub returns-in_ok-drop_if_empty-clause-others : goal.returns-in_ok-drop_if_empty-clause-others
+returns-in_ok-drop_if_empty-clause-others g c = λ tells owns.
+    others_closed (g.S.Reads.state c.args.space.now) (g.S.Reads.state c.drop_if_empty.new.space) (head_of c.args.head) c.args.node c.if-head-eq-GROUPS.true owns (g.met.S.Reads.onward_shape _ _ c.in_ok-drop_if_empty.ensures.onward)
+    c.in_ok-drop_if_empty.field-0 c.in_ok-drop_if_empty.ensures.kept (c.in_ok-drop_if_empty.ensures.ok tells) (c.in_ok-drop_if_empty.ensures.linked tells) (c.in_ok-drop_if_empty.ensures.low tells)
+
 pub returns-in_err-drop_if_empty-clause-damaged : goal.returns-in_err-drop_if_empty-clause-damaged
 returns-in_err-drop_if_empty-clause-damaged g c = λ tells.
     let p = err_from_is_err_and c.from_residual.result c.from_residual.ensures.1 in
@@ -75,3 +81,6 @@ returns-in_err-drop_if_empty-clause-heads g c _ _ = never_ok c.from_residual.res
 
 pub returns-in_err-drop_if_empty-clause-onward : goal.returns-in_err-drop_if_empty-clause-onward
 returns-in_err-drop_if_empty-clause-onward g c = search rules
+
+pub returns-in_err-drop_if_empty-clause-others : goal.returns-in_err-drop_if_empty-clause-others
+returns-in_err-drop_if_empty-clause-others g c _ _ = never_ok c.from_residual.result _ _ c.from_residual.ensures.1

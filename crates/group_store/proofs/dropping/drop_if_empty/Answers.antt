@@ -12,7 +12,7 @@ use Rattle.group_store.specs.GroupChain.{next_group, previous_group}
 use Rattle.group_store.specs.GroupRecord.{group_key, range_damage}
 use Rattle.rec_bytes.specs.declared.fault.Fault.TheVariants.{Damaged}
 use Rattle.group_store.proofs.BrokenGroups.{drop_breaks}
-use Rattle.group_store.proofs.DropSteps.{is_undamaged, right_next, right_previous, dropped_has, dropped_is, filled_is, link_read, member_told, number_read, same_one}
+use Rattle.group_store.proofs.DropSteps.{is_undamaged, right_next, right_previous, dropped_has, dropped_is, filled_is, link_read, low_links, member_told, number_read, same_one}
 use Rattle.group_store.proofs.DropTests.{all_writes, behind_loose, follows_is, lead_loose, lead_writes, linked_is, loose_told, loose_undamaged, same_three, seen_records}
 use Rattle.group_store.proofs.GroupWalks.{not_damaged_at}
 use Rattle.group_store.proofs.MakeSteps.{on_damage, same_read, same_then, same_writes}
@@ -317,6 +317,14 @@ returns-clause-dropped g c = λ tells free xs can empty.
     dropped_has s s1 (backed s1 c.number-after.result c.number-before.result) s5 s6 c.args.node c.number-before.result c.number-after.result c.args.group free xs
     c.in_ok-rec.ensures.read refl follows before after (c.in_ok-give.ensures.given tells free) can
 
+pub returns-clause-low : goal.returns-clause-low
+returns-clause-low g c = λ tells _.
+    let s = g.S.Reads.state c.args.space.now in
+    let s1 = g.S.Reads.state c.read_member.new.space in
+    let before = number_read s.records c.args.group group_previous c.number-before.result c.in_ok-rec.rec (c.in_ok-rec.ensures.got tells) c.number-before.ensures in
+    let after = number_read s.records c.args.group group_next c.number-after.result c.in_ok-rec.rec (c.in_ok-rec.ensures.got tells) c.number-after.ensures in
+    low_links s s1 c.args.group c.number-before.result c.number-after.result c.in_ok-rec.ensures.read before after c.in_ok-test_link.ensures.low c.in_ok-test_link-2.ensures.low
+
 pub returns-clause-linked : goal.returns-clause-linked
 returns-clause-linked g c = λ tells _.
     let s = g.S.Reads.state c.args.space.now in
@@ -374,6 +382,9 @@ returns-in_err-rec-clause-ok g c _ = never_ok c.from_residual.result _ _ c.from_
 pub returns-in_err-rec-clause-linked : goal.returns-in_err-rec-clause-linked
 returns-in_err-rec-clause-linked g c _ = never_ok c.from_residual.result _ _ c.from_residual.ensures.1
 
+pub returns-in_err-rec-clause-low : goal.returns-in_err-rec-clause-low
+returns-in_err-rec-clause-low g c _ = never_ok c.from_residual.result _ _ c.from_residual.ensures.1
+
 pub returns-in_err-rec-clause-onward : goal.returns-in_err-rec-clause-onward
 returns-in_err-rec-clause-onward g c = search rules
 
@@ -392,6 +403,9 @@ returns-in_err-test_link-clause-ok g c _ = never_ok c.from_residual-in_err-test_
 pub returns-in_err-test_link-clause-linked : goal.returns-in_err-test_link-clause-linked
 returns-in_err-test_link-clause-linked g c _ = never_ok c.from_residual-in_err-test_link.result _ _ c.from_residual-in_err-test_link.ensures.1
 
+pub returns-in_err-test_link-clause-low : goal.returns-in_err-test_link-clause-low
+returns-in_err-test_link-clause-low g c _ = never_ok c.from_residual-in_err-test_link.result _ _ c.from_residual-in_err-test_link.ensures.1
+
 pub returns-in_err-test_link-2-clause-dropped : goal.returns-in_err-test_link-2-clause-dropped
 returns-in_err-test_link-2-clause-dropped g c _ = never_ok c.from_residual-in_err-test_link-2.result _ _ c.from_residual-in_err-test_link-2.ensures.1
 
@@ -406,6 +420,9 @@ returns-in_err-test_link-2-clause-ok g c _ = never_ok c.from_residual-in_err-tes
 
 pub returns-in_err-test_link-2-clause-linked : goal.returns-in_err-test_link-2-clause-linked
 returns-in_err-test_link-2-clause-linked g c _ = never_ok c.from_residual-in_err-test_link-2.result _ _ c.from_residual-in_err-test_link-2.ensures.1
+
+pub returns-in_err-test_link-2-clause-low : goal.returns-in_err-test_link-2-clause-low
+returns-in_err-test_link-2-clause-low g c _ = never_ok c.from_residual-in_err-test_link-2.result _ _ c.from_residual-in_err-test_link-2.ensures.1
 
 pub returns-in_err-behind-clause-dropped : goal.returns-in_err-behind-clause-dropped
 returns-in_err-behind-clause-dropped g c _ = never_ok c.from_residual-in_err-behind.result _ _ c.from_residual-in_err-behind.ensures.1
@@ -422,6 +439,9 @@ returns-in_err-behind-clause-ok g c _ = never_ok c.from_residual-in_err-behind.r
 pub returns-in_err-behind-clause-linked : goal.returns-in_err-behind-clause-linked
 returns-in_err-behind-clause-linked g c _ = never_ok c.from_residual-in_err-behind.result _ _ c.from_residual-in_err-behind.ensures.1
 
+pub returns-in_err-behind-clause-low : goal.returns-in_err-behind-clause-low
+returns-in_err-behind-clause-low g c _ = never_ok c.from_residual-in_err-behind.result _ _ c.from_residual-in_err-behind.ensures.1
+
 pub returns-in_err-lead-clause-dropped : goal.returns-in_err-lead-clause-dropped
 returns-in_err-lead-clause-dropped g c _ = never_ok c.from_residual-in_err-lead.result _ _ c.from_residual-in_err-lead.ensures.1
 
@@ -436,6 +456,9 @@ returns-in_err-lead-clause-ok g c _ = never_ok c.from_residual-in_err-lead.resul
 
 pub returns-in_err-lead-clause-linked : goal.returns-in_err-lead-clause-linked
 returns-in_err-lead-clause-linked g c _ = never_ok c.from_residual-in_err-lead.result _ _ c.from_residual-in_err-lead.ensures.1
+
+pub returns-in_err-lead-clause-low : goal.returns-in_err-lead-clause-low
+returns-in_err-lead-clause-low g c _ = never_ok c.from_residual-in_err-lead.result _ _ c.from_residual-in_err-lead.ensures.1
 
 pub returns-in_err-write_behind-clause-dropped : goal.returns-in_err-write_behind-clause-dropped
 returns-in_err-write_behind-clause-dropped g c _ = never_ok c.from_residual-in_err-write_behind.result _ _ c.from_residual-in_err-write_behind.ensures.1
@@ -452,6 +475,9 @@ returns-in_err-write_behind-clause-ok g c _ = never_ok c.from_residual-in_err-wr
 pub returns-in_err-write_behind-clause-linked : goal.returns-in_err-write_behind-clause-linked
 returns-in_err-write_behind-clause-linked g c _ = never_ok c.from_residual-in_err-write_behind.result _ _ c.from_residual-in_err-write_behind.ensures.1
 
+pub returns-in_err-write_behind-clause-low : goal.returns-in_err-write_behind-clause-low
+returns-in_err-write_behind-clause-low g c _ = never_ok c.from_residual-in_err-write_behind.result _ _ c.from_residual-in_err-write_behind.ensures.1
+
 pub returns-in_err-write_lead-clause-dropped : goal.returns-in_err-write_lead-clause-dropped
 returns-in_err-write_lead-clause-dropped g c _ = never_ok c.from_residual-in_err-write_lead.result _ _ c.from_residual-in_err-write_lead.ensures.1
 
@@ -467,6 +493,9 @@ returns-in_err-write_lead-clause-ok g c _ = never_ok c.from_residual-in_err-writ
 pub returns-in_err-write_lead-clause-linked : goal.returns-in_err-write_lead-clause-linked
 returns-in_err-write_lead-clause-linked g c _ = never_ok c.from_residual-in_err-write_lead.result _ _ c.from_residual-in_err-write_lead.ensures.1
 
+pub returns-in_err-write_lead-clause-low : goal.returns-in_err-write_lead-clause-low
+returns-in_err-write_lead-clause-low g c _ = never_ok c.from_residual-in_err-write_lead.result _ _ c.from_residual-in_err-write_lead.ensures.1
+
 pub returns-in_err-give-clause-dropped : goal.returns-in_err-give-clause-dropped
 returns-in_err-give-clause-dropped g c _ = never_ok c.from_residual-in_err-give.result _ _ c.from_residual-in_err-give.ensures.1
 
@@ -481,6 +510,9 @@ returns-in_err-give-clause-ok g c _ = never_ok c.from_residual-in_err-give.resul
 
 pub returns-in_err-give-clause-linked : goal.returns-in_err-give-clause-linked
 returns-in_err-give-clause-linked g c _ = never_ok c.from_residual-in_err-give.result _ _ c.from_residual-in_err-give.ensures.1
+
+pub returns-in_err-give-clause-low : goal.returns-in_err-give-clause-low
+returns-in_err-give-clause-low g c _ = never_ok c.from_residual-in_err-give.result _ _ c.from_residual-in_err-give.ensures.1
 
 pub returns-in_err-write_behind-clause-damaged : goal.returns-in_err-write_behind-clause-damaged
 returns-in_err-write_behind-clause-damaged g c _ = space_has _ tt tt c.from_residual-in_err-write_behind.result c.in_err-write_behind.field-0.0 c.from_residual-in_err-write_behind.ensures.1
