@@ -33,6 +33,7 @@ mod Reread
 mod Searches
 mod Steps
 mod Unlinked
+mod Unwritten
 pub mod Values
 mod Walks
 pub mod IndexCounts

@@ -16,3 +16,4 @@ pub mod Making
 pub mod Reading
 pub mod Touching
 pub mod Unlinking
+pub mod Unwritten

@@ -5,6 +5,7 @@ ghost use Rattle.id_freelist.specs.TakeFault.{HasTakeCause, NotDamaged};
 ghost use Rattle.prop_index.specs.Blaming.{TakeBlamesBroken as BlamesBroken};
 ghost use Rattle.id_freelist.specs.Taking.{CanTake};
 ghost use Rattle.prop_index.specs.Blaming.{IsEntryAt, TakeNamesIndexes};
+ghost use Rattle.prop_index.specs.Unwritten.{IfTakeBlames};
 ghost use Rattle.prop_index.specs.Entering.{IsIndexFull, IsMade, IsNotFull, entry_of, of_read};
 ghost use Rattle.prop_index.specs.Finding.{IsPair};
 ghost use Rattle.prop_index.specs.Heads.{BeginsRight, IsHead, IsHeadPlace};
@@ -68,6 +69,8 @@ pub fn enter<S: Space>(
         (BlamesBroken (S.state space.old).records (S.state space.old).shape) }
     ensures still { S.tells → IfErr result
         (BlamesBroken (S.state space.new).records (S.state space.new).shape) }
+    ensures unwritten { IfErr result (IfTakeBlames
+        (SameButReads (S.state space.old) (S.state space.new))) }
     ensures touches { TouchesIndex S.tells 3 (S.state space.old) (S.state space.new) }
     ensures onward { S.onward space.old space.new }
     ensures cause { HasTakeCause (S.faults space.old) (S.faults space.new) result }
@@ -111,6 +114,8 @@ fn add_entry<S: Space>(space: &mut S, bucket: Bucket, content: Content) -> Resul
     ensures still { S.tells → (d b : ℕ) → IsEntryAt (S.state space.old) d b 0 bucket.first
         (damage_of index_file bucket.slot.id 1) → IfErr result
         (BlamesBroken (S.state space.new).records (S.state space.new).shape) }
+    ensures unwritten { IfErr result (IfTakeBlames
+        (SameButReads (S.state space.old) (S.state space.new))) }
     ensures touches { TouchesIndex S.tells 3 (S.state space.old) (S.state space.new) }
     ensures onward { S.onward space.old space.new }
     ensures cause { HasTakeCause (S.faults space.old) (S.faults space.new) result }

@@ -13,7 +13,7 @@ ghost use Rattle.prop_index.specs.Leaving.{IsNoneOf, SaysContent};
 ghost use Rattle.prop_index.specs.Reading.{HasRoom, KeepsStore, damage_of};
 ghost use Rattle.prop_index.specs.Touching.{TouchesIndex};
 ghost use Rattle.prop_index.specs.Blaming.{BlamesBroken};
-ghost use Rattle.rec_bytes.specs.Fault.{HasFaultCause, NotDamaged};
+ghost use Rattle.rec_bytes.specs.Fault.{HasFaultCause, NotDamaged, OnDamage};
 ghost use Rattle.rec_bytes.specs.Format.{index_file};
 ghost use Rattle.rec_bytes.specs.Key.{IsKey};
 ghost use Rattle.rec_bytes.specs.Record.{field};
@@ -80,6 +80,7 @@ pub fn leave<S: Space>(
         (BlamesBroken (S.state space.old).records (S.state space.old).shape) }
     ensures still { S.tells → IfErr result
         (BlamesBroken (S.state space.new).records (S.state space.new).shape) }
+    ensures unwritten { OnDamage result (SameButReads (S.state space.old) (S.state space.new)) }
     ensures touches { TouchesIndex S.tells 3 (S.state space.old) (S.state space.new) }
     ensures onward { S.onward space.old space.new }
     ensures cause { HasFaultCause (S.faults space.old) (S.faults space.new) result }
@@ -132,6 +133,7 @@ fn drop_entry<S: Space>(space: &mut S, bucket: Bucket, content: Content) -> Resu
     ensures still { S.tells → (d b : ℕ) → IsEntryAt (S.state space.old) d b 0 bucket.first
         (damage_of index_file bucket.slot.id 1) → IfErr result
         (BlamesBroken (S.state space.new).records (S.state space.new).shape) }
+    ensures unwritten { OnDamage result (SameButReads (S.state space.old) (S.state space.new)) }
     ensures touches { TouchesIndex S.tells 3 (S.state space.old) (S.state space.new) }
     ensures onward { S.onward space.old space.new }
     ensures cause { HasFaultCause (S.faults space.old) (S.faults space.new) result }

@@ -6,6 +6,7 @@ ghost use Rattle.id_freelist.specs.TakeFault.{HasTakeCause, NotDamaged};
 ghost use Rattle.prop_index.specs.Blaming.{TakeBlamesBroken as BlamesBroken};
 ghost use Rattle.id_freelist.specs.Taking.{CanTake};
 ghost use Rattle.prop_index.specs.Blaming.{TakeNamesIndexes};
+ghost use Rattle.prop_index.specs.Unwritten.{IfTakeBlames};
 ghost use Rattle.prop_index.specs.Defining.{PutsInUse};
 ghost use Rattle.prop_index.specs.Entering.{IsIndexFull};
 ghost use Rattle.prop_index.specs.Heads.{BeginsRight, IsHead, IsHeadPlace};
@@ -21,7 +22,7 @@ ghost use Rattle.prop_index.specs.Touching.{
 ghost use Rattle.prop_store.specs.Touching.{TouchesOnly};
 ghost use Rattle.rec_bytes.specs.Format.{free_kind, index_file, nodes_file};
 ghost use Rattle.rec_bytes.specs.Key.{IsKey};
-ghost use Rattle.rec_bytes.specs.Space.{HasCause, meta_of};
+ghost use Rattle.rec_bytes.specs.Space.{HasCause, SameButReads, meta_of};
 ghost use Rattle.store_rules.specs.IndexChange.{IsEntryMade};
 ghost use Rattle.store_rules.specs.Views.{high, key_in, kind_at};
 
@@ -66,6 +67,8 @@ pub(crate) fn put_in_front<S: Space>(
         → IfOk result (PutsInUse (S.state space.old) (S.state space.new)) }
     ensures still { S.tells → IfErr result
         (BlamesBroken (S.state space.new).records (S.state space.new).shape) }
+    ensures unwritten { IfErr result (IfTakeBlames
+        (SameButReads (S.state space.old) (S.state space.new))) }
     ensures key { IfOk result (λ id. IsKey (key_in index_file id)) }
     ensures touched { IfOk result (λ id. TouchesOnly S.tells (S.state space.old)
         (S.state space.new) (index_keys (front_ids id bucket.slot.id bucket.first))) }

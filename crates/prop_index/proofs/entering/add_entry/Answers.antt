@@ -88,3 +88,9 @@ returns-in_err-put_in_front-clause-counted g c _ = never_ok c.from_residual.resu
 
 pub returns-in_err-put_in_front-clause-onward : goal.returns-in_err-put_in_front-clause-onward
 returns-in_err-put_in_front-clause-onward g c = search rules
+
+pub returns-in-Err-clause-unwritten : goal.returns-in-Err-clause-unwritten
+returns-in-Err-clause-unwritten g c = refl
+
+pub returns-in_err-put_in_front-clause-unwritten : goal.returns-in_err-put_in_front-clause-unwritten
+returns-in_err-put_in_front-clause-unwritten g c = take_has _ c.from_residual.result c.in_err-put_in_front.field-0.0 c.from_residual.ensures.1 c.in_err-put_in_front.ensures.unwritten

@@ -18,9 +18,10 @@ use Rattle.prop_index.proofs.IndexBlames.{blames_reread, entry_begins, entry_rer
 use Rattle.prop_index.specs.declared.entry_row.Content.{Content}
 use Rattle.prop_index.proofs.Buckets.{begins-reread, head-place, head-reread}
 use Rattle.prop_index.proofs.Changed.{entered_in, unlisted_entered, first_right}
-use Rattle.prop_index.proofs.Reread.{can_after, kept_after, same_records}
+use Rattle.prop_index.proofs.Reread.{can_after, kept_after, same_records, same_then}
 use Rattle.prop_index.proofs.IndexFull.{full-reread, read-full, read-sound, read-unfull}
 use Rattle.prop_index.proofs.IndexTouches.{index_read, index_then}
+use Rattle.prop_index.proofs.Unwritten.{blame_then, read_unwritten}
 use Rattle.prop_index.proofs.entering.enter.Goals as goal
 
 on_ok : {T E : Type 0} {P Q : Type 0} (r : Result T E) → (P → Q) → OnOk r P → OnOk r Q
@@ -207,3 +208,18 @@ returns-clause-unlisted g c tells wanted ix none =
     let s = g.S.Reads.state c.args.space.now in
     let found = subst (IsBucketSought s.records ix.definitions c.args.label c.args.key c.hash_of-hash.result) c.in-Ok-Some.field-0-is (c.in-Ok-Some.ensures.found tells wanted ix) in
     absurd (none found.definition found.listed found.pair)
+
+-- ---- what is written where a record is blamed
+
+pub returns-in-Err-clause-unwritten : goal.returns-in-Err-clause-unwritten
+returns-in-Err-clause-unwritten g c =
+    let s = g.S.Reads.state c.args.space.now in
+    let now = g.S.Reads.state c.find_bucket.new.space in
+    read_unwritten c.of_read.result c.in-Err.fault _ c.of_read.ensures (reads_same 18 s now c.find_bucket.ensures.at_most)
+
+pub returns-clause-unwritten : goal.returns-clause-unwritten
+returns-clause-unwritten g c =
+    let s = g.S.Reads.state c.args.space.now in
+    let now = g.S.Reads.state c.find_bucket.new.space in
+    let t = g.S.Reads.state c.add_entry.new.space in
+    blame_then c.add_entry.result _ _ (same_then s now t (reads_same 18 s now c.find_bucket.ensures.at_most)) c.add_entry.ensures.unwritten

@@ -1,6 +1,7 @@
 use Rattle.std.proofs.Common.{◌≡◌, ◌≢◌, ◌⊎◌, ◌∙◌, Option, Some, List, refl, ap, sym, subst, ◌-◌, ◌<◌, ℕ, arith, inl, inr, ⊎_elim, rules}
 use Rattle.rec_bytes.specs.declared.damage.Damage.{Damage}
 use Rattle.rec_bytes.specs.declared.fault.Fault.TheVariants.{Damaged}
+use Rattle.rec_bytes.specs.Fault.{damage_of}
 use Rattle.rec_bytes.specs.Space.{SameButReads, State, meta_of}
 use Rattle.store_rules.specs.Breaking.{BreaksAny}
 use Rattle.prop_index.specs.Blaming.{BlamesBroken}
@@ -37,6 +38,7 @@ use Rattle.prop_store.proofs.Causes.{cause_passed, space_cause_passed}
 use Rattle.rec_bytes.proofs.Causes.{never_ok, ok_cause}
 use Rattle.prop_index.proofs.Causes.{damage_cause}
 use Rattle.prop_index.proofs.IndexTouches.{index_same, index_then}
+use Rattle.prop_index.proofs.Unwritten.{on_damage}
 use Rattle.prop_index.proofs.leaving.drop_entry.Goals as goal
 
 pub returns-in_default-clause-dropped : goal.returns-in_default-clause-dropped
@@ -444,3 +446,18 @@ unlink-requires-clause-before g c = c.in_ok-test_link.ensures.key
 
 pub unlink-requires-clause-after : goal.unlink-requires-clause-after
 unlink-requires-clause-after g c = c.in_ok-test_link-2.ensures.key
+
+-- ---- what is written where a record is blamed
+
+pub returns-in_err-row-clause-unwritten : goal.returns-in_err-row-clause-unwritten
+returns-in_err-row-clause-unwritten g c = on_damage c.from_residual.result _ c.in_err-row.ensures.same
+
+pub returns-in_err-test_link-clause-unwritten : goal.returns-in_err-test_link-clause-unwritten
+returns-in_err-test_link-clause-unwritten g c = on_damage c.from_residual-in_err-test_link.result _ c.in_ok-row.ensures.same
+
+pub returns-in_err-test_link-2-clause-unwritten : goal.returns-in_err-test_link-2-clause-unwritten
+returns-in_err-test_link-2-clause-unwritten g c = on_damage c.from_residual-in_err-test_link-2.result _ c.in_ok-row.ensures.same
+
+pub returns-in_err-unlink-clause-unwritten : goal.returns-in_err-unlink-clause-unwritten
+returns-in_err-unlink-clause-unwritten g c =
+    space_has (λ fault. IfSome (damage_of fault) (λ _. SameButReads (g.S.Reads.state c.args.space.now) (g.S.Reads.state c.unlink.new.space))) tt tt c.from_residual-in_err-unlink.result c.in_err-unlink.field-0.0 c.from_residual-in_err-unlink.ensures.1

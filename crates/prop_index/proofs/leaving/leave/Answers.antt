@@ -23,6 +23,7 @@ use Rattle.prop_index.proofs.IndexTouches.{index_read, index_then}
 use Rattle.std.proofs.lemmas.Result.{err_from_is_err_and}
 use Rattle.prop_store.proofs.Causes.{cause_after, cause_passed}
 use Rattle.rec_bytes.proofs.Causes.{never_ok, ok_cause}
+use Rattle.prop_index.proofs.Unwritten.{damage_then, on_damage}
 use Rattle.prop_index.proofs.leaving.leave.Goals as goal
 
 on_ok : {T E : Type 0} {P Q : Type 0} (r : Result T E) → (P → Q) → OnOk r P → OnOk r Q
@@ -281,3 +282,16 @@ returns-clause-cause g c = cause_after _ _ _ c.drop_entry.result c.in_ok-bucket.
 
 pub returns-clause-onward : goal.returns-clause-onward
 returns-clause-onward g c = g.met.S.Reads.further_onward _ _ _ c.in_ok-bucket.ensures.onward c.drop_entry.ensures.onward
+
+-- ---- what is written where a record is blamed
+
+pub returns-in_err-bucket-clause-unwritten : goal.returns-in_err-bucket-clause-unwritten
+returns-in_err-bucket-clause-unwritten g c =
+    on_damage c.from_residual.result _ (reads_same 18 (g.S.Reads.state c.args.space.now) (g.S.Reads.state c.find_bucket.new.space) c.find_bucket.ensures.at_most)
+
+pub returns-clause-unwritten : goal.returns-clause-unwritten
+returns-clause-unwritten g c =
+    let s = g.S.Reads.state c.args.space.now in
+    let now = g.S.Reads.state c.find_bucket.new.space in
+    let t = g.S.Reads.state c.drop_entry.new.space in
+    damage_then c.drop_entry.result _ _ (same_then s now t (reads_same 18 s now c.in_ok-bucket.ensures.at_most)) c.drop_entry.ensures.unwritten

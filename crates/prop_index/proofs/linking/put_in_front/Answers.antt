@@ -24,6 +24,7 @@ use Rattle.prop_index.specs.Touching.{front_ids}
 use Rattle.rec_bytes.proofs.Causes.{never_ok}
 use Rattle.prop_index.proofs.Causes.{space_take_cause, take_cause_passed, take_ok_cause}
 use Rattle.prop_store.proofs.Causes.{later_on}
+use Rattle.prop_index.proofs.Unwritten.{on_blame, space_blames}
 use Rattle.prop_index.proofs.linking.put_in_front.Goals as goal
 
 pub returns-clause-made : goal.returns-clause-made
@@ -200,3 +201,9 @@ link-requires-clause-first g c = c.requires.first
 
 pub link-requires-clause-id : goal.link-requires-clause-id
 link-requires-clause-id g c = c.in_ok-id.ensures.key
+
+pub returns-in_err-id-clause-unwritten : goal.returns-in_err-id-clause-unwritten
+returns-in_err-id-clause-unwritten g c = on_blame c.from_residual.result _ c.in_err-id.ensures.err
+
+pub returns-in_err-link-clause-unwritten : goal.returns-in_err-link-clause-unwritten
+returns-in_err-link-clause-unwritten g c = take_has _ c.from_residual-in_err-link.result _ c.from_residual-in_err-link.ensures.1 (space_blames _ c.in_err-link.field-0.0)
