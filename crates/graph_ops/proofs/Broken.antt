@@ -162,10 +162,10 @@ blames_both one other Memory a b = tt
 blames_both one other Disk a b = tt
 blames_both one other (Damaged damage) a b = (a, b)
 
-pub key_blamed : (s named t : State) (fault : InternFault) → BlamesGiven s named t (of_intern fault)
-key_blamed s named t (interns.NamesFull count) = tt
-key_blamed s named t interns.Memory = tt
-key_blamed s named t interns.Disk = tt
+pub key_blamed : (s named t : State) (had : Type 0) (fault : InternFault) → BlamesGiven s named t had (of_intern fault)
+key_blamed s named t had (interns.NamesFull count) = tt
+key_blamed s named t had interns.Memory = tt
+key_blamed s named t had interns.Disk = tt
 
 -- reads before a key becomes a name are counted after it
 pub interned_read : (s m : State) (names : List (List ℕ)) (key : List ℕ) → SameButReads s m → SameButReads (interned s names key) (interned m names key)
@@ -190,12 +190,12 @@ interned_in_use s names key (targets.Edge id) used = by (list_any (pointwise nat
     by true = used
     by false = used
 
-pub value_blamed : (s named t last : State) → SameButReads named t → (fault : SetFault) → SetBlamesBroken t fault → BlamesGiven s named last (of_set fault)
-value_blamed s named t last same (sets.PropsFull count) told = tt
-value_blamed s named t last same (sets.Full file live) told = tt
-value_blamed s named t last same sets.Memory told = tt
-value_blamed s named t last same sets.Disk told = tt
-value_blamed s named t last same (sets.Damaged damage) told = inr (inl (inl (subst (λ (z : State). Breaks z.records z.shape damage) same told)))
+pub value_blamed : (s named t last : State) (had : Type 0) → SameButReads named t → (fault : SetFault) → SetBlamesBroken t fault → BlamesGiven s named last had (of_set fault)
+value_blamed s named t last had same (sets.PropsFull count) told = tt
+value_blamed s named t last had same (sets.Full file live) told = tt
+value_blamed s named t last had same sets.Memory told = tt
+value_blamed s named t last had same sets.Disk told = tt
+value_blamed s named t last had same (sets.Damaged damage) told = inr (inl (inl (subst (λ (z : State). Breaks z.records z.shape damage) same told)))
 
 -- ---- in the space as a call left it
 

@@ -1,5 +1,5 @@
 -- Which record is blamed where an edge is taken out of its chains, and heads that stay.
-use Rattle.std.specs.Prelude.{IfErr, IfSome, nat_eq, not}
+use Rattle.std.specs.Prelude.{IfErr, nat_eq, not}
 use Rattle.std.proofs.Common.{◌≡◌, ◌≢◌, ℕ, ◌+◌, ◌≤◌, Result, Ok, Err, [], ◌∷◌, sym, ap, ◌∙◌, subst, inl, inr, ⊎_elim, arith}
 use Rattle.rec_bytes.specs.declared.damage.Damage.{Damage}
 use Rattle.rec_bytes.specs.declared.fault.Fault.{Fault}
@@ -8,13 +8,12 @@ use Rattle.rec_bytes.specs.declared.key.Key.{Key}
 use Rattle.rec_bytes.specs.declared.record.Rec.{Rec}
 use Rattle.rec_bytes.specs.declared.row_fault.RowFault.{RowFault}
 use Rattle.rec_bytes.specs.declared.row_fault.RowFault.TheVariants as rows
-use Rattle.rec_bytes.specs.Fault.{damage_of}
 use Rattle.rec_bytes.specs.Format as format
 use Rattle.rec_bytes.specs.Meta as metas
 use Rattle.rec_bytes.specs.Record.{field}
 use Rattle.rec_bytes.specs.RecordFiles.{meta_key_of}
 use Rattle.rec_bytes.specs.Space.{IsAmong, SameButReads, State, after_set}
-use Rattle.store_rules.specs.Breaking.{Breaks, IsHeadOf}
+use Rattle.store_rules.specs.Breaking.{IsHeadOf}
 use Rattle.store_rules.specs.Rules.{Head}
 use Rattle.store_rules.specs.Views.{group_at, high, is_group_kind, key_in, kind_at, kind_in, rec_at}
 use Rattle.store_rules.proofs.ViewLaws.{kind_by}
@@ -23,28 +22,19 @@ use Rattle.group_store.proofs.AlikeGroups.{AreAlike}
 use Rattle.store_rules.specs.Writes.{ChangesOnly}
 use Rattle.node_store.specs.Loading as nodes
 use Rattle.prop_store.specs.Fault as props
-use Rattle.chain_edit.specs.Breaks.{IsBreakFault}
 use Rattle.chain_edit.specs.Pushing.{pushed}
 use Rattle.chain_edit.specs.Unlinking.{unlinked}
 use Rattle.chain_edit.proofs.LinkLaws.{field-set_other}
 use Rattle.group_store.specs.Counting.{one_less, one_more, tallied}
-use Rattle.group_store.specs.Dropping.{IsDropDamage, IsDropFault}
-use Rattle.group_store.specs.Dropping.IsDropDamage.{Astray, BadMember, BadNext, BadPrevious}
-use Rattle.group_store.specs.GroupChain.{next_group, previous_group}
-use Rattle.group_store.specs.GroupRecord.{range_damage}
 use Rattle.group_store.specs.Leaving.{KeepsHeads}
-use Rattle.group_store.specs.Links.{IsLinkDamage}
-use Rattle.group_store.specs.Links.IsLinkDamage.{HighLink, LeadsNowhere}
 use Rattle.group_store.specs.Opening.{IsHeadFault, LacksGroupOn}
 use Rattle.group_store.specs.Opening.IsSearchDamage.{BadNode}
-use Rattle.group_store.specs.Walking.{IsMemberDamage}
-use Rattle.group_store.specs.Walking.IsMemberDamage.{HighMember, NoMember, UnknownMember}
 use Rattle.group_store.proofs.BrokenGroups.{node_breaks, search_read}
 use Rattle.group_store.proofs.KeptHeads.{alike_by, heads_alike}
 use Rattle.group_store.proofs.Tallies.{field-tallied}
 use Rattle.graph_ops.specs.ChangeFault.{of_fault, of_row}
-use Rattle.graph_ops.specs.Damage.{IfBlames, IsBroken}
-use Rattle.graph_ops.specs.EdgeDeleting.{BlamesDeleting, BlamesEnd, IsUndropped}
+use Rattle.graph_ops.specs.Damage.{BlamesBroken, IfBlames, IsBroken}
+use Rattle.graph_ops.specs.EdgeDeleting.{BlamesEnd, KeepsGroups}
 use Rattle.graph_ops.specs.EdgeEnds.{joined, parted}
 use Rattle.graph_ops.specs.declared.change_fault.ChangeFault.{ChangeFault}
 use Rattle.graph_ops.proofs.Broken.{blames_more}
@@ -68,37 +58,12 @@ pub if_blames : {T : Type 0} (r : Result T ChangeFault) (P Q : Damage → Type 0
 if_blames (Ok x) P Q then h = tt
 if_blames (Err fault) P Q then h = blames_more P Q then fault h
 
--- a group that isn't dropped
-pub close_blamed : (s t : State) (node g : ℕ) (fault : Fault) → IsDropFault s node g fault → IsBreakFault s fault → IfSome (damage_of fault) (λ _. SameButReads s t)
-    → IfBlames (IsUndropped t) (of_fault fault)
-close_blamed s t node g faults.Memory told breaks same = tt
-close_blamed s t node g faults.Disk told breaks same = tt
-close_blamed s t node g (faults.Damaged damage) told breaks same = (node, g, (drop_read s t node g damage same told, inl (subst (λ (z : State). Breaks z.records z.shape damage) (sym same) breaks)))
-  where
-    drop_read : (s t : State) (node g : ℕ) (damage : Damage) → SameButReads s t → IsDropDamage s node g damage → IsDropDamage t node g damage
-    drop_read s t node g damage same told = subst (λ (z : State). IsDropDamage z node g damage) (sym same) (by damage told)
-      where
-        member : (d : Damage) → IsMemberDamage s node g d → IsMemberDamage (record s { reads = t.reads }) node g d
-        member d (NoMember not) = NoMember not
-        member d (UnknownMember low none) = UnknownMember low none
-        member d (HighMember above) = HighMember above
-
-        link : (l : ℕ) (d : Damage) → IsLinkDamage s l (range_damage g) d → IsLinkDamage (record s { reads = t.reads }) l (range_damage g) d
-        link l d (LeadsNowhere some above) = LeadsNowhere some above
-        link l d (HighLink above) = HighLink above
-
-        by : (d : Damage) → IsDropDamage s node g d → IsDropDamage (record s { reads = t.reads }) node g d
-        by d (BadMember _ bad) = BadMember d (member d bad)
-        by d (BadPrevious _ bad) = BadPrevious d (link (previous_group s.records g) d bad)
-        by d (BadNext _ bad) = BadNext d (link (next_group s.records g) d bad)
-        by d (Astray out) = Astray out
-
 -- properties that aren't taken away
-pub drop_blamed : (s v t : State) → SameButReads s v → (fault : Fault) → props.BlamesBroken v.records v.shape fault → BlamesDeleting s t (of_fault fault)
-drop_blamed s v t same faults.Memory told = tt
-drop_blamed s v t same faults.Disk told = tt
-drop_blamed s v t same (faults.Damaged damage) told =
-    inl (inl (subst (λ (z : State). props.BlamesBroken z.records z.shape (faults.Damaged damage)) same told))
+pub drop_blamed : (s v : State) → SameButReads s v → (fault : Fault) → props.BlamesBroken v.records v.shape fault → BlamesBroken s (of_fault fault)
+drop_blamed s v same faults.Memory told = tt
+drop_blamed s v same faults.Disk told = tt
+drop_blamed s v same (faults.Damaged damage) told =
+    inl (subst (λ (z : State). props.BlamesBroken z.records z.shape (faults.Damaged damage)) same told)
 
 -- ---- heads
 
@@ -148,6 +113,35 @@ module _ (s : State) (head : Head) (n : ℕ) (owns : IsHeadOf s.records head n) 
     pub heads_parted_by : (u t : State) → u ≡ tallied one_less (unlinked s head n rel) head → t ≡ after_set u (key_in format.nodes_file n) 4 format.node_degree d → KeepsHeads s t
     unfolding parted
     heads_parted_by u t out set = subst (KeepsHeads s) (sym (set ∙ ap (λ (z : State). after_set z (key_in format.nodes_file n) 4 format.node_degree d) out)) heads_parted
+
+    -- the groups of dense nodes are linked as they were
+    groups_parted : KeepsGroups s (parted s head n rel d)
+    groups_parted = record {
+      shape = shape_parted s head n rel d;
+      kinds = λ x. ap (λ m. kind_in m (rec_at (parted s head n rel d).records format.nodes_file x) x) (mark format.nodes_file)
+          ∙ kind_by (high s.records format.nodes_file) (rec_at (parted s head n rel d).records format.nodes_file x) (rec_at s.records format.nodes_file x) x
+          (number_parted (key_in format.nodes_file x) 1 format.kind (λ e. omega arith) (omega arith) (λ e. omega arith) (λ e. let b = behind_kind in omega arith));
+      first = λ x dense. number_parted (key_in format.nodes_file x) 4 format.node_first_link (λ e. omega arith) (omega arith) (λ e. omega arith) (λ e. absurd (no_dense x dense e));
+      mark = mark format.groups_file;
+      numbers = λ g m at inside. number_parted (key_in format.groups_file g) m at (λ e. let z : 3 ≡ 2 = e in omega arith) (omega arith) (λ e. absurd (let z : 3 ≡ 1 = e in omega arith))
+          (λ e. let b = behind_chain (sym (ap (λ (k : Key). k.file) e)) in omega arith);
+    }
+      where
+        -- the head of a sparse node is in no record of a dense one
+        no_dense : (x : ℕ) → kind_at s.records format.nodes_file x ≡ format.dense → key_in format.nodes_file x ≡ head.key → ⊥
+        no_dense x dense e = by owns
+          where
+            by : IsHeadOf s.records head n → ⊥
+            by (inl o) =
+                let is : x ≡ n = ap (λ (k : Key). k.id) (e ∙ ap (λ (h : Head). h.key) o.is) in
+                let sparse = ap (kind_at s.records format.nodes_file) is ∙ o.sparse in
+                omega arith
+            by (inr o) = let f = ap (λ (k : Key). k.file) (e ∙ o.key) in omega arith
+
+    -- in two steps
+    pub groups_parted_by : (u t : State) → u ≡ tallied one_less (unlinked s head n rel) head → t ≡ after_set u (key_in format.nodes_file n) 4 format.node_degree d → KeepsGroups s t
+    unfolding parted
+    groups_parted_by u t out set = subst (KeepsGroups s) (sym (set ∙ ap (λ (z : State). after_set z (key_in format.nodes_file n) 4 format.node_degree d) out)) groups_parted
 
     -- what another node's groups tell
     pub alike_parted : (b : ℕ) → n ≢ b → AreAlike s (parted s head n rel d) b
@@ -207,3 +201,31 @@ heads_given s t id changes = heads_alike s.records t.records (alike_by s.records
 
     mark : (f : ℕ) → f ≢ format.relationships_file → high t.records f ≡ high s.records f
     mark f ne = ap (λ r. (metas.meta_of r).high) (same (meta_key_of f) (λ e. let k = ap (λ (q : Key). q.file) e in omega arith) (λ e. ne (ap (λ (q : Key). q.id) e)))
+
+-- the groups of dense nodes then
+pub groups_given : (s t : State) (id : ℕ) → t.shape ≡ s.shape → ChangesOnly s t (key_in format.relationships_file id ∷ meta_key_of format.relationships_file ∷ []) → KeepsGroups s t
+groups_given s t id shape changes = record {
+  shape = shape;
+  kinds = λ n. ap (λ m. kind_in m (rec_at t.records format.nodes_file n) n) (mark format.nodes_file (λ e. omega arith)) ∙ ap (λ (r : Rec). kind_in (high s.records format.nodes_file) r n) (node n);
+  first = λ n dense. ap (λ (r : Rec). field 4 r format.node_first_link) (node n);
+  mark = mark format.groups_file (λ e. omega arith);
+  numbers = λ g n at inside. ap (λ (r : Rec). field n r at) (same (key_in format.groups_file g) (λ e. let f = ap (λ (k : Key). k.file) e in omega arith) (λ e. let f = ap (λ (k : Key). k.file) e in omega arith));
+}
+  where
+    same : (q : Key) → q ≢ key_in format.relationships_file id → q ≢ meta_key_of format.relationships_file → t.records q ≡ s.records q
+    same q no_rel no_meta = ⊎_elim (λ e. e) (λ (i : IsAmong q (key_in format.relationships_file id ∷ meta_key_of format.relationships_file ∷ [])). absurd (⊎_elim no_rel (λ j. ⊎_elim no_meta (λ (f : ⊥). f) j) i)) (changes.each q)
+
+    node : (n : ℕ) → rec_at t.records format.nodes_file n ≡ rec_at s.records format.nodes_file n
+    node n = same (key_in format.nodes_file n) (λ e. let f = ap (λ (k : Key). k.file) e in omega arith) (λ e. let f = ap (λ (k : Key). k.file) e in omega arith)
+
+    mark : (f : ℕ) → f ≢ format.relationships_file → high t.records f ≡ high s.records f
+    mark f ne = ap (λ r. (metas.meta_of r).high) (same (meta_key_of f) (λ e. let k = ap (λ (q : Key). q.file) e in omega arith) (λ e. ne (ap (λ (q : Key). q.id) e)))
+
+pub groups_then : (s t u : State) → KeepsGroups s t → KeepsGroups t u → KeepsGroups s u
+groups_then s t u a b = record {
+  shape = b.shape ∙ a.shape;
+  kinds = λ n. b.kinds n ∙ a.kinds n;
+  first = λ n dense. b.first n (a.kinds n ∙ dense) ∙ a.first n dense;
+  mark = b.mark ∙ a.mark;
+  numbers = λ g n at inside. b.numbers g n at inside ∙ a.numbers g n at inside;
+}

@@ -300,14 +300,14 @@ link_before s u head n rel d m ne ends owns is damage told =
 -- ---- which record is blamed
 
 -- an end that isn't found
-pub end_taken : (s m t : State) (id : ℕ) (rel : RelRow) (node : ℕ) → (node ≡ rel.from) ⊎ (node ≡ rel.to) → LeavesEdge s m id → (damage : Damage) → IsSoughtDamage m id node rel.label damage → IsTakenDamage s t id rel damage
-end_taken s m t id rel node which left damage told = Sought damage node m which left told
+pub end_taken : (s m : State) (id : ℕ) (rel : RelRow) (node : ℕ) → (node ≡ rel.from) ⊎ (node ≡ rel.to) → LeavesEdge s m id → (damage : Damage) → IsSoughtDamage m id node rel.label damage → IsTakenDamage s id rel damage
+end_taken s m id rel node which left damage told = Sought damage node m which left told
 
 -- seen from before
-pub taken_before : (s m t : State) (id : ℕ) (rel : RelRow) → LeavesEdge s m id → (damage : Damage) → IsTakenDamage m t id rel damage → IsTakenDamage s t id rel damage
-taken_before s m t id rel left damage (Sought _ node mid which later told) = Sought damage node mid which (edge_then s m mid id left later) told
-taken_before s m t id rel left damage (Parted _ mid later told) = Parted damage mid (edge_then s m mid id left later) told
-taken_before s m t id rel left damage (Undropped _ undropped) = Undropped damage undropped
+pub taken_before : (s m : State) (id : ℕ) (rel : RelRow) → LeavesEdge s m id → (damage : Damage) → IsTakenDamage m id rel damage → IsTakenDamage s id rel damage
+taken_before s m id rel left damage (Sought _ node mid which later told) = Sought damage node mid which (edge_then s m mid id left later) told
+taken_before s m id rel left damage (Parted _ mid later told) = Parted damage mid (edge_then s m mid id left later) told
+taken_before s m id rel left damage (Undropped _ mid later told) = Undropped damage mid (edge_then s m mid id left later) told
 
 -- ---- the rows of relationships where one is taken out of a chain: links alone are set
 

@@ -45,7 +45,8 @@ use Rattle.graph_ops.specs.Damage.{BlamesBroken, IsBroken}
 use Rattle.graph_ops.proofs.Broken.{blames_more}
 use Rattle.graph_ops.proofs.Causes.{broken_left}
 use Rattle.graph_ops.proofs.EdgeBlames.{head_blamed}
-use Rattle.graph_ops.specs.EdgeDeleting.{BlamesEnd, HasRow, IsGroupedDamage, IsSoughtDamage, IsStray, IsTakenDamage, IsUndropped, LeavesEdge, with_property}
+use Rattle.graph_ops.proofs.EdgeDrops.{undropped_broke}
+use Rattle.graph_ops.specs.EdgeDeleting.{BlamesEnd, HasRow, IsGroupedDamage, IsSoughtDamage, IsStray, IsTakenDamage, LeavesEdge, with_property}
 use Rattle.graph_ops.specs.EdgeDeleting.IsTakenDamage.{Parted, Sought, Undropped}
 use Rattle.graph_ops.proofs.EdgeFrames.{alike_edge, edge_none, end_link_before, end_link_breaks, kind_same, meta, node_same, pair_is, pair_low}
 
@@ -289,16 +290,16 @@ module _ (s t : State) (id : ℕ) (left : LeavesEdge s t id) where
   row_later rel has = there id (with_property id rel has.0) has.1
 
 -- a record that is blamed where an edge that was found is taken out of its chains
-pub taken_told : (s t : State) (id : ℕ) (rel : RelRow) → row_at s.records id ≡ Some rel → (damage : Damage) → IsTakenDamage s t id rel damage → IsBroken s damage ⊎ IsUndropped t damage
-taken_told s t id rel found damage (Sought _ node mid which left told) =
-    inl (sought_broke s mid id left node rel.label _ damage (rel_rows.rel_at-Some s.records id rel found) (⊎_elim (λ e. inl (sym e)) (λ e. inr (sym e)) which) refl told)
-taken_told s t id rel found damage (Parted _ mid left told) =
+pub taken_told : (s : State) (id : ℕ) (rel : RelRow) → row_at s.records id ≡ Some rel → (damage : Damage) → IsTakenDamage s id rel damage → IsBroken s damage
+taken_told s id rel found damage (Sought _ node mid which left told) =
+    sought_broke s mid id left node rel.label _ damage (rel_rows.rel_at-Some s.records id rel found) (⊎_elim (λ e. inl (sym e)) (λ e. inr (sym e)) which) refl told
+taken_told s id rel found damage (Parted _ mid left told) =
     let live = rel_rows.rel_at-Some s.records id rel found in
-    inl (⊎_elim
+    ⊎_elim
     (λ k. end_link_breaks s id rel damage found (end_link_before s mid id rel.from rel.to damage left k))
     (λ k. ⊎_elim (λ e. subst (IsBroken s) (sym e.0) (stray_broke s mid id left _ live e.1))
-    (λ n. ⊎_elim (λ g. grouped_broke s mid id left rel.from damage g) (λ g. grouped_broke s mid id left rel.to damage g) n) k) told)
-taken_told s t id rel found damage (Undropped _ undropped) = inr undropped
+    (λ n. ⊎_elim (λ g. grouped_broke s mid id left rel.from damage g) (λ g. grouped_broke s mid id left rel.to damage g) n) k) told
+taken_told s id rel found damage (Undropped _ mid left told) = inl (undropped_broke s mid told.0 told.1 (alike_edge s mid id left told.0) told.2 damage told.3)
 
 -- an edge that is found has the row
 pub row_found : (s : State) (id : ℕ) (rel : RelRow) → row_at s.records id ≡ Some rel → HasRow s.records id rel

@@ -1,24 +1,35 @@
 -- What a fault of an entry's call says.
-use Rattle.std.specs.Prelude.{Err}
-use Rattle.std.proofs.Common.{◌≡◌, ◌≢◌, ℕ, ◌<◌, ◌≤◌, Option, None, Some, inl, inr, refl, sym, ap, ◌∙◌, subst, arith}
+use Rattle.std.specs.Prelude.{Err, IfSome, slice_get}
+use Rattle.std.proofs.Common.{◌≡◌, ◌≢◌, ◌⊎◌, ℕ, zero, suc, ◌<◌, ◌≤◌, Option, None, Some, List, [], ◌∷◌, ◌++◌, map, inl, inr, ⊎_elim, refl, sym, ap, ◌∙◌, subst, arith}
+use Rattle.plain_graph.specs.declared.command.Target.{Target}
+use Rattle.plain_graph.specs.declared.command.Target.TheVariants as targets
 use Rattle.plain_graph.specs.declared.value.Value.{Value}
 use Rattle.id_freelist.specs.TakeFault as frees
 use Rattle.id_freelist.specs.declared.take_fault.TakeFault.{TakeFault}
 use Rattle.id_freelist.specs.declared.take_fault.TakeFault.TheVariants as takes
+use Rattle.prop_index.specs.Unwritten.{IfTakeBlames}
 use Rattle.prop_index.specs.Blaming.{BlamesBroken, NamesIndexes, TakeBlamesBroken, TakeNamesIndexes}
 use Rattle.prop_index.specs.Entering.{IsIndexFull, IsNotFull}
+use Rattle.prop_store.specs.FileChange.{IsSameBeside}
+use Rattle.prop_store.specs.Touching.{TouchesProperties, property_keys}
+use Rattle.prop_store.specs.declared.owner.Owner.{Owner}
+use Rattle.rec_bytes.specs.declared.damage.Damage.{Damage}
+use Rattle.rec_bytes.specs.declared.key.Key.{Key}
+use Rattle.rec_bytes.specs.Fault.{damage_of}
 use Rattle.rec_bytes.specs.declared.fault.Fault.{Fault}
 use Rattle.rec_bytes.specs.declared.fault.Fault.TheVariants as faults
 use Rattle.rec_bytes.specs.declared.row_fault.RowFault.{RowFault}
 use Rattle.rec_bytes.specs.declared.row_fault.RowFault.TheVariants as rows
 use Rattle.rec_bytes.specs.Format as format
-use Rattle.rec_bytes.specs.RecordFiles.{room_of}
+use Rattle.rec_bytes.specs.RecordFiles.{meta_key_of, room_of}
 use Rattle.rec_bytes.specs.RowFault as row_faults
-use Rattle.rec_bytes.specs.Space.{State, meta_of}
+use Rattle.rec_bytes.specs.Space.{IsAmong, SameButReads, State, meta_of}
 use Rattle.rec_bytes.specs.declared.shape.Shape.{Shape}
 use Rattle.graph_ops.specs.ChangeFault.{IsFailure, IsOutside, of_fault, of_row, of_take}
-use Rattle.graph_ops.specs.Damage.{BlamesEntry}
-use Rattle.graph_ops.specs.Entries.{IsEntryFault, IsEntryRefusal, IsEntryUndamaged, old_weight, value_weight}
+use Rattle.store_rules.specs.Views.{key_in}
+use Rattle.graph_ops.specs.Damage.{BlamesEntry, BlamesUntouched, IsAsFound, IsOfIndex, LeavesIndexes}
+use Rattle.graph_ops.specs.Owners.{owner_of}
+use Rattle.graph_ops.specs.Entries.{HasMet, HasValue, IsEntryFault, IsEntryRefusal, IsEntryUndamaged, old_weight, value_weight}
 use Rattle.graph_ops.specs.Rooms.{LacksRoom}
 use Rattle.graph_ops.specs.declared.entries.IndexedValue.{IndexedValue}
 use Rattle.graph_ops.specs.declared.change_fault.ChangeFault.{ChangeFault}
@@ -46,6 +57,91 @@ pub fault_blames : (t : State) (fault : Fault) → BlamesBroken t.records t.shap
 fault_blames t faults.Memory broken names = tt
 fault_blames t faults.Disk broken names = tt
 fault_blames t (faults.Damaged damage) broken names = (names, broken)
+
+-- nothing was written before it was blamed
+pub fault_untouched : (s t : State) (fault : Fault) → IfSome (damage_of fault) (λ _. SameButReads s t) → BlamesUntouched s t (of_fault fault)
+fault_untouched s t faults.Memory same = tt
+fault_untouched s t faults.Disk same = tt
+fault_untouched s t (faults.Damaged damage) same = ap (λ (z : State). z.records (key_in damage.file damage.id)) same
+
+pub take_untouched : (s t : State) (fault : TakeFault) → IfTakeBlames (SameButReads s t) fault → BlamesUntouched s t (of_take fault)
+take_untouched s t (takes.Full file live) same = tt
+take_untouched s t takes.Memory same = tt
+take_untouched s t takes.Disk same = tt
+take_untouched s t (takes.Damaged damage) same = ap (λ (z : State). z.records (key_in damage.file damage.id)) same
+
+-- where no entry of an old value left before
+pub held_untouched : (s m t : State) (weight : ℕ) (damage : Damage) → (weight ≡ 0 → m ≡ s) → IsAsFound m t damage → IsAsFound s t damage ⊎ (0 < weight)
+held_untouched s m t zero damage calm found = inl (found ∙ ap (λ (z : State). z.records (key_in damage.file damage.id)) (calm refl))
+held_untouched s m t (suc weight) damage calm found = inr (omega arith)
+
+-- then the element had a value
+pub held_value : (s : State) (target : Target) (names : List (List ℕ)) (number : ℕ) (key : List ℕ) (held : Option IndexedValue) → slice_get names number ≡ Some key → IfSome held (HasMet s target number) → 0 < old_weight held → HasValue s target names key
+held_value s target names number key None named met some = absurd (let z : 0 < 0 = some in omega arith)
+held_value s target names number key (Some held) named met some = by held.value refl
+  where
+    by : (o : Option Value) → held.value ≡ o → HasValue s target names key
+    by None is = absurd (let w = ap value_weight is in omega (arith, w, some))
+    by (Some value) is = record { number = number; named = named; value = value; met = sym met ∙ is }
+
+-- ---- what is changed before
+
+among_others : (file : ℕ) (ids : List ℕ) (rest : List Key) (q : Key) → q.file ≢ file → IsAmong q (map (key_in file) ids ++ rest) → IsAmong q rest
+among_others file [] rest q ne i = i
+among_others file (x ∷ ids) rest q ne (inl e) = absurd (ne (ap (λ (k : Key). k.file) e))
+among_others file (x ∷ ids) rest q ne (inr i) = among_others file ids rest q ne i
+
+-- a record of the indexes, or their meta record, is none of these
+module _ (owner : Owner) (file : (owner.key.file ≡ format.nodes_file) ⊎ (owner.key.file ≡ format.relationships_file)) (damage : Damage) (of : IsOfIndex damage) where
+  other : (f : ℕ) → f ≢ format.index_file → f ≢ format.meta_file → damage.file ≢ f
+  other f a b e = ⊎_elim (λ (i : damage.file ≡ format.index_file). a (sym e ∙ i)) (λ k. b (sym e ∙ k.0)) of
+
+  no_meta : (f : ℕ) → f ≢ format.index_file → key_in damage.file damage.id ≢ meta_key_of f
+  no_meta f a e =
+      let m : damage.file ≡ format.meta_file = ap (λ (k : Key). k.file) e in
+      let i : damage.id ≡ f = ap (λ (k : Key). k.id) e in
+      ⊎_elim (λ (x : damage.file ≡ format.index_file). let z = sym x ∙ m in omega arith) (λ k. a (sym i ∙ k.1)) of
+
+  own : key_in damage.file damage.id ≢ owner.key
+  own e = ⊎_elim
+      (λ (n : owner.key.file ≡ format.nodes_file). other format.nodes_file (λ z. omega arith) (λ z. omega arith) (ap (λ (k : Key). k.file) e ∙ n))
+      (λ (r : owner.key.file ≡ format.relationships_file). other format.relationships_file (λ z. omega arith) (λ z. omega arith) (ap (λ (k : Key). k.file) e ∙ r)) file
+
+  index_apart : (ids blocks : List ℕ) → ¬ IsAmong (key_in damage.file damage.id) (owner.key ∷ property_keys ids blocks)
+  index_apart ids blocks i = ⊎_elim own
+      (λ j. ⊎_elim (no_meta format.properties_file (λ z. omega arith)) (λ k. ⊎_elim (no_meta format.strings_file (λ z. omega arith)) (λ (f : ⊥). f) k)
+      (among_others format.strings_file blocks _ _ (other format.strings_file (λ z. omega arith) (λ z. omega arith))
+      (among_others format.properties_file ids _ _ (other format.properties_file (λ z. omega arith) (λ z. omega arith)) j))) i
+
+pub owner_file : (owner : Owner) (target : Target) → owner ≡ owner_of target → (owner.key.file ≡ format.nodes_file) ⊎ (owner.key.file ≡ format.relationships_file)
+owner_file owner (targets.Node id) is = inl (ap (λ (o : Owner). o.key.file) is)
+owner_file owner (targets.Edge id) is = inr (ap (λ (o : Owner). o.key.file) is)
+
+-- a change of properties leaves it
+pub properties_leave : (tells : Type 0) (properties blocks : ℕ) (s t : State) (owner : Owner) → (owner.key.file ≡ format.nodes_file) ⊎ (owner.key.file ≡ format.relationships_file) → tells → TouchesProperties tells (owner.key ∷ []) properties blocks s t
+    → LeavesIndexes s t
+properties_leave tells properties blocks s t owner file does touches damage of =
+    ⊎_elim (λ e. e) (λ i. absurd (index_apart owner file damage of touches.ids touches.block_ids i)) ((touches.only.stays does).each (key_in damage.file damage.id))
+
+-- so does a record of another file that is made
+pub other_leaves : (s t : State) (file : ℕ) → file ≢ format.index_file → file ≢ format.meta_file → IsSameBeside file s.records t.records → LeavesIndexes s t
+other_leaves s t file a b beside damage of = beside (key_in damage.file damage.id)
+    (λ e. ⊎_elim (λ (i : damage.file ≡ format.index_file). a (sym e ∙ i)) (λ k. b (sym e ∙ k.0)) of)
+    (λ e.
+    let m : damage.file ≡ format.meta_file = ap (λ (k : Key). k.file) e in
+    let i : damage.id ≡ file = ap (λ (k : Key). k.id) e in
+    ⊎_elim (λ (x : damage.file ≡ format.index_file). let z = sym x ∙ m in omega arith) (λ k. a (sym i ∙ k.1)) of)
+
+pub names_leave : (s t : State) → IsSameBeside format.names_file s.records t.records → LeavesIndexes s t
+names_leave s t beside = other_leaves s t format.names_file (λ e. omega arith) (λ e. omega arith) beside
+
+pub reads_leave : (s t : State) → SameButReads s t → LeavesIndexes s t
+reads_leave s t same damage of = ap (λ (z : State). z.records (key_in damage.file damage.id)) same
+
+-- where only the first value of a list comes before no other
+pub first_untouched : (s m t : State) (i count : ℕ) (damage : Damage) → i < count → (i ≡ 0 → m ≡ s) → IsAsFound m t damage → IsAsFound s t damage ⊎ (1 < count)
+first_untouched s m t zero count damage lt same found = inl (found ∙ ap (λ (z : State). z.records (key_in damage.file damage.id)) (same refl))
+first_untouched s m t (suc i) count damage lt same found = inr (omega (arith, lt))
 
 -- a file of the indexes that is full has no room for one more
 full_lacks : (s : State) (file live : ℕ) → IsIndexFull s (takes.Full file live) → LacksRoom s file 1 (Full file live)

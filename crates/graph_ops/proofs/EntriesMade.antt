@@ -192,6 +192,8 @@ pub record IsEntering (tells onward : Type 0) (s t : State) (before now : ℕ) (
       → AreIndexed t.records (with_assigned wanted label node pairs (settled listed label assigned i)) × KeepsStore t × (indexes_of t.records ≡ indexes_of s.records)
   pub counted : tells → (meta_of t format.index_file).live ≤ (meta_of s format.index_file).live + length (indexed_of listed label (take i assigned))
   pub touched : TouchesIndex tells (3 * length (indexed_of listed label (take i assigned))) s t
+  -- nothing was written before the first one
+  pub first : i ≡ 0 → t ≡ s
   pub onward_is : onward
   pub later : before ≤ now
 

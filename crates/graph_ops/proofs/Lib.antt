@@ -9,6 +9,7 @@ pub mod EdgeAdded
 pub mod EdgeBlames
 pub mod EdgeClosed
 pub mod EdgeCuts
+pub mod EdgeDrops
 pub mod EdgeFrames
 pub mod EdgeJoined
 pub mod EdgeLists

@@ -27,6 +27,7 @@ use Rattle.store_rules.proofs.PropertyCounts.{count_blocks, count_properties}
 use Rattle.graph_ops.specs.Assigning.{CanPut, HasPropertyRoom, KeepsLinks, PutsPairs, assigned_blocks, pair_of, pairs_of}
 use Rattle.graph_ops.specs.ChangeFault.{IsOutside, of_set}
 use Rattle.prop_store.specs.Setting.{HarmsNoLists}
+use Rattle.graph_ops.specs.Damage.{LeavesIndexes}
 use Rattle.graph_ops.specs.Owners.{owner_of}
 use Rattle.graph_ops.specs.Entries.{with_assigned}
 use Rattle.graph_ops.specs.Store.{IsMidway, KeepsIndexes, graph_in}
@@ -254,6 +255,7 @@ pub record IsPutting (tells onward : Type 0) (s t : State) (before now : ℕ) (o
   pub indexes : tells → (names : List (List ℕ)) (id : ℕ) → owner ≡ owner_of (targets.Edge id) → CanPut s names (targets.Edge id) pairs assigned → KeepsIndexes s t
   pub shape : tells → t.shape ≡ s.shape
   pub harmless : tells → HarmsNoLists s t
+  pub beside : tells → LeavesIndexes s t
   pub writes : WritesBeside owner.key (i + assigned_blocks pairs (take i assigned)) s t
   pub onward_is : onward
   pub later : before ≤ now

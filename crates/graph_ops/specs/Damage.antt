@@ -6,6 +6,7 @@ use Rattle.rec_bytes.specs.Format as format
 use Rattle.rec_bytes.specs.Space.{State}
 use Rattle.rec_bytes.specs.declared.damage.Damage.{Damage}
 use Rattle.store_rules.specs.Breaking.{BreaksAny}
+use Rattle.store_rules.specs.Views.{key_in}
 use Rattle.graph_ops.specs.declared.change_fault.ChangeFault.{ChangeFault}
 use Rattle.graph_ops.specs.declared.change_fault.ChangeFault.TheVariants.{NoNode, NoEdge}
 use Rattle.graph_ops.specs.declared.change_fault.ChangeFault.TheVariants.{HasRelationships, Full}
@@ -50,19 +51,49 @@ IsEntryDamage t damage = IsOfIndex damage × IsBroken t damage
 abbrev pub BlamesEntry : State → ChangeFault → Type 0
 BlamesEntry t fault = IfBlames (IsEntryDamage t) fault
 
+-- the record that is named is as it was found
+abbrev pub IsAsFound : State → State → Damage → Type 0
+IsAsFound s t damage =
+    t.records (key_in damage.file damage.id) ≡ s.records (key_in damage.file damage.id)
+
+-- so is one that is blamed
+abbrev pub BlamesUntouched : State → State → ChangeFault → Type 0
+BlamesUntouched s t fault = IfBlames (IsAsFound s t) fault
+
+-- the records of the indexes are as they were, and so is their meta record
+abbrev pub LeavesIndexes : State → State → Type 0
+LeavesIndexes s t = (damage : Damage) → IsOfIndex damage → IsAsFound s t damage
+
 -- A record that is blamed where an index is made breaks the rule in the space as it was, or in this
 -- one, where the label and the key are names.
 abbrev pub BlamesMaking : State → State → ChangeFault → Type 0
 BlamesMaking s named fault = IfBlames (λ damage. IsBroken s damage ⊎ IsBroken named damage) fault
 
 -- A record that is blamed where a value is given breaks the rule in the space as it was, or in this
--- one, where the key is a name. Or an entry is changed.
-abbrev pub BlamesGiven : State → State → State → ChangeFault → Type 0
-BlamesGiven s named t fault =
-    IfBlames (λ damage. IsBroken s damage ⊎ (IsBroken named damage ⊎ IsEntryDamage t damage)) fault
+-- one, where the key is a name. Or it is one of the indexes, which are changed last: it breaks the
+-- rule in the space as it is left, and it is as it was found, unless the key had a value, whose
+-- entry may have been taken out before.
+abbrev pub BlamesGiven : State → State → State → Type 0 → ChangeFault → Type 0
+BlamesGiven s named t had fault =
+    IfBlames (λ damage. IsBroken s damage ⊎ (IsBroken named damage
+    ⊎ (IsEntryDamage t damage × (IsAsFound s t damage ⊎ had)))) fault
 
--- One that is blamed where a value is taken away, or a node is added, breaks it in the space as it
--- was. Or it is one of the indexes, which are changed last.
+-- One that is blamed where a value is taken away breaks it in the space as it was. Or it is one of
+-- the indexes, which are changed last: it is as it was found, and breaks it in the space as it is
+-- left.
+abbrev pub BlamesUnset : State → State → ChangeFault → Type 0
+BlamesUnset s t fault =
+    IfBlames (λ damage. IsBroken s damage ⊎ (IsEntryDamage t damage × IsAsFound s t damage)) fault
+
+-- So it is where a node is added. But where the node gets two properties or more, one of the indexes
+-- that is blamed may have been written for an earlier one.
+abbrev pub BlamesAdded : State → State → Type 0 → ChangeFault → Type 0
+BlamesAdded s t several fault =
+    IfBlames (λ damage. IsBroken s damage
+    ⊎ (IsEntryDamage t damage × (IsAsFound s t damage ⊎ several))) fault
+
+-- One that is blamed where a node is deleted breaks it in the space as it was. Or it is one of the
+-- indexes, which are changed last.
 abbrev pub BlamesFound : State → State → ChangeFault → Type 0
 BlamesFound s t fault = IfBlames (λ damage. IsBroken s damage ⊎ IsEntryDamage t damage) fault
 

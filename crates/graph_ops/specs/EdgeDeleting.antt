@@ -1,5 +1,5 @@
 -- An edge that is deleted.
-use Rattle.std.specs.Prelude.{◌≡◌, ◌≢◌, ◌⊎◌, ℕ, ◌+◌, ◌≤◌, ◌∷◌, ◌++◌, List, Some, length}
+use Rattle.std.specs.Prelude.{◌≡◌, ◌≢◌, ◌⊎◌, ℕ, ◌+◌, ◌<◌, ◌≤◌, ◌∷◌, ◌++◌, List, Some, length}
 use Rattle.plain_graph.specs.Graph.{RemovesEdge}
 use Rattle.rec_bytes.specs.declared.damage.Damage.{Damage}
 use Rattle.rec_bytes.specs.declared.key.Key.{Key}
@@ -11,18 +11,25 @@ use Rattle.rec_bytes.specs.Space.{State, WritesOnly, meta_of}
 use Rattle.rel_store.specs.RelRecord.{range_damage, rel_key}
 use Rattle.rel_store.specs.declared.rel_row.RelRow.{RelRow}
 use Rattle.store_rules.specs.Breaking.{HasChains, IsInChain, IsOnChain}
+use Rattle.store_rules.specs.Chains.{In}
 use Rattle.store_rules.specs.Ends.{Regroups}
 use Rattle.store_rules.specs.Graph.{names_of}
 use Rattle.store_rules.specs.PropertyChange.{Apart}
 use Rattle.store_rules.specs.Rules.{Head, KeepsRules, Owns, StandsAt}
 use Rattle.store_rules.specs.Views as views
-use Rattle.store_rules.specs.Views.{Records, degree, group_at, is_group_kind, is_live, kind_at}
+use Rattle.store_rules.specs.Views.{Records, degree, first_link, group_at, is_group_kind}
+use Rattle.store_rules.specs.Views.{is_live, kind_at}
 use Rattle.store_rules.specs.Views.{node_at, rec_at, rel_at}
 use Rattle.store_rules.specs.Writes.{AreOwn, meta_keys}
 use Rattle.chain_edit.specs.Chains.{next_of, prev_of}
 use Rattle.chain_edit.specs.Heads.{head_of}
 use Rattle.chain_edit.specs.Links.{IsLinkDamage}
-use Rattle.group_store.specs.Dropping.{IsDropDamage}
+use Rattle.group_store.specs.Closing.{IsOwnChain}
+use Rattle.group_store.specs.Dropping.{astray_damage}
+use Rattle.group_store.specs.GroupChain.{next_group, previous_group}
+use Rattle.group_store.specs.GroupRecord as group_records
+use Rattle.group_store.specs.Links as links
+use Rattle.group_store.specs.Loading.{HasNoKind, group_mark, group_room, mark_damage}
 use Rattle.group_store.specs.Opening.{IsPlaced, IsSearchDamage, LacksGroupOn, end_damage}
 use Rattle.group_store.specs.Twins.{HasTwin, IsGroupsDamage, IsPartFault}
 use Rattle.group_store.specs.Walking.{chain_damage}
@@ -208,6 +215,18 @@ pub record IsPlacedEdge (records : Records) (id : ℕ) (row : views.RelRow) (end
   pub target : (target_of ends).node ≡ row.to
   pub places : AtEach (HasPlace records row) ends
 
+-- The groups of dense nodes, and how they are linked, are told as they were.
+pub record KeepsGroups (s t : State) : Type 0 where
+  pub shape : t.shape ≡ s.shape
+  pub kinds : (n : ℕ) → kind_at t.records format.nodes_file n
+      ≡ kind_at s.records format.nodes_file n
+  pub first : (n : ℕ) → kind_at s.records format.nodes_file n ≡ format.dense
+      → first_link t.records n ≡ first_link s.records n
+  pub mark : group_mark t ≡ group_mark s
+  pub numbers : (g n at : ℕ) → at + n ≤ format.group_first_out
+      → field n (rec_at t.records format.groups_file g) at
+      ≡ field n (rec_at s.records format.groups_file g) at
+
 -- No record is other but those of properties and blocks, and the meta records of their files. Of
 -- the edge's own the place of its first property is, and of groups the kind and the numbers. Each
 -- group is in use as it was, and of a kind that groups have as it was.
@@ -227,23 +246,40 @@ pub record LeavesEdge (s t : State) (id : ℕ) : Type 0 where
   pub live : (g : ℕ) → is_live t.records format.groups_file g
       ≡ is_live s.records format.groups_file g
 
--- a group of an end isn't dropped, and the record breaks the rule in the space as it is left
-abbrev pub IsUndropped : State → Damage → Type 0
-IsUndropped t damage = (node : ℕ) × (g : ℕ) × (IsDropDamage t node g damage × IsBroken t damage)
+-- The node is dense, and the group is in use at it.
+pub record HasGroup (records : Records) (node g : ℕ) : Type 0 where
+  pub dense : kind_at records format.nodes_file node ≡ format.dense
+  pub row : views.GroupRow
+  pub group : group_at records g ≡ Some row
+  pub owner : row.owner ≡ node
+
+-- The group breaks the rule that it would be dropped by: its record is of no kind, a link of it
+-- leads nowhere, more groups are counted than there is room for, or it is in no chain of groups of
+-- the node alone.
+pub data IsUndropped (s : State) (node g : ℕ) : Damage → Type 0 where
+  NoKind : g < group_mark s → HasNoKind s.records g
+      → IsUndropped s node g (group_records.range_damage g)
+  BadLink : (link : ℕ) → (link ≡ previous_group s.records g) ⊎ (link ≡ next_group s.records g)
+      → (damage : Damage) → links.IsLinkDamage s link (group_records.range_damage g) damage
+      → IsUndropped s node g damage
+  HighMark : group_room s < group_mark s → IsUndropped s node g mark_damage
+  Astray : ((xs : List ℕ) → IsOwnChain s.records node xs → ¬ In g xs)
+      → IsUndropped s node g (astray_damage g)
+
+-- so it is with a group of a dense node
+abbrev pub IsUndroppedDamage : State → Damage → Type 0
+IsUndroppedDamage s damage =
+    (node : ℕ) × (g : ℕ) × HasGroup s.records node g × IsUndropped s node g damage
 
 -- A record that is blamed where an edge that had this row is taken out of its chains. It is found
 -- where its ends are looked for, or where it is taken out, in a space that differs from what it was
--- in no more than properties, blocks and numbers of groups. Or a group of an end isn't dropped.
-pub data IsTakenDamage (s t : State) (id : ℕ) (rel : RelRow) : Damage → Type 0 where
+-- in no more than properties, blocks and numbers of groups. Or a group of an end, which would be
+-- empty then, isn't dropped: it broke the rule in such a space.
+pub data IsTakenDamage (s : State) (id : ℕ) (rel : RelRow) : Damage → Type 0 where
   Sought : (damage : Damage) (node : ℕ) (mid : State) → (node ≡ rel.from) ⊎ (node ≡ rel.to)
       → LeavesEdge s mid id → IsSoughtDamage mid id node rel.label damage
-      → IsTakenDamage s t id rel damage
+      → IsTakenDamage s id rel damage
   Parted : (damage : Damage) (mid : State) → LeavesEdge s mid id
-      → IsPartedDamage mid id rel.from rel.to damage → IsTakenDamage s t id rel damage
-  Undropped : (damage : Damage) → IsUndropped t damage → IsTakenDamage s t id rel damage
-
--- A record that is blamed where an edge is deleted breaks the rule in the space as it was. Or a
--- group of an end isn't dropped, which is told by the space as it is left.
-abbrev pub BlamesDeleting : State → State → ChangeFault → Type 0
-BlamesDeleting s t fault =
-    IfBlames (λ damage. IsBroken s damage ⊎ IsUndropped t damage) fault
+      → IsPartedDamage mid id rel.from rel.to damage → IsTakenDamage s id rel damage
+  Undropped : (damage : Damage) (mid : State) → LeavesEdge s mid id
+      → IsUndroppedDamage mid damage → IsTakenDamage s id rel damage

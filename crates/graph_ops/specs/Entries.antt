@@ -1,7 +1,7 @@
 -- The entries that a change of the values of a node takes out of the indexes and adds to them.
 use Rattle.std.specs.Prelude.{◌≡◌, ℕ, ◌+◌, ◌*◌, ◌≤◌, nat_eq, Bool, true, false, ◌&&◌, ◌||◌, not}
 use Rattle.std.specs.Prelude.{if◌then◌else◌, ◌⊎◌}
-use Rattle.std.specs.Prelude.{Option, None, Some, is_some, List, [], ◌∷◌, length, map}
+use Rattle.std.specs.Prelude.{Option, None, Some, is_some, List, [], ◌∷◌, length, map, slice_get}
 use Rattle.std.specs.List.{filter, list_any, sum_by}
 use Rattle.plain_graph.specs.Properties.{no_properties, with_pairs}
 use Rattle.plain_graph.specs.Changes.{properties_weight}
@@ -13,6 +13,8 @@ use Rattle.prop_index.specs.Entering.{entry_of}
 use Rattle.prop_index.specs.Listing.{pair_of}
 use Rattle.prop_index.specs.Reading.{KeepsStore}
 use Rattle.prop_index.specs.declared.listing.IndexPair.{IndexPair}
+use Rattle.prop_store.specs.Finding.{value_of}
+use Rattle.prop_store.specs.Reading.{properties_met}
 use Rattle.rec_bytes.specs.Format as format
 use Rattle.rec_bytes.specs.Record.{field}
 use Rattle.rec_bytes.specs.RecordFiles.{room_of}
@@ -25,6 +27,7 @@ use Rattle.store_rules.specs.RuleList.{IsSameFile}
 use Rattle.store_rules.specs.Views.{Records, rec_at}
 use Rattle.graph_ops.specs.Assigning.{pair_at}
 use Rattle.graph_ops.specs.ChangeFault.{IsOutside}
+use Rattle.graph_ops.specs.Owners.{owner_of}
 use Rattle.graph_ops.specs.Rooms.{LacksRoom}
 use Rattle.graph_ops.specs.declared.assigning.Assignment.{Assignment}
 use Rattle.graph_ops.specs.declared.change_fault.ChangeFault.{ChangeFault}
@@ -127,6 +130,19 @@ LacksHeld wanted (Some held) value =
 abbrev pub WantsHeld : Entries → Option IndexedValue → Type 0
 WantsHeld wanted None = Unit {0}
 WantsHeld wanted (Some held) = WantsValue wanted held.label held.key held.node held.value
+
+-- the value that was held is that to which the records of the element lead
+abbrev pub HasMet : State → Target → ℕ → IndexedValue → Type 0
+HasMet s target key held =
+    held.value ≡ value_of (properties_met s.records (owner_of target)) key
+
+-- the element has a value of the key, as its records lead to it
+pub record HasValue (s : State) (target : Target) (names : List (List ℕ)) (key : List ℕ) : Type 0
+  where
+    pub number : ℕ
+    pub named : slice_get names number ≡ Some key
+    pub value : Value
+    pub met : value_of (properties_met s.records (owner_of target)) number ≡ Some value
 
 -- ---- what entries weigh
 

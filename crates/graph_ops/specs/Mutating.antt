@@ -12,8 +12,7 @@ use Rattle.rec_bytes.specs.Space.{State}
 use Rattle.store_rules.specs.Writes.{WritesAtMost}
 use Rattle.graph_ops.specs.Causes.{IsStillCaused}
 use Rattle.graph_ops.specs.Change.{full_of}
-use Rattle.graph_ops.specs.Damage.{BlamesFound}
-use Rattle.graph_ops.specs.EdgeDeleting.{BlamesDeleting}
+use Rattle.graph_ops.specs.Damage.{BlamesBroken, BlamesFound}
 use Rattle.graph_ops.specs.Store.{IsStore, graph_in}
 use Rattle.graph_ops.specs.declared.change_fault.ChangeFault.{ChangeFault}
 use Rattle.graph_ops.specs.declared.change_fault.ChangeFault.TheVariants.{NoNode, NoEdge}
@@ -127,4 +126,4 @@ IsListCaused commands t names now fault =
 -- what is so of a record that is blamed where this element is taken away
 abbrev pub BlamesDeletion : State → State → Target → ChangeFault → Type 0
 BlamesDeletion s t (targets.Node id) fault = BlamesFound s t fault
-BlamesDeletion s t (targets.Edge id) fault = BlamesDeleting s t fault
+BlamesDeletion s t (targets.Edge id) fault = BlamesBroken s fault

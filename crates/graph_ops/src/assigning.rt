@@ -35,6 +35,7 @@ ghost use Rattle.graph_ops.specs.Assigning.{
 ghost use Rattle.store_rules.specs.Writes.{WritesAtMost, WritesBeside};
 ghost use Rattle.graph_ops.specs.ChangeFault.{HasChangeCause, IsOutside, MayComeLate};
 ghost use Rattle.graph_ops.specs.Damage.{BlamesBroken, IfBlames, IsOfLists, KeepsButNames};
+ghost use Rattle.graph_ops.specs.Damage.{LeavesIndexes};
 ghost use Rattle.graph_ops.specs.Owners.{owner_of};
 ghost use Rattle.graph_ops.specs.Rooms.{KeepsElementMetas};
 ghost use Rattle.graph_ops.specs.Entries.{GivesValues};
@@ -214,6 +215,8 @@ pub(crate) fn put_properties<S: Space>(
         → owner ≡ owner_of (targets.Node id)
         → CanPut (S.state space.old) names (targets.Node id) pairs.now assigned.now
         → GivesValues (S.state space.old) (S.state space.new) id pairs.now assigned.now) }
+    ensures beside { S.tells → OnOk result
+        (LeavesIndexes (S.state space.old) (S.state space.new)) }
     ensures indexes { S.tells → OnOk result ((names : List (List ℕ)) (id : ℕ)
         → owner ≡ owner_of (targets.Edge id)
         → CanPut (S.state space.old) names (targets.Edge id) pairs.now assigned.now

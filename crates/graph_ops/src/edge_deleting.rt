@@ -21,10 +21,10 @@ ghost use Rattle.graph_ops.specs.Causes.{IsCaused, IsStillCaused};
 ghost use Rattle.graph_ops.specs.Change.{IsRefusal, MakesChange};
 ghost use Rattle.graph_ops.specs.ChangeFault.{HasChangeCause, IsFailure, IsOutside, LeavesSpace};
 ghost use Rattle.graph_ops.specs.Damage.{BlamesBroken, IfBlames};
-ghost use Rattle.graph_ops.specs.EdgeDeleting.{BlamesDeleting, BlamesEnd, FindsEnd, FindsEnds};
+ghost use Rattle.graph_ops.specs.EdgeDeleting.{BlamesEnd, FindsEnd, FindsEnds};
 ghost use Rattle.graph_ops.specs.EdgeDeleting.{HasBareRow, HasPlace, HasRow, IsBareEdge};
 ghost use Rattle.graph_ops.specs.EdgeDeleting.{IsPartedDamage, IsPlacedEdge, IsTakenDamage};
-ghost use Rattle.graph_ops.specs.EdgeDeleting.{IsUndropped, KeepsKinds, LeavesEdge, TakesEdge};
+ghost use Rattle.graph_ops.specs.EdgeDeleting.{IsUndroppedDamage, KeepsKinds, LeavesEdge, TakesEdge};
 ghost use Rattle.graph_ops.specs.EdgeDeleting.{WritesTaken, with_property};
 ghost use Rattle.graph_ops.specs.EdgeEnds.{AreEdgeEnds, AtEach, HasHead, IsEdgeEnd, source_of};
 ghost use Rattle.graph_ops.specs.EdgeEnds.{target_of};
@@ -54,8 +54,7 @@ pub fn delete_edge<S: Space>(space: &mut S, names: &Names, id: u32) -> Result<u3
         (S.state space.old) (S.state space.new) names.now.names names.now.names) }
     ensures still { S.tells → IfErr result (IsStillCaused (commands.Delete (targets.Edge id))
         (S.state space.new) names.now.names names.now.names) }
-    ensures damaged { S.tells → IfErr result
-        (BlamesDeleting (S.state space.old) (S.state space.new)) }
+    ensures damaged { S.tells → IfErr result (BlamesBroken (S.state space.old)) }
     ensures broken { S.tells → IfErr result (BlamesBroken (S.state space.new)) }
     // a dense node stays so, however few relationships it has
     ensures kinds { S.tells → IfOk result (λ _. IsStore (S.state space.old) names.now.names
@@ -88,7 +87,7 @@ fn take_edge<S: Space>(space: &mut S, id: u32, rel: RelRow) -> Result<(), Change
     ensures sound { S.tells → (names : List (List ℕ)) → IsMidway (S.state space.old) names
         → HasBareRow (S.state space.old).records id rel → IfErr result IsOutside }
     ensures damaged { S.tells → HasRow (S.state space.old).records id rel → IfErr result
-        (IfBlames (IsTakenDamage (S.state space.old) (S.state space.new) id rel)) }
+        (IfBlames (IsTakenDamage (S.state space.old) id rel)) }
     ensures still { S.tells → HasRow (S.state space.old).records id rel
         → IfErr result (BlamesBroken (S.state space.new)) }
     ensures writes { WritesBeside (rel_key id) 12 (S.state space.old) (S.state space.new) }
@@ -109,7 +108,7 @@ fn edge_ends<S: Space>(space: &mut S, id: u32, rel: RelRow) -> Result<Ends<EdgeE
     ensures sound { S.tells → (names : List (List ℕ)) → IsMidway (S.state space.old) names
         → HasBareRow (S.state space.old).records id rel → IfErr result IsOutside }
     ensures damaged { S.tells → IfErr result
-        (IfBlames (IsTakenDamage (S.state space.old) (S.state space.new) id rel)) }
+        (IfBlames (IsTakenDamage (S.state space.old) id rel)) }
     ensures still { S.tells → HasRow (S.state space.old).records id rel
         → IfErr result (BlamesBroken (S.state space.new)) }
     ensures counts { S.tells → OnOk result
@@ -216,7 +215,7 @@ fn unlink_edge<S: Space>(space: &mut S, id: u32, ends: Ends<EdgeEnd>) -> Result<
     ensures damaged { S.tells → (row : views.RelRow)
         → IsPlacedEdge (S.state space.old).records id row ends → IfErr result
         (IfBlames (λ damage. IsPartedDamage (S.state space.old) id row.from row.to damage
-        ⊎ IsUndropped (S.state space.new) damage)) }
+        ⊎ IsUndroppedDamage (S.state space.old) damage)) }
     ensures still { S.tells → (row : views.RelRow)
         → IsPlacedEdge (S.state space.old).records id row ends
         → IfErr result (BlamesBroken (S.state space.new)) }

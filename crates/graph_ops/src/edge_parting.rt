@@ -11,7 +11,7 @@ ghost use Rattle.group_store.specs.Leaving.{KeepsHeads};
 ghost use Rattle.graph_ops.specs.ChangeFault.{HasChangeCause, IsFailure, IsOutside};
 ghost use Rattle.graph_ops.specs.Damage.{BlamesBroken, IfBlames};
 ghost use Rattle.graph_ops.specs.EdgeDeleting.{HasPlace, IsBareEdge, IsCutDamage, IsPartedDamage};
-ghost use Rattle.graph_ops.specs.EdgeDeleting.{IsPlacedEdge, PartsEdge, WritesEnds};
+ghost use Rattle.graph_ops.specs.EdgeDeleting.{IsPlacedEdge, KeepsGroups, PartsEdge, WritesEnds};
 ghost use Rattle.graph_ops.specs.EdgeEnds.{AreEdgeEnds, AtEach, HasRightLinks, HaveRightLinks};
 ghost use Rattle.graph_ops.specs.EdgeEnds.{HasHead, IsEdgeEnd, end_keys, end_parted, ends_parted};
 ghost use Rattle.graph_ops.specs.Store.{IsMidway};
@@ -45,6 +45,8 @@ pub(crate) fn part_edge<S: Space>(
         → IfErr result (BlamesBroken (S.state space.new)) }
     ensures heads { S.tells → AtEach (HasHead (S.state space.old).records) ends
         → OnOk result (KeepsHeads (S.state space.old) (S.state space.new)) }
+    ensures groups { S.tells → AtEach (HasHead (S.state space.old).records) ends
+        → OnOk result (KeepsGroups (S.state space.old) (S.state space.new)) }
     ensures writes { WritesEnds (S.state space.old) (S.state space.new) id ends }
     ensures failure { IfErr result IsFailure }
     ensures onward { S.onward space.old space.new }
@@ -72,6 +74,8 @@ fn part_ends<S: Space>(space: &mut S, rel: u32, ends: Ends<EdgeEnd>) -> Result<(
         → IfErr result (BlamesBroken (S.state space.new)) }
     ensures heads { S.tells → AtEach (HasHead (S.state space.old).records) ends
         → OnOk result (KeepsHeads (S.state space.old) (S.state space.new)) }
+    ensures groups { S.tells → AtEach (HasHead (S.state space.old).records) ends
+        → OnOk result (KeepsGroups (S.state space.old) (S.state space.new)) }
     ensures writes { WritesEnds (S.state space.old) (S.state space.new) rel ends }
     ensures failure { IfErr result IsFailure }
     ensures onward { S.onward space.old space.new }
@@ -102,6 +106,8 @@ fn part_end<S: Space>(space: &mut S, rel: u32, end: EdgeEnd) -> Result<(), Chang
         → IfErr result (BlamesBroken (S.state space.new)) }
     ensures heads { S.tells → HasHead (S.state space.old).records end
         → OnOk result (KeepsHeads (S.state space.old) (S.state space.new)) }
+    ensures groups { S.tells → HasHead (S.state space.old).records end
+        → OnOk result (KeepsGroups (S.state space.old) (S.state space.new)) }
     ensures writes { (before after : ℕ) × WritesOnly (S.state space.old) (S.state space.new)
         (rel_key rel ∷ end_keys before after end) }
     ensures failure { IfErr result IsFailure }

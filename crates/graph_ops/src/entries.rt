@@ -1,6 +1,6 @@
 //! The entries that the indexes have of the values of a node.
 
-ghost use Rattle.std.specs.Prelude.{◌≡◌, ◌≢◌, ◌++◌, ◌+◌, ◌*◌, ◌<◌, ◌≤◌, [], IfErr, IfOk};
+ghost use Rattle.std.specs.Prelude.{◌≡◌, ◌≢◌, ◌⊎◌, ◌++◌, ◌+◌, ◌*◌, ◌<◌, ◌≤◌, [], IfErr, IfOk};
 ghost use Rattle.std.specs.Prelude.{IfSome, OnOk, Some, false, true};
 ghost use Rattle.std.specs.Prelude.{length, map};
 ghost use Rattle.plain_graph.specs.Forms.{IsKept};
@@ -21,10 +21,12 @@ ghost use Rattle.store_rules.specs.Views.{high, key_in, rec_at};
 ghost use Rattle.graph_ops.specs.Assigning.{ArePlaced};
 ghost use Rattle.graph_ops.specs.Causes.{IsNodeTarget};
 ghost use Rattle.graph_ops.specs.ChangeFault.{HasChangeCause, IsFailure, IsOutside, MayComeLate};
-ghost use Rattle.graph_ops.specs.Damage.{BlamesBroken, BlamesEntry, IfBlames, IsOfIndex};
+ghost use Rattle.graph_ops.specs.Damage.{BlamesBroken, BlamesEntry, BlamesUntouched, IfBlames};
+ghost use Rattle.graph_ops.specs.Damage.{IsAsFound, IsOfIndex};
 ghost use Rattle.graph_ops.specs.Entries.{
   AreKeysOnce,
   ArePairsOf,
+  HasMet,
   IsEntryFault,
   IsEntryRefusal,
   IsEntryUndamaged,
@@ -163,6 +165,8 @@ pub(crate) fn enter_values<S: Space>(
     ensures touches { TouchesIndex S.tells (3 * length (indexed_of listed.now label assigned.now))
         (S.state space.old) (S.state space.new) }
     ensures blames { S.tells → IfErr result (BlamesEntry (S.state space.new)) }
+    ensures untouched { S.tells → IfErr result (IfBlames (λ damage.
+        IsAsFound (S.state space.old) (S.state space.new) damage ⊎ (1 < length assigned.now))) }
     ensures onward { S.onward space.old space.new }
     ensures cause { HasChangeCause (S.faults space.old) (S.faults space.new) result }
 {
@@ -321,6 +325,8 @@ pub(crate) fn indexed_value<R: Reads>(
         → IfErr result (BlamesBroken (R.state space.old)) }
     ensures of_node { IfOk result (λ held. IfSome held (λ _. IsNodeTarget target)) }
     ensures kept { IfOk result (λ held. IfSome held (λ indexed. IfSome indexed.value IsKept)) }
+    ensures met { R.tells → IfOk result (λ held. IfSome held
+        (HasMet (R.state space.old) target key)) }
     ensures unread { (meta_of (R.state space.old) index_file).live ≡ 0
         → R.state space.new ≡ R.state space.old }
     ensures same { SameButReads (R.state space.old) (R.state space.new) }
@@ -381,6 +387,9 @@ pub(crate) fn change_entry<S: Space>(
         (indexes_of (S.state space.new).records ≡ indexes_of (S.state space.old).records) }
     ensures idle { held.now ≡ None → S.state space.new ≡ S.state space.old }
     ensures blames { S.tells → IfErr result (BlamesEntry (S.state space.new)) }
+    ensures untouched { S.tells → IfErr result (IfBlames (λ damage.
+        IsAsFound (S.state space.old) (S.state space.new) damage
+        ⊎ (0 < old_weight held.now))) }
     ensures onward { S.onward space.old space.new }
     ensures cause { HasChangeCause (S.faults space.old) (S.faults space.new) result }
 {
@@ -426,6 +435,8 @@ pub(crate) fn leave_entry<S: Space>(
     ensures some { IfErr result (λ _. held.now ≢ None) }
     ensures idle { held.now ≡ None → S.state space.new ≡ S.state space.old }
     ensures blames { S.tells → IfErr result (BlamesEntry (S.state space.new)) }
+    ensures untouched { S.tells → IfErr result
+        (BlamesUntouched (S.state space.old) (S.state space.new)) }
     ensures onward { S.onward space.old space.new }
     ensures cause { HasChangeCause (S.faults space.old) (S.faults space.new) result }
 {
@@ -468,6 +479,8 @@ fn leave_held<S: Space>(space: &mut S, held: &IndexedValue) -> Result<u32, Chang
         < (meta_of (S.state space.old) index_file).live) }
     ensures calm { value_weight held.now.value ≡ 0 → S.state space.new ≡ S.state space.old }
     ensures blames { S.tells → IfErr result (BlamesEntry (S.state space.new)) }
+    ensures untouched { S.tells → IfErr result
+        (BlamesUntouched (S.state space.old) (S.state space.new)) }
     ensures onward { S.onward space.old space.new }
     ensures cause { HasChangeCause (S.faults space.old) (S.faults space.new) result }
 {
@@ -511,6 +524,8 @@ fn enter_entry<S: Space>(
         (indexes_of (S.state space.new).records ≡ indexes_of (S.state space.old).records) }
     ensures idle { held.now ≡ None → S.state space.new ≡ S.state space.old }
     ensures blames { S.tells → IfErr result (BlamesEntry (S.state space.new)) }
+    ensures untouched { S.tells → IfErr result
+        (BlamesUntouched (S.state space.old) (S.state space.new)) }
     ensures onward { S.onward space.old space.new }
     ensures cause { HasChangeCause (S.faults space.old) (S.faults space.new) result }
 {

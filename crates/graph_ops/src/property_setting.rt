@@ -11,7 +11,8 @@ ghost use Rattle.store_rules.specs.Writes.{WritesAtMost};
 ghost use Rattle.graph_ops.specs.Causes.{IsCaused, IsStillCaused};
 ghost use Rattle.graph_ops.specs.Change.{IsRefusal, IsSetCount, MakesChange};
 ghost use Rattle.graph_ops.specs.ChangeFault.{HasChangeCause, LeavesSpace};
-ghost use Rattle.graph_ops.specs.Damage.{BlamesGiven, BlamesFound};
+ghost use Rattle.graph_ops.specs.Damage.{BlamesGiven, BlamesUnset};
+ghost use Rattle.graph_ops.specs.Entries.{HasValue};
 ghost use Rattle.graph_ops.specs.Store.{IsStore, graph_in};
 
 use crate::ChangeFault;
@@ -47,7 +48,8 @@ pub fn set<S: Space>(
         names.old.names names.new.names) }
     ensures damaged { S.tells → IfErr result
         (BlamesGiven (S.state space.old)
-        (interned (S.state space.old) names.old.names key.now) (S.state space.new)) }
+        (interned (S.state space.old) names.old.names key.now) (S.state space.new)
+        (HasValue (S.state space.old) target names.new.names key.now)) }
     ensures counts { S.tells → IfErr result (IsSetCount (S.state space.old).shape) }
     ensures names_full { (used : List (List ℕ)) → UsesNames names.old.names (key.now ∷ []) used
         → most_names < length used → IsErr result }
@@ -90,7 +92,7 @@ pub fn unset<S: Space>(
     ensures still { S.tells → IfErr result (IsStillCaused (commands.Unset target key.now)
         (S.state space.new) names.now.names names.now.names) }
     ensures damaged { S.tells
-        → IfErr result (BlamesFound (S.state space.old) (S.state space.new)) }
+        → IfErr result (BlamesUnset (S.state space.old) (S.state space.new)) }
     ensures leaves { IfErr result (LeavesSpace (S.state space.old) (S.state space.new)) }
     ensures light { IfOk result (λ weight. weight + start_weight ≤ most_weight) }
     ensures writes { IfOk result (λ weight.

@@ -24,6 +24,7 @@ use Rattle.graph_ops.specs.Assigning.{IsPutCause, assigned_blocks, pair_at, pair
 use Rattle.graph_ops.specs.ChangeFault.{IsOutside, MayComeLate, of_set}
 use Rattle.graph_ops.specs.declared.assigning.Assignment.{Assignment}
 use Rattle.graph_ops.proofs.Assigned.{pair_form}
+use Rattle.graph_ops.proofs.EntriesFaults.{properties_leave}
 use Rattle.graph_ops.proofs.Exits.{fault_exit, set_late}
 use Rattle.graph_ops.proofs.PairsPut.{added_value, all_put, index_kept, key_fits, key_new, key_there, label_at, label_kept, none_put, put_more, put_outside}
 use Rattle.store_rules.proofs.WriteLaws.{beside_more, beside_then, beside_written, more_written, then_written, this_written}
@@ -46,6 +47,7 @@ loop-assignment-init g c =
       indexes = λ tells names id is can are. are;
       shape = λ tells. refl;
       harmless = λ tells. no_lists_harmed s;
+      beside = λ tells damage of. refl;
       writes = this_written c.args.owner.key s s [] (λ q i. absurd i) (record { each = λ q w. inl w });
       onward_is = g.met.S.Reads.stays_onward c.args.space.now;
       later = omega arith;
@@ -111,6 +113,7 @@ loop-assignment-preserved g c =
           λ are. properties_keep t u t.shape format.relationships_file id sets.changes.before sets.changes.after sets.changes.changes refl put.store.store (inv.indexes tells names id is can are);
       shape = λ tells. (g.met.S.Reads.onward_shape _ _ c.add.ensures.onward) ∙ inv.shape tells;
       harmless = λ tells. no_lists_then s t u (inv.harmless tells) (c.in_ok-add.ensures.harmless tells);
+      beside = λ tells damage of. properties_leave g.S.Reads.tells _ _ t u c.args.owner c.requires.owner.file tells c.add.ensures.touches damage of ∙ inv.beside tells damage of;
       writes =
           let more = sum_by_more (λ (a : Assignment). blocks_of (pair_at pairs a.pair).value) assigned i (record { key = 0; pair = 0 }) c.loop-assignment-test.true in
           let same = ap blocks_of (value_is g at) in

@@ -1,4 +1,4 @@
-use Rattle.std.proofs.Common.{◌≡◌, ◌∙◌, ◌+◌, ℕ, Some, List, [], ◌∷◌, sym, ap, subst, inl, arith, refl, rules}
+use Rattle.std.proofs.Common.{◌≡◌, ◌∙◌, ◌+◌, ℕ, Some, List, [], ◌∷◌, sym, ap, subst, arith, refl, rules}
 use Rattle.plain_graph.specs.Refusals.{change_reasons}
 use Rattle.plain_graph.specs.declared.command.Command.TheVariants as commands
 use Rattle.plain_graph.specs.declared.command.Target.TheVariants as targets
@@ -14,7 +14,7 @@ use Rattle.rel_store.specs.RelRecord.{rel_key}
 use Rattle.store_rules.specs.Writes.{WritesAtMost, WritesBeside}
 use Rattle.graph_ops.specs.Change.{IsRefusal}
 use Rattle.graph_ops.specs.ChangeFault.{LeavesSpace, of_fault, of_row}
-use Rattle.graph_ops.specs.EdgeDeleting.{BlamesDeleting, HasBareRow}
+use Rattle.graph_ops.specs.EdgeDeleting.{HasBareRow}
 use Rattle.graph_ops.specs.Store.{IsMidway, graph_in}
 use Rattle.graph_ops.proofs.KeptIndexes.{midway}
 use Rattle.graph_ops.proofs.Deleting.{edge_element, edge_lacked, edge_made, left_bare, left_store}
@@ -213,20 +213,18 @@ returns-in_err-take_edge-clause-cause g c =
 pub returns-in_err-rel-clause-damaged : goal.returns-in_err-rel-clause-damaged
 returns-in_err-rel-clause-damaged g c tells =
     let s = g.S.Reads.state c.args.space.now in
-    let v = g.S.Reads.state c.load.new.space in
-    fault_exit of_row (BlamesDeleting s v) c.in_err-rel.field-0.0 c.from_residual.result c.from_residual.ensures.1
-    (blames_more _ _ (λ damage told. inl told) (of_row c.in_err-rel.field-0.0) (rel_broken s c.args.id c.in_err-rel.field-0.0 (c.in_err-rel.ensures.damaged tells)))
+    fault_exit of_row (BlamesBroken s) c.in_err-rel.field-0.0 c.from_residual.result c.from_residual.ensures.1
+    (rel_broken s c.args.id c.in_err-rel.field-0.0 (c.in_err-rel.ensures.damaged tells))
 
 pub returns-in_err-dropped-clause-damaged : goal.returns-in_err-dropped-clause-damaged
 returns-in_err-dropped-clause-damaged g c tells =
     let s = g.S.Reads.state c.args.space.now in
     let v = g.S.Reads.state c.load.new.space in
-    let u = g.S.Reads.state c.drop_all.new.space in
     let at = (goal.at.returns-in_err-dropped-clause-damaged g c).After-drop_all in
     let same = was_read g at in
     let used = rel_in_use s (targets.Edge c.args.id) c.args.id c.in-Some.rel refl (found g at tells) in
-    fault_exit of_fault (BlamesDeleting s u) c.in_err-dropped.field-0.0 c.from_residual-in_err-dropped.result c.from_residual-in_err-dropped.ensures.1
-    (drop_blamed s v u same c.in_err-dropped.field-0.0
+    fault_exit of_fault (BlamesBroken s) c.in_err-dropped.field-0.0 c.from_residual-in_err-dropped.result c.from_residual-in_err-dropped.ensures.1
+    (drop_blamed s v same c.in_err-dropped.field-0.0
     (c.in_err-dropped.ensures.damaged tells (subst (IsInUse v.records) (sym c.edge_owner.ensures) (subst (λ (z : State). IsInUse z.records (owner_of (targets.Edge c.args.id))) (sym same) used))))
 
 pub returns-in_err-take_edge-clause-damaged : goal.returns-in_err-take_edge-clause-damaged
@@ -234,15 +232,14 @@ returns-in_err-take_edge-clause-damaged g c tells =
     let s = g.S.Reads.state c.args.space.now in
     let v = g.S.Reads.state c.load.new.space in
     let w = g.S.Reads.state c.drop_all.new.space in
-    let t = g.S.Reads.state c.take_edge.new.space in
     let at = (goal.at.After-take_edge g (goal.at.returns-in_err-take_edge-clause-damaged g c).After-take_edge).After-drop_all in
     let id = c.args.id in
     let rel = c.in-Some.rel in
     let row = sym (found g at tells) in
     let left = edge_then s v w id (edge_read s v id (was_read g at)) (edge_left v w id (g.met.S.Reads.onward_shape _ _ c.drop_all.ensures.onward)
     (subst (LeavesElement v w) c.edge_owner.ensures (c.drop_all.ensures.leaves tells))) in
-    fault_exit (λ f. f) (BlamesDeleting s t) c.in_err-take_edge.field-0.0 c.from_residual-in_err-take_edge.result c.from_residual-in_err-take_edge.ensures.1
-    (blames_more _ _ (λ damage told. taken_told s t id rel row damage (taken_before s w t id rel left damage told))
+    fault_exit (λ f. f) (BlamesBroken s) c.in_err-take_edge.field-0.0 c.from_residual-in_err-take_edge.result c.from_residual-in_err-take_edge.ensures.1
+    (blames_more _ _ (λ damage told. taken_told s id rel row damage (taken_before s w id rel left damage told))
     c.in_err-take_edge.field-0.0 (c.in_err-take_edge.ensures.damaged tells (row_later s w id left rel (row_found s id rel row))))
 
 -- ---- and by the space as it is left alone

@@ -71,19 +71,17 @@ returns-in_err-target-clause-cause g c =
 pub returns-in_err-source-clause-damaged : goal.returns-in_err-source-clause-damaged
 returns-in_err-source-clause-damaged g c tells =
     let s = g.S.Reads.state c.args.space.now in
-    let t = g.S.Reads.state c.edge_end.new.space in
     let fault = c.in_err-source.field-0.0 in
-    fault_exit (λ f. f) (IfBlames (IsTakenDamage s t c.args.id c.args.rel)) fault c.from_residual.result c.from_residual.ensures.1
-    (blames_more _ _ (end_taken s s t c.args.id c.args.rel c.args.rel.from (inl refl) (edge_none s c.args.id)) fault (c.in_err-source.ensures.damaged tells))
+    fault_exit (λ f. f) (IfBlames (IsTakenDamage s c.args.id c.args.rel)) fault c.from_residual.result c.from_residual.ensures.1
+    (blames_more _ _ (end_taken s s c.args.id c.args.rel c.args.rel.from (inl refl) (edge_none s c.args.id)) fault (c.in_err-source.ensures.damaged tells))
 
 pub returns-in_err-target-clause-damaged : goal.returns-in_err-target-clause-damaged
 returns-in_err-target-clause-damaged g c tells =
     let s = g.S.Reads.state c.args.space.now in
     let m = g.S.Reads.state c.edge_end.new.space in
-    let t = g.S.Reads.state c.edge_end-2.new.space in
     let fault = c.in_err-target.field-0.0 in
-    fault_exit (λ f. f) (IfBlames (IsTakenDamage s t c.args.id c.args.rel)) fault c.from_residual-in_err-target.result c.from_residual-in_err-target.ensures.1
-    (blames_more _ _ (end_taken s m t c.args.id c.args.rel c.args.rel.to (inr refl) (edge_counted s m c.args.id (g.met.S.Reads.onward_shape _ _ c.edge_end.ensures.onward) (c.in_ok-source.ensures.counts tells))) fault (c.in_err-target.ensures.damaged tells))
+    fault_exit (λ f. f) (IfBlames (IsTakenDamage s c.args.id c.args.rel)) fault c.from_residual-in_err-target.result c.from_residual-in_err-target.ensures.1
+    (blames_more _ _ (end_taken s m c.args.id c.args.rel c.args.rel.to (inr refl) (edge_counted s m c.args.id (g.met.S.Reads.onward_shape _ _ c.edge_end.ensures.onward) (c.in_ok-source.ensures.counts tells))) fault (c.in_err-target.ensures.damaged tells))
 
 pub returns-then-rel-clause-heads : goal.returns-then-rel-clause-heads
 returns-then-rel-clause-heads g c tells = c.in_ok-source.ensures.has tells

@@ -44,19 +44,17 @@ returns-clause-writes g c =
 pub returns-in_err-ends-clause-damaged : goal.returns-in_err-ends-clause-damaged
 returns-in_err-ends-clause-damaged g c tells has =
     let s = g.S.Reads.state c.args.space.now in
-    let t = g.S.Reads.state c.edge_ends.new.space in
-    fault_exit (λ f. f) (IfBlames (IsTakenDamage s t c.args.id c.args.rel)) c.in_err-ends.field-0.0 c.from_residual.result c.from_residual.ensures.1 (c.in_err-ends.ensures.damaged tells)
+    fault_exit (λ f. f) (IfBlames (IsTakenDamage s c.args.id c.args.rel)) c.in_err-ends.field-0.0 c.from_residual.result c.from_residual.ensures.1 (c.in_err-ends.ensures.damaged tells)
 
 pub returns-clause-damaged : goal.returns-clause-damaged
 returns-clause-damaged g c tells has =
     let s = g.S.Reads.state c.args.space.now in
     let m = g.S.Reads.state c.edge_ends.new.space in
-    let t = g.S.Reads.state c.unlink_edge.new.space in
     let left = c.in_ok-ends.ensures.counts tells in
     let now = row_later s m c.args.id left c.args.rel has in
     let row = with_property c.args.id c.args.rel now.0 in
-    if_blames c.unlink_edge.result _ (IsTakenDamage s t c.args.id c.args.rel)
-    (λ damage told. ⊎_elim (λ k. Parted damage m left k) (λ k. Undropped damage k) told)
+    if_blames c.unlink_edge.result _ (IsTakenDamage s c.args.id c.args.rel)
+    (λ damage told. ⊎_elim (λ k. Parted damage m left k) (λ k. Undropped damage m left k) told)
     (c.unlink_edge.ensures.damaged tells row (record { live = now.1; source = c.in_ok-ends.ensures.nodes.0; target = c.in_ok-ends.ensures.nodes.1; places = c.in_ok-ends.ensures.placed tells now.0 }))
 
 -- ---- in the space as it is left

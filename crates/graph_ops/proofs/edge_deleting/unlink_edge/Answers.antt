@@ -2,13 +2,13 @@ use Rattle.std.proofs.Common.{◌≢◌, ◌⊎◌, inl, inr, refl, subst, sym, 
 use Rattle.chain_edit.specs.Heads.{head_of}
 use Rattle.graph_ops.specs.ChangeFault.{IsOutside, of_fault}
 use Rattle.graph_ops.specs.Damage.{BlamesBroken, IfBlames}
-use Rattle.graph_ops.specs.EdgeDeleting.{IsBareEdge, IsPartedDamage, IsUndropped, PartsEdge, WritesEnds, WritesTaken}
+use Rattle.graph_ops.specs.EdgeDeleting.{IsBareEdge, IsPartedDamage, IsUndroppedDamage, PartsEdge, WritesEnds, WritesTaken}
 use Rattle.graph_ops.specs.EdgeEnds.{AreApart, AtEach, HasHead}
 use Rattle.graph_ops.specs.declared.edge_end.EdgeEnd.{EdgeEnd}
 use Rattle.graph_ops.specs.declared.edge_end.Ends.TheVariants.{Loop, Two}
 use Rattle.graph_ops.proofs.Broken.{blames_more, break_left}
 use Rattle.graph_ops.proofs.DiskCauses.{fault_cause_passed, later_on}
-use Rattle.graph_ops.proofs.EdgeBlames.{close_blamed}
+use Rattle.graph_ops.proofs.EdgeDrops.{close_blamed, later_blamed}
 use Rattle.graph_ops.proofs.EdgeCuts.{placed_heads}
 use Rattle.graph_ops.proofs.EdgeClosed.{loop_taken, pair_taken, source_closes, target_closes}
 use Rattle.graph_ops.proofs.EndWrites.{ends_taken, source_taken, target_taken}
@@ -135,54 +135,54 @@ returns-in_err-close_chain-in-Two-2-clause-cause g c =
 pub returns-in_err-part_edge-clause-damaged : goal.returns-in_err-part_edge-clause-damaged
 returns-in_err-part_edge-clause-damaged g c tells row edge =
     let s = g.S.Reads.state c.args.space.now in
-    let u = g.S.Reads.state c.part_edge.new.space in
-    fault_exit (λ f. f) (IfBlames (λ damage. IsPartedDamage s c.args.id row.from row.to damage ⊎ IsUndropped u damage)) c.in_err-part_edge.field-0.0 c.from_residual.result c.from_residual.ensures.1
+    fault_exit (λ f. f) (IfBlames (λ damage. IsPartedDamage s c.args.id row.from row.to damage ⊎ IsUndroppedDamage s damage)) c.in_err-part_edge.field-0.0 c.from_residual.result c.from_residual.ensures.1
     (blames_more _ _ (λ damage told. inl told) c.in_err-part_edge.field-0.0 (c.in_err-part_edge.ensures.damaged tells row edge))
 
 pub returns-in_err-close_chain-in-Loop-clause-damaged : goal.returns-in_err-close_chain-in-Loop-clause-damaged
 returns-in_err-close_chain-in-Loop-clause-damaged g c tells row edge =
     let s = g.S.Reads.state c.args.space.now in
     let u = g.S.Reads.state c.part_edge.new.space in
-    let v = g.S.Reads.state c.close_chain.new.space in
     let end = c.in-Loop.end in
     let heads = placed_heads s.records row c.args.ends edge.places in
-    let now = c.in_ok-part_edge.ensures.heads tells heads (head_of end.head) end.node (subst (AtEach (HasHead s.records)) c.in-Loop.is heads) in
+    let was = subst (AtEach (HasHead s.records)) c.in-Loop.is heads in
+    let now = c.in_ok-part_edge.ensures.heads tells heads (head_of end.head) end.node was in
     let fault = c.in_err-close_chain-in-Loop.field-0.0 in
     let told = c.in_err-close_chain-in-Loop.ensures in
-    fault_exit of_fault (IfBlames (λ damage. IsPartedDamage s c.args.id row.from row.to damage ⊎ IsUndropped v damage)) fault c.from_residual-in_err-close_chain-in-Loop.result c.from_residual-in_err-close_chain-in-Loop.ensures.1
-    (blames_more _ _ (λ damage told. inr told) (of_fault fault) (close_blamed u v end.node end.head.key.id fault (told.damaged tells) (told.breaks tells now) told.unwritten))
+    fault_exit of_fault (IfBlames (λ damage. IsPartedDamage s c.args.id row.from row.to damage ⊎ IsUndroppedDamage s damage)) fault c.from_residual-in_err-close_chain-in-Loop.result c.from_residual-in_err-close_chain-in-Loop.ensures.1
+    (blames_more _ _ (λ damage told. inr told) (of_fault fault) (close_blamed s u (head_of end.head) end.node (c.in_ok-part_edge.ensures.groups tells heads) was now told.grouped fault (told.damaged tells)))
 
 pub returns-in_err-close_chain-in-Two-clause-damaged : goal.returns-in_err-close_chain-in-Two-clause-damaged
 returns-in_err-close_chain-in-Two-clause-damaged g c tells row edge =
     let s = g.S.Reads.state c.args.space.now in
     let u = g.S.Reads.state c.part_edge.new.space in
-    let v = g.S.Reads.state c.close_chain-in-Two.new.space in
     let end = c.in-Two.source in
     let heads = placed_heads s.records row c.args.ends edge.places in
     let has = subst (AtEach (HasHead s.records)) c.in-Two.is heads in
     let now = c.in_ok-part_edge.ensures.heads tells heads (head_of end.head) end.node has.0 in
     let fault = c.in_err-close_chain-in-Two.field-0.0 in
     let told = c.in_err-close_chain-in-Two.ensures in
-    fault_exit of_fault (IfBlames (λ damage. IsPartedDamage s c.args.id row.from row.to damage ⊎ IsUndropped v damage)) fault c.from_residual-in_err-close_chain-in-Two.result c.from_residual-in_err-close_chain-in-Two.ensures.1
-    (blames_more _ _ (λ damage told. inr told) (of_fault fault) (close_blamed u v end.node end.head.key.id fault (told.damaged tells) (told.breaks tells now) told.unwritten))
+    fault_exit of_fault (IfBlames (λ damage. IsPartedDamage s c.args.id row.from row.to damage ⊎ IsUndroppedDamage s damage)) fault c.from_residual-in_err-close_chain-in-Two.result c.from_residual-in_err-close_chain-in-Two.ensures.1
+    (blames_more _ _ (λ damage told. inr told) (of_fault fault) (close_blamed s u (head_of end.head) end.node (c.in_ok-part_edge.ensures.groups tells heads) has.0 now told.grouped fault (told.damaged tells)))
 
 pub returns-in_err-close_chain-in-Two-2-clause-damaged : goal.returns-in_err-close_chain-in-Two-2-clause-damaged
 returns-in_err-close_chain-in-Two-2-clause-damaged g c tells row edge =
     let s = g.S.Reads.state c.args.space.now in
+    let u = g.S.Reads.state c.part_edge.new.space in
     let v = g.S.Reads.state c.close_chain-in-Two.new.space in
-    let w = g.S.Reads.state c.close_chain-in-Two-2.new.space in
     let source = c.in-Two.source in
     let end = c.in-Two.target in
     let differ : source.node ≢ end.node = subst (AreApart (λ (end : EdgeEnd). end.node)) c.in-Two.is c.requires.ends.apart in
     let heads = placed_heads s.records row c.args.ends edge.places in
     let has = subst (AtEach (HasHead s.records)) c.in-Two.is heads in
     let kept = c.in_ok-part_edge.ensures.heads tells heads in
-    let others = c.in_ok-close_chain-in-Two.ensures.heads tells (kept (head_of source.head) source.node has.0) in
-    let now = others (head_of end.head) end.node (λ e. differ (sym e)) (kept (head_of end.head) end.node has.1) in
+    let first = kept (head_of source.head) source.node has.0 in
+    let mid = kept (head_of end.head) end.node has.1 in
+    let now = c.in_ok-close_chain-in-Two.ensures.heads tells first (head_of end.head) end.node (λ e. differ (sym e)) mid in
     let fault = c.in_err-close_chain-in-Two-2.field-0.0 in
     let told = c.in_err-close_chain-in-Two-2.ensures in
-    fault_exit of_fault (IfBlames (λ damage. IsPartedDamage s c.args.id row.from row.to damage ⊎ IsUndropped w damage)) fault c.from_residual-in_err-close_chain-in-Two-2.result c.from_residual-in_err-close_chain-in-Two-2.ensures.1
-    (blames_more _ _ (λ damage told. inr told) (of_fault fault) (close_blamed v w end.node end.head.key.id fault (told.damaged tells) (told.breaks tells now) told.unwritten))
+    fault_exit of_fault (IfBlames (λ damage. IsPartedDamage s c.args.id row.from row.to damage ⊎ IsUndroppedDamage s damage)) fault c.from_residual-in_err-close_chain-in-Two-2.result c.from_residual-in_err-close_chain-in-Two-2.ensures.1
+    (blames_more _ _ (λ damage told. inr told) (of_fault fault) (later_blamed s u v (head_of end.head) source.node end.node (c.in_ok-part_edge.ensures.groups tells heads) (c.in_ok-close_chain-in-Two.ensures.others tells first)
+    (λ e. differ (sym e)) has.1 mid now told.grouped fault (told.damaged tells)))
 
 -- ---- in the space as it is left
 pub returns-in_err-part_edge-clause-still : goal.returns-in_err-part_edge-clause-still

@@ -8,7 +8,7 @@ use Rattle.graph_ops.specs.Damage.{BlamesBroken, IfBlames}
 use Rattle.graph_ops.specs.EdgeDeleting.{IsPartedDamage}
 use Rattle.group_store.proofs.KeptHeads.{heads_then}
 use Rattle.graph_ops.proofs.Adding.{space_blamed}
-use Rattle.graph_ops.proofs.EdgeBlames.{heads_given}
+use Rattle.graph_ops.proofs.EdgeBlames.{groups_given, groups_then, heads_given}
 use Rattle.rec_bytes.proofs.Causes.{never_ok, ok_cause}
 use Rattle.graph_ops.proofs.edge_parting.part_edge.Goals as goal
 
@@ -53,6 +53,13 @@ returns-clause-heads g c tells heads =
     let t = g.S.Reads.state c.give.new.space in
     heads_then s u t (c.in_ok-part_ends.ensures.heads tells heads) (heads_given u t c.args.id (c.give.ensures.stays tells))
 
+pub returns-clause-groups : goal.returns-clause-groups
+returns-clause-groups g c tells heads =
+    let s = g.S.Reads.state c.args.space.now in
+    let u = g.S.Reads.state c.part_ends.new.space in
+    let t = g.S.Reads.state c.give.new.space in
+    groups_then s u t (c.in_ok-part_ends.ensures.groups tells heads) (groups_given u t c.args.id (g.met.S.Reads.onward_shape _ _ c.give.ensures.onward) (c.give.ensures.stays tells))
+
 -- ---- in the space as it is left
 pub returns-in_err-part_ends-clause-still : goal.returns-in_err-part_ends-clause-still
 returns-in_err-part_ends-clause-still g c tells row edge =
@@ -68,6 +75,9 @@ returns-in_err-part_ends-clause-parted g c _ = never_ok c.from_residual.result _
 pub returns-in_err-part_ends-clause-heads : goal.returns-in_err-part_ends-clause-heads
 returns-in_err-part_ends-clause-heads g c _ _ = never_ok c.from_residual.result _ _ c.from_residual.ensures.1
 
+pub returns-in_err-part_ends-clause-groups : goal.returns-in_err-part_ends-clause-groups
+returns-in_err-part_ends-clause-groups g c _ _ = never_ok c.from_residual.result _ _ c.from_residual.ensures.1
+
 pub returns-in_err-part_ends-clause-onward : goal.returns-in_err-part_ends-clause-onward
 returns-in_err-part_ends-clause-onward g c = search rules
 
@@ -76,6 +86,9 @@ returns-in_err-give-clause-parted g c _ = never_ok c.from_residual-in_err-give.r
 
 pub returns-in_err-give-clause-heads : goal.returns-in_err-give-clause-heads
 returns-in_err-give-clause-heads g c _ _ = never_ok c.from_residual-in_err-give.result _ _ c.from_residual-in_err-give.ensures.1
+
+pub returns-in_err-give-clause-groups : goal.returns-in_err-give-clause-groups
+returns-in_err-give-clause-groups g c _ _ = never_ok c.from_residual-in_err-give.result _ _ c.from_residual-in_err-give.ensures.1
 
 pub returns-clause-cause : goal.returns-clause-cause
 returns-clause-cause g c = ok_cause _ _ _ _ (later_on c.in_ok-part_ends.ensures.cause.later c.in_ok-give.ensures.cause.later)

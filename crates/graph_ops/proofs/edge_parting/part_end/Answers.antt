@@ -5,7 +5,7 @@ use Rattle.chain_edit.specs.Heads.{head_of}
 use Rattle.graph_ops.specs.ChangeFault.{IsOutside, of_fault, of_space}
 use Rattle.graph_ops.specs.Damage.{IfBlames}
 use Rattle.graph_ops.proofs.Adding.{space_blamed}
-use Rattle.graph_ops.proofs.EdgeBlames.{heads_parted_by}
+use Rattle.graph_ops.proofs.EdgeBlames.{groups_parted_by, heads_parted_by}
 use Rattle.graph_ops.proofs.EdgeCuts.{cut_blamed}
 use Rattle.graph_ops.proofs.Exits.{fault_exit, fault_outside}
 use Rattle.graph_ops.specs.EdgeDeleting.{IsCutDamage}
@@ -45,6 +45,11 @@ returns-clause-heads g c tells owns =
     heads_parted_by (g.S.Reads.state c.args.space.now) (head_of c.args.end.head) c.args.end.node owns c.args.rel _
     (g.S.Reads.state c.unlink_counted.new.space) (g.S.Reads.state c.set_number.new.space) (c.in_ok-unlink_counted.ensures.ok tells) (c.in_ok-set_number.ensures.ok tells)
 
+pub returns-clause-groups : goal.returns-clause-groups
+returns-clause-groups g c tells owns =
+    groups_parted_by (g.S.Reads.state c.args.space.now) (head_of c.args.end.head) c.args.end.node owns c.args.rel _
+    (g.S.Reads.state c.unlink_counted.new.space) (g.S.Reads.state c.set_number.new.space) (c.in_ok-unlink_counted.ensures.ok tells) (c.in_ok-set_number.ensures.ok tells)
+
 -- ---- in the space as it is left
 pub returns-in_err-unlink_counted-clause-still : goal.returns-in_err-unlink_counted-clause-still
 returns-in_err-unlink_counted-clause-still g c tells row live place =
@@ -64,6 +69,9 @@ returns-in_err-unlink_counted-clause-ok g c _ = never_ok c.from_residual.result 
 pub returns-in_err-unlink_counted-clause-heads : goal.returns-in_err-unlink_counted-clause-heads
 returns-in_err-unlink_counted-clause-heads g c _ _ = never_ok c.from_residual.result _ _ c.from_residual.ensures.1
 
+pub returns-in_err-unlink_counted-clause-groups : goal.returns-in_err-unlink_counted-clause-groups
+returns-in_err-unlink_counted-clause-groups g c _ _ = never_ok c.from_residual.result _ _ c.from_residual.ensures.1
+
 pub returns-in_err-unlink_counted-clause-onward : goal.returns-in_err-unlink_counted-clause-onward
 returns-in_err-unlink_counted-clause-onward g c = search rules
 
@@ -72,6 +80,9 @@ returns-in_err-set_number-clause-ok g c _ = never_ok c.from_residual-in_err-set_
 
 pub returns-in_err-set_number-clause-heads : goal.returns-in_err-set_number-clause-heads
 returns-in_err-set_number-clause-heads g c _ _ = never_ok c.from_residual-in_err-set_number.result _ _ c.from_residual-in_err-set_number.ensures.1
+
+pub returns-in_err-set_number-clause-groups : goal.returns-in_err-set_number-clause-groups
+returns-in_err-set_number-clause-groups g c _ _ = never_ok c.from_residual-in_err-set_number.result _ _ c.from_residual-in_err-set_number.ensures.1
 
 pub returns-clause-cause : goal.returns-clause-cause
 returns-clause-cause g c = ok_cause _ _ _ _ (later_on c.in_ok-unlink_counted.ensures.cause.later c.in_ok-set_number.ensures.cause.later)

@@ -8,7 +8,7 @@ use Rattle.graph_ops.specs.declared.edge_end.EdgeEnd.{EdgeEnd}
 use Rattle.graph_ops.specs.declared.edge_end.Ends.{Ends}
 use Rattle.graph_ops.specs.declared.edge_end.Ends.TheVariants.{Loop, Two}
 use Rattle.std.specs.Prelude.{IfErr}
-use Rattle.graph_ops.proofs.EdgeBlames.{if_blames}
+use Rattle.graph_ops.proofs.EdgeBlames.{groups_then, if_blames}
 use Rattle.graph_ops.proofs.Broken.{blames_more}
 use Rattle.graph_ops.proofs.EdgeCuts.{place_later, source_cut, target_cut}
 use Rattle.graph_ops.proofs.EndWrites.{ends_written}
@@ -58,6 +58,16 @@ returns-in_ok-part_end-in-Two-clause-heads g c tells heads =
     let first = c.in_ok-part_end-in-Two.ensures.heads tells has.0 in
     on_ok c.part_end-in-Two-2.result _ _ (λ second. heads_then s u t first second) (c.part_end-in-Two-2.ensures.heads tells (first (head_of c.in-Two.target.head) c.in-Two.target.node has.1))
 
+pub returns-in_ok-part_end-in-Two-clause-groups : goal.returns-in_ok-part_end-in-Two-clause-groups
+returns-in_ok-part_end-in-Two-clause-groups g c tells heads =
+    let s = g.S.Reads.state c.args.space.now in
+    let u = g.S.Reads.state c.part_end-in-Two.new.space in
+    let t = g.S.Reads.state c.part_end-in-Two-2.new.space in
+    let has = subst (AtEach (HasHead s.records)) c.in-Two.is heads in
+    let first = c.in_ok-part_end-in-Two.ensures.heads tells has.0 in
+    on_ok c.part_end-in-Two-2.result _ _ (λ second. groups_then s u t (c.in_ok-part_end-in-Two.ensures.groups tells has.0) second)
+    (c.part_end-in-Two-2.ensures.groups tells (first (head_of c.in-Two.target.head) c.in-Two.target.node has.1))
+
 -- ---- in the space as it is left
 pub returns-in-Loop-clause-still : goal.returns-in-Loop-clause-still
 returns-in-Loop-clause-still g c tells row edge =
@@ -84,6 +94,9 @@ returns-in_err-part_end-in-Two-clause-ok g c _ = never_ok c.from_residual.result
 
 pub returns-in_err-part_end-in-Two-clause-heads : goal.returns-in_err-part_end-in-Two-clause-heads
 returns-in_err-part_end-in-Two-clause-heads g c _ _ = never_ok c.from_residual.result _ _ c.from_residual.ensures.1
+
+pub returns-in_err-part_end-in-Two-clause-groups : goal.returns-in_err-part_end-in-Two-clause-groups
+returns-in_err-part_end-in-Two-clause-groups g c _ _ = never_ok c.from_residual.result _ _ c.from_residual.ensures.1
 
 pub returns-in_err-part_end-in-Two-clause-onward : goal.returns-in_err-part_end-in-Two-clause-onward
 returns-in_err-part_end-in-Two-clause-onward g c = search rules

@@ -1,5 +1,5 @@
 use Rattle.std.specs.Prelude.{IfSome, Option}
-use Rattle.std.proofs.Common.{◌≡◌, ◌+◌, ◌<◌, ℕ, true, false, None, Some, inl, map, ◌∙◌, subst, arith}
+use Rattle.std.proofs.Common.{◌≡◌, ◌⊎◌, ◌+◌, ◌<◌, ℕ, true, false, None, Some, inl, map, ◌∙◌, subst, arith}
 use Rattle.plain_graph.specs.declared.value.Value.{Value}
 use Rattle.prop_index.specs.Listing.{pair_of}
 use Rattle.rec_bytes.specs.Space.{SameButReads, State}
@@ -9,9 +9,11 @@ use Rattle.prop_index.proofs.FillSteps.{elsewhere_of}
 use Rattle.prop_index.proofs.IndexTouches.{index_then}
 use Rattle.prop_index.proofs.LeftValues.{left-unwanted}
 use Rattle.graph_ops.specs.ChangeFault.{IsFailure}
-use Rattle.graph_ops.specs.Entries.{IsEntryFault, IsEntryRefusal, IsEntryUndamaged, LacksHeld, WantsHeld, held_is_listed, without_old}
+use Rattle.graph_ops.specs.Damage.{IfBlames, IsAsFound}
+use Rattle.graph_ops.specs.Entries.{IsEntryFault, IsEntryRefusal, IsEntryUndamaged, LacksHeld, WantsHeld, held_is_listed, old_weight, without_old}
 use Rattle.graph_ops.specs.declared.entries.IndexedValue.{IndexedValue}
-use Rattle.graph_ops.proofs.EntriesFaults.{entry_refusal, fails_full, undamaged_outside}
+use Rattle.graph_ops.proofs.Broken.{blames_more}
+use Rattle.graph_ops.proofs.EntriesFaults.{entry_refusal, fails_full, held_untouched, undamaged_outside}
 use Rattle.graph_ops.proofs.EntriesHeld.{on_bool, store_live}
 use Rattle.graph_ops.proofs.Exits.{fault_exit}
 use Rattle.graph_ops.proofs.entries.change_entry.Goals as goal
@@ -97,3 +99,21 @@ returns-in_err-entered-clause-refused g c tells wanted ix store wants low =
     inl (undamaged_outside m fault right
     (subst (λ (z : State). (iz : AreIndexed z.records wanted) → held_is_listed (map (pair_of z.records) iz.definitions) held ≡ false → IsFailure fault) same (c.in_err-entered.ensures.unlisted tells wanted) ix none)) in
     fault_exit (λ f. f) (IsEntryRefusal s held) fault c.from_residual-in_err-entered.result c.from_residual-in_err-entered.ensures.1 (on_bool (held_is_listed pairs held) with_index no_index)
+
+-- ---- which record is blamed
+pub returns-in_err-left-clause-untouched : goal.returns-in_err-left-clause-untouched
+returns-in_err-left-clause-untouched g c tells =
+    let s = g.S.Reads.state c.args.space.now in
+    let t = g.S.Reads.state c.leave_entry.new.space in
+    let held = c.args.held.now in
+    fault_exit (λ f. f) (IfBlames (λ damage. IsAsFound s t damage ⊎ (0 < old_weight held))) c.in_err-left.field-0.0 c.from_residual.result c.from_residual.ensures.1
+    (blames_more _ _ (λ damage found. inl found) c.in_err-left.field-0.0 (c.in_err-left.ensures.untouched tells))
+
+pub returns-in_err-entered-clause-untouched : goal.returns-in_err-entered-clause-untouched
+returns-in_err-entered-clause-untouched g c tells =
+    let s = g.S.Reads.state c.args.space.now in
+    let m = g.S.Reads.state c.leave_entry.new.space in
+    let t = g.S.Reads.state c.enter_entry.new.space in
+    let held = c.args.held.now in
+    fault_exit (λ f. f) (IfBlames (λ damage. IsAsFound s t damage ⊎ (0 < old_weight held))) c.in_err-entered.field-0.0 c.from_residual-in_err-entered.result c.from_residual-in_err-entered.ensures.1
+    (blames_more _ _ (λ damage found. held_untouched s m t (old_weight held) damage c.in_ok-left.ensures.calm found) c.in_err-entered.field-0.0 (c.in_err-entered.ensures.untouched tells))

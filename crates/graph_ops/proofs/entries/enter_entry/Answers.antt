@@ -6,10 +6,10 @@ use Rattle.rec_bytes.specs.Format.{nodes_file}
 use Rattle.store_rules.specs.Indexes.{AreIndexed}
 use Rattle.store_rules.specs.Views.{high}
 use Rattle.graph_ops.specs.ChangeFault.{IsFailure, of_take}
-use Rattle.graph_ops.specs.Damage.{BlamesEntry}
+use Rattle.graph_ops.specs.Damage.{BlamesEntry, BlamesUntouched}
 use Rattle.graph_ops.specs.Entries.{IsEntryFault, IsEntryUndamaged, LacksHeld, held_is_listed, with_new}
 use Rattle.graph_ops.specs.declared.entries.IndexedValue.{IndexedValue}
-use Rattle.graph_ops.proofs.EntriesFaults.{take_blames, take_fails, take_full, take_undamaged}
+use Rattle.graph_ops.proofs.EntriesFaults.{take_blames, take_fails, take_full, take_undamaged, take_untouched}
 use Rattle.graph_ops.proofs.EntriesHeld.{no_definition}
 use Rattle.graph_ops.proofs.Exits.{fault_exit}
 use Rattle.graph_ops.proofs.entries.enter_entry.Goals as goal
@@ -36,6 +36,12 @@ returns-in_err-enter-clause-blames g c tells =
     let t = g.S.Reads.state c.enter.new.space in
     fault_exit of_take (BlamesEntry t) c.in_err-enter.field-0.0 c.from_residual.result c.from_residual.ensures.1
     (take_blames t c.in_err-enter.field-0.0 (c.in_err-enter.ensures.still tells) (c.in_err-enter.ensures.names tells))
+
+pub returns-in_err-enter-clause-untouched : goal.returns-in_err-enter-clause-untouched
+returns-in_err-enter-clause-untouched g c tells =
+    let s = g.S.Reads.state c.args.space.now in
+    let t = g.S.Reads.state c.enter.new.space in
+    fault_exit of_take (BlamesUntouched s t) c.in_err-enter.field-0.0 c.from_residual.result c.from_residual.ensures.1 (take_untouched s t c.in_err-enter.field-0.0 c.in_err-enter.ensures.unwritten)
 
 pub returns-in_err-enter-clause-sound : goal.returns-in_err-enter-clause-sound
 returns-in_err-enter-clause-sound g c tells wanted ix store =

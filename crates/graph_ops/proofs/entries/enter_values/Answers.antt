@@ -1,4 +1,4 @@
-use Rattle.std.proofs.Common.{◌≡◌, ◌+◌, ◌*◌, ◌<◌, [], length, take, get_or, true, false, sym, ap, ◌∙◌, subst, inl, refl, arith}
+use Rattle.std.proofs.Common.{◌≡◌, ◌⊎◌, ◌+◌, ◌*◌, ◌<◌, [], length, take, get_or, true, false, sym, ap, ◌∙◌, subst, inl, refl, arith}
 use Rattle.std.proofs.lemmas.List.{get_or_read}
 use Rattle.plain_graph.specs.declared.pairs.Pair.{Pair}
 use Rattle.plain_graph.specs.declared.value.Value.TheVariants as values
@@ -12,11 +12,12 @@ use Rattle.rec_bytes.specs.Space.{meta_of}
 use Rattle.rec_bytes.specs.declared.shape.Shape.{Shape}
 use Rattle.graph_ops.specs.Assigning.{pair_at}
 use Rattle.graph_ops.specs.ChangeFault.{IsOutside, of_take}
-use Rattle.graph_ops.specs.Damage.{BlamesEntry}
+use Rattle.graph_ops.specs.Damage.{BlamesEntry, IfBlames, IsAsFound}
+use Rattle.graph_ops.proofs.Broken.{blames_more}
 use Rattle.graph_ops.specs.Entries.{IsEntryFault, indexed_of, is_listed}
 use Rattle.graph_ops.specs.declared.assigning.Assignment.{Assignment}
 use Rattle.graph_ops.proofs.EntriesMade.{IsEntering, count_few, count_more, entered_all, entered_lacks, entered_more, entered_none, entered_skip}
-use Rattle.graph_ops.proofs.EntriesFaults.{take_blames, take_full, take_outside}
+use Rattle.graph_ops.proofs.EntriesFaults.{first_untouched, take_blames, take_full, take_outside, take_untouched}
 use Rattle.graph_ops.proofs.Exits.{fault_exit}
 use Rattle.rec_bytes.proofs.Causes.{never_ok, ok_cause}
 use Rattle.graph_ops.proofs.entries.enter_values.Goals as goal
@@ -29,6 +30,7 @@ loop-assignment-init g c =
       entered = λ tells wanted right low lacks once. (entered_none c.args.listed.now c.args.label c.args.node c.args.pairs.now wanted c.args.assigned.now s.records right.indexed right.are, right.kept, refl);
       counted = λ tells. omega arith;
       touched = record { ids = []; few = omega arith; only = record { writes = record { each = λ q w. inl w }; stays = λ told. record { each = λ q. inl refl } } };
+      first = λ _. refl;
       onward_is = g.met.S.Reads.stays_onward c.args.space.now;
       later = omega arith;
     }
@@ -67,6 +69,7 @@ loop-assignment-preserved g c =
                 );
             counted = λ tells. let before = inv.counted tells in let one = w.in_ok-enter.ensures.counted tells in omega (arith, before, one, count);
             touched = index_then (3 * length (indexed_of listed label (take i assigned))) 3 (3 * length (indexed_of listed label (take (i + 1) assigned))) s m t (omega (arith, count)) inv.touched w.enter.ensures.touches;
+            first = λ e. absurd (omega (arith, e));
             onward_is = g.met.S.Reads.further_onward _ _ _ inv.onward_is w.enter.ensures.onward;
             later = let a = inv.later in let b = w.enter.ensures.cause.later in omega arith;
           })
@@ -80,6 +83,7 @@ loop-assignment-preserved g c =
                 (entered_skip listed label node pairs wanted assigned i d lt none m.records was.0, was.1, was.2);
             counted = λ tells. let before = inv.counted tells in omega (arith, before, count);
             touched = record { ids = inv.touched.ids; few = let few = inv.touched.few in omega (arith, few, count); only = inv.touched.only };
+            first = λ e. absurd (omega (arith, e));
             onward_is = inv.onward_is;
             later = inv.later;
           })
@@ -119,6 +123,17 @@ returns-in_err-enter-clause-blames g c tells =
     let t = g.S.Reads.state c.enter.new.space in
     fault_exit of_take (BlamesEntry t) c.in_err-enter.field-0.0 c.from_residual.result c.from_residual.ensures.1
     (take_blames t c.in_err-enter.field-0.0 (c.in_err-enter.ensures.still tells) (c.in_err-enter.ensures.names tells))
+
+pub returns-in_err-enter-clause-untouched : goal.returns-in_err-enter-clause-untouched
+returns-in_err-enter-clause-untouched g c tells =
+    let s = g.S.Reads.state c.args.space.now in
+    let m = g.S.Reads.state c.loop-assignment.space in
+    let t = g.S.Reads.state c.enter.new.space in
+    let count = length c.args.assigned.now in
+    let fault = c.in_err-enter.field-0.0 in
+    fault_exit of_take (IfBlames (λ damage. IsAsFound s t damage ⊎ (1 < count))) fault c.from_residual.result c.from_residual.ensures.1
+    (blames_more _ _ (λ damage found. first_untouched s m t c.loop-assignment.assignment-index count damage c.loop-assignment-test.true c.loop-assignment.invariant.first found) (of_take fault)
+    (take_untouched m t fault c.in_err-enter.ensures.unwritten))
 
 pub returns-in_err-enter-clause-touches : goal.returns-in_err-enter-clause-touches
 returns-in_err-enter-clause-touches g c =

@@ -213,3 +213,14 @@ returns-then-not-has_pair-clause-cause g c = ok_cause _ _ _ _ (later_on c.in_ok-
 pub returns-clause-cause : goal.returns-clause-cause
 returns-clause-cause g c =
     ok_cause _ _ _ _ (later_on (later_on c.in_ok-listed.ensures.cause.later c.in_ok-row.ensures.cause.later) c.in_ok-value.ensures.cause.later)
+
+-- ---- the value that is met
+pub returns-clause-met : goal.returns-clause-met
+returns-clause-met g c tells =
+    let s = g.R.Reads.state c.args.space.now in
+    let m = g.R.Reads.state c.listed_pairs.new.space in
+    let n = g.R.Reads.state c.load.new.space in
+    let same : SameButReads s n = same_then s m n (reads_same 17 s m c.listed_pairs.ensures.reads) (load_same m n c.in-Node.node c.load.ensures.state) in
+    c.in_ok-value.ensures.met tells
+    ∙ ap (λ (o : Owner). value_of (properties_met n.records o) c.args.key) (c.node_owner.ensures ∙ ap owner_of (sym c.in-Node.is))
+    ∙ ap (λ (z : State). value_of (properties_met z.records (owner_of c.args.target)) c.args.key) same

@@ -8,9 +8,9 @@ use Rattle.store_rules.specs.IndexChange.{without_value}
 use Rattle.store_rules.specs.Indexes.{AreIndexed, has_hash}
 use Rattle.store_rules.proofs.NumberLaws.{eq_true}
 use Rattle.graph_ops.specs.ChangeFault.{IsOutside, of_fault}
-use Rattle.graph_ops.specs.Damage.{BlamesEntry}
+use Rattle.graph_ops.specs.Damage.{BlamesEntry, BlamesUntouched}
 use Rattle.graph_ops.specs.Entries.{value_weight}
-use Rattle.graph_ops.proofs.EntriesFaults.{fault_blames}
+use Rattle.graph_ops.proofs.EntriesFaults.{fault_blames, fault_untouched}
 use Rattle.graph_ops.proofs.EntriesHeld.{definition_of, no_definition, some_live}
 use Rattle.graph_ops.proofs.Exits.{fault_exit, fault_outside}
 use Rattle.rec_bytes.proofs.Causes.{never_ok, ok_cause}
@@ -59,6 +59,12 @@ returns-in_err-leave-clause-blames g c tells =
     let t = g.S.Reads.state c.leave.new.space in
     fault_exit of_fault (BlamesEntry t) c.in_err-leave.field-0.0 c.from_residual.result c.from_residual.ensures.1
     (fault_blames t c.in_err-leave.field-0.0 (c.in_err-leave.ensures.still tells) (c.in_err-leave.ensures.names tells))
+
+pub returns-in_err-leave-clause-untouched : goal.returns-in_err-leave-clause-untouched
+returns-in_err-leave-clause-untouched g c tells =
+    let s = g.S.Reads.state c.args.space.now in
+    let t = g.S.Reads.state c.leave.new.space in
+    fault_exit of_fault (BlamesUntouched s t) c.in_err-leave.field-0.0 c.from_residual.result c.from_residual.ensures.1 (fault_untouched s t c.in_err-leave.field-0.0 c.in_err-leave.ensures.unwritten)
 
 pub returns-clause-unlisted : goal.returns-clause-unlisted
 returns-clause-unlisted g c tells wanted ix none =
