@@ -1,7 +1,7 @@
 -- A record that is called damaged breaks the rule.
 use Rattle.std.specs.Cmp.Lexicographic.{pointwise}
 use Rattle.std.specs.List.{list_any}
-use Rattle.std.proofs.Common.{◌≡◌, ℕ, nat_eq, Bool, true, false, cond, Some, List, length, sym, subst, inl, inr, arith, refl}
+use Rattle.std.proofs.Common.{◌⊎◌, ◌≡◌, ℕ, nat_eq, Bool, true, false, cond, Some, List, length, sym, subst, inl, inr, arith, refl}
 use Rattle.plain_graph.specs.declared.command.Target.{Target}
 use Rattle.plain_graph.specs.declared.command.Target.TheVariants as targets
 use Rattle.rec_bytes.specs.declared.damage.Damage.{Damage}
@@ -37,7 +37,8 @@ use Rattle.prop_index.specs.Blaming as indexes
 use Rattle.graph_ops.specs.ChangeFault.{IsFailure, of_fault, of_intern, of_row, of_set}
 use Rattle.graph_ops.specs.declared.change_fault.ChangeFault.{ChangeFault}
 use Rattle.graph_ops.specs.declared.change_fault.ChangeFault.TheVariants.{NoNode, NoEdge, HasRelationships, IndexThere, TooManyIndexes, IndexTooLarge, Full, NamesFull, PropsFull, Memory, Disk, Damaged}
-use Rattle.graph_ops.specs.Damage.{BlamesBroken, BlamesEntry, BlamesGiven, IfBlames, IsBroken, IsEntryDamage, IsOfIndex}
+use Rattle.graph_ops.specs.Damage.{BlamesBroken, BlamesEntry, BlamesGiven, IfBlames, IsAsFound, IsBroken, IsEntryDamage, IsOfIndex}
+use Rattle.graph_ops.specs.Entries.{HasIndexes}
 use Rattle.graph_ops.specs.NodeDeleting.{IsDeleteCause}
 use Rattle.graph_ops.specs.Owners.{MayMiss, owner_of}
 use Rattle.graph_ops.proofs.Elements.{used_of}
@@ -116,7 +117,7 @@ held_cause s t id Disk fails told = tt
 held_cause s t id (Damaged damage) fails told = inl told
 
 -- and their entries leave last
-pub entry_cause : (s t : State) (id : ℕ) (fault : ChangeFault) → IsFailure fault → BlamesEntry t fault → IsDeleteCause s t id fault
+pub entry_cause : (s t : State) (id : ℕ) (fault : ChangeFault) → IsFailure fault → IfBlames (λ damage. IsEntryDamage t damage × (IsAsFound s t damage ⊎ HasIndexes s.records)) fault → IsDeleteCause s t id fault
 entry_cause s t id (NoNode missing) fails told = absurd fails
 entry_cause s t id (NoEdge missing) fails told = absurd fails
 entry_cause s t id (HasRelationships of degree) fails told = absurd fails

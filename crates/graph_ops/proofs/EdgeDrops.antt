@@ -1,5 +1,5 @@
 -- A group of an end that isn't dropped broke the rule before.
-use Rattle.std.proofs.Common.{◌≡◌, ◌≢◌, ◌⊎◌, ℕ, ◌+◌, ◌<◌, ◌≤◌, List, None, Some, sym, ap, ◌∙◌, subst, inl, inr, ⊎_elim, arith, refl}
+use Rattle.std.proofs.Common.{◌≡◌, ◌≢◌, ◌⊎◌, ℕ, ◌<◌, List, None, Some, sym, ap, ◌∙◌, subst, inl, inr, ⊎_elim, arith, refl}
 use Rattle.rec_bytes.specs.declared.damage.Damage.{Damage}
 use Rattle.rec_bytes.specs.declared.fault.Fault.{Fault}
 use Rattle.rec_bytes.specs.declared.fault.Fault.TheVariants as faults
@@ -13,7 +13,7 @@ use Rattle.rec_bytes.specs.Space.{State}
 use Rattle.store_rules.specs.Breaking as breaking
 use Rattle.store_rules.specs.Breaking.{Breaks, IsHeadOf, IsOwnedBy}
 use Rattle.store_rules.specs.Breaking.Breaks.{GroupOwner}
-use Rattle.store_rules.specs.Chains.{In, IsChain}
+use Rattle.store_rules.specs.Chains.{IsChain}
 use Rattle.store_rules.specs.Ranges.{layout_by, layout_of}
 use Rattle.store_rules.specs.Rules.{Head}
 use Rattle.store_rules.specs.Views as views
@@ -27,8 +27,7 @@ use Rattle.group_store.specs.GroupChain.{next_group, previous_group}
 use Rattle.group_store.specs.GroupRecord.{range_damage}
 use Rattle.group_store.specs.Links.{IsLinkDamage}
 use Rattle.group_store.specs.Links.IsLinkDamage.{HighLink, LeadsNowhere}
-use Rattle.group_store.specs.Loading.{HasNoKind, group_mark, group_room}
-use Rattle.group_store.specs.Walking.{IsMemberDamage}
+use Rattle.group_store.specs.Loading.{group_mark, group_room}
 use Rattle.group_store.specs.Walking.IsMemberDamage.{HighMember, NoMember, UnknownMember}
 use Rattle.group_store.proofs.AlikeGroups.{AreAlike, alike_back, group_row, kind_as, owned_as}
 use Rattle.group_store.proofs.BrokenGroups.{drop_breaks}

@@ -27,6 +27,7 @@ use Rattle.rec_bytes.specs.Space.{IsAmong, SameButReads, State, meta_of}
 use Rattle.rec_bytes.specs.declared.shape.Shape.{Shape}
 use Rattle.graph_ops.specs.ChangeFault.{IsFailure, IsOutside, of_fault, of_row, of_take}
 use Rattle.store_rules.specs.Views.{key_in}
+use Rattle.store_rules.specs.Writes.{ChangesOnly}
 use Rattle.graph_ops.specs.Damage.{BlamesEntry, BlamesUntouched, IsAsFound, IsOfIndex, LeavesIndexes}
 use Rattle.graph_ops.specs.Owners.{owner_of}
 use Rattle.graph_ops.specs.Entries.{HasMet, HasValue, IsEntryFault, IsEntryRefusal, IsEntryUndamaged, old_weight, value_weight}
@@ -134,6 +135,10 @@ other_leaves s t file a b beside damage of = beside (key_in damage.file damage.i
 
 pub names_leave : (s t : State) → IsSameBeside format.names_file s.records t.records → LeavesIndexes s t
 names_leave s t beside = other_leaves s t format.names_file (λ e. omega arith) (λ e. omega arith) beside
+
+pub given_beside : (s t : State) (file id : ℕ) → ChangesOnly s t (key_in file id ∷ meta_key_of file ∷ []) → IsSameBeside file s.records t.records
+given_beside s t file id changes q other no_meta = ⊎_elim (λ e. e)
+    (λ i. absurd (⊎_elim (λ (e : q ≡ key_in file id). other (ap (λ (k : Key). k.file) e)) (λ j. ⊎_elim no_meta (λ (f : ⊥). f) j) i)) (changes.each q)
 
 pub reads_leave : (s t : State) → SameButReads s t → LeavesIndexes s t
 reads_leave s t same damage of = ap (λ (z : State). z.records (key_in damage.file damage.id)) same

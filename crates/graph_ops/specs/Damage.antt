@@ -85,17 +85,12 @@ abbrev pub BlamesUnset : State → State → ChangeFault → Type 0
 BlamesUnset s t fault =
     IfBlames (λ damage. IsBroken s damage ⊎ (IsEntryDamage t damage × IsAsFound s t damage)) fault
 
--- So it is where a node is added. But where the node gets two properties or more, one of the indexes
+-- So it is where a node is added or deleted. But where it may have several entries, one of the indexes
 -- that is blamed may have been written for an earlier one.
-abbrev pub BlamesAdded : State → State → Type 0 → ChangeFault → Type 0
-BlamesAdded s t several fault =
+abbrev pub BlamesEntries : State → State → Type 0 → ChangeFault → Type 0
+BlamesEntries s t several fault =
     IfBlames (λ damage. IsBroken s damage
     ⊎ (IsEntryDamage t damage × (IsAsFound s t damage ⊎ several))) fault
-
--- One that is blamed where a node is deleted breaks it in the space as it was. Or it is one of the
--- indexes, which are changed last.
-abbrev pub BlamesFound : State → State → ChangeFault → Type 0
-BlamesFound s t fault = IfBlames (λ damage. IsBroken s damage ⊎ IsEntryDamage t damage) fault
 
 -- it is what is wrong with the free list of the properties or of the blocks
 abbrev pub IsOfLists : State → Damage → Type 0

@@ -1,5 +1,5 @@
 -- The entries that a change of the values of a node takes out of the indexes and adds to them.
-use Rattle.std.specs.Prelude.{◌≡◌, ℕ, ◌+◌, ◌*◌, ◌≤◌, nat_eq, Bool, true, false, ◌&&◌, ◌||◌, not}
+use Rattle.std.specs.Prelude.{◌≡◌, ℕ, ◌+◌, ◌*◌, ◌<◌, ◌≤◌, nat_eq, Bool, true, false, ◌&&◌, ◌||◌, not}
 use Rattle.std.specs.Prelude.{if◌then◌else◌, ◌⊎◌}
 use Rattle.std.specs.Prelude.{Option, None, Some, is_some, List, [], ◌∷◌, length, map, slice_get}
 use Rattle.std.specs.List.{filter, list_any, sum_by}
@@ -19,9 +19,11 @@ use Rattle.rec_bytes.specs.Format as format
 use Rattle.rec_bytes.specs.Record.{field}
 use Rattle.rec_bytes.specs.RecordFiles.{room_of}
 use Rattle.rec_bytes.specs.Space.{State}
+use Rattle.store_rules.specs.Chains.{IsWalk}
 use Rattle.store_rules.specs.Hashes.{hash_of}
 use Rattle.store_rules.specs.IndexChange.{WantsValue, with_value, without_value}
-use Rattle.store_rules.specs.Indexes.{AreIndexed, Entries, Entry, node_value, wanted_in}
+use Rattle.store_rules.specs.Indexes.{AreIndexed, Entries, Entry, first_definition}
+use Rattle.store_rules.specs.Indexes.{next_definition, node_value, wanted_in}
 use Rattle.store_rules.specs.Properties.{AreOnce}
 use Rattle.store_rules.specs.RuleList.{IsSameFile}
 use Rattle.store_rules.specs.Views.{Records, rec_at}
@@ -53,6 +55,12 @@ pub record ArePairsOf (s : State) (wanted : Entries) (pairs : List IndexPair) : 
   pub kept : KeepsStore s
   pub indexed : AreIndexed s.records wanted
   pub are : pairs ≡ map (pair_of s.records) indexed.definitions
+
+-- The chain of definitions leads through two or more.
+pub record HasIndexes (records : Records) : Type 0 where
+  pub definitions : List ℕ
+  pub walk : IsWalk (next_definition records) (first_definition records) definitions
+  pub several : 1 < length definitions
 
 -- ---- the values of a new node
 

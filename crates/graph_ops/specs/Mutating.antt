@@ -12,7 +12,8 @@ use Rattle.rec_bytes.specs.Space.{State}
 use Rattle.store_rules.specs.Writes.{WritesAtMost}
 use Rattle.graph_ops.specs.Causes.{IsStillCaused}
 use Rattle.graph_ops.specs.Change.{full_of}
-use Rattle.graph_ops.specs.Damage.{BlamesBroken, BlamesFound}
+use Rattle.graph_ops.specs.Damage.{BlamesBroken, BlamesEntries}
+use Rattle.graph_ops.specs.Entries.{HasIndexes}
 use Rattle.graph_ops.specs.Store.{IsStore, graph_in}
 use Rattle.graph_ops.specs.declared.change_fault.ChangeFault.{ChangeFault}
 use Rattle.graph_ops.specs.declared.change_fault.ChangeFault.TheVariants.{NoNode, NoEdge}
@@ -125,5 +126,5 @@ IsListCaused commands t names now fault =
 
 -- what is so of a record that is blamed where this element is taken away
 abbrev pub BlamesDeletion : State → State → Target → ChangeFault → Type 0
-BlamesDeletion s t (targets.Node id) fault = BlamesFound s t fault
+BlamesDeletion s t (targets.Node id) fault = BlamesEntries s t (HasIndexes s.records) fault
 BlamesDeletion s t (targets.Edge id) fault = BlamesBroken s fault

@@ -5,7 +5,8 @@ use Rattle.rec_bytes.specs.Space.{State}
 use Rattle.store_rules.specs.Views.{Records, kind_at}
 use Rattle.node_store.specs.declared.node_row.NodeRow.{NodeRow}
 use Rattle.node_store.specs.Loading.{row_at}
-use Rattle.graph_ops.specs.Damage.{IsBroken, IsEntryDamage}
+use Rattle.graph_ops.specs.Damage.{IsAsFound, IsBroken, IsEntryDamage}
+use Rattle.graph_ops.specs.Entries.{HasIndexes}
 use Rattle.graph_ops.specs.declared.change_fault.ChangeFault.{ChangeFault}
 use Rattle.graph_ops.specs.declared.change_fault.ChangeFault.TheVariants.{NoNode, NoEdge}
 use Rattle.graph_ops.specs.declared.change_fault.ChangeFault.TheVariants.{HasRelationships, Full}
@@ -27,8 +28,9 @@ KeepsOtherKinds s t id =
     (n : ℕ) → n ≢ id
     → kind_at t.records format.nodes_file n ≡ kind_at s.records format.nodes_file n
 
--- Why a node of any records isn't deleted, by what was read of them. Or an entry is changed, and a
--- record of the indexes is told by the space as it is left.
+-- Why a node of any records isn't deleted, by what was read of them. Or an entry is changed: a record
+-- of the indexes is told by the space as it is left, and it is as it was found, unless there are
+-- two indexes or more.
 abbrev pub IsDeleteCause : State → State → ℕ → ChangeFault → Type 0
 IsDeleteCause s t id (NoNode missing) = (missing ≡ id) × (row_at s.records id ≡ None)
 IsDeleteCause s t id (NoEdge missing) = ⊥
@@ -42,4 +44,5 @@ IsDeleteCause s t id (NamesFull count) = ⊥
 IsDeleteCause s t id (PropsFull count) = ⊥
 IsDeleteCause s t id Memory = Unit {0}
 IsDeleteCause s t id Disk = Unit {0}
-IsDeleteCause s t id (Damaged damage) = IsBroken s damage ⊎ IsEntryDamage t damage
+IsDeleteCause s t id (Damaged damage) = IsBroken s damage
+    ⊎ (IsEntryDamage t damage × (IsAsFound s t damage ⊎ HasIndexes s.records))

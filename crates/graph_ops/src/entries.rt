@@ -26,6 +26,7 @@ ghost use Rattle.graph_ops.specs.Damage.{IsAsFound, IsOfIndex};
 ghost use Rattle.graph_ops.specs.Entries.{
   AreKeysOnce,
   ArePairsOf,
+  HasIndexes,
   HasMet,
   IsEntryFault,
   IsEntryRefusal,
@@ -87,6 +88,8 @@ pub(crate) fn listed_pairs<R: Reads>(
     ensures failure { IfErr result IsFailure }
     ensures damaged { R.tells → IfErr result (BlamesBroken (R.state space.old)) }
     ensures names { R.tells → IfErr result (IfBlames IsOfIndex) }
+    ensures several { R.tells → IfOk result (λ pairs. 1 < length pairs.items
+        → HasIndexes (R.state space.old).records) }
     ensures few { IfOk result (λ pairs. length pairs.items ≤ 16) }
     ensures none { (meta_of (R.state space.old) index_file).live ≡ 0
         → IfOk result (λ pairs. pairs.items ≡ []) }
@@ -202,6 +205,8 @@ pub(crate) fn held_values<R: Reads>(
     ensures damaged { R.tells
         → IsInUse (R.state space.old).records (owner_of (targets.Node node))
         → IfErr result (BlamesBroken (R.state space.old)) }
+    ensures several { R.tells → IfOk result (λ held. 1 < length held.items
+        → HasIndexes (R.state space.old).records) }
     ensures few { IfOk result (λ held. length held.items ≤ 16) }
     ensures same { SameButReads (R.state space.old) (R.state space.new) }
     ensures onward { R.onward space.old space.new }
@@ -287,6 +292,8 @@ pub(crate) fn leave_values<S: Space>(
         → KeepsStore (S.state space.old) → IfErr result IsOutside }
     ensures failure { IfErr result IsFailure }
     ensures blames { S.tells → IfErr result (BlamesEntry (S.state space.new)) }
+    ensures untouched { S.tells → IfErr result (IfBlames (λ damage.
+        IsAsFound (S.state space.old) (S.state space.new) damage ⊎ (1 < length held.now))) }
     ensures weight { IfOk result (λ weight. weight ≡ held_weight held.now) }
     ensures few { IfOk result (λ weight. weight ≤ 48) }
     ensures touches { IfOk result (λ weight. TouchesIndex S.tells weight

@@ -18,7 +18,7 @@ ghost use Rattle.store_rules.specs.Writes.{WritesAtMost, WritesBeside};
 ghost use Rattle.graph_ops.specs.Causes.{IsCaused, IsStillCaused};
 ghost use Rattle.graph_ops.specs.Change.{IsCounted, IsRefusal, MakesChange};
 ghost use Rattle.graph_ops.specs.ChangeFault.{HasChangeCause, IsFailure, IsOutside, LeavesSpace};
-ghost use Rattle.graph_ops.specs.Damage.{BlamesAdded, BlamesBroken, IfBlames};
+ghost use Rattle.graph_ops.specs.Damage.{BlamesEntries, BlamesBroken, IfBlames};
 ghost use Rattle.graph_ops.specs.Entries.{WeighsNode};
 ghost use Rattle.graph_ops.specs.NodeAdding.{IsFullOfNodes, IsSparse, PutsNode, new_row};
 ghost use Rattle.graph_ops.specs.Rooms.{HasRoom};
@@ -58,7 +58,7 @@ pub fn add_node<S: Space>(
     ensures still { S.tells → IfErr result (IsStillCaused (commands.Node label.now pairs.now)
         (S.state space.new) names.old.names names.new.names) }
     ensures damaged { S.tells → IfErr result
-        (BlamesAdded (S.state space.old) (S.state space.new)
+        (BlamesEntries (S.state space.old) (S.state space.new)
         (1 < maps.len (with_pairs no_properties pairs.now))) }
     ensures counts { S.tells → IsStore (S.state space.old) names.old.names
         → IfErr result (IsCounted (S.state space.old)) }

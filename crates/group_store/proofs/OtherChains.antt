@@ -12,9 +12,9 @@ use Rattle.node_store.specs.NodeRecord.{node_key}
 use Rattle.store_rules.specs.Breaking.{IsHeadOf, IsOwnedBy}
 use Rattle.store_rules.specs.Chains.{In, IsChain}
 use Rattle.store_rules.specs.Rules.{Head}
-use Rattle.store_rules.specs.Views.{GroupRow, first_link, group_at, group_in, high, kind_at, rec_at}
+use Rattle.store_rules.specs.Views.{GroupRow, first_link, group_in, high, kind_at, rec_at}
 use Rattle.store_rules.proofs.ChainLaws.{chain_stays, walk_of_chain}
-use Rattle.store_rules.proofs.ChainSteps.{after_in, before_in, eq_cases, first_before, nil_out, on_test}
+use Rattle.store_rules.proofs.ChainSteps.{after_in, before_in, first_before, nil_out, on_test}
 use Rattle.store_rules.proofs.MetaLaws.{high_fits}
 use Rattle.store_rules.proofs.NumberLaws.{nat_cases}
 use Rattle.store_rules.proofs.ViewLaws.{kind_below, some_row}
@@ -25,7 +25,6 @@ use Rattle.group_store.specs.GroupRecord.{group_key}
 use Rattle.group_store.specs.Loading.{group_mark}
 use Rattle.group_store.proofs.Drops.{first_other, group_stays, linked, meta_stays, next_before, previous_after}
 use Rattle.group_store.proofs.KeptHeads.{mark_groups, record_given}
-use Rattle.group_store.proofs.Makes.{same_group}
 
 module _ (s : State) (node g : ℕ) (own : IsOwnedBy s.records node g) (tested : IsLinkedIn s.records node g) (low : HasLowLinks s g) where
   abbrev before : ℕ

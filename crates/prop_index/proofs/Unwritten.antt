@@ -1,7 +1,6 @@
 -- What is so where a record is blamed, at each exit.
 use Rattle.std.proofs.Common.{◌≡◌, Result, Ok, Err, sym, subst}
 use Rattle.std.specs.Prelude.{IfErr}
-use Rattle.std.specs.Result.{IsErrAnd}
 use Rattle.rec_bytes.specs.Fault.{OnDamage}
 use Rattle.rec_bytes.specs.declared.fault.Fault.{Fault}
 use Rattle.rec_bytes.specs.declared.fault.Fault.TheVariants.{Memory, Disk, Damaged}

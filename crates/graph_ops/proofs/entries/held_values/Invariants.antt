@@ -1,11 +1,11 @@
-use Rattle.std.proofs.Common.{◌≡◌, ◌≢◌, ◌≤◌, length, map, take}
+use Rattle.std.proofs.Common.{◌≡◌, ◌≢◌, ◌<◌, ◌≤◌, length, map, take}
 use Rattle.rec_bytes.specs.Format.{node_label, nodes_file}
 use Rattle.rec_bytes.specs.Record.{field}
 use Rattle.rec_bytes.specs.Space.{SameButReads}
 use Rattle.store_rules.specs.Indexes.{IsIndexed}
 use Rattle.store_rules.specs.Views.{kind_at, rec_at}
 use Rattle.prop_index.specs.Listing.{pair_of}
-use Rattle.graph_ops.specs.Entries.{held_of}
+use Rattle.graph_ops.specs.Entries.{HasIndexes, held_of}
 use Rattle.graph_ops.proofs.entries.held_values.Given as goal
 
 abbrev pub invariant-loop-pair : goal.invariant-loop-pair
@@ -19,6 +19,7 @@ invariant-loop-pair g l =
       pairs : length l.pair-items ≤ 16;
       within : l.pair-index ≤ length l.pair-items;
       few : length l.held.items ≤ l.pair-index;
+      several : g.R.Reads.tells → 1 < length l.pair-items → HasIndexes old.records;
       same : SameButReads old now;
       onward : g.R.Reads.onward l.fn.space l.space;
       later : g.R.Reads.faults l.fn.space ≤ g.R.Reads.faults l.space;

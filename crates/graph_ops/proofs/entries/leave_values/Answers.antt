@@ -1,4 +1,4 @@
-use Rattle.std.proofs.Common.{◌≡◌, ◌+◌, None, Some, List, take, get_or, sym, ap, ◌∙◌, subst, refl, inl, arith, []}
+use Rattle.std.proofs.Common.{◌≡◌, ◌⊎◌, ◌+◌, ◌<◌, None, Some, List, length, take, get_or, sym, ap, ◌∙◌, subst, refl, inl, arith, []}
 use Rattle.std.proofs.lemmas.List.{get_or_read, take_all}
 use Rattle.std.proofs.lemmas.List.Sums.{sum_by_more}
 use Rattle.prop_index.proofs.IndexTouches.{index_then}
@@ -8,6 +8,9 @@ use Rattle.graph_ops.specs.Entries.{held_weight, old_weight, without_held, witho
 use Rattle.graph_ops.specs.declared.entries.IndexedValue.{IndexedValue}
 use Rattle.graph_ops.proofs.DiskCauses.{change_cause_passed}
 use Rattle.graph_ops.proofs.EntriesHeld.{without_more}
+use Rattle.graph_ops.specs.Damage.{IfBlames, IsAsFound}
+use Rattle.graph_ops.proofs.Broken.{blames_more}
+use Rattle.graph_ops.proofs.EntriesFaults.{first_untouched}
 use Rattle.graph_ops.proofs.Exits.{fault_exit}
 use Rattle.rec_bytes.proofs.Causes.{never_ok, ok_cause}
 use Rattle.graph_ops.proofs.entries.leave_values.Goals as goal
@@ -17,6 +20,7 @@ loop-value-init g c = record {
   left = λ tells wanted ix store. (ix, store, refl);
   within = omega arith;
   few = omega arith;
+  first = λ _. refl;
   weighs = refl;
   touched = record { ids = []; few = omega arith; only = record { writes = record { each = λ q w. inl w }; stays = λ told. record { each = λ q. inl refl } } };
   onward = g.met.S.Reads.stays_onward c.args.space.now;
@@ -44,6 +48,7 @@ loop-value-preserved g c =
           );
       within = omega (arith, lt);
       few = let a = inv.few in let b = c.in_ok-more.ensures.few in omega arith;
+      first = λ e. absurd (omega (arith, e));
       weighs =
           let before = inv.weighs in
           let here = c.in_ok-more.ensures.weight ∙ ap (λ (h : IndexedValue). old_weight (Some h)) item in
@@ -58,6 +63,16 @@ pub returns-in_err-more-clause-sound : goal.returns-in_err-more-clause-sound
 returns-in_err-more-clause-sound g c tells wanted ix store =
     let was = c.loop-value.invariant.left tells wanted ix store in
     fault_exit (λ f. f) IsOutside c.in_err-more.field-0.0 c.from_residual.result c.from_residual.ensures.1 (c.in_err-more.ensures.sound tells _ was.0 was.1)
+
+pub returns-in_err-more-clause-untouched : goal.returns-in_err-more-clause-untouched
+returns-in_err-more-clause-untouched g c tells =
+    let s = g.S.Reads.state c.args.space.now in
+    let m = g.S.Reads.state c.loop-value.space in
+    let t = g.S.Reads.state c.leave_held.new.space in
+    let count = length c.args.held.now in
+    let fault = c.in_err-more.field-0.0 in
+    fault_exit (λ f. f) (IfBlames (λ damage. IsAsFound s t damage ⊎ (1 < count))) fault c.from_residual.result c.from_residual.ensures.1
+    (blames_more _ _ (λ damage found. first_untouched s m t c.loop-value.value-index count damage c.loop-value-test.true c.loop-value.invariant.first found) fault (c.in_err-more.ensures.untouched tells))
 
 pub returns-in_err-more-clause-at_most : goal.returns-in_err-more-clause-at_most
 returns-in_err-more-clause-at_most g c =

@@ -15,6 +15,7 @@ invariant-loop-value g l =
           → AreIndexed now.records (without_held wanted (take l.value-index l.held)) × KeepsStore now × (indexes_of now.records ≡ indexes_of old.records);
       within : l.value-index ≤ length l.held;
       few : l.weight ≤ 3 * l.value-index;
+      first : l.value-index ≡ 0 → now ≡ old;
       weighs : l.weight ≡ held_weight (take l.value-index l.held);
       touched : TouchesIndex g.S.Reads.tells l.weight old now;
       onward : g.S.Reads.onward l.fn.space l.space;

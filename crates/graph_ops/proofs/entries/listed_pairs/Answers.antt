@@ -1,4 +1,5 @@
-use Rattle.std.proofs.Common.{◌≡◌, map, refl, sym, ap, ◌∙◌, arith, rules}
+use Rattle.std.proofs.Common.{◌≡◌, length, map, refl, sym, ap, ◌∙◌, arith, rules}
+use Rattle.std.proofs.lemmas.List.{length-map}
 use Rattle.prop_index.proofs.IndexCounts.{index_count}
 use Rattle.prop_index.specs.Listing.{pair_of}
 use Rattle.prop_index.proofs.LinkRules.{free_list, store_room}
@@ -67,3 +68,15 @@ returns-in_err-pairs-clause-onward g c = search rules
 
 pub returns-clause-cause : goal.returns-clause-cause
 returns-clause-cause g c = ok_cause _ _ _ _ c.in_ok-pairs.ensures.cause.later
+
+-- ---- two indexes or more
+pub returns-clause-several : goal.returns-clause-several
+returns-clause-several g c tells more =
+    let met = c.in_ok-pairs.ensures.walked tells in
+    record { definitions = met.definitions; walk = met.walk; several = let len = ap length met.pairs_are ∙ length-map met.definitions (pair_of (g.R.Reads.state c.args.space.now).records) in omega (arith, more, len) }
+
+pub returns-then-meta-eq0-clause-several : goal.returns-then-meta-eq0-clause-several
+returns-then-meta-eq0-clause-several g c tells more = absurd (let none = ap length c.new.ensures.items in omega (arith, more, none))
+
+pub returns-in_err-pairs-clause-several : goal.returns-in_err-pairs-clause-several
+returns-in_err-pairs-clause-several g c _ = never_ok c.from_residual.result _ _ c.from_residual.ensures.1

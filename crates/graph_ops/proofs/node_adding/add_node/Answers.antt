@@ -39,7 +39,7 @@ use Rattle.graph_ops.proofs.Writes.{on_any_err}
 use Rattle.store_rules.specs.Views.{Records}
 use Rattle.graph_ops.specs.Causes.{AsksRoom, IsCaused, IsStillCaused}
 use Rattle.graph_ops.proofs.Causes.{broken_left, entry_caused, failure_caused, line_node, put_caused, room_caused}
-use Rattle.graph_ops.specs.Damage.{BlamesAdded, IsAsFound, IsBroken, IsOfIndex, KeepsButNames}
+use Rattle.graph_ops.specs.Damage.{BlamesEntries, IsAsFound, IsBroken, IsOfIndex, KeepsButNames}
 use Rattle.graph_ops.proofs.EntriesFaults.{names_leave, other_leaves}
 use Rattle.graph_ops.proofs.Adding.{index_beside, line_blamed, lists_before, lists_broken, names_harm_no_lists, no_lists_then, node_damage, node_harms_no_lists, room_blamed}
 use Rattle.graph_ops.proofs.Broken.{blames_both, blames_more}
@@ -178,7 +178,7 @@ returns-in_err-listed-clause-damaged g c tells =
     let u = g.S.Reads.state c.listed_pairs.new.space in
     let after = (goal.at.returns-in_err-listed-clause-damaged g c).After-listed_pairs in
     let fault = c.in_err-listed.field-0.0 in
-    fault_exit (λ f. f) (BlamesAdded s u (1 < maps.len (with_pairs no_properties c.args.pairs.now))) c.in_err-listed.field-0.0 c.from_residual-in_err-listed.result c.from_residual-in_err-listed.ensures.1
+    fault_exit (λ f. f) (BlamesEntries s u (1 < maps.len (with_pairs no_properties c.args.pairs.now))) c.in_err-listed.field-0.0 c.from_residual-in_err-listed.result c.from_residual-in_err-listed.ensures.1
     (blames_more _ _ (λ damage k. inr ((k.0, subst (λ (y : State). IsBroken y damage) (sym c.listed_pairs.ensures.same) k.1), inl (names_leave s u (beside_names g after tells) damage k.0))) fault (blames_both IsOfIndex (IsBroken z) fault (c.in_err-listed.ensures.names tells) (c.in_err-listed.ensures.damaged tells)))
 
 pub returns-in_err-listed-clause-cause : goal.returns-in_err-listed-clause-cause
@@ -255,7 +255,7 @@ pub returns-in_err-test_room-2-clause-damaged : goal.returns-in_err-test_room-2-
 returns-in_err-test_room-2-clause-damaged g c tells =
     let s = g.S.Reads.state c.args.space.now in
     let u = g.S.Reads.state c.listed_pairs.new.space in
-    fault_exit (λ f. f) (BlamesAdded s u (1 < maps.len (with_pairs no_properties c.args.pairs.now))) c.in_err-test_room-2.field-0.0 c.from_residual-in_err-test_room-2.result c.from_residual-in_err-test_room-2.ensures.1
+    fault_exit (λ f. f) (BlamesEntries s u (1 < maps.len (with_pairs no_properties c.args.pairs.now))) c.in_err-test_room-2.field-0.0 c.from_residual-in_err-test_room-2.result c.from_residual-in_err-test_room-2.ensures.1
     (room_blamed _ u format.index_file c.entry_count-entries.result c.in_err-test_room-2.field-0.0 c.in_err-test_room-2.ensures.full)
 
 pub returns-in_err-test_room-2-clause-refused_writes : goal.returns-in_err-test_room-2-clause-refused_writes
@@ -465,7 +465,7 @@ returns-in_err-enter_values-clause-damaged g c tells =
     let w = g.S.Reads.state c.put_properties.new.space in
     let x = g.S.Reads.state c.enter_values.new.space in
     let fault = c.in_err-enter_values.field-0.0 in
-    fault_exit (λ f. f) (BlamesAdded s x (1 < maps.len (with_pairs no_properties c.args.pairs.now))) fault c.from_residual-in_err-enter_values.result c.from_residual-in_err-enter_values.ensures.1
+    fault_exit (λ f. f) (BlamesEntries s x (1 < maps.len (with_pairs no_properties c.args.pairs.now))) fault c.from_residual-in_err-enter_values.result c.from_residual-in_err-enter_values.ensures.1
     (blames_more _ _ (λ damage told.
     let left : IsAsFound s w damage = c.in_ok-put_properties.ensures.beside tells damage told.0.0 ∙ other_leaves u v format.nodes_file (λ e. omega arith) (λ e. omega arith) (c.in_ok-id.ensures.beside tells) damage told.0.0 ∙ names_leave s u (beside_names g after tells) damage told.0.0 in
     inr (
@@ -667,13 +667,13 @@ returns-in_err-put_properties-clause-caused g c tells =
 pub returns-in_err-test_room-clause-damaged : goal.returns-in_err-test_room-clause-damaged
 returns-in_err-test_room-clause-damaged g c tells =
     let s = g.S.Reads.state c.args.space.now in
-    fault_exit (λ f. f) (BlamesAdded s s (1 < maps.len (with_pairs no_properties c.args.pairs.now))) c.in_err-test_room.field-0.0 c.from_residual.result c.from_residual.ensures.1
+    fault_exit (λ f. f) (BlamesEntries s s (1 < maps.len (with_pairs no_properties c.args.pairs.now))) c.in_err-test_room.field-0.0 c.from_residual.result c.from_residual.ensures.1
     (room_blamed _ s format.nodes_file 1 c.in_err-test_room.field-0.0 c.in_err-test_room.ensures.full)
 
 pub returns-in_err-prepared-clause-damaged : goal.returns-in_err-prepared-clause-damaged
 returns-in_err-prepared-clause-damaged g c tells =
     let s = g.S.Reads.state c.args.space.now in
-    fault_exit (λ f. f) (BlamesAdded s (g.S.Reads.state c.prepare.new.space) (1 < maps.len (with_pairs no_properties c.args.pairs.now))) c.in_err-prepared.field-0.0 c.from_residual-in_err-prepared.result c.from_residual-in_err-prepared.ensures.1
+    fault_exit (λ f. f) (BlamesEntries s (g.S.Reads.state c.prepare.new.space) (1 < maps.len (with_pairs no_properties c.args.pairs.now))) c.in_err-prepared.field-0.0 c.from_residual-in_err-prepared.result c.from_residual-in_err-prepared.ensures.1
     (line_blamed _ s c.args.names.now.names c.args.label.now c.as_slice-pairs.result.now c.in_err-prepared.field-0.0 (c.in_err-prepared.ensures.caused tells))
 
 pub returns-in_err-id-clause-damaged : goal.returns-in_err-id-clause-damaged
@@ -681,7 +681,7 @@ returns-in_err-id-clause-damaged g c tells =
     let s = g.S.Reads.state c.args.space.now in
     let u = g.S.Reads.state c.listed_pairs.new.space in
     let after = (goal.at.returns-in_err-id-clause-damaged g c).After-listed_pairs in
-    fault_exit (λ f. f) (BlamesAdded s (g.S.Reads.state c.put_node.new.space) (1 < maps.len (with_pairs no_properties c.args.pairs.now))) c.in_err-id.field-0.0 c.from_residual-in_err-id.result c.from_residual-in_err-id.ensures.1
+    fault_exit (λ f. f) (BlamesEntries s (g.S.Reads.state c.put_node.new.space) (1 < maps.len (with_pairs no_properties c.args.pairs.now))) c.in_err-id.field-0.0 c.from_residual-in_err-id.result c.from_residual-in_err-id.ensures.1
     (blames_more _ _ (λ damage told. inl (node_damage s u (same_shape g after) (beside_names g after tells) damage told)) c.in_err-id.field-0.0 (c.in_err-id.ensures.damaged tells))
 
 pub returns-in_err-put_properties-clause-damaged : goal.returns-in_err-put_properties-clause-damaged
@@ -691,7 +691,7 @@ returns-in_err-put_properties-clause-damaged g c tells =
     let after = (goal.at.returns-in_err-put_properties-clause-damaged g c).After-listed_pairs in
     let v = g.S.Reads.state c.put_node.new.space in
     let harmless = no_lists_then s u v (names_harm_no_lists s u (same_shape g after) (beside_names g after tells)) (node_harms_no_lists u v (g.met.S.Reads.onward_shape _ _ c.put_node.ensures.onward) (c.in_ok-id.ensures.beside tells)) in
-    fault_exit (λ f. f) (BlamesAdded s (g.S.Reads.state c.put_properties.new.space) (1 < maps.len (with_pairs no_properties c.args.pairs.now))) c.in_err-put_properties.field-0.0 c.from_residual-in_err-put_properties.result c.from_residual-in_err-put_properties.ensures.1
+    fault_exit (λ f. f) (BlamesEntries s (g.S.Reads.state c.put_properties.new.space) (1 < maps.len (with_pairs no_properties c.args.pairs.now))) c.in_err-put_properties.field-0.0 c.from_residual-in_err-put_properties.result c.from_residual-in_err-put_properties.ensures.1
     (blames_more _ _ (λ damage told. inl (lists_broken s damage (lists_before s v harmless damage told))) c.in_err-put_properties.field-0.0 (c.in_err-put_properties.ensures.damaged tells))
 
 pub returns-in_err-prepared-clause-cause : goal.returns-in_err-prepared-clause-cause

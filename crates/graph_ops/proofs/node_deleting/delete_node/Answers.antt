@@ -1,4 +1,4 @@
-use Rattle.std.proofs.Common.{◌≡◌, ◌≢◌, ◌∙◌, ℕ, ◌+◌, Some, List, [], ◌∷◌, map, sym, ap, subst, inl, inr, ⊎_elim, arith, refl, rules}
+use Rattle.std.proofs.Common.{◌≡◌, ◌≢◌, ◌∙◌, ℕ, ◌+◌, Some, List, [], ◌∷◌, length, map, sym, ap, subst, inl, inr, ⊎_elim, arith, refl, rules}
 use Rattle.plain_graph.specs.Reply.{Done}
 use Rattle.plain_graph.specs.declared.command.Command.TheVariants as commands
 use Rattle.plain_graph.specs.declared.command.Target.TheVariants as targets
@@ -21,7 +21,7 @@ use Rattle.graph_ops.proofs.Deleting.{node_joined, node_lacked}
 use Rattle.graph_ops.proofs.Elements.{node_loaded, node_missing, same_both, same_node, used_of}
 use Rattle.graph_ops.specs.Owners.{owner_of}
 use Rattle.prop_store.specs.Owner.{IsInUse}
-use Rattle.graph_ops.proofs.Broken.{blames_more, drop_cause, entry_cause, entry_left, held_cause, node_broken, node_cause, node_in_use, unwritten_left}
+use Rattle.graph_ops.proofs.Broken.{blames_both, blames_more, drop_cause, entry_cause, entry_left, held_cause, node_broken, node_cause, node_in_use, unwritten_left}
 use Rattle.graph_ops.specs.Causes.{IsCaused, IsStillCaused}
 use Rattle.graph_ops.proofs.Causes.{any_blamed, broken_left, caused_left, failure_caused}
 use Rattle.graph_ops.proofs.Adding.{space_blamed}
@@ -44,8 +44,9 @@ use Rattle.graph_ops.proofs.IndexBeside.{index_written, touched_beside}
 use Rattle.graph_ops.proofs.KeptIndexes.{whole_read}
 use Rattle.graph_ops.proofs.LiveIndexes.{node_owned}
 use Rattle.graph_ops.proofs.NodeGone.{gone_between, gone_kinds, gone_left, gone_made, label_found}
-use Rattle.graph_ops.specs.Damage.{BlamesBroken, IsBroken}
-use Rattle.graph_ops.specs.Entries.{held_of}
+use Rattle.graph_ops.specs.Damage.{BlamesBroken, IsAsFound, IsBroken}
+use Rattle.graph_ops.specs.Entries.{HasIndexes, held_of}
+use Rattle.graph_ops.proofs.EntriesFaults.{given_beside, other_leaves, owner_file, properties_leave, reads_leave}
 use Rattle.store_rules.specs.Indexes.{AreIndexed, IsIndexed, wanted_in}
 use Rattle.graph_ops.proofs.PairsPut.{label_at}
 use Rattle.graph_ops.proofs.Reasons.{outside_refused}
@@ -274,10 +275,22 @@ returns-in_err-entries-clause-refused g c tells whole =
 
 pub returns-in_err-entries-clause-found : goal.returns-in_err-entries-clause-found
 returns-in_err-entries-clause-found g c tells =
+    let after = (goal.at.After-leave_values g (goal.at.returns-in_err-entries-clause-found g c).After-leave_values).After-held_values in
     let s = g.S.Reads.state c.args.space.now in
+    let m = g.S.Reads.state c.load.new.space in
+    let n = g.S.Reads.state c.held_values.new.space in
+    let d = g.S.Reads.state c.drop_all.new.space in
+    let e = g.S.Reads.state c.give.new.space in
     let v = g.S.Reads.state c.leave_values.new.space in
-    fault_exit (λ f. f) (IsDeleteCause s v c.args.id) c.in_err-entries.field-0.0 c.from_residual-in_err-entries.result c.from_residual-in_err-entries.ensures.1
-    (entry_cause s v c.args.id c.in_err-entries.field-0.0 c.in_err-entries.ensures.failure (c.in_err-entries.ensures.blames tells))
+    let fault = c.in_err-entries.field-0.0 in
+    let owner = owner_file c.node_owner.result (targets.Node c.args.id) c.node_owner.ensures in
+    fault_exit (λ f. f) (IsDeleteCause s v c.args.id) fault c.from_residual-in_err-entries.result c.from_residual-in_err-entries.ensures.1
+    (entry_cause s v c.args.id fault c.in_err-entries.ensures.failure (blames_more _ _ (λ damage told.
+    let left : IsAsFound s e damage = other_leaves d e format.nodes_file (λ z. omega arith) (λ z. omega arith) (given_beside d e format.nodes_file c.args.id (c.in_ok-give.ensures.stays tells)) damage told.0.0
+    ∙ properties_leave g.S.Reads.tells _ _ n d c.node_owner.result owner tells c.drop_all.ensures.at_most damage told.0.0 ∙ reads_leave s n (read g after) damage told.0.0 in
+    let several = subst (λ (z : State). HasIndexes z.records) (loaded g after) in
+    (told.0, ⊎_elim (λ found. inl (found ∙ left)) (λ more. inr (several (c.in_ok-held.ensures.several tells (let len = ap length c.deref.ensures.value in omega (arith, more, len))))) told.1)) fault
+    (blames_both _ _ fault (c.in_err-entries.ensures.blames tells) (c.in_err-entries.ensures.untouched tells))))
 
 pub returns-clause-made : goal.returns-clause-made
 returns-clause-made g c tells whole =
