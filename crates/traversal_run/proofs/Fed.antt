@@ -10,7 +10,7 @@ use Rattle.node_store.specs.declared.node_row.NodeRow.{NodeRow}
 use Rattle.plain_graph.specs.declared.item.Item.{Item}
 use Rattle.plain_graph.specs.declared.item.Item.TheVariants as items
 use Rattle.store_rules.specs.Rows.{option_list}
-use Rattle.traversal_run.specs.Feeding.{Counts, Feeds, IsCountOf, filter_stage, passing}
+use Rattle.traversal_run.specs.Feeding.{Counts, Feeds, filter_stage}
 use Rattle.store_rules.specs.Graph.{graph_of}
 use Rattle.store_rules.specs.Views.{Records}
 use Rattle.traversal_run.specs.Finding.{element_at, vertex_if}
@@ -18,7 +18,7 @@ use Rattle.traversal_run.specs.Held.{ArePlain}
 use Rattle.traversal_run.specs.Mapping.{filtered}
 use Rattle.traversal_run.specs.Row.{AreIdle, Stream, after_row, have_no_count, stages_of, stream, through, with_first}
 use Rattle.traversal_run.specs.Source.{GivesFirst, TakesId, left_of}
-use Rattle.traversal_run.specs.Stage.{Takes, after_stage, counted, counts_past, is_count, with_more}
+use Rattle.traversal_run.specs.Stage.{Takes, after_stage, counted, counts_past, with_more}
 use Rattle.traversal_run.specs.declared.row.Row.{Row}
 use Rattle.traversal_run.specs.declared.source.Left.{Left}
 use Rattle.traversal_run.specs.declared.source.Left.TheVariants.{Nothing}
@@ -172,108 +172,6 @@ limit_stays (Some n) before outs none same =
     let long : length outs ≡ 0 = ap length none in
     let all : n ≡ n + length outs = omega arith in
     ap (λ m. Some m) all ∙ same
-
--- ---- a filter before a count
-
--- one more vertex was taken
-passing_more : (graph : Graph) (test : Filter) (source now rest : Source) (item : Item) (passed : Bool) (before so_far more : ℕ) → so_far + length (passing graph test now) ≡ before + length (passing graph test source)
-    → left_of graph now ≡ item ∷ left_of graph rest → passed ≡ passes graph test item → more ≡ from_bool passed → so_far + more + length (passing graph test rest) ≡ before + length (passing graph test source)
-passing_more graph test source now rest item passed before so_far more same takes is one = by passed (gave is) one
-  where
-    gave : passed ≡ passes graph test item → length (passing graph test now) ≡ length (cond passed (item ∷ []) [] ++ passing graph test rest)
-    gave e = ap length (ap (flat_map (filtered graph test)) takes ∙ ap (λ b. cond b (item ∷ []) [] ++ passing graph test rest) (sym e))
-
-    by : (b : Bool) → length (passing graph test now) ≡ length (cond b (item ∷ []) [] ++ passing graph test rest) → more ≡ from_bool b → so_far + more + length (passing graph test rest) ≡ before + length (passing graph test source)
-    by true long is_one = let n : more ≡ 1 = is_one in omega arith
-    by false long is_one = let n : more ≡ 0 = is_one in omega arith
-
-pub passing_on : (graph : Graph) (test : Filter) (source now rest : Source) (item : Item) (passed : Bool) (before so_far more after : ℕ) → so_far + length (passing graph test now) ≡ before + length (passing graph test source)
-    → left_of graph now ≡ item ∷ left_of graph rest → passed ≡ passes graph test item → more ≡ from_bool passed → after ≡ so_far + more
-    → after + length (passing graph test rest) ≡ before + length (passing graph test source)
-passing_on graph test source now rest item passed before so_far more after same takes is one counted =
-    ap (λ n. n + length (passing graph test rest)) counted ∙ passing_more graph test source now rest item passed before so_far more same takes is one
-
-pub passing_passes : (graph : Graph) (test : Filter) (source now rest : Source) (item : Item) (passed : Bool) (before so_far more : ℕ) → so_far + length (passing graph test now) ≡ before + length (passing graph test source)
-    → left_of graph now ≡ item ∷ left_of graph rest → passed ≡ passes graph test item → more ≡ from_bool passed → 9223372036854775807 < so_far + more
-    → 9223372036854775807 < before + length (passing graph test source)
-passing_passes graph test source now rest item passed before so_far more same takes is one past =
-    let all = passing_more graph test source now rest item passed before so_far more same takes is one in omega arith
-
-pub passing_past : (graph : Graph) (test : Filter) (source now rest : Source) (before so_far : ℕ) → so_far + length (passing graph test now) ≡ before + length (passing graph test source)
-    → left_of graph now ≡ left_of graph rest → so_far + length (passing graph test rest) ≡ before + length (passing graph test source)
-passing_past graph test source now rest before so_far same past = ap (λ list. so_far + length (flat_map (filtered graph test) list)) (sym past) ∙ same
-
-pub passing_end : (graph : Graph) (test : Filter) (source now : Source) (before so_far : ℕ) → so_far + length (passing graph test now) ≡ before + length (passing graph test source)
-    → left_of graph now ≡ [] → so_far ≡ before + length (passing graph test source)
-passing_end graph test source now before so_far same none =
-    let long : length (passing graph test now) ≡ 0 = ap (λ list. length (flat_map (filtered graph test) list)) none in omega arith
-
--- what two rows make of what a source still has
-abbrev after_rows : Graph → Row → Row → Source → Stream
-after_rows graph first second source =
-    after_row graph second (after_row graph first (stream (left_of graph source)))
-
--- what a count gives
-abbrev count_stream : Bool → ℕ → Stream
-count_stream told n = record { items = counted told n; past = not told && nat_lt 9223372036854775807 n }
-
-two_rows : (graph : Graph) (test : Filter) (first second : Row) (n : ℕ) (told : Bool) (list : List Item) → first.stage ≡ filter_stage test → first.waiting ≡ [] → second.stage ≡ stages.Count n told → second.waiting ≡ []
-    → after_row graph second (after_row graph first (stream list)) ≡ count_stream told (n + length (flat_map (filtered graph test) list))
-two_rows graph test first second n told list one idle two empty =
-    λ i. after_row graph (record { stage = two i; waiting = empty i }) (after_row graph (record { stage = one i; waiting = idle i }) (stream list))
-
-counted_same : (told fits : Bool) (n after : ℕ) (list : List Item) → IsCountOf list n fits after → fits || told ≡ true → count_stream told (after + 0) ≡ count_stream told (n + length list)
-counted_same true fits n after list counts gives = refl
-counted_same false true n after list counts gives = let is = counts in ap (count_stream false) (omega arith)
-counted_same false false n after list counts gives = absurd cc
-
-pub fed_two : (graph : Graph) (test : Filter) (first second new : Row) (source rest : Source) (n after : ℕ) (told fits : Bool) → first.stage ≡ filter_stage test → first.waiting ≡ [] → second.stage ≡ stages.Count n told → second.waiting ≡ []
-    → new.stage ≡ stages.Count after told → new.waiting ≡ [] → IsCountOf (passing graph test source) n fits after → fits || told ≡ true → left_of graph rest ≡ []
-    → after_rows graph first new rest ≡ after_rows graph first second source
-fed_two graph test first second new source rest n after told fits one idle two empty now none counts gives over =
-    two_rows graph test first new after told (left_of graph rest) one idle now none
-    ∙ ap (λ list. count_stream told (after + length (flat_map (filtered graph test) list))) over
-    ∙ counted_same told fits n after (passing graph test source) counts gives
-    ∙ sym (two_rows graph test first second n told (left_of graph source) one idle two empty)
-
-pub fed_two_past : (graph : Graph) (test : Filter) (first second : Row) (source : Source) (n after : ℕ) (told fits : Bool) → first.stage ≡ filter_stage test → first.waiting ≡ [] → second.stage ≡ stages.Count n told → second.waiting ≡ []
-    → IsCountOf (passing graph test source) n fits after → fits || told ≡ false → (after_rows graph first second source).past ≡ true
-fed_two_past graph test first second source n after true fits one idle two empty counts gives = absurd (no fits gives)
-  where
-    no : (b : Bool) → b || true ≡ false → ⊥
-    no true e = cc
-    no false e = cc
-fed_two_past graph test first second source n after false true one idle two empty counts gives = absurd cc
-fed_two_past graph test first second source n after false false one idle two empty counts gives =
-    ap (λ (s : Stream). s.past) (two_rows graph test first second n false (left_of graph source) one idle two empty) ∙ lt-ltb 9223372036854775807 (n + length (passing graph test source)) counts
-
--- so it is of all rows
-pub fed_both : (graph : Graph) (test : Filter) (rows : List Row) (any other last : Row) (source rest : Source) (n after : ℕ) (told fits : Bool) → 1 < length rows → AreIdle rows → (get_or rows 0 any).stage ≡ filter_stage test → (get_or rows 1 other).stage ≡ stages.Count n told
-    → IsCountOf (passing graph test source) n fits after → fits || told ≡ true → left_of graph rest ≡ []
-    → through graph (set rows 1 (record (get_or rows 1 last) { stage = stages.Count after told })) (stream (left_of graph rest)) ≡ through graph rows (stream (left_of graph source))
-fed_both graph test [] any other last source rest n after told fits lt idle one two counts gives over = absurd (omega arith)
-fed_both graph test (first ∷ []) any other last source rest n after told fits lt idle one two counts gives over = absurd (omega arith)
-fed_both graph test (first ∷ second ∷ rows) any other last source rest n after told fits lt idle one two counts gives over =
-    ap (through graph rows) (fed_two graph test first second (record second { stage = stages.Count after told }) source rest n after told fits one idle.0 two idle.1.0 refl idle.1.0 counts gives over)
-
-pub fed_both_past : (graph : Graph) (test : Filter) (rows : List Row) (any other : Row) (source : Source) (n after : ℕ) (told fits : Bool) → 1 < length rows → AreIdle rows → (get_or rows 0 any).stage ≡ filter_stage test → (get_or rows 1 other).stage ≡ stages.Count n told
-    → IsCountOf (passing graph test source) n fits after → fits || told ≡ false → (through graph rows (stream (left_of graph source))).past ≡ true
-fed_both_past graph test [] any other source n after told fits lt idle one two counts gives = absurd (omega arith)
-fed_both_past graph test (first ∷ []) any other source n after told fits lt idle one two counts gives = absurd (omega arith)
-fed_both_past graph test (first ∷ second ∷ rows) any other source n after told fits lt idle one two counts gives =
-    past_through graph rows (after_rows graph first second source) (fed_two_past graph test first second source n after told fits one idle.0 two idle.1.0 counts gives)
-
--- the second row counts, before and after
-pub both_count : (rows : List Row) (other : Row) (n after : ℕ) (told : Bool) → 1 < length rows → (get_or rows 1 other).stage ≡ stages.Count n told
-    → (have_no_count (stages_of rows) ≡ false) × (have_no_count (stages_of (set rows 1 (record (get_or rows 1 other) { stage = stages.Count after told }))) ≡ false)
-both_count [] other n after told lt two = absurd (omega arith)
-both_count (first ∷ []) other n after told lt two = absurd (omega arith)
-both_count (first ∷ second ∷ rows) other n after told lt two =
-    (ap (λ b. not (is_count first.stage) && (not b && have_no_count (stages_of rows))) (ap is_count two) ∙ none (not (is_count first.stage)), none (not (is_count first.stage)))
-  where
-    none : (b : Bool) → b && false ≡ false
-    none true = refl
-    none false = refl
 
 -- plain steps do not count
 pub plain_no_count : (rows : List Row) → ArePlain rows → have_no_count (stages_of rows) ≡ true

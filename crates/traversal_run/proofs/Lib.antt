@@ -7,6 +7,7 @@ pub mod Causes
 pub mod Codes
 pub mod Counting
 pub mod Fed
+pub mod FilteredCounts
 pub mod FoundNodes
 pub mod FoundSources
 pub mod HeldRows

@@ -11,6 +11,7 @@ pub mod KeyValues
 pub mod Kept
 pub mod Mapping
 pub mod Naming
+pub mod NumberedFilter
 pub mod Reading
 pub mod Row
 pub mod Run

@@ -1,4 +1,4 @@
-ghost use Rattle.std.specs.Prelude.{ℕ, ◌≡◌, ◌≤◌, IfErr, IfOk, IfSome, List, length};
+ghost use Rattle.std.specs.Prelude.{ℕ, ◌≡◌, ◌<◌, ◌≤◌, IfErr, IfOk, IfSome, List, length};
 ghost use Rattle.std.specs.Borrow.{Bor};
 ghost use Rattle.std.specs.Option.{option_map};
 ghost use Rattle.std.specs.FinMap as maps;
@@ -17,6 +17,8 @@ ghost use Rattle.rec_bytes.specs.RowFault.{HasRowCause};
 ghost use Rattle.traversal_run.specs.Elements.{IsLoaded, IsOwnerOf, IsRowOf, owned_edge, owner_reads};
 ghost use Rattle.rec_bytes.specs.Fault.{HasFaultCause};
 ghost use Rattle.prop_store.specs.Fault.{BlamesBroken};
+ghost use Rattle.traversal_run.specs.Naming.{name_at, name_count};
+ghost use Rattle.traversal_run.specs.NumberedFilter.{HasNumber};
 ghost use Rattle.traversal_run.specs.Reading.{IsNamedStore, IsRead};
 
 use crate::naming::{name_mark, number_of, text_of, unnamed};
@@ -167,6 +169,32 @@ fn vertex_label<'a, R: Reads>(
     ensures read { IsRead R.Reads space.old space.new }
     ensures cause { HasFaultCause (R.faults space.old) (R.faults space.new) result }
 {
+    match label_number(space, id, row)? {
+        Some(number) => Ok(Some(text_of(names, number))),
+        None => Ok(None),
+    }
+}
+
+/// The number of the label of a vertex; none where it isn't in use. A label that is no name is
+/// damage.
+pub(crate) fn label_number<R: Reads>(
+    space: &mut R,
+    id: u32,
+    row: &Option<NodeRow>,
+) -> Result<Option<u32>, Fault>
+    requires row { IsRowOf R.tells (R.state space.old).records (items.Vertex id) row.now }
+    ensures found { R.tells → IfOk result (λ number.
+        option_map (name_at (R.state space.old).records) number
+        ≡ label_of (graph_of (R.state space.old).records) (items.Vertex id)) }
+    ensures below { IfOk result (λ number.
+        IfSome number (λ found. found < name_count (R.state space.old).records)) }
+    ensures damaged { R.tells → IfErr result
+        (BlamesBroken (R.state space.old).records (R.state space.old).shape) }
+    ensures no_read { IsLoaded (items.Vertex id) row.now
+        → R.state space.new ≡ R.state space.old }
+    ensures read { IsRead R.Reads space.old space.new }
+    ensures cause { HasFaultCause (R.faults space.old) (R.faults space.new) result }
+{
     let mark = name_mark(space);
     let Some(row) = row_of(space, id, row)? else {
         return Ok(None);
@@ -174,7 +202,7 @@ fn vertex_label<'a, R: Reads>(
     if row.label >= mark {
         return Err(unnamed(NODES, id));
     }
-    Ok(Some(text_of(names, row.label)))
+    Ok(Some(row.label))
 }
 
 /// The value of a key of an item. A key that is no name of the store has none.
@@ -198,12 +226,34 @@ pub(crate) fn value_of<R: Reads>(
     ensures read { IsRead R.Reads space.old space.new }
     ensures cause { HasFaultCause (R.faults space.old) (R.faults space.new) result }
 {
-    let Some(number) = number_of(space, names, guess, key) else {
+    let number = number_of(space, names, guess, key);
+    numbered_value(alloc, space, number, item, row)
+}
+
+/// The value of the key of this number of an item; none where there is no number.
+pub(crate) fn numbered_value<R: Reads>(
+    alloc: Global,
+    space: &mut R,
+    number: Option<u32>,
+    item: &Item,
+    row: &Option<NodeRow>,
+) -> Result<Option<Value>, Fault>
+    requires row { IsRowOf R.tells (R.state space.old).records item.now row.now }
+    ensures found { R.tells → IsWellFormed (R.state space.old).records (R.state space.old).shape
+        → (key : List ℕ) → HasNumber (R.state space.old).records number key
+        → IfOk result (λ value. value
+        ≡ maps.get (properties_of (graph_of (R.state space.old).records) item.now) key) }
+    ensures damaged { R.tells → IfErr result
+        (BlamesBroken (R.state space.old).records (R.state space.old).shape) }
+    ensures kept { IfOk result (λ value. IfSome value IsKept) }
+    ensures read { IsRead R.Reads space.old space.new }
+    ensures cause { HasFaultCause (R.faults space.old) (R.faults space.new) result }
+{
+    let Some(number) = number else {
         return Ok(None);
     };
     let Some(owned) = owner_of(space, item, row)? else {
         return Ok(None);
     };
-    let value = read_key_from(alloc, space, owned.owner, owned.first, number)?;
-    Ok(value)
+    read_key_from(alloc, space, owned.owner, owned.first, number)
 }

@@ -1,13 +1,23 @@
 //! What the source still has, given to the first step item by item, with none that waits.
 
-ghost use Rattle.std.specs.Prelude.{◌≡◌, ◌≤◌, ℕ, [], IfErr, IfOk, IfSome, OnOk, false};
-ghost use Rattle.std.specs.Prelude.{length, true};
+ghost use Rattle.std.specs.Prelude.{◌≡◌, ◌<◌, ◌≤◌, ℕ, [], All, IfErr, IfOk, IfSome, OnOk, false};
+ghost use Rattle.std.specs.Prelude.{get_or, length, take, true};
+ghost use Rattle.std.specs.List.{filter};
 ghost use Rattle.store_rules.specs.Graph.{graph_of};
 ghost use Rattle.rec_bytes.specs.Fault.{HasFaultCause};
 ghost use Rattle.prop_store.specs.Fault.{BlamesBroken};
-ghost use Rattle.traversal_run.specs.Feeding.{Feeds, IsCountOf, filter_stage, passing};
+ghost use Rattle.traversal_run.specs.Feeding.{
+  Feeds,
+  IsCountOf,
+  are_filters,
+  filter_stage,
+  passing,
+};
+ghost use Rattle.traversal_run.specs.Finding.{element_at};
+ghost use Rattle.traversal_run.specs.NumberedFilter.{IsNumbered, passes_numbered};
+ghost use Rattle.store_rules.specs.Rules.{IsWellFormed};
 ghost use Rattle.traversal_run.specs.Elements.{IsRowOf};
-ghost use Rattle.plain_graph.specs.Meaning.{passes};
+ghost use Rattle.plain_graph.specs.Meaning.{is_some_and, passes};
 ghost use Rattle.plain_graph.specs.declared.item.Item.TheVariants as items;
 ghost use Rattle.traversal_run.specs.Held.{HasDegreesUpTo, IsBatch, is_hop, is_plain};
 ghost use Rattle.traversal_run.specs.HopRun.{FeedsHop};
@@ -21,6 +31,8 @@ use crate::counter::Counter;
 use crate::finding::vertex_row;
 use crate::lookups::passes;
 use crate::mapping::Mapping;
+use crate::numbered_filter::{NumberedFilter, numbered_filters, passes_each};
+use crate::row::Row;
 use crate::shown::Shown;
 use crate::sought::Sought;
 use crate::source::Source;
@@ -205,21 +217,45 @@ fn feed_edges<R: Reads>(
     Err(Fault::Memory)
 }
 
-/// Counts the vertices of the source that pass a filter, and leaves nothing to come. It tells
-/// whether a value can say the count.
+/// Counts the vertices of the source that pass those of these rows that are filters, and leaves
+/// nothing to come. It tells whether a value can say the count. The names are sought once.
 pub(crate) fn count_passing<R: Reads>(
     alloc: Global,
     space: &mut R,
     names: &Names,
     source: &mut Source,
-    filter: &Sought<Filter>,
+    rows: &[Row],
     so_far: &mut Counter,
 ) -> Result<bool, Fault>
     requires { source.old.edges ≡ false }
     ensures counts { R.tells
         → IsNamedStore (R.state space.old).records (R.state space.old).shape names.now.names
         → IfOk result (λ fits. IsCountOf
-        (passing (graph_of (R.state space.old).records) filter.now source.old)
+        (passing (graph_of (R.state space.old).records) rows.now source.old)
+        so_far.old fits so_far.new) }
+    ensures over { OnOk result ((graph : Graph) → left_of graph source.new ≡ []) }
+    ensures damaged { R.tells → IfErr result
+        (BlamesBroken (R.state space.old).records (R.state space.old).shape) }
+    ensures read { IsRead R.Reads space.old space.new }
+    ensures cause { HasFaultCause (R.faults space.old) (R.faults space.new) result }
+{
+    let filters = numbered_filters(alloc, space, names, rows)?;
+    count_numbered(alloc, space, source, &filters, so_far)
+}
+
+/// The same of filters with the numbers of their names.
+fn count_numbered<R: Reads>(
+    alloc: Global,
+    space: &mut R,
+    source: &mut Source,
+    filters: &[NumberedFilter],
+    so_far: &mut Counter,
+) -> Result<bool, Fault>
+    requires { source.old.edges ≡ false }
+    ensures counts { R.tells → IsWellFormed (R.state space.old).records (R.state space.old).shape
+        → All (IsNumbered (R.state space.old).records) filters.now → IfOk result (λ fits. IsCountOf
+        (filter (passes_numbered (graph_of (R.state space.old).records) filters.now)
+        (left_of (graph_of (R.state space.old).records) source.old))
         so_far.old fits so_far.new) }
     ensures over { OnOk result ((graph : Graph) → left_of graph source.new ≡ []) }
     ensures damaged { R.tells → IfErr result
@@ -229,17 +265,38 @@ pub(crate) fn count_passing<R: Reads>(
 {
     let mark = source.mark(space);
     while let Some(id) = source.left.take_first(mark) {
-        let row = vertex_row(space, id)?;
-        if row.is_some() {
-            let passed = passes_at(alloc, space, names, filter, id, &row)?;
-            if !so_far.add(usize::from(passed)) {
-                source.end();
-                return Ok(false);
-            }
+        let passed = vertex_passes(alloc, space, filters, id)?;
+        if !so_far.add(usize::from(passed)) {
+            source.end();
+            return Ok(false);
         }
     }
     source.end();
     Ok(true)
+}
+
+/// Whether an identifier is that of a vertex that passes each of these filters.
+fn vertex_passes<R: Reads>(
+    alloc: Global,
+    space: &mut R,
+    filters: &[NumberedFilter],
+    id: u32,
+) -> Result<bool, Fault>
+    ensures found { R.tells → IsWellFormed (R.state space.old).records (R.state space.old).shape
+        → All (IsNumbered (R.state space.old).records) filters.now → IfOk result (λ value. value
+        ≡ is_some_and (element_at (R.state space.old).records false id)
+        (passes_numbered (graph_of (R.state space.old).records) filters.now)) }
+    ensures damaged { R.tells → IfErr result
+        (BlamesBroken (R.state space.old).records (R.state space.old).shape) }
+    ensures read { IsRead R.Reads space.old space.new }
+    ensures cause { HasFaultCause (R.faults space.old) (R.faults space.new) result }
+{
+    let row = vertex_row(space, id)?;
+    if row.is_some() {
+        passes_each(alloc, space, filters, id, &row)
+    } else {
+        Ok(false)
+    }
 }
 
 /// Whether the vertex of an identifier passes a filter.
@@ -265,22 +322,41 @@ fn passes_at<R: Reads>(
     passes(alloc, space, names, filter, vertex.as_item(), row)
 }
 
-/// The filter that a step is, if it is one.
-pub(crate) fn as_filter(stage: &Stage) -> Option<&Sought<Filter>>
-    ensures { IfSome result (λ filter. stage.now ≡ filter_stage filter.now) }
-{
-    match stage {
-        Stage::Mapped(Mapping::Filter(filter)) => Some(filter),
-        _ => None,
-    }
+/// A row that counts, with a filter before it and nothing else: its place, and what it has counted.
+#[derive(Drop)]
+pub(crate) struct FilteredCount {
+    pub(crate) at: usize,
+    pub(crate) so_far: Counter,
+    pub(crate) told: bool,
 }
 
-/// What a step has counted, and whether that was given, if it counts.
-pub(crate) fn count_of(stage: &Stage) -> Option<(Counter, bool)>
-    ensures { IfSome result (λ count. stage.now ≡ Stage.Count count.0 count.1) }
+/// The count that takes what comes through filters alone, if there is one.
+#[tactic(auto, using(crate::proofs::FilteredCounts::filters_more))]
+pub(crate) fn filtered_count(rows: &[Row]) -> Option<FilteredCount>
+    ensures some { IfSome result (λ count. (0 < count.at) × (count.at < length rows.now)) }
+    ensures filters { IfSome result (λ count. are_filters (take count.at rows.now) ≡ true) }
+    ensures counts { IfSome result (λ count. (any : Row)
+        → (get_or rows.now count.at any).stage ≡ Stage.Count count.so_far count.told) }
+{
+    for (at, row) in rows.iter().enumerate() {
+        if !row.stage.is_filter() {
+            return count_at(at, &row.stage);
+        }
+    }
+    None
+}
+
+/// The step at this place, where it counts and another is before it.
+fn count_at(at: usize, stage: &Stage) -> Option<FilteredCount>
+    ensures at { IfSome result (λ count. (count.at ≡ at) × (0 < at)) }
+    ensures counts { IfSome result (λ count. stage.now ≡ Stage.Count count.so_far count.told) }
 {
     match stage {
-        Stage::Count { so_far, told } => Some((so_far.copy(), *told)),
+        Stage::Count { so_far, told } if at > 0 => Some(FilteredCount {
+            at,
+            so_far: so_far.copy(),
+            told: *told,
+        }),
         _ => None,
     }
 }

@@ -21,6 +21,7 @@ mod key_values;
 mod lookups;
 mod mapping;
 mod naming;
+mod numbered_filter;
 mod row;
 mod run;
 mod seen;

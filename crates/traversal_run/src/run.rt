@@ -1,6 +1,6 @@
 ghost use Rattle.std.specs.Prelude.{◌≡◌, ◌≢◌, ◌↔◌, ℕ, Bool, IsTrue, [], ◌∷◌, ◌+◌, ◌<◌, ◌≤◌};
 ghost use Rattle.std.specs.Prelude.{length, take, drop, true, vec_len, None, Some, Ok, Err, IfErr};
-ghost use Rattle.std.specs.Prelude.{IfOk, OnOk};
+ghost use Rattle.std.specs.Prelude.{IfOk, OnOk, get_or};
 ghost use Rattle.plain_graph.specs.Forms.{IsShown};
 ghost use Rattle.plain_graph.specs.Graph.{Graph};
 ghost use Rattle.plain_graph.specs.Lines.{index_of_source};
@@ -11,6 +11,7 @@ ghost use Rattle.plain_graph.specs.declared.query.Step.TheVariants as steps;
 ghost use Rattle.plain_graph.specs.declared.query.Hop.{Hop};
 ghost use Rattle.prop_index.specs.Looking.{BlamesBroken, HasLookupCause};
 ghost use Rattle.prop_store.specs.Reading.{ReadsAtMost};
+ghost use Rattle.traversal_run.specs.Feeding.{are_filters};
 ghost use Rattle.traversal_run.specs.FoundNodes.{HasIndexOf, IsSourceRefusal, ReadsToBegin};
 ghost use Rattle.traversal_run.specs.Held.{
   ArePlainSteps,
@@ -60,7 +61,7 @@ ghost use Rattle.traversal_run.specs.Starting.{limit_of};
 ghost use Rattle.traversal_run.specs.Stop.{HasStopCause, MayStop, StopsAtBroken};
 ghost use Rattle.store_rules.specs.Breaking.{Breaks};
 
-use crate::feeding::{as_filter, count_of, count_passing, feed};
+use crate::feeding::{FilteredCount, count_passing, feed, filtered_count};
 use crate::row::{Row, first_open, have_no_count, is_fed, last_waiting, put};
 use crate::source::Source;
 use crate::stage::Stage;
@@ -185,26 +186,28 @@ fn feed_step<R: Reads>(
     Ok(())
 }
 
-/// Gives the first two rows what the source still has, where the first is a filter of vertices and
-/// the second counts. It tells whether they are so.
-fn feed_two<R: Reads>(
+/// Gives a count all that comes to it from the source through the filters before it.
+fn feed_count<R: Reads>(
     alloc: Global,
     space: &mut R,
     names: &Names,
     source: &mut Source,
     rows: &mut [Row],
-) -> Result<bool, Stop>
+    count: FilteredCount,
+) -> Result<(), Stop>
+    requires vertices { source.old.edges ≡ false }
+    requires within { count.at < length rows.old }
     requires idle { AreIdle rows.old }
+    requires filters { are_filters (take count.at rows.old) ≡ true }
+    requires counts { (any : Row)
+        → (get_or rows.old count.at any).stage ≡ Stage.Count count.so_far count.told }
     ensures same { R.tells
         → IsNamedStore (R.state space.old).records (R.state space.old).shape names.now.names
-        → IfOk result (λ fed. fed ≡ true → through (graph_of (R.state space.old).records)
+        → OnOk result (through (graph_of (R.state space.old).records)
         rows.new (stream (left_of (graph_of (R.state space.old).records) source.new))
         ≡ through (graph_of (R.state space.old).records)
         rows.old (stream (left_of (graph_of (R.state space.old).records) source.old))) }
-    ensures stays { IfOk result (λ fed. fed ≡ false → (rows.new ≡ rows.old)
-        × (source.new ≡ source.old) × (space.new ≡ space.old)) }
-    ensures counts { IfOk result (λ fed. fed ≡ true
-        → (have_no_count (stages_of rows.old) ≡ false)
+    ensures counts { OnOk result ((have_no_count (stages_of rows.old) ≡ false)
         × (have_no_count (stages_of rows.new) ≡ false)) }
     ensures stops { R.tells
         → IsNamedStore (R.state space.old).records (R.state space.old).shape names.now.names
@@ -213,32 +216,23 @@ fn feed_two<R: Reads>(
         ≡ true)) }
     ensures damaged { R.tells → IfErr result
         (StopsAtBroken (R.state space.old).records (R.state space.old).shape) }
-    ensures alone { length rows.old < 2 → (result ≡ Ok false) × (space.new ≡ space.old)
-        × (rows.new ≡ rows.old) × (source.new ≡ source.old) }
     ensures read { IsRead R.Reads space.old space.new }
     ensures cause { HasStopCause (R.faults space.old) (R.faults space.new) result }
 {
-    if source.edges || rows.len() < 2 {
-        return Ok(false);
-    }
-    let shared = &rows[..];
-    let Some(filter) = as_filter(&shared[0].stage) else {
-        return Ok(false);
-    };
-    let Some((mut so_far, told)) = count_of(&shared[1].stage) else {
-        return Ok(false);
-    };
-    let fits = count_passing(alloc, space, names, source, filter, &mut so_far)?;
-    rows[1].stage = Stage::Count { so_far, told };
+    let at = count.at;
+    let told = count.told;
+    let mut so_far = count.so_far;
+    let fits = count_passing(alloc, space, names, source, &rows[..at], &mut so_far)?;
+    rows[at].stage = Stage::Count { so_far, told };
     if fits | told {
-        Ok(true)
+        Ok(())
     } else {
         Err(Stop::PastCount)
     }
 }
 
-/// Gives the first row what the source still has, and what that gives to the next row. A filter
-/// before a count takes all at once.
+/// Gives the first row what the source still has, and what that gives to the next row. A count
+/// with filters of vertices alone before it takes all at once.
 fn feed_rows<R: Reads>(
     alloc: Global,
     space: &mut R,
@@ -276,8 +270,10 @@ fn feed_rows<R: Reads>(
     ensures read { IsRead R.Reads space.old space.new }
     ensures cause { HasStopCause (R.faults space.old) (R.faults space.new) result }
 {
-    if feed_two(alloc, space, names, source, rows)? {
-        return Ok(());
+    if !source.edges
+        && let Some(count) = filtered_count(rows)
+    {
+        return feed_count(alloc, space, names, source, rows, count);
     }
     feed_step(alloc, space, names, source, rows, ready)
 }

@@ -1,5 +1,5 @@
 ghost use Rattle.std.specs.Prelude.{◌≡◌, [], ◌++◌, IfErr, IfOk, OnOk, false, length};
-ghost use Rattle.std.specs.Prelude.{◌+◌, ◌-◌, ◌∷◌, ℕ, List, take};
+ghost use Rattle.std.specs.Prelude.{◌+◌, ◌-◌, ◌∷◌, ℕ, IfNone, IfSome, List, take};
 ghost use Rattle.plain_graph.specs.Graph.{Graph};
 ghost use Rattle.plain_graph.specs.Meaning.{ranked, unseen};
 ghost use Rattle.plain_graph.specs.declared.item.Item.{Item};
@@ -8,6 +8,7 @@ ghost use Rattle.store_rules.specs.Graph.{graph_of};
 ghost use Rattle.rec_bytes.specs.Fault.{HasFaultCause};
 ghost use Rattle.prop_store.specs.Fault.{BlamesBroken};
 ghost use Rattle.traversal_run.specs.Elements.{IsRowOf};
+ghost use Rattle.traversal_run.specs.Feeding.{filter_stage, is_filter};
 ghost use Rattle.traversal_run.specs.Held.{is_hop, is_plain};
 ghost use Rattle.traversal_run.specs.HopRun.{StageReads};
 ghost use Rattle.traversal_run.specs.Reading.{IsNamedStore, IsRead};
@@ -31,7 +32,7 @@ use crate::sought::Sought;
 use crate::waiting::Waiting;
 use name_store::Names;
 use node_store::NodeRow;
-use plain_graph::Text;
+use plain_graph::{Filter, Text};
 use rec_bytes::{Fault, Reads};
 use std::alloc::{AllocError, Global};
 
@@ -191,6 +192,13 @@ impl Stage {
         matches!(self, Stage::Count { .. })
     }
 
+    /// Whether it is a filter.
+    pub(crate) fn is_filter(&self) -> bool
+        ensures { result ≡ is_filter self.now }
+    {
+        matches!(self, Stage::Mapped(Mapping::Filter(_)))
+    }
+
     /// What it gives at the end of what comes to it.
     pub(crate) fn finish(&mut self, alloc: Global) -> Result<Waiting, AllocError>
         ensures finishes { IfOk result (λ outs. (graph : Graph)
@@ -217,5 +225,16 @@ impl Stage {
             }
             _ => Ok(Waiting::new(alloc)),
         }
+    }
+}
+
+/// The filter that a step is, if it is one.
+pub(crate) fn as_filter(stage: &Stage) -> Option<&Sought<Filter>>
+    ensures some { IfSome result (λ filter. stage.now ≡ filter_stage filter.now) }
+    ensures none { IfNone result (is_filter stage.now ≡ false) }
+{
+    match stage {
+        Stage::Mapped(Mapping::Filter(filter)) => Some(filter),
+        _ => None,
     }
 }

@@ -1,48 +1,26 @@
-use Rattle.std.proofs.Common.{Some, ap, ◌∙◌, sym, subst, arith}
-use Rattle.std.proofs.lemmas.Result.{err_from_is_err_and}
-use Rattle.prop_store.specs.Fault.{BlamesBroken}
-use Rattle.traversal_run.proofs.Broken.{node_blamed, node_unnamed}
-use Rattle.traversal_run.proofs.Loaded.{label_known, no_node_label, node_label-is}
-use Rattle.traversal_run.proofs.Causes.{row_cause_passed}
-use Rattle.rec_bytes.proofs.Causes.{never_ok, ok_cause}
+use Rattle.std.proofs.Common.{◌<◌, ◌≡◌, Option, Some, ap, option_map, subst, ◌∙◌, ℕ, arith}
+use Rattle.std.specs.Option.{IfSome}
+use Rattle.plain_graph.specs.Meaning.{label_of}
+use Rattle.plain_graph.specs.declared.item.Item.TheVariants as items
+use Rattle.store_rules.specs.Graph.{graph_of}
+use Rattle.traversal_run.specs.Naming.{name_at, name_count}
+use Rattle.traversal_run.proofs.Causes.{cause_passed}
+use Rattle.rec_bytes.proofs.Causes.{never_ok}
 use Rattle.traversal_run.proofs.elements.vertex_label.Goals as goal
 
-pub returns-in_err-row-clause-damaged : goal.returns-in_err-row-clause-damaged
-returns-in_err-row-clause-damaged g c = λ tells.
+pub returns-in-Some-clause-found : goal.returns-in-Some-clause-found
+returns-in-Some-clause-found g c = λ tells store.
     let s = g.R.Reads.state c.args.space.now in
-    let p = err_from_is_err_and c.from_residual.result c.from_residual.ensures.1 in
-    rw (p.1, p.2) (node_blamed s c.args.id c.in_err-row.field-0.0 (c.in_err-row.ensures.damaged tells))
+    let below = subst (λ (number : Option ℕ). IfSome number (λ found. found < name_count s.records)) c.in-Some.is c.in_ok-number.ensures.below in
+    let found = subst (λ (number : Option ℕ). option_map (name_at s.records) number ≡ label_of (graph_of s.records) (items.Vertex c.args.id)) c.in-Some.is (c.in_ok-number.ensures.found tells) in
+    ap Some (c.text_of.ensures.is s.records s.shape store below) ∙ found
 
-pub returns-in_default-clause-found : goal.returns-in_default-clause-found
-returns-in_default-clause-found g c = λ tells store.
-    let s = g.R.Reads.state c.args.space.now in
-    sym (no_node_label s.records c.args.id (sym c.in_default.is ∙ c.in_ok-row.ensures.found tells))
+pub returns-in_err-number-clause-cause : goal.returns-in_err-number-clause-cause
+returns-in_err-number-clause-cause g c =
+    cause_passed _ _ _ c.from_residual.result c.in_err-number.field-0.0 (omega arith) c.in_err-number.ensures.cause c.from_residual.ensures.1
 
-pub returns-then-row-mark-clause-damaged : goal.returns-then-row-mark-clause-damaged
-returns-then-row-mark-clause-damaged g c = λ tells.
-    let s = g.R.Reads.state c.args.space.now in
-    let mark = c.name_mark-mark.ensures in
-    subst (BlamesBroken s.records s.shape) (sym c.unnamed.ensures) (node_unnamed s c.args.id c.in-Some.row (sym c.in-Some.is ∙ c.in_ok-row.ensures.found tells) (omega (arith, c.if-row-mark.true)))
+pub returns-in_err-number-clause-found : goal.returns-in_err-number-clause-found
+returns-in_err-number-clause-found g c _ _ = never_ok c.from_residual.result _ _ c.from_residual.ensures.1
 
-pub returns-clause-found : goal.returns-clause-found
-returns-clause-found g c = λ tells store.
-    let s = g.R.Reads.state c.args.space.now in
-    let row = sym c.in-Some.is ∙ c.in_ok-row.ensures.found tells in
-    ap Some (c.text_of.ensures.is s.records s.shape store (label_known s.records s.shape store.store c.args.id c.in-Some.row row))
-    ∙ sym (node_label-is s.records c.args.id c.in-Some.row row)
-
-pub returns-in_err-row-clause-cause : goal.returns-in_err-row-clause-cause
-returns-in_err-row-clause-cause g c =
-    row_cause_passed _ _ _ c.from_residual.result c.in_err-row.field-0.0 (omega arith) c.in_err-row.ensures.cause c.from_residual.ensures.1
-
-pub returns-in_err-row-clause-found : goal.returns-in_err-row-clause-found
-returns-in_err-row-clause-found g c _ _ = never_ok c.from_residual.result _ _ c.from_residual.ensures.1
-
-pub returns-in_err-row-clause-short : goal.returns-in_err-row-clause-short
-returns-in_err-row-clause-short g c = never_ok c.from_residual.result _ _ c.from_residual.ensures.1
-
-pub returns-in_default-clause-cause : goal.returns-in_default-clause-cause
-returns-in_default-clause-cause g c = ok_cause _ _ _ _ c.in_ok-row.ensures.cause.later
-
-pub returns-clause-cause : goal.returns-clause-cause
-returns-clause-cause g c = ok_cause _ _ _ _ c.in_ok-row.ensures.cause.later
+pub returns-in_err-number-clause-short : goal.returns-in_err-number-clause-short
+returns-in_err-number-clause-short g c = never_ok c.from_residual.result _ _ c.from_residual.ensures.1
