@@ -23,6 +23,7 @@ pub mod Loaded
 pub mod MapRows
 pub mod NamesKnown
 pub mod NodeReads
+pub mod NextAnswers
 pub mod Nothing
 pub mod OnlyReads
 pub mod Orders

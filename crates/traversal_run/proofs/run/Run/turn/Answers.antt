@@ -17,7 +17,7 @@ use Rattle.traversal_run.proofs.Places.{written_back}
 use Rattle.traversal_run.proofs.Rows.{ends_at}
 use Rattle.traversal_run.proofs.Scans.{cut_scan, idle_scan, quiet_scan}
 use Rattle.traversal_run.proofs.Stops.{may_stop}
-use Rattle.rec_bytes.proofs.Causes.{never_ok}
+use Rattle.rec_bytes.proofs.Causes.{never_ok, ok_cause}
 use Rattle.traversal_run.proofs.HopRuns.{feeds_nothing, idle_alone, over_none, quiet_alone}
 use Rattle.traversal_run.specs.HopRun.{IsHopAlone}
 use Rattle.traversal_run.proofs.run.Run.turn.Goals.{else-not-is_over-via-else-not-is_over, else-not-is_over-via-then-not-is_over+else-is_fed}
@@ -310,3 +310,54 @@ returns-clause-hop g c = λ alone vertices.
     let feeds = feeds_nothing g.R.Reads c.args.names.now.names alone.row.stage c.args.space.now run.source c.next.new.space c.next.new.self
     (c.next.ensures.unread over) c.next.ensures.edges (over_none run.source.left over) (over_none c.next.new.self.left (c.next.ensures.over ∙ over)) in
     (feeds, tt)
+
+pub returns-in-Some-clause-read : goal.returns-in-Some-clause-read
+returns-in-Some-clause-read g c = c.in_ok-advance_row.ensures.read
+
+pub returns-in-Some-clause-cause : goal.returns-in-Some-clause-cause
+returns-in-Some-clause-cause g c = ok_cause _ _ _ _ c.in_ok-advance_row.ensures.cause.later
+
+pub returns-in-Some-clause-allowed : goal.returns-in-Some-clause-allowed
+returns-in-Some-clause-allowed g c =
+    let run = c.args.self.now in
+    let over = is_over run.source.left in
+    let rows : c.deref_mut.result.now ≡ run.rows.items = c.deref_mut.ensures.value in
+    let back = written_back c.advance_row.new.rows run.rows.items run.rows.len (omega (arith, c.advance_row.auto.rows, ap length rows)) run.rows.ok.0 in
+    c.cut.ensures.allowed
+    ∙ ap (λ (rs : List Row). allowed_by over (stages_of rs) (length c.advance_row.new.ready)) back
+    ∙ c.in_ok-advance_row.ensures.allowed over
+    ∙ ap (λ (rs : List Row). allowed_by over (stages_of rs) 0) rows
+    ∙ ap (λ (ready : List Item). allowed_by over (stages_of run.rows.items) (length ready)) (sym c.requires)
+
+pub returns-then-is_fed-clause-same : goal.returns-then-is_fed-clause-same
+returns-then-is_fed-clause-same g c = λ tells store.
+    let graph = graph_of (g.R.Reads.state c.args.space.now).records in
+    let run = c.args.self.now in
+    let left = stream (left_of graph run.source) in
+    let rows : c.deref_mut-then-is_fed.result.now ≡ run.rows.items = c.deref_mut-then-is_fed.ensures.value in
+    let back = written_back c.feed_rows.new.rows run.rows.items run.rows.len (omega (arith, c.feed_rows.auto.rows, ap length rows)) run.rows.ok.0 in
+    ap (λ (rs : List Row). with_first c.feed_rows.new.ready (through graph rs (stream (left_of graph c.feed_rows.new.source)))) back
+    ∙ c.in_ok-feed_rows.ensures.same tells store
+    ∙ ap (λ (rs : List Row). through graph rs left) rows
+    ∙ ap (λ (ready : List Item). with_first ready (through graph run.rows.items left)) (sym c.requires)
+
+pub returns-then-is_fed-clause-read : goal.returns-then-is_fed-clause-read
+returns-then-is_fed-clause-read g c = c.in_ok-feed_rows.ensures.read
+
+pub returns-then-is_fed-clause-cause : goal.returns-then-is_fed-clause-cause
+returns-then-is_fed-clause-cause g c = ok_cause _ _ _ _ c.in_ok-feed_rows.ensures.cause.later
+
+pub returns-in-Some-2-clause-read : goal.returns-in-Some-2-clause-read
+returns-in-Some-2-clause-read g c = c.in_ok-item.ensures.read
+
+pub returns-in-Some-2-clause-cause : goal.returns-in-Some-2-clause-cause
+returns-in-Some-2-clause-cause g c = ok_cause _ _ _ _ c.in_ok-item.ensures.cause.later
+
+pub returns-in-Some-first_open-clause-read : goal.returns-in-Some-first_open-clause-read
+returns-in-Some-first_open-clause-read g c = c.in_ok-item.ensures.read
+
+pub returns-in-Some-first_open-clause-cause : goal.returns-in-Some-first_open-clause-cause
+returns-in-Some-first_open-clause-cause g c = ok_cause _ _ _ _ c.in_ok-item.ensures.cause.later
+
+pub returns-clause-read : goal.returns-clause-read
+returns-clause-read g c = c.in_ok-item.ensures.read
