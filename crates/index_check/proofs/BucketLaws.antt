@@ -30,7 +30,8 @@ module _ (next prev : ℕ → ℕ) (test : ℕ → Bool) (high : ℕ) where
   test_of_line b f (y ∷ ys) h x (inl e) = ap test e ∙ (and_parts (test y) (nat_eq (prev y) b) h.2).0
   test_of_line b f (y ∷ ys) h x (inr i) = test_of_line y (next y) ys h.3 x i
 
-  line_of_chain : (b f : ℕ) (xs : List ℕ) → IsChain next prev b f xs → ((x : ℕ) → In x xs → x < high) → ((x : ℕ) → In x xs → test x ≡ true) → IsLine next fits high b f xs
+  line_of_chain : (b f : ℕ) (xs : List ℕ) → IsChain next prev b f xs → ((x : ℕ) → In x xs → x < high) → ((x : ℕ) → In x xs → test x ≡ true)
+      → IsLine next fits high b f xs
   line_of_chain b f [] h low ok = h
   line_of_chain b f (x ∷ xs) h low ok =
       (h.0, low x (inl refl), and_from (test x) (nat_eq (prev x) b) (ok x (inl refl)) (eq-eqb (prev x) b h.2), line_of_chain x (next x) xs h.3 (λ y i. low y (inr i)) (λ y i. ok y (inr i)))
@@ -62,7 +63,8 @@ module _ (records : Records) (d b : ℕ) where
       let p = and_parts (nat_eq (field 1 (index_rec records x) format.kind) format.indexed) (nat_eq (bucket_of (entry_hash records x)) b) t in
       (p.0, eqb-true (bucket_of (entry_hash records x)) b p.1)
 
-  pub bucket_of_line : mark ≤ format.most_ids → kind_at records format.index_file (heads_of records d (b / 15)) ≡ format.heads → (xs : List ℕ) → IsBucketLine xs → IsBucketList records d b xs
+  pub bucket_of_line : mark ≤ format.most_ids → kind_at records format.index_file (heads_of records d (b / 15)) ≡ format.heads → (xs : List ℕ) → IsBucketLine xs
+      → IsBucketList records d b xs
   bucket_of_line room head xs it = record {
     head = head;
     chain = chain_of_line next prev test mark room format.nil first xs it;

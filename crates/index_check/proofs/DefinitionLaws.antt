@@ -1,5 +1,7 @@
 -- The chain of definitions as a line, and definitions of one label and key.
-use Rattle.std.proofs.Common.{◌≡◌, ◌≢◌, ℕ, zero, suc, get_or, subst, ◌<◌, ◌≤◌, Bool, true, false, not, ◌&&◌, ◌||◌, cond, None, Some, List, [], ◌∷◌, length, map, nat_eq, sym, ap, ◌∙◌, inl, inr, ⊎_elim, arith, refl}
+use Rattle.std.proofs.Common.{◌≡◌, ◌≢◌, ℕ, zero, suc, get_or, subst, ◌<◌, ◌≤◌, Bool, true, false, not, ◌&&◌, ◌||◌, cond}
+use Rattle.std.proofs.Common.{None, Some, List, [], ◌∷◌, length, map, nat_eq, sym, ap, ◌∙◌, inl, inr, ⊎_elim, arith}
+use Rattle.std.proofs.Common.{refl}
 use Rattle.std.specs.List.{All, list_any}
 use Rattle.std.proofs.lemmas.Bool.{eqb-true, or_cases, true≢false}
 use Rattle.std.proofs.lemmas.List.{length-map}
@@ -25,14 +27,16 @@ use Rattle.index_check.proofs.PlaceLaws.{in_place}
 
 -- a record of the index with a kind, by its bytes
 module _ (records : Records) (kind : ℕ) (some : kind ≢ 0) (x : ℕ) where
-  pub has_kind : x < high records format.index_file → nat_eq (field 1 (index_rec records x) format.kind) kind ≡ true → kind_at records format.index_file x ≡ kind
+  pub has_kind : x < high records format.index_file → nat_eq (field 1 (index_rec records x) format.kind) kind ≡ true
+      → kind_at records format.index_file x ≡ kind
   has_kind lt t = kind_low (high records format.index_file) (index_rec records x) x lt ∙ eqb-true (field 1 (index_rec records x) format.kind) kind t
 
   pub kind_under : kind_at records format.index_file x ≡ kind → x < high records format.index_file
   kind_under is = kind_below (high records format.index_file) (index_rec records x) x (λ z. some (sym is ∙ z))
 
   pub kind_test : kind_at records format.index_file x ≡ kind → nat_eq (field 1 (index_rec records x) format.kind) kind ≡ true
-  kind_test is = eq_true (field 1 (index_rec records x) format.kind) kind (sym (kind_low (high records format.index_file) (index_rec records x) x (kind_under is)) ∙ is)
+  kind_test is = eq_true (field 1 (index_rec records x) format.kind) kind
+      (sym (kind_low (high records format.index_file) (index_rec records x) x (kind_under is)) ∙ is)
 
 one_some : format.definition ≢ 0
 one_some e = omega arith
@@ -60,12 +64,14 @@ module _ (records : Records) where
       (λ x i. kind_under records format.definition one_some x (h.defined x i)) (λ x i. kind_test records format.definition one_some x (h.defined x i))
 
   -- a line that is read again, from the same record on
-  pub same_line : (after : Records) (n first : ℕ) → after ≡ records → n ≡ mark → first ≡ first_definition records → IsLineIn definition_line after n first ≡ IsDefinitionLine
+  pub same_line : (after : Records) (n first : ℕ) → after ≡ records → n ≡ mark → first ≡ first_definition records
+      → IsLineIn definition_line after n first ≡ IsDefinitionLine
   same_line after n first read is from = λ i. IsLineIn definition_line (read i) (is i) (from i)
 
   -- there is one line alone
   pub line_is : mark ≤ format.most_ids → (xs ys : List ℕ) → IsDefinitionLine xs → AreDefinitions records ys → ys ≡ xs
-  line_is room xs ys it h = walk_is (next_definition records) (first_definition records) ys xs h.walk (walk_of_line (next_definition records) (λ _ x. test x) mark room format.nil (first_definition records) xs it)
+  line_is room xs ys it h = walk_is (next_definition records) (first_definition records) ys xs h.walk
+      (walk_of_line (next_definition records) (λ _ x. test x) mark room format.nil (first_definition records) xs it)
 
   -- ---- twins
 
@@ -122,7 +128,8 @@ module _ (records : Records) where
       by false any is later = let r = later is in (r.0, inr r.1, r.2, r.3)
 
   -- or there is none
-  pub twin_none : (all ds : List ℕ) → twin_in (map at all) (map at ds) ≡ None → (d e : ℕ) → In d ds → In e all → indexed_label records e ≡ indexed_label records d
+  pub twin_none : (all ds : List ℕ) → twin_in (map at all) (map at ds) ≡ None → (d e : ℕ) → In d ds → In e all
+      → indexed_label records e ≡ indexed_label records d
       → indexed_key records e ≡ indexed_key records d → e ≡ d
   unfolding twin_in
   twin_none all [] h d e i j l k = elim i [ ]
@@ -138,7 +145,8 @@ module _ (records : Records) where
           (nat_cases e d)
 
   -- a twin breaks the rule
-  pub twin_breaks : (ids : List ℕ) → AreDefinitions records ids → (x : ℕ) → twin_in (map at ids) (map at ids) ≡ Some x → IndexBreaks records (damage format.index_file x 8)
+  pub twin_breaks : (ids : List ℕ) → AreDefinitions records ids → (x : ℕ) → twin_in (map at ids) (map at ids) ≡ Some x
+      → IndexBreaks records (damage format.index_file x 8)
   twin_breaks ids are x h =
       let r = twin_found ids ids x h in
       WrongDefinition x (record { members = ids; list = are; member = r.1 })
@@ -156,7 +164,8 @@ module _ (records : Records) where
       read_at (x ∷ xs) (suc k) d lt = read_at xs k d (omega arith)
 
 -- the identifiers of definitions stand at their places
-pub all_low : (all : List Definition) (ids : List ℕ) (mark most : ℕ) → map (λ (d : Definition). d.id) all ≡ ids → mark ≤ most → All (λ x. x < mark) ids → All (λ (d : Definition). d.id < most) all
+pub all_low : (all : List Definition) (ids : List ℕ) (mark most : ℕ) → map (λ (d : Definition). d.id) all ≡ ids → mark ≤ most → All (λ x. x < mark) ids
+    → All (λ (d : Definition). d.id < most) all
 all_low all ids mark most is le low k d lt =
     let few : k < length ids = omega (arith, length-map all (λ (a : Definition). a.id), ap length is) in
     let below = low k 0 few in

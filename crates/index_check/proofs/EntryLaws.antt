@@ -36,4 +36,5 @@ module _ (records : Records) (d : ℕ) where
 
 -- identifiers below a mark, and more of them below a lower one
 pub low_more : (mark most : ℕ) (xs ys zs : List ℕ) → mark ≤ most → zs ≡ xs ++ ys → All (λ x. x < most) xs → All (λ x. x < mark) ys → All (λ x. x < most) zs
-low_more mark most xs ys zs le is front back = subst (All (λ x. x < most)) (sym is) (All-append (λ x. x < most) xs ys front (λ k d lt. let low = back k d lt in omega (arith, low)))
+low_more mark most xs ys zs le is front back = subst (All (λ x. x < most)) (sym is)
+    (All-append (λ x. x < most) xs ys front (λ k d lt. let low = back k d lt in omega (arith, low)))

@@ -22,7 +22,8 @@ use Rattle.index_check.specs.declared.definitions.Definition.{Definition}
 use Rattle.index_check.proofs.NodeLaws.{in_map, map_in, once_apart, twice_two}
 
 -- a damage that was named breaks the rule
-pub breaks_by : (records : Records) (answer : Damage) (file id : ℕ) → answer ≡ damage file id 8 → IndexBreaks records (damage file id 8) → BreaksIndexRule records answer
+pub breaks_by : (records : Records) (answer : Damage) (file id : ℕ) → answer ≡ damage file id 8 → IndexBreaks records (damage file id 8)
+    → BreaksIndexRule records answer
 breaks_by records answer file id is breaks = record { rule_is = ap (λ (d : Damage). d.rule) is; breaks = subst (IndexBreaks records) (sym is) breaks }
 
 module _ (records : Records) (d : Definition) (given : IsGiven records d) where
@@ -76,7 +77,8 @@ module _ (records : Records) (d : Definition) (given : IsGiven records d) where
             let r = map_in (entry_node records) n entries (subst (In n) nodes_are (right.all n (record { value = value; is = value-is n ∙ is }))) in
             let at = bucket_of_entry r.0 r.1 in
             record { bucket = at.0; entry = r.0; there = at.1; node = r.2 };
-        once = λ b x c y at too same. once_apart (entry_node records) entries (subst AreOnce nodes_are right.once) x y (entry_of_bucket b x at) (entry_of_bucket c y too) same;
+        once = λ b x c y at too same. once_apart (entry_node records) entries (subst AreOnce nodes_are right.once) x y (entry_of_bucket b x at)
+            (entry_of_bucket c y too) same;
       }
 
 -- the decision is one of a rule of the store

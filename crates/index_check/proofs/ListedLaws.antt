@@ -1,5 +1,6 @@
 -- The records of heads and the entries of all definitions, by the lists that were marked.
-use Rattle.std.proofs.Common.{◌≡◌, ◌≢◌, ◌⊎◌, ℕ, ◌+◌, ◌*◌, ◌/◌, ◌%◌, ◌<◌, Bool, true, false, List, [], ◌∷◌, length, get_or, sym, ap, ◌∙◌, subst, inl, inr, ⊎_elim, arith, refl}
+use Rattle.std.proofs.Common.{◌≡◌, ◌≢◌, ◌⊎◌, ℕ, ◌+◌, ◌*◌, ◌/◌, ◌%◌, ◌<◌, Bool, true, false, List, [], ◌∷◌, length}
+use Rattle.std.proofs.Common.{get_or, sym, ap, ◌∙◌, subst, inl, inr, ⊎_elim, arith, refl}
 use Rattle.std.specs.Prelude.{⊤}
 use Rattle.std.specs.Bool.{Decides}
 use Rattle.std.proofs.lemmas.Bool.{cases_Bool, true≢false}
@@ -10,7 +11,8 @@ use Rattle.record_lists.proofs.LiveLaws.{live_below}
 use Rattle.record_lists.proofs.LineLaws.{among_from_in, in_from_among}
 use Rattle.store_rules.specs.Breaking.{damage}
 use Rattle.store_rules.specs.Chains.{In}
-use Rattle.store_rules.specs.IndexBreaking.{AreDefinitions, DefinitionKeeps, EachKeeps, HeadRecordKeeps, IndexBreaks, IsAmongDefinitions, IsBucketList, IsHeadRecord, IsInBucket, IsOfAnIndex}
+use Rattle.store_rules.specs.IndexBreaking.{AreDefinitions, DefinitionKeeps, EachKeeps, HeadRecordKeeps, IndexBreaks}
+use Rattle.store_rules.specs.IndexBreaking.{IsAmongDefinitions, IsBucketList, IsHeadRecord, IsInBucket, IsOfAnIndex}
 use Rattle.store_rules.specs.IndexBreaking.IndexBreaks.{LeftOver, WrongDefinition, WrongEntry, WrongHead}
 use Rattle.store_rules.specs.IndexBreaking.IsOfAnIndex.{Defines, Enters, Heads}
 use Rattle.store_rules.specs.Indexes.{heads_of, indexed_key, indexed_label}
@@ -53,7 +55,8 @@ module _ (records : Records) (ids : List ℕ) (are : AreDefinitions records ids)
   head_in k lt = in_place ids (k / 12) (twelve_place (length ids) k lt).0
 
   -- what is at a number is a record of heads
-  head_of : (k p : ℕ) → k < 12 * length ids → AtHead Always HeadLists k p → IsHeadRecord records (head_definition k) (k % 12) p × (kind_at records format.index_file p ≡ format.heads)
+  head_of : (k p : ℕ) → k < 12 * length ids → AtHead Always HeadLists k p → IsHeadRecord records (head_definition k) (k % 12) p
+      × (kind_at records format.index_file p ≡ format.heads)
   head_of k p lt at =
       let is : p ≡ heads_of records (head_definition k) (k % 12) = one (subst (In p) at.listed.are at.member) in (
         record { definition = among (head_definition k) (head_in k lt); low = (twelve_place (length ids) k lt).1; is = sym is },
@@ -90,7 +93,8 @@ module _ (records : Records) (ids : List ℕ) (are : AreDefinitions records ids)
   no_heads k lt bad = WrongDefinition (head_definition k) (among (head_definition k) (head_in k lt)) (λ keeps. bad (head_kept k lt keeps))
 
   -- a record of heads that is met twice
-  pub head_twice : (marks : List Bool) → ((p : ℕ) → marked marks p ≡ is_among ids p) → (p : ℕ) → IsTwice Always HeadLists (12 * length ids) marks p → IndexBreaks records (damage format.index_file p 8)
+  pub head_twice : (marks : List Bool) → ((p : ℕ) → marked marks p ≡ is_among ids p) → (p : ℕ) → IsTwice Always HeadLists (12 * length ids) marks p
+      → IndexBreaks records (damage format.index_file p 8)
   head_twice marks told p t =
       let now = head_of t.head p t.below t.here in
       WrongHead p (λ keeps. ⊎_elim
@@ -218,12 +222,14 @@ module _ (records : Records) (ids : List ℕ) (are : AreDefinitions records ids)
           record {
             must = tt;
             items = at.members;
-            listed = subst (λ z. IsBucketList records z (n.number % 180) at.members) (sym n.definition) (subst (λ z. IsBucketList records d z at.members) (sym n.place) at.list);
+            listed = subst (λ z. IsBucketList records z (n.number % 180) at.members) (sym n.definition)
+                (subst (λ z. IsBucketList records d z at.members) (sym n.place) at.list);
             member = at.member;
           },
         )
 
-    pub entries_once : ((x : ℕ) → IsOnce Always BucketLists (180 * length ids) x) → (d c e k x : ℕ) → IsInBucket records d c x → IsInBucket records e k x → d ≡ e
+    pub entries_once : ((x : ℕ) → IsOnce Always BucketLists (180 * length ids) x) → (d c e k x : ℕ) → IsInBucket records d c x → IsInBucket records e k x
+        → d ≡ e
     entries_once once d c e k x at too =
         let n = bucket_number_of d c x at in
         let m = bucket_number_of e k x too in
@@ -251,7 +257,8 @@ module _ (records : Records) (ids : List ℕ) (are : AreDefinitions records ids)
         by (Enters d c at) = let n = bucket_number_of d c x at in (last x).1 (inr (record { id = n.0.number; below = n.0.below; here = n.1 }))
 
 -- a record in use without a mark is of no index
-pub left_over : (records : Records) (ids : List ℕ) (marks : List Bool) → AreAllMarked records ids marks → (x : ℕ) → ((is_live records format.index_file x ≡ true → marked marks x ≡ true) → ⊥) → IndexBreaks records (damage format.index_file x 8)
+pub left_over : (records : Records) (ids : List ℕ) (marks : List Bool) → AreAllMarked records ids marks → (x : ℕ)
+    → ((is_live records format.index_file x ≡ true → marked marks x ≡ true) → ⊥) → IndexBreaks records (damage format.index_file x 8)
 left_over records ids marks all x bad = ⊎_elim
     (λ (live : is_live records format.index_file x ≡ true). LeftOver x live (λ of. bad (λ _. (all.told x).1 of)))
     (λ (free : is_live records format.index_file x ≡ false). absurd (bad (λ live. absurd (true≢false (sym live ∙ free)))))
@@ -263,7 +270,8 @@ pub all_held : (records : Records) (ids : List ℕ) (marks : List Bool) → AreA
 all_held records ids marks all each = record { listed = all.listed; held = λ x live. (all.told x).0 (each x (live_below records format.index_file x live) live) }
 
 -- where each definition's lists are right, its rule holds, if no other has its pair
-pub each_keeps : (records : Records) (ids : List ℕ) → AreDefinitions records ids → ((d e : ℕ) → In d ids → In e ids → indexed_label records e ≡ indexed_label records d
+pub each_keeps : (records : Records) (ids : List ℕ) → AreDefinitions records ids
+    → ((d e : ℕ) → In d ids → In e ids → indexed_label records e ≡ indexed_label records d
     → indexed_key records e ≡ indexed_key records d → e ≡ d) → AreAllHeld records ids → ((d : ℕ) → In d ids → IsRight records d) → EachKeeps records
 each_keeps records ids are alone all right = record {
   meta = record { members = ids; list = are };

@@ -1,5 +1,6 @@
 -- Marks of the nodes of entries, and numbers that come twice.
-use Rattle.std.proofs.Common.{◌≡◌, ◌≢◌, ℕ, zero, suc, ◌+◌, ◌<◌, Bool, true, false, ◌||◌, List, [], ◌∷◌, ◌++◌, length, map, take, get_or, nat_eq, sym, ap, ◌∙◌, subst, inl, inr, arith, refl}
+use Rattle.std.proofs.Common.{◌≡◌, ◌≢◌, ℕ, zero, suc, ◌+◌, ◌<◌, Bool, true, false, ◌||◌, List, [], ◌∷◌, ◌++◌, length}
+use Rattle.std.proofs.Common.{map, take, get_or, nat_eq, sym, ap, ◌∙◌, subst, inl, inr, arith, refl}
 use Rattle.std.proofs.lemmas.Bool.{true≢false}
 use Rattle.std.proofs.lemmas.List.{take_more}
 use Rattle.record_lists.specs.Marks.{is_among}

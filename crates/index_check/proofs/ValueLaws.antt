@@ -31,12 +31,15 @@ module _ (records : Records) (label key n : ℕ) where
   pub value_free : kind_at records format.nodes_file n ≡ 0 → node_value records label key n ≡ None
   value_free free = ap (row_value (property_records records) label key) (row_none (kind_at records format.nodes_file n) row free)
 
-  used : kind_at records format.nodes_file n ≢ 0 → node_value records label key n ≡ cond (nat_eq row.label label) (value_in (listed_from (property_records records) row.property) key) None
+  used : kind_at records format.nodes_file n ≢ 0 → node_value records label key n ≡ cond (nat_eq row.label label)
+      (value_in (listed_from (property_records records) row.property) key) None
   used some = ap (row_value (property_records records) label key) (row_some (kind_at records format.nodes_file n) row some)
 
   -- none of a node of another label
-  pub value_other : kind_at records format.nodes_file n ≢ 0 → field 4 (rec_at records format.nodes_file n) format.node_label ≢ label → node_value records label key n ≡ None
-  value_other some other = used some ∙ ap (λ b. cond b (value_in (listed_from (property_records records) row.property) key) None) (eq_false row.label label other)
+  pub value_other : kind_at records format.nodes_file n ≢ 0 → field 4 (rec_at records format.nodes_file n) format.node_label ≢ label
+      → node_value records label key n ≡ None
+  value_other some other = used some ∙ ap (λ b. cond b (value_in (listed_from (property_records records) row.property) key) None)
+      (eq_false row.label label other)
 
   -- and of one of this label what its properties say
   pub value_met : kind_at records format.nodes_file n ≢ 0 → field 4 (rec_at records format.nodes_file n) format.node_label ≡ label
@@ -47,7 +50,8 @@ module _ (records : Records) (label key n : ℕ) where
 
   -- what has a value is below the mark
   pub value_low : (value : Value) → node_value records label key n ≡ Some value → n < high records format.nodes_file
-  value_low value is = kind_below (high records format.nodes_file) (rec_at records format.nodes_file n) n (λ z. let none : None ≡ Some value = sym (value_free z) ∙ is in cc)
+  value_low value is = kind_below (high records format.nodes_file) (rec_at records format.nodes_file n) n
+      (λ z. let none : None ≡ Some value = sym (value_free z) ∙ is in cc)
 
 -- the properties of a store's nodes can be read
 pub readable_of : (records : Records) (shape : Shape) → IsWellFormed records shape → AreReadable records

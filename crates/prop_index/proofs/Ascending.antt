@@ -29,10 +29,12 @@ one_first a b xs ys up rise a_in b_in =
 
 in_rest : (a b z : ℕ) (xs ys : List ℕ) → a ≡ b → AllPairs Before (a ∷ xs) → Contains xs z → Contains (b ∷ ys) z → Contains ys z
 in_rest a b z xs ys same up is there =
-    ⊎_elim (λ (here : z ≡ b). let over = above_first a z xs up is in absurd (omega (arith, over))) (λ (later : Contains ys z). later) (contains_cases b ys z there)
+    ⊎_elim (λ (here : z ≡ b). let over = above_first a z xs up is in absurd (omega (arith, over))) (λ (later : Contains ys z). later)
+    (contains_cases b ys z there)
 
 -- two ascending lists with the same members
-pub one_ascending : (xs ys : List ℕ) → AllPairs Before xs → AllPairs Before ys → ((z : ℕ) → Contains xs z → Contains ys z) → ((z : ℕ) → Contains ys z → Contains xs z) → xs ≡ ys
+pub one_ascending : (xs ys : List ℕ) → AllPairs Before xs → AllPairs Before ys → ((z : ℕ) → Contains xs z → Contains ys z)
+    → ((z : ℕ) → Contains ys z → Contains xs z) → xs ≡ ys
 one_ascending [] [] up rise onto back = refl
 one_ascending [] (b ∷ ys) up rise onto back = let none = (back b (contains_first b ys)).1 in absurd (omega arith)
 one_ascending (a ∷ xs) [] up rise onto back = let none = (onto a (contains_first a xs)).1 in absurd (omega arith)

@@ -22,12 +22,14 @@ pub bucket-first : (records : Records) (d number : ℕ) (bucket : Bucket) → Is
 bucket-first records d number bucket is = is.head.first_is ∙ (λ i. field 4 (index_rec records (is.id_is i)) (is.place_is i))
 
 -- its entries are those of the index
-pub bucket-chain : (s : Records) (wanted : Entries) (ix : AreIndexed s wanted) (label key hash : ℕ) (bucket : Bucket) (found : IsFoundBucket s ix.definitions label key hash bucket)
+pub bucket-chain : (s : Records) (wanted : Entries) (ix : AreIndexed s wanted) (label key hash : ℕ) (bucket : Bucket)
+    (found : IsFoundBucket s ix.definitions label key hash bucket)
     → IsBucketChain s bucket.first (ix.lists found.definition (bucket_of hash))
 bucket-chain s wanted ix label key hash bucket found =
     let is = ix.buckets found.definition (bucket_of hash) found.listed (omega arith) in
     record {
-      chain = subst (λ f. IsChain (next_entry s) (previous_entry s) format.nil f (ix.lists found.definition (bucket_of hash))) (sym (bucket-first s found.definition (bucket_of hash) bucket found.is)) is.chain;
+      chain = subst (λ f. IsChain (next_entry s) (previous_entry s) format.nil f (ix.lists found.definition (bucket_of hash)))
+          (sym (bucket-first s found.definition (bucket_of hash) bucket found.is)) is.chain;
       kind = is.kind;
     }
 
@@ -61,7 +63,8 @@ pub entry-low : (s : Records) (first : ℕ) (xs : List ℕ) → IsBucketChain s 
 entry-low s first xs is x member = kind_below (high s format.index_file) (rec_at s format.index_file x) x (λ e. let k = is.kind x member in omega (arith, e, k))
 
 -- what is next to an entry is an entry of the bucket, unless it is none
-pub before-member : (s : Records) (first x : ℕ) (xs : List ℕ) → IsBucketChain s first xs → In x xs → previous_entry s x ≢ format.nil → In (previous_entry s x) xs
+pub before-member : (s : Records) (first x : ℕ) (xs : List ℕ) → IsBucketChain s first xs → In x xs → previous_entry s x ≢ format.nil
+    → In (previous_entry s x) xs
 before-member s first x xs is member some = ⊎_elim
     (λ (e : first ≡ x). absurd (some (first_before (next_entry s) (previous_entry s) format.nil first xs x is.chain member e)))
     (λ (m : In (previous_entry s x) xs). m)
@@ -73,8 +76,10 @@ after-member s first x xs is member some = ⊎_elim
     (λ (m : In (next_entry s x) xs). m)
     (after_in (next_entry s) first xs x (walk_of_chain _ _ _ _ xs is.chain) member)
 
-pub before-low : (s : Records) (first x : ℕ) (xs : List ℕ) → IsBucketChain s first xs → In x xs → previous_entry s x ≢ format.nil → previous_entry s x < high s format.index_file
+pub before-low : (s : Records) (first x : ℕ) (xs : List ℕ) → IsBucketChain s first xs → In x xs → previous_entry s x ≢ format.nil
+    → previous_entry s x < high s format.index_file
 before-low s first x xs is member some = entry-low s first xs is (previous_entry s x) (before-member s first x xs is member some)
 
-pub after-low : (s : Records) (first x : ℕ) (xs : List ℕ) → IsBucketChain s first xs → In x xs → next_entry s x ≢ format.nil → next_entry s x < high s format.index_file
+pub after-low : (s : Records) (first x : ℕ) (xs : List ℕ) → IsBucketChain s first xs → In x xs → next_entry s x ≢ format.nil
+    → next_entry s x < high s format.index_file
 after-low s first x xs is member some = entry-low s first xs is (next_entry s x) (after-member s first x xs is member some)

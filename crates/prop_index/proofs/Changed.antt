@@ -5,7 +5,8 @@ use Rattle.rec_bytes.specs.Format as format
 use Rattle.store_rules.specs.Chains.{In}
 use Rattle.store_rules.specs.Hashes.{bucket_of}
 use Rattle.store_rules.specs.IndexChange.{IsEntryGone, IsEntryMade}
-use Rattle.store_rules.specs.Indexes.{AreIndexed, Entries, Entry, entry_in, heads_of, indexed_key, indexed_label, is_entry, next_entry, with_entry, without_entry}
+use Rattle.store_rules.specs.Indexes.{AreIndexed, Entries, Entry, entry_in, heads_of, indexed_key, indexed_label}
+use Rattle.store_rules.specs.Indexes.{is_entry, next_entry, with_entry, without_entry}
 use Rattle.store_rules.specs.Views.{Records}
 use Rattle.store_rules.proofs.ChainLaws.{walk_of_chain}
 use Rattle.store_rules.proofs.ChainSteps.{first_in}
@@ -70,7 +71,8 @@ module _ (s : Records) (wanted : Entries) (ix : AreIndexed s wanted) (label key 
         let has = made first_right in
         let is : IsEntryMade s t has.0 (heads_of s d (b / 15)) (format.heads_first + 4 * (b % 15)) content.node content.hash
         = subst (λ (p : ℕ × ℕ). IsEntryMade s t has.0 p.0 p.1 content.node content.hash) (λ i. (found.is.id_is i, found.is.place_is i)) has.1 in
-        subst (λ (e : Entry). AreIndexed t (with_entry wanted e)) (sym one_is) (enters s t wanted ix d has.0 content.node content.hash found.listed is (ap wanted (sym one_is) ∙ unwanted))
+        subst (λ (e : Entry). AreIndexed t (with_entry wanted e)) (sym one_is)
+        (enters s t wanted ix d has.0 content.node content.hash found.listed is (ap wanted (sym one_is) ∙ unwanted))
 
     -- an entry that isn't there wasn't wanted
     unwanted_none : IsNoneOf s xs content → (w : Bool) → wanted one ≡ w → wanted one ≡ false

@@ -1,5 +1,6 @@
 -- What is read of a node is what its entry says.
-use Rattle.std.proofs.Common.{◌≡◌, ◌≢◌, ⊎_elim, ℕ, suc, ◌+◌, ◌<◌, cond, Option, None, Some, List, [], ◌∷◌, ◌++◌, length, option_map, refl, ap, sym, ◌∙◌, arith, length-append}
+use Rattle.std.proofs.Common.{◌≡◌, ◌≢◌, ⊎_elim, ℕ, suc, ◌+◌, ◌<◌, cond, Option, None, Some, List, [], ◌∷◌, ◌++◌, length}
+use Rattle.std.proofs.Common.{option_map, refl, ap, sym, ◌∙◌, arith, length-append}
 use Rattle.rec_bytes.specs.Format as format
 use Rattle.rec_bytes.specs.Record.{field}
 use Rattle.store_rules.specs.Hashes.{hash_of}
@@ -33,7 +34,8 @@ module _ (records : Records) (label key n : ℕ) (low : n < high records format.
       (nat_cases (kind_at records format.nodes_file n) 0))
 
   -- a node in use with the label
-  pub hash_at-labelled : field 1 (rec_at records format.nodes_file n) format.kind ≢ format.free_kind → field 4 (rec_at records format.nodes_file n) format.node_label ≡ label
+  pub hash_at-labelled : field 1 (rec_at records format.nodes_file n) format.kind ≢ format.free_kind
+      → field 4 (rec_at records format.nodes_file n) format.node_label ≡ label
       → hash_at records label key n ≡ option_map hash_of (value_of (properties_met records (node_owner n)) key)
   hash_at-labelled used is = ap (option_map hash_of) (
       ap (row_value (property_records records) label key) (row_some (kind_at records format.nodes_file n) row (λ e. used (sym kind_is ∙ e)))
@@ -58,8 +60,11 @@ module _ (records : Records) (label key n : ℕ) where
       step = ap (contents_in records label key) (let e : n + 1 ≡ suc n = omega arith in e)
 
   -- it has one
-  pub contents-more : (hash : ℕ) → hash_at records label key n ≡ Some hash → contents_in records label key (n + 1) ≡ contents_in records label key n ++ content_of n hash ∷ []
-  contents-more hash some = ap (contents_in records label key) (let e : n + 1 ≡ suc n = omega arith in e) ∙ ap (λ (o : Option ℕ). before ++ option_list (option_map (content_of n) o)) some
+  pub contents-more : (hash : ℕ) → hash_at records label key n ≡ Some hash
+      → contents_in records label key (n + 1) ≡ contents_in records label key n ++ content_of n hash ∷ []
+  contents-more hash some = ap (contents_in records label key) (let e : n + 1 ≡ suc n = omega arith in e)
+      ∙ ap (λ (o : Option ℕ). before ++ option_list (option_map (content_of n) o)) some
 
-  pub length-contents-more : (hash : ℕ) → hash_at records label key n ≡ Some hash → length (contents_in records label key (n + 1)) ≡ length (contents_in records label key n) + 1
+  pub length-contents-more : (hash : ℕ) → hash_at records label key n ≡ Some hash
+      → length (contents_in records label key (n + 1)) ≡ length (contents_in records label key n) + 1
   length-contents-more hash some = ap length (contents-more hash some) ∙ length-append before (content_of n hash ∷ [])

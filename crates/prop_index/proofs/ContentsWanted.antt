@@ -1,5 +1,6 @@
 -- The entries of the nodes of a label that have a key are those that its index is to have.
-use Rattle.std.proofs.Common.{◌≡◌, ◌≢◌, ⊎_elim, ℕ, zero, suc, ◌<◌, ◌≤◌, Bool, true, false, ◌&&◌, ◌||◌, not, nat_eq, nat_lt, Option, None, Some, List, [], ◌∷◌, option_map, refl, ap, sym, ◌∙◌, arith}
+use Rattle.std.proofs.Common.{◌≡◌, ◌≢◌, ⊎_elim, ℕ, zero, suc, ◌<◌, ◌≤◌, Bool, true, false, ◌&&◌, ◌||◌, not, nat_eq}
+use Rattle.std.proofs.Common.{nat_lt, Option, None, Some, List, [], ◌∷◌, option_map, refl, ap, sym, ◌∙◌, arith}
 use Rattle.std.specs.List.{list_any}
 use Rattle.std.proofs.lemmas.Bool.{cases_lt}
 use Rattle.std.proofs.lemmas.List.Folds.{list_any-append}
@@ -40,12 +41,15 @@ lacking-other label key wanted e other = ⊎_elim
 -- ---- an entry, and one of a pair
 
 flip : (a b : ℕ) → nat_eq a b ≡ nat_eq b a
-flip a b = ⊎_elim (λ (p : a ≡ b). rw (eq_true a b p, eq_true b a (sym p)) refl) (λ (p : a ≢ b). rw (eq_false a b p, eq_false b a (λ q. p (sym q))) refl) (nat_cases a b)
+flip a b = ⊎_elim (λ (p : a ≡ b). rw (eq_true a b p, eq_true b a (sym p)) refl) (λ (p : a ≢ b). rw (eq_false a b p, eq_false b a (λ q. p (sym q))) refl)
+    (nat_cases a b)
 
-entry_at : (e : Entry) (label key n hash : ℕ) → e.label ≡ label → e.key ≡ key → is_entry e (record { label = label; key = key; node = n; hash = hash }) ≡ (nat_eq e.node n && nat_eq e.hash hash)
+entry_at : (e : Entry) (label key n hash : ℕ) → e.label ≡ label → e.key ≡ key
+    → is_entry e (record { label = label; key = key; node = n; hash = hash }) ≡ (nat_eq e.node n && nat_eq e.hash hash)
 entry_at e label key n hash l k = rw (eq_true e.label label l, eq_true e.key key k) refl
 
-entry_elsewhere : (e : Entry) (label key n hash : ℕ) → (e.label ≡ label → e.key ≡ key → ⊥) → is_entry e (record { label = label; key = key; node = n; hash = hash }) ≡ false
+entry_elsewhere : (e : Entry) (label key n hash : ℕ) → (e.label ≡ label → e.key ≡ key → ⊥)
+    → is_entry e (record { label = label; key = key; node = n; hash = hash }) ≡ false
 entry_elsewhere e label key n hash other = ⊎_elim
     (λ (l : e.label ≡ label). rw (eq_true e.label label l, eq_false e.key key (other l)) refl)
     (λ (l : e.label ≢ label). rw (eq_false e.label label l) refl) (nat_cases e.label label)
@@ -72,7 +76,8 @@ module _ (records : Records) (label key : ℕ) (e : Entry) where
     -- of the nodes below a mark
     pub among-below : (n : ℕ) → is_among (contents_in records label key n) ≡ (nat_lt e.node n && has_hash e.hash (node_value records label key e.node))
     among-below zero = rw (lt_false e.node 0 (omega arith)) refl
-    among-below (suc n) = list_any-append (λ c. is_entry e (entry_for label key c)) (contents_in records label key n) (option_list (content_at records label key n))
+    among-below (suc n) = list_any-append (λ c. is_entry e (entry_for label key c)) (contents_in records label key n)
+        (option_list (content_at records label key n))
         ∙ ap (λ b. b || is_among (option_list (content_at records label key n))) (among-below n) ∙ ⊎_elim here there (nat_cases e.node n)
       where
         one : (o : Option Value) → e.node ≡ n → is_among (option_list (option_map (content_of n) (option_map hash_of o))) ≡ has_hash e.hash o
@@ -88,7 +93,8 @@ module _ (records : Records) (label key : ℕ) (e : Entry) where
         none (Some v) ne = rw (entry_at e label key n (hash_of v) l k, eq_false e.node n ne) refl
 
         here : e.node ≡ n → ((nat_lt e.node n && has_hash e.hash (node_value records label key e.node)) || is_among (option_list (content_at records label key n))) ≡ (nat_lt e.node (suc n) && has_hash e.hash (node_value records label key e.node))
-        here at = rw (lt_false e.node n (omega arith), lt_true e.node (suc n) (omega arith)) (one (node_value records label key n) at ∙ ap (λ m. has_hash e.hash (node_value records label key m)) (sym at))
+        here at = rw (lt_false e.node n (omega arith), lt_true e.node (suc n) (omega arith))
+            (one (node_value records label key n) at ∙ ap (λ m. has_hash e.hash (node_value records label key m)) (sym at))
 
         there : e.node ≢ n → ((nat_lt e.node n && has_hash e.hash (node_value records label key e.node)) || is_among (option_list (content_at records label key n))) ≡ (nat_lt e.node (suc n) && has_hash e.hash (node_value records label key e.node))
         there ne = rw (none (node_value records label key n) ne, lt_next n ne) (by (nat_lt e.node n && has_hash e.hash (node_value records label key e.node)))
@@ -109,7 +115,8 @@ module _ (records : Records) (label key : ℕ) (e : Entry) where
         ∙ (λ i. has_hash e.hash (node_value records (sym l i) (sym k i) e.node))
 
 -- With the entries of its nodes the index of a pair has what it is to have.
-pub wanted_again : (records : Records) (label key : ℕ) (e : Entry) → with_contents (lacking label key (wanted_in records)) label key (contents_in records label key (high records format.nodes_file)) e ≡ wanted_in records e
+pub wanted_again : (records : Records) (label key : ℕ) (e : Entry) → with_contents (lacking label key (wanted_in records)) label key
+    (contents_in records label key (high records format.nodes_file)) e ≡ wanted_in records e
 wanted_again records label key e = ⊎_elim
     (λ (l : e.label ≡ label). ⊎_elim
     (λ (k : e.key ≡ key). ap (λ b. is_among records label key e (contents_in records label key (high records format.nodes_file)) || b) (lacking-here label key (wanted_in records) e l k) ∙ by (is_among records label key e (contents_in records label key (high records format.nodes_file))) ∙ among-all records label key e l k)
@@ -120,7 +127,8 @@ wanted_again records label key e = ⊎_elim
     by true = refl
     by false = refl
 
-    other : (e.label ≡ label → e.key ≡ key → ⊥) → with_contents (lacking label key (wanted_in records)) label key (contents_in records label key (high records format.nodes_file)) e ≡ wanted_in records e
+    other : (e.label ≡ label → e.key ≡ key → ⊥) → with_contents (lacking label key (wanted_in records)) label key
+        (contents_in records label key (high records format.nodes_file)) e ≡ wanted_in records e
     other apart = rw (among-other records label key e apart (contents_in records label key (high records format.nodes_file)), lacking-other label key (wanted_in records) e apart) refl
 
 -- ---- where only the file of the indexes changed

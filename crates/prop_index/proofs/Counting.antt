@@ -61,14 +61,16 @@ space_roomy spaces.Memory = tt
 space_roomy spaces.Disk = tt
 
 -- a record that is written counts for nothing
-pub put_live : (s : State) (x : ℕ) (rec : Rec) → (meta_of (after_put s (key_in format.index_file x) rec) format.index_file).live ≡ (meta_of s format.index_file).live
+pub put_live : (s : State) (x : ℕ) (rec : Rec) → (meta_of (after_put s (key_in format.index_file x) rec) format.index_file).live
+    ≡ (meta_of s format.index_file).live
 put_live s x rec = ap (λ (r : Rec). (metas.meta_of r).live) (put_other s.records (key_in format.index_file x) rec (meta_key_of format.index_file) not_meta)
   where
     not_meta : meta_key_of format.index_file ≢ key_in format.index_file x
     not_meta e = let f = ap (λ (k : Key). k.file) e in omega (arith, f)
 
 -- nor does the first definition
-pub first_live : (s : State) (id : ℕ) → (meta_of (after_set s (meta_key_of format.index_file) 4 format.meta_definition id) format.index_file).live ≡ (meta_of s format.index_file).live
+pub first_live : (s : State) (id : ℕ) → (meta_of (after_set s (meta_key_of format.index_file) 4 format.meta_definition id) format.index_file).live
+    ≡ (meta_of s format.index_file).live
 first_live s id =
     ap (λ (r : Rec). (metas.meta_of r).live) (put_same s.records (meta_key_of format.index_file) (with_field 4 (s.records (meta_key_of format.index_file)) format.meta_definition id))
     ∙ ap (λ m. m.live) (meta_of-definition (s.records (meta_key_of format.index_file)) id)
@@ -126,9 +128,11 @@ pub make_reread : (s t : State) (f : MakeFault) → SameButReads s t → makes.B
 make_reread s t f same is = subst (λ (z : State). makes.BlamesBroken z.records z.shape f) (sym same) is
 
 pub make_before : (s t : State) (f : MakeFault) → SameButReads s t → makes.BlamesBroken t.records t.shape f → makes.BlamesBroken s.records s.shape f
-make_before s t f same is = subst (λ (r : Records). makes.BlamesBroken r s.shape f) (ap (λ (z : State). z.records) same) (subst (λ (h : Shape). makes.BlamesBroken t.records h f) (ap (λ (z : State). z.shape) same) is)
+make_before s t f same is = subst (λ (r : Records). makes.BlamesBroken r s.shape f) (ap (λ (z : State). z.records) same)
+    (subst (λ (h : Shape). makes.BlamesBroken t.records h f) (ap (λ (z : State). z.shape) same) is)
 
 -- a node that was given out is not one that there can't be
-pub owner_blames : (s : State) (node : ℕ) (named bad : Damage) → node < high s.records format.nodes_file → IsOwnerDamage s node named bad → BreaksAny s.records s.shape bad
+pub owner_blames : (s : State) (node : ℕ) (named bad : Damage) → node < high s.records format.nodes_file → IsOwnerDamage s node named bad
+    → BreaksAny s.records s.shape bad
 owner_blames s node named _ low (NamesNone le) = absurd (omega (arith, low, le))
 owner_blames s node named _ low (HighNodes over) = inl (nodes_mark s over)

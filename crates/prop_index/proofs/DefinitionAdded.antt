@@ -27,8 +27,10 @@ use Rattle.prop_index.specs.Reading.{KeepsStore}
 use Rattle.prop_index.specs.declared.finding.Definition.{Definition}
 use Rattle.prop_index.proofs.RecordFits.{empty_heads-nil, fits-definition}
 
-module _ (s m t : State) (label key first id : ℕ) (rec : Rec) (store : KeepsStore s) (heads : AreHeadsAdded s m (definition_start label key first) 12 rec) (added : IsRecordAdded m t rec id)
-    (named : AreNamesOf s.records label key) (first_is : first ≡ first_definition s.records) (label_fits : label < 2 ^ 32) (key_fits : key < 2 ^ 32) (first_fits : first < 2 ^ 32) where
+module _ (s m t : State) (label key first id : ℕ) (rec : Rec) (store : KeepsStore s) (heads : AreHeadsAdded s m (definition_start label key first) 12 rec)
+    (added : IsRecordAdded m t rec id)
+    (named : AreNamesOf s.records label key) (first_is : first ≡ first_definition s.records) (label_fits : label < 2 ^ 32) (key_fits : key < 2 ^ 32)
+    (first_fits : first < 2 ^ 32) where
   abbrev w : State
   w = after_set t (meta_key_of format.index_file) 4 format.meta_definition id
 
@@ -44,13 +46,16 @@ module _ (s m t : State) (label key first id : ℕ) (rec : Rec) (store : KeepsSt
   rec_kind = heads.front 1 format.kind (omega arith) ∙ field-with_fields 1 zeros (definition_fields label key first) format.kind format.definition refl fit refl
 
   rec_label : field 4 rec format.definition_label ≡ label
-  rec_label = heads.front 4 format.definition_label (omega arith) ∙ field-with_fields 4 zeros (definition_fields label key first) format.definition_label label refl fit refl
+  rec_label = heads.front 4 format.definition_label (omega arith) ∙ field-with_fields 4 zeros (definition_fields label key first) format.definition_label label
+      refl fit refl
 
   rec_key : field 4 rec format.definition_key ≡ key
-  rec_key = heads.front 4 format.definition_key (omega arith) ∙ field-with_fields 4 zeros (definition_fields label key first) format.definition_key key refl fit refl
+  rec_key = heads.front 4 format.definition_key (omega arith) ∙ field-with_fields 4 zeros (definition_fields label key first) format.definition_key key refl fit
+      refl
 
   rec_next : field 4 rec format.definition_next ≡ first
-  rec_next = heads.front 4 format.definition_next (omega arith) ∙ field-with_fields 4 zeros (definition_fields label key first) format.definition_next first refl fit refl
+  rec_next = heads.front 4 format.definition_next (omega arith) ∙ field-with_fields 4 zeros (definition_fields label key first) format.definition_next first
+      refl fit refl
 
   rec_blank : (i : ℕ) → 1 ≤ i → i < 4 → field 1 rec i ≡ 0
   rec_blank i low high =
@@ -98,7 +103,8 @@ module _ (s m t : State) (label key first id : ℕ) (rec : Rec) (store : KeepsSt
       let ranges : AreInRange s.records s.shape = store.ranges in
       let more = heads.grows.more in let most = added.grows.more in
       let e : field 4 rec format.definition_next ≡ first_definition s.records = rec_next ∙ first_is in
-      ⊎_elim (λ (n : first_definition s.records ≡ format.nil). inl (e ∙ n)) (λ (lt : first_definition s.records < high s.records format.index_file). inr (omega (arith, e, lt, more, most)))
+      ⊎_elim (λ (n : first_definition s.records ≡ format.nil). inl (e ∙ n))
+      (λ (lt : first_definition s.records < high s.records format.index_file). inr (omega (arith, e, lt, more, most)))
       ((ranges.metas format.index_file refl).first refl)
 
   names_are : high m.records format.names_file ≡ high s.records format.names_file
@@ -129,7 +135,8 @@ module _ (s m t : State) (label key first id : ℕ) (rec : Rec) (store : KeepsSt
     rec_is = sym here;
     live = ap (λ (q : Meta). q.live) meta_is ∙ (let a = added.grows.live in let b = heads.grows.live in omega (arith, a, b));
     shape = added.grows.shape ∙ heads.grows.shape;
-    others = λ q file meta. put_other t.records (meta_key_of format.index_file) (with_field 4 (t.records (meta_key_of format.index_file)) format.meta_definition id) q meta
+    others = λ q file meta. put_other t.records (meta_key_of format.index_file)
+        (with_field 4 (t.records (meta_key_of format.index_file)) format.meta_definition id) q meta
         ∙ added.grows.others q file meta ∙ heads.grows.others q file meta;
     kept = kept;
   }
@@ -138,9 +145,12 @@ module _ (s m t : State) (label key first id : ℕ) (rec : Rec) (store : KeepsSt
   definition_added v is = subst (λ (z : State). IsDefinitionAdded s z label key (record { id = id; rec = rec })) (sym is) all
 
 -- the record of a definition is one in use
-pub start-kind : (label key first : ℕ) → label < 2 ^ 32 → key < 2 ^ 32 → first < 2 ^ 32 → field 1 (definition_start label key first) format.kind ≡ format.definition
-start-kind label key first a b c = field-with_fields 1 zeros (definition_fields label key first) format.kind format.definition refl (omega arith, (a, (b, (c, tt)))) refl
+pub start-kind : (label key first : ℕ) → label < 2 ^ 32 → key < 2 ^ 32 → first < 2 ^ 32
+    → field 1 (definition_start label key first) format.kind ≡ format.definition
+start-kind label key first a b c = field-with_fields 1 zeros (definition_fields label key first) format.kind format.definition refl
+    (omega arith, (a, (b, (c, tt)))) refl
 
 -- reads before it
-pub definition_reread : (s t : State) (reads label key : ℕ) (definition : Definition) → IsDefinitionAdded (record s { reads = reads }) t label key definition → IsDefinitionAdded s t label key definition
+pub definition_reread : (s t : State) (reads label key : ℕ) (definition : Definition) → IsDefinitionAdded (record s { reads = reads }) t label key definition
+    → IsDefinitionAdded s t label key definition
 definition_reread s t reads label key definition h = record { made = h.made; rec_is = h.rec_is; live = h.live; shape = h.shape; others = h.others; kept = h.kept }

@@ -1,5 +1,6 @@
 -- The indexes of the graph stay where an entry is added or taken out.
-use Rattle.std.proofs.Common.{◌≡◌, ◌≢◌, ⊎_elim, ℕ, zero, suc, ◌<◌, ◌≤◌, Bool, true, false, ◌&&◌, nat_eq, nat_lt, if◌then◌else◌, cond, Option, None, Some, List, ◌++◌, length, ap, sym, ◌∙◌, inr, arith}
+use Rattle.std.proofs.Common.{◌≡◌, ◌≢◌, ⊎_elim, ℕ, zero, suc, ◌<◌, ◌≤◌, Bool, true, false, ◌&&◌, nat_eq, nat_lt}
+use Rattle.std.proofs.Common.{if◌then◌else◌, cond, Option, None, Some, List, ◌++◌, length, ap, sym, ◌∙◌, inr, arith}
 use Rattle.std.specs.List.{flat_map}
 use Rattle.std.proofs.lemmas.Bool.{cases_lt}
 use Rattle.plain_graph.specs.Graph.{Index}
@@ -39,7 +40,8 @@ not_defined records label key y other =
     ap (λ b. b && (nat_eq (field 4 (rec_at records format.index_file y) format.definition_label) label && nat_eq (field 4 (rec_at records format.index_file y) format.definition_key) key))
     (eq_false (kind_at records format.index_file y) format.definition other)
 
-module _ (s t : Records) (elsewhere : SameElsewhere s t) (grows : high s format.index_file ≤ high t format.index_file) (same : (label key y : ℕ) → test_in t label key y ≡ test_in s label key y) where
+module _ (s t : Records) (elsewhere : SameElsewhere s t) (grows : high s format.index_file ≤ high t format.index_file)
+    (same : (label key y : ℕ) → test_in t label key y ≡ test_in s label key y) where
   names_rec : rec_at t format.names_file ≡ rec_at s format.names_file
   names_rec = λ i x. elsewhere (key_in format.names_file x) (λ e. omega (arith, e)) (λ e. let f = ap (λ (k : Key). k.file) e in omega (arith, f)) i
 
@@ -50,12 +52,14 @@ module _ (s t : Records) (elsewhere : SameElsewhere s t) (grows : high s format.
   past_none label key x le = not_defined s label key x (λ e. let k = kind_high (high s format.index_file) (rec_at s format.index_file x) x le in omega (arith, e, k))
 
   found_same : (label key : ℕ) → ids (test_in t label key) (high t format.index_file) ≡ ids (test_in s label key) (high s format.index_file)
-  found_same label key = ap (λ (f : ℕ → Bool). ids f (high t format.index_file)) (λ i y. same label key y i) ∙ ids_below (test_in s label key) (high s format.index_file) (high t format.index_file) grows (past_none label key)
+  found_same label key = ap (λ (f : ℕ → Bool). ids f (high t format.index_file)) (λ i y. same label key y i)
+      ∙ ids_below (test_in s label key) (high s format.index_file) (high t format.index_file) grows (past_none label key)
 
   abbrev names : ℕ → Rec
   names = rec_at s format.names_file
 
-  from_same : (label key : ℕ) → index_from (kind_at t format.index_file) (rec_at t format.index_file) (high t format.index_file) names label key ≡ index_from (kind_at s format.index_file) (rec_at s format.index_file) (high s format.index_file) names label key
+  from_same : (label key : ℕ) → index_from (kind_at t format.index_file) (rec_at t format.index_file) (high t format.index_file) names label key ≡ index_from
+      (kind_at s format.index_file) (rec_at s format.index_file) (high s format.index_file) names label key
   from_same label key = ap (λ (found : List ℕ). if nat_lt 0 (length found) then Some (record { label = text_of (names label); key = text_of (names key) }) else None) (found_same label key)
 
   pub graph_indexes : indexes_of t ≡ indexes_of s
@@ -64,14 +68,16 @@ module _ (s t : Records) (elsewhere : SameElsewhere s t) (grows : high s format.
       ∙ ap (λ (from : ℕ → ℕ → Option Index). flat_map (λ label. collect (from label) (high s format.names_file)) (ids (λ label. true) (high s format.names_file))) (λ i label key. from_same label key i)
 
 -- tests of a record whose kind stays, and which stays if it is a definition
-test_kept : (s t : Records) (label key y : ℕ) → kind_at t format.index_file y ≡ kind_at s format.index_file y → (kind_at s format.index_file y ≡ format.definition → index_rec t y ≡ index_rec s y) → test_in t label key y ≡ test_in s label key y
+test_kept : (s t : Records) (label key y : ℕ) → kind_at t format.index_file y ≡ kind_at s format.index_file y
+    → (kind_at s format.index_file y ≡ format.definition → index_rec t y ≡ index_rec s y) → test_in t label key y ≡ test_in s label key y
 test_kept s t label key y kinds stays = ⊎_elim
     (λ (is : kind_at s format.index_file y ≡ format.definition). let rec = stays is in
     λ i. nat_eq (kinds i) format.definition && (nat_eq (field 4 (rec i) format.definition_label) label && nat_eq (field 4 (rec i) format.definition_key) key))
     (λ (other : kind_at s format.index_file y ≢ format.definition). not_defined t label key y (λ e. other (sym kinds ∙ e)) ∙ sym (not_defined s label key y other))
     (nat_cases (kind_at s format.index_file y) format.definition)
 
-test_none : (s t : Records) (label key y : ℕ) → kind_at s format.index_file y ≢ format.definition → kind_at t format.index_file y ≢ format.definition → test_in t label key y ≡ test_in s label key y
+test_none : (s t : Records) (label key y : ℕ) → kind_at s format.index_file y ≢ format.definition → kind_at t format.index_file y ≢ format.definition
+    → test_in t label key y ≡ test_in s label key y
 test_none s t label key y was is = not_defined t label key y is ∙ sym (not_defined s label key y was)
 
 live_some : (s : Records) (y : ℕ) → y < high s format.index_file → y ≢ format.nil
@@ -83,17 +89,20 @@ defined_low s y is = kind_below (high s format.index_file) (index_rec s y) y (λ
 -- ---- an entry came
 
 module _ (s t : Records) (x hid place node hash : ℕ) (made : IsEntryMade s t x hid place node hash) (heads : kind_at s format.index_file hid ≡ format.heads)
-    (begins : field 4 (index_rec s hid) place ≢ format.nil → kind_at s format.index_file (field 4 (index_rec s hid) place) ≡ format.indexed) (behind : 4 ≤ place) where
+    (begins : field 4 (index_rec s hid) place ≢ format.nil → kind_at s format.index_file (field 4 (index_rec s hid) place) ≡ format.indexed)
+    (behind : 4 ≤ place) where
   abbrev first : ℕ
   first = field 4 (index_rec s hid) place
 
   made_byte : (y : ℕ) → y ≢ x → y ≢ format.nil → field 1 (index_rec t y) format.kind ≡ field 1 (index_rec s y) format.kind
   made_byte y ne some = ⊎_elim
       (λ (e : y ≡ hid). ap (λ z. field 1 (index_rec t z) format.kind) e ∙ ap (λ (r : Rec). field 1 r format.kind) made.head
-      ∙ field-with_field_other 4 (index_rec s hid) place x 1 format.kind (omega arith) (inr (omega (arith, behind))) ∙ ap (λ z. field 1 (index_rec s z) format.kind) (sym e))
+      ∙ field-with_field_other 4 (index_rec s hid) place x 1 format.kind (omega arith) (inr (omega (arith, behind)))
+      ∙ ap (λ z. field 1 (index_rec s z) format.kind) (sym e))
       (λ (apart : y ≢ hid). ⊎_elim
       (λ (e : y ≡ first). ap (λ z. field 1 (index_rec t z) format.kind) e ∙ ap (λ (r : Rec). field 1 r format.kind) (made.after (λ none. some (e ∙ none)))
-      ∙ field-with_field_other 4 (index_rec s first) format.indexed_previous x 1 format.kind (omega arith) (inr (omega arith)) ∙ ap (λ z. field 1 (index_rec s z) format.kind) (sym e))
+      ∙ field-with_field_other 4 (index_rec s first) format.indexed_previous x 1 format.kind (omega arith) (inr (omega arith))
+      ∙ ap (λ z. field 1 (index_rec s z) format.kind) (sym e))
       (λ (far : y ≢ first). ap (λ (r : Rec). field 1 r format.kind) (made.others y ne far apart)) (nat_cases y first))
       (nat_cases y hid)
 
@@ -101,7 +110,8 @@ module _ (s t : Records) (x hid place node hash : ℕ) (made : IsEntryMade s t x
   made_kind y ne = ⊎_elim
       (λ (lt : y < high t format.index_file).
       let under = made.only y ne lt in
-      kind_low (high t format.index_file) (index_rec t y) y lt ∙ made_byte y ne (live_some t y lt) ∙ sym (kind_low (high s format.index_file) (index_rec s y) y under))
+      kind_low (high t format.index_file) (index_rec t y) y lt ∙ made_byte y ne (live_some t y lt)
+      ∙ sym (kind_low (high s format.index_file) (index_rec s y) y under))
       (λ (ge : high t format.index_file ≤ y).
       let grows = made.grows in
       kind_high (high t format.index_file) (index_rec t y) y ge ∙ sym (kind_high (high s format.index_file) (index_rec s y) y (omega (arith, grows, ge))))
@@ -124,7 +134,8 @@ module _ (s t : Records) (x hid place node hash : ℕ) (made : IsEntryMade s t x
 
 -- ---- an entry went
 
-module _ (s t : Records) (x hid place : ℕ) (went : IsEntryGone s t x hid place) (entry : kind_at s format.index_file x ≡ format.indexed) (heads : kind_at s format.index_file hid ≡ format.heads)
+module _ (s t : Records) (x hid place : ℕ) (went : IsEntryGone s t x hid place) (entry : kind_at s format.index_file x ≡ format.indexed)
+    (heads : kind_at s format.index_file hid ≡ format.heads)
     (next_is : next_entry s x ≢ format.nil → kind_at s format.index_file (next_entry s x) ≡ format.indexed)
     (previous_is : previous_entry s x ≢ format.nil → kind_at s format.index_file (previous_entry s x) ≡ format.indexed) (behind : 4 ≤ place) where
   abbrev after : ℕ
@@ -136,15 +147,19 @@ module _ (s t : Records) (x hid place : ℕ) (went : IsEntryGone s t x hid place
   gone_byte : (y : ℕ) → y ≢ x → y ≢ format.nil → field 1 (index_rec t y) format.kind ≡ field 1 (index_rec s y) format.kind
   gone_byte y ne some = ⊎_elim
       (λ (e : y ≡ after). ap (λ z. field 1 (index_rec t z) format.kind) e ∙ ap (λ (r : Rec). field 1 r format.kind) (went.after (λ none. some (e ∙ none)))
-      ∙ field-with_field_other 4 (index_rec s after) format.indexed_previous before 1 format.kind (omega arith) (inr (omega arith)) ∙ ap (λ z. field 1 (index_rec s z) format.kind) (sym e))
+      ∙ field-with_field_other 4 (index_rec s after) format.indexed_previous before 1 format.kind (omega arith) (inr (omega arith))
+      ∙ ap (λ z. field 1 (index_rec s z) format.kind) (sym e))
       (λ (not_after : y ≢ after). ⊎_elim
       (λ (e : y ≡ before). ap (λ z. field 1 (index_rec t z) format.kind) e ∙ ap (λ (r : Rec). field 1 r format.kind) (went.before (λ none. some (e ∙ none)))
-      ∙ field-with_field_other 4 (index_rec s before) format.indexed_next after 1 format.kind (omega arith) (inr (omega arith)) ∙ ap (λ z. field 1 (index_rec s z) format.kind) (sym e))
+      ∙ field-with_field_other 4 (index_rec s before) format.indexed_next after 1 format.kind (omega arith) (inr (omega arith))
+      ∙ ap (λ z. field 1 (index_rec s z) format.kind) (sym e))
       (λ (not_before : y ≢ before). ⊎_elim
       (λ (e : y ≡ hid). ⊎_elim
       (λ (none : before ≡ format.nil). ap (λ z. field 1 (index_rec t z) format.kind) e ∙ ap (λ (r : Rec). field 1 r format.kind) (went.head none)
-      ∙ field-with_field_other 4 (index_rec s hid) place after 1 format.kind (omega arith) (inr (omega (arith, behind))) ∙ ap (λ z. field 1 (index_rec s z) format.kind) (sym e))
-      (λ (one : before ≢ format.nil). ap (λ (r : Rec). field 1 r format.kind) (went.others y ne not_after not_before (λ none. absurd (one none)))) (nat_cases before format.nil))
+      ∙ field-with_field_other 4 (index_rec s hid) place after 1 format.kind (omega arith) (inr (omega (arith, behind)))
+      ∙ ap (λ z. field 1 (index_rec s z) format.kind) (sym e))
+      (λ (one : before ≢ format.nil). ap (λ (r : Rec). field 1 r format.kind) (went.others y ne not_after not_before (λ none. absurd (one none))))
+      (nat_cases before format.nil))
       (λ (not_hid : y ≢ hid). ap (λ (r : Rec). field 1 r format.kind) (went.others y ne not_after not_before (λ none. not_hid))) (nat_cases y hid))
       (nat_cases y before))
       (nat_cases y after)

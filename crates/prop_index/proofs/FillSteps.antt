@@ -1,5 +1,7 @@
 -- One entry more of an index that is made.
-use Rattle.std.proofs.Common.{◌≡◌, ◌≢◌, ⊎_elim, ℕ, ◌+◌, ◌*◌, ◌/◌, ◌%◌, ◌<◌, Bool, true, false, ◌&&◌, ◌||◌, nat_eq, List, [], ◌∷◌, ◌++◌, length, refl, ap, sym, ◌∙◌, subst, inl, inr, arith, length-append, take, get_or}
+use Rattle.std.proofs.Common.{◌≡◌, ◌≢◌, ⊎_elim, ℕ, ◌+◌, ◌*◌, ◌/◌, ◌%◌, ◌<◌, Bool, true, false, ◌&&◌, ◌||◌, nat_eq, List}
+use Rattle.std.proofs.Common.{[], ◌∷◌, ◌++◌, length, refl, ap, sym, ◌∙◌, subst, inl, inr, arith, length-append, take}
+use Rattle.std.proofs.Common.{get_or}
 use Rattle.std.specs.Prelude.{Err}
 use Rattle.std.specs.List.{AllPairs, Contains, list_any}
 use Rattle.std.proofs.lemmas.List.{get_or-take, length-take-le}
@@ -17,7 +19,8 @@ use Rattle.prop_index.specs.Touching.{index_keys}
 use Rattle.store_rules.specs.Chains.{In, IsWalk}
 use Rattle.store_rules.specs.Hashes.{bucket_of}
 use Rattle.store_rules.specs.IndexChange.{IsEntryMade}
-use Rattle.store_rules.specs.Indexes.{AreIndexed, Entries, Entry, first_definition, first_entry, heads_of, index_rec, indexed_key, indexed_label, is_entry, next_definition, with_entry}
+use Rattle.store_rules.specs.Indexes.{AreIndexed, Entries, Entry, first_definition, first_entry, heads_of, index_rec}
+use Rattle.store_rules.specs.Indexes.{indexed_key, indexed_label, is_entry, next_definition, with_entry}
 use Rattle.store_rules.specs.Views.{high, kind_at, rec_at}
 use Rattle.store_rules.proofs.BucketChange.{IsBucketChanged}
 use Rattle.store_rules.proofs.ChainLaws.{walk_stays}
@@ -67,7 +70,8 @@ unlike label key node hash (c ∷ cs) other =
     by true false q r = r
     by false b q r = r
 
-module _ (s m : State) (wanted : Entries) (ix : AreIndexed s.records wanted) (label key : ℕ) (definition : Definition) (empty : IsEmptyIndex s.records wanted ix label key definition) (p : List Content)
+module _ (s m : State) (wanted : Entries) (ix : AreIndexed s.records wanted) (label key : ℕ) (definition : Definition)
+    (empty : IsEmptyIndex s.records wanted ix label key definition) (p : List Content)
     (old : IsFilled s m wanted ix label key p) (c : Content) where
   abbrev d : ℕ
   d = definition.id
@@ -95,7 +99,8 @@ module _ (s m : State) (wanted : Entries) (ix : AreIndexed s.records wanted) (la
   head_is : (k : ℕ) → head_of definition.rec k ≡ heads_of m.records d k
   head_is k = ap (λ (r : Rec). field 4 r (format.definition_heads + 4 * k)) (sym rec_now)
 
-  module _ (bucket : Bucket) (id_is : bucket.slot.id ≡ head_of definition.rec (b / 15)) (place_is : bucket.slot.place ≡ format.heads_first + 4 * (b % 15)) (first_is : bucket.first ≡ first_entry m.records d b) where
+  module _ (bucket : Bucket) (id_is : bucket.slot.id ≡ head_of definition.rec (b / 15)) (place_is : bucket.slot.place ≡ format.heads_first + 4 * (b % 15))
+      (first_is : bucket.first ≡ first_entry m.records d b) where
     slot_is : bucket.slot.id ≡ heads_of m.records d (b / 15)
     slot_is = id_is ∙ head_is (b / 15)
 
@@ -163,7 +168,8 @@ module _ (s m : State) (wanted : Entries) (ix : AreIndexed s.records wanted) (la
         entered = entered_in m.records entries old.indexes label key c bucket found t.records (λ right. (id, made)) unwanted
 
         more_is : (e : Entry) → with_contents wanted label key (p ++ c ∷ []) e ≡ with_entry entries one e
-        more_is e = ap (λ q. q || wanted e) (list_any-append (λ k. is_entry e (entry_for label key k)) p (c ∷ [])) ∙ by (list_any (λ k. is_entry e (entry_for label key k)) p) (is_entry e one) (wanted e)
+        more_is e = ap (λ q. q || wanted e) (list_any-append (λ k. is_entry e (entry_for label key k)) p (c ∷ []))
+            ∙ by (list_any (λ k. is_entry e (entry_for label key k)) p) (is_entry e one) (wanted e)
           where
             by : (x y z : Bool) → ((x || (y || false)) || z) ≡ (y || (x || z))
             by true true z = refl
@@ -185,7 +191,8 @@ module _ (s m : State) (wanted : Entries) (ix : AreIndexed s.records wanted) (la
 -- ---- the contents
 
 -- those before a place are of other nodes than the one there
-pub ascending_apart : (contents : List Content) (i : ℕ) (c : Content) → AllPairs (λ a b. a.node < b.node) contents → i < length contents → ((d : Content) → get_or contents i d ≡ c)
+pub ascending_apart : (contents : List Content) (i : ℕ) (c : Content) → AllPairs (λ a b. a.node < b.node) contents → i < length contents
+    → ((d : Content) → get_or contents i d ≡ c)
     → (k : Content) → Contains (take i contents) k → k.node ≢ c.node
 ascending_apart contents i c ascend low is k (j, lt, at) e =
     let few : length (take i contents) ≡ i = length-take-le i contents (omega (arith, low)) in

@@ -21,15 +21,18 @@ some_in first x i = ⊎_elim
     (nat_cases first format.nil)
 
 -- the records of an entry in front of a bucket: its own, a head, and an entry that came before
-pub front_in : (known ids : List ℕ) (id head first : ℕ) → In head known → (first ≢ format.nil → In first ids) → (x : ℕ) → In x (front_ids id head first) → In x (known ++ id ∷ ids)
+pub front_in : (known ids : List ℕ) (id head first : ℕ) → In head known → (first ≢ format.nil → In first ids) → (x : ℕ) → In x (front_ids id head first)
+    → In x (known ++ id ∷ ids)
 front_in known ids id head first there before x (inl e) = in_right x known (id ∷ ids) (inl e)
 front_in known ids id head first there before x (inr (inl e)) = in_left x known (id ∷ ids) (subst (λ z. In z known) (sym e) there)
-front_in known ids id head first there before x (inr (inr i)) = let k = some_in first x i in in_right x known (id ∷ ids) (inr (subst (λ z. In z ids) (sym k.0) (before k.1)))
+front_in known ids id head first there before x (inr (inr i)) = let k = some_in first x i in
+    in_right x known (id ∷ ids) (inr (subst (λ z. In z ids) (sym k.0) (before k.1)))
 
 pub more_in : (known ids : List ℕ) (id x : ℕ) → In x (known ++ ids) → In x (known ++ id ∷ ids)
 more_in known ids id x i = append_in known ids x i (In x (known ++ id ∷ ids)) (λ j. in_left x known (id ∷ ids) j) (λ j. in_right x known (id ∷ ids) (inr j))
 
 pub beside_more : {tells : Type 0} (known ids : List ℕ) (id head first : ℕ) (s m t : State) → In head known → (first ≢ format.nil → In first ids)
-    → TouchesOnly tells s m (index_keys (known ++ ids)) → TouchesOnly tells m t (index_keys (front_ids id head first)) → TouchesOnly tells s t (index_keys (known ++ id ∷ ids))
+    → TouchesOnly tells s m (index_keys (known ++ ids)) → TouchesOnly tells m t (index_keys (front_ids id head first))
+    → TouchesOnly tells s t (index_keys (known ++ id ∷ ids))
 beside_more known ids id head first s m t there before h g =
     only_join (known ++ ids) (front_ids id head first) (known ++ id ∷ ids) s m t (more_in known ids id) (front_in known ids id head first there before) h g

@@ -5,7 +5,8 @@ use Rattle.std.specs.Cmp.{Equal-is}
 use Rattle.std.specs.Cmp.Lexicographic.{slice_cmp}
 use Rattle.std.specs.FinMap.{int_cmp-IsAntisymmetric, nat_cmp-IsAntisymmetric, slice_cmp-IsAntisymmetric}
 use Rattle.std.specs.Ordering.{bool_cmp, int_cmp, is_eq, nat_cmp}
-use Rattle.std.proofs.Common.{◌≡◌, ◌≢◌, ◌<◌, ◌&&◌, ℕ, Bool, true, false, cond, nat_eq, Option, None, Some, List, [], ◌∷◌, refl, ap, sym, ◌∙◌, subst, inl, inr, arith}
+use Rattle.std.proofs.Common.{◌≡◌, ◌≢◌, ◌<◌, ◌&&◌, ℕ, Bool, true, false, cond, nat_eq, Option, None, Some, List, []}
+use Rattle.std.proofs.Common.{◌∷◌, refl, ap, sym, ◌∙◌, subst, inl, inr, arith}
 use Rattle.std.proofs.lemmas.Bool.{true≢false}
 use borrow.Author.Tests.{eqb-true}
 use Rattle.plain_graph.specs.Values.{value_cmp}
@@ -15,7 +16,9 @@ use Rattle.rec_bytes.specs.Format as format
 use Rattle.rec_bytes.specs.Space.{State}
 use Rattle.store_rules.specs.Chains.{In, IsWalk}
 use Rattle.store_rules.specs.Hashes.{bucket_of, hash_of}
-use Rattle.store_rules.specs.Indexes.{Entry, IsBucket, IsIndexed, entry_hash, entry_node, has_hash, has_value, indexed_key, indexed_label, listed_from, next_entry, node_value, row_value, value_in, wanted_in, first_entry}
+use Rattle.store_rules.specs.Indexes.{Entry, IsBucket, IsIndexed, entry_hash, entry_node, has_hash, has_value}
+use Rattle.store_rules.specs.Indexes.{indexed_key, indexed_label, listed_from, next_entry, node_value, row_value}
+use Rattle.store_rules.specs.Indexes.{value_in, wanted_in, first_entry}
 use Rattle.store_rules.specs.Properties.{AreOnce, property_records}
 use Rattle.store_rules.specs.Rows.{ids, if_test}
 use Rattle.store_rules.specs.Views.{NodeRow, Records, high, kind_at, node_at, node_in, rec_at}
@@ -59,7 +62,8 @@ pub record HasNodeValue (records : Records) (label key n : ℕ) (value : Value) 
   pub used : kind_at records format.nodes_file n ≢ format.free_kind
   pub met : value_in (properties_met records (node_owner n)) key ≡ Some value
 
-pub node_value-some : (records : Records) (label key n : ℕ) (value : Value) → node_value records label key n ≡ Some value → HasNodeValue records label key n value
+pub node_value-some : (records : Records) (label key n : ℕ) (value : Value) → node_value records label key n ≡ Some value
+    → HasNodeValue records label key n value
 node_value-some records label key n value = by (node_at records n) refl
   where
     by : (o : Option NodeRow) → node_at records n ≡ o → row_value (property_records records) label key o ≡ Some value → HasNodeValue records label key n value
@@ -69,7 +73,8 @@ node_value-some records label key n value = by (node_at records n) refl
         let on = labelled (nat_eq row.label label) h in
         record { used = at.0; met = ap (λ (r : NodeRow). value_in (listed_from (property_records records) r.property) key) at.1 ∙ on }
       where
-        labelled : (b : Bool) → cond b (value_in (listed_from (property_records records) row.property) key) None ≡ Some value → value_in (listed_from (property_records records) row.property) key ≡ Some value
+        labelled : (b : Bool) → cond b (value_in (listed_from (property_records records) row.property) key) None ≡ Some value
+            → value_in (listed_from (property_records records) row.property) key ≡ Some value
         labelled true e = e
         labelled false e = absurd cc
 
@@ -140,7 +145,8 @@ module _ (s : State) (store : IsIndexed s.records s.shape) (d : ℕ) (listed : I
   node_of_entry x i = let v = has_one x i in (node_value-some records label key (entry_node records x) v.0 v.1).used
 
   -- what is read of it is what it has
-  read_is : (x : ℕ) → In x entries → value_in (properties_met records (node_owner (entry_node records x))) key ≡ node_value records label key (entry_node records x)
+  read_is : (x : ℕ) → In x entries → value_in (properties_met records (node_owner (entry_node records x))) key ≡ node_value records label key
+      (entry_node records x)
   read_is x i = let v = has_one x i in (node_value-some records label key (entry_node records x) v.0 v.1).met ∙ sym v.1
 
   abbrev holds : ℕ → Bool
@@ -153,7 +159,8 @@ module _ (s : State) (store : IsIndexed s.records s.shape) (d : ℕ) (listed : I
   nodes = nodes_with records key (hash_of value) value entries
 
   holds_low : (n : ℕ) → holds n ≡ true → n < high records format.nodes_file
-  holds_low n h = kind_below (high records format.nodes_file) (rec_at records format.nodes_file n) n (node_value-some records label key n value (has_value-is value _ h)).used
+  holds_low n h = kind_below (high records format.nodes_file) (rec_at records format.nodes_file n) n
+      (node_value-some records label key n value (has_value-is value _ h)).used
 
   picked_holds : (x : ℕ) → In x entries → picked x ≡ true → holds (entry_node records x) ≡ true
   picked_holds x i h = ap (has_value value) (sym (read_is x i)) ∙ (and_parts (is_hashed records (hash_of value) x) _ h).1
@@ -191,7 +198,8 @@ module _ (s : State) (store : IsIndexed s.records s.shape) (d : ℕ) (listed : I
       let hashed : entry_hash records found.id ≡ hash_of value = ap (λ (z : Entry). z.hash) found.is in
       let reads : has_value value (value_in (properties_met records (node_owner (entry_node records found.id))) key) ≡ true
       = ap (has_value value) (read_is found.id found.member) ∙ ap holds at ∙ h in
-      let is_one : picked found.id ≡ true = both (is_hashed records (hash_of value) found.id) _ (eq_true (entry_hash records found.id) (hash_of value) hashed) reads in
+      let is_one : picked found.id ≡ true = both (is_hashed records (hash_of value) found.id) _ (eq_true (entry_hash records found.id) (hash_of value) hashed)
+      reads in
       subst (λ z. Contains nodes z) at (map_contains (entry_node records) (filter picked entries) found.id (filter_in picked entries found.id found.member is_one))
     where
       both : (a b : Bool) → a ≡ true → b ≡ true → (a && b) ≡ true

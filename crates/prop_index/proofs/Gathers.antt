@@ -1,5 +1,6 @@
 -- A walk of a bucket, so far.
-use Rattle.std.proofs.Common.{◌≡◌, ◌≢◌, ℕ, ◌+◌, ◌*◌, ◌≤◌, Bool, true, false, cond, List, [], ◌∷◌, ◌++◌, length, map, refl, ap, sym, ◌∙◌, subst, inl, inr, arith, append_assoc}
+use Rattle.std.proofs.Common.{◌≡◌, ◌≢◌, ℕ, ◌+◌, ◌*◌, ◌≤◌, Bool, true, false, cond, List, [], ◌∷◌, ◌++◌, length, map}
+use Rattle.std.proofs.Common.{refl, ap, sym, ◌∙◌, subst, inl, inr, arith, append_assoc}
 use Rattle.std.specs.List.{filter}
 use Rattle.plain_graph.specs.declared.value.Value.{Value}
 use Rattle.rec_bytes.specs.Format as format
@@ -13,7 +14,8 @@ use Rattle.prop_store.proofs.ReadCounts.{reads_none, reads_then}
 use Rattle.prop_index.specs.Gathering.{AreEntries, count_hashed, is_hashed, is_picked, nodes_with}
 
 pub nodes_with-cons : (records : Records) (key hash : ℕ) (value : Value) (x : ℕ) (xs : List ℕ)
-    → nodes_with records key hash value (x ∷ xs) ≡ cond (is_picked records key hash value x) (entry_node records x ∷ []) [] ++ nodes_with records key hash value xs
+    → nodes_with records key hash value (x ∷ xs) ≡ cond (is_picked records key hash value x) (entry_node records x ∷ []) [] ++ nodes_with records key hash value
+    xs
 nodes_with-cons records key hash value x xs = by (is_picked records key hash value x)
   where
     by : (b : Bool) → map (entry_node records) (cond b (x ∷ filter (is_picked records key hash value) xs) (filter (is_picked records key hash value) xs))
@@ -21,10 +23,12 @@ nodes_with-cons records key hash value x xs = by (is_picked records key hash val
     by true = refl
     by false = refl
 
-pub count_hashed-cons : (records : Records) (hash x : ℕ) (xs : List ℕ) → count_hashed records hash (x ∷ xs) ≡ cond (is_hashed records hash x) 1 0 + count_hashed records hash xs
+pub count_hashed-cons : (records : Records) (hash x : ℕ) (xs : List ℕ) → count_hashed records hash (x ∷ xs) ≡ cond (is_hashed records hash x) 1 0 + count_hashed
+    records hash xs
 count_hashed-cons records hash x xs = by (is_hashed records hash x)
   where
-    by : (b : Bool) → length (cond b (x ∷ filter (is_hashed records hash) xs) (filter (is_hashed records hash) xs)) ≡ cond b 1 0 + length (filter (is_hashed records hash) xs)
+    by : (b : Bool) → length (cond b (x ∷ filter (is_hashed records hash) xs) (filter (is_hashed records hash) xs)) ≡ cond b 1 0 + length
+        (filter (is_hashed records hash) xs)
     by true = omega arith
     by false = omega arith
 
@@ -39,7 +43,8 @@ pub record IsGathered (old now : State) (key hash : ℕ) (value : Value) (xs : L
   pub all_hashed : hashed + count_hashed old.records hash rest ≡ count_hashed old.records hash xs
   pub reads : ReadsAtMost (count + 55 * hashed) old now
 
-pub gather_begins : (s : State) (key hash : ℕ) (value : Value) (xs : List ℕ) (first : ℕ) (nodes : List ℕ) → nodes ≡ [] → AreEntries s first xs → IsGathered s s key hash value xs first 0 nodes
+pub gather_begins : (s : State) (key hash : ℕ) (value : Value) (xs : List ℕ) (first : ℕ) (nodes : List ℕ) → nodes ≡ [] → AreEntries s first xs
+    → IsGathered s s key hash value xs first 0 nodes
 gather_begins s key hash value xs first nodes none are = record {
   rest = xs;
   walk = are.walk;
@@ -51,12 +56,14 @@ gather_begins s key hash value xs first nodes none are = record {
   reads = reads_none _ s;
 }
 
-module _ (old now : State) (key hash : ℕ) (value : Value) (xs : List ℕ) (at count : ℕ) (nodes : List ℕ) (h : IsGathered old now key hash value xs at count nodes) where
+module _ (old now : State) (key hash : ℕ) (value : Value) (xs : List ℕ) (at count : ℕ) (nodes : List ℕ)
+    (h : IsGathered old now key hash value xs at count nodes) where
   -- the next one is among them, and one is left for it
   pub gather_here : at ≢ format.nil → In at xs × (count + 1 ≤ length xs)
   gather_here some = by h.rest h.walk h.counted h.part
     where
-      by : (rest : List ℕ) → IsWalk (next_entry old.records) at rest → length rest + count ≡ length xs → ((x : ℕ) → In x rest → In x xs) → In at xs × (count + 1 ≤ length xs)
+      by : (rest : List ℕ) → IsWalk (next_entry old.records) at rest → length rest + count ≡ length xs → ((x : ℕ) → In x rest → In x xs) → In at xs
+          × (count + 1 ≤ length xs)
       by [] walk counted part = absurd (some walk)
       by (x ∷ ys) walk counted part = (part at (inl walk.0), omega arith)
 
@@ -72,7 +79,8 @@ module _ (old now : State) (key hash : ℕ) (value : Value) (xs : List ℕ) (at 
   pub gather_over : at ≡ format.nil → nodes ≡ nodes_with old.records key hash value xs
   gather_over end = by h.rest h.walk h.gathered
     where
-      by : (rest : List ℕ) → IsWalk (next_entry old.records) at rest → nodes ++ nodes_with old.records key hash value rest ≡ nodes_with old.records key hash value xs → nodes ≡ nodes_with old.records key hash value xs
+      by : (rest : List ℕ) → IsWalk (next_entry old.records) at rest → nodes ++ nodes_with old.records key hash value rest ≡ nodes_with old.records key hash
+          value xs → nodes ≡ nodes_with old.records key hash value xs
       by [] walk all = sym (append_none nodes) ∙ all
       by (x ∷ ys) walk all = absurd (walk.1 (sym walk.0 ∙ end))
 
@@ -81,7 +89,8 @@ module _ (old now : State) (key hash : ℕ) (value : Value) (xs : List ℕ) (at 
   gather_cost =
       let counted = h.counted in
       let all = h.all_hashed in
-      reads_then (count + 55 * h.hashed) 0 (length xs + 55 * count_hashed old.records hash xs) old now now (omega (arith, counted, all)) h.reads (reads_none 0 now)
+      reads_then (count + 55 * h.hashed) 0 (length xs + 55 * count_hashed old.records hash xs) old now now (omega (arith, counted, all)) h.reads
+      (reads_none 0 now)
 
   -- one more was passed
   pub gather_on : (after : State) (to : ℕ) (more : List ℕ) → at ≢ format.nil → to ≡ next_entry old.records at
@@ -103,7 +112,8 @@ module _ (old now : State) (key hash : ℕ) (value : Value) (xs : List ℕ) (at 
             walk = subst (λ n. IsWalk (next_entry old.records) n ys) (ap (next_entry old.records) (sym walk.0) ∙ sym next) walk.2;
             counted = omega arith;
             part = λ y i. part y (inr i);
-            gathered = ap (λ ns. ns ++ nodes_with old.records key hash value ys) (added ∙ ap (λ z. nodes ++ cond (is_picked old.records key hash value z) (entry_node old.records z ∷ []) []) walk.0)
+            gathered = ap (λ ns. ns ++ nodes_with old.records key hash value ys)
+                (added ∙ ap (λ z. nodes ++ cond (is_picked old.records key hash value z) (entry_node old.records z ∷ []) []) walk.0)
                 ∙ append_assoc nodes _ _ ∙ ap (λ ns. nodes ++ ns) (sym (nodes_with-cons old.records key hash value x ys)) ∙ gathered;
             hashed = h.hashed + cond (is_hashed old.records hash at) 1 0;
             all_hashed = omega (arith, one, same, all);

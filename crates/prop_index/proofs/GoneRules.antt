@@ -31,7 +31,8 @@ use Rattle.prop_index.proofs.Buckets.{after-low, after-member, before-low, befor
 use Rattle.prop_index.proofs.Steps.{led-none, led-some, unlinked-is}
 use Rattle.prop_index.proofs.LinkRules.{back_kept, back_kind, back_mark, free_list, head_kept}
 
-module _ (s : State) (slot : Slot) (first x : ℕ) (xs : List ℕ) (is : IsBucketChain s.records first xs) (heads : kind_at s.records format.index_file slot.id ≡ format.heads) (place : IsHeadPlace slot.place)
+module _ (s : State) (slot : Slot) (first x : ℕ) (xs : List ℕ) (is : IsBucketChain s.records first xs)
+    (heads : kind_at s.records format.index_file slot.id ≡ format.heads) (place : IsHeadPlace slot.place)
     (member : In x xs) (rules : KeepsStore s) (small : x < format.most_ids) where
   abbrev u : State
   u = given s format.index_file x
@@ -61,7 +62,8 @@ module _ (s : State) (slot : Slot) (first x : ℕ) (xs : List ℕ) (is : IsBucke
   was_given = has_given s format.index_file x free refl small (record { list = split.walk; fresh = not_free_id s.records format.index_file x free split used })
 
   gone : IsGone s.records u.records s.shape format.index_file x
-  gone = is_gone s.records u.records s.shape format.index_file x free refl split used was_given (room_small s.records s.shape format.index_file ranges) (ranges.metas format.index_file refl)
+  gone = is_gone s.records u.records s.shape format.index_file x free refl split used was_given (room_small s.records s.shape format.index_file ranges)
+      (ranges.metas format.index_file refl)
 
   rules_u : IsWellFormed u.records s.shape
   rules_u = gone_kept s.records u.records s.shape x gone rules
@@ -111,11 +113,13 @@ module _ (s : State) (slot : Slot) (first x : ℕ) (xs : List ℕ) (is : IsBucke
       let k : kind_at two.records format.index_file before ≡ format.indexed = back_kind u after before after_kind before ∙ before_kind some in
       let used_two : kind_at two.records format.index_file before ≢ format.free_kind = λ q. omega (arith, k, q) in
       let under = kind_below (high two.records format.index_file) (rec_at two.records format.index_file before) before used_two in
-      let byte : field 1 (rec_at two.records format.index_file before) format.kind ≡ format.indexed = sym (kind_low (high two.records format.index_file) (rec_at two.records format.index_file before) before under) ∙ k in
+      let byte : field 1 (rec_at two.records format.index_file before) format.kind ≡ format.indexed =
+      sym (kind_low (high two.records format.index_file) (rec_at two.records format.index_file before) before under) ∙ k in
       subst (λ (z : State). IsWellFormed z.records s.shape) (sym (led-some two slot before after some))
       (set_kept two.records before format.indexed_next after used_two (omega arith) s.shape (λ q. omega (arith, k, q)) (fits_entry_next (high two.records) (rec_at two.records format.index_file before) after after_fits after_low byte) rules_two))
       (nat_cases before format.nil)
 
   -- The entry is out of its bucket, and the rules hold.
   pub entry_gone_kept : (t : State) → t ≡ unlinked_entry s slot x before after → t.shape ≡ s.shape → KeepsStore t
-  entry_gone_kept t e shape = subst (IsWellFormed t.records) (sym shape) (subst (λ (z : State). IsWellFormed z.records s.shape) (sym (e ∙ unlinked-is s slot x before after)) led_kept)
+  entry_gone_kept t e shape = subst (IsWellFormed t.records) (sym shape)
+      (subst (λ (z : State). IsWellFormed z.records s.shape) (sym (e ∙ unlinked-is s slot x before after)) led_kept)

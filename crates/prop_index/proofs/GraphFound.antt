@@ -1,5 +1,6 @@
 -- What a lookup gives are nodes of the graph.
-use Rattle.std.proofs.Common.{◌≡◌, ◌≢◌, ◌<◌, ◌&&◌, ℕ, zero, suc, Bool, true, false, cond, nat_eq, Option, None, Some, List, [], ◌∷◌, ◌++◌, map, option_map, inl, inr, refl, sym, ap, ◌∙◌, subst}
+use Rattle.std.proofs.Common.{◌≡◌, ◌≢◌, ◌<◌, ◌&&◌, ℕ, zero, suc, Bool, true, false, cond, nat_eq, Option, None, Some}
+use Rattle.std.proofs.Common.{List, [], ◌∷◌, ◌++◌, map, option_map, inl, inr, refl, sym, ap, ◌∙◌, subst}
 use Rattle.std.specs.List.{filter}
 use Rattle.std.specs.Cmp.{eq_by_cmp_equiv}
 use Rattle.std.specs.Cmp.Lexicographic.{nat_list_cmp_total}
@@ -45,7 +46,8 @@ module _ (name_file : ℕ → Rec) (names : ℕ) (named : AreNames name_file nam
       (λ h. subst (λ k. is_text (text_of (name_file a)) (text_of (name_file k)) ≡ true) (eqb-true a b h) ((eq_by_cmp_equiv nat_list_cmp_total).refl (text_of (name_file a))))
 
   -- of a name's text is found what has the name's number
-  find_named : (es : List Property) (key : ℕ) → key < names → ((k : ℕ) → In k (keys_of es) → k < names) → maps.find order (text_of (name_file key)) (map (named_property name_file) es) ≡ value_of es key
+  find_named : (es : List Property) (key : ℕ) → key < names → ((k : ℕ) → In k (keys_of es) → k < names)
+      → maps.find order (text_of (name_file key)) (map (named_property name_file) es) ≡ value_of es key
   find_named [] key low known = refl
   find_named (e ∷ es) key low known =
       let test : eq_by_cmp order (text_of (name_file key)) (text_of (name_file e.key)) ≡ nat_eq e.key key =
@@ -56,13 +58,15 @@ module _ (name_file : ℕ → Rec) (names : ℕ) (named : AreNames name_file nam
       ∙ by (nat_eq e.key key) (find_named es key low (λ k i. known k (inr i)))
     where
       by : (b : Bool) → maps.find order (text_of (name_file key)) (map (named_property name_file) es) ≡ value_of es key
-          → cond b (Some e.value) (maps.find order (text_of (name_file key)) (map (named_property name_file) es)) ≡ option_map (λ (d : Property). d.value) (cond b (Some e) (property_of es key))
+          → cond b (Some e.value) (maps.find order (text_of (name_file key)) (map (named_property name_file) es)) ≡ option_map (λ (d : Property). d.value)
+          (cond b (Some e) (property_of es key))
       by true later = refl
       by false later = later
 
 -- ---- the nodes
 
-module _ (s : Records) (shape : Shape) (store : IsWellFormed s shape) (label key : ℕ) (value : Value) (label_low : label < high s format.names_file) (key_low : key < high s format.names_file) where
+module _ (s : Records) (shape : Shape) (store : IsWellFormed s shape) (label key : ℕ) (value : Value) (label_low : label < high s format.names_file)
+    (key_low : key < high s format.names_file) where
   abbrev names : ℕ → Rec
   names = rec_at s format.names_file
 
@@ -86,7 +90,8 @@ module _ (s : Records) (shape : Shape) (store : IsWellFormed s shape) (label key
       let known : (k : ℕ) → In k (keys_of es) → k < mark = key_known s shape store format.nodes_file n first es owned are in
       ap (λ m. maps.get m (text_of (names key))) (properties_from-is (property_records s) names first es are)
       ∙ maps.get-from_entries nat_list_cmp_total (map (named_property names) es) (text_of (names key))
-      ∙ find_named names mark named es key key_low known ∙ sym (value_in-is es key) ∙ ap (λ (ps : List Property). value_in ps key) (sym (properties_read (property_records s) first es are))
+      ∙ find_named names mark named es key key_low known ∙ sym (value_in-is es key)
+      ∙ ap (λ (ps : List Property). value_in ps key) (sym (properties_read (property_records s) first es are))
 
   abbrev test : Node → Bool
   test = has_labelled (text_of (names label)) (text_of (names key)) value
@@ -97,13 +102,16 @@ module _ (s : Records) (shape : Shape) (store : IsWellFormed s shape) (label key
   one_node : (n : ℕ) → map node_number (filter test (option_list (node_of s n))) ≡ option_list (if_test holds n)
   one_node n = by (node_at s n) refl
     where
-      by : (o : Option NodeRow) → node_at s n ≡ o → map node_number (filter test (option_list (node_from names (property_records s) o))) ≡ option_list (cond (has_value value (row_value (property_records s) label key o)) (Some n) None)
+      by : (o : Option NodeRow) → node_at s n ≡ o → map node_number (filter test (option_list (node_from names (property_records s) o))) ≡ option_list
+          (cond (has_value value (row_value (property_records s) label key o)) (Some n) None)
       by None is = refl
       by (Some row) is =
           let at = some_row (kind_at s format.nodes_file n) (node_in (rec_at s format.nodes_file n) n) row is in
           let numbered : row.id ≡ n = ap (λ (r : NodeRow). r.id) (sym at.1) in
-          let labels : is_text (text_of (names row.label)) (text_of (names label)) ≡ nat_eq row.label label = text_test names mark named row.label label (labelled.nodes_named n row is) label_low in
-          let values : maps.get (properties_from names (property_records s) row.property) (text_of (names key)) ≡ value_in (listed_from (property_records s) row.property) key
+          let labels : is_text (text_of (names row.label)) (text_of (names label)) ≡ nat_eq row.label label =
+          text_test names mark named row.label label (labelled.nodes_named n row is) label_low in
+          let values : maps.get (properties_from names (property_records s) row.property) (text_of (names key)) ≡ value_in
+          (listed_from (property_records s) row.property) key
           = subst (λ (r : NodeRow). maps.get (properties_from names (property_records s) r.property) (text_of (names key)) ≡ value_in (listed_from (property_records s) r.property) key) at.1 (value_same n at.0) in
           rw (labels, values) (pick (nat_eq row.label label) (value_in (listed_from (property_records s) row.property) key) row numbered)
         where

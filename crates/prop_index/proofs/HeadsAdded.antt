@@ -40,7 +40,8 @@ pub head-same : (rec : Rec) (n id : ℕ) → n < 12 → id < 2 ^ 32 → head_of 
 head-same rec n id low small = field-with_field_same 4 rec (format.definition_heads + 4 * n) id (omega arith) small
 
 pub head-other : (rec : Rec) (n id c : ℕ) → n < 12 → c < n → head_of (with_head rec n id) c ≡ head_of rec c
-head-other rec n id c low lt = field-with_field_other 4 rec (format.definition_heads + 4 * n) id 4 (format.definition_heads + 4 * c) (omega arith) (inr (omega arith))
+head-other rec n id c low lt = field-with_field_other 4 rec (format.definition_heads + 4 * n) id 4 (format.definition_heads + 4 * c) (omega arith)
+    (inr (omega arith))
 
 pub head_ids-other : (rec : Rec) (n id m : ℕ) → n < 12 → m ≤ n → head_ids m (with_head rec n id) ≡ head_ids m rec
 head_ids-other rec n id zero low le = refl
@@ -55,7 +56,8 @@ length-head_ids (suc n) rec = ap suc (length-head_ids n rec)
 
 pub head-in : (n : ℕ) (rec : Rec) (c : ℕ) → c < n → In (head_of rec c) (head_ids n rec)
 head-in zero rec c lt = absurd (omega arith)
-head-in (suc n) rec c lt = ⊎_elim (λ (u : c < n). inr (head-in n rec c u)) (λ (u : n ≤ c). let e : c ≡ n = omega arith in inl (ap (head_of rec) e)) (cases_lt c n)
+head-in (suc n) rec c lt = ⊎_elim (λ (u : c < n). inr (head-in n rec c u)) (λ (u : n ≤ c). let e : c ≡ n = omega arith in inl (ap (head_of rec) e))
+    (cases_lt c n)
 
 -- ---- the store
 

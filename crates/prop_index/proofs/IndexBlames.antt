@@ -46,10 +46,12 @@ use Rattle.prop_index.proofs.Buckets.{bucket-first}
 
 -- ---- records of the index by the first rule
 
-pub index_mark : (s : State) → room_of s.shape format.index_file < high s.records format.index_file → Breaks s.records s.shape (damage_of format.meta_file format.index_file 1)
+pub index_mark : (s : State) → room_of s.shape format.index_file < high s.records format.index_file
+    → Breaks s.records s.shape (damage_of format.meta_file format.index_file 1)
 index_mark s over = WrongMeta format.index_file (omega arith) (λ k. let h = (k.since (omega arith)).high in omega arith)
 
-pub nodes_mark : (s : State) → room_of s.shape format.nodes_file < high s.records format.nodes_file → Breaks s.records s.shape (damage_of format.meta_file format.nodes_file 1)
+pub nodes_mark : (s : State) → room_of s.shape format.nodes_file < high s.records format.nodes_file
+    → Breaks s.records s.shape (damage_of format.meta_file format.nodes_file 1)
 nodes_mark s over = WrongMeta format.nodes_file (omega arith) (λ k. let h = k.high in omega arith)
 
 none_past : (mark to : ℕ) → mark ≤ to → to ≢ format.nil → IsLow mark to → ⊥
@@ -81,7 +83,8 @@ definition_begins s at is = record {
 }
 
 module _ (s : State) (at : ℕ) (named : Damage) (h : IsDefinitionAt s at named) (some : at ≢ format.nil) where
-  pub definition_goes_on : (to : ℕ) → kind_at s.records format.index_file at ≡ format.definition → to ≡ next_definition s.records at → IsDefinitionAt s to (damage_of format.index_file at 1)
+  pub definition_goes_on : (to : ℕ) → kind_at s.records format.index_file at ≡ format.definition → to ≡ next_definition s.records at
+      → IsDefinitionAt s to (damage_of format.index_file at 1)
   definition_goes_on to used is = record {
     leads = λ more. NextDefinition at to (h.leads some) used (sym is) more;
     past = λ more le. RecordRange format.index_file at refl (below s at format.definition used definition_some)
@@ -101,7 +104,8 @@ many_break s bad = inr (WrongDefinitions bad)
 
 -- ---- records of heads
 
-pub heads_blames : (s : State) (d c id : ℕ) → LeadsToDefinition s.records d → kind_at s.records format.index_file d ≡ format.definition → c < 12 → id ≡ heads_of s.records d c
+pub heads_blames : (s : State) (d c id : ℕ) → LeadsToDefinition s.records d → kind_at s.records format.index_file d ≡ format.definition → c < 12
+    → id ≡ heads_of s.records d c
     → (fault : Fault) → IsReadFault s id format.heads (damage_of format.index_file d 1) fault → BlamesBroken s.records s.shape fault
 heads_blames s d c id leads used low is Memory why = tt
 heads_blames s d c id leads used low is Disk why = tt
@@ -114,7 +118,8 @@ heads_blames s d c id leads used low is (Damaged _) (OtherKind given other) =
 
 -- ---- the entries of a bucket
 
-pub entry_begins : (s : State) (number : ℕ) (bucket : Bucket) (met : IsBucketMet s.records number bucket) → IsEntryAt s met.definition number 0 bucket.first (damage_of format.index_file bucket.slot.id 1)
+pub entry_begins : (s : State) (number : ℕ) (bucket : Bucket) (met : IsBucketMet s.records number bucket)
+    → IsEntryAt s met.definition number 0 bucket.first (damage_of format.index_file bucket.slot.id 1)
 entry_begins s number bucket met =
     let first = bucket-first s.records met.definition number bucket met.is in
     let used = met.is.head.heads in
@@ -127,7 +132,8 @@ entry_begins s number bucket met =
     }
 
 module _ (s : State) (d b count at : ℕ) (named : Damage) (h : IsEntryAt s d b count at named) (some : at ≢ format.nil) where
-  pub entry_goes_on : (to : ℕ) → kind_at s.records format.index_file at ≡ format.indexed → to ≡ next_entry s.records at → IsEntryAt s d b (count + 1) to (damage_of format.index_file at 1)
+  pub entry_goes_on : (to : ℕ) → kind_at s.records format.index_file at ≡ format.indexed → to ≡ next_entry s.records at
+      → IsEntryAt s d b (count + 1) to (damage_of format.index_file at 1)
   entry_goes_on to used is = record {
     leads = λ more. subst (λ n. LeadsToEntry s.records d b n to) (omega arith) (NextEntry count at to (h.leads some) used (sym is) more);
     past = λ more le. RecordRange format.index_file at refl (below s at format.indexed used indexed_some)
@@ -146,12 +152,14 @@ module _ (s : State) (d b count at : ℕ) (named : Damage) (h : IsEntryAt s d b 
   late_breaks late = inr (LateEntry d b count at (h.leads some) late)
 
   -- a link to it that is followed for writing
-  pub link_blames : (holder : ℕ) → named ≡ damage_of format.index_file holder 1 → (bad : Damage) → given.IsLinkDamage s (key_in format.index_file holder) format.index_file at bad → BreaksAny s.records s.shape bad
+  pub link_blames : (holder : ℕ) → named ≡ damage_of format.index_file holder 1 → (bad : Damage)
+      → given.IsLinkDamage s (key_in format.index_file holder) format.index_file at bad → BreaksAny s.records s.shape bad
   link_blames holder is _ (given.PastMark le) = inl (subst (Breaks s.records s.shape) is (h.past some le))
   link_blames holder is _ (given.HighMark over) = inl (index_mark s over)
 
 -- a link of an entry that is followed for writing
-pub beside_blames : (s : State) (x link : ℕ) → kind_at s.records format.index_file x ≡ format.indexed → ((link ≡ next_entry s.records x) ⊎ (link ≡ previous_entry s.records x)) → link ≢ format.nil
+pub beside_blames : (s : State) (x link : ℕ) → kind_at s.records format.index_file x ≡ format.indexed
+    → ((link ≡ next_entry s.records x) ⊎ (link ≡ previous_entry s.records x)) → link ≢ format.nil
     → (bad : Damage) → given.IsLinkDamage s (key_in format.index_file x) format.index_file link bad → BreaksAny s.records s.shape bad
 beside_blames s x link used is some _ (given.PastMark le) =
     inl (RecordRange format.index_file x refl (below s x format.indexed used indexed_some)
@@ -183,13 +191,15 @@ pub record ArePairsPast (records : Records) (at : ℕ) (pairs : List IndexPair) 
 pub pairs_begin : (records : Records) (at : ℕ) (pairs : List IndexPair) → at ≡ first_definition records → pairs ≡ [] → ArePairsPast records at pairs
 pairs_begin records at pairs is none = record { passed = []; past = sym is; defined = λ d i. absurd i; pairs_are = none }
 
-pub pairs_go_on : (records : Records) (at to : ℕ) (pairs more : List IndexPair) (pair : IndexPair) → ArePairsPast records at pairs → at ≢ format.nil → kind_at records format.index_file at ≡ format.definition
+pub pairs_go_on : (records : Records) (at to : ℕ) (pairs more : List IndexPair) (pair : IndexPair) → ArePairsPast records at pairs → at ≢ format.nil
+    → kind_at records format.index_file at ≡ format.definition
     → to ≡ next_definition records at → more ≡ pairs ++ pair ∷ [] → pair ≡ pair_of records at → ArePairsPast records to more
 pairs_go_on records at to pairs more pair h some used is pushed pair_is = record {
   passed = h.passed ++ at ∷ [];
   past = past_on (next_definition records) (first_definition records) h.passed at to some is h.past;
   defined = λ d i. ⊎_elim (λ (j : In d h.passed). h.defined d j)
-      (λ (j : In d (at ∷ [])). ⊎_elim (λ (e : d ≡ at). ap (kind_at records format.index_file) e ∙ used) (λ (k : ⊥). absurd k) j) (in_parts d h.passed (at ∷ []) i);
+      (λ (j : In d (at ∷ [])). ⊎_elim (λ (e : d ≡ at). ap (kind_at records format.index_file) e ∙ used) (λ (k : ⊥). absurd k) j)
+      (in_parts d h.passed (at ∷ []) i);
   pairs_are = pushed ∙ (λ i. h.pairs_are i ++ pair_is i ∷ []) ∙ sym (map-append (pair_of records) h.passed (at ∷ []));
 }
 
@@ -211,13 +221,15 @@ pub record AreOthersPast (records : Records) (label key at : ℕ) : Type 0 where
 pub others_begin : (records : Records) (label key at : ℕ) → at ≡ first_definition records → AreOthersPast records label key at
 others_begin records label key at is = record { passed = []; past = sym is; defined = λ d i. absurd i; none = λ d i. absurd i }
 
-pub others_go_on : (records : Records) (label key at to : ℕ) → AreOthersPast records label key at → at ≢ format.nil → kind_at records format.index_file at ≡ format.definition
+pub others_go_on : (records : Records) (label key at to : ℕ) → AreOthersPast records label key at → at ≢ format.nil
+    → kind_at records format.index_file at ≡ format.definition
     → to ≡ next_definition records at → ¬ IsPair records label key at → AreOthersPast records label key to
 others_go_on records label key at to h some used is other = record {
   passed = h.passed ++ at ∷ [];
   past = past_on (next_definition records) (first_definition records) h.passed at to some is h.past;
   defined = λ d i. ⊎_elim (λ (j : In d h.passed). h.defined d j)
-      (λ (j : In d (at ∷ [])). ⊎_elim (λ (e : d ≡ at). ap (kind_at records format.index_file) e ∙ used) (λ (k : ⊥). absurd k) j) (in_parts d h.passed (at ∷ []) i);
+      (λ (j : In d (at ∷ [])). ⊎_elim (λ (e : d ≡ at). ap (kind_at records format.index_file) e ∙ used) (λ (k : ⊥). absurd k) j)
+      (in_parts d h.passed (at ∷ []) i);
   none = λ d i pair. ⊎_elim (λ (j : In d h.passed). h.none d j pair)
       (λ (j : In d (at ∷ [])). ⊎_elim (λ (e : d ≡ at). other (subst (IsPair records label key) e pair)) (λ (k : ⊥). k) j) (in_parts d h.passed (at ∷ []) i);
 }
@@ -232,12 +244,16 @@ others_end records label key at h end = record {
 
 -- ---- after reads
 
-pub read_fault_same : (s t : State) (id kind : ℕ) (named : Damage) → SameButReads s t → (fault : Fault) → IsReadFault t id kind named fault → IsReadFault s id kind named fault
+pub read_fault_same : (s t : State) (id kind : ℕ) (named : Damage) → SameButReads s t → (fault : Fault) → IsReadFault t id kind named fault
+    → IsReadFault s id kind named fault
 read_fault_same s t id kind named same Memory why = tt
 read_fault_same s t id kind named same Disk why = tt
 read_fault_same s t id kind named same (Damaged _) (LeadsNowhere le) = LeadsNowhere (subst (λ (z : State). high z.records format.index_file ≤ id) same le)
-read_fault_same s t id kind named same (Damaged _) (HighMark over) = HighMark (subst (λ (z : State). room_of z.shape format.index_file < high z.records format.index_file) same over)
-read_fault_same s t id kind named same (Damaged _) (OtherKind low other) = OtherKind (subst (λ (z : State). id < high z.records format.index_file) same low) (subst (λ (z : State). kind_at z.records format.index_file id ≢ kind) same other)
+read_fault_same s t id kind named same (Damaged _) (HighMark over) = HighMark
+    (subst (λ (z : State). room_of z.shape format.index_file < high z.records format.index_file) same over)
+read_fault_same s t id kind named same (Damaged _) (OtherKind low other) =
+    OtherKind (subst (λ (z : State). id < high z.records format.index_file) same low)
+    (subst (λ (z : State). kind_at z.records format.index_file id ≢ kind) same other)
 
 pub breaks_reread : (s t : State) (d : Damage) → SameButReads s t → BreaksAny s.records s.shape d → BreaksAny t.records t.shape d
 breaks_reread s t d same is = subst (λ (z : State). BreaksAny z.records z.shape d) (sym same) is
@@ -284,7 +300,8 @@ pub take_has : {T : Type 0} (P : TakeFault → Type 0) (r : Result T TakeFault) 
 take_has {T} P r fault h has = let p = err_from_is_err_and r h in subst (λ (z : Result T TakeFault). IfErr z P) (sym p.1) (subst P (sym p.2) has)
 
 -- a fault of the space blames no record
-pub space_take : {T : Type 0} (records : Records) (shape : Shape) (r : Result T TakeFault) (fault : SpaceFault) → IsErrAnd r (λ f. f ≡ takes.of_space fault) → IfErr r (TakeBlamesBroken records shape)
+pub space_take : {T : Type 0} (records : Records) (shape : Shape) (r : Result T TakeFault) (fault : SpaceFault) → IsErrAnd r (λ f. f ≡ takes.of_space fault)
+    → IfErr r (TakeBlamesBroken records shape)
 space_take records shape r fault h = take_has (TakeBlamesBroken records shape) r (takes.of_space fault) h (by fault)
   where
     by : (fault : SpaceFault) → TakeBlamesBroken records shape (takes.of_space fault)

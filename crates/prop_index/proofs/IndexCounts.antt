@@ -1,11 +1,13 @@
 -- How many records the indexes of a store have: thirteen for each definition, and one for each node of its label that has its key.
-use Rattle.std.proofs.Common.{◌≡◌, ◌≢◌, ⊎_elim, ℕ, zero, suc, ◌+◌, ◌*◌, ◌<◌, true, List, [], ◌∷◌, ◌++◌, length, map, refl, sym, ap, ◌∙◌, subst, inl, inr, arith, length-append}
+use Rattle.std.proofs.Common.{◌≡◌, ◌≢◌, ⊎_elim, ℕ, zero, suc, ◌+◌, ◌*◌, ◌<◌, true, List, [], ◌∷◌, ◌++◌, length, map}
+use Rattle.std.proofs.Common.{refl, sym, ap, ◌∙◌, subst, inl, inr, arith, length-append}
 use Rattle.std.specs.List.{flat_map}
 use Rattle.std.proofs.lemmas.List.{length-map}
 use Rattle.rec_bytes.specs.Format as format
 use Rattle.rec_bytes.specs.Space.{meta_in}
 use Rattle.store_rules.specs.Chains.{In}
-use Rattle.store_rules.specs.Indexes.{AreIndexed, Entries, IsDefinition, IsEntry, IsHeads, IsOfIndex, first_entry, heads_of, next_definition, next_entry, first_definition}
+use Rattle.store_rules.specs.Indexes.{AreIndexed, Entries, IsDefinition, IsEntry, IsHeads, IsOfIndex, first_entry}
+use Rattle.store_rules.specs.Indexes.{heads_of, next_definition, next_entry, first_definition}
 use Rattle.store_rules.specs.Properties.{AreOnce}
 use Rattle.store_rules.specs.Rows.{ids}
 use Rattle.store_rules.specs.Rules.{IsSplit}
@@ -13,7 +15,8 @@ use Rattle.store_rules.specs.Views.{Records, high, is_live, kind_at, rec_at}
 use Rattle.store_rules.proofs.ChainLaws.{walk_of_chain}
 use Rattle.store_rules.proofs.Counts.{ids_in, in_ids, once_ids}
 use Rattle.store_rules.proofs.NumberLaws.{nat_cases}
-use Rattle.store_rules.proofs.OnceLaws.{flat_map_in, in_flat_map, in_left, in_parts, in_right, length_same, map_in, once_both, once_flat_map, once_map, once_walk}
+use Rattle.store_rules.proofs.OnceLaws.{flat_map_in, in_flat_map, in_left, in_parts, in_right, length_same, map_in}
+use Rattle.store_rules.proofs.OnceLaws.{once_both, once_flat_map, once_map, once_walk}
 use Rattle.store_rules.proofs.ViewLaws.{kind_below, live_true}
 
 -- the numbers below a mark, the highest first
@@ -80,7 +83,8 @@ module _ (s : Records) (wanted : Entries) (ix : AreIndexed s wanted) where
         (λ (h : In d (heads_in d)). let f = head_kind d d i h in omega (arith, k, f))
         (λ (h : In d (entries_of d)). let f = entry_kind d d i h in omega (arith, k, f))
         (in_parts d (heads_in d) (entries_of d) m)),
-    once_both (heads_in d) (entries_of d) (heads_once d i) (entries_once d i) (λ x m n. let a = head_kind d x i m in let b = entry_kind d x i n in omega (arith, a, b)),
+    once_both (heads_in d) (entries_of d) (heads_once d i) (entries_once d i)
+        (λ x m n. let a = head_kind d x i m in let b = entry_kind d x i n in omega (arith, a, b)),
   )
 
   part : {P : Type 0} (d x : ℕ) → In x (block d) → (x ≡ d → P) → (In x (heads_in d) → P) → (In x (entries_of d) → P) → P
@@ -127,7 +131,8 @@ module _ (s : Records) (wanted : Entries) (ix : AreIndexed s wanted) where
       (λ a. let k = entry_kind r.0 x r.1 a in omega (arith, k, q))
 
   blocks_are : length (ids (is_live s format.index_file) (high s format.index_file)) ≡ length (flat_map block ds)
-  blocks_are = length_same (ids (is_live s format.index_file) (high s format.index_file)) (flat_map block ds) (once_ids (is_live s format.index_file) (high s format.index_file)) all_once
+  blocks_are = length_same (ids (is_live s format.index_file) (high s format.index_file)) (flat_map block ds)
+      (once_ids (is_live s format.index_file) (high s format.index_file)) all_once
       (λ x i. used_in x (ids_in (is_live s format.index_file) (high s format.index_file) x i).1)
       (λ x m. in_ids (is_live s format.index_file) (high s format.index_file) x (kind_below (high s format.index_file) (rec_at s format.index_file x) x (in_used x m)) (live_true (kind_at s format.index_file x) (in_used x m)))
 
@@ -143,5 +148,6 @@ module _ (s : Records) (wanted : Entries) (ix : AreIndexed s wanted) where
       omega (arith, rest, whole, inner, heads, twelve, entries)
 
   -- The count of live records is thirteen for each definition, and one for each entry.
-  pub index_count : (free : List ℕ) → IsSplit s format.index_file (is_live s format.index_file) free → (meta_in s format.index_file).live ≡ 13 * length ds + length (flat_map entries_of ds)
+  pub index_count : (free : List ℕ) → IsSplit s format.index_file (is_live s format.index_file) free
+      → (meta_in s format.index_file).live ≡ 13 * length ds + length (flat_map entries_of ds)
   index_count free split = split.exact ∙ blocks_are ∙ length-blocks ds

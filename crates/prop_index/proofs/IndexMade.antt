@@ -34,7 +34,8 @@ map_same : {X : Type 0} (f h : ℕ → X) (xs : List ℕ) → ((x : ℕ) → In 
 map_same f h [] same = refl
 map_same f h (x ∷ xs) same = λ i. same x (inl refl) i ∷ map_same f h xs (λ y j. same y (inr j)) i
 
-module _ (s m : State) (label key : ℕ) (definition : Definition) (was : IsIndexed s.records s.shape) (may : MayDefine s.records was.indexes.definitions label key) (added : IsDefinitionAdded s m label key definition) where
+module _ (s m : State) (label key : ℕ) (definition : Definition) (was : IsIndexed s.records s.shape)
+    (may : MayDefine s.records was.indexes.definitions label key) (added : IsDefinitionAdded s m label key definition) where
   abbrev d : ℕ
   d = definition.id
 
@@ -63,7 +64,8 @@ module _ (s m : State) (label key : ℕ) (definition : Definition) (was : IsInde
 
   -- the definition is one more
   pub ix_defined : AreIndexed m.records before
-  ix_defined = dm.definition_made s.records m.records before ix_before d label key added.made few lacked (λ e l k. lacking-here label key (wanted_in s.records) e l k)
+  ix_defined = dm.definition_made s.records m.records before ix_before d label key added.made few lacked
+      (λ e l k. lacking-here label key (wanted_in s.records) e l k)
 
   walk_defined : IsWalk (next_definition m.records) (first_definition m.records) (d ∷ olds)
   walk_defined = (
@@ -71,7 +73,8 @@ module _ (s m : State) (label key : ℕ) (definition : Definition) (was : IsInde
     some,
     subst (λ f. IsWalk (next_definition m.records) f olds) (sym added.made.next)
         (walk_stays (next_definition s.records) (next_definition m.records) (first_definition s.records) olds
-        (λ e i. ap (λ (r : Rec). field 4 r format.definition_next) (dm.definition_old s.records m.records before ix_before d label key added.made e i)) ix_before.walk),
+        (λ e i. ap (λ (r : Rec). field 4 r format.definition_next) (dm.definition_old s.records m.records before ix_before d label key added.made e i))
+        ix_before.walk),
   )
     where
       some : d ≢ format.nil
@@ -97,7 +100,8 @@ module _ (s m : State) (label key : ℕ) (definition : Definition) (was : IsInde
     others q file meta = filled.others q file meta ∙ added.others q file meta
 
     ix_now : AreIndexed t.records (wanted_in t.records)
-    ix_now = indexed_same t.records (with_contents before label key (contents_in s.records label key (high s.records format.nodes_file))) (wanted_in t.records) filled.indexes
+    ix_now = indexed_same t.records (with_contents before label key (contents_in s.records label key (high s.records format.nodes_file))) (wanted_in t.records)
+        filled.indexes
         (λ f e i l k. wanted_same s.records t.records others e ∙ sym (wanted_again s.records label key e))
 
     rec_same : (e : ℕ) → In e (d ∷ olds) → index_rec t.records e ≡ index_rec m.records e
@@ -132,14 +136,17 @@ module _ (s m : State) (label key : ℕ) (definition : Definition) (was : IsInde
 pub index_more : {tells : Type 0} (n k : ℕ) (s t : State) → n ≤ k → TouchesIndex tells n s t → TouchesIndex tells k s t
 index_more n k s t le h = record { ids = h.ids; few = let f = h.few in omega (arith, le, f); only = h.only }
 
-pub written_touches : {tells : Type 0} (s m t : State) (definition : Definition) (n : ℕ) → TouchesOnly tells s m (index_keys (definition.id ∷ head_ids 12 definition.rec)) → TouchesBeside tells (head_ids 12 definition.rec) n m t → TouchesIndex tells (13 + n) s t
+pub written_touches : {tells : Type 0} (s m t : State) (definition : Definition) (n : ℕ)
+    → TouchesOnly tells s m (index_keys (definition.id ∷ head_ids 12 definition.rec)) → TouchesBeside tells (head_ids 12 definition.rec) n m t
+    → TouchesIndex tells (13 + n) s t
 written_touches s m t definition n h g = record {
   ids = (definition.id ∷ head_ids 12 definition.rec) ++ g.ids;
   few =
       let a = length-append (definition.id ∷ head_ids 12 definition.rec) g.ids in
       let b = length-head_ids 12 definition.rec in let f = g.few in
       omega (arith, a, b, f);
-  only = only_join (definition.id ∷ head_ids 12 definition.rec) (head_ids 12 definition.rec ++ g.ids) ((definition.id ∷ head_ids 12 definition.rec) ++ g.ids) s m t
+  only = only_join (definition.id ∷ head_ids 12 definition.rec) (head_ids 12 definition.rec ++ g.ids) ((definition.id ∷ head_ids 12 definition.rec) ++ g.ids) s
+      m t
       (λ x i. in_left x (definition.id ∷ head_ids 12 definition.rec) g.ids i) (λ x i. inr i) h g.only;
 }
 
@@ -147,17 +154,21 @@ written_touches s m t definition n h g = record {
 
 pub written_reread : (s b t : State) (label key : ℕ) (contents : List Content) → SameButReads s b
     → ((w : IsIndexed b.records b.shape) → MayDefine b.records w.indexes.definitions label key → contents ≡ contents_in b.records label key (high b.records format.nodes_file) → WritesIndex b t label key w)
-    → (was : IsIndexed s.records s.shape) → MayDefine s.records was.indexes.definitions label key → contents ≡ contents_in s.records label key (high s.records format.nodes_file) → WritesIndex s t label key was
+    → (was : IsIndexed s.records s.shape) → MayDefine s.records was.indexes.definitions label key
+    → contents ≡ contents_in s.records label key (high s.records format.nodes_file) → WritesIndex s t label key was
 written_reread s b t label key contents same writes was may are =
-    let Q : State → Type 0 = λ z. (w : IsIndexed z.records z.shape) → MayDefine z.records w.indexes.definitions label key → contents ≡ contents_in z.records label key (high z.records format.nodes_file) → WritesIndex z t label key w in
+    let Q : State → Type 0 = λ z. (w : IsIndexed z.records z.shape) → MayDefine z.records w.indexes.definitions label key
+    → contents ≡ contents_in z.records label key (high z.records format.nodes_file) → WritesIndex z t label key w in
     let now : WritesIndex (record s { reads = b.reads }) t label key was = subst Q same writes was may are in
     record { store = now.store; pairs = now.pairs; others = now.others }
 
 pub mishap_reread : (s b : State) (label key : ℕ) (contents : List Content) (f : TakeFault) → SameButReads s b
     → ((w : IsIndexed b.records b.shape) → MayDefine b.records w.indexes.definitions label key → contents ≡ contents_in b.records label key (high b.records format.nodes_file) → HasLeft b (13 + length contents) → IsMishap f)
-    → (was : IsIndexed s.records s.shape) → MayDefine s.records was.indexes.definitions label key → contents ≡ contents_in s.records label key (high s.records format.nodes_file) → HasLeft s (13 + length contents) → IsMishap f
+    → (was : IsIndexed s.records s.shape) → MayDefine s.records was.indexes.definitions label key
+    → contents ≡ contents_in s.records label key (high s.records format.nodes_file) → HasLeft s (13 + length contents) → IsMishap f
 mishap_reread s b label key contents f same fails was may are left =
-    let Q : State → Type 0 = λ z. (w : IsIndexed z.records z.shape) → MayDefine z.records w.indexes.definitions label key → contents ≡ contents_in z.records label key (high z.records format.nodes_file) → HasLeft z (13 + length contents) → IsMishap f in
+    let Q : State → Type 0 = λ z. (w : IsIndexed z.records z.shape) → MayDefine z.records w.indexes.definitions label key
+    → contents ≡ contents_in z.records label key (high z.records format.nodes_file) → HasLeft z (13 + length contents) → IsMishap f in
     subst Q same fails was may are left
 
 pub left_reread : (s b : State) (n : ℕ) → SameButReads s b → HasLeft s n → HasLeft b n

@@ -1,5 +1,6 @@
 -- What calls touch of an index, one after another.
-use Rattle.std.proofs.Common.{◌≡◌, ℕ, ◌+◌, ◌≤◌, nat_eq, Bool, true, false, cond, refl, List, [], ◌∷◌, ◌++◌, length, map, sym, ap, ◌∙◌, subst, inl, inr, ⊎_elim, arith, length-append}
+use Rattle.std.proofs.Common.{◌≡◌, ℕ, ◌+◌, ◌≤◌, nat_eq, Bool, true, false, cond, refl, List, [], ◌∷◌, ◌++◌, length, map}
+use Rattle.std.proofs.Common.{sym, ap, ◌∙◌, subst, inl, inr, ⊎_elim, arith, length-append}
 use Rattle.std.proofs.lemmas.List.{map-append}
 use Rattle.rec_bytes.specs.declared.key.Key.{Key}
 use Rattle.rec_bytes.specs.declared.record.Rec.{Rec}
@@ -35,7 +36,8 @@ pub index_then : {tells : Type 0} (n m k : ℕ) (a b c : State) → n + m ≤ k 
 index_then n m k a b c le h g = record {
   ids = h.ids ++ g.ids;
   few = let f = h.few in let e = g.few in omega (arith, length-append h.ids g.ids);
-  only = only_then a b c (index_keys h.ids) (index_keys g.ids) (index_keys (h.ids ++ g.ids)) (λ q. left_keys q h.ids g.ids) (λ q. right_keys q h.ids g.ids) h.only g.only;
+  only = only_then a b c (index_keys h.ids) (index_keys g.ids) (index_keys (h.ids ++ g.ids)) (λ q. left_keys q h.ids g.ids) (λ q. right_keys q h.ids g.ids)
+      h.only g.only;
 }
 
 -- reads alone
@@ -102,18 +104,23 @@ one_among x xs i q (inr k) = absurd k
 
 module _ {tells : Type 0} (id head first : ℕ) where
   -- it was written, and the one that stood first led back to it
-  pub put_then_back : (s t u : State) → TouchesOnly tells s t (at id ∷ []) → TouchesOnly tells t u (index_keys (some_id first)) → TouchesOnly tells s u (index_keys (front_ids id head first))
-  put_then_back s t u a b = only_then s t u (at id ∷ []) (index_keys (some_id first)) (index_keys (front_ids id head first)) (one_among id (front_ids id head first) (inl refl)) (keys_among (some_id first) (front_ids id head first) (λ x i. inr (inr i))) a b
+  pub put_then_back : (s t u : State) → TouchesOnly tells s t (at id ∷ []) → TouchesOnly tells t u (index_keys (some_id first))
+      → TouchesOnly tells s u (index_keys (front_ids id head first))
+  put_then_back s t u a b = only_then s t u (at id ∷ []) (index_keys (some_id first)) (index_keys (front_ids id head first))
+      (one_among id (front_ids id head first) (inl refl)) (keys_among (some_id first) (front_ids id head first) (λ x i. inr (inr i))) a b
 
   -- and then the head led to it
-  pub then_head : (s t u : State) → TouchesOnly tells s t (index_keys (front_ids id head first)) → TouchesOnly tells t u (at head ∷ []) → TouchesOnly tells s u (index_keys (front_ids id head first))
-  then_head s t u a b = only_then s t u (index_keys (front_ids id head first)) (at head ∷ []) (index_keys (front_ids id head first)) (λ q i. i) (one_among head (front_ids id head first) (inr (inl refl))) a b
+  pub then_head : (s t u : State) → TouchesOnly tells s t (index_keys (front_ids id head first)) → TouchesOnly tells t u (at head ∷ [])
+      → TouchesOnly tells s u (index_keys (front_ids id head first))
+  then_head s t u a b = only_then s t u (index_keys (front_ids id head first)) (at head ∷ []) (index_keys (front_ids id head first)) (λ q i. i)
+      (one_among head (front_ids id head first) (inr (inl refl))) a b
 
   pub only_front_put : (s t : State) (rec : Rec) → t ≡ after_put s (at id) rec → TouchesOnly tells s t (at id ∷ [])
   only_front_put s t rec is = only_put s t (at id) rec is
 
 -- after the index's meta record
-pub meta_then : {tells : Type 0} (ids : List ℕ) (s t u : State) → TouchesOnly tells s t metas → TouchesOnly tells t u (index_keys ids) → TouchesOnly tells s u (index_keys ids)
+pub meta_then : {tells : Type 0} (ids : List ℕ) (s t u : State) → TouchesOnly tells s t metas → TouchesOnly tells t u (index_keys ids)
+    → TouchesOnly tells s u (index_keys ids)
 meta_then ids s t u a b = only_then s t u metas (index_keys ids) (index_keys ids) (meta_among ids) (λ q i. i) a b
 
 pub meta_only : {tells : Type 0} (ids : List ℕ) (s t : State) → TouchesOnly tells s t metas → TouchesOnly tells s t (index_keys ids)
@@ -127,14 +134,17 @@ pub index_one_taken : {tells : Type 0} (id : ℕ) (s t : State) → TouchesOnly 
 index_one_taken id s t h = record { ids = id ∷ []; few = omega arith; only = h }
 
 -- some records, and then others
-pub only_join : {tells : Type 0} (xs ys zs : List ℕ) (s t u : State) → ((x : ℕ) → In x xs → In x zs) → ((x : ℕ) → In x ys → In x zs) → TouchesOnly tells s t (index_keys xs) → TouchesOnly tells t u (index_keys ys) → TouchesOnly tells s u (index_keys zs)
+pub only_join : {tells : Type 0} (xs ys zs : List ℕ) (s t u : State) → ((x : ℕ) → In x xs → In x zs) → ((x : ℕ) → In x ys → In x zs)
+    → TouchesOnly tells s t (index_keys xs) → TouchesOnly tells t u (index_keys ys) → TouchesOnly tells s u (index_keys zs)
 only_join xs ys zs s t u left right h g = only_then s t u (index_keys xs) (index_keys ys) (index_keys zs) (keys_among xs zs left) (keys_among ys zs right) h g
 
-pub only_ids : {tells : Type 0} (xs ys : List ℕ) (s t : State) → ((x : ℕ) → In x xs → In x ys) → TouchesOnly tells s t (index_keys xs) → TouchesOnly tells s t (index_keys ys)
+pub only_ids : {tells : Type 0} (xs ys : List ℕ) (s t : State) → ((x : ℕ) → In x xs → In x ys) → TouchesOnly tells s t (index_keys xs)
+    → TouchesOnly tells s t (index_keys ys)
 only_ids xs ys s t sub h = only_more s t (index_keys xs) (index_keys ys) (keys_among xs ys sub) h
 
 -- the meta record alone
-pub then_meta : {tells : Type 0} (ids : List ℕ) (s t u : State) (key : Key) → key ≡ meta_key_of format.index_file → TouchesOnly tells s t (index_keys ids) → Wrote t u (key ∷ []) [] 0 → TouchesOnly tells s u (index_keys ids)
+pub then_meta : {tells : Type 0} (ids : List ℕ) (s t u : State) (key : Key) → key ≡ meta_key_of format.index_file → TouchesOnly tells s t (index_keys ids)
+    → Wrote t u (key ∷ []) [] 0 → TouchesOnly tells s u (index_keys ids)
 then_meta ids s t u key is h w = only_then s t u (index_keys ids) (key ∷ []) (index_keys ids) (λ q i. i)
     (λ q i. meta_among ids q (subst (λ (k : Key). IsAmong q (k ∷ [])) is i)) h (only_wrote_key t u key w)
 

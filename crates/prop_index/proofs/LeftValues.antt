@@ -8,7 +8,8 @@ use Rattle.store_rules.specs.Indexes.{Entries, is_entry}
 use Rattle.store_rules.proofs.NumberLaws.{eq_false, eq_true, nat_cases}
 use Rattle.prop_index.specs.Entering.{entry_of}
 
-pub left-unwanted : (wanted : Entries) (label key n : ℕ) (old : Option Value) (v : Value) → WantsValue wanted label key n old → without_value wanted label key n old (entry_of label key n v) ≡ false
+pub left-unwanted : (wanted : Entries) (label key n : ℕ) (old : Option Value) (v : Value) → WantsValue wanted label key n old
+    → without_value wanted label key n old (entry_of label key n v) ≡ false
 left-unwanted wanted label key n None v wants = wants (hash_of v)
 left-unwanted wanted label key n (Some u) v wants = ⊎_elim
     (λ (e : hash_of v ≡ hash_of u). rw (eq_true label label refl, eq_true key key refl, eq_true n n refl, eq_true (hash_of v) (hash_of u) e) refl)

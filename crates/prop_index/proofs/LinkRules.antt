@@ -33,7 +33,8 @@ store_takes s rules = can_take s format.index_file (free_list s rules).0 (store_
 -- ---- a number of a record
 
 -- a record that fits with another link to the one before it
-pub back_kept : (shape : Shape) (s : State) (id to : ℕ) → (id ≢ format.nil → kind_at s.records format.index_file id ≡ format.indexed) → to < 2 ^ 32 → IsLow (high s.records format.index_file) to
+pub back_kept : (shape : Shape) (s : State) (id to : ℕ) → (id ≢ format.nil → kind_at s.records format.index_file id ≡ format.indexed) → to < 2 ^ 32
+    → IsLow (high s.records format.index_file) to
     → IsWellFormed s.records shape → IsWellFormed (backed_entry s id to).records shape
 back_kept shape s id to entry small low rules = ⊎_elim
     (λ (e : id ≡ format.nil). subst (λ (z : State). IsWellFormed z.records shape) (sym (backed-none s id to e)) rules)
@@ -41,31 +42,39 @@ back_kept shape s id to entry small low rules = ⊎_elim
     let k = entry some in
     let used : kind_at s.records format.index_file id ≢ format.free_kind = λ q. omega (arith, k, q) in
     let under = kind_below (high s.records format.index_file) (rec_at s.records format.index_file id) id used in
-    let byte : field 1 (rec_at s.records format.index_file id) format.kind ≡ format.indexed = sym (kind_low (high s.records format.index_file) (rec_at s.records format.index_file id) id under) ∙ k in
+    let byte : field 1 (rec_at s.records format.index_file id) format.kind ≡ format.indexed =
+    sym (kind_low (high s.records format.index_file) (rec_at s.records format.index_file id) id under) ∙ k in
     subst (λ (z : State). IsWellFormed z.records shape) (sym (backed-some s id to some))
     (set_kept s.records id format.indexed_previous to used (omega arith) shape (λ q. omega (arith, k, q)) (fits_entry_previous (high s.records) (rec_at s.records format.index_file id) to small low byte) rules))
     (nat_cases id format.nil)
 
-pub back_kind : (s : State) (id to : ℕ) → (id ≢ format.nil → kind_at s.records format.index_file id ≡ format.indexed) → (y : ℕ) → kind_at (backed_entry s id to).records format.index_file y ≡ kind_at s.records format.index_file y
+pub back_kind : (s : State) (id to : ℕ) → (id ≢ format.nil → kind_at s.records format.index_file id ≡ format.indexed) → (y : ℕ)
+    → kind_at (backed_entry s id to).records format.index_file y ≡ kind_at s.records format.index_file y
 back_kind s id to entry y = ⊎_elim
     (λ (e : id ≡ format.nil). ap (λ (z : State). kind_at z.records format.index_file y) (backed-none s id to e))
     (λ (some : id ≢ format.nil). let k = entry some in
-    ap (λ (z : State). kind_at z.records format.index_file y) (backed-some s id to some) ∙ set_kind s.records id format.indexed_previous to (λ q. omega (arith, k, q)) (omega arith) y)
+    ap (λ (z : State). kind_at z.records format.index_file y) (backed-some s id to some)
+    ∙ set_kind s.records id format.indexed_previous to (λ q. omega (arith, k, q)) (omega arith) y)
     (nat_cases id format.nil)
 
-pub back_mark : (s : State) (id to : ℕ) → (id ≢ format.nil → kind_at s.records format.index_file id ≡ format.indexed) → high (backed_entry s id to).records format.index_file ≡ high s.records format.index_file
+pub back_mark : (s : State) (id to : ℕ) → (id ≢ format.nil → kind_at s.records format.index_file id ≡ format.indexed)
+    → high (backed_entry s id to).records format.index_file ≡ high s.records format.index_file
 back_mark s id to entry = ⊎_elim
     (λ (e : id ≡ format.nil). ap (λ (z : State). high z.records format.index_file) (backed-none s id to e))
     (λ (some : id ≢ format.nil). let k = entry some in
-    ap (λ (z : State). high z.records format.index_file) (backed-some s id to some) ∙ set_mark s.records id format.indexed_previous to (λ q. omega (arith, k, q)) (omega arith) format.index_file)
+    ap (λ (z : State). high z.records format.index_file) (backed-some s id to some)
+    ∙ set_mark s.records id format.indexed_previous to (λ q. omega (arith, k, q)) (omega arith) format.index_file)
     (nat_cases id format.nil)
 
 -- a record of heads with another first entry
-pub head_kept : (shape : Shape) (s : State) (slot : Slot) (to : ℕ) → kind_at s.records format.index_file slot.id ≡ format.heads → IsHeadPlace slot.place → to < 2 ^ 32 → IsLow (high s.records format.index_file) to
+pub head_kept : (shape : Shape) (s : State) (slot : Slot) (to : ℕ) → kind_at s.records format.index_file slot.id ≡ format.heads → IsHeadPlace slot.place
+    → to < 2 ^ 32 → IsLow (high s.records format.index_file) to
     → IsWellFormed s.records shape → IsWellFormed (put s.records (key_in format.index_file slot.id) (with_field 4 (rec_at s.records format.index_file slot.id) slot.place to)) shape
 head_kept shape s slot to k place small low rules =
     let used : kind_at s.records format.index_file slot.id ≢ format.free_kind = λ q. omega (arith, k, q) in
     let under = kind_below (high s.records format.index_file) (rec_at s.records format.index_file slot.id) slot.id used in
-    let byte : field 1 (rec_at s.records format.index_file slot.id) format.kind ≡ format.heads = sym (kind_low (high s.records format.index_file) (rec_at s.records format.index_file slot.id) slot.id under) ∙ k in
-    subst (λ at. IsWellFormed (put s.records (key_in format.index_file slot.id) (with_field 4 (rec_at s.records format.index_file slot.id) at to)) shape) (sym place.is)
+    let byte : field 1 (rec_at s.records format.index_file slot.id) format.kind ≡ format.heads =
+    sym (kind_low (high s.records format.index_file) (rec_at s.records format.index_file slot.id) slot.id under) ∙ k in
+    subst (λ at. IsWellFormed (put s.records (key_in format.index_file slot.id) (with_field 4 (rec_at s.records format.index_file slot.id) at to)) shape)
+    (sym place.is)
     (set_kept s.records slot.id (format.heads_first + 4 * place.number) to used (omega arith) shape (λ q. omega (arith, k, q)) (fits_head (high s.records) (rec_at s.records format.index_file slot.id) place.number to place.low small low byte) rules)

@@ -29,7 +29,9 @@ pub any_list : (s : State) (fault : TakeFault) → BlamesList s format.index_fil
 any_list s fault why = any_take s.records s.shape fault (list_broken s format.index_file fault refl why)
 
 -- a record of any kind
-pub record_kept : (s u t : State) (rec : Rec) (id : ℕ) → u ≡ taken s format.index_file → id ≡ taken_id (meta_of s format.index_file) → IsUndamaged s format.index_file → kind_at s.records format.index_file id ≡ format.free_kind → id < format.most_ids → id < room_of s.shape format.index_file
+pub record_kept : (s u t : State) (rec : Rec) (id : ℕ) → u ≡ taken s format.index_file → id ≡ taken_id (meta_of s format.index_file)
+    → IsUndamaged s format.index_file → kind_at s.records format.index_file id ≡ format.free_kind → id < format.most_ids
+    → id < room_of s.shape format.index_file
     → t ≡ after_put u (key_in format.index_file id) rec → field 1 rec format.kind ≢ format.free_kind → PutsInUse s t id
 record_kept s u t rec id took is right fresh few small put used = record {
   keeps = put_keeps s u t format.index_file id rec refl took is right fresh few small put used;
@@ -37,20 +39,25 @@ record_kept s u t rec id took is right fresh few small put used = record {
 }
 
 -- an entry in front of a bucket
-pub entry_kept : (s u t : State) (slot : Slot) (first id : ℕ) (content : Content) → content.node < 2 ^ 32 → first < 2 ^ 32 → content.hash < 2 ^ 64 → u ≡ taken s format.index_file → id ≡ taken_id (meta_of s format.index_file) → IsUndamaged s format.index_file → kind_at s.records format.index_file id ≡ format.free_kind → id < format.most_ids → id < room_of s.shape format.index_file
-    → t ≡ linked_entry u slot first id content → kind_at s.records format.index_file slot.id ≢ format.free_kind → (first ≢ format.nil → kind_at s.records format.index_file first ≢ format.free_kind) → 0 < slot.place → PutsInUse s t id
+pub entry_kept : (s u t : State) (slot : Slot) (first id : ℕ) (content : Content) → content.node < 2 ^ 32 → first < 2 ^ 32 → content.hash < 2 ^ 64
+    → u ≡ taken s format.index_file → id ≡ taken_id (meta_of s format.index_file) → IsUndamaged s format.index_file
+    → kind_at s.records format.index_file id ≡ format.free_kind → id < format.most_ids → id < room_of s.shape format.index_file
+    → t ≡ linked_entry u slot first id content → kind_at s.records format.index_file slot.id ≢ format.free_kind
+    → (first ≢ format.nil → kind_at s.records format.index_file first ≢ format.free_kind) → 0 < slot.place → PutsInUse s t id
 entry_kept s u t slot first id content node_fits first_fits hash_fits took is right fresh few small linked head begins place =
     let file = format.index_file in
     let rec = entry_record content.node first content.hash in
     let one : State = after_put u (key_in file id) rec in
     let two : State = backed_entry one first id in
-    let used : field 1 rec format.kind ≢ format.free_kind = λ e. let k = entry-kind content.node first content.hash node_fits first_fits hash_fits in omega (arith, k, e) in
+    let used : field 1 rec format.kind ≢ format.free_kind = λ e. let k = entry-kind content.node first content.hash node_fits first_fits hash_fits in
+    omega (arith, k, e) in
     let put : PutsInUse s one id = record_kept s u one rec id took is right fresh few small refl used in
     let back : KeepsInUse one two file = ⊎_elim
     (λ (e : first ≡ format.nil). subst (λ (z : State). KeepsInUse one z file) (sym (backed-none one first id e)) (keeps_none one file))
     (λ (some : first ≢ format.nil). set_keeps one two file first format.indexed_previous id refl (omega arith) (put.keeps.used first (begins some)) (backed-some one first id some)) (nat_cases first format.nil) in
     let both : KeepsInUse s two file = keeps_then s one two file put.keeps back in
-    let led : KeepsInUse two t file = set_keeps two t file slot.id slot.place id refl place (both.used slot.id head) (linked ∙ linked-is u slot first id content) in
+    let led : KeepsInUse two t file = set_keeps two t file slot.id slot.place id refl place (both.used slot.id head)
+    (linked ∙ linked-is u slot first id content) in
     record { keeps = keeps_then s two t file both led; used = led.used id (back.used id put.used) }
 
 -- the meta record names a definition

@@ -52,12 +52,15 @@ fault_caused records label key fault.Disk = tt
 fault_caused records label key (fault.Damaged damage) = tt
 
 -- a fault of a read says nothing of the pair
-pub caused_exit : {T : Type 0} (records : Records) (label key : ℕ) (r : Result T LookupFault) (f : Fault) → IsErrAnd r (λ e. e ≡ of_fault f) → IfErr r (IsLookupCause records label key)
+pub caused_exit : {T : Type 0} (records : Records) (label key : ℕ) (r : Result T LookupFault) (f : Fault) → IsErrAnd r (λ e. e ≡ of_fault f)
+    → IfErr r (IsLookupCause records label key)
 caused_exit {T = T} records label key r f h =
     let p = err_from_is_err_and r h in
-    subst (λ (z : Result T LookupFault). IfErr z (IsLookupCause records label key)) (sym p.1) (subst (IsLookupCause records label key) (sym p.2) (fault_caused records label key f))
+    subst (λ (z : Result T LookupFault). IfErr z (IsLookupCause records label key)) (sym p.1)
+    (subst (IsLookupCause records label key) (sym p.2) (fault_caused records label key f))
 
-pub refused_exit : {T U : Type 0} (records : Records) (label key : ℕ) (r : Result T LookupFault) (q : Result U Fault) (f : Fault) → q ≡ Err f → IsErrAnd r (λ e. e ≡ of_fault f) → faults.NotDamaged q
+pub refused_exit : {T U : Type 0} (records : Records) (label key : ℕ) (r : Result T LookupFault) (q : Result U Fault) (f : Fault) → q ≡ Err f
+    → IsErrAnd r (λ e. e ≡ of_fault f) → faults.NotDamaged q
     → IfErr r (IsRefusal records label key)
 refused_exit {T = T} records label key r q f is h sound =
     let p = err_from_is_err_and r h in
@@ -88,7 +91,8 @@ module _ (s : State) (store : IsIndexed s.records s.shape) where
   nodes_readable = record { room = has_room format.nodes_file refl; each = node_listed }
 
   -- ---- the bucket that was found
-  module _ (label key : ℕ) (value : Value) (hash : ℕ) (hashed : hash ≡ hash_of value) (bucket : Bucket) (found : IsFoundBucket s.records store.indexes.definitions label key hash bucket)
+  module _ (label key : ℕ) (value : Value) (hash : ℕ) (hashed : hash ≡ hash_of value) (bucket : Bucket)
+      (found : IsFoundBucket s.records store.indexes.definitions label key hash bucket)
       (z : State) (same : SameButReads s z) where
     abbrev d : ℕ
     d = found.definition
@@ -106,14 +110,16 @@ module _ (s : State) (store : IsIndexed s.records s.shape) where
           (node_after s z (entry_node s.records x) same (node_listed (entry_node s.records x) (node_of_entry s store d found.listed value x (subst (λ h. In x (store.indexes.lists d (bucket_of h))) hashed i))));
     }
 
-    pub found_is : (nodes sorted : List ℕ) → nodes ≡ nodes_with z.records key hash value entries → IsPermutation nodes sorted → IsNonDecreasing sorted → sorted ≡ found_in s.records label key value
+    pub found_is : (nodes sorted : List ℕ) → nodes ≡ nodes_with z.records key hash value entries → IsPermutation nodes sorted → IsNonDecreasing sorted
+        → sorted ≡ found_in s.records label key value
     found_is nodes sorted is moved ascends =
         let nodes_are : nodes ≡ nodes_with s.records (indexed_key s.records d) (hash_of value) value (store.indexes.lists d (bucket_of (hash_of value)))
         = is ∙ (λ i. nodes_with (same_records s z same i) (sym found.pair.1 i) (hashed i) value (store.indexes.lists d (bucket_of (hashed i)))) in
         found_sorted s store d found.listed value sorted (subst (λ (ns : List ℕ). IsPermutation ns sorted) nodes_are moved) ascends
         ∙ (λ i. found_in s.records (found.pair.0 i) (found.pair.1 i) value)
 
-    pub lookup_reads : (after : State) → ReadsAtMost (2 + length store.indexes.definitions) s z → ReadsAtMost (length entries + 55 * count_hashed z.records hash entries) z after
+    pub lookup_reads : (after : State) → ReadsAtMost (2 + length store.indexes.definitions) s z
+        → ReadsAtMost (length entries + 55 * count_hashed z.records hash entries) z after
         → ReadsForLookup label key value s after
     lookup_reads after first later =
         let xs = store.indexes.lists d (bucket_of (hash_of value)) in
@@ -128,7 +134,8 @@ module _ (s : State) (store : IsIndexed s.records s.shape) where
           pair = found.pair;
           entries = xs;
           bucket = walk s store d found.listed value;
-          reads = reads_then (2 + length store.indexes.definitions) (length xs + 55 * count_hashed s.records (hash_of value) xs) _ s z after (omega arith) first gathered;
+          reads = reads_then (2 + length store.indexes.definitions) (length xs + 55 * count_hashed s.records (hash_of value) xs) _ s z after (omega arith) first
+              gathered;
         }
 
 -- The pair has a definition among these.
@@ -140,20 +147,24 @@ record IsPairListed (records : Records) (ds : List ℕ) (label key : ℕ) : Type
 -- so it is, or all are of others
 pair_listed : (records : Records) (label key : ℕ) (ds : List ℕ) → IsPairListed records ds label key ⊎ AreOfOthers records ds label key
 pair_listed records label key [] = inr (λ d i. elim i [ ])
-pair_listed records label key (e ∷ es) = by (nat_cases (indexed_label records e) label) (nat_cases (indexed_key records e) key) (pair_listed records label key es)
+pair_listed records label key (e ∷ es) = by (nat_cases (indexed_label records e) label) (nat_cases (indexed_key records e) key)
+    (pair_listed records label key es)
   where
-    past : (¬ IsPair records label key e) → IsPairListed records es label key ⊎ AreOfOthers records es label key → IsPairListed records (e ∷ es) label key ⊎ AreOfOthers records (e ∷ es) label key
+    past : (¬ IsPair records label key e) → IsPairListed records es label key ⊎ AreOfOthers records es label key → IsPairListed records (e ∷ es) label key
+        ⊎ AreOfOthers records (e ∷ es) label key
     past other (inl h) = inl (record { definition = h.definition; listed = inr h.listed; pair = h.pair })
     past other (inr h) = inr (λ d i. ⊎_elim (λ (at : d ≡ e). subst (λ x. ¬ IsPair records label key x) (sym at) other) (λ (j : In d es). h d j) i)
 
     by : (indexed_label records e ≡ label) ⊎ (indexed_label records e ≢ label) → (indexed_key records e ≡ key) ⊎ (indexed_key records e ≢ key)
-        → IsPairListed records es label key ⊎ AreOfOthers records es label key → IsPairListed records (e ∷ es) label key ⊎ AreOfOthers records (e ∷ es) label key
+        → IsPairListed records es label key ⊎ AreOfOthers records es label key → IsPairListed records (e ∷ es) label key
+        ⊎ AreOfOthers records (e ∷ es) label key
     by (inl same_label) (inl same_key) rest = inl (record { definition = e; listed = inl refl; pair = (same_label, same_key) })
     by (inl same_label) (inr other) rest = past (λ p. other p.1) rest
     by (inr other) same_key rest = past (λ p. other p.0) rest
 
 -- the reads that end before a bucket is read
-pub early_reads : (s : State) (store : IsIndexed s.records s.shape) (label key : ℕ) (value : Value) (z : State) → ReadsAtMost (2 + length store.indexes.definitions) s z
+pub early_reads : (s : State) (store : IsIndexed s.records s.shape) (label key : ℕ) (value : Value) (z : State)
+    → ReadsAtMost (2 + length store.indexes.definitions) s z
     → (AreOfOthers s.records store.indexes.definitions label key → ReadsAtMost (1 + length store.indexes.definitions) s z) → ReadsForEither label key value s z
 early_reads s store label key value z most none = ⊎_elim
     (λ (h : IsPairListed s.records store.indexes.definitions label key). inl (record {
@@ -179,7 +190,8 @@ fault_reads label key value s z fault.Memory is = is
 fault_reads label key value s z fault.Disk is = is
 fault_reads label key value s z (fault.Damaged damage) is = is
 
-pub reads_exit : {T : Type 0} (label key : ℕ) (value : Value) (s z : State) (r : Result T LookupFault) (f : Fault) → IsErrAnd r (λ e. e ≡ of_fault f) → ReadsForEither label key value s z
+pub reads_exit : {T : Type 0} (label key : ℕ) (value : Value) (s z : State) (r : Result T LookupFault) (f : Fault) → IsErrAnd r (λ e. e ≡ of_fault f)
+    → ReadsForEither label key value s z
     → IfErr r (ReadsForRefusal label key value s z)
 reads_exit {T = T} label key value s z r f h is =
     let p = err_from_is_err_and r h in

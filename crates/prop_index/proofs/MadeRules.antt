@@ -30,10 +30,12 @@ use Rattle.prop_index.proofs.RecordFits.{fits-entry_record}
 use Rattle.prop_index.proofs.Steps.{linked-is}
 use Rattle.prop_index.proofs.LinkRules.{back_kept, back_kind, back_mark, free_list, head_kept}
 
-module _ (s u : State) (slot : Slot) (first id : ℕ) (content : Content) (rules : KeepsStore s) (taken : HasTaken s.records u.records format.index_file id (free_list s rules).0)
+module _ (s u : State) (slot : Slot) (first id : ℕ) (content : Content) (rules : KeepsStore s)
+    (taken : HasTaken s.records u.records format.index_file id (free_list s rules).0)
     (fresh : kind_at s.records format.index_file id ≡ format.free_kind) (small : id < room_of s.shape format.index_file)
     (heads : kind_at s.records format.index_file slot.id ≡ format.heads) (place : IsHeadPlace slot.place)
-    (entry : first ≢ format.nil → kind_at s.records format.index_file first ≡ format.indexed) (first_fits : first < 2 ^ 32) (node_fits : content.node < 2 ^ 32) (hash_fits : content.hash < 2 ^ 64)
+    (entry : first ≢ format.nil → kind_at s.records format.index_file first ≡ format.indexed) (first_fits : first < 2 ^ 32) (node_fits : content.node < 2 ^ 32)
+    (hash_fits : content.hash < 2 ^ 64)
     (known : content.node < high s.records format.nodes_file) where
   abbrev rec : Rec
   rec = entry_record content.node first content.hash
@@ -60,19 +62,22 @@ module _ (s u : State) (slot : Slot) (first id : ℕ) (content : Content) (rules
       fit = (omega arith, (node_fits, (omega arith, (first_fits, (hash_fits, tt)))))
 
   made : IsMade s.records one.records s.shape format.index_file id rec
-  made = is_made s.records u.records one.records s.shape format.index_file id (free_list s rules).0 rec refl (free_list s rules).1 taken (put_same u.records at rec) (λ key ne. put_other u.records at rec key ne)
+  made = is_made s.records u.records one.records s.shape format.index_file id (free_list s rules).0 rec refl (free_list s rules).1 taken
+      (put_same u.records at rec) (λ key ne. put_other u.records at rec key ne)
       (λ q. let k = kind_is in omega (arith, k, q)) small room (ranges.metas format.index_file refl)
 
   not_new : (y : ℕ) → kind_at s.records format.index_file y ≢ format.free_kind → y ≢ id
   not_new y used e = used (ap (kind_at s.records format.index_file) e ∙ fresh)
 
-  kind_one : (y : ℕ) → kind_at s.records format.index_file y ≢ format.free_kind → kind_at one.records format.index_file y ≡ kind_at s.records format.index_file y
+  kind_one : (y : ℕ) → kind_at s.records format.index_file y ≢ format.free_kind
+      → kind_at one.records format.index_file y ≡ kind_at s.records format.index_file y
   kind_one y used = ch.kind_other s.records one.records format.index_file id made.change y (not_new y used)
 
   first_low : IsLow (high one.records format.index_file) first
   first_low = ⊎_elim (λ (e : first ≡ format.nil). inl e) (λ (some : first ≢ format.nil).
       let k = entry some in let more = made.change.more in
-      let under = kind_below (high s.records format.index_file) (rec_at s.records format.index_file first) first (λ q. omega (arith, k, q)) in inr (omega (arith, under, more)))
+      let under = kind_below (high s.records format.index_file) (rec_at s.records format.index_file first) first (λ q. omega (arith, k, q)) in
+      inr (omega (arith, under, more)))
       (nat_cases first format.nil)
 
   node_known : content.node < high one.records format.nodes_file

@@ -27,7 +27,8 @@ collect-fault records label key fault.Memory is = tt
 collect-fault records label key fault.Disk is = tt
 collect-fault records label key (fault.Damaged damage) is = is
 
-pub collect_exit : {T U : Type 0} (records : Records) (label key : ℕ) (r : Result T MakeFault) (q : Result U Fault) (f : Fault) → q ≡ Err f → IsErrAnd r (λ e. e ≡ of_fault f) → faults.NotDamaged q
+pub collect_exit : {T U : Type 0} (records : Records) (label key : ℕ) (r : Result T MakeFault) (q : Result U Fault) (f : Fault) → q ≡ Err f
+    → IsErrAnd r (λ e. e ≡ of_fault f) → faults.NotDamaged q
     → IfErr r (IsCollectFault records label key)
 collect_exit {T = T} records label key r q f is h sound =
     let p = err_from_is_err_and r h in
@@ -36,22 +37,26 @@ collect_exit {T = T} records label key r q f is h sound =
 
 -- ---- the pair
 
-pub has_listed : (records : Records) (definitions : List ℕ) (pairs : List IndexPair) (label key : ℕ) → pairs ≡ map (pair_of records) definitions → Contains pairs (pair_is label key) → HasPair records definitions label key
+pub has_listed : (records : Records) (definitions : List ℕ) (pairs : List IndexPair) (label key : ℕ) → pairs ≡ map (pair_of records) definitions
+    → Contains pairs (pair_is label key) → HasPair records definitions label key
 has_listed records definitions pairs label key are is =
     let k = contains_map (pair_of records) definitions (pair_is label key) (subst (λ (xs : List IndexPair). Contains xs (pair_is label key)) are is) in
     record { definition = k.0; listed = k.1; pair = (sym (ap (λ (p : IndexPair). p.label) k.2), sym (ap (λ (p : IndexPair). p.key) k.2)) }
 
-pub lacks_listed : (records : Records) (definitions : List ℕ) (pairs : List IndexPair) (label key : ℕ) → pairs ≡ map (pair_of records) definitions → (Contains pairs (pair_is label key) → ⊥) → LacksPair records definitions label key
+pub lacks_listed : (records : Records) (definitions : List ℕ) (pairs : List IndexPair) (label key : ℕ) → pairs ≡ map (pair_of records) definitions
+    → (Contains pairs (pair_is label key) → ⊥) → LacksPair records definitions label key
 lacks_listed records definitions pairs label key are out d i p =
     let same : pair_of records d ≡ pair_is label key = λ j. record { label = p.0 j; key = p.1 j } in
     out (subst (λ (xs : List IndexPair). Contains xs (pair_is label key)) (sym are) (subst (Contains (map (pair_of records) definitions)) same (map_contains (pair_of records) definitions d i)))
 
-pair-fault : (records : Records) (definitions : List ℕ) (label key : ℕ) (f : Fault) → faults.NotDamaged {T = ℕ} (Err f) → IsPairFault records definitions label key (of_fault f)
+pair-fault : (records : Records) (definitions : List ℕ) (label key : ℕ) (f : Fault) → faults.NotDamaged {T = ℕ} (Err f)
+    → IsPairFault records definitions label key (of_fault f)
 pair-fault records definitions label key fault.Memory is = tt
 pair-fault records definitions label key fault.Disk is = tt
 pair-fault records definitions label key (fault.Damaged damage) is = is
 
-pub pair_exit : {T U : Type 0} (records : Records) (definitions : List ℕ) (label key : ℕ) (r : Result T MakeFault) (q : Result U Fault) (f : Fault) → q ≡ Err f → IsErrAnd r (λ e. e ≡ of_fault f) → faults.NotDamaged q
+pub pair_exit : {T U : Type 0} (records : Records) (definitions : List ℕ) (label key : ℕ) (r : Result T MakeFault) (q : Result U Fault) (f : Fault) → q ≡ Err f
+    → IsErrAnd r (λ e. e ≡ of_fault f) → faults.NotDamaged q
     → IfErr r (IsPairFault records definitions label key)
 pair_exit {T = T} records definitions label key r q f is h sound =
     let p = err_from_is_err_and r h in
@@ -60,7 +65,8 @@ pair_exit {T = T} records definitions label key r q f is h sound =
 
 -- ---- as refusals of an index that is made
 
-pub pair_refusal : (s : State) (was : IsIndexed s.records s.shape) (label key : ℕ) (f : MakeFault) → IsPairFault s.records was.indexes.definitions label key f → IsMakeRefusal s was label key f
+pub pair_refusal : (s : State) (was : IsIndexed s.records s.shape) (label key : ℕ) (f : MakeFault) → IsPairFault s.records was.indexes.definitions label key f
+    → IsMakeRefusal s was label key f
 pair_refusal s was label key make.There is = is
 pair_refusal s was label key make.Many is = is
 pair_refusal s was label key (make.TooLarge count) is = absurd is
@@ -69,7 +75,8 @@ pair_refusal s was label key make.Memory is = tt
 pair_refusal s was label key make.Disk is = tt
 pair_refusal s was label key (make.Damaged damage) is = is
 
-pub collect_refusal : (s : State) (was : IsIndexed s.records s.shape) (label key : ℕ) (f : MakeFault) → MayDefine s.records was.indexes.definitions label key → IsCollectFault s.records label key f → IsMakeRefusal s was label key f
+pub collect_refusal : (s : State) (was : IsIndexed s.records s.shape) (label key : ℕ) (f : MakeFault) → MayDefine s.records was.indexes.definitions label key
+    → IsCollectFault s.records label key f → IsMakeRefusal s was label key f
 collect_refusal s was label key make.There may is = absurd is
 collect_refusal s was label key make.Many may is = absurd is
 collect_refusal s was label key (make.TooLarge count) may is = (may, is.0, is.1)

@@ -1,5 +1,6 @@
 -- Records of the index that are written fit its file.
-use Rattle.std.proofs.Common.{◌≡◌, ◌≢◌, ◌⊎◌, ⊎_elim, ℕ, zero, suc, ◌+◌, ◌-◌, ◌*◌, drop, ◌<◌, ◌≤◌, ◌^◌, nat_lt, true, false, List, [], ◌∷◌, refl, sym, ap, ◌∙◌, subst, inl, inr, arith}
+use Rattle.std.proofs.Common.{◌≡◌, ◌≢◌, ◌⊎◌, ⊎_elim, ℕ, zero, suc, ◌+◌, ◌-◌, ◌*◌, drop, ◌<◌, ◌≤◌, ◌^◌, nat_lt, true}
+use Rattle.std.proofs.Common.{false, List, [], ◌∷◌, refl, sym, ap, ◌∙◌, subst, inl, inr, arith}
 use Rattle.std.specs.Prelude.{replicate}
 use Rattle.std.specs.List.{list_any}
 use Rattle.std.proofs.lemmas.List.{drop-replicate}
@@ -26,9 +27,11 @@ apart_bytes i size out = ⊎_elim
     (cases_lt i 4)
 
 pub entry-kind : (node next hash : ℕ) → node < 2 ^ 32 → next < 2 ^ 32 → hash < 2 ^ 64 → field 1 (entry_record node next hash) format.kind ≡ format.indexed
-entry-kind node next hash a b c = field-with_fields 1 zeros (entry_fields node next hash) format.kind format.indexed refl (omega arith, (a, (omega arith, (b, (c, tt))))) refl
+entry-kind node next hash a b c = field-with_fields 1 zeros (entry_fields node next hash) format.kind format.indexed refl
+    (omega arith, (a, (omega arith, (b, (c, tt))))) refl
 
-module _ (marks : ℕ → ℕ) (node next hash : ℕ) (known : node < marks format.nodes_file) (node_fits : node < 2 ^ 32) (low : IsLow (marks format.index_file) next) (next_fits : next < 2 ^ 32) (hash_fits : hash < 2 ^ 64) where
+module _ (marks : ℕ → ℕ) (node next hash : ℕ) (known : node < marks format.nodes_file) (node_fits : node < 2 ^ 32) (low : IsLow (marks format.index_file) next)
+    (next_fits : next < 2 ^ 32) (hash_fits : hash < 2 ^ 64) where
   abbrev rec : Rec
   rec = entry_record node next hash
 
@@ -90,7 +93,8 @@ lead rest = refl
 ff-number : (at : ℕ) → at + 4 ≤ 64 → field 4 ff at ≡ format.nil
 ff-number at fits =
     let four : 64 - at ≡ suc (suc (suc (suc (60 - at)))) = omega arith in
-    shift at (replicate 64 255) ∙ ap (λ (xs : List ℕ). field 4 (record { bytes = xs }) 0) (drop-replicate at 64 255 ∙ ap (λ m. replicate m 255) four) ∙ lead (replicate (60 - at) 255)
+    shift at (replicate 64 255) ∙ ap (λ (xs : List ℕ). field 4 (record { bytes = xs }) 0) (drop-replicate at 64 255 ∙ ap (λ m. replicate m 255) four)
+    ∙ lead (replicate (60 - at) 255)
 
 -- each first entry is none
 pub empty_heads-nil : (place : ℕ) → place < 15 → field 4 empty_heads (format.heads_first + 4 * place) ≡ format.nil
@@ -115,15 +119,18 @@ unfolding field with_field with_bytes as_64
 three = refl
 
 empty_heads-blank : (i : ℕ) → 1 ≤ i → i < 4 → field 1 empty_heads i ≡ 0
-empty_heads-blank i low high = ⊎_elim (λ (e : i ≡ 1). ap (field 1 empty_heads) e ∙ one) (λ (ne : i ≢ 1). ⊎_elim (λ (e : i ≡ 2). ap (field 1 empty_heads) e ∙ two) (λ (nt : i ≢ 2). let e : i ≡ 3 = omega arith in ap (field 1 empty_heads) e ∙ three) (nat_cases i 2)) (nat_cases i 1)
+empty_heads-blank i low high = ⊎_elim (λ (e : i ≡ 1). ap (field 1 empty_heads) e ∙ one)
+    (λ (ne : i ≢ 1). ⊎_elim (λ (e : i ≡ 2). ap (field 1 empty_heads) e ∙ two) (λ (nt : i ≢ 2). let e : i ≡ 3 = omega arith in ap (field 1 empty_heads) e ∙ three) (nat_cases i 2)) (nat_cases i 1)
 
-nil_points : (marks : ℕ → ℕ) (n b : ℕ) → 1 ≤ b → b + n ≤ 16 → all_point marks empty_heads (pointers_from n (λ place. may place format.index_file) (4 * b)) ≡ true
+nil_points : (marks : ℕ → ℕ) (n b : ℕ) → 1 ≤ b → b + n ≤ 16 → all_point marks empty_heads
+    (pointers_from n (λ place. may place format.index_file) (4 * b)) ≡ true
 nil_points marks zero b low fits = refl
 nil_points marks (suc n) b low fits =
     let at : 4 * b ≡ format.heads_first + 4 * (b - 1) = omega arith in
     let none : field 4 empty_heads (4 * b) ≡ format.nil = ap (field 4 empty_heads) at ∙ empty_heads-nil (b - 1) (omega arith) in
     let rest : all_point marks empty_heads (pointers_from n (λ place. may place format.index_file) (4 * b + 4)) ≡ true
-    = subst (λ at. all_point marks empty_heads (pointers_from n (λ place. may place format.index_file) at) ≡ true) (omega arith) (nil_points marks n (b + 1) (omega arith) (omega arith)) in
+    = subst (λ at. all_point marks empty_heads (pointers_from n (λ place. may place format.index_file) at) ≡ true) (omega arith)
+    (nil_points marks n (b + 1) (omega arith) (omega arith)) in
     rw (none, low_points format.nil (marks format.index_file) (inl refl), rest) refl
 
 pub fits-empty_heads : (marks : ℕ → ℕ) → Fits marks format.index_file empty_heads
@@ -143,13 +150,16 @@ must_points : (marks : ℕ → ℕ) (rec : Rec) (n b : ℕ) → ((c : ℕ) → b
     → all_point marks rec (pointers_from n (λ place. must place format.index_file) (4 * b)) ≡ true
 must_points marks rec zero b low = refl
 must_points marks rec (suc n) b low =
-    let here : nat_lt (field 4 rec (4 * b)) (marks format.index_file) ≡ true = lt_true (field 4 rec (4 * b)) (marks format.index_file) (low b (omega arith) (omega arith)) in
+    let here : nat_lt (field 4 rec (4 * b)) (marks format.index_file) ≡ true =
+    lt_true (field 4 rec (4 * b)) (marks format.index_file) (low b (omega arith) (omega arith)) in
     let rest : all_point marks rec (pointers_from n (λ place. must place format.index_file) (4 * b + 4)) ≡ true
-    = subst (λ at. all_point marks rec (pointers_from n (λ place. must place format.index_file) at) ≡ true) (omega arith) (must_points marks rec n (b + 1) (λ c le lt. low c (omega arith) (omega arith))) in
+    = subst (λ at. all_point marks rec (pointers_from n (λ place. must place format.index_file) at) ≡ true) (omega arith)
+    (must_points marks rec n (b + 1) (λ c le lt. low c (omega arith) (omega arith))) in
     rw (here, rest) refl
 
 pub fits-definition : (marks : ℕ → ℕ) (rec : Rec) → field 1 rec format.kind ≡ format.definition → ((i : ℕ) → 1 ≤ i → i < 4 → field 1 rec i ≡ 0)
-    → IsLow (marks format.index_file) (field 4 rec format.definition_next) → ((c : ℕ) → c < 12 → field 4 rec (format.definition_heads + 4 * c) < marks format.index_file) → Fits marks format.index_file rec
+    → IsLow (marks format.index_file) (field 4 rec format.definition_next)
+    → ((c : ℕ) → c < 12 → field 4 rec (format.definition_heads + 4 * c) < marks format.index_file) → Fits marks format.index_file rec
 fits-definition marks rec kind blank next low = record {
   layout = definition_table;
   is = ap (layout_by format.index_file rec) kind;
@@ -162,7 +172,8 @@ fits-definition marks rec kind blank next low = record {
   where
     definition_table : Layout
     definition_table = record {
-      pointers = may format.definition_next format.index_file ∷ pointers_from format.definition_head_count (λ place. must place format.index_file) format.definition_heads;
+      pointers = may format.definition_next format.index_file ∷ pointers_from format.definition_head_count (λ place. must place format.index_file)
+          format.definition_heads;
       used = bytes_of format.kind 1 ∷ bytes_of format.definition_label 60 ∷ [];
     }
 

@@ -32,7 +32,8 @@ use Rattle.prop_index.specs.Entering.{IsMishap}
 use Rattle.prop_index.specs.Reading.{KeepsStore}
 use Rattle.prop_index.proofs.LinkRules.{free_list}
 
-module _ (s u : State) (rec : Rec) (id : ℕ) (store : KeepsStore s) (taken : HasTaken s.records u.records format.index_file id (free_list s store).0) (small : id < room_of s.shape format.index_file)
+module _ (s u : State) (rec : Rec) (id : ℕ) (store : KeepsStore s) (taken : HasTaken s.records u.records format.index_file id (free_list s store).0)
+    (small : id < room_of s.shape format.index_file)
     (used : field 1 rec format.kind ≢ format.free_kind) (shape : u.shape ≡ s.shape) where
   abbrev one : State
   one = after_put u (key_in format.index_file id) rec
@@ -41,11 +42,14 @@ module _ (s u : State) (rec : Rec) (id : ℕ) (store : KeepsStore s) (taken : Ha
   ranges = store.ranges
 
   made : IsMade s.records one.records s.shape format.index_file id rec
-  made = is_made s.records u.records one.records s.shape format.index_file id (free_list s store).0 rec refl (free_list s store).1 taken (put_same u.records (key_in format.index_file id) rec)
-      (λ key ne. put_other u.records (key_in format.index_file id) rec key ne) used small (room_small s.records s.shape format.index_file ranges) (ranges.metas format.index_file refl)
+  made = is_made s.records u.records one.records s.shape format.index_file id (free_list s store).0 rec refl (free_list s store).1 taken
+      (put_same u.records (key_in format.index_file id) rec)
+      (λ key ne. put_other u.records (key_in format.index_file id) rec key ne) used small (room_small s.records s.shape format.index_file ranges)
+      (ranges.metas format.index_file refl)
 
   meta_is : one.records (meta_key_of format.index_file) ≡ u.records (meta_key_of format.index_file)
-  meta_is = put_other u.records (key_in format.index_file id) rec (meta_key_of format.index_file) (λ e. not_meta_key format.index_file id format.index_file refl (sym e))
+  meta_is = put_other u.records (key_in format.index_file id) rec (meta_key_of format.index_file)
+      (λ e. not_meta_key format.index_file id format.index_file refl (sym e))
 
   added : IsRecordAdded s one rec id
   added = record {
@@ -56,7 +60,8 @@ module _ (s u : State) (rec : Rec) (id : ℕ) (store : KeepsStore s) (taken : Ha
     kinds = λ y ne. ch.kind_other s.records one.records format.index_file id made.change y ne;
     records = λ y ne. ch.other_record s.records one.records format.index_file id made.change format.index_file y refl (λ _. ne);
     grows = record {
-      first = ap (λ (r : Rec). field 4 r format.meta_definition) (meta_is ∙ taken.meta) ∙ definition-with_meta (s.records (meta_key_of format.index_file)) (meta_in u.records format.index_file);
+      first = ap (λ (r : Rec). field 4 r format.meta_definition) (meta_is ∙ taken.meta)
+          ∙ definition-with_meta (s.records (meta_key_of format.index_file)) (meta_in u.records format.index_file);
       more = made.change.more;
       live = ap (λ (r : Rec). (metas.meta_of r).live) meta_is ∙ taken.live;
       shape = shape;
@@ -92,4 +97,5 @@ grows_then a b c n m k sum h g = record {
 }
 
 pub left_then : (s t : State) (n m k : ℕ) → GrowsBy s t n → n + m ≤ k → HasLeft s k → HasLeft t m
-left_then s t n m k g le left = let a : room_of t.shape format.index_file ≡ room_of s.shape format.index_file = ap (λ z. room_of z format.index_file) g.shape in let b = g.live in omega (arith, a, b, le, left)
+left_then s t n m k g le left = let a : room_of t.shape format.index_file ≡ room_of s.shape format.index_file = ap (λ z. room_of z format.index_file) g.shape in
+    let b = g.live in omega (arith, a, b, le, left)

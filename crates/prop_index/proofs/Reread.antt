@@ -27,7 +27,8 @@ node_after s z n same listed =
 
 pub can_after : (s z : State) (free : List ℕ) → SameButReads s z → CanTake s format.index_file free → CanTake z format.index_file free
 can_after s z free same can =
-    let at : CanTake (record s { reads = z.reads }) format.index_file free = record { list = can.list; low = can.low; unused = can.unused; count = can.count; mark = can.mark } in
+    let at : CanTake (record s { reads = z.reads }) format.index_file free =
+    record { list = can.list; low = can.low; unused = can.unused; count = can.count; mark = can.mark } in
     subst (λ (y : State). CanTake y format.index_file free) (sym same) at
 
 pub readable_after : (s z : State) → SameButReads s z → AreNodesReadable s → AreNodesReadable z

@@ -40,7 +40,8 @@ zero_kind : field 1 zeros format.kind ≡ 0
 unfolding field
 zero_kind = refl
 
-module _ (whole : State) (slot : Slot) (first x : ℕ) (xs free : List ℕ) (is : IsBucketChain whole.records first xs) (heads : kind_at whole.records format.index_file slot.id ≡ format.heads)
+module _ (whole : State) (slot : Slot) (first x : ℕ) (xs free : List ℕ) (is : IsBucketChain whole.records first xs)
+    (heads : kind_at whole.records format.index_file slot.id ≡ format.heads)
     (member : In x xs) (can : CanTake whole format.index_file free) (small : x < format.most_ids) where
   abbrev s : Records
   s = whole.records
@@ -131,7 +132,8 @@ module _ (whole : State) (slot : Slot) (first x : ℕ) (xs free : List ℕ) (is 
   not_meta y e = let f = ap (λ (k : Key). k.file) e in omega (arith, f)
 
   meta_rec : three.records (meta_key_of format.index_file) ≡ u.records (meta_key_of format.index_file)
-  meta_rec = three_other (meta_key_of format.index_file) (λ e q. not_meta slot.id (sym q)) (λ e q. not_meta before (sym q)) ∙ two_other (meta_key_of format.index_file) (λ e q. not_meta after (sym q))
+  meta_rec = three_other (meta_key_of format.index_file) (λ e q. not_meta slot.id (sym q)) (λ e q. not_meta before (sym q))
+      ∙ two_other (meta_key_of format.index_file) (λ e q. not_meta after (sym q))
 
   mark_now : high three.records format.index_file ≡ high s format.index_file
   mark_now = ap (λ (r : Rec). (metas.meta_of r).high) meta_rec ∙ was_given.mark
@@ -155,16 +157,22 @@ module _ (whole : State) (slot : Slot) (first x : ℕ) (xs free : List ℕ) (is 
   unlinked : IsEntryGone s three.records x slot.id slot.place
   unlinked = record {
     mark = mark_now;
-    first = ap (λ (r : Rec). field 4 r format.meta_definition) (meta_rec ∙ was_given.meta) ∙ definition-with_meta (s (meta_key_of format.index_file)) (meta_in u.records format.index_file);
+    first = ap (λ (r : Rec). field 4 r format.meta_definition) (meta_rec ∙ was_given.meta)
+        ∙ definition-with_meta (s (meta_key_of format.index_file)) (meta_in u.records format.index_file);
     gone = kind_gone;
-    after = λ some. three_other (at after) (λ e. apart after slot.id (λ q. slot_not_next some (sym q))) (λ b. apart after before (λ q. before_not_next b some (sym q)))
-        ∙ ap (λ (z : State). z.records (at after)) (two_some some) ∙ put_same u.records (at after) (with_field 4 (u.records (at after)) format.indexed_previous before)
+    after = λ some. three_other (at after) (λ e. apart after slot.id (λ q. slot_not_next some (sym q)))
+        (λ b. apart after before (λ q. before_not_next b some (sym q)))
+        ∙ ap (λ (z : State). z.records (at after)) (two_some some) ∙ put_same u.records (at after)
+        (with_field 4 (u.records (at after)) format.indexed_previous before)
         ∙ ap (λ (r : Rec). with_field 4 r format.indexed_previous before) (one_other (at after) (apart after x (next_not_gone some)) (not_meta after));
-    before = λ some. ap (λ (z : State). z.records (at before)) (three_some some) ∙ put_same two.records (at before) (with_field 4 (two.records (at before)) format.indexed_next after)
+    before = λ some. ap (λ (z : State). z.records (at before)) (three_some some)
+        ∙ put_same two.records (at before) (with_field 4 (two.records (at before)) format.indexed_next after)
         ∙ ap (λ (r : Rec). with_field 4 r format.indexed_next after) (two_other (at before) (λ a. apart before after (before_not_next some a)) ∙ one_other (at before) (apart before x (before_not_gone some)) (not_meta before));
-    head = λ e. ap (λ (z : State). z.records (at slot.id)) (three_none e) ∙ put_same two.records (at slot.id) (with_field 4 (two.records (at slot.id)) slot.place after)
+    head = λ e. ap (λ (z : State). z.records (at slot.id)) (three_none e)
+        ∙ put_same two.records (at slot.id) (with_field 4 (two.records (at slot.id)) slot.place after)
         ∙ ap (λ (r : Rec). with_field 4 r slot.place after) (two_other (at slot.id) (λ a. apart slot.id after (slot_not_next a)) ∙ one_other (at slot.id) (apart slot.id x slot_not_gone) (not_meta slot.id));
-    others = λ y a b d e. three_other (at y) (λ q. apart y slot.id (e q)) (λ q. apart y before d) ∙ two_other (at y) (λ q. apart y after b) ∙ one_other (at y) (apart y x a) (not_meta y);
+    others = λ y a b d e. three_other (at y) (λ q. apart y slot.id (e q)) (λ q. apart y before d) ∙ two_other (at y) (λ q. apart y after b)
+        ∙ one_other (at y) (apart y x a) (not_meta y);
   }
 
   -- where the entry was given back and its neighbours lead to each other, it is gone

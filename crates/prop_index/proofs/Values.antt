@@ -9,6 +9,7 @@ pub value_in-is : (es : List Property) (key : ℕ) → value_in es key ≡ value
 value_in-is [] key = refl
 value_in-is (e ∷ es) key = by (nat_eq e.key key) (value_in-is es key)
   where
-    by : (b : Bool) → value_in es key ≡ value_of es key → cond b (Some e.value) (value_in es key) ≡ option_map (λ (d : Property). d.value) (cond b (Some e) (property_of es key))
+    by : (b : Bool) → value_in es key ≡ value_of es key → cond b (Some e.value) (value_in es key) ≡ option_map (λ (d : Property). d.value)
+        (cond b (Some e) (property_of es key))
     by true later = refl
     by false later = later

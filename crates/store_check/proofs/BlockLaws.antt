@@ -27,7 +27,8 @@ module _ (records : Records) where
   pub long_low : (p : ℕ) → IsLong records p → p < high records format.properties_file
   long_low p l = kind_below (high records format.properties_file) (rec_at records format.properties_file p) p (λ z. let four : 4 ≡ 0 = sym l ∙ z in omega arith)
 
-  pub twice_breaks : (n : ℕ) (old : List Bool) (b : ℕ) → ((q : ℕ) → marked old q ≡ false) → IsTwice (IsLong records) (IsBlockList records) n old b → ¬ IsBlockHeldOnce records b
+  pub twice_breaks : (n : ℕ) (old : List Bool) (b : ℕ) → ((q : ℕ) → marked old q ≡ false) → IsTwice (IsLong records) (IsBlockList records) n old b
+      → ¬ IsBlockHeldOnce records b
   twice_breaks n old b clear t k = ⊎_elim
       (λ (m : marked old b ≡ true). true≢false (sym m ∙ clear b))
       (λ (a : AmongHeads (IsLong records) (IsBlockList records) t.head b).
@@ -58,5 +59,6 @@ module _ (records : Records) where
     };
   }
 
-  pub not_held : (n : List Bool) (b : ℕ) → AllTexts records n → ¬ (is_live records format.strings_file b ≡ true → marked n b ≡ true) → ¬ IsBlockHeldOnce records b
+  pub not_held : (n : List Bool) (b : ℕ) → AllTexts records n → ¬ (is_live records format.strings_file b ≡ true → marked n b ≡ true)
+      → ¬ IsBlockHeldOnce records b
   not_held n b l bad k = bad (λ live. let h = k.held live in (l.told b).1 (record { property = h.0; has = h.1 }))

@@ -12,10 +12,12 @@ use Rattle.store_check.specs.Holding.{AreDefinitionsRight}
 
 module _ (records : Records) where
   definition_low : (d : ℕ) → kind_at records format.index_file d ≡ format.definition → d < high records format.index_file
-  definition_low d kind = kind_below (high records format.index_file) (rec_at records format.index_file d) d (λ z. let one : 1 ≡ 0 = sym kind ∙ z in omega arith)
+  definition_low d kind = kind_below (high records format.index_file) (rec_at records format.index_file d) d
+      (λ z. let one : 1 ≡ 0 = sym kind ∙ z in omega arith)
 
   -- where each definition keeps the rule, the store does
-  pub are_defined : AreDefinitionsRight records → rules.AreDefined (kind_at records format.index_file) (rec_at records format.index_file) (high records format.names_file)
+  pub are_defined : AreDefinitionsRight records → rules.AreDefined (kind_at records format.index_file) (rec_at records format.index_file)
+      (high records format.names_file)
   are_defined right = record {
     labels = λ d kind. (right.keeps d (definition_low d kind)).label kind;
     keys = λ d kind. (right.keeps d (definition_low d kind)).key kind;

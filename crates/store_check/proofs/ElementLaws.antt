@@ -29,7 +29,8 @@ module _ (records : Records) (heads : ElementHeads) (known : is_element_file hea
   pub element_head : (x : ℕ) → ElementKeeps records heads.file x → HeadKeeps Has Lists x
   element_head x k = record { list = λ live. k.list (property_from records heads.file x) (owner_of records x heads.file known live) }
 
-  pub head_element : (x : ℕ) → HeadKeeps Has Lists x → (is_live records heads.file x ≡ true → label_of records heads.file x < high records format.names_file) → ElementKeeps records heads.file x
+  pub head_element : (x : ℕ) → HeadKeeps Has Lists x → (is_live records heads.file x ≡ true → label_of records heads.file x < high records format.names_file)
+      → ElementKeeps records heads.file x
   head_element x h named = record { list = keeps_list x h; named = named }
 
   at_has : (x p : ℕ) → AtHead Has Lists x p → HasProperty records heads.file x p

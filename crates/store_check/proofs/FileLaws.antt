@@ -1,5 +1,6 @@
 -- The files that have meta records, and the records of the meta file, as the lists have them.
-use Rattle.std.proofs.Common.{◌≡◌, ◌≢◌, ℕ, ◌+◌, ◌<◌, ◌≤◌, Bool, true, false, ◌&&◌, ◌||◌, nat_eq, cond, List, length, take, get_or, ap, sym, subst, ◌∙◌, ⊎_elim, refl, arith}
+use Rattle.std.proofs.Common.{◌≡◌, ◌≢◌, ℕ, ◌+◌, ◌<◌, ◌≤◌, Bool, true, false, ◌&&◌, ◌||◌, nat_eq, cond, List, length}
+use Rattle.std.proofs.Common.{take, get_or, ap, sym, subst, ◌∙◌, ⊎_elim, refl, arith}
 use Rattle.std.specs.Prelude.{map}
 use Rattle.std.specs.List.{list_any}
 use Rattle.std.proofs.lemmas.Bool.{true≢false}
@@ -33,7 +34,8 @@ HoldsBefore files n P = (file : ℕ) → is_before files n file ≡ true → P f
 pub holds_none : (files : List RecordFile) (P : ℕ → Type 0) → HoldsBefore files 0 P
 holds_none files P file before = absurd cc
 
-pub holds_more : (files : List RecordFile) (n : ℕ) (d : RecordFile) (P : ℕ → Type 0) → n < length files → HoldsBefore files n P → P (get_or files n d).file → HoldsBefore files (n + 1) P
+pub holds_more : (files : List RecordFile) (n : ℕ) (d : RecordFile) (P : ℕ → Type 0) → n < length files → HoldsBefore files n P → P (get_or files n d).file
+    → HoldsBefore files (n + 1) P
 holds_more files n d P below old here file before =
     pick (is_before files n file) (nat_eq file (get_or files n d).file) (old file)
     (λ e. let same : (get_or files n d).file ≡ file = grind (arith, nat_tests) in subst P same here)
@@ -52,7 +54,8 @@ module _ (files : List RecordFile) (is : rooms_of files ≡ meta_rooms) where
   holds_all n P all old file known = old file (ap (λ xs. list_any (λ entry. nat_eq file entry.file) xs) (take_all n files all) ∙ all_are file ∙ known)
 
   pub entry_is : (n : ℕ) (d : RecordFile) → n < length files → is_meta_file (get_or files n d).file ≡ true
-  entry_is n d below = sym (all_are (get_or files n d).file) ∙ list_any_at (λ entry. nat_eq (get_or files n d).file entry.file) files n d below (eq_true (get_or files n d).file (get_or files n d).file refl)
+  entry_is n d below = sym (all_are (get_or files n d).file) ∙ list_any_at (λ entry. nat_eq (get_or files n d).file entry.file) files n d below
+      (eq_true (get_or files n d).file (get_or files n d).file refl)
 
 -- the one whose records are not used again
 pub reused-of : (file : ℕ) → is_meta_file file ≡ true → file ≢ format.names_file → is_reused file ≡ true
@@ -80,7 +83,8 @@ counts Counts = true
 counts Taken = false
 counts Index = true
 
-in_range_as : (form : MetaForm) (shape : Shape) (id : ℕ) (r : Rec) → counts form ≡ true → IsRightAs form format.newest_version shape id r → IsMetaInRange shape id r
+in_range_as : (form : MetaForm) (shape : Shape) (id : ℕ) (r : Rec) → counts form ≡ true → IsRightAs form format.newest_version shape id r
+    → IsMetaInRange shape id r
 in_range_as Own shape id r c h = absurd cc
 in_range_as Counts shape id r c h = h
 in_range_as Taken shape id r c h = absurd cc

@@ -33,7 +33,8 @@ module _ (records : Records) (file : ℕ) where
   test_free x lt t = free_by x (rec_at records file x) lt refl (eqb-true (field 1 (rec_at records file x) format.kind) 0 t)
 
   free_tests : (x : ℕ) → x < high records file → is_live records file x ≡ false → free_test x ≡ true
-  free_tests x lt f = eq_true (field 1 (rec_at records file x) format.kind) 0 (sym (kind_low (high records file) (rec_at records file x) x lt) ∙ not_live (kind_at records file x) f)
+  free_tests x lt f = eq_true (field 1 (rec_at records file x) format.kind) 0
+      (sym (kind_low (high records file) (rec_at records file x) x lt) ∙ not_live (kind_at records file x) f)
 
   -- ---- the list
 
@@ -51,7 +52,8 @@ module _ (records : Records) (file : ℕ) where
         }
 
     pub line_from : (xs : List ℕ) → IsFreeList records file xs → IsIt xs
-    line_from xs l = line_of_walk (rules.next_free records file) free_test (high records file) format.nil (meta_in records file).free xs l.walk l.low (λ x i. free_tests x (l.low x i) (l.only x i))
+    line_from xs l = line_of_walk (rules.next_free records file) free_test (high records file) format.nil (meta_in records file).free xs l.walk l.low
+        (λ x i. free_tests x (l.low x i) (l.only x i))
 
     pub no_list : ((xs : List ℕ) → ¬ IsIt xs) → ¬ HasFreeList records file
     no_list none h = none h.members (line_from h.members h.list)
@@ -60,15 +62,18 @@ module _ (records : Records) (file : ℕ) where
     members_same : (xs ys : List ℕ) → IsIt xs → IsFreeList records file ys → (q : ℕ) → In q ys → In q xs
     members_same xs ys h l q i = walk_members (rules.next_free records file) (meta_in records file).free ys xs l.walk (list_of xs h).walk q i
 
-    pub is_split : (marks : List Bool) (xs : List ℕ) → IsIt xs → ((p : ℕ) → marked marks p ≡ is_among xs p) → (meta_in records file).live ≡ length (ids (is_live records file) (high records file))
-        → ((x : ℕ) → x < high records file → is_live records file x ≡ false → marked marks x ≡ true) → (free : List ℕ) × rules.IsSplit records file (is_live records file) free
+    pub is_split : (marks : List Bool) (xs : List ℕ) → IsIt xs → ((p : ℕ) → marked marks p ≡ is_among xs p)
+        → (meta_in records file).live ≡ length (ids (is_live records file) (high records file))
+        → ((x : ℕ) → x < high records file → is_live records file x ≡ false → marked marks x ≡ true) → (free : List ℕ)
+        × rules.IsSplit records file (is_live records file) free
     is_split marks xs h ms count all =
         let l = list_of xs h in (
           xs,
           record { walk = l.walk; low = l.low; only = l.only; all = λ x lt free. in_from_among x xs (sym (ms x) ∙ all x lt free); exact = count },
         )
 
-    pub is_off : (marks : List Bool) (xs : List ℕ) → IsIt xs → ((p : ℕ) → marked marks p ≡ is_among xs p) → (x : ℕ) → marked marks x ≡ false → ¬ IsOnFreeList records file x
+    pub is_off : (marks : List Bool) (xs : List ℕ) → IsIt xs → ((p : ℕ) → marked marks p ≡ is_among xs p) → (x : ℕ) → marked marks x ≡ false
+        → ¬ IsOnFreeList records file x
     is_off marks xs h ms x out held = true≢false (sym (among_from_in x xs (members_same xs held.members h held.list x held.member)) ∙ sym (ms x) ∙ out)
 
     -- where the count is another one the rule is broken
@@ -76,6 +81,7 @@ module _ (records : Records) (file : ℕ) where
     wrong_count n e ne h = ne (e ∙ sym h.exact)
 
 -- a count of the same records
-pub counted_at : (now records : Records) (file : ℕ) (seen marks : List Bool) (found was : Counted) → now ≡ records → seen ≡ marks → was ≡ found → IsCounted now file seen was → IsCounted records file marks found
+pub counted_at : (now records : Records) (file : ℕ) (seen marks : List Bool) (found was : Counted) → now ≡ records → seen ≡ marks → was ≡ found
+    → IsCounted now file seen was → IsCounted records file marks found
 counted_at now records file seen marks found was e s f h =
     subst (λ (r : Records). IsCounted r file marks found) e (subst (λ ms. IsCounted now file ms found) s (subst (λ k. IsCounted now file seen k) f h))

@@ -1,5 +1,6 @@
 -- Laws of layouts.
-use Rattle.std.proofs.Common.{◌≡◌, ◌≢◌, ⊎_elim, ℕ, zero, suc, ◌+◌, ◌*◌, ◌<◌, ◌≤◌, arith, Bool, true, false, ◌||◌, ◌&&◌, map, Option, None, Some, List, [], ◌∷◌, ◌++◌, sym, ap, ◌∙◌, subst, refl}
+use Rattle.std.proofs.Common.{◌≡◌, ◌≢◌, ⊎_elim, ℕ, zero, suc, ◌+◌, ◌*◌, ◌<◌, ◌≤◌, arith, Bool, true, false, ◌||◌, ◌&&◌}
+use Rattle.std.proofs.Common.{map, Option, None, Some, List, [], ◌∷◌, ◌++◌, sym, ap, ◌∙◌, subst, refl}
 use Rattle.std.specs.Bool.{Decides}
 use Rattle.std.specs.List.{list_all, list_any}
 use Rattle.std.proofs.lemmas.Bool.{cases_lt, true≢false}
@@ -22,13 +23,15 @@ any-map i [] = refl
 any-map i (r ∷ rs) = ap (λ b. ranges.is_in i (range_of r) || b) (any-map i rs)
 
 -- a record has a layout exactly where its numbers are right and its other bytes are zero
-pub laid_by : (marks : ℕ → ℕ) (r : Rec) (ps : List Pointer) (rs : List Range) (b : Bool) → list_all (is_right_in marks r) ps ≡ true → Decides b (IsBlankBut rs r) → Decides b (HasLayoutOf marks r (ranges.laid (map pointer_of ps) (map range_of rs)))
+pub laid_by : (marks : ℕ → ℕ) (r : Rec) (ps : List Pointer) (rs : List Range) (b : Bool) → list_all (is_right_in marks r) ps ≡ true
+    → Decides b (IsBlankBut rs r) → Decides b (HasLayoutOf marks r (ranges.laid (map pointer_of ps) (map range_of rs)))
 laid_by marks r ps rs b e d = (
   (λ t. record { point = sym (all_point-list marks r ps) ∙ e; blank = λ i lt out. d.0 t i lt (any-map i rs ∙ out) }),
   (λ h. d.1 (λ i lt out. h.blank i lt (sym (any-map i rs) ∙ out))),
 )
 
-pub not_laid : (marks : ℕ → ℕ) (r : Rec) (ps : List Pointer) (rs : List Range) (b : Bool) → b ≡ list_all (is_right_in marks r) ps → b ≡ false → Decides b (HasLayoutOf marks r (ranges.laid (map pointer_of ps) (map range_of rs)))
+pub not_laid : (marks : ℕ → ℕ) (r : Rec) (ps : List Pointer) (rs : List Range) (b : Bool) → b ≡ list_all (is_right_in marks r) ps → b ≡ false
+    → Decides b (HasLayoutOf marks r (ranges.laid (map pointer_of ps) (map range_of rs)))
 not_laid marks r ps rs b e f = ((λ t. absurd (true≢false (sym t ∙ f))), (λ h. e ∙ all_point-list marks r ps ∙ h.point))
 
 -- ---- numbers from a place on
@@ -43,7 +46,8 @@ and_none false = refl
 
 -- one more at their end
 pub from_more : (marks : ℕ → ℕ) (r : Rec) (pointer : ℕ → ranges.Pointer) (n place : ℕ)
-    → ranges.all_point marks r (ranges.pointers_from (suc n) pointer place) ≡ (ranges.all_point marks r (ranges.pointers_from n pointer place) && ranges.points marks r (pointer (place + 4 * n)))
+    → ranges.all_point marks r (ranges.pointers_from (suc n) pointer place)
+    ≡ (ranges.all_point marks r (ranges.pointers_from n pointer place) && ranges.points marks r (pointer (place + 4 * n)))
 from_more marks r pointer zero place = by (ranges.points marks r (pointer place)) ∙ ap (λ p. ranges.points marks r (pointer p)) (omega arith)
   where
     by : (a : Bool) → (a && true) ≡ a
@@ -52,10 +56,12 @@ from_more marks r pointer zero place = by (ranges.points marks r (pointer place)
 from_more marks r pointer (suc n) place =
     let next : place + 4 + 4 * n ≡ place + 4 * suc n = omega arith in
     ap (λ b. ranges.points marks r (pointer place) && b) (from_more marks r pointer n (place + 4) ∙ ap (λ p. ranges.all_point marks r (ranges.pointers_from n pointer (place + 4)) && ranges.points marks r (pointer p)) next)
-    ∙ and_more (ranges.points marks r (pointer place)) (ranges.all_point marks r (ranges.pointers_from n pointer (place + 4))) (ranges.points marks r (pointer (place + 4 * suc n)))
+    ∙ and_more (ranges.points marks r (pointer place)) (ranges.all_point marks r (ranges.pointers_from n pointer (place + 4)))
+    (ranges.points marks r (pointer (place + 4 * suc n)))
 
 -- one that is not right
-pub from_wrong : (marks : ℕ → ℕ) (r : Rec) (pointer : ℕ → ranges.Pointer) (n k place : ℕ) → k < n → ranges.points marks r (pointer (place + 4 * k)) ≡ false → ranges.all_point marks r (ranges.pointers_from n pointer place) ≡ false
+pub from_wrong : (marks : ℕ → ℕ) (r : Rec) (pointer : ℕ → ranges.Pointer) (n k place : ℕ) → k < n → ranges.points marks r (pointer (place + 4 * k)) ≡ false
+    → ranges.all_point marks r (ranges.pointers_from n pointer place) ≡ false
 from_wrong marks r pointer zero k place lt wrong = absurd (omega (arith, lt))
 from_wrong marks r pointer (suc n) k place lt wrong =
     let before = ranges.all_point marks r (ranges.pointers_from n pointer place) in
@@ -66,12 +72,15 @@ from_wrong marks r pointer (suc n) k place lt wrong =
     (cases_lt k n)
 
 -- those of two lists
-all_both : (marks : ℕ → ℕ) (r : Rec) (ps more : List ranges.Pointer) → ranges.all_point marks r (ps ++ more) ≡ (ranges.all_point marks r ps && ranges.all_point marks r more)
+all_both : (marks : ℕ → ℕ) (r : Rec) (ps more : List ranges.Pointer) → ranges.all_point marks r
+    (ps ++ more) ≡ (ranges.all_point marks r ps && ranges.all_point marks r more)
 all_both marks r [] more = refl
-all_both marks r (p ∷ ps) more = ap (λ b. ranges.points marks r p && b) (all_both marks r ps more) ∙ and_more (ranges.points marks r p) (ranges.all_point marks r ps) (ranges.all_point marks r more)
+all_both marks r (p ∷ ps) more = ap (λ b. ranges.points marks r p && b) (all_both marks r ps more)
+    ∙ and_more (ranges.points marks r p) (ranges.all_point marks r ps) (ranges.all_point marks r more)
 
 -- a layout with more numbers: the record has it where it has the one without and these are right
-pub laid_and : (marks : ℕ → ℕ) (r : Rec) (ps more : List ranges.Pointer) (rs : List ranges.Range) (b : Bool) → HasLayoutOf marks r (ranges.laid ps rs) → b ≡ ranges.all_point marks r more → Decides b (HasLayoutOf marks r (ranges.laid (ps ++ more) rs))
+pub laid_and : (marks : ℕ → ℕ) (r : Rec) (ps more : List ranges.Pointer) (rs : List ranges.Range) (b : Bool) → HasLayoutOf marks r (ranges.laid ps rs)
+    → b ≡ ranges.all_point marks r more → Decides b (HasLayoutOf marks r (ranges.laid (ps ++ more) rs))
 laid_and marks r ps more rs b h e = (
   (λ t. record { point = both ∙ sym e ∙ t; blank = h.blank }),
   (λ all. e ∙ sym both ∙ all.point),
@@ -89,10 +98,12 @@ pub layout_fits : (marks : ℕ → ℕ) (file : ℕ) (r : Rec) → ranges.Fits m
 layout_fits marks file r f = subst (HasLayoutOf marks r) (sym f.is) (record { point = f.point; blank = f.blank })
 
 -- so a test of the layout is a test of whether the record fits
-pub fits_by : (marks : ℕ → ℕ) (file : ℕ) (r : Rec) (l : Option ranges.Layout) (b : Bool) → ranges.layout_of file r ≡ l → Decides b (HasLayoutOf marks r l) → Decides b (ranges.Fits marks file r)
+pub fits_by : (marks : ℕ → ℕ) (file : ℕ) (r : Rec) (l : Option ranges.Layout) (b : Bool) → ranges.layout_of file r ≡ l → Decides b (HasLayoutOf marks r l)
+    → Decides b (ranges.Fits marks file r)
 fits_by marks file r l b e d = ((λ t. fits_of marks file r l e (d.0 t)), (λ f. d.1 (subst (HasLayoutOf marks r) e (layout_fits marks file r f))))
 
-pub free_is : (file : ℕ) (r : Rec) → is_meta_file file ≡ true → file ≢ format.names_file → field 1 r format.kind ≡ 0 → ranges.layout_of file r ≡ ranges.free_layout file
+pub free_is : (file : ℕ) (r : Rec) → is_meta_file file ≡ true → file ≢ format.names_file → field 1 r format.kind ≡ 0
+    → ranges.layout_of file r ≡ ranges.free_layout file
 free_is file r meta other e = rw (e, meta, eq_false file format.names_file other) refl
 
 pub used_is : (file : ℕ) (r : Rec) → field 1 r format.kind ≢ 0 → ranges.layout_of file r ≡ ranges.used_layout file r (field 1 r format.kind)

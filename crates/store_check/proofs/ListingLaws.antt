@@ -48,7 +48,8 @@ module _ (records : Records) where
     apart : (x y p : ℕ) → HasProperty records 1 x p → HasProperty records 2 y p → ⊥
     apart x y p h k = true≢false (sym ((a.marks p).1 (inr (record { element = x; has = h }))) ∙ b.fresh y p k)
 
-    once : (file x other y p : ℕ) → (file ≡ 1) ⊎ (file ≡ 2) → (other ≡ 1) ⊎ (other ≡ 2) → HasProperty records file x p → HasProperty records other y p → (file ≡ other) × (x ≡ y)
+    once : (file x other y p : ℕ) → (file ≡ 1) ⊎ (file ≡ 2) → (other ≡ 1) ⊎ (other ≡ 2) → HasProperty records file x p → HasProperty records other y p
+        → (file ≡ other) × (x ≡ y)
     once file x other y p (inl e) (inl f) h k = (e ∙ sym f, a.once x y p (subst (λ z. HasProperty records z x p) e h) (subst (λ z. HasProperty records z y p) f k))
     once file x other y p (inr e) (inr f) h k = (e ∙ sym f, b.once x y p (subst (λ z. HasProperty records z x p) e h) (subst (λ z. HasProperty records z y p) f k))
     once file x other y p (inl e) (inr f) h k = absurd (apart x y p (subst (λ z. HasProperty records z x p) e h) (subst (λ z. HasProperty records z y p) f k))
@@ -83,5 +84,6 @@ module _ (records : Records) where
   pub elements_right : (n : List Bool) → AllListed records n → ((p : ℕ) → p < high records format.properties_file → is_live records format.properties_file p ≡ true → marked n p ≡ true) → AreElementsRight records
   elements_right n l mark = record { keeps = l.keeps; held = λ p. held_once n p l (λ live. mark p (live_below records format.properties_file p live) live) }
 
-  pub not_held : (n : List Bool) (p : ℕ) → AllListed records n → ¬ (is_live records format.properties_file p ≡ true → marked n p ≡ true) → ¬ IsHeldOnce records p
+  pub not_held : (n : List Bool) (p : ℕ) → AllListed records n → ¬ (is_live records format.properties_file p ≡ true → marked n p ≡ true)
+      → ¬ IsHeldOnce records p
   not_held n p l bad k = bad (λ live. let h = k.held live in (l.told p).1 (record { file = h.0; element = h.1; has = h.2 }))

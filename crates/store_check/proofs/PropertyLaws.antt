@@ -85,7 +85,8 @@ module _ (records : Records) (first : ℕ) where
         let l : IsPropertyList records first xs = subst (IsPropertyList records first) same h in (
           l.few,
           record {
-            named = below_all (high records format.names_file) (map (key_of records) xs) (λ k i. let m = map_in (key_of records) k xs i in subst (λ z. z < high records format.names_file) (sym m.2) (l.named m.0 m.1));
+            named = below_all (high records format.names_file) (map (key_of records) xs)
+                (λ k i. let m = map_in (key_of records) k xs i in subst (λ z. z < high records format.names_file) (sym m.2) (l.named m.0 m.1));
             distinct = distinct_of (map (key_of records) xs) (once_map (key_of records) xs (once_walk (next_property records) first xs its_walk) l.distinct);
           },
         )

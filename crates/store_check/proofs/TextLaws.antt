@@ -32,7 +32,8 @@ pieces_of size n (b ∷ c ∷ rest) h =
 
 pub lengths_from : (size : ℕ → ℕ) (n : ℕ) (xs : List ℕ) → rules.ArePieces size n xs → AreLengths n (map size xs)
 lengths_from size n [] h = record { count = omega (arith, h); full = λ k lt. absurd (omega arith); total = sym h }
-lengths_from size n (b ∷ []) h = let e = h.0 in let low = h.1 in let most = h.2 in record { count = omega arith; full = λ k lt. absurd (omega arith); total = omega arith }
+lengths_from size n (b ∷ []) h = let e = h.0 in let low = h.1 in let most = h.2 in
+    record { count = omega arith; full = λ k lt. absurd (omega arith); total = omega arith }
 lengths_from size n (b ∷ c ∷ rest) h =
     let e = h.0 in
     let low = h.1 in
@@ -42,7 +43,8 @@ lengths_from size n (b ∷ c ∷ rest) h =
     let more : sum (map size (b ∷ c ∷ rest)) ≡ size b + sum (map size (c ∷ rest)) = sum_cons (size b) (map size (c ∷ rest)) in
     record { count = omega arith; full = later e r; total = omega arith }
   where
-    later : size b ≡ 48 → AreLengths (n - 48) (map size (c ∷ rest)) → (k : ℕ) → k + 1 < length (map size (b ∷ c ∷ rest)) → get_or (map size (b ∷ c ∷ rest)) k 0 ≡ 48
+    later : size b ≡ 48 → AreLengths (n - 48) (map size (c ∷ rest)) → (k : ℕ) → k + 1 < length (map size (b ∷ c ∷ rest))
+        → get_or (map size (b ∷ c ∷ rest)) k 0 ≡ 48
     later e r zero lt = e
     later e r (suc k) lt = r.full k (omega arith)
 

@@ -30,12 +30,14 @@ returns-in-Some-clause-decided g c = λ tells.
 pub check_each-requires-clause-ids : goal.check_each-requires-clause-ids
 check_each-requires-clause-ids g c =
     let records = (g.R.Reads.state c.args.space.now).records in
-    all_low c.args.definitions.now c.args.ids.now (high records format.index_file) format.most_ids c.requires.named (c.requires.low format.index_file refl) c.requires.ids
+    all_low c.args.definitions.now c.args.ids.now (high records format.index_file) format.most_ids c.requires.named (c.requires.low format.index_file refl)
+    c.requires.ids
 
 pub check_each-requires-clause-given : goal.check_each-requires-clause-given
 check_each-requires-clause-given g c = λ tells.
     let records = (g.R.Reads.state c.args.space.now).records in
-    let given : All (IsGiven records) c.args.definitions.now = subst (All (IsGiven records)) (sym (c.requires.are tells)) (all_given records c.args.ids.now (c.requires.listed tells)) in
+    let given : All (IsGiven records) c.args.definitions.now = subst (All (IsGiven records)) (sym (c.requires.are tells))
+    (all_given records c.args.ids.now (c.requires.listed tells)) in
     subst (λ (r : Records). All (IsGiven r) c.args.definitions.now) (sym c.in_ok-damage.ensures.same) given
 
 pub returns-in-None-clause-decided : goal.returns-in-None-clause-decided
@@ -48,7 +50,8 @@ returns-in-None-clause-decided g c = λ tells.
     = (λ i. twin_in (sym are i) (sym are i)) ∙ sym c.find_twin.ensures ∙ c.in_default.is in
     let all : AreAllHeld records ids = search (rules, c.in_ok-damage.ensures.right tells) in
     let rights : IfNone c.in_ok-damage-2.field-0 ((d : ℕ) → In d (map (λ (a : Definition). a.id) c.args.definitions.now) → IsRight records d)
-    = subst (λ (r : Records). IfNone c.in_ok-damage-2.field-0 ((d : ℕ) → In d (map (λ (a : Definition). a.id) c.args.definitions.now) → IsRight r d)) c.in_ok-damage.ensures.same (c.in_ok-damage-2.ensures.right tells) in
+    = subst (λ (r : Records). IfNone c.in_ok-damage-2.field-0 ((d : ℕ) → In d (map (λ (a : Definition). a.id) c.args.definitions.now) → IsRight r d))
+    c.in_ok-damage.ensures.same (c.in_ok-damage-2.ensures.right tells) in
     let right : (d : ℕ) → In d (map (λ (a : Definition). a.id) c.args.definitions.now) → IsRight records d = search (rules, rights) in
     indexed_of records (each_keeps records ids listed (λ d e i j l k. twin_none records ids ids none d e i j l k) all (λ d i. right d (subst (In d) (sym c.requires.named) i)))
 
@@ -94,7 +97,8 @@ returns-in_err-damage-clause-cause g c =
 
 pub returns-in_err-damage-2-clause-sound : goal.returns-in_err-damage-2-clause-sound
 returns-in_err-damage-2-clause-sound g c tells readable =
-    sound_exit c.from_residual-in_err-damage-2.result c.in_err-damage-2.field-0.0 c.from_residual-in_err-damage-2.ensures.1 (c.in_err-damage-2.ensures.sound tells (subst AreReadable (sym (c.in_ok-damage.ensures.same)) readable))
+    sound_exit c.from_residual-in_err-damage-2.result c.in_err-damage-2.field-0.0 c.from_residual-in_err-damage-2.ensures.1
+    (c.in_err-damage-2.ensures.sound tells (subst AreReadable (sym (c.in_ok-damage.ensures.same)) readable))
 
 pub returns-in_err-damage-2-clause-same : goal.returns-in_err-damage-2-clause-same
 returns-in_err-damage-2-clause-same g c = c.in_err-damage-2.ensures.same ∙ c.in_ok-damage.ensures.same

@@ -59,7 +59,8 @@ returns-clause-right g c = λ tells d m.
 
 pub returns-in_err-damage-clause-sound : goal.returns-in_err-damage-clause-sound
 returns-in_err-damage-clause-sound g c = λ tells readable.
-    sound_exit c.from_residual.result c.in_err-damage.field-0.0 c.from_residual.ensures.1 (c.in_err-damage.ensures.sound tells (subst AreReadable (sym c.loop-definition.invariant.same) readable))
+    sound_exit c.from_residual.result c.in_err-damage.field-0.0 c.from_residual.ensures.1
+    (c.in_err-damage.ensures.sound tells (subst AreReadable (sym c.loop-definition.invariant.same) readable))
 
 pub returns-in_err-damage-clause-same : goal.returns-in_err-damage-clause-same
 returns-in_err-damage-clause-same g c = c.in_err-damage.ensures.same ∙ c.loop-definition.invariant.same
@@ -68,11 +69,13 @@ pub returns-in_err-damage-clause-written : goal.returns-in_err-damage-clause-wri
 returns-in_err-damage-clause-written g c = c.in_err-damage.ensures.written ∙ c.loop-definition.invariant.written
 
 pub returns-in_err-damage-clause-onward : goal.returns-in_err-damage-clause-onward
-returns-in_err-damage-clause-onward g c = g.met.R.Reads.further_onward c.args.space.now c.loop-definition.space c.check_index.new.space c.loop-definition.invariant.onward c.in_err-damage.ensures.onward
+returns-in_err-damage-clause-onward g c = g.met.R.Reads.further_onward c.args.space.now c.loop-definition.space c.check_index.new.space
+    c.loop-definition.invariant.onward c.in_err-damage.ensures.onward
 
 pub returns-in_err-damage-clause-cause : goal.returns-in_err-damage-clause-cause
 returns-in_err-damage-clause-cause g c =
-    cause_passed _ _ _ c.from_residual.result c.in_err-damage.field-0.0 c.loop-definition.invariant.faults c.in_err-damage.ensures.cause c.from_residual.ensures.1
+    cause_passed _ _ _ c.from_residual.result c.in_err-damage.field-0.0 c.loop-definition.invariant.faults c.in_err-damage.ensures.cause
+    c.from_residual.ensures.1
 
 pub returns-in_err-damage-clause-right : goal.returns-in_err-damage-clause-right
 returns-in_err-damage-clause-right g c _ = never_ok c.from_residual.result _ _ c.from_residual.ensures.1

@@ -15,7 +15,8 @@ returns-in-Some-2-clause-broken g c = λ tells.
     let marks = c.mark_lists.new.marks in
     let all : AreAllMarked records c.args.ids.now marks = search (rules, c.in_ok-damage.ensures.right tells) in
     let found : IfSome c.in_ok-id.field-0 (λ x. ¬ (is_live records format.index_file x ≡ true → marked marks x ≡ true))
-    = subst (λ (r : Records). IfSome c.in_ok-id.field-0 (λ x. ¬ (is_live r format.index_file x ≡ true → marked marks x ≡ true))) c.in_ok-damage.ensures.same (c.in_ok-id.ensures.found tells) in
+    = subst (λ (r : Records). IfSome c.in_ok-id.field-0 (λ x. ¬ (is_live r format.index_file x ≡ true → marked marks x ≡ true))) c.in_ok-damage.ensures.same
+    (c.in_ok-id.ensures.found tells) in
     let bad : ¬ (is_live records format.index_file c.in-Some-2.id ≡ true → marked marks c.in-Some-2.id ≡ true) = search (rules, found) in
     breaks_by records c.broken.result format.index_file c.in-Some-2.id c.broken.ensures (left_over records c.args.ids.now marks all c.in-Some-2.id bad)
 
@@ -25,7 +26,8 @@ returns-in-None-clause-right g c = λ tells.
     let marks = c.mark_lists.new.marks in
     let all : AreAllMarked records c.args.ids.now marks = search (rules, c.in_ok-damage.ensures.right tells) in
     let none : IfNone c.in_ok-id.field-0 ((x : ℕ) → x < high records format.index_file → is_live records format.index_file x ≡ true → marked marks x ≡ true)
-    = subst (λ (r : Records). IfNone c.in_ok-id.field-0 ((x : ℕ) → x < high r format.index_file → is_live r format.index_file x ≡ true → marked marks x ≡ true)) c.in_ok-damage.ensures.same (c.in_ok-id.ensures.none tells) in
+    = subst (λ (r : Records). IfNone c.in_ok-id.field-0 ((x : ℕ) → x < high r format.index_file → is_live r format.index_file x ≡ true → marked marks x ≡ true))
+    c.in_ok-damage.ensures.same (c.in_ok-id.ensures.none tells) in
     let each : (x : ℕ) → x < high records format.index_file → is_live records format.index_file x ≡ true → marked marks x ≡ true = search (rules, none) in
     all_held records c.args.ids.now marks all each
 
@@ -35,7 +37,8 @@ returns-in_err-damage-clause-cause g c =
 
 pub returns-in_err-id-clause-cause : goal.returns-in_err-id-clause-cause
 returns-in_err-id-clause-cause g c =
-    cause_passed _ _ _ c.from_residual-in_err-id.result c.in_err-id.field-0.0 c.in_ok-damage.ensures.cause.later c.in_err-id.ensures.cause c.from_residual-in_err-id.ensures.1
+    cause_passed _ _ _ c.from_residual-in_err-id.result c.in_err-id.field-0.0 c.in_ok-damage.ensures.cause.later c.in_err-id.ensures.cause
+    c.from_residual-in_err-id.ensures.1
 
 pub returns-in_err-id-clause-onward : goal.returns-in_err-id-clause-onward
 returns-in_err-id-clause-onward g c =

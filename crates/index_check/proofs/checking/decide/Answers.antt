@@ -53,7 +53,8 @@ returns-in_err-ids-clause-cause g c =
     space_cause_passed _ _ _ c.from_residual.result c.in_err-ids.field-0.0 (omega arith) c.in_err-ids.ensures.cause c.from_residual.ensures.1
 
 pub returns-in_err-definitions-clause-sound : goal.returns-in_err-definitions-clause-sound
-returns-in_err-definitions-clause-sound g c _ _ = space_exit c.from_residual-in_err-definitions.result c.in_err-definitions.field-0.0 c.from_residual-in_err-definitions.ensures.1
+returns-in_err-definitions-clause-sound g c _ _ = space_exit c.from_residual-in_err-definitions.result c.in_err-definitions.field-0.0
+    c.from_residual-in_err-definitions.ensures.1
 
 pub returns-in_err-definitions-clause-same : goal.returns-in_err-definitions-clause-same
 returns-in_err-definitions-clause-same g c = c.in_err-definitions.ensures.same ∙ c.in_ok-ids.ensures.same

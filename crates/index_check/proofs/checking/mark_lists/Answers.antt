@@ -32,8 +32,10 @@ returns-in-Some-Head-clause-broken g c = λ tells.
     let id = c.in-Some-Head.id in
     let b : BrokeIs Always (IsHeadItem records ids) (12 * length ids) c.args.marks.now (Head id) = search (rules, c.in_ok-id.ensures.broken tells) in
     let place = (twelve_place (length ids) id b.0).0 in
-    let at : c.named_at.result ≡ definition_of 12 ids id = subst (λ (i : ℕ). i / 12 < length ids → c.named_at.result ≡ get_or ids (i / 12) 0) c.in-Some-Head.id-is c.named_at.ensures place in
-    breaks_by records c.broken.result format.index_file (definition_of 12 ids id) (c.broken.ensures ∙ ap (λ i. damage 8 i 8) at) (no_heads records ids are id b.0 b.1)
+    let at : c.named_at.result ≡ definition_of 12 ids id = subst (λ (i : ℕ). i / 12 < length ids → c.named_at.result ≡ get_or ids (i / 12) 0)
+    c.in-Some-Head.id-is c.named_at.ensures place in
+    breaks_by records c.broken.result format.index_file (definition_of 12 ids id) (c.broken.ensures ∙ ap (λ i. damage 8 i 8) at)
+    (no_heads records ids are id b.0 b.1)
 
 pub returns-in-Some-Item-clause-broken : goal.returns-in-Some-Item-clause-broken
 returns-in-Some-Item-clause-broken g c = λ tells.
@@ -42,7 +44,8 @@ returns-in-Some-Item-clause-broken g c = λ tells.
     let are = c.requires.listed tells in
     let id = c.in-Some-Item.id in
     let b : BrokeIs Always (IsHeadItem records ids) (12 * length ids) c.args.marks.now (Item id) = search (rules, c.in_ok-id.ensures.broken tells) in
-    breaks_by records c.broken-in-Some-Item.result format.index_file id (c.broken-in-Some-Item.ensures ∙ ap (λ i. damage 8 i 8) c.in-Some-Item.id-is) (head_twice records ids are c.args.marks.now c.requires.told id b)
+    breaks_by records c.broken-in-Some-Item.result format.index_file id (c.broken-in-Some-Item.ensures ∙ ap (λ i. damage 8 i 8) c.in-Some-Item.id-is)
+    (head_twice records ids are c.args.marks.now c.requires.told id b)
 
 pub returns-in-Some-Head-2-clause-broken : goal.returns-in-Some-Head-2-clause-broken
 returns-in-Some-Head-2-clause-broken g c = λ tells.
@@ -52,10 +55,12 @@ returns-in-Some-Head-2-clause-broken g c = λ tells.
     let first = c.list_heads.new.marks in
     let id = c.in-Some-Head-2.id in
     let told : IfSome c.in_ok-id-2.field-0 (BrokeIs Always (AreItsEntries records ids) (180 * length ids) first)
-    = subst (λ (r : Records). IfSome c.in_ok-id-2.field-0 (BrokeIs Always (AreItsEntries r ids) (180 * length ids) first)) c.in_ok-id.ensures.same (c.in_ok-id-2.ensures.broken tells) in
+    = subst (λ (r : Records). IfSome c.in_ok-id-2.field-0 (BrokeIs Always (AreItsEntries r ids) (180 * length ids) first)) c.in_ok-id.ensures.same
+    (c.in_ok-id-2.ensures.broken tells) in
     let b : BrokeIs Always (AreItsEntries records ids) (180 * length ids) first (Head id) = search (rules, told) in
     let at : c.named_at-in-Some-Head-2.result ≡ definition_of 180 ids id = c.named_at-in-Some-Head-2.ensures (many_place (length ids) id b.0).0 in
-    breaks_by records c.broken-in-Some-Head-2.result format.index_file (definition_of 180 ids id) (c.broken-in-Some-Head-2.ensures ∙ ap (λ i. damage 8 i 8) at) (no_bucket records ids are id b.0 b.1)
+    breaks_by records c.broken-in-Some-Head-2.result format.index_file (definition_of 180 ids id) (c.broken-in-Some-Head-2.ensures ∙ ap (λ i. damage 8 i 8) at)
+    (no_bucket records ids are id b.0 b.1)
 
 pub returns-in-Some-Item-2-clause-broken : goal.returns-in-Some-Item-2-clause-broken
 returns-in-Some-Item-2-clause-broken g c = λ tells.
@@ -64,9 +69,11 @@ returns-in-Some-Item-2-clause-broken g c = λ tells.
     let are = c.requires.listed tells in
     let first = c.list_heads.new.marks in
     let id = c.in-Some-Item-2.id in
-    let marks : (p : ℕ) → Decides (marked first p) ((marked c.args.marks.now p ≡ true) ⊎ AmongHeads Always (IsHeadItem records ids) (12 * length ids) p) = search (rules, c.in_ok-id.ensures.marks tells) in
+    let marks : (p : ℕ) → Decides (marked first p) ((marked c.args.marks.now p ≡ true) ⊎ AmongHeads Always (IsHeadItem records ids) (12 * length ids) p) =
+    search (rules, c.in_ok-id.ensures.marks tells) in
     let told : IfSome c.in_ok-id-2.field-0 (BrokeIs Always (AreItsEntries records ids) (180 * length ids) first)
-    = subst (λ (r : Records). IfSome c.in_ok-id-2.field-0 (BrokeIs Always (AreItsEntries r ids) (180 * length ids) first)) c.in_ok-id.ensures.same (c.in_ok-id-2.ensures.broken tells) in
+    = subst (λ (r : Records). IfSome c.in_ok-id-2.field-0 (BrokeIs Always (AreItsEntries r ids) (180 * length ids) first)) c.in_ok-id.ensures.same
+    (c.in_ok-id-2.ensures.broken tells) in
     let b : BrokeIs Always (AreItsEntries records ids) (180 * length ids) first (Item id) = search (rules, told) in
     breaks_by records c.broken-in-Some-Item-2.result format.index_file id c.broken-in-Some-Item-2.ensures
     (entry_twice records ids are first (met_before records ids c.args.marks.now first c.requires.told marks) id b)
@@ -79,17 +86,21 @@ returns-in-None-2-clause-right g c = λ tells.
     let old = c.args.marks.now in
     let first = c.list_heads.new.marks in
     let last = c.list_heads-2.new.marks in
-    let marks : (p : ℕ) → Decides (marked first p) ((marked old p ≡ true) ⊎ AmongHeads Always (IsHeadItem records ids) (12 * length ids) p) = search (rules, c.in_ok-id.ensures.marks tells) in
+    let marks : (p : ℕ) → Decides (marked first p) ((marked old p ≡ true) ⊎ AmongHeads Always (IsHeadItem records ids) (12 * length ids) p) =
+    search (rules, c.in_ok-id.ensures.marks tells) in
     let keeps : (k : ℕ) → k < 12 * length ids → HeadKeeps Always (IsHeadItem records ids) k = search (rules, c.in_ok-id.ensures.keeps tells) in
     let once : (p : ℕ) → IsOnce Always (IsHeadItem records ids) (12 * length ids) p = search (rules, c.in_ok-id.ensures.once tells) in
     let marks_after : IfNone c.in_ok-id-2.field-0 ((p : ℕ) → Decides (marked last p) ((marked first p ≡ true) ⊎ AmongHeads Always (AreItsEntries records ids) (180 * length ids) p))
     = subst (λ (r : Records). IfNone c.in_ok-id-2.field-0 ((p : ℕ) → Decides (marked last p) ((marked first p ≡ true) ⊎ AmongHeads Always (AreItsEntries r ids) (180 * length ids) p))) c.in_ok-id.ensures.same (c.in_ok-id-2.ensures.marks tells) in
-    let last_marks : (p : ℕ) → Decides (marked last p) ((marked first p ≡ true) ⊎ AmongHeads Always (AreItsEntries records ids) (180 * length ids) p) = search (rules, marks_after) in
+    let last_marks : (p : ℕ) → Decides (marked last p) ((marked first p ≡ true) ⊎ AmongHeads Always (AreItsEntries records ids) (180 * length ids) p) =
+    search (rules, marks_after) in
     let keeps_after : IfNone c.in_ok-id-2.field-0 ((k : ℕ) → k < 180 * length ids → HeadKeeps Always (AreItsEntries records ids) k)
-    = subst (λ (r : Records). IfNone c.in_ok-id-2.field-0 ((k : ℕ) → k < 180 * length ids → HeadKeeps Always (AreItsEntries r ids) k)) c.in_ok-id.ensures.same (c.in_ok-id-2.ensures.keeps tells) in
+    = subst (λ (r : Records). IfNone c.in_ok-id-2.field-0 ((k : ℕ) → k < 180 * length ids → HeadKeeps Always (AreItsEntries r ids) k)) c.in_ok-id.ensures.same
+    (c.in_ok-id-2.ensures.keeps tells) in
     let last_keeps : (k : ℕ) → k < 180 * length ids → HeadKeeps Always (AreItsEntries records ids) k = search (rules, keeps_after) in
     let once_after : IfNone c.in_ok-id-2.field-0 ((p : ℕ) → IsOnce Always (AreItsEntries records ids) (180 * length ids) p)
-    = subst (λ (r : Records). IfNone c.in_ok-id-2.field-0 ((p : ℕ) → IsOnce Always (AreItsEntries r ids) (180 * length ids) p)) c.in_ok-id.ensures.same (c.in_ok-id-2.ensures.once tells) in
+    = subst (λ (r : Records). IfNone c.in_ok-id-2.field-0 ((p : ℕ) → IsOnce Always (AreItsEntries r ids) (180 * length ids) p)) c.in_ok-id.ensures.same
+    (c.in_ok-id-2.ensures.once tells) in
     let last_once : (p : ℕ) → IsOnce Always (AreItsEntries records ids) (180 * length ids) p = search (rules, once_after) in
     record {
       listed = record {
@@ -107,7 +118,8 @@ returns-in_err-id-clause-cause g c =
 
 pub returns-in_err-id-2-clause-cause : goal.returns-in_err-id-2-clause-cause
 returns-in_err-id-2-clause-cause g c =
-    cause_passed _ _ _ c.from_residual-in_err-id-2.result c.in_err-id-2.field-0.0 c.in_ok-id.ensures.cause.later c.in_err-id-2.ensures.cause c.from_residual-in_err-id-2.ensures.1
+    cause_passed _ _ _ c.from_residual-in_err-id-2.result c.in_err-id-2.field-0.0 c.in_ok-id.ensures.cause.later c.in_err-id-2.ensures.cause
+    c.from_residual-in_err-id-2.ensures.1
 
 pub returns-in_err-id-2-clause-onward : goal.returns-in_err-id-2-clause-onward
 returns-in_err-id-2-clause-onward g c =

@@ -13,18 +13,22 @@ use Rattle.index_check.proofs.definitions.find_definitions.Goals as goal
 pub returns-in_default-clause-none : goal.returns-in_default-clause-none
 returns-in_default-clause-none g c = λ tells xs h.
     let records = (g.R.Reads.state c.args.space.now).records in
-    let first : c.number-first.result ≡ first_definition records = c.number-first.ensures ∙ ap (λ r. field 4 r format.meta_definition) (c.in_ok-meta.ensures.got tells ∙ ap records c.meta_key.ensures) in
+    let first : c.number-first.result ≡ first_definition records = c.number-first.ensures
+    ∙ ap (λ r. field 4 r format.meta_definition) (c.in_ok-meta.ensures.got tells ∙ ap records c.meta_key.ensures) in
     let read = ap (λ s. s.records) c.in_ok-meta.ensures.state in
-    let none : (ys : List ℕ) → ¬ IsLineIn definition_line (g.R.Reads.state c.get.new.self).records c.args.records c.number-first.result ys = search (rules, c.in_ok-ids.ensures.none tells) in
+    let none : (ys : List ℕ) → ¬ IsLineIn definition_line (g.R.Reads.state c.get.new.self).records c.args.records c.number-first.result ys =
+    search (rules, c.in_ok-ids.ensures.none tells) in
     none xs (subst (λ (l : List ℕ → Type 0). l xs) (sym (same_line records _ _ _ read c.requires.records first)) (line_of_definitions records xs h))
 
 pub returns-then-len-gt-MOST_DEFINITIONS-clause-none : goal.returns-then-len-gt-MOST_DEFINITIONS-clause-none
 returns-then-len-gt-MOST_DEFINITIONS-clause-none g c = λ tells xs h.
     let records = (g.R.Reads.state c.args.space.now).records in
-    let first : c.number-first.result ≡ first_definition records = c.number-first.ensures ∙ ap (λ r. field 4 r format.meta_definition) (c.in_ok-meta.ensures.got tells ∙ ap records c.meta_key.ensures) in
+    let first : c.number-first.result ≡ first_definition records = c.number-first.ensures
+    ∙ ap (λ r. field 4 r format.meta_definition) (c.in_ok-meta.ensures.got tells ∙ ap records c.meta_key.ensures) in
     let read = ap (λ s. s.records) c.in_ok-meta.ensures.state in
     let ids = c.in-Some.ids.items in
-    let found : IsLineIn definition_line (g.R.Reads.state c.get.new.self).records c.args.records c.number-first.result ids = search (rules, c.in_ok-ids.ensures.found tells) in
+    let found : IsLineIn definition_line (g.R.Reads.state c.get.new.self).records c.args.records c.number-first.result ids =
+    search (rules, c.in_ok-ids.ensures.found tells) in
     let len : c.len.result ≡ length ids = search rules in
     let room : high records format.index_file ≤ format.most_ids = omega (arith, c.requires.records, c.requires.low) in
     let same = line_is records room ids xs (subst (λ (l : List ℕ → Type 0). l ids) (same_line records _ _ _ read c.requires.records first) found) h in
@@ -35,10 +39,12 @@ returns-then-len-gt-MOST_DEFINITIONS-clause-none g c = λ tells xs h.
 pub returns-clause-found : goal.returns-clause-found
 returns-clause-found g c = λ tells.
     let records = (g.R.Reads.state c.args.space.now).records in
-    let first : c.number-first.result ≡ first_definition records = c.number-first.ensures ∙ ap (λ r. field 4 r format.meta_definition) (c.in_ok-meta.ensures.got tells ∙ ap records c.meta_key.ensures) in
+    let first : c.number-first.result ≡ first_definition records = c.number-first.ensures
+    ∙ ap (λ r. field 4 r format.meta_definition) (c.in_ok-meta.ensures.got tells ∙ ap records c.meta_key.ensures) in
     let read = ap (λ s. s.records) c.in_ok-meta.ensures.state in
     let ids = c.in-Some.ids.items in
-    let found : IsLineIn definition_line (g.R.Reads.state c.get.new.self).records c.args.records c.number-first.result ids = search (rules, c.in_ok-ids.ensures.found tells) in
+    let found : IsLineIn definition_line (g.R.Reads.state c.get.new.self).records c.args.records c.number-first.result ids =
+    search (rules, c.in_ok-ids.ensures.found tells) in
     let len : c.len.result ≡ length ids = search rules in
     let few : length ids ≤ 16 = omega (arith, c.if-len-gt-MOST_DEFINITIONS.false) in
     let room : high records format.index_file ≤ format.most_ids = omega (arith, c.requires.records, c.requires.low) in

@@ -31,7 +31,8 @@ loop-id-preserved g c =
       are = λ tells.
           c.in-Ok.ensures.items
           ∙ ap (λ xs. xs ++ one ∷ []) (inv.are tells)
-          ∙ ap (λ x. map (definition_at records) (take at ids) ++ x ∷ []) (c.in_ok-definition.ensures.is tells ∙ ap (λ (r : Records). definition_at r id) inv.same)
+          ∙ ap (λ x. map (definition_at records) (take at ids) ++ x ∷ [])
+          (c.in_ok-definition.ensures.is tells ∙ ap (λ (r : Records). definition_at r id) inv.same)
           ∙ sym (map_more (definition_at records) ids at 0 c.loop-id-test.true);
       ids = ap (map (λ (d : Definition). d.id)) c.in-Ok.ensures.items
           ∙ map-append (λ (d : Definition). d.id) c.loop-id.definitions.items (one ∷ [])
@@ -55,7 +56,8 @@ returns-in_err-definition-clause-onward g c =
 
 pub returns-in_err-definition-clause-cause : goal.returns-in_err-definition-clause-cause
 returns-in_err-definition-clause-cause g c =
-    cause_passed _ _ _ c.from_residual.result c.in_err-definition.field-0.0 c.loop-id.invariant.faults c.in_err-definition.ensures.cause c.from_residual.ensures.1
+    cause_passed _ _ _ c.from_residual.result c.in_err-definition.field-0.0 c.loop-id.invariant.faults c.in_err-definition.ensures.cause
+    c.from_residual.ensures.1
 
 pub returns-in_default-clause-onward : goal.returns-in_default-clause-onward
 returns-in_default-clause-onward g c =

@@ -29,7 +29,8 @@ loop-number-preserved g c =
     let d = c.args.definition in
     let n = c.loop-number.number in
     let ids = c.in-Some.ids.items in
-    let items : c.extend_from_slice.new.self.items ≡ c.loop-number.entries.items ++ ids = c.in-Ok.ensures.items ∙ ap (λ xs. c.loop-number.entries.items ++ xs) c.deref.ensures.value in
+    let items : c.extend_from_slice.new.self.items ≡ c.loop-number.entries.items ++ ids = c.in-Ok.ensures.items
+    ∙ ap (λ xs. c.loop-number.entries.items ++ xs) c.deref.ensures.value in
     let mark : c.meta-records.result.high ≡ high records format.index_file = ap (λ (m : Meta). m.high) c.meta-records.ensures in
     let few : All (λ x. x < c.meta-records.result.high) ids = search (rules, c.in_ok-ids.ensures.low) in
     record {
@@ -38,7 +39,8 @@ loop-number-preserved g c =
       are = λ tells.
           let found : IsBucketList (g.R.Reads.state c.loop-number.space).records d n ids = search (rules, c.in_ok-ids.ensures.found tells) in
           subst (AreEntriesTo records d (n + 1)) (sym items) (entries_more records d n c.loop-number.entries.items ids (inv.are tells) (subst (λ (r : Records). IsBucketList r d n ids) inv.same found));
-      low = low_more c.meta-records.result.high format.most_ids c.loop-number.entries.items ids c.extend_from_slice.new.self.items (omega (arith, c.requires.low)) items inv.low few;
+      low = low_more c.meta-records.result.high format.most_ids c.loop-number.entries.items ids c.extend_from_slice.new.self.items
+          (omega (arith, c.requires.low)) items inv.low few;
       onward = g.met.R.Reads.further_onward c.args.space.now c.loop-number.space c.bucket_at.new.space inv.onward c.in_ok-ids.ensures.onward;
       faults = let cause = c.in_ok-ids.ensures.cause in omega (arith, inv.faults, cause.later);
     }

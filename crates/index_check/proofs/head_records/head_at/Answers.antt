@@ -13,17 +13,21 @@ use Rattle.index_check.proofs.head_records.head_at.Goals as goal
 pub returns-then-id-records-clause-none : goal.returns-then-id-records-clause-none
 returns-then-id-records-clause-none g c = λ tells e.
     let records = (g.R.Reads.state c.args.space.now).records in
-    let id : c.number-id.result ≡ heads_of records c.args.definition c.args.number = c.number-id.ensures ∙ ap (λ r. field 4 r (format.definition_heads + 4 * c.args.number)) (c.in_ok-rec.ensures.got tells) in
+    let id : c.number-id.result ≡ heads_of records c.args.definition c.args.number = c.number-id.ensures
+    ∙ ap (λ r. field 4 r (format.definition_heads + 4 * c.args.number)) (c.in_ok-rec.ensures.got tells) in
     let past : high records format.index_file ≤ heads_of records c.args.definition c.args.number = omega arith in
-    let none = kind_high (high records format.index_file) (index_rec records (heads_of records c.args.definition c.args.number)) (heads_of records c.args.definition c.args.number) past in
+    let none = kind_high (high records format.index_file) (index_rec records (heads_of records c.args.definition c.args.number))
+    (heads_of records c.args.definition c.args.number) past in
     let differ : 0 ≡ format.heads = sym none ∙ e in
     omega (arith, differ)
 
 pub returns-then-byte-ne-HEADS-clause-none : goal.returns-then-byte-ne-HEADS-clause-none
 returns-then-byte-ne-HEADS-clause-none g c = λ tells e.
     let records = (g.R.Reads.state c.args.space.now).records in
-    let id : c.number-id.result ≡ heads_of records c.args.definition c.args.number = c.number-id.ensures ∙ ap (λ r. field 4 r (format.definition_heads + 4 * c.args.number)) (c.in_ok-rec.ensures.got tells) in
-    let got : c.in_ok-rec-2.rec ≡ index_rec records c.number-id.result = c.in_ok-rec-2.ensures.got tells ∙ ap (λ (s : State). index_rec s.records c.number-id.result) c.in_ok-rec.ensures.state in
+    let id : c.number-id.result ≡ heads_of records c.args.definition c.args.number = c.number-id.ensures
+    ∙ ap (λ r. field 4 r (format.definition_heads + 4 * c.args.number)) (c.in_ok-rec.ensures.got tells) in
+    let got : c.in_ok-rec-2.rec ≡ index_rec records c.number-id.result = c.in_ok-rec-2.ensures.got tells
+    ∙ ap (λ (s : State). index_rec s.records c.number-id.result) c.in_ok-rec.ensures.state in
     let low : c.number-id.result < high records format.index_file = omega arith in
     let kind = kind_read records format.index_file c.number-id.result c.in_ok-rec-2.rec low got in
     c.if-byte-ne-HEADS.true (c.byte.ensures ∙ sym kind ∙ ap (kind_at records format.index_file) id ∙ e)
@@ -31,8 +35,10 @@ returns-then-byte-ne-HEADS-clause-none g c = λ tells e.
 pub returns-clause-found : goal.returns-clause-found
 returns-clause-found g c = λ tells.
     let records = (g.R.Reads.state c.args.space.now).records in
-    let id : c.number-id.result ≡ heads_of records c.args.definition c.args.number = c.number-id.ensures ∙ ap (λ r. field 4 r (format.definition_heads + 4 * c.args.number)) (c.in_ok-rec.ensures.got tells) in
-    let got : c.in_ok-rec-2.rec ≡ index_rec records c.number-id.result = c.in_ok-rec-2.ensures.got tells ∙ ap (λ (s : State). index_rec s.records c.number-id.result) c.in_ok-rec.ensures.state in
+    let id : c.number-id.result ≡ heads_of records c.args.definition c.args.number = c.number-id.ensures
+    ∙ ap (λ r. field 4 r (format.definition_heads + 4 * c.args.number)) (c.in_ok-rec.ensures.got tells) in
+    let got : c.in_ok-rec-2.rec ≡ index_rec records c.number-id.result = c.in_ok-rec-2.ensures.got tells
+    ∙ ap (λ (s : State). index_rec s.records c.number-id.result) c.in_ok-rec.ensures.state in
     let low : c.number-id.result < high records format.index_file = omega arith in
     let kind = kind_read records format.index_file c.number-id.result c.in_ok-rec-2.rec low got in
     let two : c.byte.result ≡ 2 = search rules in

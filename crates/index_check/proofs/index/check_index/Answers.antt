@@ -22,7 +22,8 @@ returns-in_default-clause-broken g c = λ tells.
     breaks_by records c.broken.result format.index_file d.id c.broken.ensures (lacks_breaks records d (c.requires.given tells) lacks)
 
 -- what was found of the nodes, over records and entries by other names
-nodes_told : (records after : Records) (d : Definition) (xs ys : List ℕ) (e f : Entered) → after ≡ records → xs ≡ ys → e ≡ f → AreNodesOf after d xs e → AreNodesOf records d ys f
+nodes_told : (records after : Records) (d : Definition) (xs ys : List ℕ) (e f : Entered) → after ≡ records → xs ≡ ys → e ≡ f → AreNodesOf after d xs e
+    → AreNodesOf records d ys f
 nodes_told records after d xs ys e f read is what h =
     subst (AreNodesOf records d ys) what (subst (λ zs. AreNodesOf records d zs e) is (subst (λ (r : Records). AreNodesOf r d xs e) read h))
 
@@ -34,7 +35,8 @@ returns-in-Unwanted-clause-broken g c = λ tells.
     let entries = c.in-Some.entries.items in
     let x = c.in-Unwanted.id in
     let are : AreEntriesTo records d.id 180 entries = search (rules, c.in_ok-entries.ensures.found tells) in
-    let told = nodes_told records _ d c.deref.result.now entries c.in_ok-id.field-0 (Unwanted x) c.in_ok-entries.ensures.same c.deref.ensures.value c.in-Unwanted.is (c.in_ok-id.ensures.told tells) in
+    let told = nodes_told records _ d c.deref.result.now entries c.in_ok-id.field-0 (Unwanted x) c.in_ok-entries.ensures.same c.deref.ensures.value
+    c.in-Unwanted.is (c.in_ok-id.ensures.told tells) in
     breaks_by records c.broken-in-Unwanted.result format.index_file x c.broken-in-Unwanted.ensures (unwanted_breaks records d given entries are x told.0 told.1)
 
 pub returns-in-Some-2-clause-broken : goal.returns-in-Some-2-clause-broken
@@ -46,10 +48,13 @@ returns-in-Some-2-clause-broken g c = λ tells.
     let nodes = c.in-Nodes.nodes.items in
     let n = c.in-Some-2.node in
     let are : AreEntriesTo records d.id 180 entries = search (rules, c.in_ok-entries.ensures.found tells) in
-    let told = nodes_told records _ d c.deref.result.now entries c.in_ok-id.field-0 (Nodes c.in-Nodes.nodes) c.in_ok-entries.ensures.same c.deref.ensures.value c.in-Nodes.is (c.in_ok-id.ensures.told tells) in
-    let found : IsWrongNode (g.R.Reads.state c.nodes_of.new.space).records d c.deref-in-Nodes.result.now n = search (rules, c.in_ok-node-in-Nodes.ensures.found tells) in
+    let told = nodes_told records _ d c.deref.result.now entries c.in_ok-id.field-0 (Nodes c.in-Nodes.nodes) c.in_ok-entries.ensures.same c.deref.ensures.value
+    c.in-Nodes.is (c.in_ok-id.ensures.told tells) in
+    let found : IsWrongNode (g.R.Reads.state c.nodes_of.new.space).records d c.deref-in-Nodes.result.now n =
+    search (rules, c.in_ok-node-in-Nodes.ensures.found tells) in
     let wrong : IsWrongNode records d nodes n
-    = subst (λ ns. IsWrongNode records d ns n) c.deref-in-Nodes.ensures.value (subst (λ (r : Records). IsWrongNode r d c.deref-in-Nodes.result.now n) (c.in_ok-id.ensures.same ∙ c.in_ok-entries.ensures.same) found) in
+    = subst (λ ns. IsWrongNode records d ns n) c.deref-in-Nodes.ensures.value
+    (subst (λ (r : Records). IsWrongNode r d c.deref-in-Nodes.result.now n) (c.in_ok-id.ensures.same ∙ c.in_ok-entries.ensures.same) found) in
     breaks_by records c.broken-in-Some-2.result format.nodes_file n c.broken-in-Some-2.ensures (wrong_breaks records d given entries are nodes told.0 n wrong)
 
 pub returns-clause-right : goal.returns-clause-right
@@ -60,10 +65,13 @@ returns-clause-right g c = λ tells.
     let entries = c.in-Some.entries.items in
     let nodes = c.in-Nodes.nodes.items in
     let are : AreEntriesTo records d.id 180 entries = search (rules, c.in_ok-entries.ensures.found tells) in
-    let told = nodes_told records _ d c.deref.result.now entries c.in_ok-id.field-0 (Nodes c.in-Nodes.nodes) c.in_ok-entries.ensures.same c.deref.ensures.value c.in-Nodes.is (c.in_ok-id.ensures.told tells) in
-    let found : AreNodesRight (g.R.Reads.state c.nodes_of.new.space).records d c.deref-in-Nodes.result.now = search (rules, c.in_ok-node-in-Nodes.ensures.none tells) in
+    let told = nodes_told records _ d c.deref.result.now entries c.in_ok-id.field-0 (Nodes c.in-Nodes.nodes) c.in_ok-entries.ensures.same c.deref.ensures.value
+    c.in-Nodes.is (c.in_ok-id.ensures.told tells) in
+    let found : AreNodesRight (g.R.Reads.state c.nodes_of.new.space).records d c.deref-in-Nodes.result.now =
+    search (rules, c.in_ok-node-in-Nodes.ensures.none tells) in
     let right : AreNodesRight records d nodes
-    = subst (λ ns. AreNodesRight records d ns) c.deref-in-Nodes.ensures.value (subst (λ (r : Records). AreNodesRight r d c.deref-in-Nodes.result.now) (c.in_ok-id.ensures.same ∙ c.in_ok-entries.ensures.same) found) in
+    = subst (λ ns. AreNodesRight records d ns) c.deref-in-Nodes.ensures.value
+    (subst (λ (r : Records). AreNodesRight r d c.deref-in-Nodes.result.now) (c.in_ok-id.ensures.same ∙ c.in_ok-entries.ensures.same) found) in
     right_of records d given entries are nodes told.0 told.1 right
 
 pub returns-in_err-id-clause-onward : goal.returns-in_err-id-clause-onward
@@ -140,7 +148,8 @@ returns-in_err-entries-clause-cause g c =
 
 pub returns-in_err-id-clause-sound : goal.returns-in_err-id-clause-sound
 returns-in_err-id-clause-sound g c tells readable =
-    sound_exit c.from_residual-in_err-id.result c.in_err-id.field-0.0 c.from_residual-in_err-id.ensures.1 (c.in_err-id.ensures.sound tells (subst AreReadable (sym (c.in_ok-entries.ensures.same)) readable))
+    sound_exit c.from_residual-in_err-id.result c.in_err-id.field-0.0 c.from_residual-in_err-id.ensures.1
+    (c.in_err-id.ensures.sound tells (subst AreReadable (sym (c.in_ok-entries.ensures.same)) readable))
 
 pub returns-in_err-id-clause-same : goal.returns-in_err-id-clause-same
 returns-in_err-id-clause-same g c = c.in_err-id.ensures.same ∙ c.in_ok-entries.ensures.same
@@ -150,7 +159,8 @@ returns-in_err-id-clause-written g c = c.in_err-id.ensures.written ∙ c.in_ok-e
 
 pub returns-in_err-node-in-Nodes-clause-sound : goal.returns-in_err-node-in-Nodes-clause-sound
 returns-in_err-node-in-Nodes-clause-sound g c tells readable =
-    sound_exit c.from_residual-in_err-node-in-Nodes.result c.in_err-node-in-Nodes.field-0.0 c.from_residual-in_err-node-in-Nodes.ensures.1 (c.in_err-node-in-Nodes.ensures.sound tells (subst AreReadable (sym (c.in_ok-id.ensures.same ∙ c.in_ok-entries.ensures.same)) readable))
+    sound_exit c.from_residual-in_err-node-in-Nodes.result c.in_err-node-in-Nodes.field-0.0 c.from_residual-in_err-node-in-Nodes.ensures.1
+    (c.in_err-node-in-Nodes.ensures.sound tells (subst AreReadable (sym (c.in_ok-id.ensures.same ∙ c.in_ok-entries.ensures.same)) readable))
 
 pub returns-in_err-node-in-Nodes-clause-same : goal.returns-in_err-node-in-Nodes-clause-same
 returns-in_err-node-in-Nodes-clause-same g c = c.in_err-node-in-Nodes.ensures.same ∙ c.in_ok-id.ensures.same ∙ c.in_ok-entries.ensures.same

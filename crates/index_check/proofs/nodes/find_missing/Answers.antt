@@ -16,7 +16,8 @@ use Rattle.rec_bytes.proofs.Causes.{never_ok}
 use Rattle.index_check.proofs.nodes.find_missing.Goals as goal
 
 -- a node that isn't missing is met, if it has a value
-met_of : (records : Records) (d : Definition) (n : ℕ) (met missing : Bool) → missing ≡ false → Decides missing (IsMissing records d n met) → HasValue records d n → met ≡ true
+met_of : (records : Records) (d : Definition) (n : ℕ) (met missing : Bool) → missing ≡ false → Decides missing (IsMissing records d n met)
+    → HasValue records d n → met ≡ true
 met_of records d n met missing none told h = ⊎_elim
     (λ (t : met ≡ true). t)
     (λ (f : met ≡ false). absurd (true≢false (sym (told.1 (record { unmet = f; has = h })) ∙ none)))
@@ -66,14 +67,17 @@ returns-clause-none g c = λ tells n h.
 
 pub returns-in_err-is_missing-clause-sound : goal.returns-in_err-is_missing-clause-sound
 returns-in_err-is_missing-clause-sound g c = λ tells readable.
-    sound_exit c.from_residual.result c.in_err-is_missing.field-0.0 c.from_residual.ensures.1 (c.in_err-is_missing.ensures.sound tells (subst AreReadable (sym c.loop-node.invariant.same) readable))
+    sound_exit c.from_residual.result c.in_err-is_missing.field-0.0 c.from_residual.ensures.1
+    (c.in_err-is_missing.ensures.sound tells (subst AreReadable (sym c.loop-node.invariant.same) readable))
 
 pub returns-in_err-is_missing-clause-cause : goal.returns-in_err-is_missing-clause-cause
 returns-in_err-is_missing-clause-cause g c =
-    cause_passed _ _ _ c.from_residual.result c.in_err-is_missing.field-0.0 c.loop-node.invariant.faults c.in_err-is_missing.ensures.cause c.from_residual.ensures.1
+    cause_passed _ _ _ c.from_residual.result c.in_err-is_missing.field-0.0 c.loop-node.invariant.faults c.in_err-is_missing.ensures.cause
+    c.from_residual.ensures.1
 
 pub returns-in_err-is_missing-clause-onward : goal.returns-in_err-is_missing-clause-onward
-returns-in_err-is_missing-clause-onward g c = g.met.R.Reads.further_onward c.args.space.now c.loop-node.space c.is_missing.new.space c.loop-node.invariant.onward c.in_err-is_missing.ensures.onward
+returns-in_err-is_missing-clause-onward g c = g.met.R.Reads.further_onward c.args.space.now c.loop-node.space c.is_missing.new.space
+    c.loop-node.invariant.onward c.in_err-is_missing.ensures.onward
 
 pub returns-in_err-is_missing-clause-same : goal.returns-in_err-is_missing-clause-same
 returns-in_err-is_missing-clause-same g c = c.in_err-is_missing.ensures.same ∙ c.loop-node.invariant.same

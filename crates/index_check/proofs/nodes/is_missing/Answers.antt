@@ -13,7 +13,8 @@ use Rattle.index_check.proofs.SoundExits.{sound_exit}
 use Rattle.index_check.proofs.nodes.is_missing.Goals as goal
 
 -- a value that was read, or none
-decided : (records : Records) (d : Definition) (n : ℕ) (met : Bool) (o : Option Value) → met ≡ false → o ≡ node_value records d.label d.key n → Decides (is_some o) (IsMissing records d n met)
+decided : (records : Records) (d : Definition) (n : ℕ) (met : Bool) (o : Option Value) → met ≡ false → o ≡ node_value records d.label d.key n
+    → Decides (is_some o) (IsMissing records d n met)
 decided records d n met None unmet is = ((λ e. absurd (true≢false (sym e))), (λ h. absurd (let none : None ≡ Some h.has.value = is ∙ h.has.is in cc)))
 decided records d n met (Some v) unmet is = ((λ _. record { unmet = unmet; has = record { value = v; is = sym is } }), (λ _. refl))
 
@@ -24,7 +25,8 @@ pub returns-clause-told : goal.returns-clause-told
 returns-clause-told g c = λ tells.
     let records = (g.R.Reads.state c.args.space.now).records in
     let unmet : c.args.met ≡ false = c.if-met.false in
-    subst (λ b. Decides b (IsMissing records c.args.definition.now c.args.node c.args.met)) (sym c.is_some.ensures) (decided records c.args.definition.now c.args.node c.args.met c.in_ok-value.value unmet (c.in_ok-value.ensures.is tells))
+    subst (λ b. Decides b (IsMissing records c.args.definition.now c.args.node c.args.met)) (sym c.is_some.ensures)
+    (decided records c.args.definition.now c.args.node c.args.met c.in_ok-value.value unmet (c.in_ok-value.ensures.is tells))
 
 pub returns-in_err-value-clause-told : goal.returns-in_err-value-clause-told
 returns-in_err-value-clause-told g c _ = never_ok c.from_residual.result _ _ c.from_residual.ensures.1

@@ -27,7 +27,8 @@ loop-number-preserved c =
     let i = c.loop-number.number-index in
     let n = get_or numbers i 0 in
     record {
-      told = λ p. marked_more c.loop-number.marks n p (let low = c.requires.low i 0 c.loop-number-test.true in omega (arith, low, c.loop-number.auto.marks)) ∙ ap (λ b. nat_eq p n || b) (c.loop-number.invariant.told p) ∙ sym (among_more numbers i p c.loop-number-test.true);
+      told = λ p. marked_more c.loop-number.marks n p (let low = c.requires.low i 0 c.loop-number-test.true in omega (arith, low, c.loop-number.auto.marks))
+          ∙ ap (λ b. nat_eq p n || b) (c.loop-number.invariant.told p) ∙ sym (among_more numbers i p c.loop-number-test.true);
       once = once_more numbers i c.loop-number-test.true c.loop-number.invariant.once (sym (c.loop-number.invariant.told n) ∙ c.if-marks-number.false);
     }
 

@@ -16,7 +16,8 @@ use Rattle.index_check.specs.Values.{AreReadable}
 use Rattle.index_check.proofs.nodes.node_of.Goals as goal
 
 -- what was tested is whether the entry is wanted
-tested : (records after : Records) (d : Definition) (x n hash : ℕ) (value : Option Value) → after ≡ records → n ≡ entry_node records x → hash ≡ entry_hash records x
+tested : (records after : Records) (d : Definition) (x n hash : ℕ) (value : Option Value) → after ≡ records → n ≡ entry_node records x
+    → hash ≡ entry_hash records x
     → value ≡ node_value after d.label d.key n → has_hash hash value ≡ wanted_in records (said_by records d x)
 tested records after d x n hash value read node same is =
     ap (has_hash hash) is ∙ (λ i. has_hash (same i) (node_value (read i) d.label d.key (node i)))
@@ -28,7 +29,8 @@ returns-then-has_hash-clause-wanted g c = λ tells.
     let got = c.in_ok-rec.ensures.got tells in
     let node : c.number-node.result ≡ entry_node records x = c.number-node.ensures ∙ ap (λ (r : Rec). field 4 r format.indexed_node) got in
     let hash : c.wide.result ≡ entry_hash records x = c.wide.ensures ∙ ap (λ (r : Rec). field 8 r format.indexed_hash) got in
-    let test = tested records _ c.args.definition.now x c.number-node.result c.wide.result c.in_ok-value.value (ap (λ (s : State). s.records) c.in_ok-rec.ensures.state) node hash (c.in_ok-value.ensures.is tells) in
+    let test = tested records _ c.args.definition.now x c.number-node.result c.wide.result c.in_ok-value.value
+    (ap (λ (s : State). s.records) c.in_ok-rec.ensures.state) node hash (c.in_ok-value.ensures.is tells) in
     record { is = node; wanted = sym test ∙ sym c.has_hash.ensures ∙ c.if-has_hash.true }
 
 pub returns-clause-unwanted : goal.returns-clause-unwanted
@@ -38,12 +40,14 @@ returns-clause-unwanted g c = λ tells.
     let got = c.in_ok-rec.ensures.got tells in
     let node : c.number-node.result ≡ entry_node records x = c.number-node.ensures ∙ ap (λ (r : Rec). field 4 r format.indexed_node) got in
     let hash : c.wide.result ≡ entry_hash records x = c.wide.ensures ∙ ap (λ (r : Rec). field 8 r format.indexed_hash) got in
-    let test = tested records _ c.args.definition.now x c.number-node.result c.wide.result c.in_ok-value.value (ap (λ (s : State). s.records) c.in_ok-rec.ensures.state) node hash (c.in_ok-value.ensures.is tells) in
+    let test = tested records _ c.args.definition.now x c.number-node.result c.wide.result c.in_ok-value.value
+    (ap (λ (s : State). s.records) c.in_ok-rec.ensures.state) node hash (c.in_ok-value.ensures.is tells) in
     sym test ∙ sym c.has_hash.ensures ∙ c.if-has_hash.false
 
 pub returns-in_err-value-clause-cause : goal.returns-in_err-value-clause-cause
 returns-in_err-value-clause-cause g c =
-    cause_passed _ _ _ c.from_residual-in_err-value.result c.in_err-value.field-0.0 c.in_ok-rec.ensures.cause.later c.in_err-value.ensures.cause c.from_residual-in_err-value.ensures.1
+    cause_passed _ _ _ c.from_residual-in_err-value.result c.in_err-value.field-0.0 c.in_ok-rec.ensures.cause.later c.in_err-value.ensures.cause
+    c.from_residual-in_err-value.ensures.1
 
 pub returns-in_err-rec-clause-cause : goal.returns-in_err-rec-clause-cause
 returns-in_err-rec-clause-cause g c =
@@ -92,7 +96,8 @@ returns-in_err-rec-clause-written g c = ap (λ (s : State). s.written) c.in_err-
 
 pub returns-in_err-value-clause-sound : goal.returns-in_err-value-clause-sound
 returns-in_err-value-clause-sound g c tells readable =
-    sound_exit c.from_residual-in_err-value.result c.in_err-value.field-0.0 c.from_residual-in_err-value.ensures.1 (c.in_err-value.ensures.sound tells (subst AreReadable (sym (ap (λ (s : State). s.records) c.in_ok-rec.ensures.state)) readable))
+    sound_exit c.from_residual-in_err-value.result c.in_err-value.field-0.0 c.from_residual-in_err-value.ensures.1
+    (c.in_err-value.ensures.sound tells (subst AreReadable (sym (ap (λ (s : State). s.records) c.in_ok-rec.ensures.state)) readable))
 
 pub returns-in_err-value-clause-same : goal.returns-in_err-value-clause-same
 returns-in_err-value-clause-same g c = c.in_err-value.ensures.same ∙ ap (λ (s : State). s.records) c.in_ok-rec.ensures.state

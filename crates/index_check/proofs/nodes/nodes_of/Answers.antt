@@ -1,4 +1,5 @@
-use Rattle.std.proofs.Common.{rules, arith, ◌≡◌, ◌<◌, ◌+◌, ◌∙◌, ◌++◌, ◌∷◌, [], ℕ, zero, suc, List, true, false, length, map, take, get_or, ap, sym, subst, refl, ⊎_elim}
+use Rattle.std.proofs.Common.{rules, arith, ◌≡◌, ◌<◌, ◌+◌, ◌∙◌, ◌++◌, ◌∷◌, [], ℕ, zero, suc, List, true, false, length}
+use Rattle.std.proofs.Common.{map, take, get_or, ap, sym, subst, refl, ⊎_elim}
 use Rattle.std.specs.List.{All}
 use Rattle.std.proofs.lemmas.List.{map_more, take_all, take_more}
 use Rattle.std.proofs.lemmas.List.Elements.{All-append}
@@ -17,7 +18,8 @@ use Rattle.prop_store.proofs.Exits.{same_has}
 use Rattle.index_check.proofs.nodes.nodes_of.Goals as goal
 
 -- what holds of the first ones, and of the next
-one_more_in : (P : ℕ → Type 0) (xs : List ℕ) (i : ℕ) → i < length xs → ((x : ℕ) → In x (take i xs) → P x) → P (get_or xs i 0) → (x : ℕ) → In x (take (i + 1) xs) → P x
+one_more_in : (P : ℕ → Type 0) (xs : List ℕ) (i : ℕ) → i < length xs → ((x : ℕ) → In x (take i xs) → P x) → P (get_or xs i 0) → (x : ℕ) → In x (take (i + 1) xs)
+    → P x
 one_more_in P xs i lt before here x m = ⊎_elim
     (λ (k : In x (take i xs)). before x k)
     (λ (k : In x (get_or xs i 0 ∷ [])). ⊎_elim (λ (e : x ≡ get_or xs i 0). subst P (sym e) here) (λ none. elim none [ ]) k)
@@ -60,8 +62,10 @@ loop-id-preserved g c =
           ∙ ap (λ xs. xs ++ node ∷ []) (inv.nodes tells)
           ∙ ap (λ y. map (entry_node records) (take i entries) ++ y ∷ []) (wanted tells).is
           ∙ sym (map_more (entry_node records) entries i 0 c.loop-id-test.true);
-      wanted = λ tells. one_more_in (λ y. wanted_in records (said_by records d y) ≡ true) entries i c.loop-id-test.true (inv.wanted tells) (wanted tells).wanted;
-      low = subst (All (λ n. n < high records format.nodes_file)) (sym items) (All-append (λ n. n < high records format.nodes_file) c.loop-id.nodes.items (node ∷ []) inv.low (one_low node (high records format.nodes_file) (subst (λ (r : Records). node < high r format.nodes_file) inv.same below)));
+      wanted = λ tells. one_more_in (λ y. wanted_in records (said_by records d y) ≡ true) entries i c.loop-id-test.true (inv.wanted tells)
+          (wanted tells).wanted;
+      low = subst (All (λ n. n < high records format.nodes_file)) (sym items)
+          (All-append (λ n. n < high records format.nodes_file) c.loop-id.nodes.items (node ∷ []) inv.low (one_low node (high records format.nodes_file) (subst (λ (r : Records). node < high r format.nodes_file) inv.same below)));
       onward = g.met.R.Reads.further_onward c.args.space.now c.loop-id.space c.node_of.new.space inv.onward c.in_ok-node.ensures.onward;
       faults = let cause = c.in_ok-node.ensures.cause in omega (arith, inv.faults, cause.later);
     }
@@ -73,7 +77,8 @@ returns-in-None-clause-told g c = λ tells.
     let i = c.loop-id.id-index in
     let x = get_or entries i 0 in
     let d = c.args.definition.now in
-    let no : wanted_in (g.R.Reads.state c.loop-id.space).records (said_by (g.R.Reads.state c.loop-id.space).records d x) ≡ false = search (rules, c.in_ok-node.ensures.unwanted tells) in
+    let no : wanted_in (g.R.Reads.state c.loop-id.space).records (said_by (g.R.Reads.state c.loop-id.space).records d x) ≡ false =
+    search (rules, c.in_ok-node.ensures.unwanted tells) in
     (in_place entries i c.loop-id-test.true, subst (λ (r : Records). wanted_in r (said_by r d x) ≡ false) c.loop-id.invariant.same no)
 
 pub returns-clause-told : goal.returns-clause-told
@@ -101,7 +106,8 @@ returns-in_err-node-clause-cause g c =
 
 pub returns-in_err-node-clause-sound : goal.returns-in_err-node-clause-sound
 returns-in_err-node-clause-sound g c = λ tells readable.
-    sound_exit c.from_residual.result c.in_err-node.field-0.0 c.from_residual.ensures.1 (c.in_err-node.ensures.sound tells (subst AreReadable (sym c.loop-id.invariant.same) readable))
+    sound_exit c.from_residual.result c.in_err-node.field-0.0 c.from_residual.ensures.1
+    (c.in_err-node.ensures.sound tells (subst AreReadable (sym c.loop-id.invariant.same) readable))
 
 pub returns-in_err-push-in-Some-clause-onward : goal.returns-in_err-push-in-Some-clause-onward
 returns-in_err-push-in-Some-clause-onward g c =

@@ -60,13 +60,15 @@ pub returns-clause-same : goal.returns-clause-same
 returns-clause-same g c = reads_records 54 _ _ c.in_ok-value.ensures.at_most ∙ ap (λ (s : State). s.records) c.in_ok-rec.ensures.state
 
 pub returns-clause-written : goal.returns-clause-written
-returns-clause-written g c = ap (λ (s : State). s.written) (reads_same 54 _ _ c.in_ok-value.ensures.at_most) ∙ ap (λ (s : State). s.written) c.in_ok-rec.ensures.state
+returns-clause-written g c = ap (λ (s : State). s.written) (reads_same 54 _ _ c.in_ok-value.ensures.at_most)
+    ∙ ap (λ (s : State). s.written) c.in_ok-rec.ensures.state
 
 pub returns-in_err-value-clause-same : goal.returns-in_err-value-clause-same
 returns-in_err-value-clause-same g c = reads_records 54 _ _ c.in_err-value.ensures.at_most ∙ ap (λ (s : State). s.records) c.in_ok-rec.ensures.state
 
 pub returns-in_err-value-clause-written : goal.returns-in_err-value-clause-written
-returns-in_err-value-clause-written g c = ap (λ (s : State). s.written) (reads_same 54 _ _ c.in_err-value.ensures.at_most) ∙ ap (λ (s : State). s.written) c.in_ok-rec.ensures.state
+returns-in_err-value-clause-written g c = ap (λ (s : State). s.written) (reads_same 54 _ _ c.in_err-value.ensures.at_most)
+    ∙ ap (λ (s : State). s.written) c.in_ok-rec.ensures.state
 
 pub returns-in_err-value-clause-sound : goal.returns-in_err-value-clause-sound
 returns-in_err-value-clause-sound g c = λ tells readable.
@@ -80,7 +82,8 @@ returns-in_err-value-clause-sound g c = λ tells readable.
 
 pub returns-in_err-value-clause-cause : goal.returns-in_err-value-clause-cause
 returns-in_err-value-clause-cause g c =
-    cause_passed _ _ _ c.from_residual-in_err-value.result c.in_err-value.field-0.0 c.in_ok-rec.ensures.cause.later c.in_err-value.ensures.cause c.from_residual-in_err-value.ensures.1
+    cause_passed _ _ _ c.from_residual-in_err-value.result c.in_err-value.field-0.0 c.in_ok-rec.ensures.cause.later c.in_err-value.ensures.cause
+    c.from_residual-in_err-value.ensures.1
 
 pub returns-in_err-rec-clause-cause : goal.returns-in_err-rec-clause-cause
 returns-in_err-rec-clause-cause g c =

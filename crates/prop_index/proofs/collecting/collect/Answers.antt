@@ -24,16 +24,19 @@ returns-in_err-hash-clause-refused g c tells readable =
     let s = g.R.Reads.state c.args.space.now in
     let now = g.R.Reads.state c.loop-node.space in
     let same = c.loop-node.invariant.same in
-    let low : c.loop-node.node < high now.records format.nodes_file = subst (λ (r : Records). c.loop-node.node < high r format.nodes_file) (sym (same_records s now same))
+    let low : c.loop-node.node < high now.records format.nodes_file = subst (λ (r : Records). c.loop-node.node < high r format.nodes_file)
+    (sym (same_records s now same))
     (let end = c.loop-node.invariant.end in let test = c.loop-node-test.true in omega (arith, end, test)) in
     collect_exit s.records c.args.label c.args.key c.from_residual.result c.hash_at.result c.in_err-hash.field-0.0 c.in_err-hash.was c.from_residual.ensures.1
     (c.hash_at.ensures.sound tells low (readable_after s now same readable))
 
 pub returns-in_err-hash-clause-same : goal.returns-in_err-hash-clause-same
-returns-in_err-hash-clause-same g c = same_then (g.R.Reads.state c.args.space.now) (g.R.Reads.state c.loop-node.space) (g.R.Reads.state c.hash_at.new.space) c.loop-node.invariant.same (reads_same 56 (g.R.Reads.state c.loop-node.space) (g.R.Reads.state c.hash_at.new.space) c.hash_at.ensures.at_most)
+returns-in_err-hash-clause-same g c = same_then (g.R.Reads.state c.args.space.now) (g.R.Reads.state c.loop-node.space) (g.R.Reads.state c.hash_at.new.space)
+    c.loop-node.invariant.same (reads_same 56 (g.R.Reads.state c.loop-node.space) (g.R.Reads.state c.hash_at.new.space) c.hash_at.ensures.at_most)
 
 pub returns-in_err-push-clause-same : goal.returns-in_err-push-clause-same
-returns-in_err-push-clause-same g c = same_then (g.R.Reads.state c.args.space.now) (g.R.Reads.state c.loop-node.space) (g.R.Reads.state c.hash_at.new.space) c.loop-node.invariant.same (reads_same 56 (g.R.Reads.state c.loop-node.space) (g.R.Reads.state c.hash_at.new.space) c.hash_at.ensures.at_most)
+returns-in_err-push-clause-same g c = same_then (g.R.Reads.state c.args.space.now) (g.R.Reads.state c.loop-node.space) (g.R.Reads.state c.hash_at.new.space)
+    c.loop-node.invariant.same (reads_same 56 (g.R.Reads.state c.loop-node.space) (g.R.Reads.state c.hash_at.new.space) c.hash_at.ensures.at_most)
 
 pub loop-node-preserved : goal.loop-node-preserved
 loop-node-preserved g c =
@@ -43,25 +46,31 @@ loop-node-preserved g c =
     let n = c.loop-node.node in
     let label = c.args.label in
     let key = c.args.key in
-    let same : SameButReads s (g.R.Reads.state c.hash_at.new.space) = same_then s now (g.R.Reads.state c.hash_at.new.space) old.same (reads_same 56 now (g.R.Reads.state c.hash_at.new.space) c.hash_at.ensures.at_most) in
+    let same : SameButReads s (g.R.Reads.state c.hash_at.new.space) = same_then s now (g.R.Reads.state c.hash_at.new.space) old.same
+    (reads_same 56 now (g.R.Reads.state c.hash_at.new.space) c.hash_at.ensures.at_most) in
     let onward = g.met.R.Reads.further_onward _ _ _ old.onward c.in_ok-hash.ensures.onward in
-    let later : g.R.Reads.faults c.args.space.now ≤ g.R.Reads.faults c.hash_at.new.space = let a = old.later in let b = c.in_ok-hash.ensures.cause.later in omega (arith, a, b) in
+    let later : g.R.Reads.faults c.args.space.now ≤ g.R.Reads.faults c.hash_at.new.space = let a = old.later in let b = c.in_ok-hash.ensures.cause.later in
+    omega (arith, a, b) in
     let low : n < high now.records format.nodes_file = subst (λ (r : Records). n < high r format.nodes_file) (sym (same_records s now old.same))
     (let end = old.end in let test = c.loop-node-test.true in omega (arith, end, test)) in
-    let read : g.R.Reads.tells → c.in_ok-hash.field-0 ≡ hash_at s.records label key n = λ tells. c.in_ok-hash.ensures.found tells low ∙ ap (λ (r : Records). hash_at r label key n) (same_records s now old.same) in
+    let read : g.R.Reads.tells → c.in_ok-hash.field-0 ≡ hash_at s.records label key n = λ tells. c.in_ok-hash.ensures.found tells low
+    ∙ ap (λ (r : Records). hash_at r label key n) (same_records s now old.same) in
     elim c.match-branch-2.branch [
       | in-Some w ↦
           let hash = w.in-Some.hash in
           let is : g.R.Reads.tells → hash_at s.records label key n ≡ Some hash = λ tells. sym (read tells) ∙ w.in-Some.is in
-          let more : g.R.Reads.tells → length (contents_in s.records label key (n + 1)) ≡ length (contents_in s.records label key n) + 1 = λ tells. length-contents-more s.records label key n hash (is tells) in
+          let more : g.R.Reads.tells → length (contents_in s.records label key (n + 1)) ≡ length (contents_in s.records label key n) + 1 = λ tells.
+          length-contents-more s.records label key n hash (is tells) in
           elim w.if-count-lt-MOST_ENTRIES.branch [
             | then-count-lt-MOST_ENTRIES+in_ok-push u ↦
                 let items = ap (λ v. v.items) (w.contents-is ∙ u.contents-is) ∙ u.in_ok-push.ensures.pushed in
-                let longer : length c.match-branch-2.contents.items ≡ length c.loop-node.contents.items + 1 = ap length items ∙ length-append c.loop-node.contents.items _ in
+                let longer : length c.match-branch-2.contents.items ≡ length c.loop-node.contents.items + 1 = ap length items
+                ∙ length-append c.loop-node.contents.items _ in
                 let test = u.if-count-lt-MOST_ENTRIES.true in
                 record {
                   counted = λ tells. w.count-is ∙ ap (λ k. k + 1) (old.counted tells) ∙ sym (more tells);
-                  found = λ tells few. items ∙ ap (λ xs. xs ++ record { node = n; hash = hash } ∷ []) (old.found tells (omega (arith, test))) ∙ sym (contents-more s.records label key n hash (is tells));
+                  found = λ tells few. items ∙ ap (λ xs. xs ++ record { node = n; hash = hash } ∷ []) (old.found tells (omega (arith, test)))
+                      ∙ sym (contents-more s.records label key n hash (is tells));
                   few = omega (arith, longer, test, old.no_more);
                   no_more = omega (arith, longer, w.count-is, old.no_more);
                   under = omega (arith, w.count-is, old.under);
@@ -86,7 +95,8 @@ loop-node-preserved g c =
                 }
           ]
       | in_default w ↦
-          let none : g.R.Reads.tells → contents_in s.records label key (n + 1) ≡ contents_in s.records label key n = λ tells. contents-skip s.records label key n (sym (read tells) ∙ w.in_default.is) in
+          let none : g.R.Reads.tells → contents_in s.records label key (n + 1) ≡ contents_in s.records label key n = λ tells.
+          contents-skip s.records label key n (sym (read tells) ∙ w.in_default.is) in
           let items = ap (λ v. v.items) w.contents-is in
           record {
             counted = λ tells. w.count-is ∙ old.counted tells ∙ sym (ap length (none tells));
@@ -118,7 +128,8 @@ returns-in_err-hash-clause-damaged g c tells =
     let s = g.R.Reads.state c.args.space.now in
     let now = g.R.Reads.state c.loop-node.space in
     let same = c.loop-node.invariant.same in
-    let low : c.loop-node.node < high now.records format.nodes_file = subst (λ (r : Records). c.loop-node.node < high r format.nodes_file) (sym (same_records s now same))
+    let low : c.loop-node.node < high now.records format.nodes_file = subst (λ (r : Records). c.loop-node.node < high r format.nodes_file)
+    (sym (same_records s now same))
     (let end = c.loop-node.invariant.end in let test = c.loop-node-test.true in omega (arith, end, test)) in
     let p = err_from_is_err_and c.from_residual.result c.from_residual.ensures.1 in
     rw (p.1, p.2) (read_make s.records s.shape c.in_err-hash.field-0.0 (blames_before s now c.in_err-hash.field-0.0 same (c.in_err-hash.ensures.damaged tells low)))
@@ -173,13 +184,15 @@ returns-then-count-gt-MOST_ENTRIES-clause-cause g c = make_other_cause _ _ _ c.l
 pub returns-then-count-gt-MOST_ENTRIES-clause-caused : goal.returns-then-count-gt-MOST_ENTRIES-clause-caused
 returns-then-count-gt-MOST_ENTRIES-clause-caused g c tells =
     let s = g.R.Reads.state c.args.space.now in
-    let at : c.loop-node.node ≡ high s.records format.nodes_file = omega (arith, c.loop-node.invariant.end, c.loop-node.auto.node-end, c.loop-node-test.false) in
+    let at : c.loop-node.node ≡ high s.records format.nodes_file = omega
+    (arith, c.loop-node.invariant.end, c.loop-node.auto.node-end, c.loop-node-test.false) in
     (subst (λ n. c.loop-node.count ≡ length (contents_in s.records c.args.label c.args.key n)) at (c.loop-node.invariant.counted tells), c.if-count-gt-MOST_ENTRIES.true)
 
 pub returns-then-count-gt-MOST_ENTRIES-clause-refused : goal.returns-then-count-gt-MOST_ENTRIES-clause-refused
 returns-then-count-gt-MOST_ENTRIES-clause-refused g c tells readable =
     let s = g.R.Reads.state c.args.space.now in
-    let at : c.loop-node.node ≡ high s.records format.nodes_file = omega (arith, c.loop-node.invariant.end, c.loop-node.auto.node-end, c.loop-node-test.false) in
+    let at : c.loop-node.node ≡ high s.records format.nodes_file = omega
+    (arith, c.loop-node.invariant.end, c.loop-node.auto.node-end, c.loop-node-test.false) in
     (subst (λ n. c.loop-node.count ≡ length (contents_in s.records c.args.label c.args.key n)) at (c.loop-node.invariant.counted tells), c.if-count-gt-MOST_ENTRIES.true)
 
 pub returns-then-count-gt-MOST_ENTRIES-clause-same : goal.returns-then-count-gt-MOST_ENTRIES-clause-same
@@ -191,7 +204,8 @@ returns-then-count-gt-MOST_ENTRIES-clause-onward g c = c.loop-node.invariant.onw
 pub returns-clause-found : goal.returns-clause-found
 returns-clause-found g c tells =
     let s = g.R.Reads.state c.args.space.now in
-    let at : c.loop-node.node ≡ high s.records format.nodes_file = omega (arith, c.loop-node.invariant.end, c.loop-node.auto.node-end, c.loop-node-test.false) in
+    let at : c.loop-node.node ≡ high s.records format.nodes_file = omega
+    (arith, c.loop-node.invariant.end, c.loop-node.auto.node-end, c.loop-node-test.false) in
     subst (λ n. c.loop-node.contents.items ≡ contents_in s.records c.args.label c.args.key n) at
     (c.loop-node.invariant.found tells c.if-count-gt-MOST_ENTRIES.false)
 

@@ -28,7 +28,8 @@ use Rattle.prop_index.proofs.collecting.hash_at.Goals as goal
 pub returns-clause-found : goal.returns-clause-found
 returns-clause-found g c tells low =
     let s = (g.R.Reads.state c.args.space.now).records in
-    let rec_is : c.get_into.new.rec ≡ rec_at s format.nodes_file c.args.node = c.in_ok-get_into.ensures.got tells ∙ ap (λ (o : Owner). s o.key) c.in_ok-owner.ensures.is in
+    let rec_is : c.get_into.new.rec ≡ rec_at s format.nodes_file c.args.node = c.in_ok-get_into.ensures.got tells
+    ∙ ap (λ (o : Owner). s o.key) c.in_ok-owner.ensures.is in
     sym (hash_at-none s c.args.label c.args.key c.args.node low (λ used is.
     true≢false (sym (c.is_labelled.ensures.1 (subst (λ (r : Rec). field 1 r format.kind ≡ format.free_kind → ⊥) (sym rec_is) used, ap (λ (r : Rec). field 4 r format.node_label) rec_is ∙ is)) ∙ c.if-is_labelled.false)))
 
@@ -39,19 +40,24 @@ on_if (Err e) f p = tt
 pub returns-then-is_labelled-clause-found : goal.returns-then-is_labelled-clause-found
 returns-then-is_labelled-clause-found g c tells low =
     let s = (g.R.Reads.state c.args.space.now).records in
-    let rec_is : c.get_into.new.rec ≡ rec_at s format.nodes_file c.args.node = c.in_ok-get_into.ensures.got tells ∙ ap (λ (o : Owner). s o.key) c.in_ok-owner.ensures.is in
+    let rec_is : c.get_into.new.rec ≡ rec_at s format.nodes_file c.args.node = c.in_ok-get_into.ensures.got tells
+    ∙ ap (λ (o : Owner). s o.key) c.in_ok-owner.ensures.is in
     let gone : (g.R.Reads.state c.get_into.new.self).records ≡ s = ap (λ (z : State). z.records) c.get_into.ensures.state in
     let both = c.is_labelled.ensures.0 c.if-is_labelled.true in
-    let is = hash_at-labelled s c.args.label c.args.key c.args.node low (subst (λ (r : Rec). field 1 r format.kind ≡ format.free_kind → ⊥) rec_is both.0) (sym (ap (λ (r : Rec). field 4 r format.node_label) rec_is) ∙ both.1) in
-    on_if c.value_hash.result (λ h e. e ∙ (λ i. option_map hash_of (value_of (properties_met (gone i) (c.in_ok-owner.ensures.is i)) c.args.key)) ∙ sym is) (c.value_hash.ensures.met tells)
+    let is = hash_at-labelled s c.args.label c.args.key c.args.node low (subst (λ (r : Rec). field 1 r format.kind ≡ format.free_kind → ⊥) rec_is both.0)
+    (sym (ap (λ (r : Rec). field 4 r format.node_label) rec_is) ∙ both.1) in
+    on_if c.value_hash.result (λ h e. e ∙ (λ i. option_map hash_of (value_of (properties_met (gone i) (c.in_ok-owner.ensures.is i)) c.args.key)) ∙ sym is)
+    (c.value_hash.ensures.met tells)
 
 pub returns-then-is_labelled-clause-sound : goal.returns-then-is_labelled-clause-sound
 returns-then-is_labelled-clause-sound g c tells low readable =
     let s = (g.R.Reads.state c.args.space.now).records in
-    let rec_is : c.get_into.new.rec ≡ rec_at s format.nodes_file c.args.node = c.in_ok-get_into.ensures.got tells ∙ ap (λ (o : Owner). s o.key) c.in_ok-owner.ensures.is in
+    let rec_is : c.get_into.new.rec ≡ rec_at s format.nodes_file c.args.node = c.in_ok-get_into.ensures.got tells
+    ∙ ap (λ (o : Owner). s o.key) c.in_ok-owner.ensures.is in
     let gone : (g.R.Reads.state c.get_into.new.self).records ≡ s = ap (λ (z : State). z.records) c.get_into.ensures.state in
     let both = c.is_labelled.ensures.0 c.if-is_labelled.true in
-    let used : kind_at s format.nodes_file c.args.node ≡ format.free_kind → ⊥ = λ e. both.0 (ap (λ (r : Rec). field 1 r format.kind) rec_is ∙ sym (kind_low (high s format.nodes_file) (rec_at s format.nodes_file c.args.node) c.args.node low) ∙ e) in
+    let used : kind_at s format.nodes_file c.args.node ≡ format.free_kind
+    → ⊥ = λ e. both.0 (ap (λ (r : Rec). field 1 r format.kind) rec_is ∙ sym (kind_low (high s format.nodes_file) (rec_at s format.nodes_file c.args.node) c.args.node low) ∙ e) in
     let listed = readable.each c.args.node used in
     c.value_hash.ensures.sound tells listed.properties (subst (λ (o : Owner). HasProperties (g.R.Reads.state c.get_into.new.self).records o listed.properties) (sym c.in_ok-owner.ensures.is)
     (subst (λ (r : Records). HasProperties r (node_owner c.args.node) listed.properties) (sym gone) listed.has))
@@ -71,7 +77,8 @@ returns-then-is_labelled-clause-at_most g c = reads_after 55 56 _ _ _ (omega ari
 pub returns-in_err-owner-clause-damaged : goal.returns-in_err-owner-clause-damaged
 returns-in_err-owner-clause-damaged g c tells low =
     let s = g.R.Reads.state c.args.space.now in
-    same_has (BlamesBroken s.records s.shape) c.from_residual.result (Damaged c.in_err-owner.field-0.0) c.from_residual.ensures.1 (owner_blames s c.args.node _ c.in_err-owner.field-0.0 low c.in_err-owner.ensures.damaged)
+    same_has (BlamesBroken s.records s.shape) c.from_residual.result (Damaged c.in_err-owner.field-0.0) c.from_residual.ensures.1
+    (owner_blames s c.args.node _ c.in_err-owner.field-0.0 low c.in_err-owner.ensures.damaged)
 
 pub returns-in_err-get_into-clause-damaged : goal.returns-in_err-get_into-clause-damaged
 returns-in_err-get_into-clause-damaged g c tells low =
@@ -84,10 +91,12 @@ returns-then-is_labelled-clause-damaged g c tells low =
     let t = g.R.Reads.state c.args.space.now in
     let now = g.R.Reads.state c.get_into.new.self in
     let s = t.records in
-    let rec_is : c.get_into.new.rec ≡ rec_at s format.nodes_file c.args.node = c.in_ok-get_into.ensures.got tells ∙ ap (λ (o : Owner). s o.key) c.in_ok-owner.ensures.is in
+    let rec_is : c.get_into.new.rec ≡ rec_at s format.nodes_file c.args.node = c.in_ok-get_into.ensures.got tells
+    ∙ ap (λ (o : Owner). s o.key) c.in_ok-owner.ensures.is in
     let gone : now.records ≡ s = ap (λ (z : State). z.records) c.get_into.ensures.state in
     let both = c.is_labelled.ensures.0 c.if-is_labelled.true in
-    let used : kind_at s format.nodes_file c.args.node ≡ format.free_kind → ⊥ = λ e. both.0 (ap (λ (r : Rec). field 1 r format.kind) rec_is ∙ sym (kind_low (high s format.nodes_file) (rec_at s format.nodes_file c.args.node) c.args.node low) ∙ e) in
+    let used : kind_at s format.nodes_file c.args.node ≡ format.free_kind
+    → ⊥ = λ e. both.0 (ap (λ (r : Rec). field 1 r format.kind) rec_is ∙ sym (kind_low (high s format.nodes_file) (rec_at s format.nodes_file c.args.node) c.args.node low) ∙ e) in
     if_err c.value_hash.result (λ fault is. blames_before t now fault (reads_same 1 t now (reads_one 1 t now (omega arith) c.get_into.ensures.state)) is)
     (c.value_hash.ensures.damaged tells (subst (λ (o : Owner). IsInUse now.records o) (sym c.in_ok-owner.ensures.is) (subst (λ (r : Records). IsInUse r (node_owner c.args.node)) (sym gone) used)))
 

@@ -28,7 +28,8 @@ returns-in_err-id-clause-touches g c =
     let n = c.loop-number.number in
     let few = length-head_ids n c.loop-number.rec in
     let test = c.loop-number-test.true in
-    index_then n 1 12 _ _ _ (omega arith) (record { ids = head_ids n c.loop-number.rec; few = omega arith; only = c.loop-number.invariant.touched }) c.in_err-id.ensures.touches
+    index_then n 1 12 _ _ _ (omega arith) (record { ids = head_ids n c.loop-number.rec; few = omega arith; only = c.loop-number.invariant.touched })
+    c.in_err-id.ensures.touches
 
 pub loop-number-preserved : goal.loop-number-preserved
 loop-number-preserved g c =
@@ -46,12 +47,14 @@ loop-number-preserved g c =
       added = λ tells store.
           let was = old.added tells store in
           let heads_is = c.empty_heads.ensures in
-          let used : field 1 c.empty_heads.result format.kind ≢ format.free_kind = λ e. let k = ap (λ (r : Rec). field 1 r format.kind) heads_is ∙ empty_heads-kind in omega (arith, k, e) in
+          let used : field 1 c.empty_heads.result format.kind ≢ format.free_kind = λ e. let k = ap (λ (r : Rec). field 1 r format.kind) heads_is
+          ∙ empty_heads-kind in omega (arith, k, e) in
           let new = subst (λ (r : Rec). IsRecordAdded m t r id) heads_is (c.in_ok-id.ensures.added tells was.kept used) in
           subst (AreHeadsAdded s t c.args.start (n + 1)) (sym now_is) (heads-more s m t c.args.start rec n id low was new);
       kept = λ tells.
           let was = old.kept tells in
-          let used : field 1 c.empty_heads.result format.kind ≢ format.free_kind = λ e. let k = ap (λ (r : Rec). field 1 r format.kind) c.empty_heads.ensures ∙ empty_heads-kind in omega (arith, k, e) in
+          let used : field 1 c.empty_heads.result format.kind ≢ format.free_kind = λ e. let k = ap (λ (r : Rec). field 1 r format.kind) c.empty_heads.ensures
+          ∙ empty_heads-kind in omega (arith, k, e) in
           let new = c.in_ok-id.ensures.kept tells used in
           subst (PutsHeads s t (n + 1)) (sym now_is) (record {
             keeps = keeps_then s m t format.index_file was.keeps new.keeps;
@@ -60,7 +63,8 @@ loop-number-preserved g c =
                 (λ (u : n ≤ k). let e : k ≡ n = omega arith in subst (λ x. kind_at t.records format.index_file x ≢ format.free_kind) (sym (ap (head_of (with_head rec n id)) e ∙ head-same rec n id low small)) new.used)
                 (cases_lt k n);
           });
-      kind = ap (λ (r : Rec). field 1 r format.kind) now_is ∙ field-with_field_other 4 rec (format.definition_heads + 4 * n) id 1 format.kind (omega arith) (inr (omega arith)) ∙ old.kind;
+      kind = ap (λ (r : Rec). field 1 r format.kind) now_is ∙ field-with_field_other 4 rec (format.definition_heads + 4 * n) id 1 format.kind (omega arith)
+          (inr (omega arith)) ∙ old.kind;
       counted = λ tells. counts_then s m t n 1 (n + 1) refl (old.counted tells) (c.in_ok-id.ensures.counted tells);
       heads = λ k lt. subst (λ (r : Rec). IsKey (key_in format.index_file (head_of r k))) (sym now_is) (⊎_elim
           (λ (u : k < n). subst (λ x. IsKey (key_in format.index_file x)) (sym (head-other rec n id k low u)) (old.heads k u))
@@ -68,7 +72,8 @@ loop-number-preserved g c =
           (cases_lt k n));
       touched =
           let ids_are : head_ids (n + 1) c.set_number.new.self ≡ id ∷ head_ids n rec
-          = (λ i. head_ids (n + 1) (now_is i)) ∙ ap (λ k. head_ids k (with_head rec n id)) (let e : n + 1 ≡ suc n = omega arith in e) ∙ head_ids-more rec n id low small in
+          = (λ i. head_ids (n + 1) (now_is i)) ∙ ap (λ k. head_ids k (with_head rec n id)) (let e : n + 1 ≡ suc n = omega arith in e)
+          ∙ head_ids-more rec n id low small in
           subst (λ (xs : List ℕ). TouchesOnly g.S.Reads.tells s t (index_keys xs)) (sym ids_are)
           (only_join (head_ids n rec) (id ∷ []) (id ∷ head_ids n rec) s m t (λ x i. inr i) (λ x i. ⊎_elim (λ e. inl e) (λ (k : ⊥). absurd k) i) old.touched c.in_ok-id.ensures.touched);
       onward = g.met.S.Reads.further_onward _ _ _ old.onward c.in_ok-id.ensures.onward;

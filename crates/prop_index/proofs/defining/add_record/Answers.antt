@@ -25,7 +25,8 @@ returns-clause-added g c tells store used =
     let s = g.S.Reads.state c.args.space.now in
     let u = g.S.Reads.state c.take.new.space in
     let taken = c.in_ok-id.ensures.taken tells (free_list s store).0 (free_list s store).1.walk in
-    record_added s u c.args.rec c.in_ok-id.id store taken c.in_ok-id.ensures.small used (g.met.S.Reads.onward_shape _ _ c.in_ok-id.ensures.onward) (g.S.Reads.state c.put.new.self) c.in_ok-put.ensures.ok
+    record_added s u c.args.rec c.in_ok-id.id store taken c.in_ok-id.ensures.small used (g.met.S.Reads.onward_shape _ _ c.in_ok-id.ensures.onward)
+    (g.S.Reads.state c.put.new.self) c.in_ok-put.ensures.ok
 
 pub returns-in_err-id-clause-mishap : goal.returns-in_err-id-clause-mishap
 returns-in_err-id-clause-mishap g c tells store left =
@@ -55,7 +56,8 @@ returns-in_err-put-clause-touches g c =
     record {
       ids = [];
       few = omega arith;
-      only = subst (λ (z : State). TouchesOnly g.S.Reads.tells s z (index_keys [])) (sym c.in_err-put.ensures.err) (meta_only [] _ _ (record { writes = c.in_ok-id.ensures.writes; stays = c.in_ok-id.ensures.stays }));
+      only = subst (λ (z : State). TouchesOnly g.S.Reads.tells s z (index_keys [])) (sym c.in_err-put.ensures.err)
+          (meta_only [] _ _ (record { writes = c.in_ok-id.ensures.writes; stays = c.in_ok-id.ensures.stays }));
     }
 
 pub returns-clause-counted : goal.returns-clause-counted
@@ -65,14 +67,16 @@ returns-clause-counted g c tells =
     record {
       live = ap (λ (z : State). (meta_of z format.index_file).live) c.in_ok-put.ensures.ok ∙ put_live u c.in_ok-id.id c.args.rec
           ∙ ap (λ (z : State). (meta_of z format.index_file).live) (c.in_ok-id.ensures.ok tells)
-          ∙ taken_live s format.index_file (c.in_ok-id.ensures.undamaged tells) (subst (λ n. n < format.most_ids) c.in_ok-id.ensures.is c.in_ok-id.ensures.key.id);
+          ∙ taken_live s format.index_file (c.in_ok-id.ensures.undamaged tells)
+          (subst (λ n. n < format.most_ids) c.in_ok-id.ensures.is c.in_ok-id.ensures.key.id);
       shape = g.met.S.Reads.onward_shape _ _ (g.met.S.Reads.further_onward _ _ _ c.in_ok-id.ensures.onward c.in_ok-put.ensures.onward);
     }
 
 pub returns-in_err-id-clause-roomy : goal.returns-in_err-id-clause-roomy
 returns-in_err-id-clause-roomy g c tells left =
     let s = g.S.Reads.state c.args.space.now in
-    take_has IsNotFull c.from_residual.result c.in_err-id.field-0.0 c.from_residual.ensures.1 (take_roomy s c.in_err-id.field-0.0 (c.in_err-id.ensures.refused tells) left)
+    take_has IsNotFull c.from_residual.result c.in_err-id.field-0.0 c.from_residual.ensures.1
+    (take_roomy s c.in_err-id.field-0.0 (c.in_err-id.ensures.refused tells) left)
 
 pub returns-in_err-put-clause-roomy : goal.returns-in_err-put-clause-roomy
 returns-in_err-put-clause-roomy g c tells left =
@@ -83,7 +87,8 @@ pub returns-in_err-id-clause-still : goal.returns-in_err-id-clause-still
 returns-in_err-id-clause-still g c tells =
     let s = g.S.Reads.state c.args.space.now in
     let now = g.S.Reads.state c.take.new.space in
-    take_has (BlamesBroken now.records now.shape) c.from_residual.result c.in_err-id.field-0.0 c.from_residual.ensures.1 (take_reread s now c.in_err-id.field-0.0 c.in_err-id.ensures.err (any_take s.records s.shape c.in_err-id.field-0.0 (c.in_err-id.ensures.damaged tells)))
+    take_has (BlamesBroken now.records now.shape) c.from_residual.result c.in_err-id.field-0.0 c.from_residual.ensures.1
+    (take_reread s now c.in_err-id.field-0.0 c.in_err-id.ensures.err (any_take s.records s.shape c.in_err-id.field-0.0 (c.in_err-id.ensures.damaged tells)))
 
 pub returns-in_err-put-clause-still : goal.returns-in_err-put-clause-still
 returns-in_err-put-clause-still g c tells =
@@ -92,18 +97,21 @@ returns-in_err-put-clause-still g c tells =
 
 pub returns-clause-kept : goal.returns-clause-kept
 returns-clause-kept g c tells used =
-    record_kept (g.S.Reads.state c.args.space.now) (g.S.Reads.state c.take.new.space) (g.S.Reads.state c.put.new.self) c.args.rec c.in_ok-id.id (c.in_ok-id.ensures.ok tells) c.in_ok-id.ensures.is (c.in_ok-id.ensures.undamaged tells) (c.in_ok-id.ensures.fresh tells) c.in_ok-id.ensures.key.id
+    record_kept (g.S.Reads.state c.args.space.now) (g.S.Reads.state c.take.new.space) (g.S.Reads.state c.put.new.self) c.args.rec c.in_ok-id.id
+    (c.in_ok-id.ensures.ok tells) c.in_ok-id.ensures.is (c.in_ok-id.ensures.undamaged tells) (c.in_ok-id.ensures.fresh tells) c.in_ok-id.ensures.key.id
     c.in_ok-id.ensures.small c.in_ok-put.ensures.ok used
 
 pub returns-in_err-id-clause-damaged : goal.returns-in_err-id-clause-damaged
 returns-in_err-id-clause-damaged g c tells =
     let s = g.S.Reads.state c.args.space.now in
-    take_has (BlamesList s format.index_file) c.from_residual.result c.in_err-id.field-0.0 c.from_residual.ensures.1 (blames_list s format.index_file c.in_err-id.field-0.0 (c.in_err-id.ensures.refused tells))
+    take_has (BlamesList s format.index_file) c.from_residual.result c.in_err-id.field-0.0 c.from_residual.ensures.1
+    (blames_list s format.index_file c.in_err-id.field-0.0 (c.in_err-id.ensures.refused tells))
 
 pub returns-in_err-put-clause-damaged : goal.returns-in_err-put-clause-damaged
 returns-in_err-put-clause-damaged g c tells =
     let s = g.S.Reads.state c.args.space.now in
-    take_has (BlamesList s format.index_file) c.from_residual-in_err-put.result _ c.from_residual-in_err-put.ensures.1 (list_of_space s format.index_file c.in_err-put.field-0.0)
+    take_has (BlamesList s format.index_file) c.from_residual-in_err-put.result _ c.from_residual-in_err-put.ensures.1
+    (list_of_space s format.index_file c.in_err-put.field-0.0)
 
 pub returns-in_err-id-clause-kept : goal.returns-in_err-id-clause-kept
 returns-in_err-id-clause-kept g c _ _ = never_ok c.from_residual.result _ _ c.from_residual.ensures.1

@@ -33,16 +33,19 @@ use Rattle.prop_store.proofs.Causes.{later_on}
 use Rattle.prop_index.proofs.defining.define.Goals as goal
 
 pub returns-in_err-rec-clause-touches : goal.returns-in_err-rec-clause-touches
-returns-in_err-rec-clause-touches g c = index_then 0 12 13 _ _ _ (omega arith) (index_read 0 1 _ _ (reads_one 1 _ _ (omega arith) c.get.ensures.state)) c.in_err-rec.ensures.touches
+returns-in_err-rec-clause-touches g c = index_then 0 12 13 _ _ _ (omega arith) (index_read 0 1 _ _ (reads_one 1 _ _ (omega arith) c.get.ensures.state))
+    c.in_err-rec.ensures.touches
 
 pub returns-in_err-id-clause-touches : goal.returns-in_err-id-clause-touches
 returns-in_err-id-clause-touches g c =
     index_then 12 1 13 _ _ _ (omega arith)
-    (index_then 0 12 12 _ _ _ (omega arith) (index_read 0 1 _ _ (reads_one 1 _ _ (omega arith) c.get.ensures.state)) c.in_ok-rec.ensures.touches) c.in_err-id.ensures.touches
+    (index_then 0 12 12 _ _ _ (omega arith) (index_read 0 1 _ _ (reads_one 1 _ _ (omega arith) c.get.ensures.state)) c.in_ok-rec.ensures.touches)
+    c.in_err-id.ensures.touches
 
 -- what was read, the heads, and the record of the definition
 module _ where
-  pub joined : {tells : Type 0} (s a m t : State) (rec : Rec) (id : ℕ) → a ≡ after_get s → TouchesOnly tells a m (index_keys (head_ids 12 rec)) → TouchesOnly tells m t (index_keys (id ∷ [])) → TouchesOnly tells s t (index_keys (id ∷ head_ids 12 rec))
+  pub joined : {tells : Type 0} (s a m t : State) (rec : Rec) (id : ℕ) → a ≡ after_get s → TouchesOnly tells a m (index_keys (head_ids 12 rec))
+      → TouchesOnly tells m t (index_keys (id ∷ [])) → TouchesOnly tells s t (index_keys (id ∷ head_ids 12 rec))
   joined s a m t rec id is h g =
       let read = (index_read 0 1 s a (reads_one 1 s a (omega arith) is)) in
       only_join read.ids (id ∷ head_ids 12 rec) (id ∷ head_ids 12 rec) s a t (λ x i. none read.ids read.few x i) (λ x i. i) read.only
@@ -59,7 +62,9 @@ returns-in_err-set_number-clause-touches g c =
     record {
       ids = ids;
       few = omega arith;
-      only = then_meta ids _ _ _ c.meta_key-2.result c.meta_key-2.ensures (joined _ _ _ _ c.in_ok-rec.rec c.in_ok-id.id c.get.ensures.state c.in_ok-rec.ensures.touched c.in_ok-id.ensures.touched) c.in_err-set_number.ensures.wrote;
+      only = then_meta ids _ _ _ c.meta_key-2.result c.meta_key-2.ensures
+          (joined _ _ _ _ c.in_ok-rec.rec c.in_ok-id.id c.get.ensures.state c.in_ok-rec.ensures.touched c.in_ok-id.ensures.touched)
+          c.in_err-set_number.ensures.wrote;
     }
 
 pub returns-clause-touched : goal.returns-clause-touched
@@ -74,7 +79,9 @@ returns-clause-touches g c =
     record {
       ids = ids;
       few = omega arith;
-      only = then_meta ids _ _ _ c.meta_key-2.result c.meta_key-2.ensures (joined _ _ _ _ c.in_ok-rec.rec c.in_ok-id.id c.get.ensures.state c.in_ok-rec.ensures.touched c.in_ok-id.ensures.touched) c.in_ok-set_number.ensures.wrote;
+      only = then_meta ids _ _ _ c.meta_key-2.result c.meta_key-2.ensures
+          (joined _ _ _ _ c.in_ok-rec.rec c.in_ok-id.id c.get.ensures.state c.in_ok-rec.ensures.touched c.in_ok-id.ensures.touched)
+          c.in_ok-set_number.ensures.wrote;
     }
 
 pub returns-clause-onward : goal.returns-clause-onward
@@ -105,7 +112,8 @@ returns-clause-added g c tells store named =
     let kind = heads.front 1 format.kind (omega arith) ∙ start-kind label key first label_fits key_fits first_fits in
     let used : field 1 rec format.kind ≢ format.free_kind = λ e. omega (arith, kind, e) in
     let added : IsRecordAdded m t rec id = c.in_ok-id.ensures.added tells heads.kept used in
-    let is : w ≡ after_set t (meta_key_of format.index_file) 4 format.meta_definition id = c.in_ok-set_number.ensures.ok tells ∙ ap (λ (k : Key). after_set t k 4 format.meta_definition id) c.meta_key-2.ensures in
+    let is : w ≡ after_set t (meta_key_of format.index_file) 4 format.meta_definition id = c.in_ok-set_number.ensures.ok tells
+    ∙ ap (λ (k : Key). after_set t k 4 format.meta_definition id) c.meta_key-2.ensures in
     definition_reread s w (raised s.reads) label key (record { id = id; rec = rec })
     (definition_added (after_get s) m t label key first id rec store heads added named first_is label_fits key_fits first_fits w is)
 
@@ -125,9 +133,11 @@ returns-clause-kept g c tells =
     let label_fits : label < 2 ^ 32 = search rules in
     let key_fits : key < 2 ^ 32 = search rules in
     let first_fits : first < 2 ^ 32 = search rules in
-    let kind : field 1 rec format.kind ≡ format.definition = c.in_ok-rec.ensures.kind ∙ ap (λ (r : Rec). field 1 r format.kind) c.definition_start-start.ensures ∙ start-kind label key first label_fits key_fits first_fits in
+    let kind : field 1 rec format.kind ≡ format.definition = c.in_ok-rec.ensures.kind ∙ ap (λ (r : Rec). field 1 r format.kind) c.definition_start-start.ensures
+    ∙ start-kind label key first label_fits key_fits first_fits in
     let used : field 1 rec format.kind ≢ format.free_kind = λ e. omega (arith, kind, e) in
-    let is : w ≡ after_set t (meta_key_of format.index_file) 4 format.meta_definition id = c.in_ok-set_number.ensures.ok tells ∙ ap (λ (k : Key). after_set t k 4 format.meta_definition id) c.meta_key-2.ensures in
+    let is : w ≡ after_set t (meta_key_of format.index_file) 4 format.meta_definition id = c.in_ok-set_number.ensures.ok tells
+    ∙ ap (λ (k : Key). after_set t k 4 format.meta_definition id) c.meta_key-2.ensures in
     let heads = c.in_ok-rec.ensures.kept tells in
     let added = c.in_ok-id.ensures.kept tells used in
     let last = definition_kept t w id is in
@@ -149,7 +159,8 @@ returns-in_err-meta-clause-damaged g c tells =
 pub returns-in_err-rec-clause-damaged : goal.returns-in_err-rec-clause-damaged
 returns-in_err-rec-clause-damaged g c tells =
     let s = g.S.Reads.state c.args.space.now in
-    take_has (BlamesList s format.index_file) c.from_residual-in_err-rec.result c.in_err-rec.field-0.0 c.from_residual-in_err-rec.ensures.1 (list_read s (g.S.Reads.state c.get.new.self) c.in_err-rec.field-0.0 c.get.ensures.state (c.in_err-rec.ensures.damaged tells))
+    take_has (BlamesList s format.index_file) c.from_residual-in_err-rec.result c.in_err-rec.field-0.0 c.from_residual-in_err-rec.ensures.1
+    (list_read s (g.S.Reads.state c.get.new.self) c.in_err-rec.field-0.0 c.get.ensures.state (c.in_err-rec.ensures.damaged tells))
 
 pub returns-in_err-id-clause-damaged : goal.returns-in_err-id-clause-damaged
 returns-in_err-id-clause-damaged g c tells =
@@ -162,7 +173,8 @@ returns-in_err-id-clause-damaged g c tells =
 pub returns-in_err-set_number-clause-damaged : goal.returns-in_err-set_number-clause-damaged
 returns-in_err-set_number-clause-damaged g c tells =
     let s = g.S.Reads.state c.args.space.now in
-    take_has (BlamesList s format.index_file) c.from_residual-in_err-set_number.result _ c.from_residual-in_err-set_number.ensures.1 (list_of_space s format.index_file c.in_err-set_number.field-0.0)
+    take_has (BlamesList s format.index_file) c.from_residual-in_err-set_number.result _ c.from_residual-in_err-set_number.ensures.1
+    (list_of_space s format.index_file c.in_err-set_number.field-0.0)
 
 pub returns-in_err-meta-clause-kept : goal.returns-in_err-meta-clause-kept
 returns-in_err-meta-clause-kept g c _ = never_ok c.from_residual.result _ _ c.from_residual.ensures.1
@@ -194,7 +206,8 @@ returns-clause-counted g c tells =
     let t = g.S.Reads.state c.add_record.new.space in
     let w = g.S.Reads.state c.set_number.new.space in
     let id = c.in_ok-id.id in
-    let is : w ≡ after_set t (meta_key_of format.index_file) 4 format.meta_definition id = c.in_ok-set_number.ensures.ok tells ∙ ap (λ (k : Key). after_set t k 4 format.meta_definition id) c.meta_key-2.ensures in
+    let is : w ≡ after_set t (meta_key_of format.index_file) 4 format.meta_definition id = c.in_ok-set_number.ensures.ok tells
+    ∙ ap (λ (k : Key). after_set t k 4 format.meta_definition id) c.meta_key-2.ensures in
     let counted = counts_read s a t 13 c.get.ensures.state (counts_then a m t 12 1 13 refl (c.in_ok-rec.ensures.counted tells) (c.in_ok-id.ensures.counted tells)) in
     record {
       live = ap (λ (z : State). (meta_of z format.index_file).live) is ∙ first_live t id ∙ counted.live;
@@ -206,7 +219,8 @@ returns-in_err-rec-clause-roomy g c tells left =
     let s = g.S.Reads.state c.args.space.now in
     let a = g.S.Reads.state c.get.new.self in
     let fewer : HasLeft s 12 = omega (arith, left) in
-    take_has IsNotFull c.from_residual-in_err-rec.result c.in_err-rec.field-0.0 c.from_residual-in_err-rec.ensures.1 (c.in_err-rec.ensures.roomy tells (left_read s a 12 c.get.ensures.state fewer))
+    take_has IsNotFull c.from_residual-in_err-rec.result c.in_err-rec.field-0.0 c.from_residual-in_err-rec.ensures.1
+    (c.in_err-rec.ensures.roomy tells (left_read s a 12 c.get.ensures.state fewer))
 
 pub returns-in_err-id-clause-roomy : goal.returns-in_err-id-clause-roomy
 returns-in_err-id-clause-roomy g c tells left =

@@ -45,18 +45,21 @@ returns-in-Err-clause-still g c tells d b h =
 pub returns-in_err-put_in_front-clause-damaged : goal.returns-in_err-put_in_front-clause-damaged
 returns-in_err-put_in_front-clause-damaged g c tells d b h =
     let s = g.S.Reads.state c.args.space.now in
-    take_has (BlamesBroken s.records s.shape) c.from_residual.result c.in_err-put_in_front.field-0.0 c.from_residual.ensures.1 (any_list s c.in_err-put_in_front.field-0.0 (c.in_err-put_in_front.ensures.damaged tells))
+    take_has (BlamesBroken s.records s.shape) c.from_residual.result c.in_err-put_in_front.field-0.0 c.from_residual.ensures.1
+    (any_list s c.in_err-put_in_front.field-0.0 (c.in_err-put_in_front.ensures.damaged tells))
 
 pub returns-in_err-put_in_front-clause-still : goal.returns-in_err-put_in_front-clause-still
 returns-in_err-put_in_front-clause-still g c tells d b h =
     let t = g.S.Reads.state c.put_in_front.new.space in
-    take_has (BlamesBroken t.records t.shape) c.from_residual.result c.in_err-put_in_front.field-0.0 c.from_residual.ensures.1 (c.in_err-put_in_front.ensures.still tells)
+    take_has (BlamesBroken t.records t.shape) c.from_residual.result c.in_err-put_in_front.field-0.0 c.from_residual.ensures.1
+    (c.in_err-put_in_front.ensures.still tells)
 
 pub returns-in-Err-clause-names : goal.returns-in-Err-clause-names
 returns-in-Err-clause-names g c tells = link_names _ c.args.bucket.slot.id c.args.bucket.first c.in-Err.damage c.in-Err.ensures.damaged.1
 
 pub returns-in_err-put_in_front-clause-names : goal.returns-in_err-put_in_front-clause-names
-returns-in_err-put_in_front-clause-names g c tells = take_has TakeNamesIndexes c.from_residual.result c.in_err-put_in_front.field-0.0 c.from_residual.ensures.1 (c.in_err-put_in_front.ensures.names tells)
+returns-in_err-put_in_front-clause-names g c tells = take_has TakeNamesIndexes c.from_residual.result c.in_err-put_in_front.field-0.0 c.from_residual.ensures.1
+    (c.in_err-put_in_front.ensures.names tells)
 
 pub returns-clause-graph : goal.returns-clause-graph
 returns-clause-graph g c tells free head right place can =
@@ -65,8 +68,10 @@ returns-clause-graph g c tells free head right place can =
     let bucket = c.args.bucket in
     let id = c.in_ok-put_in_front.field-0 in
     let at = place.is in
-    made_graph s.records t.records id bucket.slot.id bucket.slot.place c.args.content.node c.args.content.hash (c.in_ok-put_in_front.ensures.made tells free head right can) head.heads
-    (λ some. subst (λ x. kind_at s.records format.index_file x ≡ format.indexed) head.first_is (right (λ none. some (sym head.first_is ∙ none)))) (omega (arith, at))
+    made_graph s.records t.records id bucket.slot.id bucket.slot.place c.args.content.node c.args.content.hash
+    (c.in_ok-put_in_front.ensures.made tells free head right can) head.heads
+    (λ some. subst (λ x. kind_at s.records format.index_file x ≡ format.indexed) head.first_is (right (λ none. some (sym head.first_is ∙ none))))
+    (omega (arith, at))
     (elsewhere_of g.S.Reads.tells s t (front_ids id bucket.slot.id bucket.first) tells c.in_ok-put_in_front.ensures.touched)
 
 pub returns-in_err-put_in_front-clause-crowded : goal.returns-in_err-put_in_front-clause-crowded
@@ -93,4 +98,5 @@ pub returns-in-Err-clause-unwritten : goal.returns-in-Err-clause-unwritten
 returns-in-Err-clause-unwritten g c = refl
 
 pub returns-in_err-put_in_front-clause-unwritten : goal.returns-in_err-put_in_front-clause-unwritten
-returns-in_err-put_in_front-clause-unwritten g c = take_has _ c.from_residual.result c.in_err-put_in_front.field-0.0 c.from_residual.ensures.1 c.in_err-put_in_front.ensures.unwritten
+returns-in_err-put_in_front-clause-unwritten g c = take_has _ c.from_residual.result c.in_err-put_in_front.field-0.0 c.from_residual.ensures.1
+    c.in_err-put_in_front.ensures.unwritten

@@ -34,7 +34,8 @@ returns-in-Ok-None-clause-entered g c tells wanted free ix can unwanted =
     let now = g.S.Reads.state c.find_bucket.new.space in
     let same : SameButReads s now = reads_same 18 s now c.find_bucket.ensures.at_most in
     let content : Content = record { node = c.args.node; hash = c.hash_of-hash.result } in
-    let none = subst (IsBucketSought s.records ix.definitions c.args.label c.args.key c.hash_of-hash.result) c.in-Ok-None.field-0-is (c.in-Ok-None.ensures.found tells wanted ix) in
+    let none = subst (IsBucketSought s.records ix.definitions c.args.label c.args.key c.hash_of-hash.result) c.in-Ok-None.field-0-is
+    (c.in-Ok-None.ensures.found tells wanted ix) in
     subst (λ (r : Records). AreIndexed r (with_entry wanted (entry_of c.args.label c.args.key c.args.node c.args.value.now))) (sym (same_records s now same))
     (subst (λ (h : ℕ). AreIndexed s.records (with_entry wanted (record { label = c.args.label; key = c.args.key; node = c.args.node; hash = h }))) c.hash_of-hash.ensures
     (unlisted_entered s.records wanted ix c.args.label c.args.key content none))
@@ -48,7 +49,8 @@ returns-clause-entered g c tells wanted free ix can unwanted =
     let records = same_records s now same in
     let content : Content = record { node = c.args.node; hash = c.hash_of-hash.result } in
     let bucket = c.in-Ok-Some.bucket in
-    let found = subst (IsBucketSought s.records ix.definitions c.args.label c.args.key c.hash_of-hash.result) c.in-Ok-Some.field-0-is (c.in-Ok-Some.ensures.found tells wanted ix) in
+    let found = subst (IsBucketSought s.records ix.definitions c.args.label c.args.key c.hash_of-hash.result) c.in-Ok-Some.field-0-is
+    (c.in-Ok-Some.ensures.found tells wanted ix) in
     let hashed : (h : ℕ) → Entry = λ h. record { label = c.args.label; key = c.args.key; node = c.args.node; hash = h } in
     on_ok c.add_entry.result
     (λ made. subst (λ (h : ℕ). AreIndexed t.records (with_entry wanted (hashed h))) c.hash_of-hash.ensures
@@ -78,7 +80,8 @@ returns-clause-keeps g c tells wanted ix store known =
     let same : SameButReads s now = reads_same 18 s now c.find_bucket.ensures.at_most in
     let content : Content = record { node = c.args.node; hash = c.hash_of-hash.result } in
     let bucket = c.in-Ok-Some.bucket in
-    let found = subst (IsBucketSought s.records ix.definitions c.args.label c.args.key c.hash_of-hash.result) c.in-Ok-Some.field-0-is (c.in-Ok-Some.ensures.found tells wanted ix) in
+    let found = subst (IsBucketSought s.records ix.definitions c.args.label c.args.key c.hash_of-hash.result) c.in-Ok-Some.field-0-is
+    (c.in-Ok-Some.ensures.found tells wanted ix) in
     c.add_entry.ensures.keeps tells (kept_after s now same store) (head-reread s now bucket same found.is.head)
     (begins-reread s now bucket same (first_right s.records wanted ix c.args.label c.args.key content bucket found))
     (head-place s.records found.definition _ bucket found.is)
@@ -86,7 +89,8 @@ returns-clause-keeps g c tells wanted ix store known =
 
 pub returns-in-Err-clause-sound : goal.returns-in-Err-clause-sound
 returns-in-Err-clause-sound g c tells wanted free ix can =
-    subst (λ (f : TakeFault). takes.NotDamaged {T = ℕ} (Err f)) (sym c.of_read.ensures) (read-sound c.in-Err.fault (c.in-Err.ensures.sound tells wanted ix can.mark))
+    subst (λ (f : TakeFault). takes.NotDamaged {T = ℕ} (Err f)) (sym c.of_read.ensures)
+    (read-sound c.in-Err.fault (c.in-Err.ensures.sound tells wanted ix can.mark))
 
 pub returns-clause-sound : goal.returns-clause-sound
 returns-clause-sound g c tells wanted free ix can =
@@ -95,7 +99,8 @@ returns-clause-sound g c tells wanted free ix can =
     let same : SameButReads s now = reads_same 18 s now c.find_bucket.ensures.at_most in
     let content : Content = record { node = c.args.node; hash = c.hash_of-hash.result } in
     let bucket = c.in-Ok-Some.bucket in
-    let found = subst (IsBucketSought s.records ix.definitions c.args.label c.args.key c.hash_of-hash.result) c.in-Ok-Some.field-0-is (c.in-Ok-Some.ensures.found tells wanted ix) in
+    let found = subst (IsBucketSought s.records ix.definitions c.args.label c.args.key c.hash_of-hash.result) c.in-Ok-Some.field-0-is
+    (c.in-Ok-Some.ensures.found tells wanted ix) in
     c.add_entry.ensures.sound tells free
     (begins-reread s now bucket same (first_right s.records wanted ix c.args.label c.args.key content bucket found))
     (can_after s now free same can)
@@ -177,7 +182,8 @@ returns-clause-graph g c tells wanted free ix can =
     let same : SameButReads s now = reads_same 18 s now c.find_bucket.ensures.at_most in
     let content : Content = record { node = c.args.node; hash = c.hash_of-hash.result } in
     let bucket = c.in-Ok-Some.bucket in
-    let found = subst (IsBucketSought s.records ix.definitions c.args.label c.args.key c.hash_of-hash.result) c.in-Ok-Some.field-0-is (c.in-Ok-Some.ensures.found tells wanted ix) in
+    let found = subst (IsBucketSought s.records ix.definitions c.args.label c.args.key c.hash_of-hash.result) c.in-Ok-Some.field-0-is
+    (c.in-Ok-Some.ensures.found tells wanted ix) in
     on_ok c.add_entry.result (λ stays. stays ∙ ap indexes_of (same_records s now same))
     (c.add_entry.ensures.graph tells free (head-reread s now bucket same found.is.head)
     (begins-reread s now bucket same (first_right s.records wanted ix c.args.label c.args.key content bucket found))
@@ -195,18 +201,21 @@ pub returns-in-Err-clause-unlisted : goal.returns-in-Err-clause-unlisted
 returns-in-Err-clause-unlisted g c tells wanted ix none = subst IsNotFull (sym c.of_read.ensures) (read-unfull c.in-Err.fault)
 
 pub returns-in-Ok-None-clause-unchanged : goal.returns-in-Ok-None-clause-unchanged
-returns-in-Ok-None-clause-unchanged g c tells wanted ix none = reads_same 18 (g.S.Reads.state c.args.space.now) (g.S.Reads.state c.find_bucket.new.space) c.find_bucket.ensures.at_most
+returns-in-Ok-None-clause-unchanged g c tells wanted ix none = reads_same 18 (g.S.Reads.state c.args.space.now) (g.S.Reads.state c.find_bucket.new.space)
+    c.find_bucket.ensures.at_most
 
 pub returns-clause-unchanged : goal.returns-clause-unchanged
 returns-clause-unchanged g c tells wanted ix none =
     let s = g.S.Reads.state c.args.space.now in
-    let found = subst (IsBucketSought s.records ix.definitions c.args.label c.args.key c.hash_of-hash.result) c.in-Ok-Some.field-0-is (c.in-Ok-Some.ensures.found tells wanted ix) in
+    let found = subst (IsBucketSought s.records ix.definitions c.args.label c.args.key c.hash_of-hash.result) c.in-Ok-Some.field-0-is
+    (c.in-Ok-Some.ensures.found tells wanted ix) in
     absurd (none found.definition found.listed found.pair)
 
 pub returns-clause-unlisted : goal.returns-clause-unlisted
 returns-clause-unlisted g c tells wanted ix none =
     let s = g.S.Reads.state c.args.space.now in
-    let found = subst (IsBucketSought s.records ix.definitions c.args.label c.args.key c.hash_of-hash.result) c.in-Ok-Some.field-0-is (c.in-Ok-Some.ensures.found tells wanted ix) in
+    let found = subst (IsBucketSought s.records ix.definitions c.args.label c.args.key c.hash_of-hash.result) c.in-Ok-Some.field-0-is
+    (c.in-Ok-Some.ensures.found tells wanted ix) in
     absurd (none found.definition found.listed found.pair)
 
 -- ---- what is written where a record is blamed

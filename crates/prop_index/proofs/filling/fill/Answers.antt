@@ -1,4 +1,5 @@
-use Rattle.std.proofs.Common.{◌≡◌, ◌≢◌, ⊎_elim, ℕ, ◌+◌, ◌*◌, ◌/◌, ◌%◌, ◌<◌, [], ◌∷◌, length, take, get_or, set, ap, sym, ◌∙◌, subst, inl, inr, refl, arith, get_or-set_other, get_or-set_same}
+use Rattle.std.proofs.Common.{◌≡◌, ◌≢◌, ⊎_elim, ℕ, ◌+◌, ◌*◌, ◌/◌, ◌%◌, ◌<◌, [], ◌∷◌, length, take, get_or, set, ap, sym}
+use Rattle.std.proofs.Common.{◌∙◌, subst, inl, inr, refl, arith, get_or-set_other, get_or-set_same}
 use Rattle.std.specs.Prelude.{replicate}
 use Rattle.std.proofs.lemmas.Result.{err_from_is_err_and}
 use Rattle.std.proofs.lemmas.List.{get_or-replicate, get_or_default, length-replicate, length-set, length-take-le, take_more, take_all}
@@ -72,8 +73,10 @@ loop-content-preserved g c =
       filled = λ tells wanted ix label key empty fillable store.
           let was = old.filled tells wanted ix label key empty fillable store in
           let id_is : slot.id ≡ head_of rec (bucket_of content.hash / 15) = c.slot_of.ensures.is.id_is ∙ ap (λ n. head_of rec (n / 15)) k_is in
-          let place_is : slot.place ≡ format.heads_first + 4 * (bucket_of content.hash % 15) = c.slot_of.ensures.is.place_is ∙ ap (λ n. format.heads_first + 4 * (n % 15)) k_is in
-          let first_is : first ≡ first_entry m.records c.args.definition.now.id (bucket_of content.hash) = was.1 k k_low ∙ ap (first_entry m.records c.args.definition.now.id) k_is in
+          let place_is : slot.place ≡ format.heads_first + 4 * (bucket_of content.hash % 15) = c.slot_of.ensures.is.place_is
+          ∙ ap (λ n. format.heads_first + 4 * (n % 15)) k_is in
+          let first_is : first ≡ first_entry m.records c.args.definition.now.id (bucket_of content.hash) = was.1 k k_low
+          ∙ ap (first_entry m.records c.args.definition.now.id) k_is in
           let head = fs.fill_head s m wanted ix label key c.args.definition.now empty (take i contents) was.0 content bucket id_is place_is first_is in
           let begins = fs.fill_begins s m wanted ix label key c.args.definition.now empty (take i contents) was.0 content bucket id_is place_is first_is in
           let place = fs.fill_place s m wanted ix label key c.args.definition.now empty (take i contents) was.0 content bucket id_is place_is first_is in
@@ -81,7 +84,8 @@ loop-content-preserved g c =
           let made = c.in_ok-firsts.ensures.made tells (free_list m was.0.kept).0 head begins can in
           let nodes_same : high m.records format.nodes_file ≡ high s.records format.nodes_file
           = ap (λ r. (metas.meta_of r).high) (was.0.others (meta_key_of format.nodes_file) (λ e. omega arith) (λ e. let f = ap (λ (q : Key). q.id) e in omega (arith, f))) in
-          let known : content.node < high m.records format.nodes_file = let a = fillable.low content (Contains-get_or contents i (record { node = 0; hash = 0 }) test) in omega (arith, a, nodes_same) in
+          let known : content.node < high m.records format.nodes_file = let a =
+          fillable.low content (Contains-get_or contents i (record { node = 0; hash = 0 }) test) in omega (arith, a, nodes_same) in
           let kept = c.in_ok-firsts.ensures.keeps tells was.0.kept head begins place known in
           let live = c.in_ok-firsts.ensures.counted tells in
           let shape = g.met.S.Reads.onward_shape _ _ c.in_ok-firsts.ensures.onward in
@@ -121,7 +125,8 @@ loop-content-preserved g c =
                 (nat_cases b k)),
             beside_more (head_ids 12 rec) was.0 id slot.id first s m t there (was.2 k k_low) was.3 c.in_ok-firsts.ensures.touched,
           );
-      counted = λ tells. counts_then s m t i 1 (i + 1) refl (old.counted tells) (record { live = c.in_ok-firsts.ensures.counted tells; shape = g.met.S.Reads.onward_shape _ _ c.in_ok-firsts.ensures.onward });
+      counted = λ tells. counts_then s m t i 1 (i + 1) refl (old.counted tells)
+          (record { live = c.in_ok-firsts.ensures.counted tells; shape = g.met.S.Reads.onward_shape _ _ c.in_ok-firsts.ensures.onward });
       onward = g.met.S.Reads.further_onward _ _ _ old.onward c.in_ok-firsts.ensures.onward;
       later = omega (arith, old.later, c.in_ok-firsts.ensures.cause.later);
     }

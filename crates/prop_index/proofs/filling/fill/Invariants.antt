@@ -19,9 +19,12 @@ invariant-loop-content g l =
     let now = g.S.Reads.state l.space in
     let definition = l.fn.definition in
     record {
-      filled : g.S.Reads.tells → (wanted : Entries) → (ix : AreIndexed old.records wanted) → (label key : ℕ) → IsEmptyIndex old.records wanted ix label key definition → AreFillable old.records l.fn.contents → KeepsStore old
-          → IsFilled old now wanted ix label key (take l.content-index l.fn.contents) × ((b : ℕ) → b < 180 → get_or l.firsts b 0 ≡ first_entry now.records definition.id b);
-      kept : g.S.Reads.tells → AreHeadsUsed old 12 definition.rec → KeepsInUse old now format.index_file × ((b : ℕ) → b < 180 → get_or l.firsts b 0 ≢ format.nil → kind_at now.records format.index_file (get_or l.firsts b 0) ≢ format.free_kind);
+      filled : g.S.Reads.tells → (wanted : Entries) → (ix : AreIndexed old.records wanted) → (label key : ℕ)
+          → IsEmptyIndex old.records wanted ix label key definition → AreFillable old.records l.fn.contents → KeepsStore old
+          → IsFilled old now wanted ix label key (take l.content-index l.fn.contents)
+          × ((b : ℕ) → b < 180 → get_or l.firsts b 0 ≡ first_entry now.records definition.id b);
+      kept : g.S.Reads.tells → AreHeadsUsed old 12 definition.rec → KeepsInUse old now format.index_file
+          × ((b : ℕ) → b < 180 → get_or l.firsts b 0 ≢ format.nil → kind_at now.records format.index_file (get_or l.firsts b 0) ≢ format.free_kind);
       long : length l.firsts ≡ 180;
       keys : (b : ℕ) → b < 180 → get_or l.firsts b 0 ≢ format.nil → IsKey (key_in format.index_file (get_or l.firsts b 0));
       touched : (ids : List ℕ) × (length ids ≤ l.content-index) × ((b : ℕ) → b < 180 → get_or l.firsts b 0 ≢ format.nil → In (get_or l.firsts b 0) ids)

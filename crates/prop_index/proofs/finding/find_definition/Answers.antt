@@ -12,7 +12,8 @@ use Rattle.prop_index.specs.Blaming.{BlamesBroken}
 use Rattle.prop_store.proofs.Exits.{same_has, space_exit, space_has}
 use Rattle.prop_index.specs.Blaming.{IsDefinitionAt, IsOfIndexes, NamesIndexes}
 use Rattle.prop_index.specs.Finding.{IsPair}
-use Rattle.prop_index.proofs.IndexBlames.{definition_begins, definition_blames, definition_goes_on, many_break, others_begin, others_end, others_go_on, read_fault_same, read_names}
+use Rattle.prop_index.proofs.IndexBlames.{definition_begins, definition_blames, definition_goes_on, many_break}
+use Rattle.prop_index.proofs.IndexBlames.{others_begin, others_end, others_go_on, read_fault_same, read_names}
 use Rattle.prop_index.proofs.Reread.{room_after}
 use Rattle.prop_index.proofs.Searches.{search_begins, search_here, search_on, search_over}
 use Rattle.prop_store.proofs.Causes.{cause_passed, later_on, space_cause_passed}
@@ -30,7 +31,8 @@ pub loop-init : goal.loop-init
 loop-init g c =
     let s = g.R.Reads.state c.args.space.now in
     let first_is : g.R.Reads.tells → c.number-at.result ≡ first_definition s.records
-    = λ tells. c.number-at.ensures ∙ ap (λ (r : Rec). field 4 r format.meta_definition) (c.in_ok-get_into.ensures.got tells ∙ ap (λ k. s.records k) c.meta_key.ensures) in
+    = λ tells. c.number-at.ensures ∙ ap (λ (r : Rec). field 4 r format.meta_definition)
+    (c.in_ok-get_into.ensures.got tells ∙ ap (λ k. s.records k) c.meta_key.ensures) in
     record {
       told = λ tells ds are. search_begins _ _ ds c.number-at.result (subst (λ (n : ℕ). IsWalk (next_definition s.records) n ds) (sym (first_is tells)) are.walk);
       named_is = inr (refl, refl);
@@ -91,7 +93,8 @@ loop-preserved g c =
     let s = g.R.Reads.state c.args.space.now in
     let now = g.R.Reads.state c.loop.space in
     let same = reads_records _ s now c.loop.invariant.reads in
-    let rec_is : g.R.Reads.tells → c.record_at.new.rec ≡ index_rec s.records c.loop.at = λ tells. c.in_ok-record_at.ensures.got tells ∙ ap (λ (r : Records). index_rec r c.loop.at) same in
+    let rec_is : g.R.Reads.tells → c.record_at.new.rec ≡ index_rec s.records c.loop.at = λ tells. c.in_ok-record_at.ensures.got tells
+    ∙ ap (λ (r : Records). index_rec r c.loop.at) same in
     let next_is : g.R.Reads.tells → c.number-at-in-loop.result ≡ next_definition s.records c.loop.at
     = λ tells. c.number-at-in-loop.ensures ∙ ap (λ (r : Rec). field 4 r format.definition_next) (rec_is tells) in
     let used : g.R.Reads.tells → kind_at s.records format.index_file c.loop.at ≡ format.definition
@@ -99,11 +102,13 @@ loop-preserved g c =
     let other : g.R.Reads.tells → ¬ IsPair s.records c.args.label c.args.key c.loop.at
     = λ tells pair. true≢false (sym (c.is_of_pair.ensures.1 (ap (λ (r : Rec). field 4 r format.definition_label) (rec_is tells) ∙ pair.0, ap (λ (r : Rec). field 4 r format.definition_key) (rec_is tells) ∙ pair.1)) ∙ c.if-is_of_pair.false) in
     record {
-      told = λ tells ds are. search_on _ _ ds c.loop.at c.loop.counter (c.loop.invariant.told tells ds are) c.number-at-in-loop.result c.if-at.false (next_is tells) (other tells);
+      told = λ tells ds are. search_on _ _ ds c.loop.at c.loop.counter (c.loop.invariant.told tells ds are) c.number-at-in-loop.result c.if-at.false
+          (next_is tells) (other tells);
       named_is = subst IsOfIndexes (sym c.out_of_range-named.ensures) (inl refl);
       at = λ tells. subst (IsDefinitionAt s c.number-at-in-loop.result) (sym c.out_of_range-named.ensures)
           (definition_goes_on s c.loop.at c.loop.named (c.loop.invariant.at tells) c.if-at.false c.number-at-in-loop.result (used tells) (next_is tells));
-      others = λ tells. others_go_on s.records c.args.label c.args.key c.loop.at c.number-at-in-loop.result (c.loop.invariant.others tells) c.if-at.false (used tells) (next_is tells) (other tells);
+      others = λ tells. others_go_on s.records c.args.label c.args.key c.loop.at c.number-at-in-loop.result (c.loop.invariant.others tells) c.if-at.false
+          (used tells) (next_is tells) (other tells);
       reads = reads_then _ 1 _ _ _ _ (omega arith) c.loop.invariant.reads c.in_ok-record_at.ensures.at_most;
       onward = g.met.R.Reads.further_onward _ _ _ c.loop.invariant.onward c.in_ok-record_at.ensures.onward;
       later = omega (arith, c.loop.invariant.later, c.in_ok-record_at.ensures.cause.later);
@@ -139,10 +144,12 @@ pub returns-then-at-2-clause-names : goal.returns-then-at-2-clause-names
 returns-then-at-2-clause-names g c tells = subst NamesIndexes (sym c.damaged.ensures) (inr (refl, refl))
 
 pub returns-then-at-clause-defined : goal.returns-then-at-clause-defined
-returns-then-at-clause-defined g c tells = others_end (g.R.Reads.state c.args.space.now).records c.args.label c.args.key c.loop.at (c.loop.invariant.others tells) c.if-at.true
+returns-then-at-clause-defined g c tells = others_end (g.R.Reads.state c.args.space.now).records c.args.label c.args.key c.loop.at
+    (c.loop.invariant.others tells) c.if-at.true
 
 pub returns-clause-defined : goal.returns-clause-defined
-returns-clause-defined g c tells = others_end (g.R.Reads.state c.args.space.now).records c.args.label c.args.key c.loop.at (c.loop.invariant.others tells) c.if-at-2.false
+returns-clause-defined g c tells = others_end (g.R.Reads.state c.args.space.now).records c.args.label c.args.key c.loop.at (c.loop.invariant.others tells)
+    c.if-at-2.false
 
 pub returns-in_err-record_at-clause-onward : goal.returns-in_err-record_at-clause-onward
 returns-in_err-record_at-clause-onward g c =

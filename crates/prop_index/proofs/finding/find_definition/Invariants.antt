@@ -12,7 +12,8 @@ abbrev pub invariant-loop : goal.invariant-loop
 invariant-loop g l =
     let old = g.R.Reads.state l.fn.space in
     record {
-      told : g.R.Reads.tells → (ds : List ℕ) → AreDefinitions old.records ds → IsSearched (next_definition old.records) (IsPair old.records l.fn.label l.fn.key) ds l.at l.counter;
+      told : g.R.Reads.tells → (ds : List ℕ) → AreDefinitions old.records ds
+          → IsSearched (next_definition old.records) (IsPair old.records l.fn.label l.fn.key) ds l.at l.counter;
       named_is : IsOfIndexes l.named;
       at : g.R.Reads.tells → IsDefinitionAt old l.at l.named;
       others : g.R.Reads.tells → AreOthersPast old.records l.fn.label l.fn.key l.at;

@@ -58,7 +58,8 @@ returns-in_err-add_node-clause-cost g c tells xs are =
     let after = g.R.Reads.state c.add_node.new.space in
     let same_now : SameButReads s then = same_then s now then c.loop.invariant.same (reads_same 1 now then c.in_ok-record_at.ensures.at_most) in
     let gone = same_records s then same_now in
-    let rec_then : c.record_at.new.rec ≡ index_rec then.records c.loop.at = c.in_ok-record_at.ensures.got tells ∙ ap (λ (r : Records). index_rec r c.loop.at) (sym (same_records now then (reads_same 1 now then c.in_ok-record_at.ensures.at_most))) in
+    let rec_then : c.record_at.new.rec ≡ index_rec then.records c.loop.at = c.in_ok-record_at.ensures.got tells
+    ∙ ap (λ (r : Records). index_rec r c.loop.at) (sym (same_records now then (reads_same 1 now then c.in_ok-record_at.ensures.at_most))) in
     gather_cost _ _ _ _ _ xs _ _ _ (gather_on s now _ _ _ xs c.loop.at c.loop.counter _ (c.loop.invariant.told tells xs are) after _ _ c.if-at.false refl refl
     (reads_then 1 _ _ now then after (omega arith) c.in_ok-record_at.ensures.at_most
     (subst (λ (r : Records). ReadsAtMost (55 * cond (is_hashed r c.args.sought.hash c.loop.at) 1 0) then after) gone (c.in_err-add_node.ensures.cost c.loop.at rec_then))))
@@ -81,7 +82,8 @@ returns-in_err-add_node-clause-sound g c tells xs are readable =
     let same = c.loop.invariant.same in
     let same_now : SameButReads s then = same_then s now then same (reads_same 1 now then c.in_ok-record_at.ensures.at_most) in
     let here = gather_here _ _ _ _ _ xs _ _ _ (c.loop.invariant.told tells xs are) c.if-at.false in
-    let rec_is : c.record_at.new.rec ≡ index_rec then.records c.loop.at = c.in_ok-record_at.ensures.got tells ∙ ap (λ (r : Records). index_rec r c.loop.at) (sym (same_records now then (reads_same 1 now then c.in_ok-record_at.ensures.at_most))) in
+    let rec_is : c.record_at.new.rec ≡ index_rec then.records c.loop.at = c.in_ok-record_at.ensures.got tells
+    ∙ ap (λ (r : Records). index_rec r c.loop.at) (sym (same_records now then (reads_same 1 now then c.in_ok-record_at.ensures.at_most))) in
     let p = err_from_is_err_and c.from_residual-in_err-add_node.result c.from_residual-in_err-add_node.ensures.1 in
     let gone = same_records s then same_now in
     rw (p.1, p.2) (c.in_err-add_node.ensures.sound tells c.loop.at rec_is
@@ -100,7 +102,8 @@ returns-in_err-add_node-clause-same g c =
     let now = g.R.Reads.state c.loop.space in
     let then = g.R.Reads.state c.record_at.new.space in
     let after = g.R.Reads.state c.add_node.new.space in
-    same_then s then after (same_then s now then c.loop.invariant.same (reads_same 1 now then c.in_ok-record_at.ensures.at_most)) (reads_same 55 then after c.in_err-add_node.ensures.at_most)
+    same_then s then after (same_then s now then c.loop.invariant.same (reads_same 1 now then c.in_ok-record_at.ensures.at_most))
+    (reads_same 55 then after c.in_err-add_node.ensures.at_most)
 
 pub loop-preserved : goal.loop-preserved
 loop-preserved g c =
@@ -114,7 +117,8 @@ loop-preserved g c =
       told = λ tells xs are.
           let told = c.loop.invariant.told tells xs are in
           let was = same_records s now c.loop.invariant.same in
-          let rec_is : c.record_at.new.rec ≡ index_rec s.records c.loop.at = c.in_ok-record_at.ensures.got tells ∙ ap (λ (r : Records). index_rec r c.loop.at) was in
+          let rec_is : c.record_at.new.rec ≡ index_rec s.records c.loop.at = c.in_ok-record_at.ensures.got tells
+          ∙ ap (λ (r : Records). index_rec r c.loop.at) was in
           let gone = same_records s then same_now in
           let rec_then : c.record_at.new.rec ≡ index_rec then.records c.loop.at = rec_is ∙ ap (λ (r : Records). index_rec r c.loop.at) (sym gone) in
           gather_on s now _ _ _ xs c.loop.at c.loop.counter _ told after c.number-at.result _ c.if-at.false
@@ -125,13 +129,15 @@ loop-preserved g c =
           (subst (λ (r : Records). ReadsAtMost (55 * cond (is_hashed r c.args.sought.hash c.loop.at) 1 0) then after) gone (c.in_ok-add_node.ensures.cost c.loop.at rec_then)));
       at = λ tells d b h.
           let was = same_records s now c.loop.invariant.same in
-          let rec_is : c.record_at.new.rec ≡ index_rec s.records c.loop.at = c.in_ok-record_at.ensures.got tells ∙ ap (λ (r : Records). index_rec r c.loop.at) was in
+          let rec_is : c.record_at.new.rec ≡ index_rec s.records c.loop.at = c.in_ok-record_at.ensures.got tells
+          ∙ ap (λ (r : Records). index_rec r c.loop.at) was in
           subst (IsEntryAt s d b (c.loop.counter + 1) c.number-at.result) (sym c.out_of_range-named.ensures)
           (entry_goes_on s d b c.loop.counter c.loop.at c.loop.named (c.loop.invariant.at tells d b h) c.if-at.false c.number-at.result
           (ap (λ (r : Records). kind_at r format.index_file c.loop.at) (sym was) ∙ c.in_ok-record_at.ensures.used tells)
           (c.number-at.ensures ∙ ap (λ (r : Rec). field 4 r format.indexed_next) rec_is));
       same = same_then s then after same_now (reads_same 55 then after c.in_ok-add_node.ensures.at_most);
-      onward = g.met.R.Reads.further_onward _ _ _ (g.met.R.Reads.further_onward _ _ _ c.loop.invariant.onward c.in_ok-record_at.ensures.onward) c.in_ok-add_node.ensures.onward;
+      onward = g.met.R.Reads.further_onward _ _ _ (g.met.R.Reads.further_onward _ _ _ c.loop.invariant.onward c.in_ok-record_at.ensures.onward)
+          c.in_ok-add_node.ensures.onward;
       later = omega (arith, c.loop.invariant.later, c.in_ok-record_at.ensures.cause.later, c.in_ok-add_node.ensures.cause.later);
     }
 

@@ -22,7 +22,8 @@ use Rattle.prop_index.proofs.heads.find_bucket.Goals as goal
 pub returns-in_default-clause-found : goal.returns-in_default-clause-found
 returns-in_default-clause-found g c tells wanted ix =
     let s = g.R.Reads.state c.args.space.now in
-    subst (IsFound s.records ix.definitions c.args.label c.args.key) c.in_default.is (c.in_ok-id.ensures.found tells ix.definitions (definitions_of s.records wanted ix))
+    subst (IsFound s.records ix.definitions c.args.label c.args.key) c.in_default.is
+    (c.in_ok-id.ensures.found tells ix.definitions (definitions_of s.records wanted ix))
 
 pub returns-clause-found : goal.returns-clause-found
 returns-clause-found g c tells wanted ix =
@@ -34,9 +35,11 @@ returns-clause-found g c tells wanted ix =
     let rec_is : definition.rec ≡ index_rec now.records definition.id = pair.rec_is ∙ ap (λ (r : Records). index_rec r definition.id) (sym records) in
     record {
       definition = definition.id;
-      listed = subst (IsFound s.records ix.definitions c.args.label c.args.key) c.in-Some.is (c.in_ok-id.ensures.found tells ix.definitions (definitions_of s.records wanted ix));
+      listed = subst (IsFound s.records ix.definitions c.args.label c.args.key) c.in-Some.is
+          (c.in_ok-id.ensures.found tells ix.definitions (definitions_of s.records wanted ix));
       pair = pair.pair;
-      is = subst (λ (p : Records × ℕ). IsBucketOf p.0 definition.id p.1 c.in_ok-bucket.bucket) (λ i. (records i, c.bucket_of.ensures.is i)) (c.in_ok-bucket.ensures.is tells rec_is);
+      is = subst (λ (p : Records × ℕ). IsBucketOf p.0 definition.id p.1 c.in_ok-bucket.bucket) (λ i. (records i, c.bucket_of.ensures.is i))
+          (c.in_ok-bucket.ensures.is tells rec_is);
     }
 
 pub returns-in_err-bucket-clause-sound : goal.returns-in_err-bucket-clause-sound
@@ -47,10 +50,12 @@ returns-in_err-bucket-clause-sound g c tells wanted ix room =
     let records = same_records s now same in
     let definition : Definition = record { id = c.in-Some.id; rec = c.find_definition.new.rec } in
     let pair = subst (IsDefined s.records c.args.label c.args.key c.find_definition.new.rec) c.in-Some.is (c.in_ok-id.ensures.defined tells) in
-    let listed : In definition.id ix.definitions = subst (IsFound s.records ix.definitions c.args.label c.args.key) c.in-Some.is (c.in_ok-id.ensures.found tells ix.definitions (definitions_of s.records wanted ix)) in
+    let listed : In definition.id ix.definitions = subst (IsFound s.records ix.definitions c.args.label c.args.key) c.in-Some.is
+    (c.in_ok-id.ensures.found tells ix.definitions (definitions_of s.records wanted ix)) in
     let low = c.bucket_of.ensures.low in
     let heads : kind_at now.records format.index_file (heads_of now.records definition.id (c.bucket_of.result / 15)) ≡ format.heads
-    = ap (λ (r : Records). kind_at r format.index_file (heads_of r definition.id (c.bucket_of.result / 15))) records ∙ ix.heads definition.id (c.bucket_of.result / 15) listed (omega (arith, low)) in
+    = ap (λ (r : Records). kind_at r format.index_file (heads_of r definition.id (c.bucket_of.result / 15))) records
+    ∙ ix.heads definition.id (c.bucket_of.result / 15) listed (omega (arith, low)) in
     let p = err_from_is_err_and c.from_residual-in_err-bucket.result c.from_residual-in_err-bucket.ensures.1 in
     rw (p.1, p.2) (c.in_err-bucket.ensures.sound tells (pair.rec_is ∙ ap (λ (r : Records). index_rec r definition.id) (sym records)) (room_after s now format.index_file same room) heads)
 
@@ -66,12 +71,14 @@ returns-in_err-id-clause-cost g c tells wanted ix =
 pub returns-in_default-clause-cost : goal.returns-in_default-clause-cost
 returns-in_default-clause-cost g c tells wanted ix =
     let s = g.R.Reads.state c.args.space.now in
-    reads_more (1 + length ix.definitions) (2 + length ix.definitions) _ _ (omega arith) (c.in_ok-id.ensures.cost tells ix.definitions (definitions_of s.records wanted ix))
+    reads_more (1 + length ix.definitions) (2 + length ix.definitions) _ _ (omega arith)
+    (c.in_ok-id.ensures.cost tells ix.definitions (definitions_of s.records wanted ix))
 
 pub returns-in_err-bucket-clause-cost : goal.returns-in_err-bucket-clause-cost
 returns-in_err-bucket-clause-cost g c tells wanted ix =
     let s = g.R.Reads.state c.args.space.now in
-    reads_then (1 + length ix.definitions) 1 (2 + length ix.definitions) _ _ _ (omega arith) (c.in_ok-id.ensures.cost tells ix.definitions (definitions_of s.records wanted ix)) c.in_err-bucket.ensures.at_most
+    reads_then (1 + length ix.definitions) 1 (2 + length ix.definitions) _ _ _ (omega arith)
+    (c.in_ok-id.ensures.cost tells ix.definitions (definitions_of s.records wanted ix)) c.in_err-bucket.ensures.at_most
 
 pub returns-in_err-id-clause-cost_of_none : goal.returns-in_err-id-clause-cost_of_none
 returns-in_err-id-clause-cost_of_none g c tells wanted ix others =
@@ -85,20 +92,23 @@ pub returns-in_err-bucket-clause-cost_of_none : goal.returns-in_err-bucket-claus
 returns-in_err-bucket-clause-cost_of_none g c tells wanted ix others =
     let s = g.R.Reads.state c.args.space.now in
     let pair = subst (IsDefined s.records c.args.label c.args.key c.find_definition.new.rec) c.in-Some.is (c.in_ok-id.ensures.defined tells) in
-    let listed = subst (IsFound s.records ix.definitions c.args.label c.args.key) c.in-Some.is (c.in_ok-id.ensures.found tells ix.definitions (definitions_of s.records wanted ix)) in
+    let listed = subst (IsFound s.records ix.definitions c.args.label c.args.key) c.in-Some.is
+    (c.in_ok-id.ensures.found tells ix.definitions (definitions_of s.records wanted ix)) in
     absurd (others c.in-Some.id listed pair.pair)
 
 pub returns-clause-cost_of_none : goal.returns-clause-cost_of_none
 returns-clause-cost_of_none g c tells wanted ix others =
     let s = g.R.Reads.state c.args.space.now in
     let pair = subst (IsDefined s.records c.args.label c.args.key c.find_definition.new.rec) c.in-Some.is (c.in_ok-id.ensures.defined tells) in
-    let listed = subst (IsFound s.records ix.definitions c.args.label c.args.key) c.in-Some.is (c.in_ok-id.ensures.found tells ix.definitions (definitions_of s.records wanted ix)) in
+    let listed = subst (IsFound s.records ix.definitions c.args.label c.args.key) c.in-Some.is
+    (c.in_ok-id.ensures.found tells ix.definitions (definitions_of s.records wanted ix)) in
     absurd (others c.in-Some.id listed pair.pair)
 
 pub returns-clause-cost : goal.returns-clause-cost
 returns-clause-cost g c tells wanted ix =
     let s = g.R.Reads.state c.args.space.now in
-    reads_then (1 + length ix.definitions) 1 (2 + length ix.definitions) _ _ _ (omega arith) (c.in_ok-id.ensures.cost tells ix.definitions (definitions_of s.records wanted ix)) c.in_ok-bucket.ensures.at_most
+    reads_then (1 + length ix.definitions) 1 (2 + length ix.definitions) _ _ _ (omega arith)
+    (c.in_ok-id.ensures.cost tells ix.definitions (definitions_of s.records wanted ix)) c.in_ok-bucket.ensures.at_most
 
 pub returns-clause-at_most : goal.returns-clause-at_most
 returns-clause-at_most g c = reads_then 17 1 18 _ _ _ (omega arith) c.in_ok-id.ensures.at_most c.in_ok-bucket.ensures.at_most
@@ -114,7 +124,8 @@ returns-clause-met g c tells =
     let definition : Definition = record { id = c.in-Some.id; rec = c.find_definition.new.rec } in
     let pair = subst (IsDefined s.records c.args.label c.args.key c.find_definition.new.rec) c.in-Some.is (c.in_ok-id.ensures.defined tells) in
     let rec_is : definition.rec ≡ index_rec now.records definition.id = pair.rec_is ∙ ap (λ (r : Records). index_rec r definition.id) (sym records) in
-    let is = subst (λ (p : Records × ℕ). IsBucketOf p.0 definition.id p.1 c.in_ok-bucket.bucket) (λ i. (records i, c.bucket_of.ensures.is i)) (c.in_ok-bucket.ensures.is tells rec_is) in
+    let is = subst (λ (p : Records × ℕ). IsBucketOf p.0 definition.id p.1 c.in_ok-bucket.bucket) (λ i. (records i, c.bucket_of.ensures.is i))
+    (c.in_ok-bucket.ensures.is tells rec_is) in
     let low = c.bucket_of.ensures.low in
     record {
       definition = definition.id;
@@ -142,18 +153,21 @@ returns-in_err-bucket-clause-damaged g c tells =
     let pair = subst (IsDefined s.records c.args.label c.args.key c.find_definition.new.rec) c.in-Some.is (c.in_ok-id.ensures.defined tells) in
     same_has (BlamesBroken s.records s.shape) c.from_residual-in_err-bucket.result c.in_err-bucket.field-0.0 c.from_residual-in_err-bucket.ensures.1
     (blames_before s now c.in_err-bucket.field-0.0 same (c.in_err-bucket.ensures.damaged tells (pair.rec_is ∙ ap (λ (r : Records). index_rec r definition.id) (sym records))
-    (subst (λ (r : Records). LeadsToDefinition r definition.id) (sym records) pair.leads) (ap (λ (r : Records). kind_at r format.index_file definition.id) records ∙ pair.used)))
+    (subst (λ (r : Records). LeadsToDefinition r definition.id) (sym records) pair.leads)
+    (ap (λ (r : Records). kind_at r format.index_file definition.id) records ∙ pair.used)))
 
 pub returns-in_err-id-clause-names : goal.returns-in_err-id-clause-names
 returns-in_err-id-clause-names g c tells =
     same_has NamesIndexes c.from_residual.result c.in_err-id.field-0.0 c.from_residual.ensures.1 (c.in_err-id.ensures.names tells)
 
 pub returns-in_err-bucket-clause-names : goal.returns-in_err-bucket-clause-names
-returns-in_err-bucket-clause-names g c tells = same_has NamesIndexes c.from_residual-in_err-bucket.result c.in_err-bucket.field-0.0 c.from_residual-in_err-bucket.ensures.1 (c.in_err-bucket.ensures.names tells)
+returns-in_err-bucket-clause-names g c tells = same_has NamesIndexes c.from_residual-in_err-bucket.result c.in_err-bucket.field-0.0
+    c.from_residual-in_err-bucket.ensures.1 (c.in_err-bucket.ensures.names tells)
 
 pub returns-in_default-clause-lacks : goal.returns-in_default-clause-lacks
 returns-in_default-clause-lacks g c tells =
-    subst (IsDefined (g.R.Reads.state c.args.space.now).records c.args.label c.args.key c.find_definition.new.rec) c.in_default.is (c.in_ok-id.ensures.defined tells)
+    subst (IsDefined (g.R.Reads.state c.args.space.now).records c.args.label c.args.key c.find_definition.new.rec) c.in_default.is
+    (c.in_ok-id.ensures.defined tells)
 
 pub returns-in_err-bucket-clause-onward : goal.returns-in_err-bucket-clause-onward
 returns-in_err-bucket-clause-onward g c =

@@ -41,7 +41,8 @@ returns-clause-at_most g c = reads_after 54 55 _ _ _ (omega arith) c.get_into.en
 
 pub returns-clause-met : goal.returns-clause-met
 returns-clause-met g c tells =
-    let gone : (g.R.Reads.state c.get_into.new.self).records ≡ (g.R.Reads.state c.args.space.now).records = ap (λ (z : State). z.records) c.get_into.ensures.state in
+    let gone : (g.R.Reads.state c.get_into.new.self).records ≡ (g.R.Reads.state c.args.space.now).records =
+    ap (λ (z : State). z.records) c.get_into.ensures.state in
     c.is_value.ensures
     ∙ ap (has_value c.args.value.now) (c.in_ok-held.ensures.met tells ∙ (λ i. value_of (properties_met (gone i) (c.in_ok-owner.ensures.is i)) c.args.key)
     ∙ sym (value_in-is _ c.args.key))
@@ -49,7 +50,8 @@ returns-clause-met g c tells =
 pub returns-then-byte-eq-FREE-clause-sound : goal.returns-then-byte-eq-FREE-clause-sound
 returns-then-byte-eq-FREE-clause-sound g c tells listed =
     let s = (g.R.Reads.state c.args.space.now).records in
-    let rec_is : c.get_into.new.rec ≡ rec_at s format.nodes_file c.args.node = c.in_ok-get_into.ensures.got tells ∙ ap (λ (o : Owner). s o.key) c.in_ok-owner.ensures.is in
+    let rec_is : c.get_into.new.rec ≡ rec_at s format.nodes_file c.args.node = c.in_ok-get_into.ensures.got tells
+    ∙ ap (λ (o : Owner). s o.key) c.in_ok-owner.ensures.is in
     absurd (in_use s c.args.node c.get_into.new.rec rec_is listed.low listed.used (sym c.byte.ensures ∙ c.if-byte-eq-FREE.true))
 
 pub returns-in_err-held-clause-sound : goal.returns-in_err-held-clause-sound
@@ -75,7 +77,8 @@ returns-in_err-get_into-clause-damaged g c tells d b count rec met node_is =
 pub returns-then-byte-eq-FREE-clause-damaged : goal.returns-then-byte-eq-FREE-clause-damaged
 returns-then-byte-eq-FREE-clause-damaged g c tells d b count rec met node_is =
     let s = g.R.Reads.state c.args.space.now in
-    let rec_is : c.get_into.new.rec ≡ rec_at s.records format.nodes_file c.args.node = c.in_ok-get_into.ensures.got tells ∙ ap (λ (o : Owner). s.records o.key) c.in_ok-owner.ensures.is in
+    let rec_is : c.get_into.new.rec ≡ rec_at s.records format.nodes_file c.args.node = c.in_ok-get_into.ensures.got tells
+    ∙ ap (λ (o : Owner). s.records o.key) c.in_ok-owner.ensures.is in
     subst (BlamesBroken s.records s.shape) (sym c.damaged.ensures) (entry_unwanted s d b count c.args.entry rec met c.args.node node_is
     (ap (λ (r : Rec). field 1 r format.kind) (sym rec_is) ∙ sym c.byte.ensures ∙ c.if-byte-eq-FREE.true))
 
@@ -84,9 +87,11 @@ returns-in_err-held-clause-damaged g c tells d b count rec met node_is =
     let s = g.R.Reads.state c.args.space.now in
     let now = g.R.Reads.state c.get_into.new.self in
     let gone : now.records ≡ s.records = ap (λ (z : State). z.records) c.get_into.ensures.state in
-    let rec_is : c.get_into.new.rec ≡ rec_at s.records format.nodes_file c.args.node = c.in_ok-get_into.ensures.got tells ∙ ap (λ (o : Owner). s.records o.key) c.in_ok-owner.ensures.is in
+    let rec_is : c.get_into.new.rec ≡ rec_at s.records format.nodes_file c.args.node = c.in_ok-get_into.ensures.got tells
+    ∙ ap (λ (o : Owner). s.records o.key) c.in_ok-owner.ensures.is in
     let low : c.args.node < high s.records format.nodes_file = c.in_ok-owner.ensures.low in
-    let used : kind_at s.records format.nodes_file c.args.node ≢ format.free_kind = λ e. c.if-byte-eq-FREE.false (c.byte.ensures ∙ ap (λ (r : Rec). field 1 r format.kind) rec_is ∙ sym (kind_low (high s.records format.nodes_file) (rec_at s.records format.nodes_file c.args.node) c.args.node low) ∙ e) in
+    let used : kind_at s.records format.nodes_file c.args.node ≢ format.free_kind = λ e.
+    c.if-byte-eq-FREE.false (c.byte.ensures ∙ ap (λ (r : Rec). field 1 r format.kind) rec_is ∙ sym (kind_low (high s.records format.nodes_file) (rec_at s.records format.nodes_file c.args.node) c.args.node low) ∙ e) in
     same_has (BlamesBroken s.records s.shape) c.from_residual-in_err-held.result c.in_err-held.field-0.0 c.from_residual-in_err-held.ensures.1
     (blames_before s now c.in_err-held.field-0.0 (reads_same 1 s now (reads_one 1 s now (omega arith) c.get_into.ensures.state))
     (any_read now.records now.shape c.in_err-held.field-0.0 (c.in_err-held.ensures.damaged tells (subst (λ (o : Owner). IsInUse now.records o) (sym c.in_ok-owner.ensures.is) (subst (λ (r : Records). IsInUse r (node_owner c.args.node)) (sym gone) used)))))

@@ -58,7 +58,8 @@ returns-clause-dropped g c tells xs free head chain can =
     let bucket = c.args.bucket in
     let x = c.in-Some.row.id in
     let row = subst (IsEntrySought s.records xs c.args.content) c.in-Some.is (c.in_ok-row.ensures.found tells xs (chain-entries s bucket.first xs chain)) in
-    let key : IsKey (key_in format.index_file x) = subst (λ (o : Option EntryRow). IfSome o (λ row. IsKey (key_in format.index_file row.id))) c.in-Some.is c.in_ok-row.ensures.key in
+    let key : IsKey (key_in format.index_file x) = subst (λ (o : Option EntryRow). IfSome o (λ row. IsKey (key_in format.index_file row.id))) c.in-Some.is
+    c.in_ok-row.ensures.key in
     let before_is : c.number-before.result ≡ previous_entry now.records x
     = c.number-before.ensures ∙ ap (λ (r : Rec). field 4 r format.indexed_previous) row.rec_is ∙ ap (λ (r : Records). previous_entry r x) (sym records) in
     let after_is : c.number-after.result ≡ next_entry now.records x
@@ -81,13 +82,18 @@ returns-clause-keeps g c tells xs head chain place store =
     let bucket = c.args.bucket in
     let x = c.in-Some.row.id in
     let row = subst (IsEntrySought s.records xs c.args.content) c.in-Some.is (c.in_ok-row.ensures.found tells xs (chain-entries s bucket.first xs chain)) in
-    let key : IsKey (key_in format.index_file x) = subst (λ (o : Option EntryRow). IfSome o (λ row. IsKey (key_in format.index_file row.id))) c.in-Some.is c.in_ok-row.ensures.key in
+    let key : IsKey (key_in format.index_file x) = subst (λ (o : Option EntryRow). IfSome o (λ row. IsKey (key_in format.index_file row.id))) c.in-Some.is
+    c.in_ok-row.ensures.key in
     let before_is : c.number-before.result ≡ previous_entry now.records x
-    = c.number-before.ensures ∙ ap (λ (r : Rec). field 4 r format.indexed_previous) row.rec_is ∙ ap (λ (r : Records). previous_entry r x) (sym (same_records s now same)) in
+    = c.number-before.ensures ∙ ap (λ (r : Rec). field 4 r format.indexed_previous) row.rec_is
+    ∙ ap (λ (r : Records). previous_entry r x) (sym (same_records s now same)) in
     let after_is : c.number-after.result ≡ next_entry now.records x
-    = c.number-after.ensures ∙ ap (λ (r : Rec). field 4 r format.indexed_next) row.rec_is ∙ ap (λ (r : Records). next_entry r x) (sym (same_records s now same)) in
-    entry_gone_kept now bucket.slot bucket.first x xs (chain-reread s now bucket.first xs same chain) (head-reread s now bucket same head).heads place row.member (kept_after s now same store) key.id
-    t (c.in_ok-unlink.ensures.ok tells ∙ (λ i. unlinked_entry now bucket.slot x (before_is i) (after_is i))) (g.met.S.Reads.onward_shape _ _ c.in_ok-unlink.ensures.onward)
+    = c.number-after.ensures ∙ ap (λ (r : Rec). field 4 r format.indexed_next) row.rec_is
+    ∙ ap (λ (r : Records). next_entry r x) (sym (same_records s now same)) in
+    entry_gone_kept now bucket.slot bucket.first x xs (chain-reread s now bucket.first xs same chain) (head-reread s now bucket same head).heads place
+    row.member (kept_after s now same store) key.id
+    t (c.in_ok-unlink.ensures.ok tells ∙ (λ i. unlinked_entry now bucket.slot x (before_is i) (after_is i)))
+    (g.met.S.Reads.onward_shape _ _ c.in_ok-unlink.ensures.onward)
 
 pub returns-in_err-row-clause-sound : goal.returns-in_err-row-clause-sound
 returns-in_err-row-clause-sound g c tells xs chain room =
@@ -104,7 +110,8 @@ returns-in_err-test_link-clause-sound g c tells xs chain room =
     let first = c.args.bucket.first in
     let row = subst (IsEntrySought s.records xs c.args.content) c.in-Some.is (c.in_ok-row.ensures.found tells xs (chain-entries s first xs chain)) in
     let is : c.number-before.result ≡ previous_entry now.records x
-    = c.number-before.ensures ∙ ap (λ (r : Rec). field 4 r format.indexed_previous) row.rec_is ∙ ap (λ (r : Records). previous_entry r x) (sym (same_records s now same)) in
+    = c.number-before.ensures ∙ ap (λ (r : Rec). field 4 r format.indexed_previous) row.rec_is
+    ∙ ap (λ (r : Records). previous_entry r x) (sym (same_records s now same)) in
     absurd (true≢false (sym (c.in_err-test_link.ensures.sound (room_after s now format.index_file same room)
     (λ some. subst (λ (n : ℕ). n < high now.records format.index_file) (sym is) (before-low now.records first x xs (chain-reread s now first xs same chain) row.member (λ e. some (is ∙ e)))))))
 
@@ -117,7 +124,8 @@ returns-in_err-test_link-2-clause-sound g c tells xs chain room =
     let first = c.args.bucket.first in
     let row = subst (IsEntrySought s.records xs c.args.content) c.in-Some.is (c.in_ok-row.ensures.found tells xs (chain-entries s first xs chain)) in
     let is : c.number-after.result ≡ next_entry now.records x
-    = c.number-after.ensures ∙ ap (λ (r : Rec). field 4 r format.indexed_next) row.rec_is ∙ ap (λ (r : Records). next_entry r x) (sym (same_records s now same)) in
+    = c.number-after.ensures ∙ ap (λ (r : Rec). field 4 r format.indexed_next) row.rec_is
+    ∙ ap (λ (r : Records). next_entry r x) (sym (same_records s now same)) in
     absurd (true≢false (sym (c.in_err-test_link-2.ensures.sound (room_after s now format.index_file same room)
     (λ some. subst (λ (n : ℕ). n < high now.records format.index_file) (sym is) (after-low now.records first x xs (chain-reread s now first xs same chain) row.member (λ e. some (is ∙ e)))))))
 
@@ -136,7 +144,8 @@ returns-in_err-row-clause-still g c tells d b h =
 
 -- what a test of the row's links blames
 row_blames : (s now : State) (o : Option EntryRow) (row : EntryRow) (link : ℕ) → SameButReads s now → o ≡ Some row → IfSome o (IsEntryRow s.records)
-    → ((link ≡ field 4 row.rec format.indexed_next) ⊎ (link ≡ field 4 row.rec format.indexed_previous)) → (bad : Damage) → (link ≢ format.nil) × IsLinkDamage now (key_in format.index_file row.id) format.index_file link bad → BreaksAny now.records now.shape bad
+    → ((link ≡ field 4 row.rec format.indexed_next) ⊎ (link ≡ field 4 row.rec format.indexed_previous)) → (bad : Damage) → (link ≢ format.nil)
+    × IsLinkDamage now (key_in format.index_file row.id) format.index_file link bad → BreaksAny now.records now.shape bad
 row_blames s now o row link same is has at bad told =
     let read : IsEntryRow s.records row = subst (λ (z : Option EntryRow). IfSome z (IsEntryRow s.records)) is has in
     let records = same_records s now same in
@@ -149,7 +158,8 @@ pub returns-in_err-test_link-clause-damaged : goal.returns-in_err-test_link-clau
 returns-in_err-test_link-clause-damaged g c tells d b h =
     let s = g.S.Reads.state c.args.space.now in
     let now = g.S.Reads.state c.find_entry.new.space in
-    same_has (BlamesBroken s.records s.shape) c.from_residual-in_err-test_link.result (Damaged c.in_err-test_link.field-0.0) c.from_residual-in_err-test_link.ensures.1
+    same_has (BlamesBroken s.records s.shape) c.from_residual-in_err-test_link.result (Damaged c.in_err-test_link.field-0.0)
+    c.from_residual-in_err-test_link.ensures.1
     (breaks_before s now c.in_err-test_link.field-0.0 c.in_ok-row.ensures.same
     (row_blames s now _ c.in-Some.row c.number-before.result c.in_ok-row.ensures.same c.in-Some.is (c.in_ok-row.ensures.row tells) (inr c.number-before.ensures) c.in_err-test_link.field-0.0 c.in_err-test_link.ensures.damaged))
 
@@ -157,14 +167,16 @@ pub returns-in_err-test_link-clause-still : goal.returns-in_err-test_link-clause
 returns-in_err-test_link-clause-still g c tells d b h =
     let s = g.S.Reads.state c.args.space.now in
     let now = g.S.Reads.state c.find_entry.new.space in
-    same_has (BlamesBroken now.records now.shape) c.from_residual-in_err-test_link.result (Damaged c.in_err-test_link.field-0.0) c.from_residual-in_err-test_link.ensures.1
+    same_has (BlamesBroken now.records now.shape) c.from_residual-in_err-test_link.result (Damaged c.in_err-test_link.field-0.0)
+    c.from_residual-in_err-test_link.ensures.1
     (row_blames s now _ c.in-Some.row c.number-before.result c.in_ok-row.ensures.same c.in-Some.is (c.in_ok-row.ensures.row tells) (inr c.number-before.ensures) c.in_err-test_link.field-0.0 c.in_err-test_link.ensures.damaged)
 
 pub returns-in_err-test_link-2-clause-damaged : goal.returns-in_err-test_link-2-clause-damaged
 returns-in_err-test_link-2-clause-damaged g c tells d b h =
     let s = g.S.Reads.state c.args.space.now in
     let now = g.S.Reads.state c.find_entry.new.space in
-    same_has (BlamesBroken s.records s.shape) c.from_residual-in_err-test_link-2.result (Damaged c.in_err-test_link-2.field-0.0) c.from_residual-in_err-test_link-2.ensures.1
+    same_has (BlamesBroken s.records s.shape) c.from_residual-in_err-test_link-2.result (Damaged c.in_err-test_link-2.field-0.0)
+    c.from_residual-in_err-test_link-2.ensures.1
     (breaks_before s now c.in_err-test_link-2.field-0.0 c.in_ok-row.ensures.same
     (row_blames s now _ c.in-Some.row c.number-after.result c.in_ok-row.ensures.same c.in-Some.is (c.in_ok-row.ensures.row tells) (inl c.number-after.ensures) c.in_err-test_link-2.field-0.0 c.in_err-test_link-2.ensures.damaged))
 
@@ -172,7 +184,8 @@ pub returns-in_err-test_link-2-clause-still : goal.returns-in_err-test_link-2-cl
 returns-in_err-test_link-2-clause-still g c tells d b h =
     let s = g.S.Reads.state c.args.space.now in
     let now = g.S.Reads.state c.find_entry.new.space in
-    same_has (BlamesBroken now.records now.shape) c.from_residual-in_err-test_link-2.result (Damaged c.in_err-test_link-2.field-0.0) c.from_residual-in_err-test_link-2.ensures.1
+    same_has (BlamesBroken now.records now.shape) c.from_residual-in_err-test_link-2.result (Damaged c.in_err-test_link-2.field-0.0)
+    c.from_residual-in_err-test_link-2.ensures.1
     (row_blames s now _ c.in-Some.row c.number-after.result c.in_ok-row.ensures.same c.in-Some.is (c.in_ok-row.ensures.row tells) (inl c.number-after.ensures) c.in_err-test_link-2.field-0.0 c.in_err-test_link-2.ensures.damaged)
 
 pub returns-in_err-unlink-clause-damaged : goal.returns-in_err-unlink-clause-damaged
@@ -194,10 +207,12 @@ pub returns-clause-counted : goal.returns-clause-counted
 returns-clause-counted g c tells =
     let now = g.S.Reads.state c.find_entry.new.space in
     let x = c.in-Some.row.id in
-    let key : IsKey (key_in format.index_file x) = subst (λ (o : Option EntryRow). IfSome o (λ row. IsKey (key_in format.index_file row.id))) c.in-Some.is c.in_ok-row.ensures.key in
+    let key : IsKey (key_in format.index_file x) = subst (λ (o : Option EntryRow). IfSome o (λ row. IsKey (key_in format.index_file row.id))) c.in-Some.is
+    c.in_ok-row.ensures.key in
     let small = key.id in
     let live = ap (λ (z : State). (meta_of z format.index_file).live) c.in_ok-row.ensures.same in
-    let gone = ap (λ (z : State). (meta_of z format.index_file).live) (c.in_ok-unlink.ensures.ok tells) ∙ unlinked_live now c.args.bucket.slot x c.number-before.result c.number-after.result (omega (arith, small)) in
+    let gone = ap (λ (z : State). (meta_of z format.index_file).live) (c.in_ok-unlink.ensures.ok tells)
+    ∙ unlinked_live now c.args.bucket.slot x c.number-before.result c.number-after.result (omega (arith, small)) in
     omega (arith, live, gone)
 
 pub returns-in_default-clause-kept : goal.returns-in_default-clause-kept
@@ -209,15 +224,18 @@ pub returns-clause-kept : goal.returns-clause-kept
 returns-clause-kept g c tells =
     let now = g.S.Reads.state c.find_entry.new.space in
     let x = c.in-Some.row.id in
-    let key : IsKey (key_in format.index_file x) = subst (λ (o : Option EntryRow). IfSome o (λ row. IsKey (key_in format.index_file row.id))) c.in-Some.is c.in_ok-row.ensures.key in
+    let key : IsKey (key_in format.index_file x) = subst (λ (o : Option EntryRow). IfSome o (λ row. IsKey (key_in format.index_file row.id))) c.in-Some.is
+    c.in_ok-row.ensures.key in
     let small = key.id in
     let live = ap (λ (z : State). (meta_of z format.index_file).live) c.in_ok-row.ensures.same in
-    let gone = ap (λ (z : State). (meta_of z format.index_file).live) (c.in_ok-unlink.ensures.ok tells) ∙ unlinked_live now c.args.bucket.slot x c.number-before.result c.number-after.result (omega (arith, small)) in
+    let gone = ap (λ (z : State). (meta_of z format.index_file).live) (c.in_ok-unlink.ensures.ok tells)
+    ∙ unlinked_live now c.args.bucket.slot x c.number-before.result c.number-after.result (omega (arith, small)) in
     omega (arith, live, gone)
 
 pub returns-in_err-row-clause-names : goal.returns-in_err-row-clause-names
 returns-in_err-row-clause-names g c tells =
-    same_has NamesIndexes c.from_residual.result c.in_err-row.field-0.0 c.from_residual.ensures.1 (c.in_err-row.ensures.names tells (subst IsOfIndexes (sym c.out_of_range-named.ensures) (inl refl)))
+    same_has NamesIndexes c.from_residual.result c.in_err-row.field-0.0 c.from_residual.ensures.1
+    (c.in_err-row.ensures.names tells (subst IsOfIndexes (sym c.out_of_range-named.ensures) (inl refl)))
 
 pub returns-in_err-test_link-clause-names : goal.returns-in_err-test_link-clause-names
 returns-in_err-test_link-clause-names g c tells =
@@ -230,10 +248,12 @@ returns-in_err-test_link-2-clause-names g c tells =
     (link_names _ c.in-Some.row.id c.number-after.result c.in_err-test_link-2.field-0.0 c.in_err-test_link-2.ensures.damaged.1)
 
 pub returns-in_err-unlink-clause-names : goal.returns-in_err-unlink-clause-names
-returns-in_err-unlink-clause-names g c tells = space_has NamesIndexes tt tt c.from_residual-in_err-unlink.result c.in_err-unlink.field-0.0 c.from_residual-in_err-unlink.ensures.1
+returns-in_err-unlink-clause-names g c tells = space_has NamesIndexes tt tt c.from_residual-in_err-unlink.result c.in_err-unlink.field-0.0
+    c.from_residual-in_err-unlink.ensures.1
 
 -- what became of the records of the index
-dropped_graph : (s t : Records) (xs : List ℕ) (bucket : Bucket) (content : Content) → IsHead s bucket → IsBucketChain s bucket.first xs → IsHeadPlace bucket.slot.place → SameElsewhere s t
+dropped_graph : (s t : Records) (xs : List ℕ) (bucket : Bucket) (content : Content) → IsHead s bucket → IsBucketChain s bucket.first xs
+    → IsHeadPlace bucket.slot.place → SameElsewhere s t
     → IsDropped s t xs bucket.slot content → indexes_of t ≡ indexes_of s
 dropped_graph s t xs bucket content head chain place elsewhere (NoneThere none same) = same_graph s t same
 dropped_graph s t xs bucket content head chain place elsewhere (OneGone x member says gone) =
@@ -255,7 +275,8 @@ returns-clause-graph g c tells xs free head chain place can =
     let now = g.S.Reads.state c.find_entry.new.space in
     let t = g.S.Reads.state c.unlink.new.space in
     let touched = c.in_ok-unlink.ensures.touches in
-    let elsewhere : SameElsewhere s.records t.records = subst (λ (r : Records). SameElsewhere r t.records) (same_records s now c.in_ok-row.ensures.same) (elsewhere_of g.S.Reads.tells now t touched.ids tells touched.only) in
+    let elsewhere : SameElsewhere s.records t.records = subst (λ (r : Records). SameElsewhere r t.records) (same_records s now c.in_ok-row.ensures.same)
+    (elsewhere_of g.S.Reads.tells now t touched.ids tells touched.only) in
     dropped_graph s.records t.records xs c.args.bucket c.args.content head chain place elsewhere (returns-clause-dropped g c tells xs free head chain can)
 
 pub returns-in_default-clause-gone : goal.returns-in_default-clause-gone
@@ -267,9 +288,11 @@ pub returns-clause-gone : goal.returns-clause-gone
 returns-clause-gone g c tells xs chain x member says =
     let now = g.S.Reads.state c.find_entry.new.space in
     let id = c.in-Some.row.id in
-    let key : IsKey (key_in format.index_file id) = subst (λ (o : Option EntryRow). IfSome o (λ row. IsKey (key_in format.index_file row.id))) c.in-Some.is c.in_ok-row.ensures.key in
+    let key : IsKey (key_in format.index_file id) = subst (λ (o : Option EntryRow). IfSome o (λ row. IsKey (key_in format.index_file row.id))) c.in-Some.is
+    c.in_ok-row.ensures.key in
     let small = key.id in
-    ap (λ (z : State). (meta_of z format.index_file).live) (c.in_ok-unlink.ensures.ok tells) ∙ unlinked_live now c.args.bucket.slot id c.number-before.result c.number-after.result (omega (arith, small))
+    ap (λ (z : State). (meta_of z format.index_file).live) (c.in_ok-unlink.ensures.ok tells)
+    ∙ unlinked_live now c.args.bucket.slot id c.number-before.result c.number-after.result (omega (arith, small))
     ∙ ap (λ (z : State). (meta_of z format.index_file).live - 1) c.in_ok-row.ensures.same
 
 pub returns-in_default-clause-absent : goal.returns-in_default-clause-absent
@@ -278,7 +301,8 @@ returns-in_default-clause-absent g c tells xs chain none = c.in_ok-row.ensures.s
 pub returns-clause-absent : goal.returns-clause-absent
 returns-clause-absent g c tells xs chain none =
     let s = g.S.Reads.state c.args.space.now in
-    let row = subst (IsEntrySought s.records xs c.args.content) c.in-Some.is (c.in_ok-row.ensures.found tells xs (chain-entries s c.args.bucket.first xs chain)) in
+    let row = subst (IsEntrySought s.records xs c.args.content) c.in-Some.is
+    (c.in_ok-row.ensures.found tells xs (chain-entries s c.args.bucket.first xs chain)) in
     absurd (none c.in-Some.row.id row.member row.says)
 
 pub returns-in_err-unlink-clause-onward : goal.returns-in_err-unlink-clause-onward
@@ -460,4 +484,5 @@ returns-in_err-test_link-2-clause-unwritten g c = on_damage c.from_residual-in_e
 
 pub returns-in_err-unlink-clause-unwritten : goal.returns-in_err-unlink-clause-unwritten
 returns-in_err-unlink-clause-unwritten g c =
-    space_has (λ fault. IfSome (damage_of fault) (λ _. SameButReads (g.S.Reads.state c.args.space.now) (g.S.Reads.state c.unlink.new.space))) tt tt c.from_residual-in_err-unlink.result c.in_err-unlink.field-0.0 c.from_residual-in_err-unlink.ensures.1
+    space_has (λ fault. IfSome (damage_of fault) (λ _. SameButReads (g.S.Reads.state c.args.space.now) (g.S.Reads.state c.unlink.new.space))) tt tt
+    c.from_residual-in_err-unlink.result c.in_err-unlink.field-0.0 c.from_residual-in_err-unlink.ensures.1

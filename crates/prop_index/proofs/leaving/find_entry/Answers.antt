@@ -41,7 +41,8 @@ pub returns-then-is_of-clause-found : goal.returns-then-is_of-clause-found
 returns-then-is_of-clause-found g c tells xs are =
     let s = g.R.Reads.state c.args.space.now in
     let now = g.R.Reads.state c.loop.space in
-    let rec_is : c.record_at.new.rec ≡ index_rec s.records c.loop.at = c.in_ok-record_at.ensures.got tells ∙ ap (λ (r : Records). index_rec r c.loop.at) (same_records s now c.loop.invariant.same) in
+    let rec_is : c.record_at.new.rec ≡ index_rec s.records c.loop.at = c.in_ok-record_at.ensures.got tells
+    ∙ ap (λ (r : Records). index_rec r c.loop.at) (same_records s now c.loop.invariant.same) in
     let says = c.is_of.ensures.0 c.if-is_of.true in
     record {
       member = (search_here _ _ xs c.loop.at c.loop.counter (c.loop.invariant.told tells xs are) c.if-at.false).0;
@@ -50,15 +51,18 @@ returns-then-is_of-clause-found g c tells xs are =
     }
 
 pub returns-then-is_of-clause-same : goal.returns-then-is_of-clause-same
-returns-then-is_of-clause-same g c = same_then (g.R.Reads.state c.args.space.now) (g.R.Reads.state c.loop.space) (g.R.Reads.state c.record_at.new.space) c.loop.invariant.same (reads_same 1 (g.R.Reads.state c.loop.space) (g.R.Reads.state c.record_at.new.space) c.in_ok-record_at.ensures.at_most)
+returns-then-is_of-clause-same g c = same_then (g.R.Reads.state c.args.space.now) (g.R.Reads.state c.loop.space) (g.R.Reads.state c.record_at.new.space)
+    c.loop.invariant.same (reads_same 1 (g.R.Reads.state c.loop.space) (g.R.Reads.state c.record_at.new.space) c.in_ok-record_at.ensures.at_most)
 
 pub loop-preserved : goal.loop-preserved
 loop-preserved g c =
     let s = g.R.Reads.state c.args.space.now in
     let now = g.R.Reads.state c.loop.space in
     let records = same_records s now c.loop.invariant.same in
-    let rec_is : g.R.Reads.tells → c.record_at.new.rec ≡ index_rec s.records c.loop.at = λ tells. c.in_ok-record_at.ensures.got tells ∙ ap (λ (r : Records). index_rec r c.loop.at) records in
-    let next_is : g.R.Reads.tells → c.number-at.result ≡ next_entry s.records c.loop.at = λ tells. c.number-at.ensures ∙ ap (λ (r : Rec). field 4 r format.indexed_next) (rec_is tells) in
+    let rec_is : g.R.Reads.tells → c.record_at.new.rec ≡ index_rec s.records c.loop.at = λ tells. c.in_ok-record_at.ensures.got tells
+    ∙ ap (λ (r : Records). index_rec r c.loop.at) records in
+    let next_is : g.R.Reads.tells → c.number-at.result ≡ next_entry s.records c.loop.at = λ tells. c.number-at.ensures
+    ∙ ap (λ (r : Rec). field 4 r format.indexed_next) (rec_is tells) in
     record {
       told = λ tells xs are.
           search_on _ _ xs c.loop.at c.loop.counter (c.loop.invariant.told tells xs are) c.number-at.result c.if-at.false (next_is tells)
@@ -67,7 +71,8 @@ loop-preserved g c =
       at = λ tells d b h. subst (IsEntryAt s d b (c.loop.counter + 1) c.number-at.result) (sym c.out_of_range-named.ensures)
           (entry_goes_on s d b c.loop.counter c.loop.at c.loop.named (c.loop.invariant.at tells d b h) c.if-at.false c.number-at.result
           (ap (λ (r : Records). kind_at r format.index_file c.loop.at) (sym records) ∙ c.in_ok-record_at.ensures.used tells) (next_is tells));
-      same = same_then (g.R.Reads.state c.args.space.now) (g.R.Reads.state c.loop.space) (g.R.Reads.state c.record_at.new.space) c.loop.invariant.same (reads_same 1 (g.R.Reads.state c.loop.space) (g.R.Reads.state c.record_at.new.space) c.in_ok-record_at.ensures.at_most);
+      same = same_then (g.R.Reads.state c.args.space.now) (g.R.Reads.state c.loop.space) (g.R.Reads.state c.record_at.new.space) c.loop.invariant.same
+          (reads_same 1 (g.R.Reads.state c.loop.space) (g.R.Reads.state c.record_at.new.space) c.in_ok-record_at.ensures.at_most);
       onward = g.met.R.Reads.further_onward _ _ _ c.loop.invariant.onward c.in_ok-record_at.ensures.onward;
       later = omega (arith, c.loop.invariant.later, c.in_ok-record_at.ensures.cause.later);
     }

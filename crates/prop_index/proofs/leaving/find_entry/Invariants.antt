@@ -11,7 +11,8 @@ abbrev pub invariant-loop : goal.invariant-loop
 invariant-loop g l =
     let old = g.R.Reads.state l.fn.space in
     record {
-      told : g.R.Reads.tells → (xs : List ℕ) → AreEntries old l.fn.first xs → IsSearched (next_entry old.records) (SaysContent old.records l.fn.content) xs l.at l.counter;
+      told : g.R.Reads.tells → (xs : List ℕ) → AreEntries old l.fn.first xs
+          → IsSearched (next_entry old.records) (SaysContent old.records l.fn.content) xs l.at l.counter;
       named_is : IsOfIndexes l.fn.named → IsOfIndexes l.named;
       at : g.R.Reads.tells → (d b : ℕ) → IsEntryAt old d b 0 l.fn.first l.fn.named → IsEntryAt old d b l.counter l.at l.named;
       same : SameButReads old (g.R.Reads.state l.space);

@@ -36,7 +36,8 @@ returns-in_default-clause-left g c tells wanted free ix can =
     let now = g.S.Reads.state c.find_bucket.new.space in
     let same : SameButReads s now = reads_same 18 s now c.in_ok-bucket.ensures.at_most in
     let content : Content = record { node = c.args.node; hash = c.hash_of-hash.result } in
-    let none = subst (IsBucketSought s.records ix.definitions c.args.label c.args.key c.hash_of-hash.result) c.in_default.is (c.in_ok-bucket.ensures.found tells wanted ix) in
+    let none = subst (IsBucketSought s.records ix.definitions c.args.label c.args.key c.hash_of-hash.result) c.in_default.is
+    (c.in_ok-bucket.ensures.found tells wanted ix) in
     subst (λ (r : Records). AreIndexed r (without_entry wanted (entry_of c.args.label c.args.key c.args.node c.args.value.now))) (sym (same_records s now same))
     (subst (λ (h : ℕ). AreIndexed s.records (without_entry wanted (record { label = c.args.label; key = c.args.key; node = c.args.node; hash = h }))) c.hash_of-hash.ensures
     (unlisted_left s.records wanted ix c.args.label c.args.key content none))
@@ -50,13 +51,15 @@ returns-clause-left g c tells wanted free ix can =
     let records = same_records s now same in
     let content : Content = record { node = c.args.node; hash = c.hash_of-hash.result } in
     let bucket = c.in-Some.bucket in
-    let found = subst (IsBucketSought s.records ix.definitions c.args.label c.args.key c.hash_of-hash.result) c.in-Some.is (c.in_ok-bucket.ensures.found tells wanted ix) in
+    let found = subst (IsBucketSought s.records ix.definitions c.args.label c.args.key c.hash_of-hash.result) c.in-Some.is
+    (c.in_ok-bucket.ensures.found tells wanted ix) in
     let xs = ix.lists found.definition (bucket_of content.hash) in
     on_ok c.drop_entry.result
     (λ dropped. subst (λ (h : ℕ). AreIndexed t.records (without_entry wanted (record { label = c.args.label; key = c.args.key; node = c.args.node; hash = h }))) c.hash_of-hash.ensures
     (left_in s.records wanted ix c.args.label c.args.key content bucket found t.records (subst (λ (r : Records). IsDropped r t.records xs bucket.slot content) records dropped)))
     (c.drop_entry.ensures.dropped tells xs free (head-reread s now bucket same found.is.head)
-    (chain-reread s now bucket.first xs same (bucket-chain s.records wanted ix c.args.label c.args.key content.hash bucket found)) (can_after s now free same can))
+    (chain-reread s now bucket.first xs same (bucket-chain s.records wanted ix c.args.label c.args.key content.hash bucket found))
+    (can_after s now free same can))
 
 pub returns-in_err-bucket-clause-touches : goal.returns-in_err-bucket-clause-touches
 returns-in_err-bucket-clause-touches g c = index_read 3 18 _ _ c.find_bucket.ensures.at_most
@@ -78,7 +81,8 @@ returns-clause-sound g c tells wanted free ix can =
     let now = g.S.Reads.state c.find_bucket.new.space in
     let same : SameButReads s now = reads_same 18 s now c.in_ok-bucket.ensures.at_most in
     let bucket = c.in-Some.bucket in
-    let found = subst (IsBucketSought s.records ix.definitions c.args.label c.args.key c.hash_of-hash.result) c.in-Some.is (c.in_ok-bucket.ensures.found tells wanted ix) in
+    let found = subst (IsBucketSought s.records ix.definitions c.args.label c.args.key c.hash_of-hash.result) c.in-Some.is
+    (c.in_ok-bucket.ensures.found tells wanted ix) in
     let xs = ix.lists found.definition (bucket_of c.hash_of-hash.result) in
     c.drop_entry.ensures.sound tells xs (chain-reread s now bucket.first xs same (bucket-chain s.records wanted ix c.args.label c.args.key c.hash_of-hash.result bucket found))
     (room_after s now format.index_file same can.mark)
@@ -95,7 +99,8 @@ returns-clause-keeps g c tells wanted ix store =
     let now = g.S.Reads.state c.find_bucket.new.space in
     let same : SameButReads s now = reads_same 18 s now c.in_ok-bucket.ensures.at_most in
     let bucket = c.in-Some.bucket in
-    let found = subst (IsBucketSought s.records ix.definitions c.args.label c.args.key c.hash_of-hash.result) c.in-Some.is (c.in_ok-bucket.ensures.found tells wanted ix) in
+    let found = subst (IsBucketSought s.records ix.definitions c.args.label c.args.key c.hash_of-hash.result) c.in-Some.is
+    (c.in_ok-bucket.ensures.found tells wanted ix) in
     let xs = ix.lists found.definition (bucket_of c.hash_of-hash.result) in
     c.drop_entry.ensures.keeps tells xs (head-reread s now bucket same found.is.head)
     (chain-reread s now bucket.first xs same (bucket-chain s.records wanted ix c.args.label c.args.key c.hash_of-hash.result bucket found))
@@ -165,7 +170,8 @@ returns-clause-kept g c tells =
     on_ok c.drop_entry.result (λ less. omega (arith, live, less)) (c.drop_entry.ensures.kept tells)
 
 pub returns-in_err-bucket-clause-names : goal.returns-in_err-bucket-clause-names
-returns-in_err-bucket-clause-names g c tells = same_has NamesIndexes c.from_residual.result c.in_err-bucket.field-0.0 c.from_residual.ensures.1 (c.in_err-bucket.ensures.names tells)
+returns-in_err-bucket-clause-names g c tells = same_has NamesIndexes c.from_residual.result c.in_err-bucket.field-0.0 c.from_residual.ensures.1
+    (c.in_err-bucket.ensures.names tells)
 
 pub returns-clause-names : goal.returns-clause-names
 returns-clause-names g c tells = c.drop_entry.ensures.names tells
@@ -182,7 +188,8 @@ returns-clause-graph g c tells wanted free ix can =
     let now = g.S.Reads.state c.find_bucket.new.space in
     let same : SameButReads s now = reads_same 18 s now c.in_ok-bucket.ensures.at_most in
     let bucket = c.in-Some.bucket in
-    let found = subst (IsBucketSought s.records ix.definitions c.args.label c.args.key c.hash_of-hash.result) c.in-Some.is (c.in_ok-bucket.ensures.found tells wanted ix) in
+    let found = subst (IsBucketSought s.records ix.definitions c.args.label c.args.key c.hash_of-hash.result) c.in-Some.is
+    (c.in_ok-bucket.ensures.found tells wanted ix) in
     let xs = ix.lists found.definition (bucket_of c.hash_of-hash.result) in
     on_ok c.drop_entry.result (λ stays. stays ∙ ap indexes_of (same_records s now same))
     (c.drop_entry.ensures.graph tells xs free (head-reread s now bucket same found.is.head)
@@ -202,7 +209,8 @@ returns-clause-gone g c tells wanted ix d listed pair there =
     let content : Content = record { node = c.args.node; hash = c.hash_of-hash.result } in
     let one : Entry = record { label = c.args.label; key = c.args.key; node = c.args.node; hash = c.hash_of-hash.result } in
     let bucket = c.in-Some.bucket in
-    let found = subst (IsBucketSought s.records ix.definitions c.args.label c.args.key c.hash_of-hash.result) c.in-Some.is (c.in_ok-bucket.ensures.found tells wanted ix) in
+    let found = subst (IsBucketSought s.records ix.definitions c.args.label c.args.key c.hash_of-hash.result) c.in-Some.is
+    (c.in_ok-bucket.ensures.found tells wanted ix) in
     let xs = ix.lists found.definition (bucket_of c.hash_of-hash.result) in
     let is : wanted one ≡ true
     = ap (λ (h : ℕ). wanted (record { label = c.args.label; key = c.args.key; node = c.args.node; hash = h })) c.hash_of-hash.ensures ∙ there in
@@ -213,16 +221,19 @@ returns-clause-gone g c tells wanted ix d listed pair there =
     has.id has.member (subst (λ (r : Records). SaysContent r content has.id) (sym (same_records s now same)) says))
 
 pub returns-in_default-clause-unlisted : goal.returns-in_default-clause-unlisted
-returns-in_default-clause-unlisted g c tells wanted ix none = reads_same 18 (g.S.Reads.state c.args.space.now) (g.S.Reads.state c.find_bucket.new.space) c.in_ok-bucket.ensures.at_most
+returns-in_default-clause-unlisted g c tells wanted ix none = reads_same 18 (g.S.Reads.state c.args.space.now) (g.S.Reads.state c.find_bucket.new.space)
+    c.in_ok-bucket.ensures.at_most
 
 pub returns-clause-unlisted : goal.returns-clause-unlisted
 returns-clause-unlisted g c tells wanted ix none =
     let s = g.S.Reads.state c.args.space.now in
-    let found = subst (IsBucketSought s.records ix.definitions c.args.label c.args.key c.hash_of-hash.result) c.in-Some.is (c.in_ok-bucket.ensures.found tells wanted ix) in
+    let found = subst (IsBucketSought s.records ix.definitions c.args.label c.args.key c.hash_of-hash.result) c.in-Some.is
+    (c.in_ok-bucket.ensures.found tells wanted ix) in
     absurd (none found.definition found.listed found.pair)
 
 pub returns-in_default-clause-absent : goal.returns-in_default-clause-absent
-returns-in_default-clause-absent g c tells wanted ix unwanted = reads_same 18 (g.S.Reads.state c.args.space.now) (g.S.Reads.state c.find_bucket.new.space) c.in_ok-bucket.ensures.at_most
+returns-in_default-clause-absent g c tells wanted ix unwanted = reads_same 18 (g.S.Reads.state c.args.space.now) (g.S.Reads.state c.find_bucket.new.space)
+    c.in_ok-bucket.ensures.at_most
 
 pub returns-clause-absent : goal.returns-clause-absent
 returns-clause-absent g c tells wanted ix unwanted =
@@ -233,7 +244,8 @@ returns-clause-absent g c tells wanted ix unwanted =
     let content : Content = record { node = c.args.node; hash = c.hash_of-hash.result } in
     let hashed : (h : ℕ) → Entry = λ h. record { label = c.args.label; key = c.args.key; node = c.args.node; hash = h } in
     let bucket = c.in-Some.bucket in
-    let found = subst (IsBucketSought s.records ix.definitions c.args.label c.args.key c.hash_of-hash.result) c.in-Some.is (c.in_ok-bucket.ensures.found tells wanted ix) in
+    let found = subst (IsBucketSought s.records ix.definitions c.args.label c.args.key c.hash_of-hash.result) c.in-Some.is
+    (c.in_ok-bucket.ensures.found tells wanted ix) in
     let xs = ix.lists found.definition (bucket_of content.hash) in
     on_ok c.drop_entry.result (λ stays. same_then s now t same stays)
     (c.drop_entry.ensures.absent tells xs (chain-reread s now bucket.first xs same (bucket-chain s.records wanted ix c.args.label c.args.key content.hash bucket found))

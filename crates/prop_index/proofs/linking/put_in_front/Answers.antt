@@ -54,7 +54,8 @@ returns-clause-keeps g c tells store head right place known =
     let node_fits : content.node < 2 ^ 32 = search rules in
     let hash_fits : content.hash < 2 ^ 64 = search rules in
     let shape : t.shape ≡ s.shape = g.met.S.Reads.onward_shape _ _ (g.met.S.Reads.further_onward _ _ _ c.in_ok-id.ensures.onward c.in_ok-link.ensures.onward) in
-    entry_made_kept s u bucket.slot bucket.first id content store taken (c.in_ok-id.ensures.fresh tells) c.in_ok-id.ensures.small head.heads place right first_fits node_fits hash_fits known
+    entry_made_kept s u bucket.slot bucket.first id content store taken (c.in_ok-id.ensures.fresh tells) c.in_ok-id.ensures.small head.heads place right
+    first_fits node_fits hash_fits known
     t (c.in_ok-link.ensures.ok tells) shape
 
 pub returns-clause-counted : goal.returns-clause-counted
@@ -68,7 +69,8 @@ returns-clause-counted g c tells =
     ∙ taken_live s format.index_file (c.in_ok-id.ensures.undamaged tells) (subst (λ n. n < format.most_ids) c.in_ok-id.ensures.is c.in_ok-id.ensures.key.id)
 
 pub returns-clause-touched : goal.returns-clause-touched
-returns-clause-touched g c = meta_then (front_ids c.in_ok-id.id c.args.bucket.slot.id c.args.bucket.first) _ _ _ (record { writes = c.in_ok-id.ensures.writes; stays = c.in_ok-id.ensures.stays }) c.in_ok-link.ensures.touches
+returns-clause-touched g c = meta_then (front_ids c.in_ok-id.id c.args.bucket.slot.id c.args.bucket.first) _ _ _
+    (record { writes = c.in_ok-id.ensures.writes; stays = c.in_ok-id.ensures.stays }) c.in_ok-link.ensures.touches
 
 pub returns-clause-touches : goal.returns-clause-touches
 returns-clause-touches g c = record { id = c.in_ok-id.id; only = meta_then (front_ids c.in_ok-id.id c.args.bucket.slot.id c.args.bucket.first) _ _ _ (record { writes = c.in_ok-id.ensures.writes; stays = c.in_ok-id.ensures.stays }) c.in_ok-link.ensures.touches }
@@ -88,14 +90,16 @@ returns-in_err-id-clause-full g c tells =
 pub returns-in_err-id-clause-damaged : goal.returns-in_err-id-clause-damaged
 returns-in_err-id-clause-damaged g c tells =
     let s = g.S.Reads.state c.args.space.now in
-    take_has (BlamesList s format.index_file) c.from_residual.result c.in_err-id.field-0.0 c.from_residual.ensures.1 (blames_list s format.index_file c.in_err-id.field-0.0 (c.in_err-id.ensures.refused tells))
+    take_has (BlamesList s format.index_file) c.from_residual.result c.in_err-id.field-0.0 c.from_residual.ensures.1
+    (blames_list s format.index_file c.in_err-id.field-0.0 (c.in_err-id.ensures.refused tells))
 
 pub returns-clause-kept : goal.returns-clause-kept
 returns-clause-kept g c tells head begins place =
     let node_fits : c.args.content.node < 2 ^ 32 = search rules in
     let first_fits : c.args.bucket.first < 2 ^ 32 = search rules in
     let hash_fits : c.args.content.hash < 2 ^ 64 = search rules in
-    entry_kept (g.S.Reads.state c.args.space.now) (g.S.Reads.state c.take.new.space) (g.S.Reads.state c.link.new.space) c.args.bucket.slot c.args.bucket.first c.in_ok-id.id c.args.content node_fits first_fits hash_fits (c.in_ok-id.ensures.ok tells) c.in_ok-id.ensures.is (c.in_ok-id.ensures.undamaged tells)
+    entry_kept (g.S.Reads.state c.args.space.now) (g.S.Reads.state c.take.new.space) (g.S.Reads.state c.link.new.space) c.args.bucket.slot c.args.bucket.first
+    c.in_ok-id.id c.args.content node_fits first_fits hash_fits (c.in_ok-id.ensures.ok tells) c.in_ok-id.ensures.is (c.in_ok-id.ensures.undamaged tells)
     (c.in_ok-id.ensures.fresh tells) c.in_ok-id.ensures.key.id c.in_ok-id.ensures.small (c.in_ok-link.ensures.ok tells) head begins place
 
 pub returns-in_err-id-clause-kept : goal.returns-in_err-id-clause-kept
@@ -108,12 +112,14 @@ pub returns-in_err-id-clause-still : goal.returns-in_err-id-clause-still
 returns-in_err-id-clause-still g c tells =
     let s = g.S.Reads.state c.args.space.now in
     let now = g.S.Reads.state c.take.new.space in
-    take_has (BlamesBroken now.records now.shape) c.from_residual.result c.in_err-id.field-0.0 c.from_residual.ensures.1 (take_reread s now c.in_err-id.field-0.0 c.in_err-id.ensures.err (any_take s.records s.shape c.in_err-id.field-0.0 (c.in_err-id.ensures.damaged tells)))
+    take_has (BlamesBroken now.records now.shape) c.from_residual.result c.in_err-id.field-0.0 c.from_residual.ensures.1
+    (take_reread s now c.in_err-id.field-0.0 c.in_err-id.ensures.err (any_take s.records s.shape c.in_err-id.field-0.0 (c.in_err-id.ensures.damaged tells)))
 
 pub returns-in_err-link-clause-damaged : goal.returns-in_err-link-clause-damaged
 returns-in_err-link-clause-damaged g c tells =
     let s = g.S.Reads.state c.args.space.now in
-    take_has (BlamesList s format.index_file) c.from_residual-in_err-link.result _ c.from_residual-in_err-link.ensures.1 (list_of_space s format.index_file c.in_err-link.field-0.0)
+    take_has (BlamesList s format.index_file) c.from_residual-in_err-link.result _ c.from_residual-in_err-link.ensures.1
+    (list_of_space s format.index_file c.in_err-link.field-0.0)
 
 pub returns-in_err-link-clause-still : goal.returns-in_err-link-clause-still
 returns-in_err-link-clause-still g c tells =
@@ -123,11 +129,13 @@ returns-in_err-link-clause-still g c tells =
 pub returns-in_err-id-clause-names : goal.returns-in_err-id-clause-names
 returns-in_err-id-clause-names g c tells =
     let s = g.S.Reads.state c.args.space.now in
-    take_has TakeNamesIndexes c.from_residual.result c.in_err-id.field-0.0 c.from_residual.ensures.1 (take_names s c.in_err-id.field-0.0 (c.in_err-id.ensures.refused tells))
+    take_has TakeNamesIndexes c.from_residual.result c.in_err-id.field-0.0 c.from_residual.ensures.1
+    (take_names s c.in_err-id.field-0.0 (c.in_err-id.ensures.refused tells))
 
 pub returns-in_err-link-clause-names : goal.returns-in_err-link-clause-names
 returns-in_err-link-clause-names g c tells =
-    take_has TakeNamesIndexes c.from_residual-in_err-link.result (of_space c.in_err-link.field-0.0) c.from_residual-in_err-link.ensures.1 (space_names c.in_err-link.field-0.0)
+    take_has TakeNamesIndexes c.from_residual-in_err-link.result (of_space c.in_err-link.field-0.0) c.from_residual-in_err-link.ensures.1
+    (space_names c.in_err-link.field-0.0)
 
 pub returns-in_err-id-clause-crowded : goal.returns-in_err-id-clause-crowded
 returns-in_err-id-clause-crowded g c tells =
@@ -206,4 +214,5 @@ pub returns-in_err-id-clause-unwritten : goal.returns-in_err-id-clause-unwritten
 returns-in_err-id-clause-unwritten g c = on_blame c.from_residual.result _ c.in_err-id.ensures.err
 
 pub returns-in_err-link-clause-unwritten : goal.returns-in_err-link-clause-unwritten
-returns-in_err-link-clause-unwritten g c = take_has _ c.from_residual-in_err-link.result _ c.from_residual-in_err-link.ensures.1 (space_blames _ c.in_err-link.field-0.0)
+returns-in_err-link-clause-unwritten g c = take_has _ c.from_residual-in_err-link.result _ c.from_residual-in_err-link.ensures.1
+    (space_blames _ c.in_err-link.field-0.0)

@@ -12,7 +12,8 @@ use Rattle.prop_index.specs.Blaming.{BlamesBroken}
 use Rattle.prop_store.proofs.Exits.{same_has, space_exit, space_has}
 use Rattle.prop_index.specs.Blaming.{IsDefinitionAt, IsOfIndexes, NamesIndexes}
 use Rattle.prop_index.specs.Listing.{pair_of}
-use Rattle.prop_index.proofs.IndexBlames.{definition_begins, definition_blames, definition_goes_on, many_break, pairs_begin, pairs_end, pairs_go_on, read_fault_same, read_names}
+use Rattle.prop_index.proofs.IndexBlames.{definition_begins, definition_blames, definition_goes_on, many_break}
+use Rattle.prop_index.proofs.IndexBlames.{pairs_begin, pairs_end, pairs_go_on, read_fault_same, read_names}
 use Rattle.prop_index.proofs.Reread.{definitions_of, room_after}
 use Rattle.prop_index.proofs.Walks.{walk_begins, walk_here, walk_on, walk_over}
 use Rattle.prop_store.proofs.Causes.{cause_passed, later_on, memory_cause, space_cause_passed}
@@ -28,7 +29,8 @@ pub loop-init : goal.loop-init
 loop-init g c =
     let s = g.R.Reads.state c.args.space.now in
     let first_is : g.R.Reads.tells → c.number-at.result ≡ first_definition s.records
-    = λ tells. c.number-at.ensures ∙ ap (λ (r : Rec). field 4 r format.meta_definition) (c.in_ok-get_into.ensures.got tells ∙ ap (λ k. s.records k) c.meta_key.ensures) in
+    = λ tells. c.number-at.ensures ∙ ap (λ (r : Rec). field 4 r format.meta_definition)
+    (c.in_ok-get_into.ensures.got tells ∙ ap (λ k. s.records k) c.meta_key.ensures) in
     record {
       told = λ tells ds are. (
         [],
@@ -68,7 +70,8 @@ loop-preserved g c =
     let s = g.R.Reads.state c.args.space.now in
     let now = g.R.Reads.state c.loop.space in
     let same = reads_records _ s now c.loop.invariant.reads in
-    let rec_is : g.R.Reads.tells → c.record_at.new.rec ≡ index_rec s.records c.loop.at = λ tells. c.in_ok-record_at.ensures.got tells ∙ ap (λ (r : Records). index_rec r c.loop.at) same in
+    let rec_is : g.R.Reads.tells → c.record_at.new.rec ≡ index_rec s.records c.loop.at = λ tells. c.in_ok-record_at.ensures.got tells
+    ∙ ap (λ (r : Records). index_rec r c.loop.at) same in
     let used : g.R.Reads.tells → kind_at s.records format.index_file c.loop.at ≡ format.definition
     = λ tells. ap (λ (r : Records). kind_at r format.index_file c.loop.at) (sym same) ∙ c.in_ok-record_at.ensures.used tells in
     let next_is : g.R.Reads.tells → c.number-at-in-loop.result ≡ next_definition s.records c.loop.at
@@ -85,7 +88,8 @@ loop-preserved g c =
       named_is = subst IsOfIndexes (sym c.out_of_range-named.ensures) (inl refl);
       at = λ tells. subst (IsDefinitionAt s c.number-at-in-loop.result) (sym c.out_of_range-named.ensures)
           (definition_goes_on s c.loop.at c.loop.named (c.loop.invariant.at tells) c.if-at.false c.number-at-in-loop.result (used tells) (next_is tells));
-      met = λ tells. pairs_go_on s.records c.loop.at c.number-at-in-loop.result c.loop.pairs.items _ _ (c.loop.invariant.met tells) c.if-at.false (used tells) (next_is tells) c.in_ok-push.ensures.items (pair_is tells);
+      met = λ tells. pairs_go_on s.records c.loop.at c.number-at-in-loop.result c.loop.pairs.items _ _ (c.loop.invariant.met tells) c.if-at.false (used tells)
+          (next_is tells) c.in_ok-push.ensures.items (pair_is tells);
       few = ap length c.in_ok-push.ensures.items ∙ length-append c.loop.pairs.items _ ∙ ap (λ n. n + 1) c.loop.invariant.few;
       reads = reads_then _ 1 _ _ _ _ (omega arith) c.loop.invariant.reads c.in_ok-record_at.ensures.at_most;
       onward = g.met.R.Reads.further_onward _ _ _ c.loop.invariant.onward c.in_ok-record_at.ensures.onward;

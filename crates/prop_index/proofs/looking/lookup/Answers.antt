@@ -14,7 +14,8 @@ use Rattle.prop_index.specs.Heads.{IfBucketMet, IsBucketSought}
 use Rattle.prop_index.specs.declared.heads.Bucket.{Bucket}
 use Rattle.prop_index.proofs.IndexBlames.{blames_before, entry_begins, entry_reread}
 use Rattle.prop_index.proofs.GraphFound.{graph_found}
-use Rattle.prop_index.proofs.Lookups.{are_entries, are_readable, caused_exit, definitions_are, early_reads, entries, found_is, has_room, lookup_reads, read_lookup, reads_exit, refused_exit}
+use Rattle.prop_index.proofs.Lookups.{are_entries, are_readable, caused_exit, definitions_are, early_reads, entries}
+use Rattle.prop_index.proofs.Lookups.{found_is, has_room, lookup_reads, read_lookup, reads_exit, refused_exit}
 use Rattle.prop_index.proofs.Reread.{same_then}
 use Rattle.rec_bytes.proofs.Causes.{never_ok, ok_cause}
 use Rattle.prop_index.proofs.looking.lookup.Goals as goal
@@ -22,13 +23,15 @@ use Rattle.prop_index.proofs.looking.lookup.Goals as goal
 pub returns-in_err-bucket-clause-refused : goal.returns-in_err-bucket-clause-refused
 returns-in_err-bucket-clause-refused g c tells store =
     let s = g.R.Reads.state c.args.space.now in
-    refused_exit s.records c.args.label c.args.key c.from_residual.result c.find_bucket.result c.in_err-bucket.field-0.0 c.in_err-bucket.was c.from_residual.ensures.1
+    refused_exit s.records c.args.label c.args.key c.from_residual.result c.find_bucket.result c.in_err-bucket.field-0.0 c.in_err-bucket.was
+    c.from_residual.ensures.1
     (c.find_bucket.ensures.sound tells (wanted_in s.records) store.indexes (has_room s store format.index_file refl))
 
 pub returns-in_default-clause-refused : goal.returns-in_default-clause-refused
 returns-in_default-clause-refused g c tells store ds walked =
     let s = g.R.Reads.state c.args.space.now in
-    let none = subst (IsBucketSought s.records store.indexes.definitions c.args.label c.args.key c.hash_of-hash.result) c.in_default.is (c.in_ok-bucket.ensures.found tells (wanted_in s.records) store.indexes) in
+    let none = subst (IsBucketSought s.records store.indexes.definitions c.args.label c.args.key c.hash_of-hash.result) c.in_default.is
+    (c.in_ok-bucket.ensures.found tells (wanted_in s.records) store.indexes) in
     λ d i. none d (subst (λ (xs : List ℕ). In d xs) (definitions_are s store ds walked) i)
 
 pub returns-in_err-nodes-clause-refused : goal.returns-in_err-nodes-clause-refused
@@ -37,14 +40,17 @@ returns-in_err-nodes-clause-refused g c tells store =
     let now = g.R.Reads.state c.find_bucket.new.space in
     let same : SameButReads s now = reads_same 18 s now c.in_ok-bucket.ensures.at_most in
     let hashed = c.hash_of-hash.ensures in
-    let found = subst (IsBucketSought s.records store.indexes.definitions c.args.label c.args.key c.hash_of-hash.result) c.in-Some.is (c.in_ok-bucket.ensures.found tells (wanted_in s.records) store.indexes) in
-    refused_exit s.records c.args.label c.args.key c.from_residual-in_err-nodes.result c.gather.result c.in_err-nodes.field-0.0 c.in_err-nodes.was c.from_residual-in_err-nodes.ensures.1
+    let found = subst (IsBucketSought s.records store.indexes.definitions c.args.label c.args.key c.hash_of-hash.result) c.in-Some.is
+    (c.in_ok-bucket.ensures.found tells (wanted_in s.records) store.indexes) in
+    refused_exit s.records c.args.label c.args.key c.from_residual-in_err-nodes.result c.gather.result c.in_err-nodes.field-0.0 c.in_err-nodes.was
+    c.from_residual-in_err-nodes.ensures.1
     (c.gather.ensures.sound tells (entries s store c.args.label c.args.key c.args.value.now c.hash_of-hash.result hashed c.in-Some.bucket found now same)
     (are_entries s store c.args.label c.args.key c.args.value.now c.hash_of-hash.result hashed c.in-Some.bucket found now same)
     (are_readable s store c.args.label c.args.key c.args.value.now c.hash_of-hash.result hashed c.in-Some.bucket found now same))
 
 pub returns-in_err-bucket-clause-same : goal.returns-in_err-bucket-clause-same
-returns-in_err-bucket-clause-same g c = reads_same 18 (g.R.Reads.state c.args.space.now) (g.R.Reads.state c.find_bucket.new.space) c.in_err-bucket.ensures.at_most
+returns-in_err-bucket-clause-same g c = reads_same 18 (g.R.Reads.state c.args.space.now) (g.R.Reads.state c.find_bucket.new.space)
+    c.in_err-bucket.ensures.at_most
 
 pub returns-in_default-clause-same : goal.returns-in_default-clause-same
 returns-in_default-clause-same g c = reads_same 18 (g.R.Reads.state c.args.space.now) (g.R.Reads.state c.find_bucket.new.space) c.in_ok-bucket.ensures.at_most
@@ -73,10 +79,12 @@ returns-clause-found g c tells store =
     let now = g.R.Reads.state c.find_bucket.new.space in
     let same : SameButReads s now = reads_same 18 s now c.in_ok-bucket.ensures.at_most in
     let hashed = c.hash_of-hash.ensures in
-    let found = subst (IsBucketSought s.records store.indexes.definitions c.args.label c.args.key c.hash_of-hash.result) c.in-Some.is (c.in_ok-bucket.ensures.found tells (wanted_in s.records) store.indexes) in
+    let found = subst (IsBucketSought s.records store.indexes.definitions c.args.label c.args.key c.hash_of-hash.result) c.in-Some.is
+    (c.in_ok-bucket.ensures.found tells (wanted_in s.records) store.indexes) in
     let xs = entries s store c.args.label c.args.key c.args.value.now c.hash_of-hash.result hashed c.in-Some.bucket found now same in
     let are = are_entries s store c.args.label c.args.key c.args.value.now c.hash_of-hash.result hashed c.in-Some.bucket found now same in
-    found_is s store c.args.label c.args.key c.args.value.now c.hash_of-hash.result hashed c.in-Some.bucket found now same c.in_ok-nodes.nodes.items c.put_in_order.new.nodes.items
+    found_is s store c.args.label c.args.key c.args.value.now c.hash_of-hash.result hashed c.in-Some.bucket found now same c.in_ok-nodes.nodes.items
+    c.put_in_order.new.nodes.items
     (c.in_ok-nodes.ensures.found tells xs are) c.in_ok-put_in_order.ensures.moved c.in_ok-put_in_order.ensures.sorted
 
 pub returns-clause-graph : goal.returns-clause-graph
@@ -91,7 +99,8 @@ returns-clause-cost g c tells store =
     let after = g.R.Reads.state c.gather.new.space in
     let same : SameButReads s now = reads_same 18 s now c.in_ok-bucket.ensures.at_most in
     let hashed = c.hash_of-hash.ensures in
-    let found = subst (IsBucketSought s.records store.indexes.definitions c.args.label c.args.key c.hash_of-hash.result) c.in-Some.is (c.in_ok-bucket.ensures.found tells (wanted_in s.records) store.indexes) in
+    let found = subst (IsBucketSought s.records store.indexes.definitions c.args.label c.args.key c.hash_of-hash.result) c.in-Some.is
+    (c.in_ok-bucket.ensures.found tells (wanted_in s.records) store.indexes) in
     let xs = entries s store c.args.label c.args.key c.args.value.now c.hash_of-hash.result hashed c.in-Some.bucket found now same in
     let are = are_entries s store c.args.label c.args.key c.args.value.now c.hash_of-hash.result hashed c.in-Some.bucket found now same in
     lookup_reads s store c.args.label c.args.key c.args.value.now c.hash_of-hash.result hashed c.in-Some.bucket found now same after
@@ -108,7 +117,8 @@ returns-in_err-bucket-clause-cost_refused g c tells store =
 pub returns-in_default-clause-cost_refused : goal.returns-in_default-clause-cost_refused
 returns-in_default-clause-cost_refused g c tells store =
     let s = g.R.Reads.state c.args.space.now in
-    let none = subst (IsBucketSought s.records store.indexes.definitions c.args.label c.args.key c.hash_of-hash.result) c.in_default.is (c.in_ok-bucket.ensures.found tells (wanted_in s.records) store.indexes) in
+    let none = subst (IsBucketSought s.records store.indexes.definitions c.args.label c.args.key c.hash_of-hash.result) c.in_default.is
+    (c.in_ok-bucket.ensures.found tells (wanted_in s.records) store.indexes) in
     record {
       definitions = store.indexes.definitions;
       walk = store.indexes.walk;
@@ -123,10 +133,12 @@ returns-in_err-nodes-clause-cost_refused g c tells store =
     let after = g.R.Reads.state c.gather.new.space in
     let same : SameButReads s now = reads_same 18 s now c.in_ok-bucket.ensures.at_most in
     let hashed = c.hash_of-hash.ensures in
-    let found = subst (IsBucketSought s.records store.indexes.definitions c.args.label c.args.key c.hash_of-hash.result) c.in-Some.is (c.in_ok-bucket.ensures.found tells (wanted_in s.records) store.indexes) in
+    let found = subst (IsBucketSought s.records store.indexes.definitions c.args.label c.args.key c.hash_of-hash.result) c.in-Some.is
+    (c.in_ok-bucket.ensures.found tells (wanted_in s.records) store.indexes) in
     let xs = entries s store c.args.label c.args.key c.args.value.now c.hash_of-hash.result hashed c.in-Some.bucket found now same in
     let are = are_entries s store c.args.label c.args.key c.args.value.now c.hash_of-hash.result hashed c.in-Some.bucket found now same in
-    reads_exit c.args.label c.args.key c.args.value.now s after c.from_residual-in_err-nodes.result c.in_err-nodes.field-0.0 c.from_residual-in_err-nodes.ensures.1
+    reads_exit c.args.label c.args.key c.args.value.now s after c.from_residual-in_err-nodes.result c.in_err-nodes.field-0.0
+    c.from_residual-in_err-nodes.ensures.1
     (inl (lookup_reads s store c.args.label c.args.key c.args.value.now c.hash_of-hash.result hashed c.in-Some.bucket found now same after
     (c.in_ok-bucket.ensures.cost tells (wanted_in s.records) store.indexes) (c.in_err-nodes.ensures.cost tells xs are)))
 
@@ -137,10 +149,12 @@ returns-in_err-put_in_order-clause-cost_refused g c tells store =
     let after = g.R.Reads.state c.gather.new.space in
     let same : SameButReads s now = reads_same 18 s now c.in_ok-bucket.ensures.at_most in
     let hashed = c.hash_of-hash.ensures in
-    let found = subst (IsBucketSought s.records store.indexes.definitions c.args.label c.args.key c.hash_of-hash.result) c.in-Some.is (c.in_ok-bucket.ensures.found tells (wanted_in s.records) store.indexes) in
+    let found = subst (IsBucketSought s.records store.indexes.definitions c.args.label c.args.key c.hash_of-hash.result) c.in-Some.is
+    (c.in_ok-bucket.ensures.found tells (wanted_in s.records) store.indexes) in
     let xs = entries s store c.args.label c.args.key c.args.value.now c.hash_of-hash.result hashed c.in-Some.bucket found now same in
     let are = are_entries s store c.args.label c.args.key c.args.value.now c.hash_of-hash.result hashed c.in-Some.bucket found now same in
-    reads_exit c.args.label c.args.key c.args.value.now s after c.from_residual-in_err-put_in_order.result c.in_err-put_in_order.field-0.0 c.from_residual-in_err-put_in_order.ensures.1
+    reads_exit c.args.label c.args.key c.args.value.now s after c.from_residual-in_err-put_in_order.result c.in_err-put_in_order.field-0.0
+    c.from_residual-in_err-put_in_order.ensures.1
     (inl (lookup_reads s store c.args.label c.args.key c.args.value.now c.hash_of-hash.result hashed c.in-Some.bucket found now same after
     (c.in_ok-bucket.ensures.cost tells (wanted_in s.records) store.indexes) (c.in_ok-nodes.ensures.cost tells xs are)))
 
@@ -158,7 +172,8 @@ returns-in_err-nodes-clause-damaged g c tells =
     let number = bucket_of c.hash_of-hash.result in
     let bucket = c.in-Some.bucket in
     let met = subst (IfBucketMet s.records number) c.in-Some.is (c.in_ok-bucket.ensures.met tells) in
-    let at = subst (IsEntryAt now met.definition number 0 bucket.first) (sym c.out_of_range-named.ensures) (entry_reread s now met.definition number 0 bucket.first _ same (entry_begins s number bucket met)) in
+    let at = subst (IsEntryAt now met.definition number 0 bucket.first) (sym c.out_of_range-named.ensures)
+    (entry_reread s now met.definition number 0 bucket.first _ same (entry_begins s number bucket met)) in
     let p = err_from_is_err_and c.from_residual-in_err-nodes.result c.from_residual-in_err-nodes.ensures.1 in
     rw (p.1, p.2) (read_lookup s.records s.shape c.in_err-nodes.field-0.0 (blames_before s now c.in_err-nodes.field-0.0 same (c.in_err-nodes.ensures.damaged tells met.definition number at)))
 
@@ -174,15 +189,18 @@ returns-in_err-bucket-clause-caused g c tells =
 
 pub returns-in_default-clause-caused : goal.returns-in_default-clause-caused
 returns-in_default-clause-caused g c tells =
-    subst (λ (o : Option Bucket). IfNone o (LeadsToNone (g.R.Reads.state c.args.space.now).records c.args.label c.args.key)) c.in_default.is (c.in_ok-bucket.ensures.lacks tells)
+    subst (λ (o : Option Bucket). IfNone o (LeadsToNone (g.R.Reads.state c.args.space.now).records c.args.label c.args.key)) c.in_default.is
+    (c.in_ok-bucket.ensures.lacks tells)
 
 pub returns-in_err-nodes-clause-caused : goal.returns-in_err-nodes-clause-caused
 returns-in_err-nodes-clause-caused g c tells =
-    caused_exit (g.R.Reads.state c.args.space.now).records c.args.label c.args.key c.from_residual-in_err-nodes.result c.in_err-nodes.field-0.0 c.from_residual-in_err-nodes.ensures.1
+    caused_exit (g.R.Reads.state c.args.space.now).records c.args.label c.args.key c.from_residual-in_err-nodes.result c.in_err-nodes.field-0.0
+    c.from_residual-in_err-nodes.ensures.1
 
 pub returns-in_err-put_in_order-clause-caused : goal.returns-in_err-put_in_order-clause-caused
 returns-in_err-put_in_order-clause-caused g c tells =
-    caused_exit (g.R.Reads.state c.args.space.now).records c.args.label c.args.key c.from_residual-in_err-put_in_order.result c.in_err-put_in_order.field-0.0 c.from_residual-in_err-put_in_order.ensures.1
+    caused_exit (g.R.Reads.state c.args.space.now).records c.args.label c.args.key c.from_residual-in_err-put_in_order.result c.in_err-put_in_order.field-0.0
+    c.from_residual-in_err-put_in_order.ensures.1
 
 pub returns-in_err-nodes-clause-onward : goal.returns-in_err-nodes-clause-onward
 returns-in_err-nodes-clause-onward g c =

@@ -50,7 +50,8 @@ returns-in_err-contents-clause-refused g c tells was named =
     let a = g.S.Reads.state c.test_pair.new.space in
     let same_a : SameButReads s a = reads_same 17 s a c.test_pair.ensures.reads in
     let may = c.in_ok-test_pair.ensures.may tells (wanted_in s.records) was.indexes in
-    let is = subst (λ (r : Records). IsCollectFault r c.args.label c.args.key c.in_err-contents.field-0.0) (same_records s a same_a) (c.in_err-contents.ensures.refused tells (readable_after s a same_a (nodes_readable s was))) in
+    let is = subst (λ (r : Records). IsCollectFault r c.args.label c.args.key c.in_err-contents.field-0.0) (same_records s a same_a)
+    (c.in_err-contents.ensures.refused tells (readable_after s a same_a (nodes_readable s was))) in
     let p = err_from_is_err_and c.from_residual-in_err-contents.result c.from_residual-in_err-contents.ensures.1 in
     rw (p.1, p.2) (collect_refusal s was c.args.label c.args.key c.in_err-contents.field-0.0 may is)
 
@@ -87,7 +88,8 @@ names_after : (s b : State) (label key : ℕ) → SameButReads s b → AreNamesO
 names_after s b label key same named = subst (λ (r : Records). AreNamesOf r label key) (sym (same_records s b same)) named
 
 -- how many were found
-count_found : (s a : State) (label key : ℕ) (items : List Content) → SameButReads s a → items ≡ contents_in a.records label key (high a.records format.nodes_file) → items ≡ contents_in s.records label key (high s.records format.nodes_file)
+count_found : (s a : State) (label key : ℕ) (items : List Content) → SameButReads s a
+    → items ≡ contents_in a.records label key (high a.records format.nodes_file) → items ≡ contents_in s.records label key (high s.records format.nodes_file)
 count_found s a label key items same is = is ∙ ap (λ (r : Records). contents_in r label key (high r format.nodes_file)) (same_records s a same)
 
 pub returns-then-not-has_room-clause-refused : goal.returns-then-not-has_room-clause-refused
@@ -100,7 +102,8 @@ returns-then-not-has_room-clause-refused g c tells was named =
     let may = c.in_ok-test_pair.ensures.may tells (wanted_in s.records) was.indexes in
     let found = ap length (count_found s a c.args.label c.args.key c.in_ok-contents.contents.items same_a (c.in_ok-contents.ensures.found tells)) in
     let few = c.in_ok-contents.ensures.few in
-    let len : c.len-count.result ≡ length c.in_ok-contents.contents.items = let e = c.len-count.ensures in let o = c.in_ok-contents.contents.ok.0 in omega (arith, e, o) in
+    let len : c.len-count.result ≡ length c.in_ok-contents.contents.items = let e = c.len-count.ensures in let o = c.in_ok-contents.contents.ok.0 in
+    omega (arith, e, o) in
     let same_count : c.len-count.result ≡ count_of s.records c.args.label c.args.key = len ∙ found in (
       may,
       omega (arith, found, few),
@@ -120,9 +123,11 @@ returns-in-Ok-clause-made g c tells was named =
     let items_are = count_found s a c.args.label c.args.key c.in_ok-contents.contents.items same_a (c.in_ok-contents.ensures.found tells) in
     let found = ap length items_are in
     let few = c.in_ok-contents.ensures.few in
-    let len : c.len-count.result ≡ length c.in_ok-contents.contents.items = let e = c.len-count.ensures in let o = c.in_ok-contents.contents.ok.0 in omega (arith, e, o) in
+    let len : c.len-count.result ≡ length c.in_ok-contents.contents.items = let e = c.len-count.ensures in let o = c.in_ok-contents.contents.ok.0 in
+    omega (arith, e, o) in
     record {
-      written = written_reread s b t c.args.label c.args.key c.deref.result.now same_b (λ w. c.in-Ok.ensures.written tells w (names_after s b c.args.label c.args.key same_b named)) was may (c.deref.ensures.value ∙ items_are);
+      written = written_reread s b t c.args.label c.args.key c.deref.result.now same_b
+          (λ w. c.in-Ok.ensures.written tells w (names_after s b c.args.label c.args.key same_b named)) was may (c.deref.ensures.value ∙ items_are);
       may = may;
       count_is = len ∙ found;
       few = omega (arith, len, few);
@@ -142,7 +147,8 @@ returns-in-Ok-clause-touches g c tells =
     let same_b : SameButReads s b = same_then s a b same_a c.collect.ensures.same in
     let found = ap length (count_found s a c.args.label c.args.key c.in_ok-contents.contents.items same_a (c.in_ok-contents.ensures.found tells)) in
     let slice = ap length c.deref.ensures.value in
-    touches_of (13 + length c.deref.result.now) (13 + count_of s.records c.args.label c.args.key) s b t (omega (arith, found, slice)) same_b c.write_index.ensures.touches
+    touches_of (13 + length c.deref.result.now) (13 + count_of s.records c.args.label c.args.key) s b t (omega (arith, found, slice)) same_b
+    c.write_index.ensures.touches
 
 pub returns-in-Ok-clause-at_most : goal.returns-in-Ok-clause-at_most
 returns-in-Ok-clause-at_most g c =
@@ -165,7 +171,8 @@ returns-clause-touches g c tells =
     let same_b : SameButReads s b = same_then s a b same_a c.collect.ensures.same in
     let found = ap length (count_found s a c.args.label c.args.key c.in_ok-contents.contents.items same_a (c.in_ok-contents.ensures.found tells)) in
     let slice = ap length c.deref.ensures.value in
-    touches_of (13 + length c.deref.result.now) (13 + count_of s.records c.args.label c.args.key) s b t (omega (arith, found, slice)) same_b c.write_index.ensures.touches
+    touches_of (13 + length c.deref.result.now) (13 + count_of s.records c.args.label c.args.key) s b t (omega (arith, found, slice)) same_b
+    c.write_index.ensures.touches
 
 pub returns-clause-at_most : goal.returns-clause-at_most
 returns-clause-at_most g c =
@@ -187,7 +194,8 @@ returns-clause-refused g c tells was named =
     let same_b : SameButReads s b = same_then s a b same_a c.collect.ensures.same in
     let may = c.in_ok-test_pair.ensures.may tells (wanted_in s.records) was.indexes in
     let items_are = count_found s a c.args.label c.args.key c.in_ok-contents.contents.items same_a (c.in_ok-contents.ensures.found tells) in
-    let len : c.len-count.result ≡ length c.deref.result.now = let e = c.len-count.ensures in let o = c.in_ok-contents.contents.ok.0 in let v = ap length c.deref.ensures.value in omega (arith, e, o, v) in
+    let len : c.len-count.result ≡ length c.deref.result.now = let e = c.len-count.ensures in let o = c.in_ok-contents.contents.ok.0 in let v =
+    ap length c.deref.ensures.value in omega (arith, e, o, v) in
     let room = left_before s b (13 + c.len-count.result) same_b (c.has_room.ensures.0 c.if-not-has_room.false) in
     subst (IsMakeRefusal s was c.args.label c.args.key) (sym c.of_take.ensures)
     (mishap_refusal s was c.args.label c.args.key c.in-Err.fault
@@ -204,7 +212,8 @@ returns-in_err-contents-clause-caused g c tells =
     let s = g.S.Reads.state c.args.space.now in
     let a = g.S.Reads.state c.test_pair.new.space in
     let same_a : SameButReads s a = reads_same 17 s a c.test_pair.ensures.reads in
-    let is = subst (λ (r : Records). IsCollectCause r c.args.label c.args.key c.in_err-contents.field-0.0) (same_records s a same_a) (c.in_err-contents.ensures.caused tells) in
+    let is = subst (λ (r : Records). IsCollectCause r c.args.label c.args.key c.in_err-contents.field-0.0) (same_records s a same_a)
+    (c.in_err-contents.ensures.caused tells) in
     let p = err_from_is_err_and c.from_residual-in_err-contents.result c.from_residual-in_err-contents.ensures.1 in
     rw (p.1, p.2) (collect_cause s c.args.label c.args.key c.in_err-contents.field-0.0 is)
 
@@ -216,7 +225,8 @@ returns-then-not-has_room-clause-caused g c tells =
     let same_a : SameButReads s a = reads_same 17 s a c.test_pair.ensures.reads in
     let same_b : SameButReads s b = same_then s a b same_a c.collect.ensures.same in
     let found = ap length (count_found s a c.args.label c.args.key c.in_ok-contents.contents.items same_a (c.in_ok-contents.ensures.found tells)) in
-    let len : c.len-count.result ≡ length c.in_ok-contents.contents.items = let e = c.len-count.ensures in let o = c.in_ok-contents.contents.ok.0 in omega (arith, e, o) in
+    let len : c.len-count.result ≡ length c.in_ok-contents.contents.items = let e = c.len-count.ensures in let o = c.in_ok-contents.contents.ok.0 in
+    omega (arith, e, o) in
     let same_count : c.len-count.result ≡ count_of s.records c.args.label c.args.key = len ∙ found in (
       ap (λ m. m.live) c.meta-live.ensures ∙ ap (λ (r : Records). (metas.meta_of (r (meta_key_of format.index_file))).live) (same_records s b same_b),
       (λ left. true≢false (sym (c.has_room.ensures.1 (subst (λ n. HasLeft b (13 + n)) (sym same_count) (left_reread s b (13 + count_of s.records c.args.label c.args.key) same_b left))) ∙ c.if-not-has_room.true)),
@@ -225,7 +235,8 @@ returns-then-not-has_room-clause-caused g c tells =
 pub returns-clause-caused : goal.returns-clause-caused
 returns-clause-caused g c tells =
     let s = g.S.Reads.state c.args.space.now in
-    let len : c.len-count.result ≡ length c.deref.result.now = let e = c.len-count.ensures in let o = c.in_ok-contents.contents.ok.0 in let v = ap length c.deref.ensures.value in omega (arith, e, o, v) in
+    let len : c.len-count.result ≡ length c.deref.result.now = let e = c.len-count.ensures in let o = c.in_ok-contents.contents.ok.0 in let v =
+    ap length c.deref.ensures.value in omega (arith, e, o, v) in
     subst (IsMakeCause s c.args.label c.args.key) (sym c.of_take.ensures)
     (roomy_cause s c.args.label c.args.key c.in-Err.fault (c.in-Err.ensures.roomy tells (subst (λ n. HasLeft (g.S.Reads.state c.collect.new.space) (13 + n)) len (c.has_room.ensures.0 c.if-not-has_room.false))))
 
@@ -278,7 +289,8 @@ returns-in-Ok-clause-written g c =
     let b = g.S.Reads.state c.collect.new.space in
     let t = g.S.Reads.state c.write_index.new.space in
     let same_b : SameButReads s b = same_then s a b (reads_same 17 s a c.test_pair.ensures.reads) c.collect.ensures.same in
-    let len : c.len-count.result ≡ length c.deref.result.now = let e = c.len-count.ensures in let o = c.in_ok-contents.contents.ok.0 in let v = ap length c.deref.ensures.value in omega (arith, e, o, v) in
+    let len : c.len-count.result ≡ length c.deref.result.now = let e = c.len-count.ensures in let o = c.in_ok-contents.contents.ok.0 in let v =
+    ap length c.deref.ensures.value in omega (arith, e, o, v) in
     touches_of (13 + length c.deref.result.now) (13 + c.len-count.result) s b t (omega (arith, len)) same_b c.write_index.ensures.touches
 
 pub returns-in-Ok-clause-few : goal.returns-in-Ok-clause-few
@@ -340,7 +352,8 @@ pub returns-clause-unwritten : goal.returns-clause-unwritten
 returns-clause-unwritten g c tells =
     let s = g.S.Reads.state c.args.space.now in
     let t = g.S.Reads.state c.write_index.new.space in
-    let len : c.len-count.result ≡ length c.deref.result.now = let e = c.len-count.ensures in let o = c.in_ok-contents.contents.ok.0 in let v = ap length c.deref.ensures.value in omega (arith, e, o, v) in
+    let len : c.len-count.result ≡ length c.deref.result.now = let e = c.len-count.ensures in let o = c.in_ok-contents.contents.ok.0 in let v =
+    ap length c.deref.ensures.value in omega (arith, e, o, v) in
     subst (IsUnwrittenFull s t) (sym c.of_take.ensures)
     (roomy_unwritten s t c.in-Err.fault (c.in-Err.ensures.roomy tells (subst (λ n. HasLeft (g.S.Reads.state c.collect.new.space) (13 + n)) len (c.has_room.ensures.0 c.if-not-has_room.false))))
 

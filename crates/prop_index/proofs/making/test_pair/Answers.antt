@@ -15,12 +15,14 @@ use Rattle.prop_index.proofs.making.test_pair.Goals as goal
 pub returns-in_err-pairs-clause-refused : goal.returns-in_err-pairs-clause-refused
 returns-in_err-pairs-clause-refused g c tells wanted ix room =
     let s = g.R.Reads.state c.args.space.now in
-    pair_exit s.records ix.definitions c.args.label c.args.key c.from_residual.result c.indexes.result c.in_err-pairs.field-0.0 c.in_err-pairs.was c.from_residual.ensures.1 (c.indexes.ensures.sound tells wanted ix room)
+    pair_exit s.records ix.definitions c.args.label c.args.key c.from_residual.result c.indexes.result c.in_err-pairs.field-0.0 c.in_err-pairs.was
+    c.from_residual.ensures.1 (c.indexes.ensures.sound tells wanted ix room)
 
 pub returns-then-has_pair-clause-refused : goal.returns-then-has_pair-clause-refused
 returns-then-has_pair-clause-refused g c tells wanted ix room =
     let s = g.R.Reads.state c.args.space.now in
-    has_listed s.records ix.definitions c.deref.result.now c.args.label c.args.key (c.deref.ensures.value ∙ c.in_ok-pairs.ensures.listed tells wanted ix) (c.has_pair.ensures.0 c.if-has_pair.true)
+    has_listed s.records ix.definitions c.deref.result.now c.args.label c.args.key (c.deref.ensures.value ∙ c.in_ok-pairs.ensures.listed tells wanted ix)
+    (c.has_pair.ensures.0 c.if-has_pair.true)
 
 pub returns-then-len-clause-refused : goal.returns-then-len-clause-refused
 returns-then-len-clause-refused g c tells wanted ix room =
@@ -30,7 +32,8 @@ returns-then-len-clause-refused g c tells wanted ix room =
     let few = ix.few in
     let test = c.if-len.true in
     let len = c.len.ensures in (
-      lacks_listed s.records ix.definitions c.deref.result.now c.args.label c.args.key (c.deref.ensures.value ∙ listed) (λ is. true≢false (sym (c.has_pair.ensures.1 is) ∙ c.if-has_pair.false)),
+      lacks_listed s.records ix.definitions c.deref.result.now c.args.label c.args.key (c.deref.ensures.value ∙ listed)
+          (λ is. true≢false (sym (c.has_pair.ensures.1 is) ∙ c.if-has_pair.false)),
       omega (arith, long, few, test, len),
     )
 
@@ -42,7 +45,8 @@ returns-clause-may g c tells wanted ix =
     let test = c.if-len.false in
     let len = c.len.ensures in
     record {
-      lacked = lacks_listed s.records ix.definitions c.deref.result.now c.args.label c.args.key (c.deref.ensures.value ∙ listed) (λ is. true≢false (sym (c.has_pair.ensures.1 is) ∙ c.if-has_pair.false));
+      lacked = lacks_listed s.records ix.definitions c.deref.result.now c.args.label c.args.key (c.deref.ensures.value ∙ listed)
+          (λ is. true≢false (sym (c.has_pair.ensures.1 is) ∙ c.if-has_pair.false));
       few = omega (arith, long, test, len);
     }
 

@@ -49,14 +49,16 @@ returns-clause-mishap g c tells was named may contents_are left =
     let fillable = subst (AreFillable m.records) (sym contents_are) (contents_fillable s.records m.records c.args.label c.args.key added.others) in
     let live = added.live in
     let room = ap (λ z. room_of z format.index_file) added.shape in
-    c.fill.ensures.mishap tells (before s m c.args.label c.args.key definition was may added) ix c.args.label c.args.key (empty_index s m c.args.label c.args.key definition was may added) fillable added.kept
+    c.fill.ensures.mishap tells (before s m c.args.label c.args.key definition was may added) ix c.args.label c.args.key
+    (empty_index s m c.args.label c.args.key definition was may added) fillable added.kept
     (omega (arith, left, live, room))
 
 pub returns-in_err-definition-clause-touches : goal.returns-in_err-definition-clause-touches
 returns-in_err-definition-clause-touches g c = index_more 13 (13 + length c.args.contents.now) _ _ (omega arith) c.in_err-definition.ensures.touches
 
 pub returns-clause-touches : goal.returns-clause-touches
-returns-clause-touches g c = written_touches _ _ _ c.in_ok-definition.definition (length c.args.contents.now) c.in_ok-definition.ensures.touched c.fill.ensures.touches
+returns-clause-touches g c = written_touches _ _ _ c.in_ok-definition.definition (length c.args.contents.now) c.in_ok-definition.ensures.touched
+    c.fill.ensures.touches
 
 pub returns-in_err-definition-clause-roomy : goal.returns-in_err-definition-clause-roomy
 returns-in_err-definition-clause-roomy g c tells left =
@@ -79,7 +81,8 @@ returns-in_err-definition-clause-onward g c = search rules
 pub returns-in_err-definition-clause-damaged : goal.returns-in_err-definition-clause-damaged
 returns-in_err-definition-clause-damaged g c tells =
     let s = g.S.Reads.state c.args.space.now in
-    take_has (BlamesList s format.index_file) c.from_residual.result c.in_err-definition.field-0.0 c.from_residual.ensures.1 (c.in_err-definition.ensures.damaged tells)
+    take_has (BlamesList s format.index_file) c.from_residual.result c.in_err-definition.field-0.0 c.from_residual.ensures.1
+    (c.in_err-definition.ensures.damaged tells)
 
 pub returns-clause-damaged : goal.returns-clause-damaged
 returns-clause-damaged g c tells =

@@ -6,7 +6,8 @@ use Rattle.prop_store.proofs.Causes.{later_on}
 use Rattle.prop_index.proofs.unlinking.unlink.Goals as goal
 
 pub returns-in_err-give-clause-touches : goal.returns-in_err-give-clause-touches
-returns-in_err-give-clause-touches g c = index_given 3 _ _ c.args.id (omega arith) (record { writes = c.in_err-give.ensures.writes; stays = c.in_err-give.ensures.stays })
+returns-in_err-give-clause-touches g c = index_given 3 _ _ c.args.id (omega arith)
+    (record { writes = c.in_err-give.ensures.writes; stays = c.in_err-give.ensures.stays })
 
 pub returns-in_err-back-clause-touches : goal.returns-in_err-back-clause-touches
 returns-in_err-back-clause-touches g c =

@@ -46,7 +46,8 @@ returns-in-Some-clause-only g c = λ tells store.
     let decided : DecidesRule s.records s.shape rule found
     = subst (λ (r : Records). DecidesRule r s.shape rule found) inv.same
     (subst (λ (h : Shape). DecidesRule (g.R.Reads.state c.loop-rule.space).records h rule found) (g.met.R.Reads.onward_shape _ _ inv.onward) (c.in_ok-damage.ensures.decided tells)) in
-    let breaks : BreaksRule s.records s.shape rule c.in-Some.damage = subst (λ (o : Option Damage). DecidesRule s.records s.shape rule o) c.in-Some.is decided in
+    let breaks : BreaksRule s.records s.shape rule c.in-Some.damage = subst (λ (o : Option Damage). DecidesRule s.records s.shape rule o) c.in-Some.is
+    decided in
     absurd (none_at_all s.records s.shape store c.in-Some.damage breaks.breaks)
 
 pub loop-rule-preserved : goal.loop-rule-preserved

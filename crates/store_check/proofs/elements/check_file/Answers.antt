@@ -18,14 +18,16 @@ returns-in-Some-Head-clause-found g c = λ tells.
     let records = (g.R.Reads.state c.args.space.now).records in
     let heads : ElementHeads = record { file = c.args.file; elements = c.meta-elements.result.high; properties = c.meta-properties.result.high } in
     let mark : c.meta-elements.result.high ≡ high records c.args.file = ap (λ (m : Meta). m.high) c.meta-elements.ensures in
-    let b : BrokeIs (IsInUse heads records) (AreItsProperties heads records) c.meta-elements.result.high c.args.marks.now (Head c.in-Some-Head.id) = search (rules, c.in_ok-id.ensures.broken tells) in
+    let b : BrokeIs (IsInUse heads records) (AreItsProperties heads records) c.meta-elements.result.high c.args.marks.now (Head c.in-Some-Head.id) =
+    search (rules, c.in_ok-id.ensures.broken tells) in
     inl (c.in-Some-Head.id, c.broken.ensures, omega (arith, b.0), (λ k. b.1 (element_head records heads c.requires.file c.in-Some-Head.id k)))
 
 pub returns-in-Some-Item-clause-found : goal.returns-in-Some-Item-clause-found
 returns-in-Some-Item-clause-found g c = λ tells.
     let records = (g.R.Reads.state c.args.space.now).records in
     let heads : ElementHeads = record { file = c.args.file; elements = c.meta-elements.result.high; properties = c.meta-properties.result.high } in
-    let b : BrokeIs (IsInUse heads records) (AreItsProperties heads records) c.meta-elements.result.high c.args.marks.now (Item c.in-Some-Item.id) = search (rules, c.in_ok-id.ensures.broken tells) in
+    let b : BrokeIs (IsInUse heads records) (AreItsProperties heads records) c.meta-elements.result.high c.args.marks.now (Item c.in-Some-Item.id) =
+    search (rules, c.in_ok-id.ensures.broken tells) in
     inr (c.in-Some-Item.id, c.broken-in-Some-Item.ensures, had_twice records heads c.requires.file c.meta-elements.result.high c.args.marks.now c.in-Some-Item.id b)
 
 pub returns-in-None-2-clause-none : goal.returns-in-None-2-clause-none
@@ -38,9 +40,11 @@ returns-in-None-2-clause-none g c = λ tells.
     let new = c.list_heads.new.marks in
     let mark : n ≡ high records c.args.file = ap (λ (m : Meta). m.high) c.meta-elements.ensures in
     let keeps : (x : ℕ) → x < n → HeadKeeps (IsInUse heads records) (AreItsProperties heads records) x = search (rules, c.in_ok-id.ensures.keeps tells) in
-    let told : (p : ℕ) → Decides (marked new p) ((marked old p ≡ true) ⊎ AmongHeads (IsInUse heads records) (AreItsProperties heads records) n p) = search (rules, c.in_ok-id.ensures.marks tells) in
+    let told : (p : ℕ) → Decides (marked new p) ((marked old p ≡ true) ⊎ AmongHeads (IsInUse heads records) (AreItsProperties heads records) n p) =
+    search (rules, c.in_ok-id.ensures.marks tells) in
     let once : (p : ℕ) → IsOnce (IsInUse heads records) (AreItsProperties heads records) n p = search (rules, c.in_ok-id.ensures.once tells) in
-    let fresh : (k : ℕ) → k < n → (p : ℕ) → AtHead (IsInUse heads records) (AreItsProperties heads records) k p → marked old p ≡ false = search (rules, c.in_ok-id.ensures.fresh tells) in
+    let fresh : (k : ℕ) → k < n → (p : ℕ) → AtHead (IsInUse heads records) (AreItsProperties heads records) k p
+    → marked old p ≡ false = search (rules, c.in_ok-id.ensures.fresh tells) in
     let names : IfNone c.in_ok-id-2.field-0 ((x : ℕ) → x < n → HasName named records x)
     = subst (λ (r : Records). IfNone c.in_ok-id-2.field-0 ((x : ℕ) → x < n → HasName named r x)) c.in_ok-id.ensures.same (c.in_ok-id-2.ensures.none tells) in
     let each : (x : ℕ) → x < n → HasName named records x = search (rules, names) in
@@ -52,7 +56,8 @@ returns-in_err-id-clause-cause g c =
 
 pub returns-in_err-id-2-clause-cause : goal.returns-in_err-id-2-clause-cause
 returns-in_err-id-2-clause-cause g c =
-    cause_passed _ _ _ c.from_residual-in_err-id-2.result c.in_err-id-2.field-0.0 c.in_ok-id.ensures.cause.later c.in_err-id-2.ensures.cause c.from_residual-in_err-id-2.ensures.1
+    cause_passed _ _ _ c.from_residual-in_err-id-2.result c.in_err-id-2.field-0.0 c.in_ok-id.ensures.cause.later c.in_err-id-2.ensures.cause
+    c.from_residual-in_err-id-2.ensures.1
 
 pub returns-in_err-id-2-clause-onward : goal.returns-in_err-id-2-clause-onward
 returns-in_err-id-2-clause-onward g c =

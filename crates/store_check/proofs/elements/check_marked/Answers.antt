@@ -46,9 +46,11 @@ returns-in-Some-3-clause-found g c = λ tells.
     let b : AreListed s.records 2 m n = search (rules, second) in
     let all : AllListed s.records n = all_listed s.records clear m n c.requires.clear a b in
     let found : IfSome c.in_ok-id.field-0 (λ x. ¬ (is_live s.records properties_file x ≡ true → marked n x ≡ true))
-    = subst (λ (r : Records). IfSome c.in_ok-id.field-0 (λ x. ¬ (is_live r properties_file x ≡ true → marked n x ≡ true))) (c.in_ok-damage-2.ensures.same ∙ c.in_ok-damage.ensures.same) (c.in_ok-id.ensures.found tells) in
+    = subst (λ (r : Records). IfSome c.in_ok-id.field-0 (λ x. ¬ (is_live r properties_file x ≡ true → marked n x ≡ true)))
+    (c.in_ok-damage-2.ensures.same ∙ c.in_ok-damage.ensures.same) (c.in_ok-id.ensures.found tells) in
     let bad : ¬ (is_live s.records properties_file c.in-Some-3.id ≡ true → marked n c.in-Some-3.id ≡ true) = search (rules, found) in
-    breaks_by s.records s.shape 5 c.broken.result (damage 4 c.in-Some-3.id 5) c.broken.ensures refl (WrongHolding c.in-Some-3.id (not_held s.records n c.in-Some-3.id all bad))
+    breaks_by s.records s.shape 5 c.broken.result (damage 4 c.in-Some-3.id 5) c.broken.ensures refl
+    (WrongHolding c.in-Some-3.id (not_held s.records n c.in-Some-3.id all bad))
 
 pub returns-in-None-clause-none : goal.returns-in-None-clause-none
 returns-in-None-clause-none g c = λ tells.
@@ -62,7 +64,8 @@ returns-in-None-clause-none g c = λ tells.
     let b : AreListed s.records 2 m n = search (rules, second) in
     let all : AllListed s.records n = all_listed s.records clear m n c.requires.clear a b in
     let none : IfNone c.in_ok-id.field-0 ((x : ℕ) → x < high s.records properties_file → is_live s.records properties_file x ≡ true → marked n x ≡ true)
-    = subst (λ (r : Records). IfNone c.in_ok-id.field-0 ((x : ℕ) → x < high r properties_file → is_live r properties_file x ≡ true → marked n x ≡ true)) (c.in_ok-damage-2.ensures.same ∙ c.in_ok-damage.ensures.same) (c.in_ok-id.ensures.none tells) in
+    = subst (λ (r : Records). IfNone c.in_ok-id.field-0 ((x : ℕ) → x < high r properties_file → is_live r properties_file x ≡ true → marked n x ≡ true))
+    (c.in_ok-damage-2.ensures.same ∙ c.in_ok-damage.ensures.same) (c.in_ok-id.ensures.none tells) in
     let each : (x : ℕ) → x < high s.records properties_file → is_live s.records properties_file x ≡ true → marked n x ≡ true = search (rules, none) in
     elements_right s.records n all each
 
@@ -143,5 +146,6 @@ returns-in_err-id-clause-written g c = search rules
 
 pub returns-in_err-id-clause-cause : goal.returns-in_err-id-clause-cause
 returns-in_err-id-clause-cause g c =
-    cause_passed _ _ _ c.from_residual-in_err-id.result c.in_err-id.field-0.0 (omega (arith, c.in_ok-damage.ensures.cause.later, c.in_ok-damage-2.ensures.cause.later))
+    cause_passed _ _ _ c.from_residual-in_err-id.result c.in_err-id.field-0.0
+    (omega (arith, c.in_ok-damage.ensures.cause.later, c.in_ok-damage-2.ensures.cause.later))
     c.in_err-id.ensures.cause c.from_residual-in_err-id.ensures.1

@@ -37,7 +37,8 @@ returns-then-not-are_keys-clause-none g c = λ tells xs h.
     let room : high records properties_file ≤ 33554432 = omega (arith, c.requires.mark, c.requires.low) in
     let same = c.in_ok-keys.ensures.same ∙ c.in_ok-ids.ensures.same in
     let names : c.meta.result.high ≡ high records names_file = ap (λ (m : Meta). m.high) c.meta.ensures ∙ ap (λ (r : Records). high r names_file) same in
-    let keys : c.deref_mut.result.now ≡ map (key_of records) ids = c.deref_mut.ensures.value ∙ c.in_ok-keys.ensures.numbers tells ∙ ap (λ (r : Records). map (key_of r) c.deref.result.now) c.in_ok-ids.ensures.same ∙ ap (map (key_of records)) c.deref.ensures.value in
+    let keys : c.deref_mut.result.now ≡ map (key_of records) ids = c.deref_mut.ensures.value ∙ c.in_ok-keys.ensures.numbers tells
+    ∙ ap (λ (r : Records). map (key_of r) c.deref.result.now) c.in_ok-ids.ensures.same ∙ ap (map (key_of records)) c.deref.ensures.value in
     let k = (keys_from records c.args.first room ids it xs h).1 in
     let no : c.are_keys.result ≡ false = search rules in
     let yes = c.are_keys.ensures.1 (subst (λ ks. AreKeys c.meta.result.high ks) (sym keys) (subst (λ n. AreKeys n (map (key_of records) ids)) (sym names) k)) in
@@ -52,7 +53,8 @@ returns-clause-found g c = λ tells.
     let room : high records properties_file ≤ 33554432 = omega (arith, c.requires.mark, c.requires.low) in
     let same = c.in_ok-keys.ensures.same ∙ c.in_ok-ids.ensures.same in
     let names : c.meta.result.high ≡ high records names_file = ap (λ (m : Meta). m.high) c.meta.ensures ∙ ap (λ (r : Records). high r names_file) same in
-    let keys : c.deref_mut.result.now ≡ map (key_of records) ids = c.deref_mut.ensures.value ∙ c.in_ok-keys.ensures.numbers tells ∙ ap (λ (r : Records). map (key_of r) c.deref.result.now) c.in_ok-ids.ensures.same ∙ ap (map (key_of records)) c.deref.ensures.value in
+    let keys : c.deref_mut.result.now ≡ map (key_of records) ids = c.deref_mut.ensures.value ∙ c.in_ok-keys.ensures.numbers tells
+    ∙ ap (λ (r : Records). map (key_of r) c.deref.result.now) c.in_ok-ids.ensures.same ∙ ap (map (key_of records)) c.deref.ensures.value in
     let yes : c.are_keys.result ≡ true = search rules in
     let len : c.len.result ≡ length ids = search rules in
     let few : length ids ≤ 32 = omega (arith, c.if-len.false) in
@@ -64,7 +66,8 @@ returns-in_err-ids-clause-cause g c =
 
 pub returns-in_err-keys-clause-cause : goal.returns-in_err-keys-clause-cause
 returns-in_err-keys-clause-cause g c =
-    cause_passed _ _ _ c.from_residual-in_err-keys.result c.in_err-keys.field-0.0 c.in_ok-ids.ensures.cause.later c.in_err-keys.ensures.cause c.from_residual-in_err-keys.ensures.1
+    cause_passed _ _ _ c.from_residual-in_err-keys.result c.in_err-keys.field-0.0 c.in_ok-ids.ensures.cause.later c.in_err-keys.ensures.cause
+    c.from_residual-in_err-keys.ensures.1
 
 pub returns-in_err-keys-clause-onward : goal.returns-in_err-keys-clause-onward
 returns-in_err-keys-clause-onward g c =

@@ -28,16 +28,22 @@ returns-in-Live-clause-sound g c = λ tells.
     let s = g.R.Reads.state c.args.space.now in
     let m = c.meta-meta.result in
     let found : IsLineIn (free_line c.args.file) s.records m.high m.free c.in-Some.ids.items = search (rules, c.in_ok-ids.ensures.found tells) in
-    let it : IsIt s.records c.args.file c.in-Some.ids.items = subst (λ (n : Meta). IsLineIn (free_line c.args.file) s.records n.high n.free c.in-Some.ids.items) c.meta-meta.ensures found in
-    let counted : IsCounted s.records c.args.file c.in-Ok.marks.items (Live c.in-Live.live) = counted_at _ s.records c.args.file _ c.in-Ok.marks.items (Live c.in-Live.live) _ c.in_ok-ids.ensures.same c.deref-2.ensures.value c.in-Live.is (c.in_ok-live.ensures.counted tells) in
+    let it : IsIt s.records c.args.file c.in-Some.ids.items = subst (λ (n : Meta). IsLineIn (free_line c.args.file) s.records n.high n.free c.in-Some.ids.items)
+    c.meta-meta.ensures found in
+    let counted : IsCounted s.records c.args.file c.in-Ok.marks.items (Live c.in-Live.live) =
+    counted_at _ s.records c.args.file _ c.in-Ok.marks.items (Live c.in-Live.live) _ c.in_ok-ids.ensures.same c.deref-2.ensures.value c.in-Live.is
+    (c.in_ok-live.ensures.counted tells) in
     let marks : (p : ℕ) → marked c.in-Ok.marks.items p ≡ is_among c.in-Some.ids.items p = search rules in
-    let exact : (meta_in s.records c.args.file).live ≡ length (ids (is_live s.records c.args.file) (high s.records c.args.file)) = ap (λ (n : Meta). n.live) (sym c.meta-meta.ensures) ∙ sym c.if-live-meta.true ∙ counted.0 in
+    let exact : (meta_in s.records c.args.file).live ≡ length (ids (is_live s.records c.args.file) (high s.records c.args.file)) =
+    ap (λ (n : Meta). n.live) (sym c.meta-meta.ensures) ∙ sym c.if-live-meta.true ∙ counted.0 in
     is_split s.records c.args.file c.requires.mark c.in-Ok.marks.items c.in-Some.ids.items it marks exact counted.1
 
 pub returns-in-Live-2-clause-broken : goal.returns-in-Live-2-clause-broken
 returns-in-Live-2-clause-broken g c = λ tells.
     let s = g.R.Reads.state c.args.space.now in
-    let counted : IsCounted s.records c.args.file c.in-Ok.marks.items (Live c.in-Live.live) = counted_at _ s.records c.args.file _ c.in-Ok.marks.items (Live c.in-Live.live) _ c.in_ok-ids.ensures.same c.deref-2.ensures.value c.in-Live.is (c.in_ok-live.ensures.counted tells) in
+    let counted : IsCounted s.records c.args.file c.in-Ok.marks.items (Live c.in-Live.live) =
+    counted_at _ s.records c.args.file _ c.in-Ok.marks.items (Live c.in-Live.live) _ c.in_ok-ids.ensures.same c.deref-2.ensures.value c.in-Live.is
+    (c.in_ok-live.ensures.counted tells) in
     let other : c.in-Live.live ≢ (meta_in s.records c.args.file).live = λ e. c.if-live-meta.false (e ∙ ap (λ (n : Meta). n.live) (sym c.meta-meta.ensures)) in
     breaks_by s.records s.shape 2 _ (damage 0 c.args.file 2) refl refl (FreeList c.args.file c.requires.file (wrong_count s.records c.args.file c.requires.mark c.in-Live.live counted.0 other))
 
@@ -46,8 +52,11 @@ returns-clause-broken g c = λ tells.
     let s = g.R.Reads.state c.args.space.now in
     let m = c.meta-meta.result in
     let found : IsLineIn (free_line c.args.file) s.records m.high m.free c.in-Some.ids.items = search (rules, c.in_ok-ids.ensures.found tells) in
-    let it : IsIt s.records c.args.file c.in-Some.ids.items = subst (λ (n : Meta). IsLineIn (free_line c.args.file) s.records n.high n.free c.in-Some.ids.items) c.meta-meta.ensures found in
-    let counted : IsCounted s.records c.args.file c.in-Ok.marks.items (OffList c.in-OffList.id) = counted_at _ s.records c.args.file _ c.in-Ok.marks.items (OffList c.in-OffList.id) _ c.in_ok-ids.ensures.same c.deref-2.ensures.value c.in-OffList.is (c.in_ok-live.ensures.counted tells) in
+    let it : IsIt s.records c.args.file c.in-Some.ids.items = subst (λ (n : Meta). IsLineIn (free_line c.args.file) s.records n.high n.free c.in-Some.ids.items)
+    c.meta-meta.ensures found in
+    let counted : IsCounted s.records c.args.file c.in-Ok.marks.items (OffList c.in-OffList.id) =
+    counted_at _ s.records c.args.file _ c.in-Ok.marks.items (OffList c.in-OffList.id) _ c.in_ok-ids.ensures.same c.deref-2.ensures.value c.in-OffList.is
+    (c.in_ok-live.ensures.counted tells) in
     let marks : (p : ℕ) → marked c.in-Ok.marks.items p ≡ is_among c.in-Some.ids.items p = search rules in
     breaks_by s.records s.shape 2 _ (damage c.args.file c.in-OffList.id 2) refl refl
     (OffFreeList c.args.file c.in-OffList.id c.requires.file counted.0 counted.1 (is_off s.records c.args.file c.requires.mark c.in-Ok.marks.items c.in-Some.ids.items it marks c.in-OffList.id counted.2))
@@ -58,7 +67,8 @@ returns-in_err-ids-clause-cause g c =
 
 pub returns-in_err-live-clause-cause : goal.returns-in_err-live-clause-cause
 returns-in_err-live-clause-cause g c =
-    cause_passed _ _ _ c.from_residual-in_err-live.result c.in_err-live.field-0.0 c.in_ok-ids.ensures.cause.later c.in_err-live.ensures.cause c.from_residual-in_err-live.ensures.1
+    cause_passed _ _ _ c.from_residual-in_err-live.result c.in_err-live.field-0.0 c.in_ok-ids.ensures.cause.later c.in_err-live.ensures.cause
+    c.from_residual-in_err-live.ensures.1
 
 pub returns-in_err-live-clause-onward : goal.returns-in_err-live-clause-onward
 returns-in_err-live-clause-onward g c =

@@ -22,7 +22,8 @@ loop-entry-init g c = record {
 pub returns-clause-sound : goal.returns-clause-sound
 returns-clause-sound g c t f is =
     let records = (g.R.Reads.state c.args.space.now).records in
-    holds_all c.all_but_meta-entry-items.result.now c.all_but_meta-entry-items.ensures c.loop-entry.entry-index (λ file. file ≢ names_file → (free : List ℕ) × IsSplit records file (is_live records file) free)
+    holds_all c.all_but_meta-entry-items.result.now c.all_but_meta-entry-items.ensures c.loop-entry.entry-index
+    (λ file. file ≢ names_file → (free : List ℕ) × IsSplit records file (is_live records file) free)
     (omega (arith, c.loop-entry-test.false)) (c.loop-entry.invariant.all t) f (meta_of_reused f is) (reused-not_names f is)
 
 pub check_free-requires-clause-file : goal.check_free-requires-clause-file
@@ -32,7 +33,8 @@ pub check_free-requires-clause-mark : goal.check_free-requires-clause-mark
 check_free-requires-clause-mark g c =
     let other : RecordFile = record { file = 0; room = Fixed 0 } in
     let file = (slice_index_or c.all_but_meta-entry-items.result.now c.loop-entry.entry-index other).file in
-    subst (λ (r : Records). high r file ≤ most_ids) (sym c.loop-entry.invariant.same) (c.requires file (meta_of_reused file (check_free-requires-clause-file g c)))
+    subst (λ (r : Records). high r file ≤ most_ids) (sym c.loop-entry.invariant.same)
+    (c.requires file (meta_of_reused file (check_free-requires-clause-file g c)))
 
 pub returns-in_err-damage-clause-onward : goal.returns-in_err-damage-clause-onward
 returns-in_err-damage-clause-onward g c =

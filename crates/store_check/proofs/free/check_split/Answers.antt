@@ -16,15 +16,18 @@ use Rattle.store_check.proofs.free.check_split.Goals as goal
 pub returns-then-names-clause-decided : goal.returns-then-names-clause-decided
 returns-then-names-clause-decided g c = λ tells.
     let records = (g.R.Reads.state c.args.space.now).records in
-    let meta : c.meta-names.result ≡ meta_in records names_file = c.meta-names.ensures ∙ ap (λ (r : Records). meta_in r names_file) c.in_ok-damage.ensures.same in
+    let meta : c.meta-names.result ≡ meta_in records names_file = c.meta-names.ensures
+    ∙ ap (λ (r : Records). meta_in r names_file) c.in_ok-damage.ensures.same in
     let all : AreAllLive records names_file = ap (λ (m : Meta). m.live) (sym meta) ∙ c.if-names.true ∙ ap (λ (m : Meta). m.high) meta in
-    let each : (file : ℕ) → is_reused file ≡ true → (free : List ℕ) × IsSplit records file (is_live records file) free = search (rules, c.in_ok-damage.ensures.sound tells) in
+    let each : (file : ℕ) → is_reused file ≡ true → (free : List ℕ) × IsSplit records file (is_live records file) free =
+    search (rules, c.in_ok-damage.ensures.sound tells) in
     record { split = each; kept = λ file is out. subst (AreAllLive records) (sym (not_reused file is out)) all }
 
 pub returns-else-names-clause-decided : goal.returns-else-names-clause-decided
 returns-else-names-clause-decided g c = λ tells.
     let s = g.R.Reads.state c.args.space.now in
-    let meta : c.meta-names.result ≡ meta_in s.records names_file = c.meta-names.ensures ∙ ap (λ (r : Records). meta_in r names_file) c.in_ok-damage.ensures.same in
+    let meta : c.meta-names.result ≡ meta_in s.records names_file = c.meta-names.ensures
+    ∙ ap (λ (r : Records). meta_in r names_file) c.in_ok-damage.ensures.same in
     breaks_by s.records s.shape 2 _ (damage 0 6 2) refl refl (NameCount (λ all. c.if-names.false (ap (λ (m : Meta). m.live) meta ∙ all ∙ ap (λ (m : Meta). m.high) (sym meta))))
 
 pub returns-in_err-damage-clause-decided : goal.returns-in_err-damage-clause-decided

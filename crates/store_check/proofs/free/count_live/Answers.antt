@@ -17,7 +17,8 @@ returns-then-not-marks-id-clause-counted g c = λ tells.
     let records = (g.R.Reads.state c.args.space.now).records in
     let mark : c.meta-id-end.result.high ≡ high records c.args.file = ap (λ (m : Meta). m.high) c.meta-id-end.ensures in
     let lt : c.loop-id.id < high records c.args.file = omega (arith, c.loop-id-test.true) in
-    let got : c.in_ok-rec.rec ≡ rec_at records c.args.file c.loop-id.id = c.in_ok-rec.ensures.got tells ∙ ap (λ rs. rec_at rs c.args.file c.loop-id.id) c.loop-id.invariant.same in
+    let got : c.in_ok-rec.rec ≡ rec_at records c.args.file c.loop-id.id = c.in_ok-rec.ensures.got tells
+    ∙ ap (λ rs. rec_at rs c.args.file c.loop-id.id) c.loop-id.invariant.same in
     let free : field 1 c.in_ok-rec.rec 0 ≡ 0 = sym c.byte.ensures ∙ search rules in
     (lt, free_by records c.args.file c.loop-id.id c.in_ok-rec.rec lt got free, search rules)
 
@@ -46,12 +47,13 @@ loop-id-preserved g c =
             let same = count_same (is_live records c.args.file) id (id + 1) refl (free_by records c.args.file id c.in_ok-rec.rec lt (got t) none) in
             let e = w.live-is in let was = inv.live t in omega arith
       ];
-      on_list = λ t. one_more (λ x. is_live records c.args.file x ≡ false → marked c.args.marks.now x ≡ true) id (inv.on_list t) (elim c.if-byte-ne-FREE.branch [
-        | then-byte-ne-FREE w ↦ λ f.
-            let some : field 1 c.in_ok-rec.rec 0 ≢ 0 = λ z. w.if-byte-ne-FREE.true (c.byte.ensures ∙ z) in
-            absurd (true≢false (sym (live_by records c.args.file id c.in_ok-rec.rec lt (got t) some) ∙ f))
-        | else-byte-ne-FREE+else-not-marks-id w ↦ λ f. search rules
-      ]);
+      on_list = λ t. one_more (λ x. is_live records c.args.file x ≡ false → marked c.args.marks.now x ≡ true) id (inv.on_list t)
+          (elim c.if-byte-ne-FREE.branch [
+            | then-byte-ne-FREE w ↦ λ f.
+                let some : field 1 c.in_ok-rec.rec 0 ≢ 0 = λ z. w.if-byte-ne-FREE.true (c.byte.ensures ∙ z) in
+                absurd (true≢false (sym (live_by records c.args.file id c.in_ok-rec.rec lt (got t) some) ∙ f))
+            | else-byte-ne-FREE+else-not-marks-id w ↦ λ f. search rules
+          ]);
       onward = g.met.R.Reads.further_onward c.args.space.now c.loop-id.space c.get.new.self inv.onward c.in_ok-rec.ensures.onward;
       faults = let cause = c.in_ok-rec.ensures.cause in omega (arith, inv.faults, cause.later);
     }

@@ -10,9 +10,12 @@ pub returns-in-None-clause-decided : goal.returns-in-None-clause-decided
 returns-in-None-clause-decided g c = λ tells.
     let s = g.R.Reads.state c.args.space.now in
     let elements : AreElementsRight s.records = search (rules, c.in_ok-damage.ensures.none tells) in
-    let second : IfNone c.in_ok-damage-2.field-0 (AreTextsRight s.records) = subst (λ (r : Records). IfNone c.in_ok-damage-2.field-0 (AreTextsRight r)) c.in_ok-damage.ensures.same (c.in_ok-damage-2.ensures.none tells) in
+    let second : IfNone c.in_ok-damage-2.field-0 (AreTextsRight s.records) =
+    subst (λ (r : Records). IfNone c.in_ok-damage-2.field-0 (AreTextsRight r)) c.in_ok-damage.ensures.same (c.in_ok-damage-2.ensures.none tells) in
     let texts : AreTextsRight s.records = search (rules, second) in
-    let third : IfNone c.in_ok-damage-3.field-0 (AreDefinitionsRight s.records) = subst (λ (r : Records). IfNone c.in_ok-damage-3.field-0 (AreDefinitionsRight r)) (c.in_ok-damage-2.ensures.same ∙ c.in_ok-damage.ensures.same) (c.in_ok-damage-3.ensures.none tells) in
+    let third : IfNone c.in_ok-damage-3.field-0 (AreDefinitionsRight s.records) =
+    subst (λ (r : Records). IfNone c.in_ok-damage-3.field-0 (AreDefinitionsRight r)) (c.in_ok-damage-2.ensures.same ∙ c.in_ok-damage.ensures.same)
+    (c.in_ok-damage-3.ensures.none tells) in
     let definitions : AreDefinitionsRight s.records = search (rules, third) in
     are_properties s.records elements texts definitions
 
@@ -84,5 +87,6 @@ returns-in_err-damage-3-clause-written g c = search rules
 
 pub returns-in_err-damage-3-clause-cause : goal.returns-in_err-damage-3-clause-cause
 returns-in_err-damage-3-clause-cause g c =
-    cause_passed _ _ _ c.from_residual-in_err-damage-3.result c.in_err-damage-3.field-0.0 (omega (arith, c.in_ok-damage.ensures.cause.later, c.in_ok-damage-2.ensures.cause.later))
+    cause_passed _ _ _ c.from_residual-in_err-damage-3.result c.in_err-damage-3.field-0.0
+    (omega (arith, c.in_ok-damage.ensures.cause.later, c.in_ok-damage-2.ensures.cause.later))
     c.in_err-damage-3.ensures.cause c.from_residual-in_err-damage-3.ensures.1

@@ -18,7 +18,8 @@ pub returns-then-not-branch-clause-decided : goal.returns-then-not-branch-clause
 returns-then-not-branch-clause-decided g c = λ tells.
     let s = g.R.Reads.state c.args.space.now in
     let no : c.in_ok-is_own_right.field-0 ≡ false = search rules in
-    breaks_by s.records s.shape 1 c.broken.result (damage 0 0 1) c.broken.ensures refl (OwnRecord (λ h. true≢false (sym ((c.in_ok-is_own_right.ensures.right tells).1 h) ∙ no)))
+    breaks_by s.records s.shape 1 c.broken.result (damage 0 0 1) c.broken.ensures refl
+    (OwnRecord (λ h. true≢false (sym ((c.in_ok-is_own_right.ensures.right tells).1 h) ∙ no)))
 
 pub returns-in-Some-clause-decided : goal.returns-in-Some-clause-decided
 returns-in-Some-clause-decided g c = λ tells.
@@ -37,9 +38,11 @@ returns-in-Some-2-clause-decided g c = λ tells.
     let key = c.in-Some-2.key in
     let is : is_meta_file key.file ≡ true = search (rules, c.in_ok-key.ensures.file) in
     let found : IfSome c.in_ok-key.field-0 (λ k. (k.id < high s.records k.file) × (¬ FitsAt s.records k.file k.id))
-    = subst (λ (r : Records). IfSome c.in_ok-key.field-0 (λ k. (k.id < high r k.file) × (¬ FitsAt r k.file k.id))) (c.in_ok-id.ensures.same ∙ c.in_ok-is_own_right.ensures.same) (c.in_ok-key.ensures.found tells) in
+    = subst (λ (r : Records). IfSome c.in_ok-key.field-0 (λ k. (k.id < high r k.file) × (¬ FitsAt r k.file k.id)))
+    (c.in_ok-id.ensures.same ∙ c.in_ok-is_own_right.ensures.same) (c.in_ok-key.ensures.found tells) in
     let bad : (key.id < high s.records key.file) × (¬ FitsAt s.records key.file key.id) = search (rules, found) in
-    breaks_by s.records s.shape 1 c.broken-in-Some-2.result (damage key.file key.id 1) c.broken-in-Some-2.ensures refl (RecordRange key.file key.id is bad.0 bad.1)
+    breaks_by s.records s.shape 1 c.broken-in-Some-2.result (damage key.file key.id 1) c.broken-in-Some-2.ensures refl
+    (RecordRange key.file key.id is bad.0 bad.1)
 
 pub returns-in-None-clause-decided : goal.returns-in-None-clause-decided
 returns-in-None-clause-decided g c = λ tells.
@@ -51,7 +54,8 @@ returns-in-None-clause-decided g c = λ tells.
     (subst (λ (h : Shape). IfNone c.in_ok-id.field-0 ((n : ℕ) → n < meta_records → IsMetaKept (g.R.Reads.state c.is_own_right.new.space).records h n)) (g.met.R.Reads.onward_shape _ _ c.in_ok-is_own_right.ensures.onward) (c.in_ok-id.ensures.none tells)) in
     let metas : (n : ℕ) → n < meta_records → IsMetaKept s.records s.shape n = search (rules, right) in
     let fitting : IfNone c.in_ok-key.field-0 ((f x : ℕ) → is_meta_file f ≡ true → x < high s.records f → FitsAt s.records f x)
-    = subst (λ (r : Records). IfNone c.in_ok-key.field-0 ((f x : ℕ) → is_meta_file f ≡ true → x < high r f → FitsAt r f x)) (c.in_ok-id.ensures.same ∙ c.in_ok-is_own_right.ensures.same) (c.in_ok-key.ensures.none tells) in
+    = subst (λ (r : Records). IfNone c.in_ok-key.field-0 ((f x : ℕ) → is_meta_file f ≡ true → x < high r f → FitsAt r f x))
+    (c.in_ok-id.ensures.same ∙ c.in_ok-is_own_right.ensures.same) (c.in_ok-key.ensures.none tells) in
     let fit : (f x : ℕ) → is_meta_file f ≡ true → x < high s.records f → FitsAt s.records f x = search (rules, fitting) in
     record {
       own = own.own;
@@ -67,13 +71,15 @@ returns-in_err-is_own_right-clause-cause g c =
 
 pub returns-in_err-id-clause-cause : goal.returns-in_err-id-clause-cause
 returns-in_err-id-clause-cause g c =
-    cause_passed _ _ _ c.from_residual-in_err-id.result c.in_err-id.field-0.0 c.in_ok-is_own_right.ensures.cause.later c.in_err-id.ensures.cause c.from_residual-in_err-id.ensures.1
+    cause_passed _ _ _ c.from_residual-in_err-id.result c.in_err-id.field-0.0 c.in_ok-is_own_right.ensures.cause.later c.in_err-id.ensures.cause
+    c.from_residual-in_err-id.ensures.1
 
 pub returns-in_err-key-clause-cause : goal.returns-in_err-key-clause-cause
 returns-in_err-key-clause-cause g c =
     let later = c.in_ok-is_own_right.ensures.cause.later in
     let later1 = c.in_ok-id.ensures.cause.later in
-    cause_passed _ _ _ c.from_residual-in_err-key.result c.in_err-key.field-0.0 (omega (arith, later, later1)) c.in_err-key.ensures.cause c.from_residual-in_err-key.ensures.1
+    cause_passed _ _ _ c.from_residual-in_err-key.result c.in_err-key.field-0.0 (omega (arith, later, later1)) c.in_err-key.ensures.cause
+    c.from_residual-in_err-key.ensures.1
 
 pub returns-in_err-id-clause-onward : goal.returns-in_err-id-clause-onward
 returns-in_err-id-clause-onward g c =

@@ -19,7 +19,8 @@ loop-entry-init g c = record {
 }
 
 pub find_wrong-requires-clause-file : goal.find_wrong-requires-clause-file
-find_wrong-requires-clause-file g c = entry_is c.all_but_meta-entry-items.result.now c.all_but_meta-entry-items.ensures c.loop-entry.entry-index _ c.loop-entry-test.true
+find_wrong-requires-clause-file g c = entry_is c.all_but_meta-entry-items.result.now c.all_but_meta-entry-items.ensures c.loop-entry.entry-index _
+    c.loop-entry-test.true
 
 pub find_wrong-requires-clause-mark : goal.find_wrong-requires-clause-mark
 find_wrong-requires-clause-mark g c =
@@ -30,11 +31,13 @@ find_wrong-requires-clause-mark g c =
 pub returns-clause-none : goal.returns-clause-none
 returns-clause-none g c t f x is lt =
     let records = (g.R.Reads.state c.args.space.now).records in
-    holds_all c.all_but_meta-entry-items.result.now c.all_but_meta-entry-items.ensures c.loop-entry.entry-index (λ file. (y : ℕ) → y < high records file → FitsAt records file y)
+    holds_all c.all_but_meta-entry-items.result.now c.all_but_meta-entry-items.ensures c.loop-entry.entry-index
+    (λ file. (y : ℕ) → y < high records file → FitsAt records file y)
     (omega (arith, c.loop-entry-test.false)) (c.loop-entry.invariant.all t) f is x lt
 
 pub returns-in-Some-clause-file : goal.returns-in-Some-clause-file
-returns-in-Some-clause-file g c = entry_is c.all_but_meta-entry-items.result.now c.all_but_meta-entry-items.ensures c.loop-entry.entry-index _ c.loop-entry-test.true
+returns-in-Some-clause-file g c = entry_is c.all_but_meta-entry-items.result.now c.all_but_meta-entry-items.ensures c.loop-entry.entry-index _
+    c.loop-entry-test.true
 
 pub loop-entry-preserved : goal.loop-entry-preserved
 loop-entry-preserved g c =

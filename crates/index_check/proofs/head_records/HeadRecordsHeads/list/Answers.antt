@@ -22,5 +22,6 @@ returns-in-None-clause-told g c = λ tells.
     let records = (g.R.Reads.state c.args.space.now).records in
     let self = c.args.self.now in
     let k = c.args.id in
-    let none : kind_at records format.index_file (heads_of records (definition_of 12 self.ids.now k) (k % 12)) ≢ format.heads = search (rules, c.in_ok-head.ensures.none tells) in
+    let none : kind_at records format.index_file (heads_of records (definition_of 12 self.ids.now k) (k % 12)) ≢ format.heads =
+    search (rules, c.in_ok-head.ensures.none tells) in
     (tt, (λ (xs : List ℕ) (h : IsHeadItem records self.ids.now k xs). none h.kind))

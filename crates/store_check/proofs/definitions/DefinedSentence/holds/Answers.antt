@@ -21,7 +21,8 @@ returns-then-label-names-clause-told g c = λ tells.
     let records = (g.R.Reads.state c.args.space.now).records in
     let lt : c.args.id < high records index_file = omega (arith, c.requires.id, c.requires.suits.mark) in
     let got = c.in_ok-rec.ensures.got tells in
-    let names : c.meta-names.result.high ≡ high records names_file = ap (λ (m : Meta). m.high) c.meta-names.ensures ∙ ap (λ (r : Records). high r names_file) (ap (λ s. s.records) c.in_ok-rec.ensures.state) in
+    let names : c.meta-names.result.high ≡ high records names_file = ap (λ (m : Meta). m.high) c.meta-names.ensures
+    ∙ ap (λ (r : Records). high r names_file) (ap (λ s. s.records) c.in_ok-rec.ensures.state) in
     let label = c.number-label.ensures in
     let key = c.number-key.ensures in (
       (λ e. let b = ltb-true c.number-key.result c.meta-names.result.high e in named_keeps records c.args.id c.in_ok-rec.rec lt got (omega (arith, c.if-label-names.true)) (omega arith)),
@@ -33,7 +34,8 @@ returns-else-label-names-clause-told g c = λ tells.
     let records = (g.R.Reads.state c.args.space.now).records in
     let lt : c.args.id < high records index_file = omega (arith, c.requires.id, c.requires.suits.mark) in
     let got = c.in_ok-rec.ensures.got tells in
-    let names : c.meta-names.result.high ≡ high records names_file = ap (λ (m : Meta). m.high) c.meta-names.ensures ∙ ap (λ (r : Records). high r names_file) (ap (λ s. s.records) c.in_ok-rec.ensures.state) in
+    let names : c.meta-names.result.high ≡ high records names_file = ap (λ (m : Meta). m.high) c.meta-names.ensures
+    ∙ ap (λ (r : Records). high r names_file) (ap (λ s. s.records) c.in_ok-rec.ensures.state) in
     let label = c.number-label.ensures in (
       (λ e. let b = ltb-true c.number-label.result c.meta-names.result.high e in absurd (omega (arith, c.if-label-names.false))),
       (λ h. let b = label_named records c.args.id c.in_ok-rec.rec lt got (sym c.byte.ensures ∙ c.if-byte-ne-DEFINITION.false) h in lt_true c.number-label.result c.meta-names.result.high (omega arith)),

@@ -27,11 +27,14 @@ returns-in-Some-clause-told g c = λ tells.
     let ids = c.in-Some.ids.items in
     let lt : c.args.id < high records file = omega (arith, c.requires.id, c.requires.suits.elements) in
     let got = c.in_ok-rec.ensures.got tells in
-    let live : is_live records file c.args.id ≡ true = live_read records file c.args.id c.in_ok-rec.rec lt got (λ z. c.if-byte-eq-FREE.false (c.byte.ensures ∙ z)) in
-    let first : c.number-first.result ≡ property_from records file c.args.id = c.number-first.ensures ∙ ap (λ r. field 4 r c.property_place.result) got ∙ ap (field 4 (records (record { file = file; id = c.args.id }))) c.property_place.ensures.is in
+    let live : is_live records file c.args.id ≡ true = live_read records file c.args.id c.in_ok-rec.rec lt got
+    (λ z. c.if-byte-eq-FREE.false (c.byte.ensures ∙ z)) in
+    let first : c.number-first.result ≡ property_from records file c.args.id = c.number-first.ensures ∙ ap (λ r. field 4 r c.property_place.result) got
+    ∙ ap (field 4 (records (record { file = file; id = c.args.id }))) c.property_place.ensures.is in
     let read = ap (λ s. s.records) c.in_ok-rec.ensures.state in
     let found : IsPropertyList (g.R.Reads.state c.get.new.self).records c.number-first.result ids = search (rules, c.in_ok-ids.ensures.found tells) in
-    let list : IsPropertyList records (property_from records file c.args.id) ids = subst (λ f. IsPropertyList records f ids) first (subst (λ (r : Records). IsPropertyList r c.number-first.result ids) read found) in
+    let list : IsPropertyList records (property_from records file c.args.id) ids =
+    subst (λ f. IsPropertyList records f ids) first (subst (λ (r : Records). IsPropertyList r c.number-first.result ids) read found) in
     (live, list, (λ xs h. properties_one records (property_from records file c.args.id) xs ids h list))
 
 pub returns-in-None-clause-told : goal.returns-in-None-clause-told
@@ -40,10 +43,13 @@ returns-in-None-clause-told g c = λ tells.
     let file = c.args.self.now.file in
     let lt : c.args.id < high records file = omega (arith, c.requires.id, c.requires.suits.elements) in
     let got = c.in_ok-rec.ensures.got tells in
-    let live : is_live records file c.args.id ≡ true = live_read records file c.args.id c.in_ok-rec.rec lt got (λ z. c.if-byte-eq-FREE.false (c.byte.ensures ∙ z)) in
-    let first : c.number-first.result ≡ property_from records file c.args.id = c.number-first.ensures ∙ ap (λ r. field 4 r c.property_place.result) got ∙ ap (field 4 (records (record { file = file; id = c.args.id }))) c.property_place.ensures.is in
+    let live : is_live records file c.args.id ≡ true = live_read records file c.args.id c.in_ok-rec.rec lt got
+    (λ z. c.if-byte-eq-FREE.false (c.byte.ensures ∙ z)) in
+    let first : c.number-first.result ≡ property_from records file c.args.id = c.number-first.ensures ∙ ap (λ r. field 4 r c.property_place.result) got
+    ∙ ap (field 4 (records (record { file = file; id = c.args.id }))) c.property_place.ensures.is in
     let read = ap (λ s. s.records) c.in_ok-rec.ensures.state in
-    let none : (xs : List ℕ) → ¬ IsPropertyList (g.R.Reads.state c.get.new.self).records c.number-first.result xs = search (rules, c.in_ok-ids.ensures.none tells) in
+    let none : (xs : List ℕ) → ¬ IsPropertyList (g.R.Reads.state c.get.new.self).records c.number-first.result xs =
+    search (rules, c.in_ok-ids.ensures.none tells) in
     (live, subst (λ f. (xs : List ℕ) → ¬ IsPropertyList records f xs) first (subst (λ (r : Records). (xs : List ℕ) → ¬ IsPropertyList r c.number-first.result xs) read none))
 
 pub returns-in_err-rec-clause-cause : goal.returns-in_err-rec-clause-cause
@@ -52,7 +58,8 @@ returns-in_err-rec-clause-cause g c =
 
 pub returns-in_err-ids-clause-cause : goal.returns-in_err-ids-clause-cause
 returns-in_err-ids-clause-cause g c =
-    cause_passed _ _ _ c.from_residual-in_err-ids.result c.in_err-ids.field-0.0 c.in_ok-rec.ensures.cause.later c.in_err-ids.ensures.cause c.from_residual-in_err-ids.ensures.1
+    cause_passed _ _ _ c.from_residual-in_err-ids.result c.in_err-ids.field-0.0 c.in_ok-rec.ensures.cause.later c.in_err-ids.ensures.cause
+    c.from_residual-in_err-ids.ensures.1
 
 pub returns-in_err-rec-clause-same : goal.returns-in_err-rec-clause-same
 returns-in_err-rec-clause-same g c = search rules

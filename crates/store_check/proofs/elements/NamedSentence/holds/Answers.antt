@@ -26,7 +26,8 @@ returns-else-byte-eq-FREE-clause-told g c = λ tells.
     let file = c.args.self.now.file in
     let lt : c.args.id < high records file = omega (arith, c.requires.id, c.requires.suits.elements) in
     let got = c.in_ok-rec.ensures.got tells in
-    let mark : c.meta.result.high ≡ high records names_file = ap (λ (m : Meta). m.high) c.meta.ensures ∙ ap (λ (r : Records). high r names_file) (ap (λ s. s.records) c.in_ok-rec.ensures.state) in
+    let mark : c.meta.result.high ≡ high records names_file = ap (λ (m : Meta). m.high) c.meta.ensures
+    ∙ ap (λ (r : Records). high r names_file) (ap (λ s. s.records) c.in_ok-rec.ensures.state) in
     let label : c.number.result ≡ label_of records file c.args.id = c.number.ensures ∙ ap (λ r. field 4 r node_label) got in (
       (λ e _. let b = below c.number.result c.meta.result.high e in omega arith),
       (λ h. let b = h (live_read records file c.args.id c.in_ok-rec.rec lt got (λ z. c.if-byte-eq-FREE.false (c.byte.ensures ∙ z))) in lt_true c.number.result c.meta.result.high (omega arith)),

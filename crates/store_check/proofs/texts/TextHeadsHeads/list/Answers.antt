@@ -25,12 +25,16 @@ returns-in_default-clause-told g c = λ tells.
     let records = (g.R.Reads.state c.args.space.now).records in
     let lt : c.args.id < high records format.properties_file = omega (arith, c.requires.id, c.requires.suits.properties) in
     let got = c.in_ok-rec.ensures.got tells in
-    let long : IsLong records c.args.id = kind_read records format.properties_file c.args.id c.in_ok-rec.rec lt got ∙ sym c.byte.ensures ∙ c.if-byte-ne-TEXT_IN_BLOCKS.false in
+    let long : IsLong records c.args.id = kind_read records format.properties_file c.args.id c.in_ok-rec.rec lt got ∙ sym c.byte.ensures
+    ∙ c.if-byte-ne-TEXT_IN_BLOCKS.false in
     let first : c.number-first.result ≡ first_block records c.args.id = c.number-first.ensures ∙ ap (λ r. field 4 r format.property_first_block) got in
     let read = ap (λ s. s.records) c.in_ok-rec.ensures.state in
-    let none : (xs : List ℕ) → ¬ IsLineIn block_line (g.R.Reads.state c.get.new.self).records c.args.self.now.blocks c.number-first.result xs = search (rules, c.in_ok-ids.ensures.none tells) in
-    let none2 : (xs : List ℕ) → ¬ IsLineIn block_line records c.args.self.now.blocks c.number-first.result xs = subst (λ (r : Records). (xs : List ℕ) → ¬ IsLineIn block_line r c.args.self.now.blocks c.number-first.result xs) read none in
-    let none3 : (xs : List ℕ) → ¬ IsIt records c.args.id xs = subst (λ f. (xs : List ℕ) → ¬ IsLineIn block_line records (high records format.strings_file) f xs) first (subst (λ m. (xs : List ℕ) → ¬ IsLineIn block_line records m c.number-first.result xs) c.requires.suits.blocks none2) in
+    let none : (xs : List ℕ) → ¬ IsLineIn block_line (g.R.Reads.state c.get.new.self).records c.args.self.now.blocks c.number-first.result xs =
+    search (rules, c.in_ok-ids.ensures.none tells) in
+    let none2 : (xs : List ℕ) → ¬ IsLineIn block_line records c.args.self.now.blocks c.number-first.result xs =
+    subst (λ (r : Records). (xs : List ℕ) → ¬ IsLineIn block_line r c.args.self.now.blocks c.number-first.result xs) read none in
+    let none3 : (xs : List ℕ) → ¬ IsIt records c.args.id xs = subst (λ f. (xs : List ℕ) → ¬ IsLineIn block_line records (high records format.strings_file) f xs)
+    first (subst (λ m. (xs : List ℕ) → ¬ IsLineIn block_line records m c.number-first.result xs) c.requires.suits.blocks none2) in
     (long, no_blocks records c.args.id none3)
 
 pub returns-then-not-are_pieces-clause-told : goal.returns-then-not-are_pieces-clause-told
@@ -39,14 +43,18 @@ returns-then-not-are_pieces-clause-told g c = λ tells.
     let ids = c.in-Some.ids.items in
     let lt : c.args.id < high records format.properties_file = omega (arith, c.requires.id, c.requires.suits.properties) in
     let got = c.in_ok-rec.ensures.got tells in
-    let long : IsLong records c.args.id = kind_read records format.properties_file c.args.id c.in_ok-rec.rec lt got ∙ sym c.byte.ensures ∙ c.if-byte-ne-TEXT_IN_BLOCKS.false in
+    let long : IsLong records c.args.id = kind_read records format.properties_file c.args.id c.in_ok-rec.rec lt got ∙ sym c.byte.ensures
+    ∙ c.if-byte-ne-TEXT_IN_BLOCKS.false in
     let first : c.number-first.result ≡ first_block records c.args.id = c.number-first.ensures ∙ ap (λ r. field 4 r format.property_first_block) got in
     let read = ap (λ s. s.records) c.in_ok-rec.ensures.state in
-    let found : IsLineIn block_line (g.R.Reads.state c.get.new.self).records c.args.self.now.blocks c.number-first.result ids = search (rules, c.in_ok-ids.ensures.found tells) in
-    let it : IsIt records c.args.id ids = subst (λ f. IsLineIn block_line records (high records format.strings_file) f ids) first (subst (λ m. IsLineIn block_line records m c.number-first.result ids) c.requires.suits.blocks (subst (λ (r : Records). IsLineIn block_line r c.args.self.now.blocks c.number-first.result ids) read found)) in
+    let found : IsLineIn block_line (g.R.Reads.state c.get.new.self).records c.args.self.now.blocks c.number-first.result ids =
+    search (rules, c.in_ok-ids.ensures.found tells) in
+    let it : IsIt records c.args.id ids = subst (λ f. IsLineIn block_line records (high records format.strings_file) f ids) first
+    (subst (λ m. IsLineIn block_line records m c.number-first.result ids) c.requires.suits.blocks (subst (λ (r : Records). IsLineIn block_line r c.args.self.now.blocks c.number-first.result ids) read found)) in
     let same = c.in_ok-ids.ensures.same ∙ read in
     let lengths : c.deref-2.result.now ≡ map (block_size records) ids
-    = c.deref-2.ensures.value ∙ c.in_ok-lengths.ensures.lengths tells ∙ ap (λ (r : Records). map (block_size r) c.deref.result.now) same ∙ ap (map (block_size records)) c.deref.ensures.value in
+    = c.deref-2.ensures.value ∙ c.in_ok-lengths.ensures.lengths tells ∙ ap (λ (r : Records). map (block_size r) c.deref.result.now) same
+    ∙ ap (map (block_size records)) c.deref.ensures.value in
     let text : c.short.result ≡ text_size records c.args.id = c.short.ensures ∙ ap (λ r. field 2 r format.property_length) got in
     let no : c.are_pieces.result ≡ false = search rules in (
       long,
@@ -60,17 +68,22 @@ returns-clause-told g c = λ tells.
     let ids = c.in-Some.ids.items in
     let lt : c.args.id < high records format.properties_file = omega (arith, c.requires.id, c.requires.suits.properties) in
     let got = c.in_ok-rec.ensures.got tells in
-    let long : IsLong records c.args.id = kind_read records format.properties_file c.args.id c.in_ok-rec.rec lt got ∙ sym c.byte.ensures ∙ c.if-byte-ne-TEXT_IN_BLOCKS.false in
+    let long : IsLong records c.args.id = kind_read records format.properties_file c.args.id c.in_ok-rec.rec lt got ∙ sym c.byte.ensures
+    ∙ c.if-byte-ne-TEXT_IN_BLOCKS.false in
     let first : c.number-first.result ≡ first_block records c.args.id = c.number-first.ensures ∙ ap (λ r. field 4 r format.property_first_block) got in
     let read = ap (λ s. s.records) c.in_ok-rec.ensures.state in
-    let found : IsLineIn block_line (g.R.Reads.state c.get.new.self).records c.args.self.now.blocks c.number-first.result ids = search (rules, c.in_ok-ids.ensures.found tells) in
-    let it : IsIt records c.args.id ids = subst (λ f. IsLineIn block_line records (high records format.strings_file) f ids) first (subst (λ m. IsLineIn block_line records m c.number-first.result ids) c.requires.suits.blocks (subst (λ (r : Records). IsLineIn block_line r c.args.self.now.blocks c.number-first.result ids) read found)) in
+    let found : IsLineIn block_line (g.R.Reads.state c.get.new.self).records c.args.self.now.blocks c.number-first.result ids =
+    search (rules, c.in_ok-ids.ensures.found tells) in
+    let it : IsIt records c.args.id ids = subst (λ f. IsLineIn block_line records (high records format.strings_file) f ids) first
+    (subst (λ m. IsLineIn block_line records m c.number-first.result ids) c.requires.suits.blocks (subst (λ (r : Records). IsLineIn block_line r c.args.self.now.blocks c.number-first.result ids) read found)) in
     let same = c.in_ok-ids.ensures.same ∙ read in
     let lengths : c.deref-2.result.now ≡ map (block_size records) ids
-    = c.deref-2.ensures.value ∙ c.in_ok-lengths.ensures.lengths tells ∙ ap (λ (r : Records). map (block_size r) c.deref.result.now) same ∙ ap (map (block_size records)) c.deref.ensures.value in
+    = c.deref-2.ensures.value ∙ c.in_ok-lengths.ensures.lengths tells ∙ ap (λ (r : Records). map (block_size r) c.deref.result.now) same
+    ∙ ap (map (block_size records)) c.deref.ensures.value in
     let text : c.short.result ≡ text_size records c.args.id = c.short.ensures ∙ ap (λ r. field 2 r format.property_length) got in
     let yes : c.are_pieces.result ≡ true = search rules in
-    let list = blocks_of records c.args.id c.requires.suits.few_blocks ids it (subst (AreLengths (text_size records c.args.id)) lengths (subst (λ t. AreLengths t c.deref-2.result.now) text (c.are_pieces.ensures.0 yes))) in
+    let list = blocks_of records c.args.id c.requires.suits.few_blocks ids it
+    (subst (AreLengths (text_size records c.args.id)) lengths (subst (λ t. AreLengths t c.deref-2.result.now) text (c.are_pieces.ensures.0 yes))) in
     (long, list, (λ xs h. blocks_one records c.args.id xs ids h list))
 
 pub returns-in_err-ids-clause-onward : goal.returns-in_err-ids-clause-onward
@@ -132,5 +145,6 @@ returns-in_err-lengths-clause-written g c = search rules
 
 pub returns-in_err-lengths-clause-cause : goal.returns-in_err-lengths-clause-cause
 returns-in_err-lengths-clause-cause g c =
-    cause_passed _ _ _ c.from_residual-in_err-lengths.result c.in_err-lengths.field-0.0 (omega (arith, c.in_ok-rec.ensures.cause.later, c.in_ok-ids.ensures.cause.later))
+    cause_passed _ _ _ c.from_residual-in_err-lengths.result c.in_err-lengths.field-0.0
+    (omega (arith, c.in_ok-rec.ensures.cause.later, c.in_ok-ids.ensures.cause.later))
     c.in_err-lengths.ensures.cause c.from_residual-in_err-lengths.ensures.1
