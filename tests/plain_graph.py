@@ -1,6 +1,6 @@
 """A graph in Python, and what the lines of the console do with it, for tests that have no built program.
 
-A line and its reply are texts of one character a byte. It keeps no limits and weighs nothing. Each fault of a line is
+A line and its reply are texts of one character a byte. `PlainGraph` keeps no limits and weighs nothing. Each fault of a line is
 `error syntax 0`, wherever it stands.
 """
 
@@ -257,6 +257,10 @@ class PlainGraph:
 
     line_reopen = line_checkpoint
 
+    def values(self):
+        """The values of all properties."""
+        return [value for kind in self.elements for it in kind.values() for value in it.properties.values()]
+
     def line_check(self, tokens):
         tokens.end()
         return "sound"
@@ -264,7 +268,7 @@ class PlainGraph:
     def line_stats(self, tokens):
         tokens.end()
         nodes, edges = self.elements
-        values = [value for kind in self.elements for it in kind.values() for value in it.properties.values()]
+        values = self.values()
         return (
             f"nodes {len(nodes)} edges {len(edges)} properties {len(values)} blocks {sum(map(blocks, values))}"
             f" names {len(self.names)}"
@@ -312,6 +316,9 @@ class PlainGraph:
         it.properties |= properties
         self.names |= dict.fromkeys(properties)
 
+    def unset(self, it, key):
+        it.properties.pop(key, None)
+
     def delete(self, it):
         if not it.ends and any(it.id in edge.ends for edge in self.elements[1].values()):
             raise Refused(f"error node {it.id} has relationships")
@@ -348,7 +355,7 @@ class PlainGraph:
     def line_unset(self, tokens):
         place, key = tokens.place(), tokens.take("word")
         tokens.end()
-        self.find(*place).properties.pop(key, None)
+        self.unset(self.find(*place), key)
 
     def line_delete(self, tokens):
         place = tokens.place()
@@ -571,11 +578,75 @@ class PlainGraph:
         return repeated
 
 
+class LimitedGraph(PlainGraph):
+    """A graph with at most so many nodes, edges, properties and blocks. A node with more edges than the threshold is dense, and
+    a transaction with a change of one element in each line has a greatest weight. Queries and indexes weigh nothing."""
+
+    MOST_WEIGHT, LEAST_WEIGHT = 2048, 7
+
+    def __init__(self, limit, threshold):
+        super().__init__()
+        self.limit, self.threshold, self.weight, self.added = limit, threshold, 0, 0
+
+    def answer(self, line):
+        if self.before is None:
+            self.weight = self.LEAST_WEIGHT
+        before, self.added = self.state(), 0
+        reply = super().answer(line)
+        refusal = self.refusal()
+        if refusal:
+            self.restore(before)
+            return refusal
+        self.weight += self.added
+        return reply
+
+    def refusal(self):
+        """Why the change that the line has made isn't taken."""
+        values = self.values()
+        if len(values) > self.limit:
+            return "error full properties"
+        if sum(map(blocks, values)) > self.limit:
+            return "error full strings"
+        if self.before and self.weight + self.added > self.MOST_WEIGHT:
+            return "error transaction full"
+        return None
+
+    def weigh(self, weight, names=(), values=()):
+        """Adds what the change weighs by itself, and with names, of which some may be new, and with blocks of values."""
+        self.added = weight + len(set(names) - self.names.keys()) + sum(map(blocks, values))
+
+    def make(self, kind, label, properties, ends=()):
+        for end in ends:
+            self.find("node", end)
+        if len(self.elements[kind]) == self.limit:
+            raise Refused(f"error full {('nodes', 'edges')[kind]}")
+        weight = (9 if ends else 1) + sum(map(self.end_weight, set(ends))) + len(properties)
+        self.weigh(weight, [label, *properties], properties.values())
+        return super().make(kind, label, properties, ends)
+
+    def end_weight(self, id):
+        """What an end of a new edge weighs beside the edge: more at a node that becomes dense."""
+        edges = sum(id in edge.ends for edge in self.elements[1].values())
+        return 2 * (self.threshold + 1) if edges == self.threshold else 0
+
+    def set(self, it, properties):
+        self.weigh(2, properties, [*properties.values(), *(it.properties[key] for key in properties if key in it.properties)])
+        super().set(it, properties)
+
+    def unset(self, it, key):
+        self.weigh(2, (), [it.properties[key]] if key in it.properties else ())
+        super().unset(it, key)
+
+    def delete(self, it):
+        super().delete(it)
+        self.weigh((13 if it.ends else 1) + len(it.properties), (), it.properties.values())
+
+
 class Sessions:
     """The session that writes, and by its number what the snapshot of each other one shows. None ends by itself."""
 
-    def __init__(self):
-        self.writer, self.snapshots = PlainGraph(), {}
+    def __init__(self, writer=None):
+        self.writer, self.snapshots = writer or PlainGraph(), {}
 
     def answer(self, line):
         """The reply to a line, without its last newline. If the line names its session, each line of the reply does."""
@@ -614,8 +685,7 @@ class Sessions:
 
     def end_run(self):
         """The next run finds what is stored, and no snapshot."""
-        stored = self.writer.stored()
-        self.__init__()
+        stored, self.writer.before, self.snapshots = self.writer.stored(), None, {}
         self.writer.restore(stored)
 
 

@@ -1,7 +1,7 @@
 use crate::fault::RowFault;
 use crate::script::{Script, Shown};
 use crate::text::{put, put_number, words_of};
-use disk_model::PlainDisk;
+use disk_model::{Disk, PlainDisk};
 use graph_console::{Exit, graph_main};
 use std::alloc::{AllocError, Global};
 use stream_io::{Bytes, Page};
@@ -23,11 +23,11 @@ struct Ended {
 }
 
 /// Carries out a run on this disk, and writes what it wrote.
-pub(crate) fn put_run(
+pub(crate) fn put_run<D: Disk>(
     alloc: Global,
     out: &mut Vec<u8>,
     script: &Script,
-    disk: &mut PlainDisk,
+    disk: &mut D,
 ) -> Result<(), RowFault> {
     let ended = run(alloc, script, PIECE, disk)?;
     Ok(put_ended(out, &ended, script.settings.shown)?)
@@ -55,11 +55,11 @@ fn run_anew(alloc: Global, script: &Script, piece: usize, room: u32) -> Result<E
     run(alloc, script, piece, &mut disk)
 }
 
-fn run(
+fn run<D: Disk>(
     alloc: Global,
     script: &Script,
     piece: usize,
-    disk: &mut PlainDisk,
+    disk: &mut D,
 ) -> Result<Ended, RowFault> {
     let words = words_of(alloc, &script.asked)?;
     let input = Vec::from_slice(alloc, &script.input)?;

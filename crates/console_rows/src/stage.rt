@@ -1,8 +1,9 @@
+use crate::failing::{crash_of, failing_disk, left_by};
 use crate::fault::RowFault;
 use crate::run::{put_run, put_run_in_pieces};
 use crate::script::{PLAIN, Script, Settings, Shown};
 use crate::text::{cut, number_of, push_bytes, put, put_numbers};
-use disk_model::{Disk, PlainDisk};
+use disk_model::{Disk, MemoryDisk, PlainDisk};
 use std::alloc::{AllocError, Global};
 
 /// The room of a disk that a title makes, in nodes.
@@ -20,6 +21,8 @@ const MOST: u64 = 1 << 30;
 pub(crate) struct Stage {
     alloc: Global,
     disk: PlainDisk,
+    /// The disk that is in its place, if its calls fail or a loss of power left it.
+    failing: Option<Box<MemoryDisk>>,
     room: u32,
     in_pieces: bool,
     settings: Settings,
@@ -33,6 +36,7 @@ impl Stage {
         Ok(Stage {
             alloc,
             disk: PlainDisk::new(alloc, ROOM)?,
+            failing: None,
             room: ROOM,
             in_pieces: false,
             settings: PLAIN,
@@ -66,9 +70,11 @@ impl Stage {
             return Ok(());
         };
         if self.in_pieces {
-            put_run_in_pieces(self.alloc, &mut self.written, &script, self.room)
-        } else {
-            put_run(self.alloc, &mut self.written, &script, &mut self.disk)
+            return put_run_in_pieces(self.alloc, &mut self.written, &script, self.room);
+        }
+        match &mut self.failing {
+            Some(disk) => put_run(self.alloc, &mut self.written, &script, &mut **disk),
+            None => put_run(self.alloc, &mut self.written, &script, &mut self.disk),
         }
     }
 
@@ -96,6 +102,9 @@ impl Stage {
         let (word, rest) = cut(row)?;
         match word {
             b"@disk" => self.take_disk(rest)?,
+            b"@fail-call" => self.fail_calls(&[number_of(rest)?], None)?,
+            b"@stop" => self.fail_calls(&[], Some(number_of(rest)?))?,
+            b"@left" => self.lose_power(rest)?,
             b"@poke" => self.poke(rest)?,
             b"@show" => self.show(rest)?,
             b"@fail-read" => self.settings.failing_read = number_of(rest)?,
@@ -116,7 +125,22 @@ impl Stage {
 
     fn make_disk(&mut self, room: u32) -> Result<(), AllocError> {
         self.disk = PlainDisk::new(self.alloc, room)?;
+        self.failing = None;
         self.room = room;
+        Ok(())
+    }
+
+    fn fail_calls(&mut self, fails: &[u64], stop: Option<u64>) -> Result<(), AllocError> {
+        self.failing = Some(failing_disk(self.alloc, self.room, fails, stop)?);
+        Ok(())
+    }
+
+    fn lose_power(&mut self, kind: &[u8]) -> Result<(), RowFault> {
+        let left = match &self.failing {
+            Some(disk) => left_by(self.alloc, disk, crash_of(kind)?)?,
+            None => return Err(RowFault::Malformed),
+        };
+        self.failing = Some(left);
         Ok(())
     }
 
@@ -127,7 +151,7 @@ impl Stage {
         let (file, place) = (number_of(file)?, number_of(place)?);
         let mut bytes = Vec::new(self.alloc);
         push_bytes(&mut bytes, rest)?;
-        if file >= FILES || place > MOST || bytes.len() as u64 > MOST {
+        if self.failing.is_some() || file >= FILES || place > MOST || bytes.len() as u64 > MOST {
             return Err(RowFault::Malformed);
         }
         let file = file as u8;
@@ -142,7 +166,7 @@ impl Stage {
         let (file, rest) = cut(row)?;
         let (place, count) = cut(rest)?;
         let (file, place, count) = (number_of(file)?, number_of(place)?, number_of(count)?);
-        if file >= FILES || place > MOST || count > MOST {
+        if self.failing.is_some() || file >= FILES || place > MOST || count > MOST {
             return Err(RowFault::Malformed);
         }
         let mut bytes = vec![in self.alloc; 0; count as usize]?;
