@@ -1,14 +1,19 @@
-//! Scripts in which a call of the disk fails, or all calls from one on do.
-use crate::runs::{CALLS, Ended, ROOM, plan, run, run_words};
+//! Scripts in which a call of the disk fails.
+use crate::runs::{CALLS, Ended, new_disk, run, run_words};
 use disk_model::MemoryDisk;
 use graph_console::Exit;
 use std::alloc::{AllocError, Global};
 use std::test::Fail;
 
-/// A run of the input in which one call of the disk fails.
-fn run_failing(alloc: Global, input: &[u8], call: u64) -> Result<(Ended, MemoryDisk), AllocError> {
-    let mut disk = MemoryDisk::new(alloc, 16, ROOM, plan(alloc, &[call], None)?)?;
-    let ended = run(alloc, input, &mut disk)?;
+/// A run of the input, with these words, in which one call of the disk fails.
+fn run_failing(
+    alloc: Global,
+    words: &[&str],
+    input: &[u8],
+    call: u64,
+) -> Result<(Ended, Box<MemoryDisk>), AllocError> {
+    let mut disk = new_disk(alloc, &[call], None)?;
+    let ended = run_words(alloc, words, input, &mut *disk)?;
     Ok((ended, disk))
 }
 
@@ -21,14 +26,14 @@ fn each_call_of_the_disk_may_fail(rt: HostRuntime) -> Result<(), Fail> {
         nodes 1 edges 0 properties 0 blocks 0 names 2\n";
     let mut statuses = Vec::new(alloc);
     for call in 1..=CALLS {
-        let (ended, mut disk) = run_failing(alloc, script, call)?;
+        let (ended, mut disk) = run_failing(alloc, &["nipakeel", "run"], script, call)?;
         let status = ended.exit.code();
         statuses.push(status)?;
         let taken = ended.output.taken();
         if taken == replies {
             break;
         }
-        let again = run(alloc, b"stats\n", &mut disk)?;
+        let again = run(alloc, b"stats\n", &mut *disk)?;
         assert!(rt; again.exit == Exit::Done, "call {call}");
         if status == 0 {
             // What the run last saw is what is stored, and a snapshot shows what it showed before.
@@ -73,8 +78,7 @@ fn a_store_is_opened_again_after_each_fault(rt: HostRuntime) -> Result<(), Fail>
     let words = ["nipakeel", "run", "--threshold", "2"];
     let mut has_failed = false;
     for call in 1..=CALLS {
-        let mut disk = MemoryDisk::new(alloc, 16, ROOM, plan(alloc, &[call], None)?)?;
-        let ended = run_words(alloc, &words, REOPENED, &mut disk)?;
+        let (ended, mut disk) = run_failing(alloc, &words, REOPENED, call)?;
         let taken = ended.output.taken();
         if ended.exit == Exit::DiskFault {
             assert!(rt;
@@ -92,7 +96,7 @@ fn a_store_is_opened_again_after_each_fault(rt: HostRuntime) -> Result<(), Fail>
             break;
         }
         has_failed = true;
-        let again = run(alloc, b"check\nstats\n", &mut disk)?;
+        let again = run(alloc, b"check\nstats\n", &mut *disk)?;
         let found = again.output.taken();
         assert!(rt; faults == 1 && found.starts_with(b"sound\n"), "call {call}");
         if ended.exit == Exit::StoreFailed {
@@ -107,64 +111,5 @@ fn a_store_is_opened_again_after_each_fault(rt: HostRuntime) -> Result<(), Fail>
             "call {call}: {taken:?}"
         );
     }
-    Ok(())
-}
-
-#[test]
-fn a_node_may_be_stored_that_was_not_answered(rt: HostRuntime) -> Result<(), Fail> {
-    let alloc = rt.alloc();
-    let script: &[u8] = b"@1 snapshot\nnode a\ng.V()\nreopen\ng.V().count()\n@1 g.V().count()\n";
-    // The last call of the line is the second sync of the log.
-    let mut last = 0;
-    for call in 1..=CALLS {
-        let (ended, _) = run_failing(alloc, script, call)?;
-        if ended.output.taken().starts_with(b"@1 ok\nnode 0\n") {
-            break;
-        }
-        last = call;
-    }
-    let (ended, _) = run_failing(alloc, script, last)?;
-    let want: &[u8] = b"@1 ok\nfault disk\nerror failed\nok\n==>1\nend\n@1 ==>0\n@1 end\n";
-    assert!(rt; ended.output.taken() == want, "call {last}");
-    assert!(rt; ended.exit == Exit::Done);
-    let (ended, _) = run_failing(alloc, b"@1 snapshot\nnode a\n", last)?;
-    assert!(rt; ended.exit == Exit::StoreFailed);
-    Ok(())
-}
-
-/// A run over a disk whose calls fail from this number on.
-fn run_until(alloc: Global, input: &[u8], stop: u64) -> Result<Ended, AllocError> {
-    let mut disk = MemoryDisk::new(alloc, 16, ROOM, plan(alloc, &[], Some(stop))?)?;
-    run(alloc, input, &mut disk)
-}
-
-#[test]
-fn lines_that_need_no_disk_make_no_call(rt: HostRuntime) -> Result<(), Fail> {
-    let alloc = rt.alloc();
-    // The first call that an opening and a node after it don't make.
-    let mut stop = 0;
-    for call in 1..=CALLS {
-        stop = call;
-        if run_until(alloc, b"node a\n", call)?.exit == Exit::Done {
-            break;
-        }
-    }
-    // All lines up to the second node leave the disk alone. It fails the session, and which reason
-    // counts first shows after it.
-    let script: &[u8] = b"node a\nstats\ncommit\nbegin\nbegin\ncheckpoint\nreopen\nnode\n\n\
-        rollback\nbegin\ncommit\n@1 snapshot\n@1 stats\n@1 snapshot\n@2 snapshot\n@2 release\n\
-        @2 g.V()\n@1 node c\nsnapshot\nnode b\nstats\n@1 foo\n@1 node c\n@1 reopen\n@1 snapshot\n\
-        @1 g.V()\n@1 \n@2 g.V()\n@1 release\nsnapshot\nrelease\ncommit\n";
-    let want: &[u8] = b"node 0\nnodes 1 edges 0 properties 0 blocks 0 names 1\n\
-        error no transaction\nok\nerror transaction open\nerror transaction open\n\
-        error transaction open\nerror syntax 4\nok\nok\nok\n@1 ok\n\
-        @1 nodes 1 edges 0 properties 0 blocks 0 names 1\n@1 error snapshot open\n@2 ok\n@2 ok\n\
-        @2 error no snapshot\n@1 error read only\nerror writer\nfault disk\nerror failed\n\
-        @1 error syntax 4\n@1 error read only\n@1 error read only\n@1 error failed\n\
-        @1 error failed\n@2 error failed\n@1 error failed\nerror writer\nerror writer\n\
-        error failed\n";
-    let ended = run_until(alloc, script, stop)?;
-    assert!(rt; ended.output.taken() == want);
-    assert!(rt; ended.exit == Exit::StoreFailed);
     Ok(())
 }

@@ -1,5 +1,5 @@
 //! Runs of the program over a source, a sink and a disk in memory.
-use disk_model::{Calls, Disk, FaultPlan, Room};
+use disk_model::{Calls, Crash, Disk, FaultPlan, MemoryDisk, Room};
 use graph_console::{Exit, graph_main};
 use std::alloc::{AllocError, Global};
 use stream_io::{Bytes, Page};
@@ -11,7 +11,7 @@ pub(crate) const COUNT: &[u8] = b"g.V().count()\n";
 pub(crate) const CALLS: u64 = 400;
 
 /// What a disk keeps of its calls.
-pub(crate) const ROOM: Room = Room {
+const ROOM: Room = Room {
     calls: 512,
     bytes: 65_536,
 };
@@ -29,12 +29,29 @@ pub(crate) struct Ended {
     pub(crate) output: Page,
 }
 
-/// The calls of these numbers fail, and all from the number of the stop on.
-pub(crate) fn plan(
+/// A new disk with room for a store of 16 nodes. The calls of these numbers fail, and all from the
+/// number of the stop on.
+pub(crate) fn new_disk(
     alloc: Global,
     fails: &[u64],
     stop: Option<u64>,
-) -> Result<FaultPlan, AllocError> {
+) -> Result<Box<MemoryDisk>, AllocError> {
+    let disk = MemoryDisk::new(alloc, 16, ROOM, plan(alloc, fails, stop)?)?;
+    Ok(Box::new(alloc, disk)?)
+}
+
+/// The disk that a loss of power leaves, which stops again at this call.
+pub(crate) fn left_of(
+    alloc: Global,
+    disk: &MemoryDisk,
+    choice: Crash,
+    stop: Option<u64>,
+) -> Result<Box<MemoryDisk>, AllocError> {
+    let left = disk.after_crash(alloc, choice, ROOM, plan(alloc, &[], stop)?)?;
+    Ok(Box::new(alloc, left)?)
+}
+
+fn plan(alloc: Global, fails: &[u64], stop: Option<u64>) -> Result<FaultPlan, AllocError> {
     let fails = Calls::new(Vec::from_slice(alloc, fails)?);
     Ok(FaultPlan { fails, stop })
 }

@@ -1,6 +1,6 @@
 //! Scripts that are stopped at each call of the disk: what is opened afterwards is what was
 //! answered, with the line in which the stop came or without it.
-use crate::runs::{CALLS, COUNT, Ended, ROOM, Streams, plan, run, run_over, run_words};
+use crate::runs::{CALLS, COUNT, Ended, Streams, left_of, new_disk, run, run_over, run_words};
 use disk_model::{Crash, MemoryDisk};
 use graph_console::Exit;
 use std::alloc::{AllocError, Global};
@@ -256,16 +256,6 @@ fn is_kept(script: Script, ended: &Ended, probed: &[u8]) -> bool {
     probed == stored
 }
 
-/// The disk that a loss of power leaves, which stops again at this call.
-fn left_of(
-    alloc: Global,
-    disk: &MemoryDisk,
-    choice: Crash,
-    stop: Option<u64>,
-) -> Result<MemoryDisk, AllocError> {
-    disk.after_crash(alloc, choice, ROOM, plan(alloc, &[], stop)?)
-}
-
 /// Opens what a loss of power leaves.
 fn check_left(
     rt: &impl Abort,
@@ -276,7 +266,7 @@ fn check_left(
     choice: Crash,
 ) -> Result<(), AllocError> {
     let mut left = left_of(alloc, disk, choice, None)?;
-    let again = run(alloc, script.probe, &mut left)?;
+    let again = run(alloc, script.probe, &mut *left)?;
     let probed = again.output.taken();
     assert!(rt; again.exit == Exit::Done, "{choice:?}");
     assert!(rt; is_kept(script, ended, probed), "{choice:?}: {probed:?}");
@@ -287,24 +277,51 @@ fn check_left(
 const DENSE_AT_THREE: [&str; 4] = ["nipakeel", "run", "--threshold", "2"];
 
 /// The lines over a disk that stops at this call.
-fn run_stopped(alloc: Global, lines: &[u8], stop: u64) -> Result<(Ended, MemoryDisk), AllocError> {
-    let mut disk = MemoryDisk::new(alloc, 16, ROOM, plan(alloc, &[], Some(stop))?)?;
-    let ended = run_words(alloc, &DENSE_AT_THREE, lines, &mut disk)?;
+fn run_stopped(
+    alloc: Global,
+    lines: &[u8],
+    stop: u64,
+) -> Result<(Ended, Box<MemoryDisk>), AllocError> {
+    let mut disk = new_disk(alloc, &[], Some(stop))?;
+    let ended = run_words(alloc, &DENSE_AT_THREE, lines, &mut *disk)?;
     Ok((ended, disk))
 }
 
-/// Stops the script at each of its calls, and opens what this loss of power leaves.
-fn check_script(
+/// What stands after a loss of power at the places that were under way: old bytes, new ones, zeros,
+/// open gates, and drawn ones.
+const CHOICES: [Crash; 5] = [
+    Crash::Old,
+    Crash::New,
+    Crash::Fill(0),
+    Crash::Fill(1),
+    Crash::Mixed(1),
+];
+
+/// Opens what each of these leaves of a run that stopped at this call; and what a stopped opening
+/// leaves of it.
+fn check_stop(
     rt: &impl Abort,
     alloc: Global,
     script: Script,
-    choice: Crash,
+    ended: &Ended,
+    disk: &MemoryDisk,
+    stop: u64,
 ) -> Result<(), AllocError> {
+    for choice in CHOICES {
+        check_left(rt, alloc, script, ended, disk, choice)?;
+    }
+    let mut left = left_of(alloc, disk, Crash::Fill(1), Some(1 + stop % 32))?;
+    let _ = run(alloc, b"stats\n", &mut *left)?;
+    check_left(rt, alloc, script, ended, &left, Crash::Fill(7))
+}
+
+/// Stops the script at each of its calls.
+fn check_script(rt: &impl Abort, alloc: Global, script: Script) -> Result<(), AllocError> {
     let lines = lines_of(alloc, script.rows)?;
     let replies = replies_of(alloc, script.rows)?;
     for stop in 1..=CALLS {
         let (ended, disk) = run_stopped(alloc, &lines, stop)?;
-        check_left(rt, alloc, script, &ended, &disk, choice)?;
+        check_stop(rt, alloc, script, &ended, &disk, stop)?;
         if ended.output.taken() == replies.as_slice() {
             return Ok(());
         }
@@ -313,63 +330,10 @@ fn check_script(
     Ok(())
 }
 
-fn check_stops(rt: &impl Abort, alloc: Global, choice: Crash) -> Result<(), AllocError> {
-    for script in SCRIPTS {
-        check_script(rt, alloc, script, choice)?;
-    }
-    Ok(())
-}
-
-#[test]
-fn stops_leave_old_bytes(rt: HostRuntime) -> Result<(), Fail> {
-    check_stops(&rt, rt.alloc(), Crash::Old)?;
-    Ok(())
-}
-
-#[test]
-fn stops_leave_new_bytes(rt: HostRuntime) -> Result<(), Fail> {
-    check_stops(&rt, rt.alloc(), Crash::New)?;
-    Ok(())
-}
-
-#[test]
-fn stops_leave_zeros(rt: HostRuntime) -> Result<(), Fail> {
-    check_stops(&rt, rt.alloc(), Crash::Fill(0))?;
-    Ok(())
-}
-
-#[test]
-fn stops_leave_open_gates(rt: HostRuntime) -> Result<(), Fail> {
-    check_stops(&rt, rt.alloc(), Crash::Fill(1))?;
-    Ok(())
-}
-
 #[test]
 fn stops_leave_any_bytes(rt: HostRuntime) -> Result<(), Fail> {
-    check_stops(&rt, rt.alloc(), Crash::Mixed(1))?;
-    Ok(())
-}
-
-/// Stops the script at each of its calls, and then the opening of what this leaves.
-fn check_openings(rt: &impl Abort, alloc: Global, script: Script) -> Result<(), AllocError> {
-    let lines = lines_of(alloc, script.rows)?;
-    let replies = replies_of(alloc, script.rows)?;
-    for stop in 1..=CALLS {
-        let (ended, disk) = run_stopped(alloc, &lines, stop)?;
-        let mut left = left_of(alloc, &disk, Crash::Fill(1), Some(1 + stop % 32))?;
-        let _ = run(alloc, b"stats\n", &mut left)?;
-        check_left(rt, alloc, script, &ended, &left, Crash::Fill(7))?;
-        if ended.output.taken() == replies.as_slice() {
-            break;
-        }
-    }
-    Ok(())
-}
-
-#[test]
-fn openings_are_stopped_too(rt: HostRuntime) -> Result<(), Fail> {
     for script in SCRIPTS {
-        check_openings(&rt, rt.alloc(), script)?;
+        check_script(&rt, rt.alloc(), script)?;
     }
     Ok(())
 }
@@ -384,7 +348,7 @@ fn check_each_opening(
 ) -> Result<(), AllocError> {
     for stop in 1..=CALLS {
         let mut left = left_of(alloc, disk, Crash::Fill(1), Some(stop))?;
-        let again = run(alloc, b"stats\n", &mut left)?;
+        let again = run(alloc, b"stats\n", &mut *left)?;
         check_left(rt, alloc, script, ended, &left, Crash::Fill(1))?;
         if again.exit == Exit::Done {
             return Ok(());
@@ -417,8 +381,8 @@ fn check_streams(
     exit: Exit,
 ) -> Result<bool, AllocError> {
     let lines = lines_of(alloc, script.rows)?;
-    let mut disk = MemoryDisk::new(alloc, 16, ROOM, plan(alloc, &[], None)?)?;
-    let ended = run_over(alloc, &DENSE_AT_THREE, &lines, fails, &mut disk)?;
+    let mut disk = new_disk(alloc, &[], None)?;
+    let ended = run_over(alloc, &DENSE_AT_THREE, &lines, fails, &mut *disk)?;
     check_left(rt, alloc, script, &ended, &disk, Crash::Old)?;
     assert!(rt; ended.exit == exit || ended.exit == Exit::Done, "{fails:?}");
     Ok(ended.exit == Exit::Done)
@@ -454,9 +418,9 @@ fn count_left(
     disk: &MemoryDisk,
     choice: Crash,
     stop: Option<u64>,
-) -> Result<(Ended, MemoryDisk), AllocError> {
+) -> Result<(Ended, Box<MemoryDisk>), AllocError> {
     let mut left = left_of(alloc, disk, choice, stop)?;
-    let ended = run(alloc, COUNT, &mut left)?;
+    let ended = run(alloc, COUNT, &mut *left)?;
     Ok((ended, left))
 }
 
@@ -482,8 +446,8 @@ fn an_entry_stands_over_an_old_gate(rt: HostRuntime) -> Result<(), Fail> {
     let script: &[u8] =
         b"node a\ncheckpoint\nbegin\nnode a\nnode a\nnode a\nnode a\nnode a\nnode a\nnode a\n\
         commit\n";
-    let mut disk = MemoryDisk::new(alloc, 16, ROOM, plan(alloc, &[], None)?)?;
-    let made = run(alloc, script, &mut disk)?;
+    let mut disk = new_disk(alloc, &[], None)?;
+    let made = run(alloc, script, &mut *disk)?;
     assert!(rt; made.exit == Exit::Done);
     for stop in 1..=CALLS {
         if check_stopped_twice(&rt, alloc, &disk, stop, b"==>8\nend\n")? {
