@@ -1,5 +1,6 @@
 //! The disks of plain memory: what they keep, fail to do, and leave after a loss of power.
-use disk_model::{Calls, Crash, Disk, FaultPlan, MemoryDisk, PlainDisk, Room};
+use crate::quiet_disk::{QuietDisk, plan};
+use disk_model::{Crash, Disk, PlainDisk, Room};
 use fault_count::Failed;
 use std::alloc::{AllocError, Global};
 use std::process::Abort;
@@ -10,19 +11,22 @@ const ROOM: Room = Room {
     bytes: 16,
 };
 
-// A plan in which no call fails.
-fn no_faults(alloc: Global) -> FaultPlan {
-    FaultPlan {
-        fails: Calls::new(Vec::new(alloc)),
-        stop: None,
-    }
-}
-
 // What four bytes of file 2 read.
-fn front(disk: &mut MemoryDisk) -> [u8; 4] {
+fn front(disk: &mut QuietDisk) -> [u8; 4] {
     let mut out = [9; 4];
     let _ = disk.read(2, 0, &mut out);
     out
+}
+
+// What is read now, and what this loss of power leaves.
+fn fronts(
+    alloc: Global,
+    mut disk: QuietDisk,
+    choice: Crash,
+) -> Result<([u8; 4], [u8; 4]), AllocError> {
+    let read = front(&mut disk);
+    let mut left = disk.after_crash(alloc, choice, ROOM, plan(alloc, &[], None)?)?;
+    Ok((read, front(&mut left)))
 }
 
 // What is read after some calls of which these fail, and what this loss of power then leaves.
@@ -32,19 +36,13 @@ fn fronts_after_faults(
     stop: Option<u64>,
     choice: Crash,
 ) -> Result<([u8; 4], [u8; 4]), AllocError> {
-    let plan = FaultPlan {
-        fails: Calls::new(Vec::from_slice(alloc, &[fails])?),
-        stop,
-    };
-    let mut disk = MemoryDisk::new(alloc, 1, ROOM, plan)?;
+    let mut disk = QuietDisk::of_limit(alloc, 1, ROOM, plan(alloc, &[fails], stop)?)?;
     let _ = disk.write(2, 0, b"ab");
     let _ = disk.sync(2);
     let _ = disk.write(2, 1, b"x");
     let _ = disk.write(2, 1, b"bxy");
     let _ = disk.write(1, 5, b"q");
-    let read = front(&mut disk);
-    let mut left = disk.after_crash(alloc, choice, ROOM, no_faults(alloc))?;
-    Ok((read, front(&mut left)))
+    fronts(alloc, disk, choice)
 }
 
 #[test]
@@ -67,8 +65,10 @@ fn leaves_each_image_after_the_faults_of_a_plan(rt: HostRuntime) -> Result<(), F
     ];
     for (fails, stop, choice, before, after) in cases {
         let (read, left) = fronts_after_faults(rt.alloc(), fails, stop, choice)?;
-        assert!(rt; read.as_slice() == before, "call {fails} fails");
-        assert!(rt; left.as_slice() == after, "call {fails} fails");
+        assert!(rt;
+            read.as_slice() == before && left.as_slice() == after,
+            "call {fails} fails"
+        );
     }
     Ok(())
 }
@@ -85,20 +85,18 @@ fn fronts_after_poke(
         calls: if later.is_empty() { 3 } else { 4 },
         bytes: 6,
     };
-    let mut disk = MemoryDisk::new(alloc, 1, room, no_faults(alloc))?;
+    let mut disk = QuietDisk::of_limit(alloc, 1, room, plan(alloc, &[], None)?)?;
     disk.write(2, 0, b"uv")?;
     disk.sync(2)?;
     disk.write(2, 0, b"abc")?;
     assert!(rt; disk.room(2) == 64);
-    disk.poke(2, 1, b'z');
-    assert!(rt; &front(&mut disk) == b"azc\0", "{choice:?}");
+    disk.poke_all(&[(2, 1, b'z')]);
+    assert!(rt; &front(&mut disk) == b"azc\0");
     assert!(rt; later.len() < 4);
     if !later.is_empty() {
         disk.write(2, 1, later)?;
     }
-    let read = front(&mut disk);
-    let mut left = disk.after_crash(alloc, choice, ROOM, no_faults(alloc))?;
-    Ok((read, front(&mut left)))
+    Ok(fronts(alloc, disk, choice)?)
 }
 
 #[test]
@@ -116,8 +114,10 @@ fn a_poked_byte_is_read_and_left_by_each_crash(rt: HostRuntime) -> Result<(), Fa
     ];
     for (later, choice, before, after) in cases {
         let (read, left) = fronts_after_poke(&rt, rt.alloc(), later, choice)?;
-        assert!(rt; read.as_slice() == before, "{choice:?}");
-        assert!(rt; left.as_slice() == after, "{choice:?}");
+        assert!(rt;
+            read.as_slice() == before && left.as_slice() == after,
+            "{choice:?}"
+        );
     }
     Ok(())
 }

@@ -2,11 +2,22 @@
 ghost use Rattle.std.specs.Prelude.{◌≤◌, length};
 
 use crate::quiet_disk::{QuietDisk, plan};
-use disk_model::{Disk, PlainDisk, Room};
+use disk_model::{Disk, Room};
 use fault_count::Failed;
 use rec_bytes::{Key, LOG, NODES, Rec};
 use redo_log::{EntryAnswer, LAST_PLACE, LogReader, entry_at, reset, write_at};
+use std::alloc::{AllocError, Global};
 use std::test::Fail;
+
+const ROOM: Room = Room {
+    calls: 256,
+    bytes: 2_048,
+};
+
+// A disk of zeros, which stops at this call.
+fn disk_of(alloc: Global, stop: Option<u64>) -> Result<QuietDisk, AllocError> {
+    QuietDisk::new(alloc, ROOM, plan(alloc, &[], stop)?)
+}
 
 fn key(file: u8, id: u32) -> Key {
     Key { file, id }
@@ -14,8 +25,8 @@ fn key(file: u8, id: u32) -> Key {
 
 // Writes an entry's gate, its count, and for each key the key and the first byte of its record,
 // which is its index.
-fn put_entry<D: Disk>(
-    disk: &mut D,
+fn put_entry(
+    disk: &mut QuietDisk,
     place: u64,
     gate: u8,
     count: u16,
@@ -111,7 +122,7 @@ fn tells_what_stands_at_a_place(rt: HostRuntime) -> Result<(), Fail> {
     ];
     for (name, place, gate, count, keys, wanted) in cases {
         assert!(rt; place <= LAST_PLACE && keys.len() <= 3);
-        let mut disk = PlainDisk::new(rt.alloc(), 16)?;
+        let mut disk = disk_of(rt.alloc(), None)?;
         put_entry(&mut disk, place, gate, count, keys)?;
         assert!(rt; entry_at(&mut disk, place) == wanted, "{name}");
     }
@@ -123,7 +134,7 @@ fn gives_the_record_of_an_index(rt: HostRuntime) -> Result<(), Fail> {
     let keys = [key(1, 5), key(3, 0x0b_0a09)];
     let mut wanted = Rec::ZEROS;
     wanted.set_byte(0, 1);
-    let mut disk = PlainDisk::new(rt.alloc(), 16)?;
+    let mut disk = disk_of(rt.alloc(), None)?;
     put_entry(&mut disk, 7, 1, 2, &keys)?;
     assert!(rt; write_at(&mut disk, 7, 1)? == (keys[1], wanted));
     assert!(rt; write_at(&mut disk, 7, 0)? == (keys[0], Rec::ZEROS));
@@ -131,26 +142,10 @@ fn gives_the_record_of_an_index(rt: HostRuntime) -> Result<(), Fail> {
 }
 
 #[test]
-fn answers_that_the_disk_failed(rt: HostRuntime) -> Result<(), Fail> {
-    let room = Room {
-        calls: 4,
-        bytes: 16,
-    };
-    let mut disk = QuietDisk::new(rt.alloc(), room, plan(rt.alloc(), &[], Some(1))?)?;
-    assert!(rt; entry_at(&mut disk, 0) == EntryAnswer::Disk);
-    assert!(rt; write_at(&mut disk, 0, 0) == Err(Failed));
-    Ok(())
-}
-
-#[test]
 fn a_reader_makes_one_call_for_a_piece(rt: HostRuntime) -> Result<(), Fail> {
     // Two entries of one record each are written by the calls 1 to 4, so a second read would be the
-    // call 6.
-    let room = Room {
-        calls: 4,
-        bytes: 32,
-    };
-    let mut disk = QuietDisk::new(rt.alloc(), room, plan(rt.alloc(), &[], Some(6))?)?;
+    // call 6, at which the disk stops.
+    let mut disk = disk_of(rt.alloc(), Some(6))?;
     put_entry(&mut disk, 0, 1, 1, &[key(1, 5)])?;
     put_entry(&mut disk, 72, 1, 1, &[key(2, 6)])?;
     let mut reader = LogReader::new();
@@ -166,12 +161,14 @@ fn a_reader_makes_one_call_for_a_piece(rt: HostRuntime) -> Result<(), Fail> {
     assert!(rt; reader.write_at(&mut disk, 72, 0)? == (key(2, 6), Rec::ZEROS));
     assert!(rt; reader.entry_at(&mut disk, 144) == EntryAnswer::End);
     assert!(rt; reader.entry_at(&mut disk, 4_096) == EntryAnswer::Disk);
+    assert!(rt; entry_at(&mut disk, 0) == EntryAnswer::Disk);
+    assert!(rt; write_at(&mut disk, 0, 0) == Err(Failed));
     Ok(())
 }
 
 #[test]
 fn reads_an_entry_of_several_pieces(rt: HostRuntime) -> Result<(), Fail> {
-    let mut disk = PlainDisk::new(rt.alloc(), 16)?;
+    let mut disk = disk_of(rt.alloc(), None)?;
     let mut keys = [key(1, 0); 100];
     for index in 0..100 {
         keys[index].id = index as u32;
@@ -201,7 +198,7 @@ fn closes_an_open_gate_alone(rt: HostRuntime) -> Result<(), Fail> {
         (0, EntryAnswer::End, 0),
         (7, EntryAnswer::End, 7),
     ] {
-        let mut disk = PlainDisk::new(rt.alloc(), 16)?;
+        let mut disk = disk_of(rt.alloc(), None)?;
         disk.write(LOG, 0, &[gate, 1, 0, NODES, 5])?;
         assert!(rt; entry_at(&mut disk, 0) == before, "gate {gate}");
         reset(&mut disk)?;

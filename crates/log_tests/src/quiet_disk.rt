@@ -28,7 +28,17 @@ pub(crate) fn plan(
 impl QuietDisk {
     /// A disk of zeros, with the room of a store whose limit is 16.
     pub(crate) fn new(alloc: Global, room: Room, plan: FaultPlan) -> Result<QuietDisk, AllocError> {
-        let disk = Box::new(alloc, MemoryDisk::new(alloc, 16, room, plan)?)?;
+        QuietDisk::of_limit(alloc, 16, room, plan)
+    }
+
+    /// One with the room of a store of this limit.
+    pub(crate) fn of_limit(
+        alloc: Global,
+        limit: u32,
+        room: Room,
+        plan: FaultPlan,
+    ) -> Result<QuietDisk, AllocError> {
+        let disk = Box::new(alloc, MemoryDisk::new(alloc, limit, room, plan)?)?;
         Ok(QuietDisk {
             disk,
             faults: Count::new(),
@@ -48,6 +58,13 @@ impl QuietDisk {
             disk,
             faults: Count::new(),
         })
+    }
+
+    /// How many bytes the file has room for.
+    pub(crate) fn room(&self, file: u8) -> u64
+        requires { IsFile file }
+    {
+        self.disk.room(file)
     }
 
     /// Puts these bytes, each at a place of a file, if it has the place.

@@ -1,14 +1,20 @@
 //! Records in their files, and through the pages that were used last.
-use disk_model::{Calls, Disk, FaultPlan, MemoryDisk, PlainDisk, Room};
+use crate::quiet_disk::{QuietDisk, plan};
+use disk_model::{Disk, Room};
 use page_cache::PageCache;
 use rec_bytes::{Key, META, NAMES, NODES, Rec};
 use record_file::{read_record, write_record};
 use std::alloc::{AllocError, Global};
 use std::test::Fail;
 
+const ROOM: Room = Room {
+    calls: 8,
+    bytes: 512,
+};
+
 #[test]
 fn a_written_record_is_read_back_and_no_other_changes(rt: HostRuntime) -> Result<(), Fail> {
-    let mut disk = PlainDisk::new(rt.alloc(), 16)?;
+    let mut disk = QuietDisk::new(rt.alloc(), ROOM, plan(rt.alloc(), &[], None)?)?;
     for (file, id) in [(META, 6), (NODES, 3), (NODES, 15), (NAMES, 4_095)] {
         let key = Key { file, id };
         assert!(rt; key.is_valid());
@@ -27,15 +33,7 @@ fn a_written_record_is_read_back_and_no_other_changes(rt: HostRuntime) -> Result
 // Which of these node records are got, one after another, through so many pages from a disk that
 // stops at this call.
 fn got(alloc: Global, pages: usize, stop: u64, ids: &[u32]) -> Result<Vec<bool>, AllocError> {
-    let room = Room {
-        calls: 8,
-        bytes: 64,
-    };
-    let plan = FaultPlan {
-        fails: Calls::new(Vec::new(alloc)),
-        stop: Some(stop),
-    };
-    let mut disk = MemoryDisk::new(alloc, 512, room, plan)?;
+    let mut disk = QuietDisk::of_limit(alloc, 512, ROOM, plan(alloc, &[], Some(stop))?)?;
     let mut cache = PageCache::new(alloc, pages)?;
     let mut got = Vec::new(alloc);
     for id in ids {
@@ -68,7 +66,7 @@ fn the_page_that_was_used_last_stays(rt: HostRuntime) -> Result<(), Fail> {
 
 #[test]
 fn a_written_record_is_got_once_its_page_is_forgotten(rt: HostRuntime) -> Result<(), Fail> {
-    let mut disk = PlainDisk::new(rt.alloc(), 256)?;
+    let mut disk = QuietDisk::of_limit(rt.alloc(), 256, ROOM, plan(rt.alloc(), &[], None)?)?;
     let mut cache = PageCache::new(rt.alloc(), 2)?;
     let key = Key {
         file: NODES,

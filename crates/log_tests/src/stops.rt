@@ -80,17 +80,6 @@ fn check_stopped_recoveries(
     Ok(RECOVERY_CALLS + 1)
 }
 
-#[test]
-fn a_recovery_is_stopped_at_each_call(rt: HostRuntime) -> Result<(), Fail> {
-    let store = logged_store(&rt, rt.alloc())?;
-    let settled = left_of(rt.alloc(), &store, Crash::New, None)?;
-    for choice in CHOICES {
-        let calls = check_stopped_recoveries(&rt, rt.alloc(), &settled, choice)?;
-        assert!(rt; calls == RECOVERY_CALLS, "{choice:?}");
-    }
-    Ok(())
-}
-
 /// Stops a checkpoint at this call, and then each recovery of what is left.
 fn check_stopped_checkpoint(
     rt: &impl Abort,
@@ -110,14 +99,19 @@ fn check_stopped_checkpoint(
     Ok(())
 }
 
-#[test]
-fn a_checkpoint_is_stopped_at_each_call(rt: HostRuntime) -> Result<(), Fail> {
-    let store = logged_store(&rt, rt.alloc())?;
-    let changed = changed_records(&rt, rt.alloc())?;
-    for choice in CHOICES {
-        for stop in 1..=CHECKPOINT_CALLS + 1 {
-            check_stopped_checkpoint(&rt, rt.alloc(), &store, &changed, choice, stop)?;
-        }
+/// Stops a recovery, and a checkpoint, at each of their calls.
+fn check_choice(
+    rt: &impl Abort,
+    alloc: Global,
+    store: &QuietDisk,
+    changed: &WriteSet,
+    choice: Crash,
+) -> Result<(), Fail> {
+    let settled = left_of(alloc, store, Crash::New, None)?;
+    let calls = check_stopped_recoveries(rt, alloc, &settled, choice)?;
+    assert!(rt; calls == RECOVERY_CALLS, "{choice:?}");
+    for stop in 1..=CHECKPOINT_CALLS + 1 {
+        check_stopped_checkpoint(rt, alloc, store, changed, choice, stop)?;
     }
     Ok(())
 }
@@ -161,9 +155,12 @@ fn check_failed_recovery(
 }
 
 #[test]
-fn a_call_that_fails_leaves_the_records(rt: HostRuntime) -> Result<(), Fail> {
+fn each_call_may_fail_or_be_the_stop(rt: HostRuntime) -> Result<(), Fail> {
     let store = logged_store(&rt, rt.alloc())?;
     let changed = changed_records(&rt, rt.alloc())?;
+    for choice in CHOICES {
+        check_choice(&rt, rt.alloc(), &store, &changed, choice)?;
+    }
     for call in 1..=CHECKPOINT_CALLS {
         check_failed_checkpoint(&rt, rt.alloc(), &store, &changed, call)?;
     }

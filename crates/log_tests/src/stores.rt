@@ -3,7 +3,6 @@
 use crate::quiet_disk::{QuietDisk, plan};
 use crate::turned_disk::TurnedDisk;
 use disk_model::{Crash, Disk, Room};
-use fault_count::Failed;
 use rec_bytes::{
     Damage, DiskFault, GROUPS, INDEX, Key, LOG, META, Meta, NAMES, NIL, NODES, RELATIONSHIPS,
     Reads, Rec, STRINGS, Space, meta_key,
@@ -67,69 +66,79 @@ pub(crate) fn close<'d, D: Disk>(store: Box<Store<'d, D>>) -> &'d mut D {
     Box::into_inner(store).close()
 }
 
-/// What the first transaction writes, or the second, by ascending key. At 0 it is what a new store
-/// has.
-fn records(count: u8) -> [(Key, Rec); EIGHT] {
+/// What a transaction writes, by ascending key: first the meta record of the nodes, and then records.
+const KEYS: [Key; EIGHT] = [
+    Key {
+        file: META,
+        id: NODES as u32,
+    },
+    Key { file: NODES, id: 0 },
+    Key {
+        file: NODES,
+        id: 15,
+    },
+    Key {
+        file: RELATIONSHIPS,
+        id: 7,
+    },
+    Key {
+        file: GROUPS,
+        id: 31,
+    },
+    Key {
+        file: STRINGS,
+        id: 3,
+    },
+    Key {
+        file: NAMES,
+        id: 4_095,
+    },
+    Key {
+        file: INDEX,
+        id: 31,
+    },
+];
+
+/// The record that the first transaction writes at this key, or the second. At 0 it is what a new
+/// store has.
+fn record(key: Key, count: u8) -> Rec {
+    if key.file != META {
+        return Rec { bytes: [count; 64] };
+    }
     let meta = Meta {
         high: count as u32,
         free: NIL,
         live: count as u32,
     };
-    let rec = Rec { bytes: [count; 64] };
-    [
-        (meta_key(NODES), meta.to_record()),
-        (Key { file: NODES, id: 0 }, rec),
-        (
-            Key {
-                file: NODES,
-                id: 15,
-            },
-            rec,
-        ),
-        (
-            Key {
-                file: RELATIONSHIPS,
-                id: 7,
-            },
-            rec,
-        ),
-        (
-            Key {
-                file: GROUPS,
-                id: 31,
-            },
-            rec,
-        ),
-        (
-            Key {
-                file: STRINGS,
-                id: 3,
-            },
-            rec,
-        ),
-        (
-            Key {
-                file: NAMES,
-                id: 4_095,
-            },
-            rec,
-        ),
-        (
-            Key {
-                file: INDEX,
-                id: 31,
-            },
-            rec,
-        ),
-    ]
+    meta.to_record()
 }
 
-/// Puts the first of these records.
-fn put_all<D: Disk>(rt: &impl Abort, store: &mut Store<'_, D>, count: u8, few: usize) {
-    for (key, rec) in records(count).iter().take(few) {
+/// Begins a transaction, and puts the first of these records.
+fn begin<D: Disk>(rt: &impl Abort, store: &mut Store<'_, D>, count: u8, few: usize) {
+    assert!(rt; store.health() == Health::Live && !store.in_transaction());
+    store.begin();
+    for key in KEYS.iter().take(few) {
         assert!(rt; key.is_valid());
-        assert!(rt; store.put(*key, *rec) == Ok(()));
+        assert!(rt; store.put(*key, record(*key, count)) == Ok(()));
     }
+    assert!(rt; store.in_transaction());
+}
+
+/// Begins one, puts the first of these records, and keeps them for a commit.
+fn prepare<D: Disk>(rt: &impl Abort, store: &mut Store<'_, D>, count: u8, few: usize) {
+    begin(rt, store, count, few);
+    keep(rt, store);
+}
+
+/// Keeps what the transaction has put for a commit.
+fn keep<D: Disk>(rt: &impl Abort, store: &mut Store<'_, D>) {
+    assert!(rt; store.in_transaction() && store.keep() == Ok(()));
+}
+
+/// Commits the open transaction of a live store.
+fn commit<D: Disk>(rt: &impl Abort, store: &mut Store<'_, D>) -> Result<(), DiskFault> {
+    assert!(rt; store.health() == Health::Live && store.in_transaction());
+    store.commit()
 }
 
 /// Commits the first of these records, in a transaction of their own.
@@ -139,13 +148,8 @@ fn change<D: Disk>(
     count: u8,
     few: usize,
 ) -> Result<(), DiskFault> {
-    assert!(rt; store.health() == Health::Live && !store.in_transaction());
-    store.begin();
-    put_all(rt, store, count, few);
-    assert!(rt; store.in_transaction());
-    assert!(rt; store.keep() == Ok(()));
-    assert!(rt; store.health() == Health::Live && store.in_transaction());
-    store.commit()
+    prepare(rt, store, count, few);
+    commit(rt, store)
 }
 
 pub(crate) fn checkpoint<D: Disk>(
@@ -172,9 +176,9 @@ fn shown(rt: &impl Abort, store: &mut Store<'_, QuietDisk>, few: usize) -> Optio
 }
 
 fn shows(rt: &impl Abort, store: &mut Store<'_, QuietDisk>, count: u8, few: usize) -> bool {
-    for (key, rec) in records(count).iter().take(few) {
+    for key in KEYS.iter().take(few) {
         assert!(rt; key.is_valid());
-        if store.get(*key) != Ok(*rec) {
+        if store.get(*key) != Ok(record(*key, count)) {
             return false;
         }
     }
@@ -396,11 +400,7 @@ fn try_keeping(rt: &impl Abort, alloc: Global, call: u64) -> Result<(Health, Opt
     let mut snaps = Snaps::new(alloc);
     assert!(rt; !snaps.is_open(1));
     snaps.take(1)?;
-    assert!(rt; store.health() == Health::Live && !store.in_transaction());
-    store.begin();
-    put_all(rt, &mut store, 1, FOUR);
-    assert!(rt; store.in_transaction());
-    assert!(rt; store.keep() == Ok(()));
+    prepare(rt, &mut store, 1, FOUR);
     assert!(rt; store.health() == Health::Live && store.in_transaction());
     assert!(rt; store.commit_kept(&mut snaps).is_err(), "call {call}");
     let health = store.health();
@@ -434,59 +434,48 @@ fn a_commit_that_keeps_fails_as_it_reads_or_writes(rt: HostRuntime) -> Result<()
     Ok(())
 }
 
-/// How a transaction goes: whether it takes records in, whether they are kept, and whether it is
-/// committed.
-#[derive(Clone, Copy, Debug)]
-struct Course {
-    puts: bool,
+/// Goes through a transaction that takes in so many records, and maybe keeps them, and is maybe
+/// committed. What is committed meanwhile is that of the new store.
+fn go(
+    rt: &impl Abort,
+    store: &mut Store<'_, QuietDisk>,
+    few: usize,
     keeps: bool,
     commits: bool,
-}
-
-/// Goes through a transaction. What is committed meanwhile is that of the new store.
-fn go(rt: &impl Abort, store: &mut Store<'_, QuietDisk>, course: Course) -> Result<(), DiskFault> {
-    let few = if course.puts { FOUR } else { 0 };
-    assert!(rt; store.health() == Health::Live && !store.in_transaction());
-    store.begin();
-    put_all(rt, store, 1, few);
-    assert!(rt; store.in_transaction());
-    if course.keeps {
-        assert!(rt; store.keep() == Ok(()));
+) -> Result<(), DiskFault> {
+    begin(rt, store, 1, few);
+    if keeps {
+        keep(rt, store);
     }
     assert!(rt; store.old(meta_key(NODES)) == Ok(Meta::EMPTY.to_record()));
     assert!(rt; Committed { store }.meta(NODES) == Meta::EMPTY);
-    assert!(rt; store.health() == Health::Live && store.in_transaction());
-    if course.commits {
-        return store.commit();
+    if commits {
+        return commit(rt, store);
     }
+    assert!(rt; store.in_transaction());
     store.rollback();
     Ok(())
 }
 
 #[test]
 fn only_a_commit_of_records_calls_the_disk(rt: HostRuntime) -> Result<(), Fail> {
-    let course = |puts, keeps, commits| Course {
-        puts,
-        keeps,
-        commits,
-    };
+    // How many records a transaction takes in, whether they are kept, whether it is committed, and
+    // whether that is answered.
     let table = [
-        (course(false, false, false), Ok(())),
-        (course(true, false, false), Ok(())),
-        (course(true, true, false), Ok(())),
-        (course(false, true, true), Ok(())),
-        (course(true, false, true), Ok(())),
-        (course(true, true, true), Err(Failed)),
+        (0, false, false, true),
+        (FOUR, false, false, true),
+        (FOUR, true, false, true),
+        (0, true, true, true),
+        (FOUR, false, true, true),
+        (FOUR, true, true, false),
     ];
     // All calls after those of the opening fail.
     let mut disk = new_disk(rt.alloc(), &[], Some(17))?;
     let mut store = open(rt.alloc(), &mut disk)?;
-    for (course, answer) in table {
-        assert!(rt; go(&rt, &mut store, course) == answer, "{course:?}");
-        assert!(rt;
-            (store.in_transaction(), store.meta(NODES)) == (false, Meta::EMPTY),
-            "{course:?}"
-        );
+    for (few, keeps, commits, is_answered) in table {
+        let answer = go(&rt, &mut store, few, keeps, commits);
+        assert!(rt; answer.is_ok() == is_answered);
+        assert!(rt; !store.in_transaction() && store.meta(NODES) == Meta::EMPTY);
     }
     let _ = close(store);
     Ok(())
@@ -499,10 +488,8 @@ fn change_names(rt: &impl Abort, store: &mut Store<'_, QuietDisk>) -> Result<(),
     for id in 0..2_048 {
         assert!(rt; store.put(Key { file: NAMES, id }, Rec { bytes: [1; 64] }) == Ok(()));
     }
-    assert!(rt; store.in_transaction());
-    assert!(rt; store.keep() == Ok(()));
-    assert!(rt; store.health() == Health::Live && store.in_transaction());
-    store.commit()
+    keep(rt, store);
+    commit(rt, store)
 }
 
 #[test]
