@@ -3,7 +3,7 @@ use Rattle.rec_bytes.specs.Space.{State}
 use Rattle.store_rules.specs.Graph.{graph_of}
 use Rattle.traversal_run.specs.Row.{Stream}
 use Rattle.traversal_run.specs.Run.{to_come}
-use Rattle.traversal_run.proofs.OnlyReads.{named-read}
+use Rattle.traversal_run.proofs.OnlyReads.{is_read-on, named-read}
 use Rattle.rec_bytes.proofs.Causes.{never_ok}
 use Rattle.traversal_run.proofs.items.items_of.Goals as goal
 
@@ -35,3 +35,14 @@ returns-in_err-items-clause-shown g c = never_ok c.from_residual-in_err-items.re
 
 pub returns-in_err-items-clause-there : goal.returns-in_err-items-clause-there
 returns-in_err-items-clause-there g c _ _ = never_ok c.from_residual-in_err-items.result _ _ c.from_residual-in_err-items.ensures.1
+
+pub returns-in_err-run-clause-read : goal.returns-in_err-run-clause-read
+returns-in_err-run-clause-read g c = c.in_err-run.ensures.read
+
+pub returns-in_err-items-clause-read : goal.returns-in_err-items-clause-read
+returns-in_err-items-clause-read g c =
+    is_read-on g.R.Reads g.met.R.Reads.further_onward _ _ _ c.in_ok-run.ensures.read c.in_err-items.ensures.read
+
+pub returns-clause-read : goal.returns-clause-read
+returns-clause-read g c =
+    is_read-on g.R.Reads g.met.R.Reads.further_onward _ _ _ c.in_ok-run.ensures.read c.in_ok-items.ensures.read

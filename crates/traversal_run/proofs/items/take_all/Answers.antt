@@ -1,4 +1,4 @@
-use Rattle.std.proofs.Common.{List, sym, subst}
+use Rattle.std.proofs.Common.{List, arith, sym, subst}
 use Rattle.plain_graph.specs.declared.item.Item.{Item}
 use Rattle.traversal_run.proofs.AllItems.{IsTaking, taking-end, taking-first, taking-on}
 use Rattle.rec_bytes.proofs.Causes.{never_ok, ok_cause}
@@ -51,3 +51,24 @@ returns-in-End-clause-read g c =
 pub returns-in-End-clause-cause : goal.returns-in-End-clause-cause
 returns-in-End-clause-cause g c =
     ok_cause _ _ _ _ (later_on c.loop.invariant.read.later c.next.ensures.read.later)
+
+pub returns-in-Disk-clause-read : goal.returns-in-Disk-clause-read
+returns-in-Disk-clause-read g c =
+    is_read-on g.R.Reads g.met.R.Reads.further_onward _ _ _ c.loop.invariant.read c.next.ensures.read
+
+pub returns-in-Disk-clause-cause : goal.returns-in-Disk-clause-cause
+returns-in-Disk-clause-cause g c =
+    let before = c.loop.invariant.read.later in
+    let rose = c.next.ensures.cause c.loop.invariant.goes c.in-Disk.is in
+    record { later = later_on before c.next.ensures.read.later; disk = λ blamed. omega (arith, before, rose) }
+
+pub returns-in-Damaged-clause-read : goal.returns-in-Damaged-clause-read
+returns-in-Damaged-clause-read g c =
+    is_read-on g.R.Reads g.met.R.Reads.further_onward _ _ _ c.loop.invariant.read c.next.ensures.read
+
+pub returns-in-Damaged-clause-cause : goal.returns-in-Damaged-clause-cause
+returns-in-Damaged-clause-cause g c =
+    record { later = later_on c.loop.invariant.read.later c.next.ensures.read.later; disk = λ blamed. absurd cc }
+
+pub returns-clause-read : goal.returns-clause-read
+returns-clause-read g c = c.loop.invariant.read

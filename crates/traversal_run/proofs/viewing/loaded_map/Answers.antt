@@ -10,7 +10,10 @@ use Rattle.traversal_run.specs.Reading.{IsNamedStore}
 use Rattle.traversal_run.specs.Viewing.{property_reads}
 use Rattle.traversal_run.proofs.MapRows.{read_cost}
 use Rattle.rec_bytes.proofs.Causes.{never_ok, ok_cause}
-use Rattle.traversal_run.proofs.Causes.{later_on}
+use Rattle.prop_store.proofs.Exits.{same_has}
+use Rattle.traversal_run.proofs.Broken.{blamed_before}
+use Rattle.traversal_run.proofs.OnlyReads.{is_read-on}
+use Rattle.traversal_run.proofs.Causes.{cause_passed, later_on, memory_cause}
 use Rattle.traversal_run.proofs.viewing.loaded_map.Goals as goal
 
 pub returns-in_err-label-clause-at_most : goal.returns-in_err-label-clause-at_most
@@ -64,3 +67,41 @@ returns-in_err-map-clause-cost g c _ _ = never_ok c.from_residual-in_err-map.res
 
 pub returns-clause-cause : goal.returns-clause-cause
 returns-clause-cause g c = ok_cause _ _ _ _ (later_on c.in_ok-label.ensures.cause.later c.in_ok-props.ensures.cause.later)
+
+pub returns-in_err-label-clause-damaged : goal.returns-in_err-label-clause-damaged
+returns-in_err-label-clause-damaged g c tells = same_has _ c.from_residual.result _ c.from_residual.ensures.1 (c.in_err-label.ensures.damaged tells)
+
+pub returns-in_err-label-clause-read : goal.returns-in_err-label-clause-read
+returns-in_err-label-clause-read g c = c.in_err-label.ensures.read
+
+pub returns-in_err-label-clause-cause : goal.returns-in_err-label-clause-cause
+returns-in_err-label-clause-cause g c =
+    cause_passed _ _ _ c.from_residual.result c.in_err-label.field-0.0 (omega arith) c.in_err-label.ensures.cause c.from_residual.ensures.1
+
+pub returns-in_err-props-clause-damaged : goal.returns-in_err-props-clause-damaged
+returns-in_err-props-clause-damaged g c tells =
+    same_has _ c.from_residual-in_err-props.result _ c.from_residual-in_err-props.ensures.1
+    (blamed_before (g.R.Reads.state c.args.space.now) (g.R.Reads.state c.label_of.new.space) c.in_ok-label.ensures.read.same c.in_err-props.field-0.0 (c.in_err-props.ensures.damaged tells))
+
+pub returns-in_err-props-clause-read : goal.returns-in_err-props-clause-read
+returns-in_err-props-clause-read g c =
+    is_read-on g.R.Reads g.met.R.Reads.further_onward _ _ _ c.in_ok-label.ensures.read c.in_err-props.ensures.read
+
+pub returns-in_err-props-clause-cause : goal.returns-in_err-props-clause-cause
+returns-in_err-props-clause-cause g c =
+    cause_passed _ _ _ c.from_residual-in_err-props.result c.in_err-props.field-0.0 c.in_ok-label.ensures.cause.later c.in_err-props.ensures.cause c.from_residual-in_err-props.ensures.1
+
+pub returns-in_err-map-clause-damaged : goal.returns-in_err-map-clause-damaged
+returns-in_err-map-clause-damaged g c _ = same_has _ c.from_residual-in_err-map.result _ c.from_residual-in_err-map.ensures.1 tt
+
+pub returns-in_err-map-clause-read : goal.returns-in_err-map-clause-read
+returns-in_err-map-clause-read g c =
+    is_read-on g.R.Reads g.met.R.Reads.further_onward _ _ _ c.in_ok-label.ensures.read c.in_ok-props.ensures.read
+
+pub returns-in_err-map-clause-cause : goal.returns-in_err-map-clause-cause
+returns-in_err-map-clause-cause g c =
+    memory_cause _ _ c.from_residual-in_err-map.result (later_on c.in_ok-label.ensures.cause.later c.in_ok-props.ensures.cause.later) c.from_residual-in_err-map.ensures.1
+
+pub returns-clause-read : goal.returns-clause-read
+returns-clause-read g c =
+    is_read-on g.R.Reads g.met.R.Reads.further_onward _ _ _ c.in_ok-label.ensures.read c.in_ok-props.ensures.read

@@ -12,7 +12,9 @@ use Rattle.traversal_run.proofs.OnlyReads.{is_read-on, named-read}
 use Rattle.traversal_run.proofs.ViewLines.{edge-cost, edge-mapped, edge_are, edge_owns, edge_shown, view-no_edge}
 use Rattle.traversal_run.proofs.ViewedElements.{element-none}
 use Rattle.rec_bytes.proofs.Causes.{never_ok, ok_cause}
-use Rattle.traversal_run.proofs.Causes.{later_on}
+use Rattle.prop_store.proofs.Exits.{same_has}
+use Rattle.traversal_run.proofs.Broken.{blamed_before}
+use Rattle.traversal_run.proofs.Causes.{cause_passed, later_on, memory_cause}
 use Rattle.traversal_run.proofs.viewing.view_edge.Goals as goal
 
 pub returns-in_default-clause-found : goal.returns-in_default-clause-found
@@ -119,3 +121,54 @@ returns-in_default-clause-cause g c = ok_cause _ _ _ _ c.in_ok-row.ensures.cause
 
 pub returns-clause-cause : goal.returns-clause-cause
 returns-clause-cause g c = ok_cause _ _ _ _ (later_on c.in_ok-row.ensures.cause.later c.in_ok-props.ensures.cause.later)
+
+pub returns-in_err-row-clause-damaged : goal.returns-in_err-row-clause-damaged
+returns-in_err-row-clause-damaged g c tells = same_has _ c.from_residual.result _ c.from_residual.ensures.1 (c.in_err-row.ensures.damaged tells)
+
+pub returns-in_err-row-clause-read : goal.returns-in_err-row-clause-read
+returns-in_err-row-clause-read g c = c.in_err-row.ensures.read
+
+pub returns-in_err-row-clause-cause : goal.returns-in_err-row-clause-cause
+returns-in_err-row-clause-cause g c =
+    cause_passed _ _ _ c.from_residual.result c.in_err-row.field-0.0 (omega arith) c.in_err-row.ensures.cause c.from_residual.ensures.1
+
+pub returns-in_default-clause-read : goal.returns-in_default-clause-read
+returns-in_default-clause-read g c = c.in_ok-row.ensures.read
+
+pub returns-in_err-item-clause-damaged : goal.returns-in_err-item-clause-damaged
+returns-in_err-item-clause-damaged g c _ = same_has _ c.from_residual-in_err-item.result _ c.from_residual-in_err-item.ensures.1 tt
+
+pub returns-in_err-item-clause-read : goal.returns-in_err-item-clause-read
+returns-in_err-item-clause-read g c = c.in_ok-row.ensures.read
+
+pub returns-in_err-item-clause-cause : goal.returns-in_err-item-clause-cause
+returns-in_err-item-clause-cause g c =
+    memory_cause _ _ c.from_residual-in_err-item.result c.in_ok-row.ensures.cause.later c.from_residual-in_err-item.ensures.1
+
+pub returns-in_err-props-clause-damaged : goal.returns-in_err-props-clause-damaged
+returns-in_err-props-clause-damaged g c tells =
+    same_has _ c.from_residual-in_err-props.result _ c.from_residual-in_err-props.ensures.1
+    (blamed_before (g.R.Reads.state c.args.space.now) (g.R.Reads.state c.edge_row.new.space) c.in_ok-row.ensures.read.same c.in_err-props.field-0.0 (c.in_err-props.ensures.damaged tells))
+
+pub returns-in_err-props-clause-read : goal.returns-in_err-props-clause-read
+returns-in_err-props-clause-read g c =
+    is_read-on g.R.Reads g.met.R.Reads.further_onward _ _ _ c.in_ok-row.ensures.read c.in_err-props.ensures.read
+
+pub returns-in_err-props-clause-cause : goal.returns-in_err-props-clause-cause
+returns-in_err-props-clause-cause g c =
+    cause_passed _ _ _ c.from_residual-in_err-props.result c.in_err-props.field-0.0 c.in_ok-row.ensures.cause.later c.in_err-props.ensures.cause c.from_residual-in_err-props.ensures.1
+
+pub returns-in_err-map-clause-damaged : goal.returns-in_err-map-clause-damaged
+returns-in_err-map-clause-damaged g c _ = same_has _ c.from_residual-in_err-map.result _ c.from_residual-in_err-map.ensures.1 tt
+
+pub returns-in_err-map-clause-read : goal.returns-in_err-map-clause-read
+returns-in_err-map-clause-read g c =
+    is_read-on g.R.Reads g.met.R.Reads.further_onward _ _ _ c.in_ok-row.ensures.read c.in_ok-props.ensures.read
+
+pub returns-in_err-map-clause-cause : goal.returns-in_err-map-clause-cause
+returns-in_err-map-clause-cause g c =
+    memory_cause _ _ c.from_residual-in_err-map.result (later_on c.in_ok-row.ensures.cause.later c.in_ok-props.ensures.cause.later) c.from_residual-in_err-map.ensures.1
+
+pub returns-clause-read : goal.returns-clause-read
+returns-clause-read g c =
+    is_read-on g.R.Reads g.met.R.Reads.further_onward _ _ _ c.in_ok-row.ensures.read c.in_ok-props.ensures.read

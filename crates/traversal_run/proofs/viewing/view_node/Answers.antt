@@ -1,4 +1,4 @@
-use Rattle.std.proofs.Common.{◌≡◌, [], ap, not, subst, ◌∙◌}
+use Rattle.std.proofs.Common.{◌≡◌, [], ap, arith, not, subst, ◌∙◌}
 use Rattle.plain_graph.specs.ElementMaps.{element_map}
 use Rattle.plain_graph.specs.Graph.{properties_at}
 use Rattle.plain_graph.specs.declared.command.Target.TheVariants as targets
@@ -6,10 +6,12 @@ use Rattle.plain_graph.specs.declared.item.Item.TheVariants as items
 use Rattle.rec_bytes.specs.Space.{State}
 use Rattle.store_rules.specs.Graph.{graph_of}
 use Rattle.store_rules.specs.Views.{Records}
-use Rattle.traversal_run.proofs.OnlyReads.{named-read}
+use Rattle.prop_store.proofs.Exits.{same_has}
+use Rattle.traversal_run.proofs.Broken.{blamed_before}
+use Rattle.traversal_run.proofs.OnlyReads.{is_read-on, named-read}
 use Rattle.traversal_run.proofs.ViewLines.{after_row, after_row-same, view-no_node, view-node}
 use Rattle.rec_bytes.proofs.Causes.{never_ok, ok_cause}
-use Rattle.traversal_run.proofs.Causes.{later_on}
+use Rattle.traversal_run.proofs.Causes.{cause_passed, later_on}
 use Rattle.traversal_run.proofs.viewing.view_node.Goals as goal
 
 pub returns-then-is_none-clause-found : goal.returns-then-is_none-clause-found
@@ -69,3 +71,33 @@ returns-then-is_none-clause-cause g c = ok_cause _ _ _ _ c.in_ok-row.ensures.cau
 
 pub returns-clause-cause : goal.returns-clause-cause
 returns-clause-cause g c = ok_cause _ _ _ _ (later_on c.in_ok-row.ensures.cause.later c.in_ok-map.ensures.cause.later)
+
+pub returns-in_err-row-clause-damaged : goal.returns-in_err-row-clause-damaged
+returns-in_err-row-clause-damaged g c tells = same_has _ c.from_residual.result _ c.from_residual.ensures.1 (c.in_err-row.ensures.damaged tells)
+
+pub returns-in_err-row-clause-read : goal.returns-in_err-row-clause-read
+returns-in_err-row-clause-read g c = c.in_err-row.ensures.read
+
+pub returns-in_err-row-clause-cause : goal.returns-in_err-row-clause-cause
+returns-in_err-row-clause-cause g c =
+    cause_passed _ _ _ c.from_residual.result c.in_err-row.field-0.0 (omega arith) c.in_err-row.ensures.cause c.from_residual.ensures.1
+
+pub returns-then-is_none-clause-read : goal.returns-then-is_none-clause-read
+returns-then-is_none-clause-read g c = c.in_ok-row.ensures.read
+
+pub returns-in_err-map-clause-damaged : goal.returns-in_err-map-clause-damaged
+returns-in_err-map-clause-damaged g c tells =
+    same_has _ c.from_residual-in_err-map.result _ c.from_residual-in_err-map.ensures.1
+    (blamed_before (g.R.Reads.state c.args.space.now) (g.R.Reads.state c.vertex_row.new.space) c.in_ok-row.ensures.read.same c.in_err-map.field-0.0 (c.in_err-map.ensures.damaged tells))
+
+pub returns-in_err-map-clause-read : goal.returns-in_err-map-clause-read
+returns-in_err-map-clause-read g c =
+    is_read-on g.R.Reads g.met.R.Reads.further_onward _ _ _ c.in_ok-row.ensures.read c.in_err-map.ensures.read
+
+pub returns-in_err-map-clause-cause : goal.returns-in_err-map-clause-cause
+returns-in_err-map-clause-cause g c =
+    cause_passed _ _ _ c.from_residual-in_err-map.result c.in_err-map.field-0.0 c.in_ok-row.ensures.cause.later c.in_err-map.ensures.cause c.from_residual-in_err-map.ensures.1
+
+pub returns-clause-read : goal.returns-clause-read
+returns-clause-read g c =
+    is_read-on g.R.Reads g.met.R.Reads.further_onward _ _ _ c.in_ok-row.ensures.read c.in_ok-map.ensures.read

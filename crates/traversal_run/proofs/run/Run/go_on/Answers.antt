@@ -10,10 +10,10 @@ use Rattle.traversal_run.specs.Stop.{StopsAtBroken}
 use Rattle.traversal_run.specs.declared.run.Run.{Run}
 use Rattle.traversal_run.proofs.HeldRuns.{near_begins, within-taken}
 use Rattle.traversal_run.proofs.Nothing.{spent-to_come}
-use Rattle.traversal_run.proofs.OnlyReads.{is_read-on, named-read}
+use Rattle.traversal_run.proofs.OnlyReads.{is_read-none, is_read-on, named-read}
 use Rattle.traversal_run.proofs.Scans.{ScanState, scan_gives, scan_starts, scan_turns}
 use Rattle.traversal_run.proofs.Causes.{stop_cause_passed}
-use Rattle.rec_bytes.proofs.Causes.{never_ok}
+use Rattle.rec_bytes.proofs.Causes.{never_ok, ok_cause}
 use Rattle.traversal_run.proofs.HopRuns.{hop_first, hop_gives, hop_stops, turn_on, turn_stops}
 use Rattle.prop_store.proofs.ReadCounts.{reads_none}
 use Rattle.traversal_run.specs.HopRun.{reads_for_hop}
@@ -168,3 +168,19 @@ pub returns-clause-ready : goal.returns-clause-ready
 returns-clause-ready g c =
     let stops = hop_stops g.R.Reads c.args.names.now.names c.args.space.now c.loop.space c.args.self.now c.loop.self c.loop.invariant.hop in
     λ is. (stops.ready is, tt)
+
+pub returns-then-is_spent-clause-read : goal.returns-then-is_spent-clause-read
+returns-then-is_spent-clause-read g c = is_read-none g.R.Reads g.met.R.Reads.stays_onward c.args.space.now
+
+pub returns-in-Some-clause-read : goal.returns-in-Some-clause-read
+returns-in-Some-clause-read g c = c.loop.invariant.read
+
+pub returns-in-Some-clause-cause : goal.returns-in-Some-clause-cause
+returns-in-Some-clause-cause g c = ok_cause _ _ _ _ c.loop.invariant.read.later
+
+pub returns-in_err-turn-clause-read : goal.returns-in_err-turn-clause-read
+returns-in_err-turn-clause-read g c =
+    is_read-on g.R.Reads g.met.R.Reads.further_onward _ _ _ c.loop.invariant.read c.in_err-turn.ensures.read
+
+pub returns-clause-read : goal.returns-clause-read
+returns-clause-read g c = c.loop.invariant.read

@@ -1,8 +1,9 @@
+use Rattle.std.specs.Prelude.{Err}
 use Rattle.std.proofs.Common.{[], ◌≡◌, ◌∙◌, ap, refl, true}
 use Rattle.store_rules.specs.Graph.{graph_of}
 use Rattle.traversal_run.specs.Row.{stream}
 use Rattle.traversal_run.specs.Run.{answer_if, to_come}
-use Rattle.traversal_run.proofs.NextAnswers.{damage_told, end_told, no_item, none_told, past_told, same_told, told_stop}
+use Rattle.traversal_run.proofs.NextAnswers.{damage_told, disk_told, end_told, no_item, none_told, past_told, same_told, told_stop}
 use Rattle.traversal_run.proofs.OnlyReads.{is_read-none}
 use Rattle.traversal_run.proofs.run.Run.next.Goals as goal
 
@@ -72,6 +73,9 @@ pub returns-in-Err-clause-damaged : goal.returns-in-Err-clause-damaged
 returns-in-Err-clause-damaged g c = λ tells going.
     let s = g.R.Reads.state c.args.space.now in
     damage_told s.records s.shape c.in-Err.stop c.stop.result c.stop.ensures.answer (c.in-Err.ensures.damaged tells)
+
+pub returns-in-Err-clause-cause : goal.returns-in-Err-clause-cause
+returns-in-Err-clause-cause g c = λ going failed. c.in-Err.ensures.cause.disk (ap Err (disk_told c.in-Err.stop c.stop.result c.stop.ensures.answer failed))
 
 pub returns-in-Err-clause-stops : goal.returns-in-Err-clause-stops
 returns-in-Err-clause-stops g c = ap answer_if c.stop.ensures.stopped ∙ told_stop c.in-Err.stop c.stop.result c.stop.ensures.answer

@@ -1,6 +1,8 @@
 use Rattle.std.proofs.Common.{arith}
 use Rattle.traversal_run.proofs.Causes.{cause_passed, memory_cause}
-use Rattle.rec_bytes.proofs.Causes.{never_ok}
+use Rattle.rec_bytes.proofs.Causes.{never_ok, ok_cause}
+use Rattle.prop_store.proofs.Exits.{same_has}
+use Rattle.traversal_run.proofs.OnlyReads.{is_read-none}
 use Rattle.traversal_run.proofs.stage.Stage.take.Goals as goal
 
 pub returns-in_err-outs-in-Dedup-clause-cause : goal.returns-in_err-outs-in-Dedup-clause-cause
@@ -27,3 +29,37 @@ returns-in_err-keep-in-Order-clause-limits g c = never_ok c.from_residual-in_err
 
 pub returns-in_err-keep-in-Order-clause-limit : goal.returns-in_err-keep-in-Order-clause-limit
 returns-in_err-keep-in-Order-clause-limit g c _ _ = never_ok c.from_residual-in_err-keep-in-Order.result _ _ c.from_residual-in_err-keep-in-Order.ensures.1
+
+pub returns-in-Mapped-clause-damaged : goal.returns-in-Mapped-clause-damaged
+returns-in-Mapped-clause-damaged g c = c.mapped.ensures.damaged
+
+pub returns-in-Mapped-clause-read : goal.returns-in-Mapped-clause-read
+returns-in-Mapped-clause-read g c = c.mapped.ensures.read
+
+pub returns-in-Mapped-clause-cause : goal.returns-in-Mapped-clause-cause
+returns-in-Mapped-clause-cause g c = c.mapped.ensures.cause
+
+pub returns-in-Limit-clause-read : goal.returns-in-Limit-clause-read
+returns-in-Limit-clause-read g c = is_read-none g.R.Reads g.met.R.Reads.stays_onward c.args.space.now
+
+pub returns-in_ok-outs-in-Dedup-clause-read : goal.returns-in_ok-outs-in-Dedup-clause-read
+returns-in_ok-outs-in-Dedup-clause-read g c = is_read-none g.R.Reads g.met.R.Reads.stays_onward c.args.space.now
+
+pub returns-in_ok-keep-in-Order-clause-read : goal.returns-in_ok-keep-in-Order-clause-read
+returns-in_ok-keep-in-Order-clause-read g c = c.in_ok-keep-in-Order.ensures.read
+
+pub returns-in_ok-keep-in-Order-clause-cause : goal.returns-in_ok-keep-in-Order-clause-cause
+returns-in_ok-keep-in-Order-clause-cause g c = ok_cause _ _ _ _ c.in_ok-keep-in-Order.ensures.cause.later
+
+pub returns-in_err-outs-in-Dedup-clause-read : goal.returns-in_err-outs-in-Dedup-clause-read
+returns-in_err-outs-in-Dedup-clause-read g c = is_read-none g.R.Reads g.met.R.Reads.stays_onward c.args.space.now
+
+pub returns-in_err-outs-in-Dedup-clause-damaged : goal.returns-in_err-outs-in-Dedup-clause-damaged
+returns-in_err-outs-in-Dedup-clause-damaged g c _ = same_has _ c.from_residual.result _ c.from_residual.ensures.1 tt
+
+pub returns-in_err-keep-in-Order-clause-read : goal.returns-in_err-keep-in-Order-clause-read
+returns-in_err-keep-in-Order-clause-read g c = c.in_err-keep-in-Order.ensures.read
+
+pub returns-in_err-keep-in-Order-clause-damaged : goal.returns-in_err-keep-in-Order-clause-damaged
+returns-in_err-keep-in-Order-clause-damaged g c tells =
+    same_has _ c.from_residual-in_err-keep-in-Order.result _ c.from_residual-in_err-keep-in-Order.ensures.1 (c.in_err-keep-in-Order.ensures.damaged tells)
