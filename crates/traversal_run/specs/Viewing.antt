@@ -1,5 +1,5 @@
 -- An element with its label and its properties.
-use Rattle.std.specs.Prelude.{ℕ, ◌+◌, Option, List, []}
+use Rattle.std.specs.Prelude.{ℕ, ◌+◌, Option, []}
 use Rattle.std.specs.FinMap as maps
 use Rattle.std.specs.Option.{option_map}
 use Rattle.plain_graph.specs.ElementMaps.{element_map}

@@ -1,4 +1,4 @@
-use Rattle.std.proofs.Common.{ap, false, subst, sym, ◌∙◌, ◌∷◌, refl}
+use Rattle.std.proofs.Common.{ap, false, subst, sym, ◌∙◌, ◌∷◌}
 use Rattle.plain_graph.specs.declared.item.Item.{Item}
 use Rattle.rec_bytes.specs.Space.{State}
 use Rattle.store_rules.specs.Graph.{graph_of}
@@ -15,7 +15,7 @@ use Rattle.traversal_run.proofs.Causes.{cause_passed, later_on}
 use Rattle.std.proofs.lemmas.Result.{err_from_is_err_and}
 use Rattle.prop_store.specs.Fault.{BlamesBroken}
 use Rattle.rec_bytes.proofs.Causes.{never_ok}
-use Rattle.traversal_run.proofs.HopRuns.{fed_first, fed_took, feeds_over, feeds_took, ended_none, took_row, took_step}
+use Rattle.traversal_run.proofs.HopRuns.{fed_took, feeds_over, feeds_took, ended_none, took_row, took_step}
 use Rattle.traversal_run.specs.HopRun.{StageReads}
 use Rattle.traversal_run.proofs.feeding.feed_vertices.Goals as goal
 

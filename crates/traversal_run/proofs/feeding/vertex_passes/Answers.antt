@@ -1,4 +1,4 @@
-use Rattle.std.proofs.Common.{◌≡◌, All, Bool, IfOk, ap, arith, false, subst, sym, ◌∙◌}
+use Rattle.std.proofs.Common.{◌≡◌, All, Bool, IfOk, ap, arith, subst, sym, ◌∙◌}
 use Rattle.std.proofs.lemmas.Result.{IfErr-weaker}
 use Rattle.plain_graph.specs.Meaning.{is_some_and}
 use Rattle.plain_graph.specs.declared.item.Item.TheVariants as items
