@@ -85,8 +85,8 @@ abbrev pub BlamesUnset : State → State → ChangeFault → Type 0
 BlamesUnset s t fault =
     IfBlames (λ damage. IsBroken s damage ⊎ (IsEntryDamage t damage × IsAsFound s t damage)) fault
 
--- So it is where a node is added or deleted. But where it may have several entries, one of the indexes
--- that is blamed may have been written for an earlier one.
+-- So it is where a node is added or deleted. But where it may have several entries, one of the
+-- indexes that is blamed may have been written for an earlier one.
 abbrev pub BlamesEntries : State → State → Type 0 → ChangeFault → Type 0
 BlamesEntries s t several fault =
     IfBlames (λ damage. IsBroken s damage

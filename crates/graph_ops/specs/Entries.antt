@@ -1,6 +1,6 @@
 -- The entries that a change of the values of a node takes out of the indexes and adds to them.
-use Rattle.std.specs.Prelude.{◌≡◌, ℕ, ◌+◌, ◌*◌, ◌<◌, ◌≤◌, nat_eq, Bool, true, false, ◌&&◌, ◌||◌, not}
-use Rattle.std.specs.Prelude.{if◌then◌else◌, ◌⊎◌}
+use Rattle.std.specs.Prelude.{◌≡◌, ℕ, ◌+◌, ◌*◌, ◌<◌, ◌≤◌, nat_eq, Bool, true, false, ◌&&◌, ◌||◌}
+use Rattle.std.specs.Prelude.{not, if◌then◌else◌, ◌⊎◌}
 use Rattle.std.specs.Prelude.{Option, None, Some, is_some, List, [], ◌∷◌, length, map, slice_get}
 use Rattle.std.specs.List.{filter, list_any, sum_by}
 use Rattle.plain_graph.specs.Properties.{no_properties, with_pairs}

@@ -28,9 +28,9 @@ KeepsOtherKinds s t id =
     (n : ℕ) → n ≢ id
     → kind_at t.records format.nodes_file n ≡ kind_at s.records format.nodes_file n
 
--- Why a node of any records isn't deleted, by what was read of them. Or an entry is changed: a record
--- of the indexes is told by the space as it is left, and it is as it was found, unless there are
--- two indexes or more.
+-- Why a node of any records isn't deleted, by what was read of them. Or an entry is changed: a
+-- record of the indexes is told by the space as it is left, and it is as it was found, unless there
+-- are two indexes or more.
 abbrev pub IsDeleteCause : State → State → ℕ → ChangeFault → Type 0
 IsDeleteCause s t id (NoNode missing) = (missing ≡ id) × (row_at s.records id ≡ None)
 IsDeleteCause s t id (NoEdge missing) = ⊥
