@@ -48,7 +48,8 @@ in_rest a b z xs ys same up is there =
     absurd (omega (arith, over, ids))) (λ (later : Contains ys z). later) (contains_cases b ys z there)
 
 -- two ascending lists with the same members
-one_ascending : (xs ys : List EdgeRow) → Ascends xs → Ascends ys → ((z : EdgeRow) → Contains xs z → Contains ys z) → ((z : EdgeRow) → Contains ys z → Contains xs z) → xs ≡ ys
+one_ascending : (xs ys : List EdgeRow) → Ascends xs → Ascends ys → ((z : EdgeRow) → Contains xs z → Contains ys z)
+    → ((z : EdgeRow) → Contains ys z → Contains xs z) → xs ≡ ys
 one_ascending [] [] up rise onto back = refl
 one_ascending [] (b ∷ ys) up rise onto back = let none = (back b (contains_first b ys)).1 in absurd (omega arith)
 one_ascending (a ∷ xs) [] up rise onto back = let none = (onto a (contains_first a xs)).1 in absurd (omega arith)
@@ -72,13 +73,15 @@ flips a b = grind (arith, nat_tests)
 -- distinct rows that were sorted
 ascends_sorted : (rows found : List EdgeRow) → AllPairs Differs rows → IsPermutation rows found → IsNonDecreasingBy id_of found → Ascends found
 ascends_sorted rows found distinct moved sorted = λ i j d lt low.
-    let apart = IsDistinct-IsPermutation same_id flips rows found moved (IsDistinct-from_apart same_id rows (λ i j d lt low. eq_false _ _ (distinct i j d lt low))) in
+    let apart = IsDistinct-IsPermutation same_id flips rows found moved
+    (IsDistinct-from_apart same_id rows (λ i j d lt low. eq_false _ _ (distinct i j d lt low))) in
     let differs = eqb-false _ _ (apart_from_distinct same_id found i j d apart lt low) in
     let le = sorted i j d (omega arith) low in
     omega (arith, differs, le)
 
 -- The rows that pass a test, sorted, are the edges that pass it.
-pub sorted_part : (wide test : EdgeRow → Bool) (rows edges found : List EdgeRow) → IsPart wide rows edges → ((row : EdgeRow) → test row ≡ true → wide row ≡ true)
+pub sorted_part : (wide test : EdgeRow → Bool) (rows edges found : List EdgeRow) → IsPart wide rows edges
+    → ((row : EdgeRow) → test row ≡ true → wide row ≡ true)
     → IsPermutation (filter test rows) found → IsNonDecreasingBy id_of found → found ≡ filter test edges
 sorted_part wide test rows edges found part narrower moved sorted =
     one_ascending found (filter test edges)

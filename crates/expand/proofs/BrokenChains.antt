@@ -1,5 +1,6 @@
 -- What chains of a node or of its groups say is damaged breaks its rule.
-use Rattle.std.proofs.Common.{◌≡◌, ◌≢◌, ◌⊎◌, ◌<◌, ◌+◌, ◌-◌, ℕ, nat_eq, Bool, true, false, ◌&&◌, not, cond, List, [], ◌∷◌, ◌++◌, get_or, length, map, refl, sym, ap, ◌∙◌, subst, inl, inr, ⊎_elim, arith}
+use Rattle.std.proofs.Common.{◌≡◌, ◌≢◌, ◌⊎◌, ◌<◌, ◌+◌, ◌-◌, ℕ, nat_eq, Bool, true, false, ◌&&◌, not, cond, List, []}
+use Rattle.std.proofs.Common.{◌∷◌, ◌++◌, get_or, length, map, refl, sym, ap, ◌∙◌, subst, inl, inr, ⊎_elim, arith}
 use Rattle.std.specs.List.{AllPairs, Contains, list_all, list_any}
 use Rattle.std.proofs.lemmas.Bool.{and_parts, eqb-true, or_cases, true≢false}
 use Rattle.std.proofs.lemmas.List.{get_or-map, length-append, length-map, map-append}
@@ -91,7 +92,8 @@ first_is s g Out = refl
 first_is s g Into = refl
 first_is s g Loop = refl
 
-pub link_is : (s : Records) (node : ℕ) (direction : Direction) (labels gs : List ℕ) (link : FirstLink) → Contains (first_links direction labels (map (group_row_at s) gs)) link → IsLinkOf s node gs link
+pub link_is : (s : Records) (node : ℕ) (direction : Direction) (labels gs : List ℕ) (link : FirstLink)
+    → Contains (first_links direction labels (map (group_row_at s) gs)) link → IsLinkOf s node gs link
 link_is s node direction labels [] link (k, lt, is) = absurd (omega arith)
 link_is s node direction labels (g ∷ gs) link is = ⊎_elim
     (λ (own : Contains (cond (is_wanted labels (type_of s g)) (links_of direction (group_row_at s g)) []) link). of_one (is_wanted labels (type_of s g)) own)
@@ -121,13 +123,16 @@ any_contains p (x ∷ xs) h = ⊎_elim
 
 -- ---- the heads of the links
 
-heads_are : (s : Records) (direction : Direction) (labels gs : List ℕ) → map (λ (link : FirstLink). group_head link.group link.side) (first_links direction labels (map (group_row_at s) gs)) ≡ heads_in s direction labels gs
+heads_are : (s : Records) (direction : Direction) (labels gs : List ℕ) → map (λ (link : FirstLink). group_head link.group link.side)
+    (first_links direction labels (map (group_row_at s) gs)) ≡ heads_in s direction labels gs
 heads_are s direction labels [] = refl
 heads_are s direction labels (g ∷ gs) =
-    map-append (λ (link : FirstLink). group_head link.group link.side) (cond (is_wanted labels (type_of s g)) (links_of direction (group_row_at s g)) []) (first_links direction labels (map (group_row_at s) gs))
+    map-append (λ (link : FirstLink). group_head link.group link.side) (cond (is_wanted labels (type_of s g)) (links_of direction (group_row_at s g)) [])
+    (first_links direction labels (map (group_row_at s) gs))
     ∙ (λ i. one (is_wanted labels (type_of s g)) direction i ++ heads_are s direction labels gs i)
   where
-    one : (wanted : Bool) (direction : Direction) → map (λ (link : FirstLink). group_head link.group link.side) (cond wanted (links_of direction (group_row_at s g)) []) ≡ cond wanted (map (group_head g) (sides_of direction)) []
+    one : (wanted : Bool) (direction : Direction) → map (λ (link : FirstLink). group_head link.group link.side)
+        (cond wanted (links_of direction (group_row_at s g)) []) ≡ cond wanted (map (group_head g) (sides_of direction)) []
     one true directions.Outgoing = refl
     one true directions.Incoming = refl
     one true directions.Both = refl
@@ -139,7 +144,8 @@ AreApart link other = (link.label ≡ other.label) → (link.side ≡ other.side
 
 -- no twins: two links of one type and side are one
 apart : (links : List FirstLink) → have_twins links ≡ false → (i j : ℕ) (d : FirstLink) → i < length links → j < length links
-    → group_head (get_or links i d).group (get_or links i d).side ≢ group_head (get_or links j d).group (get_or links j d).side → AreApart (get_or links i d) (get_or links j d)
+    → group_head (get_or links i d).group (get_or links i d).side ≢ group_head (get_or links j d).group (get_or links j d).side
+    → AreApart (get_or links i d) (get_or links j d)
 apart links none i j d low lower ne label side =
     let link = get_or links i d in
     let other = get_or links j d in
@@ -186,9 +192,11 @@ module _ (s : State) (node : ℕ) (links : List FirstLink) (of : AreOfGroups s n
   all_apart none i j d lt low =
       let heads = heads_apart s.records of.direction of.labels gs once_groups in
       let f = λ (link : FirstLink). group_head link.group link.side in
-      let long : length (heads_in s.records of.direction of.labels gs) ≡ length links = ap length (sym (heads_are s.records of.direction of.labels gs)) ∙ length-map (first_links of.direction of.labels (map (group_row_at s.records) gs)) f ∙ ap length (sym are_links) in
+      let long : length (heads_in s.records of.direction of.labels gs) ≡ length links = ap length (sym (heads_are s.records of.direction of.labels gs))
+      ∙ length-map (first_links of.direction of.labels (map (group_row_at s.records) gs)) f ∙ ap length (sym are_links) in
       let same : (k : ℕ) → k < length links → get_or (heads_in s.records of.direction of.labels gs) k (f d) ≡ f (get_or links k d) = λ k below.
-      ap (λ hs. get_or hs k (f d)) (sym (heads_are s.records of.direction of.labels gs)) ∙ get_or-map f (first_links of.direction of.labels (map (group_row_at s.records) gs)) k d (f d) (let e = ap length are_links in omega arith)
+      ap (λ hs. get_or hs k (f d)) (sym (heads_are s.records of.direction of.labels gs))
+      ∙ get_or-map f (first_links of.direction of.labels (map (group_row_at s.records) gs)) k d (f d) (let e = ap length are_links in omega arith)
       ∙ ap (λ ls. f (get_or ls k d)) (sym are_links) in
       apart links none i j d (omega arith) low (λ e. heads i j (f d) lt (omega arith) (same i (omega arith) ∙ e ∙ sym (same j low)))
 
@@ -205,7 +213,8 @@ module _ (s : State) (node : ℕ) (links : List FirstLink) (of : AreOfGroups s n
           let two = twins_of links twins in
           let one = link_of two.link two.has in
           let other = link_of two.other two.has_other in
-          let all : chain.0 ≡ gs = walk_is (next_group s.records) (first_link s.records node) chain.0 gs (walk_of_chain _ _ format.nil (first_link s.records node) chain.0 chain.1.chain) of.listed.list.walk in
+          let all : chain.0 ≡ gs = walk_is (next_group s.records) (first_link s.records node) chain.0 gs
+          (walk_of_chain _ _ format.nil (first_link s.records node) chain.0 chain.1.chain) of.listed.list.walk in
           two.differ (chain.1.once two.other.group two.link.group (subst (In two.other.group) (sym all) other.member) (subst (In two.link.group) (sym all) one.member)
           (sym other.label ∙ two.same ∙ one.label))
 
@@ -224,16 +233,20 @@ module _ (s : State) (node : ℕ) (links : List FirstLink) (of : AreOfGroups s n
     }
 
     -- what stands at its head belongs into the chain
-    pub stands_belongs : (x : ℕ) → StandsAt (rel_at s.records) (group_at s.records) (group_head link.group link.side) x → belongs link node (edge_at s.records x) ≡ true
+    pub stands_belongs : (x : ℕ) → StandsAt (rel_at s.records) (group_at s.records) (group_head link.group link.side) x
+        → belongs link node (edge_at s.records x) ≡ true
     stands_belongs x at =
         let found = some_row (kind_at s.records format.relationships_file x) (rel_in (rec_at s.records format.relationships_file x) x) at.row at.live in
         ⊎_elim
         (λ (own : (format.groups_file ≡ format.nodes_file) × IsEnd link.group at.row). absurd (let e = own.0 in omega arith))
         (λ (other : (format.groups_file ≡ format.groups_file) × IsInGroup (group_at s.records) (group_head link.group link.side) at.row).
         let in_group = other.1 in
-        let same : in_group.row ≡ group_in (rec_at s.records format.groups_file link.group) link.group = same_group in_group.row (group_in (rec_at s.records format.groups_file link.group) link.group) (sym in_group.group ∙ row_of_group s.records node link.group group_is) in
+        let same : in_group.row ≡ group_in (rec_at s.records format.groups_file link.group) link.group =
+        same_group in_group.row (group_in (rec_at s.records format.groups_file link.group) link.group)
+        (sym in_group.group ∙ row_of_group s.records node link.group group_is) in
         let owner : in_group.row.owner ≡ node = ap (λ (r : views.GroupRow). r.owner) same ∙ group_is.owner in
-        let label : (edge_at s.records x).label ≡ link.label = ap (λ (r : RelRow). r.label) found.1 ∙ in_group.label ∙ ap (λ (r : views.GroupRow). r.label) same ∙ sym (link_of link is).label in
+        let label : (edge_at s.records x).label ≡ link.label = ap (λ (r : RelRow). r.label) found.1 ∙ in_group.label ∙ ap (λ (r : views.GroupRow). r.label) same
+        ∙ sym (link_of link is).label in
         rw (eq_true (edge_at s.records x).label link.label label) (placed link.side at.row in_group.row found.1 owner in_group.side)) at.on
       where
         placed : (side : Side) (row : RelRow) (group : views.GroupRow) → rel_in (rec_at s.records format.relationships_file x) x ≡ row → group.owner ≡ node
@@ -263,13 +276,15 @@ module _ (s : State) (node : ℕ) (links : List FirstLink) (of : AreOfGroups s n
         record {
           members = chain.0;
           chain = subst (λ f. IsChainFrom s.records node f chain.0) (sym (link_of link is).first) chain.1.chain;
-          low = λ x i. kind_below (rel_mark s) (rec_at s.records format.relationships_file x) x (some_row (kind_at s.records format.relationships_file x) (rel_in (rec_at s.records format.relationships_file x) x) (chain.1.only x i).row (chain.1.only x i).live).0;
+          low = λ x i. kind_below (rel_mark s) (rec_at s.records format.relationships_file x) x
+              (some_row (kind_at s.records format.relationships_file x) (rel_in (rec_at s.records format.relationships_file x) x) (chain.1.only x i).row (chain.1.only x i).live).0;
           belong = λ x i. stands_belongs x (chain.1.only x i);
         }
 
     -- so a group without such a chain breaks the third rule
     pub chains_break : (IsRightChain → ⊥) → Breaks s.records s.shape (breaking.damage format.groups_file link.group 3)
-    chains_break none = GroupChains link.group (group_below s.records node link.group group_is) (node, list_on s.records node gs of.dense of.listed.list link.group (link_of link is).member) (λ keeps. none (right_chain keeps))
+    chains_break none = GroupChains link.group (group_below s.records node link.group group_is)
+        (node, list_on s.records node gs of.dense of.listed.list link.group (link_of link is).member) (λ keeps. none (right_chain keeps))
 
 -- ---- what was met, by the links
 
@@ -299,7 +314,8 @@ pass_all p f [] each = refl
 pass_all p f (y ∷ ys) each = rw (each y (inl refl)) (pass_all p f ys (λ x i. each x (inr i)))
 
 -- what belongs at two links makes them of one type and side
-same_place : (link other : FirstLink) (node : ℕ) (row : EdgeRow) → belongs link node row ≡ true → belongs other node row ≡ true → (link.label ≡ other.label) × (link.side ≡ other.side)
+same_place : (link other : FirstLink) (node : ℕ) (row : EdgeRow) → belongs link node row ≡ true → belongs other node row ≡ true → (link.label ≡ other.label)
+    × (link.side ≡ other.side)
 same_place link other node row one two =
     let a = and_parts (nat_eq row.label link.label) (is_on link.side node row) one in
     let b = and_parts (nat_eq row.label other.label) (is_on other.side node row) two in
@@ -318,26 +334,31 @@ module _ (s now : State) (n node at budget : ℕ) (links : List FirstLink) (d : 
     rows_then : chain ≡ map (edge_at s.records) walked.members
     rows_then = walked.are ∙ ap (λ (r : Records). map (edge_at r) walked.members) (records_then s now n reads)
 
-    pub more_stood : (rows : List EdgeRow) → list_all (belongs here node) chain ≡ true → HaveStood s node links at d rows → HaveStood s node links (at + 1) d (rows ++ chain)
+    pub more_stood : (rows : List EdgeRow) → list_all (belongs here node) chain ≡ true → HaveStood s node links at d rows
+        → HaveStood s node links (at + 1) d (rows ++ chain)
     more_stood rows all stood =
         let belong = all_pass (belongs here node) (edge_at s.records) walked.members (ap (list_all (belongs here node)) (sym rows_then) ∙ all) in
         record {
           members = stood.members ++ walked.members;
           are = (λ i. stood.are i ++ rows_then i) ∙ sym (map-append (edge_at s.records) stood.members walked.members);
-          low = λ x i. ⊎_elim (λ j. stood.low x j) (λ j. let lt = walked.sound.low x j in let same = mark_then s now n reads in omega arith) (in_parts x stood.members walked.members i);
+          low = λ x i. ⊎_elim (λ j. stood.low x j) (λ j. let lt = walked.sound.low x j in let same = mark_then s now n reads in omega arith)
+              (in_parts x stood.members walked.members i);
           only = λ x i. ⊎_elim
               (λ j. let k = stood.only x j in (k.0, (let lt = k.1 in omega arith), k.2))
               (λ j. (at, (omega arith), belong x j)) (in_parts x stood.members walked.members i);
-          once = λ apart. once_both stood.members walked.members (stood.once apart) (once_walk (next_of s.records node) here.first walked.members walk_then) (λ x i j.
+          once = λ apart. once_both stood.members walked.members (stood.once apart) (once_walk (next_of s.records node) here.first walked.members walk_then)
+              (λ x i j.
               let k = stood.only x i in
               let same = same_place (get_or links k.0 d) here node (edge_at s.records x) k.2 (belong x j) in
               apart k.0 at d k.1 low same.0 same.1);
         }
 
     -- a chain with what doesn't belong there
-    pub stray_breaks : (of : AreOfGroups s node links) → list_all (belongs here node) chain ≡ false → Breaks s.records s.shape (breaking.damage format.groups_file here.group 3)
+    pub stray_breaks : (of : AreOfGroups s node links) → list_all (belongs here node) chain ≡ false
+        → Breaks s.records s.shape (breaking.damage format.groups_file here.group 3)
     stray_breaks of stray = chains_break s node links of here (Contains-get_or links at d low) (λ right.
-        let same = walk_is (next_of s.records node) here.first right.members walked.members (chain_walk s.records node here.first right.members right.chain) walk_then in
+        let same = walk_is (next_of s.records node) here.first right.members walked.members (chain_walk s.records node here.first right.members right.chain)
+        walk_then in
         true≢false (sym (pass_all (belongs here node) (edge_at s.records) right.members right.belong) ∙ ap (λ xs. list_all (belongs here node) (map (edge_at s.records) xs)) same
         ∙ ap (list_all (belongs here node)) (sym rows_then) ∙ stray))
 
@@ -345,30 +366,38 @@ module _ (s now : State) (n node at budget : ℕ) (links : List FirstLink) (d : 
 
   module _ (of : AreOfGroups s node links) (rows : List EdgeRow) (is : budget ≡ rel_mark s - length rows) (stood : HaveStood s node links at d rows) where
     -- where the group is right and there are no twins, its chain ends within what is left of the mark
-    within : AllPairs AreApart links → (right : IsRightChain s node links of here (Contains-get_or links at d low)) → IsSoundWalk now here.first node budget right.members
+    within : AllPairs AreApart links → (right : IsRightChain s node links of here (Contains-get_or links at d low))
+        → IsSoundWalk now here.first node budget right.members
     within apart right = record {
       chain = subst (λ (r : Records). IsChainFrom r node here.first right.members) (sym (records_then s now n reads)) right.chain;
       few =
-          let once = once_both stood.members right.members (stood.once apart) (once_walk (next_of s.records node) here.first right.members (chain_walk s.records node here.first right.members right.chain)) (λ x i j.
+          let once = once_both stood.members right.members (stood.once apart)
+          (once_walk (next_of s.records node) here.first right.members (chain_walk s.records node here.first right.members right.chain)) (λ x i j.
           let k = stood.only x i in
           let same = same_place (get_or links k.0 d) here node (edge_at s.records x) k.2 (right.belong x j) in
           apart k.0 at d k.1 low same.0 same.1) in
-          let few = length-once_below (stood.members ++ right.members) (rel_mark s) once (λ x i. ⊎_elim (λ j. stood.low x j) (λ j. right.low x j) (in_parts x stood.members right.members i)) in
+          let few = length-once_below (stood.members ++ right.members) (rel_mark s) once
+          (λ x i. ⊎_elim (λ j. stood.low x j) (λ j. right.low x j) (in_parts x stood.members right.members i)) in
           let long = length-append stood.members right.members in
           let count = ap length stood.are ∙ length-map stood.members (edge_at s.records) in
           omega arith;
       low = λ x i. let lt = right.low x i in let same = mark_then s now n reads in omega arith;
     }
 
-    pub walk_breaks : (fault : Fault) → IsWalkFault now (group_key here.group) here.first node budget fault → Blames s (of_fault (with_node node (have_twins links) fault))
+    pub walk_breaks : (fault : Fault) → IsWalkFault now (group_key here.group) here.first node budget fault
+        → Blames s (of_fault (with_node node (have_twins links) fault))
     walk_breaks faults.Memory told = tt
     walk_breaks faults.Disk told = tt
     walk_breaks (faults.Damaged damage) told = by damage told
       where
-        of_twins : (twins : Bool) → have_twins links ≡ twins → ((xs : List ℕ) → ¬ IsSoundWalk now here.first node budget xs) → Breaks s.records s.shape (chain_blamed node twins (chain_damage (group_key here.group)))
+        of_twins : (twins : Bool) → have_twins links ≡ twins → ((xs : List ℕ) → ¬ IsSoundWalk now here.first node budget xs)
+            → Breaks s.records s.shape (chain_blamed node twins (chain_damage (group_key here.group)))
         of_twins true twins none = twins_break s node links of twins
-        of_twins false twins none = chains_break s node links of here (Contains-get_or links at d low) (λ right. none right.members (within (all_apart s node links of twins) right))
+        of_twins false twins none = chains_break s node links of here (Contains-get_or links at d low)
+            (λ right. none right.members (within (all_apart s node links of twins) right))
 
-        by : (damage : Damage) → IsWalkDamage now (group_key here.group) here.first node budget damage → Breaks s.records s.shape (chain_blamed node (have_twins links) damage)
+        by : (damage : Damage) → IsWalkDamage now (group_key here.group) here.first node budget damage
+            → Breaks s.records s.shape (chain_blamed node (have_twins links) damage)
         by damage (NoWalk none) = of_twins (have_twins links) refl none
-        by damage (HighMark above) = WrongMeta format.relationships_file (omega arith) (λ meta. let right = meta.high in let mark = mark_then s now n reads in let room = room_then s now n reads in omega arith)
+        by damage (HighMark above) = WrongMeta format.relationships_file (omega arith)
+            (λ meta. let right = meta.high in let mark = mark_then s now n reads in let room = room_then s now n reads in omega arith)

@@ -31,12 +31,14 @@ use Rattle.store_rules.proofs.Members.{ascends_collect, collect_contains, contai
 pub rows_part : (s : Records) (test : EdgeRow → Bool) (xs : List ℕ) → AreOnce xs → ((x : ℕ) → In x xs → kind_at s format.relationships_file x ≢ 0)
     → ((x : ℕ) → kind_at s format.relationships_file x ≢ 0 → test (edge_at s x) ≡ true → In x xs) → IsPart test (map (edge_at s) xs) (rows_of s)
 rows_part s test xs once live all = record {
-  ascends = ascends_collect id_of (edge_row_at s) (high s format.relationships_file) (λ x row is. ap id_of (sym (some_row (kind_at s format.relationships_file x) (edge_at s x) row is).1));
+  ascends = ascends_collect id_of (edge_row_at s) (high s format.relationships_file)
+      (λ x row is. ap id_of (sym (some_row (kind_at s format.relationships_file x) (edge_at s x) row is).1));
   distinct = pairs_map Differs (edge_at s) xs (pairs_once (λ x y. x ≢ y) xs once (λ x y i j ne. ne));
   only = λ row is.
       let found = contains_map (edge_at s) xs row is in
       let some = live found.0 found.1 in
-      collect_contains (edge_row_at s) (high s format.relationships_file) found.0 row (kind_below (high s format.relationships_file) (rec_at s format.relationships_file found.0) found.0 some)
+      collect_contains (edge_row_at s) (high s format.relationships_file) found.0 row
+      (kind_below (high s format.relationships_file) (rec_at s format.relationships_file found.0) found.0 some)
       (row_some (kind_at s format.relationships_file found.0) (edge_at s found.0) some ∙ ap (λ (r : EdgeRow). Some r) (sym found.2));
   all = λ row is passes.
       let found = contains_collect (edge_row_at s) (high s format.relationships_file) row is in
@@ -84,7 +86,8 @@ module _ (s : Records) (shape : Shape) (store : IsWellFormed s shape) (n : ℕ) 
   pub all : (x : ℕ) → kind_at s format.relationships_file x ≢ 0 → is_at n (edge_at s x) ≡ true → In x members
   all x some at =
       let row = rel_in (rec_at s format.relationships_file x) x in
-      let end : IsEnd n row = ⊎_elim (λ (from : nat_eq row.from n ≡ true). inl (eqb-true row.from n from)) (λ (to : nat_eq row.to n ≡ true). inr (eqb-true row.to n to)) (or_cases (nat_eq row.from n) (nat_eq row.to n) at) in
+      let end : IsEnd n row = ⊎_elim (λ (from : nat_eq row.from n ≡ true). inl (eqb-true row.from n from))
+      (λ (to : nat_eq row.to n ≡ true). inr (eqb-true row.to n to)) (or_cases (nat_eq row.from n) (nat_eq row.to n) at) in
       listed.all x (record { row = row; live = row_some (kind_at s format.relationships_file x) row some; on = inl (refl, end) })
 
   -- so their rows are a part of all
@@ -102,7 +105,8 @@ same_id_laws = record {
 }
 
 -- rows that pass a test are no more than all that do
-pub length-part : (wide test : EdgeRow → Bool) (rows edges : List EdgeRow) → IsPart wide rows edges → ((row : EdgeRow) → Contains rows row → test row ≡ true) → length rows ≤ length (filter test edges)
+pub length-part : (wide test : EdgeRow → Bool) (rows edges : List EdgeRow) → IsPart wide rows edges → ((row : EdgeRow) → Contains rows row → test row ≡ true)
+    → length rows ≤ length (filter test edges)
 length-part wide test rows edges part passes =
     length-le_from_is_member same_id_laws rows (filter test edges) (IsDistinct-from_apart same_id rows (λ i j d lt low. eq_false _ _ (part.distinct i j d lt low))) (λ q is.
     let found = Any-from_list_any (same_id q) rows is in
@@ -111,7 +115,8 @@ length-part wide test rows edges part passes =
     list_any-from_Any (same_id q) (filter test edges) (kept.0, found.1, kept.1, kept.2, found.4))
 
 -- rows of which none comes twice are no more than those that have them all
-pub length-members : (rows others : List EdgeRow) → AllPairs (λ a b. id_of a < id_of b) rows → ((row : EdgeRow) → Contains rows row → Contains others row) → length rows ≤ length others
+pub length-members : (rows others : List EdgeRow) → AllPairs (λ a b. id_of a < id_of b) rows → ((row : EdgeRow) → Contains rows row → Contains others row)
+    → length rows ≤ length others
 length-members rows others up within =
     length-le_from_is_member same_id_laws rows others (IsDistinct-from_apart same_id rows (λ i j d lt low. eq_false _ _ (let l = up i j d lt low in λ e. omega (arith, l, e)))) (λ q is.
     let found = Any-from_list_any (same_id q) rows is in
@@ -136,7 +141,8 @@ at_met direction labels n row met = by direction met
     by directions.Both is = ⊎_elim leaves enters (or_cases (is_met_at ends.Source labels n row) (is_met_at ends.Target labels n row) is)
 
 -- so rows that have all at the node have all that are met
-pub part_met : (direction : Direction) (labels : List ℕ) (n : ℕ) (rows edges : List EdgeRow) → IsPart (is_at n) rows edges → IsPart (is_met direction labels n) rows edges
+pub part_met : (direction : Direction) (labels : List ℕ) (n : ℕ) (rows edges : List EdgeRow) → IsPart (is_at n) rows edges
+    → IsPart (is_met direction labels n) rows edges
 part_met direction labels n rows edges part = record {
   ascends = part.ascends;
   distinct = part.distinct;

@@ -1,5 +1,6 @@
 -- Walks of several chains, one after the other.
-use Rattle.std.proofs.Common.{◌≡◌, ◌<◌, ◌≤◌, ◌-◌, ◌+◌, ℕ, zero, suc, List, [], ◌∷◌, ◌++◌, length, map, refl, sym, ap, ◌∙◌, subst, append_assoc, append-nil, ⊎_elim, arith}
+use Rattle.std.proofs.Common.{◌≡◌, ◌<◌, ◌≤◌, ◌-◌, ◌+◌, ℕ, zero, suc, List, [], ◌∷◌, ◌++◌, length, map, refl, sym, ap}
+use Rattle.std.proofs.Common.{◌∙◌, subst, append_assoc, append-nil, ⊎_elim, arith}
 use Rattle.std.specs.Prelude.{Vec}
 use Rattle.std.specs.declared.alloc.Global.{Global}
 use Rattle.std.proofs.lemmas.Bool.{cases_lt}
@@ -81,10 +82,12 @@ pub record IsNext (s now : State) (node first budget total : ℕ) : Type 0 where
   pub sound : IsSoundWalk now first node budget members
   pub few : length members ≤ total
 
-pub chain_left : (s now : State) (n node first budget : ℕ) (firsts : List ℕ) → now ≡ after_gets n s → (left : AreLeft s node (first ∷ firsts) budget) → IsNext s now node first budget (length left.0)
+pub chain_left : (s now : State) (n node first budget : ℕ) (firsts : List ℕ) → now ≡ after_gets n s → (left : AreLeft s node (first ∷ firsts) budget)
+    → IsNext s now node first budget (length left.0)
 chain_left s now n node first budget firsts reads (xs, sound) = by xs sound.walks sound.few sound.low
   where
-    by : (xs : List ℕ) → AreWalks s.records node (first ∷ firsts) xs → length xs ≤ budget → ((x : ℕ) → In x xs → x < rel_mark s) → IsNext s now node first budget (length xs)
+    by : (xs : List ℕ) → AreWalks s.records node (first ∷ firsts) xs → length xs ≤ budget → ((x : ℕ) → In x xs → x < rel_mark s)
+        → IsNext s now node first budget (length xs)
     by xs (ys, zs, walk, rest, is) few low =
         let long = ap length is ∙ length-append ys zs in
         record {
@@ -98,14 +101,16 @@ chain_left s now n node first budget firsts reads (xs, sound) = by xs sound.walk
         }
 
 -- and so have those after it
-pub rest_left : (s now : State) (n node first budget less : ℕ) (firsts : List ℕ) (chain_rows : List EdgeRow) → now ≡ after_gets n s → less ≡ budget - length chain_rows → HasWalked now first node budget chain_rows
+pub rest_left : (s now : State) (n node first budget less : ℕ) (firsts : List ℕ) (chain_rows : List EdgeRow) → now ≡ after_gets n s
+    → less ≡ budget - length chain_rows → HasWalked now first node budget chain_rows
     → AreLeft s node (first ∷ firsts) budget → AreLeft s node firsts less
 rest_left s now n node first budget less firsts chain_rows reads fewer walked (xs, sound) = by xs sound.walks sound.few sound.low
   where
     by : (xs : List ℕ) → AreWalks s.records node (first ∷ firsts) xs → length xs ≤ budget → ((x : ℕ) → In x xs → x < rel_mark s) → AreLeft s node firsts less
     by xs (ys, zs, walk, rest, is) few low =
         let met = subst (λ (r : Records). IsChainFrom r node first walked.members) (records_then s now n reads) walked.sound.chain in
-        let same : ys ≡ walked.members = walk_is (next_of s.records node) first ys walked.members (chain_walk s.records node first ys walk) (chain_walk s.records node first walked.members met) in
+        let same : ys ≡ walked.members = walk_is (next_of s.records node) first ys walked.members (chain_walk s.records node first ys walk)
+        (chain_walk s.records node first walked.members met) in
         let long : length chain_rows ≡ length ys = ap length walked.are ∙ length-map walked.members (edge_at now.records) ∙ ap length (sym same) in (
           zs,
           record {
@@ -118,13 +123,15 @@ rest_left s now n node first budget less firsts chain_rows reads fewer walked (x
 -- ---- reads
 
 -- after as many reads as rows there are as many more
-pub reads_more : (s now new : State) (rows more both : List EdgeRow) → both ≡ rows ++ more → now ≡ after_gets (length rows) s → new ≡ after_gets (length more) now → new ≡ after_gets (length both) s
+pub reads_more : (s now new : State) (rows more both : List EdgeRow) → both ≡ rows ++ more → now ≡ after_gets (length rows) s
+    → new ≡ after_gets (length more) now → new ≡ after_gets (length both) s
 reads_more s now new rows more both is so_far then =
     then ∙ ap (after_gets (length more)) so_far ∙ gets_add (length more) (length rows) s
     ∙ ap (λ n. after_gets n s) (let long = ap length is ∙ length-append rows more in omega arith)
 
 -- What is left of the mark bounds the reads of one chain more.
-pub mark_bounds : (s now new : State) (n mark budget : ℕ) → budget ≡ mark - n → now ≡ after_gets n s → ReadsAtMost mark s now → ReadsAtMost budget now new → ReadsAtMost mark s new
+pub mark_bounds : (s now new : State) (n mark budget : ℕ) → budget ≡ mark - n → now ≡ after_gets n s → ReadsAtMost mark s now → ReadsAtMost budget now new
+    → ReadsAtMost mark s new
 mark_bounds s now new n mark budget left so_far before more = ⊎_elim
     (λ (lt : n < mark). record { count = more.count + n; within = let few = more.within in omega arith; is = more.is ∙ ap (after_gets more.count) so_far ∙ gets_add more.count n s })
     (λ (le : mark ≤ n).
@@ -144,19 +151,23 @@ room_then s now n reads = ap rel_room reads ∙ ap (λ (shape : Shape). room_of 
 -- ---- reads, by what walks that end meet
 
 -- What was met and what is left are the walks.
-met_and_left : (s : State) (node most : ℕ) (firsts left : List ℕ) (rows : List EdgeRow) (xs : List ℕ) → HaveMet s node firsts left rows → (rest : AreLeft s node left most) → AreWalks s.records node firsts xs → length xs ≡ length rows + length rest.0
+met_and_left : (s : State) (node most : ℕ) (firsts left : List ℕ) (rows : List EdgeRow) (xs : List ℕ) → HaveMet s node firsts left rows
+    → (rest : AreLeft s node left most) → AreWalks s.records node firsts xs → length xs ≡ length rows + length rest.0
 met_and_left s node most firsts left rows xs met rest walks =
     let long : length rows ≡ length met.members = ap length met.are ∙ length-map met.members (edge_at s.records) in
-    ap length (walks_are s.records node firsts xs (met.members ++ rest.0) walks (met.walks rest.0 rest.1.walks)) ∙ length-append met.members rest.0 ∙ ap (λ n. n + length rest.0) (sym long)
+    ap length (walks_are s.records node firsts xs (met.members ++ rest.0) walks (met.walks rest.0 rest.1.walks)) ∙ length-append met.members rest.0
+    ∙ ap (λ n. n + length rest.0) (sym long)
 
-pub few_met : (s now : State) (node most : ℕ) (firsts left : List ℕ) (rows : List EdgeRow) (xs : List ℕ) → HaveMet s node firsts left rows → AreLeft s node left most → AreWalks s.records node firsts xs
+pub few_met : (s now : State) (node most : ℕ) (firsts left : List ℕ) (rows : List EdgeRow) (xs : List ℕ) → HaveMet s node firsts left rows
+    → AreLeft s node left most → AreWalks s.records node firsts xs
     → now ≡ after_gets (length rows) s → ReadsAtMost (length xs) s now
 few_met s now node most firsts left rows xs met rest walks reads =
     let long = met_and_left s node most firsts left rows xs met rest walks in
     record { count = length rows; within = omega arith; is = reads }
 
 -- with those of one chain more
-pub few_more : (s now new : State) (node most : ℕ) (firsts left : List ℕ) (rows : List EdgeRow) (xs : List ℕ) → HaveMet s node firsts left rows → (rest : AreLeft s node left most) → AreWalks s.records node firsts xs
+pub few_more : (s now new : State) (node most : ℕ) (firsts left : List ℕ) (rows : List EdgeRow) (xs : List ℕ) → HaveMet s node firsts left rows
+    → (rest : AreLeft s node left most) → AreWalks s.records node firsts xs
     → now ≡ after_gets (length rows) s → (more : ℕ) → more ≤ length rest.0 → ReadsAtMost more now new → ReadsAtMost (length xs) s new
 few_more s now new node most firsts left rows xs met rest walks reads more le then =
     let long = met_and_left s node most firsts left rows xs met rest walks in

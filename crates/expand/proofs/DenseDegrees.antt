@@ -1,5 +1,6 @@
 -- The number of a dense node's edges, by its groups or by its relationships.
-use Rattle.std.proofs.Common.{◌≡◌, ◌≤◌, ◌+◌, ◌^◌, ℕ, Some, Bool, true, false, ◌&&◌, ◌||◌, not, List, [], ◌∷◌, length, map, refl, sym, ap, ◌∙◌, subst, inl, inr, arith, Result, Ok, Err, IfOk}
+use Rattle.std.proofs.Common.{◌≡◌, ◌≤◌, ◌+◌, ◌^◌, ℕ, Some, Bool, true, false, ◌&&◌, ◌||◌, not, List, [], ◌∷◌, length}
+use Rattle.std.proofs.Common.{map, refl, sym, ap, ◌∙◌, subst, inl, inr, arith, Result, Ok, Err, IfOk}
 use Rattle.std.proofs.lemmas.Bool.{true≢false}
 use Rattle.plain_graph.specs.declared.direction.Direction.{Direction}
 use Rattle.rec_bytes.specs.Format as format
@@ -35,7 +36,8 @@ use Rattle.expand.proofs.ReadCounts.{reads_then}
 use Rattle.expand.proofs.RowCounts.{count_small, part_count}
 
 -- the number of rows of a store is small enough
-pub number_is : (s : State) → IsStore s → (direction : Direction) (labels : List ℕ) (n : ℕ) → as_number (rows_count direction labels n (rows_of s.records)) ≡ rows_count direction labels n (rows_of s.records)
+pub number_is : (s : State) → IsStore s → (direction : Direction) (labels : List ℕ) (n : ℕ)
+    → as_number (rows_count direction labels n (rows_of s.records)) ≡ rows_count direction labels n (rows_of s.records)
 number_is s store direction labels n =
     let few = count_small s.records direction labels n in
     let low = high_most s.records s.shape format.relationships_file store.ranges refl in
@@ -44,7 +46,8 @@ number_is s store direction labels n =
     small : (k mark : ℕ) → k ≤ mark + mark → mark ≤ 2 ^ 25 → as_number k ≡ k
     small k mark few low = omega arith
 
-module _ (s : State) (store : IsStore s) (row : NodeRow) (dense : kind_at s.records format.nodes_file row.id ≡ format.dense) (first : row.first ≡ first_link s.records row.id) (direction : Direction) (labels : List ℕ) where
+module _ (s : State) (store : IsStore s) (row : NodeRow) (dense : kind_at s.records format.nodes_file row.id ≡ format.dense)
+    (first : row.first ≡ first_link s.records row.id) (direction : Direction) (labels : List ℕ) where
   abbrev n : ℕ
   n = row.id
 
@@ -52,10 +55,12 @@ module _ (s : State) (store : IsStore s) (row : NodeRow) (dense : kind_at s.reco
   members = heads.groups s.records s.shape store n dense
 
   group_walk : IsWalk (next_group s.records) row.first members
-  group_walk = subst (λ f. IsWalk (next_group s.records) f members) (sym first) (walk_of_chain _ _ format.nil (first_link s.records n) members (heads.chain s.records s.shape store n dense).chain)
+  group_walk = subst (λ f. IsWalk (next_group s.records) f members) (sym first)
+      (walk_of_chain _ _ format.nil (first_link s.records n) members (heads.chain s.records s.shape store n dense).chain)
 
   listed_are : (gs : List GroupRow) → HasGroupRows s.records n row.first gs → gs ≡ map (group_row_at s.records) members
-  listed_are gs listed = listed.are ∙ ap (map (group_row_at s.records)) (walk_is (next_group s.records) row.first listed.members members listed.list.walk group_walk)
+  listed_are gs listed = listed.are ∙ ap (map (group_row_at s.records))
+      (walk_is (next_group s.records) row.first listed.members members listed.list.walk group_walk)
 
   pub degree_is : (t : State) (count : ℕ) → IsDenseDegree s t row direction labels count → count ≡ rows_count direction labels n (rows_of s.records)
   degree_is t count (inl sum) =
@@ -73,9 +78,11 @@ module _ (s : State) (store : IsStore s) (row : NodeRow) (dense : kind_at s.reco
 
     none_lacks : (gs : List ℕ) → ((g : ℕ) → In g gs → In g members) → lacks_counts labels (map (group_row_at s.records) gs) ≡ false
     none_lacks [] within = refl
-    none_lacks (g ∷ gs) within = by (is_wanted labels (group_row_at s.records g).label) (is_counted (rec_at s.records format.groups_file g)) (counted g (within g (inl refl))) (none_lacks gs (λ k i. within k (inr i)))
+    none_lacks (g ∷ gs) within = by (is_wanted labels (group_row_at s.records g).label) (is_counted (rec_at s.records format.groups_file g))
+        (counted g (within g (inl refl))) (none_lacks gs (λ k i. within k (inr i)))
       where
-        by : (w c : Bool) → c ≡ true → lacks_counts labels (map (group_row_at s.records) gs) ≡ false → ((w && not c) || lacks_counts labels (map (group_row_at s.records) gs)) ≡ false
+        by : (w c : Bool) → c ≡ true → lacks_counts labels (map (group_row_at s.records) gs) ≡ false
+            → ((w && not c) || lacks_counts labels (map (group_row_at s.records) gs)) ≡ false
         by true true c rest = rest
         by true false c rest = absurd (true≢false (sym c))
         by false c d rest = rest
@@ -90,7 +97,8 @@ one_read k s t r = record { count = r.count; within = let le = r.within in omega
 
 -- ---- after the node was loaded
 
-module _ (s : State) (n : ℕ) (row : NodeRow) (found : Some row ≡ row_at s.records n) (mid : State) (loaded : mid ≡ after_load s n) (thick : row.dense ≡ true) (store : IsStore s) (direction : Direction) (labels : List ℕ) (new : State) where
+module _ (s : State) (n : ℕ) (row : NodeRow) (found : Some row ≡ row_at s.records n) (mid : State) (loaded : mid ≡ after_load s n) (thick : row.dense ≡ true)
+    (store : IsStore s) (direction : Direction) (labels : List ℕ) (new : State) where
   records_are : mid.records ≡ s.records
   records_are = loaded_rows.records_stay s n row found mid loaded
 
@@ -107,7 +115,8 @@ module _ (s : State) (n : ℕ) (row : NodeRow) (found : Some row ≡ row_at s.re
   id_is = loaded_rows.id_is s n row found mid loaded thick
 
   pub loaded_degree : (count : ℕ) → IsDenseDegree mid new row direction labels count → count ≡ rows_count direction labels n (rows_of s.records)
-  loaded_degree count h = degree_is mid mid_store row mid_dense mid_first direction labels new count h ∙ (λ i. rows_count direction labels (id_is i) (rows_of (records_are i)))
+  loaded_degree count h = degree_is mid mid_store row mid_dense mid_first direction labels new count h
+      ∙ (λ i. rows_count direction labels (id_is i) (rows_of (records_are i)))
 
   -- where all groups are counted, they alone are read
   pub loaded_counted : HasCountedGroups s.records n

@@ -28,7 +28,8 @@ use Rattle.expand.proofs.HeadChains.{HaveChains, have_chains}
 use Rattle.store_rules.proofs.Members.{contains_map, length-once_below}
 use Rattle.expand.proofs.TypeCounts.{groups_count, met_le}
 
-module _ (s : State) (store : IsStore s) (row : NodeRow) (dense : kind_at s.records format.nodes_file row.id ≡ format.dense) (first : row.first ≡ first_link s.records row.id) (direction : Direction) (labels : List ℕ) where
+module _ (s : State) (store : IsStore s) (row : NodeRow) (dense : kind_at s.records format.nodes_file row.id ≡ format.dense)
+    (first : row.first ≡ first_link s.records row.id) (direction : Direction) (labels : List ℕ) where
   abbrev n : ℕ
   n = row.id
 
@@ -37,7 +38,8 @@ module _ (s : State) (store : IsStore s) (row : NodeRow) (dense : kind_at s.reco
   members = groups s.records s.shape store n dense
 
   abbrev pub chains : HaveChains s.records s.shape store n (heads_in s.records direction labels members)
-  chains = have_chains s.records s.shape store n (heads_in s.records direction labels members) (heads_own s.records s.shape store n dense direction labels) (heads_differ s.records s.shape store n dense direction labels)
+  chains = have_chains s.records s.shape store n (heads_in s.records direction labels members) (heads_own s.records s.shape store n dense direction labels)
+      (heads_differ s.records s.shape store n dense direction labels)
 
   live : (x : ℕ) → In x chains.members → kind_at s.records format.relationships_file x ≢ 0
   live x i = let k = chains.only x i in (only_met s.records s.shape store n dense direction labels k.0 x k.1 k.2).0
@@ -49,7 +51,8 @@ module _ (s : State) (store : IsStore s) (row : NodeRow) (dense : kind_at s.reco
   walks = subst (λ firsts. AreWalks s.records n firsts chains.members) (firsts_are s.records direction labels members) chains.walks
 
   group_walk : IsWalk (next_group s.records) row.first members
-  group_walk = subst (λ f. IsWalk (next_group s.records) f members) (sym first) (walk_of_chain _ _ format.nil (first_link s.records n) members (chain s.records s.shape store n dense).chain)
+  group_walk = subst (λ f. IsWalk (next_group s.records) f members) (sym first)
+      (walk_of_chain _ _ format.nil (first_link s.records n) members (chain s.records s.shape store n dense).chain)
 
   -- the links lead through all of them
   pub can_walk : CanWalkGroups s row direction labels members chains.members
@@ -74,13 +77,15 @@ module _ (s : State) (store : IsStore s) (row : NodeRow) (dense : kind_at s.reco
   met r is =
       let found = contains_map (edge_at s.records) chains.members r is in
       let k = chains.only found.0 found.1 in
-      subst (λ (e : EdgeRow). is_met direction labels n e ≡ true) (sym found.2) (only_met s.records s.shape store n dense direction labels k.0 found.0 k.1 k.2).1
+      subst (λ (e : EdgeRow). is_met direction labels n e ≡ true) (sym found.2)
+      (only_met s.records s.shape store n dense direction labels k.0 found.0 k.1 k.2).1
 
   pub types_are : length members ≡ type_count (graph_in s) n
   types_are = groups_count s.records s.shape store n dense
 
   -- as many groups as types, and as many members as relationships that are met
-  pub dense_few : (new : State) → ReadsAtMost (length members + length chains.members) s new → ReadsAtMost (type_count (graph_in s) n + met_count (graph_in s) direction (map (name_of s.records) labels) n) s new
+  pub dense_few : (new : State) → ReadsAtMost (length members + length chains.members) s new
+      → ReadsAtMost (type_count (graph_in s) n + met_count (graph_in s) direction (map (name_of s.records) labels) n) s new
   dense_few new reads = record {
     count = reads.count;
     within =

@@ -70,8 +70,10 @@ group_fault s row is (group.Damaged damage) told = by damage told
     by damage (HighMark above) = WrongMeta format.groups_file (omega arith) (λ meta. let right = meta.high in omega arith)
 
 -- the rows of a walk of groups are those of groups that can be walked
-pub rows_are : (s : State) (row : NodeRow) (rows : List GroupRow) (members : List ℕ) → HasGroupRows s.records row.id row.first rows → IsWalkable s row.id row.first members → rows ≡ map (group_row_at s.records) members
-rows_are s row rows members listed can = listed.are ∙ ap (map (group_row_at s.records)) (walk_is (next_group s.records) row.first listed.members members listed.list.walk can.list.walk)
+pub rows_are : (s : State) (row : NodeRow) (rows : List GroupRow) (members : List ℕ) → HasGroupRows s.records row.id row.first rows
+    → IsWalkable s row.id row.first members → rows ≡ map (group_row_at s.records) members
+rows_are s row rows members listed can = listed.are ∙ ap (map (group_row_at s.records))
+    (walk_is (next_group s.records) row.first listed.members members listed.list.walk can.list.walk)
 
 module _ (s mid : State) (n : ℕ) (reads : mid ≡ after_gets n s) where
   -- walks that end do so after reads
@@ -84,7 +86,8 @@ module _ (s mid : State) (n : ℕ) (reads : mid ≡ after_gets n s) where
         low = λ x i. let lt = sound.low x i in omega arith;
       }
 
-  module _ (row : NodeRow) (direction : Direction) (labels : List ℕ) (links : List FirstLink) (rows : List GroupRow) (listed : HasGroupRows s.records row.id row.first rows) (are : links ≡ first_links direction labels rows) where
+  module _ (row : NodeRow) (direction : Direction) (labels : List ℕ) (links : List FirstLink) (rows : List GroupRow)
+      (listed : HasGroupRows s.records row.id row.first rows) (are : links ≡ first_links direction labels rows) where
     -- the links are those of the node's groups
     pub of_groups : IsDenseRow s row → AreOfGroups mid row.id links
     of_groups is = subst (λ (r : Records). AreOfGroups (record mid { records = r }) row.id links) (sym (records_then s mid n reads)) (record {
@@ -103,13 +106,15 @@ module _ (s mid : State) (n : ℕ) (reads : mid ≡ after_gets n s) where
         sound_then row.id (numbers_of links) xs (subst (λ ls. AreSoundWalks s row.id (numbers_of ls) (rel_mark s) xs) links_are can.sound)
 
     -- the rows of both walks
-    pub has_dense_rows : (new : State) (found : List EdgeRow) → n ≡ length rows → HaveWalked mid row.id (numbers_of links) found → new ≡ after_gets (length found) mid → HasDenseRows s new row direction labels found
+    pub has_dense_rows : (new : State) (found : List EdgeRow) → n ≡ length rows → HaveWalked mid row.id (numbers_of links) found
+        → new ≡ after_gets (length found) mid → HasDenseRows s new row direction labels found
     has_dense_rows new found count walked more = record {
       groups = rows;
       listed = listed;
       walked = record {
         members = walked.members;
-        walks = subst (λ ls. AreWalks s.records row.id (numbers_of ls) walked.members) are (subst (λ (r : Records). AreWalks r row.id (numbers_of links) walked.members) (records_then s mid n reads) walked.walks);
+        walks = subst (λ ls. AreWalks s.records row.id (numbers_of ls) walked.members) are
+            (subst (λ (r : Records). AreWalks r row.id (numbers_of links) walked.members) (records_then s mid n reads) walked.walks);
         are = walked.are ∙ ap (λ (r : Records). map (edge_at r) walked.members) (records_then s mid n reads);
       };
       read = more ∙ ap (after_gets (length found)) reads ∙ gets_add (length found) n s ∙ ap (λ k. after_gets k s) (omega (arith, count));

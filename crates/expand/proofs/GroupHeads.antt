@@ -1,5 +1,6 @@
 -- The heads of a dense node's groups, of which those of a direction and of some types have just the relationships that are met.
-use Rattle.std.proofs.Common.{◌≡◌, ◌≢◌, ◌⊎◌, ℕ, zero, suc, nat_eq, Bool, true, false, cond, List, [], ◌∷◌, ◌++◌, map, refl, sym, ap, ◌∙◌, subst, inl, inr, ⊎_elim, arith}
+use Rattle.std.proofs.Common.{◌≡◌, ◌≢◌, ◌⊎◌, ℕ, zero, suc, nat_eq, Bool, true, false, cond, List, [], ◌∷◌, ◌++◌, map}
+use Rattle.std.proofs.Common.{refl, sym, ap, ◌∙◌, subst, inl, inr, ⊎_elim, arith}
 use Rattle.std.specs.List.{All, AllPairs, Contains}
 use Rattle.std.proofs.lemmas.Bool.{and_parts, eqb-true, or_cases, or_left, or_right, true≢false}
 use Rattle.std.proofs.lemmas.List.{map-append}
@@ -98,7 +99,8 @@ met_to : (labels : List ℕ) (n : ℕ) (row : EdgeRow) → row.to ≡ n → is_w
 met_to labels n row to wanted = rw (eq_true row.to n to, wanted) refl
 
 -- one of these sides and types is met
-side_met : (direction : Direction) (side : Side) (labels : List ℕ) (n : ℕ) (row : EdgeRow) → IsSideOf direction side → IsDirected n side row → is_wanted labels row.label ≡ true → is_met direction labels n row ≡ true
+side_met : (direction : Direction) (side : Side) (labels : List ℕ) (n : ℕ) (row : EdgeRow) → IsSideOf direction side → IsDirected n side row
+    → is_wanted labels row.label ≡ true → is_met direction labels n row ≡ true
 side_met directions.Outgoing Out labels n row is from wanted = met_from labels n row from wanted
 side_met directions.Outgoing Into labels n row is at wanted = absurd is
 side_met directions.Outgoing Loop labels n row is at wanted = met_from labels n row at.0 wanted
@@ -119,10 +121,12 @@ met_wanted directions.Both labels n row is = ⊎_elim
     (or_cases (is_met_at ends.Source labels n row) (is_met_at ends.Target labels n row) is)
 
 -- and side
-met_side : (direction : Direction) (labels : List ℕ) (n : ℕ) (row : EdgeRow) → is_met direction labels n row ≡ true → IsSideOf direction (side_at n row.from row.to)
+met_side : (direction : Direction) (labels : List ℕ) (n : ℕ) (row : EdgeRow) → is_met direction labels n row ≡ true
+    → IsSideOf direction (side_at n row.from row.to)
 met_side direction labels n row is = by direction (nat_eq row.from row.to) (nat_eq row.from n) refl refl is
   where
-    by : (direction : Direction) (loop out : Bool) → nat_eq row.from row.to ≡ loop → nat_eq row.from n ≡ out → is_met direction labels n row ≡ true → IsSideOf direction (cond loop Loop (cond out Out Into))
+    by : (direction : Direction) (loop out : Bool) → nat_eq row.from row.to ≡ loop → nat_eq row.from n ≡ out → is_met direction labels n row ≡ true
+        → IsSideOf direction (cond loop Loop (cond out Out Into))
     by directions.Outgoing true out same leaves met = tt
     by directions.Outgoing false true same leaves met = tt
     by directions.Outgoing false false same leaves met = true≢false (sym (and_parts (nat_eq row.from n) (is_wanted labels row.label) met).0 ∙ leaves)
@@ -142,7 +146,8 @@ directed_at Loop n row at = or_left _ _ (eq_true row.from n at.0)
 
 -- and the node is an end of what is at it
 pub end_at : (n : ℕ) (row : EdgeRow) → is_at n row ≡ true → (row.from ≡ n) ⊎ (row.to ≡ n)
-end_at n row at = ⊎_elim (λ (from : nat_eq row.from n ≡ true). inl (eqb-true row.from n from)) (λ (to : nat_eq row.to n ≡ true). inr (eqb-true row.to n to)) (or_cases (nat_eq row.from n) (nat_eq row.to n) at)
+end_at n row at = ⊎_elim (λ (from : nat_eq row.from n ≡ true). inl (eqb-true row.from n from)) (λ (to : nat_eq row.to n ≡ true). inr (eqb-true row.to n to))
+    (or_cases (nat_eq row.from n) (nat_eq row.to n) at)
 
 -- ---- the heads of groups
 
@@ -152,7 +157,8 @@ heads_in s direction labels [] = []
 heads_in s direction labels (g ∷ gs) = cond (is_wanted labels (type_of s g)) (map (group_head g) (sides_of direction)) [] ++ heads_in s direction labels gs
 
 -- their first links are those that the rows of the groups have
-pub firsts_are : (s : Records) (direction : Direction) (labels gs : List ℕ) → map (first_of s) (heads_in s direction labels gs) ≡ first_numbers direction labels (map (group_row_at s) gs)
+pub firsts_are : (s : Records) (direction : Direction) (labels gs : List ℕ)
+    → map (first_of s) (heads_in s direction labels gs) ≡ first_numbers direction labels (map (group_row_at s) gs)
 firsts_are s direction labels [] = refl
 firsts_are s direction labels (g ∷ gs) =
     map-append (first_of s) (cond (is_wanted labels (type_of s g)) (map (group_head g) (sides_of direction)) []) (heads_in s direction labels gs)
@@ -168,7 +174,8 @@ firsts_are s direction labels (g ∷ gs) =
     of_sides [] = refl
     of_sides (side ∷ sides) = λ i. of_side side i ∷ of_sides sides i
 
-    one : (wanted : Bool) → map (first_of s) (cond wanted (map (group_head g) (sides_of direction)) []) ≡ numbers_of (cond wanted (links_of direction (group_row_at s g)) [])
+    one : (wanted : Bool) → map (first_of s) (cond wanted (map (group_head g) (sides_of direction)) []) ≡ numbers_of
+        (cond wanted (links_of direction (group_row_at s g)) [])
     one true = of_sides (sides_of direction)
     one false = refl
 
@@ -181,7 +188,8 @@ pub record IsGroupHead (s : Records) (direction : Direction) (labels gs : List �
   pub aside : IsSideOf direction side
   pub is : h ≡ group_head group side
 
-head_in : (s : Records) (direction : Direction) (labels gs : List ℕ) (h : Head) → Contains (heads_in s direction labels gs) h → IsGroupHead s direction labels gs h
+head_in : (s : Records) (direction : Direction) (labels gs : List ℕ) (h : Head) → Contains (heads_in s direction labels gs) h
+    → IsGroupHead s direction labels gs h
 head_in s direction labels [] h (k, lt, is) = absurd (omega arith)
 head_in s direction labels (g ∷ gs) h is = ⊎_elim
     (λ (own : Contains (cond (is_wanted labels (type_of s g)) (map (group_head g) (sides_of direction)) []) h). of_one (is_wanted labels (type_of s g)) refl own)
@@ -190,20 +198,24 @@ head_in s direction labels (g ∷ gs) h is = ⊎_elim
     record { group = k.group; side = k.side; member = inr k.member; wanted = k.wanted; aside = k.aside; is = k.is })
     (Contains-append_cases (cond (is_wanted labels (type_of s g)) (map (group_head g) (sides_of direction)) []) (heads_in s direction labels gs) h is)
   where
-    of_one : (wanted : Bool) → is_wanted labels (type_of s g) ≡ wanted → Contains (cond wanted (map (group_head g) (sides_of direction)) []) h → IsGroupHead s direction labels (g ∷ gs) h
+    of_one : (wanted : Bool) → is_wanted labels (type_of s g) ≡ wanted → Contains (cond wanted (map (group_head g) (sides_of direction)) []) h
+        → IsGroupHead s direction labels (g ∷ gs) h
     of_one false not_wanted (k, lt, e) = absurd (omega arith)
     of_one true wanted own =
         let k = contains_image (group_head g) (sides_of direction) h own in
         record { group = g; side = k.0; member = inl refl; wanted = wanted; aside = in_side direction k.0 k.1; is = k.2 }
 
-in_heads : (s : Records) (direction : Direction) (labels gs : List ℕ) (g : ℕ) (side : Side) → In g gs → is_wanted labels (type_of s g) ≡ true → IsSideOf direction side → Contains (heads_in s direction labels gs) (group_head g side)
+in_heads : (s : Records) (direction : Direction) (labels gs : List ℕ) (g : ℕ) (side : Side) → In g gs → is_wanted labels (type_of s g) ≡ true
+    → IsSideOf direction side → Contains (heads_in s direction labels gs) (group_head g side)
 in_heads s direction labels [] g side i wanted aside = elim i [ ]
 in_heads s direction labels (k ∷ gs) g side (inl same) wanted aside =
-    Contains-append_left (cond (is_wanted labels (type_of s k)) (map (group_head k) (sides_of direction)) []) (heads_in s direction labels gs) (group_head g side)
+    Contains-append_left (cond (is_wanted labels (type_of s k)) (map (group_head k) (sides_of direction)) []) (heads_in s direction labels gs)
+    (group_head g side)
     (subst (λ b. Contains (cond b (map (group_head k) (sides_of direction)) []) (group_head g side)) (sym (ap (λ z. is_wanted labels (type_of s z)) (sym same) ∙ wanted))
     (subst (λ z. Contains (map (group_head z) (sides_of direction)) (group_head g side)) same (image_contains (group_head g) (sides_of direction) side (side_in direction side aside))))
 in_heads s direction labels (k ∷ gs) g side (inr later) wanted aside =
-    Contains-append_right (cond (is_wanted labels (type_of s k)) (map (group_head k) (sides_of direction)) []) (heads_in s direction labels gs) (group_head g side)
+    Contains-append_right (cond (is_wanted labels (type_of s k)) (map (group_head k) (sides_of direction)) []) (heads_in s direction labels gs)
+    (group_head g side)
     (in_heads s direction labels gs g side later wanted aside)
 
 -- no head comes twice
@@ -228,7 +240,8 @@ heads_apart s direction labels (g ∷ gs) once =
     all_none P k d lt = absurd (omega arith)
 
     of_two : (a b : Side) → Differ (group_head g a) (group_head g b) → AllPairs Differ (group_head g a ∷ group_head g b ∷ [])
-    of_two a b ne = AllPairs-cons Differ (group_head g a) (group_head g b ∷ []) (all_cons (Differ (group_head g a)) (group_head g b) [] ne (all_none (Differ (group_head g a))))
+    of_two a b ne = AllPairs-cons Differ (group_head g a) (group_head g b ∷ [])
+        (all_cons (Differ (group_head g a)) (group_head g b) [] ne (all_none (Differ (group_head g a))))
         (AllPairs-cons Differ (group_head g b) [] (all_none (Differ (group_head g b))) (pairs_none Differ))
 
     of_sides : (direction : Direction) → AllPairs Differ (map (group_head g) (sides_of direction))
@@ -284,7 +297,8 @@ module _ (s : Records) (shape : Shape) (store : IsWellFormed s shape) (n : ℕ) 
       (λ (own : (format.groups_file ≡ format.nodes_file) × IsEnd g at.row). absurd (let e = own.0 in omega arith))
       (λ (other : (format.groups_file ≡ format.groups_file) × IsInGroup (group_at s) (group_head g side) at.row).
       let in_group = other.1 in
-      let same : in_group.row ≡ group_in (rec_at s format.groups_file g) g = same_group in_group.row (group_in (rec_at s format.groups_file g) g) (sym in_group.group ∙ row_of_group s n g (chain.only g i)) in
+      let same : in_group.row ≡ group_in (rec_at s format.groups_file g) g =
+      same_group in_group.row (group_in (rec_at s format.groups_file g) g) (sym in_group.group ∙ row_of_group s n g (chain.only g i)) in
       let owner : in_group.row.owner ≡ n = ap (λ (r : views.GroupRow). r.owner) same ∙ (chain.only g i).owner in (
         found.0,
         ap (λ (r : RelRow). r.label) found.1 ∙ in_group.label ∙ ap (λ (r : views.GroupRow). r.label) same,
@@ -314,16 +328,19 @@ module _ (s : Records) (shape : Shape) (store : IsWellFormed s shape) (n : ℕ) 
       (typed.0, side_met direction head.side labels n (edge_at s x) head.aside typed.2 (ap (is_wanted labels) typed.1 ∙ head.wanted))
 
   -- a group has a relationship at the node, of its type
-  pub has_one : (g : ℕ) → In g groups → (x : ℕ) × (kind_at s format.relationships_file x ≢ 0) × (is_at n (edge_at s x) ≡ true) × ((edge_at s x).label ≡ type_of s g)
+  pub has_one : (g : ℕ) → In g groups → (x : ℕ) × (kind_at s format.relationships_file x ≢ 0) × (is_at n (edge_at s x) ≡ true)
+      × ((edge_at s x).label ≡ type_of s g)
   has_one g i =
       let filled = ⊎_elim (λ k. k) (λ (k : In g []). elim k [ ]) ((store.grouped.each n dense).filled g i) in
-      let one = filled_has s store.grouped g (group_in (rec_at s format.groups_file g) g) (row_of_group s n g (chain.only g i)) s (rel_at s) store.linked.listed filled in
+      let one = filled_has s store.grouped g (group_in (rec_at s format.groups_file g) g) (row_of_group s n g (chain.only g i)) s (rel_at s) store.linked.listed
+      filled in
       let side = side_at_place one.0 one.2 in
       let typed = stands_typed g side.0 i one.1 (subst (λ place. Stands s shape store n (filled_groups.group_head g place) one.1) side.1 one.3) in
       (one.1, typed.0, directed_at side.0 n (edge_at s one.1) typed.2, typed.1)
 
   -- a relationship in use at the node has a group
-  pub own_group : (x : ℕ) → kind_at s format.relationships_file x ≢ 0 → IsEnd n (rel_in (rec_at s format.relationships_file x) x) → (g : ℕ) × In g groups × (type_of s g ≡ (edge_at s x).label)
+  pub own_group : (x : ℕ) → kind_at s format.relationships_file x ≢ 0 → IsEnd n (rel_in (rec_at s format.relationships_file x) x) → (g : ℕ) × In g groups
+      × (type_of s g ≡ (edge_at s x).label)
   own_group x some end =
       let row = rel_in (rec_at s format.relationships_file x) x in
       let has : HasGroup (group_at s) n row.label = store.linked.typed x n row (row_some (kind_at s format.relationships_file x) row some) end dense in
@@ -339,7 +356,8 @@ module _ (s : Records) (shape : Shape) (store : IsWellFormed s shape) (n : ℕ) 
       let own = own_group x some end in
       let side = side_at n row.from row.to in (
         group_head own.0 side,
-        in_heads s direction labels groups own.0 side own.1 (ap (is_wanted labels) own.2 ∙ met_wanted direction labels n (edge_at s x) met) (met_side direction labels n (edge_at s x) met),
+        in_heads s direction labels groups own.0 side own.1 (ap (is_wanted labels) own.2 ∙ met_wanted direction labels n (edge_at s x) met)
+            (met_side direction labels n (edge_at s x) met),
         record {
           row = row;
           live = row_some (kind_at s format.relationships_file x) row some;

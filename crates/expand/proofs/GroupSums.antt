@@ -1,5 +1,6 @@
 -- The numbers of a dense node's counted groups have all relationships at the node that are met.
-use Rattle.std.proofs.Common.{◌≡◌, ◌≢◌, ◌+◌, ℕ, nat_eq, Bool, true, false, ◌&&◌, ◌||◌, not, cond, Option, Some, List, [], ◌∷◌, map, refl, sym, ap, ◌∙◌, subst, inl, inr, arith}
+use Rattle.std.proofs.Common.{◌≡◌, ◌≢◌, ◌+◌, ℕ, nat_eq, Bool, true, false, ◌&&◌, ◌||◌, not, cond, Option, Some, List}
+use Rattle.std.proofs.Common.{[], ◌∷◌, map, refl, sym, ap, ◌∙◌, subst, inl, inr, arith}
 use Rattle.std.specs.List.{list_any}
 use Rattle.std.proofs.lemmas.Bool.{eqb-true, true≢false}
 use Rattle.plain_graph.specs.declared.direction.Direction.{Direction}
@@ -161,7 +162,8 @@ module _ (s : Records) (shape : Shape) (store : IsWellFormed s shape) (n : ℕ) 
         → cond (is_wanted labels (type_of s g)) (count_on (way end) (group_row_at s g)) 0 ≡ count_of (met_by end g) rels mark
     of_group end has = by (is_wanted labels (type_of s g)) (is_counted (rec_at s format.groups_file g)) refl refl has
       where
-        by : (w c : Bool) → is_wanted labels (type_of s g) ≡ w → is_counted (rec_at s format.groups_file g) ≡ c → (w && not c) ≡ false → cond w (count_on (way end) (group_row_at s g)) 0 ≡ count_of (met_by end g) rels mark
+        by : (w c : Bool) → is_wanted labels (type_of s g) ≡ w → is_counted (rec_at s format.groups_file g) ≡ c → (w && not c) ≡ false
+            → cond w (count_on (way end) (group_row_at s g)) 0 ≡ count_of (met_by end g) rels mark
         by true true w c h = sym (of_end c end w)
         by true false w c h = absurd (true≢false h)
         by false c w d h = sym (not_end end w)
@@ -173,7 +175,8 @@ module _ (s : Records) (shape : Shape) (store : IsWellFormed s shape) (n : ℕ) 
   or_parts false b h = (refl, h)
 
   -- two groups of the node have two types
-  typed_once : (g : ℕ) (gs : List ℕ) → AreOnce (g ∷ gs) → ((k : ℕ) → In k (g ∷ gs) → In k groups) → (label : ℕ) → nat_eq label (type_of s g) ≡ true → is_typed gs label ≡ true → ⊥
+  typed_once : (g : ℕ) (gs : List ℕ) → AreOnce (g ∷ gs) → ((k : ℕ) → In k (g ∷ gs) → In k groups) → (label : ℕ) → nat_eq label (type_of s g) ≡ true
+      → is_typed gs label ≡ true → ⊥
   typed_once g gs once within label first later = found gs (λ k i. i) later
     where
       found : (ks : List ℕ) → ((k : ℕ) → In k ks → In k gs) → is_typed ks label ≡ true → ⊥
@@ -182,7 +185,8 @@ module _ (s : Records) (shape : Shape) (store : IsWellFormed s shape) (n : ℕ) 
         where
           by : (b : Bool) → nat_eq label (type_of s k) ≡ b → (is_typed ks label ≡ true → ⊥) → (b || is_typed ks label) ≡ true → ⊥
           by true e rest h =
-              let same : g ≡ k = (heads.chain s shape store n dense).once g k (within g (inl refl)) (within k (inr (sub k (inl refl)))) (sym (eqb-true label (type_of s g) first) ∙ eqb-true label (type_of s k) e) in
+              let same : g ≡ k = (heads.chain s shape store n dense).once g k (within g (inl refl)) (within k (inr (sub k (inl refl))))
+              (sym (eqb-true label (type_of s g) first) ∙ eqb-true label (type_of s k) e) in
               once.0 (subst (λ z. In z gs) (sym same) (sub k (inl refl)))
           by false e rest h = rest h
 
@@ -194,7 +198,8 @@ module _ (s : Records) (shape : Shape) (store : IsWellFormed s shape) (n : ℕ) 
       let one = of_group g (within g (inl refl)) end parts.0 in
       let rest = sum_is end gs once.1 (λ k i. within k (inr i)) parts.1 in
       (λ i. one i + rest i) ∙ sym (count_split (met_of end (g ∷ gs)) (met_by end g) (met_of end gs) rels mark (λ x row live.
-      split_or (nat_eq (end_in end row) n) (is_wanted labels row.label) (nat_eq row.label (type_of s g)) (is_typed gs row.label) (typed_once g gs once within row.label)))
+      split_or (nat_eq (end_in end row) n) (is_wanted labels row.label) (nat_eq row.label (type_of s g)) (is_typed gs row.label)
+      (typed_once g gs once within row.label)))
 
   -- each relationship at the node has the type of a group
   all_typed : (end : End) (x : ℕ) (row : RelRow) → rels x ≡ Some row → nat_eq (end_in end row) n ≡ true → is_typed groups row.label ≡ true
@@ -216,22 +221,26 @@ module _ (s : Records) (shape : Shape) (store : IsWellFormed s shape) (n : ℕ) 
           by true h = refl
           by false h = h
 
-  end_sum : (end : End) → lacks_counts labels (map (group_row_at s) groups) ≡ false → counted_sum (way end) labels (map (group_row_at s) groups) ≡ count_of (meets end labels n) rels mark
+  end_sum : (end : End) → lacks_counts labels (map (group_row_at s) groups) ≡ false
+      → counted_sum (way end) labels (map (group_row_at s) groups) ≡ count_of (meets end labels n) rels mark
   end_sum end has = sum_is end groups (heads.groups_once s shape store n dense) (λ k i. i) has
       ∙ count_same (met_of end groups) (meets end labels n) rels mark (λ x row live. same_and (nat_eq (end_in end row) n) (is_wanted labels row.label) (is_typed groups row.label) (all_typed end x row live))
 
-  both_sum : (gs : List GroupRow) → counted_sum directions.Both labels gs ≡ counted_sum directions.Outgoing labels gs + counted_sum directions.Incoming labels gs
+  both_sum : (gs : List GroupRow) → counted_sum directions.Both labels gs ≡ counted_sum directions.Outgoing labels gs + counted_sum directions.Incoming labels
+      gs
   both_sum [] = refl
   both_sum (g ∷ gs) = by (is_wanted labels g.label) (both_sum gs)
     where
       by : (w : Bool) → counted_sum directions.Both labels gs ≡ counted_sum directions.Outgoing labels gs + counted_sum directions.Incoming labels gs
           → cond w (count_on directions.Both g) 0 + counted_sum directions.Both labels gs
-          ≡ cond w (count_on directions.Outgoing g) 0 + counted_sum directions.Outgoing labels gs + (cond w (count_on directions.Incoming g) 0 + counted_sum directions.Incoming labels gs)
+          ≡ cond w (count_on directions.Outgoing g) 0 + counted_sum directions.Outgoing labels
+          gs + (cond w (count_on directions.Incoming g) 0 + counted_sum directions.Incoming labels gs)
       by true e = omega (arith, e)
       by false e = omega (arith, e)
 
   -- the sum is the number of rows that are met
-  pub sum_rows : (direction : Direction) → lacks_counts labels (map (group_row_at s) groups) ≡ false → counted_sum direction labels (map (group_row_at s) groups) ≡ rows_count direction labels n (rows_of s)
+  pub sum_rows : (direction : Direction) → lacks_counts labels (map (group_row_at s) groups) ≡ false
+      → counted_sum direction labels (map (group_row_at s) groups) ≡ rows_count direction labels n (rows_of s)
   sum_rows directions.Outgoing has = end_sum ends.Source has ∙ sym (met_count s ends.Source labels n)
   sum_rows directions.Incoming has = end_sum ends.Target has ∙ sym (met_count s ends.Target labels n)
   sum_rows directions.Both has = both_sum (map (group_row_at s) groups)

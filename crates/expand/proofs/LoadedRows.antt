@@ -1,5 +1,6 @@
 -- What a load of a node and a walk of its chain say of the store.
-use Rattle.std.proofs.Common.{◌≡◌, ◌≢◌, ◌+◌, ◌<◌, ℕ, nat_eq, Bool, true, false, cond, None, Some, List, Result, Ok, Err, IfErr, IfOk, length, map, refl, sym, ap, ◌∙◌, subst, ⊎_elim, arith}
+use Rattle.std.proofs.Common.{◌≡◌, ◌≢◌, ◌+◌, ◌<◌, ℕ, nat_eq, Bool, true, false, cond, None, Some, List, Result, Ok, Err}
+use Rattle.std.proofs.Common.{IfErr, IfOk, length, map, refl, sym, ap, ◌∙◌, subst, ⊎_elim, arith}
 use Rattle.std.specs.List.{Contains}
 use Rattle.std.proofs.lemmas.Bool.{eqb-true, true≢false}
 use Rattle.std.proofs.lemmas.List.{length-map}
@@ -77,7 +78,8 @@ module _ (s : State) (n : ℕ) (row : NodeRow) (found : Some row ≡ row_at s.re
 
   -- its kind is as the row says
   kind_is : kind_at s.records format.nodes_file n ≡ field 1 (rec_at s.records format.nodes_file n) format.kind
-  kind_is = let r = rec_at s.records format.nodes_file n in kind_low (high s.records format.nodes_file) r n (kind_below (high s.records format.nodes_file) r n used)
+  kind_is = let r = rec_at s.records format.nodes_file n in kind_low (high s.records format.nodes_file) r n
+      (kind_below (high s.records format.nodes_file) r n used)
 
   pub dense_test : row.dense ≡ nat_eq (kind_at s.records format.nodes_file n) format.dense
   dense_test = ap (λ (r : NodeRow). r.dense) row_is ∙ ap (λ kind. nat_eq kind format.dense) (sym kind_is)
@@ -128,7 +130,8 @@ module _ (s : State) (n : ℕ) (row : NodeRow) (found : Some row ≡ row_at s.re
                 (subst (λ (r : Records). IsChainFrom r n row.first head.0) (sym records_stay) (subst (λ first. IsChainFrom s.records n first head.0) (sym first_is) head.1.chain))
                 (λ x i.
                 let stands = head.1.only x i in
-                let low = kind_below (rel_mark s) (rec_at s.records format.relationships_file x) x (some_row (kind_at s.records format.relationships_file x) (rel_in (rec_at s.records format.relationships_file x) x) stands.row stands.live).0 in
+                let low = kind_below (rel_mark s) (rec_at s.records format.relationships_file x) x
+                (some_row (kind_at s.records format.relationships_file x) (rel_in (rec_at s.records format.relationships_file x) x) stands.row stands.live).0 in
                 let same = mark_stays in omega arith)),
           )
 
@@ -143,7 +146,8 @@ module _ (s : State) (n : ℕ) (row : NodeRow) (found : Some row ≡ row_at s.re
 
           by : (damage : Damage) → IsWalkDamage mid (node_key n) row.first n mark damage → Breaks s.records s.shape damage
           by damage (NoWalk none) = NodeChain n below (λ keeps. let walk = ends keeps (known_sparse known thin) in none walk.0 walk.1)
-          by damage (HighMark above) = WrongMeta format.relationships_file (omega arith) (λ meta. let right = meta.high in let mark = mark_stays in let room = ap (λ (shape : Shape). room_of shape format.relationships_file) shape_stays in omega arith)
+          by damage (HighMark above) = WrongMeta format.relationships_file (omega arith)
+              (λ meta. let right = meta.high in let mark = mark_stays in let room = ap (λ (shape : Shape). room_of shape format.relationships_file) shape_stays in omega arith)
 
       module _ (store : IsStore s) where
         pub sparse : kind_at s.records format.nodes_file n ≡ format.sparse
@@ -155,14 +159,16 @@ module _ (s : State) (n : ℕ) (row : NodeRow) (found : Some row ≡ row_at s.re
 
         -- they are met after the load
         chained : IsChainFrom mid.records n row.first members
-        chained = subst (λ (r : Records). IsChainFrom r n row.first members) (sym records_stay) (subst (λ first. IsChainFrom s.records n first members) (sym first_is) (chain_rows.chained s.records s.shape store n sparse))
+        chained = subst (λ (r : Records). IsChainFrom r n row.first members) (sym records_stay)
+            (subst (λ first. IsChainFrom s.records n first members) (sym first_is) (chain_rows.chained s.records s.shape store n sparse))
 
         walk : IsWalk (next_of mid.records n) row.first members
         walk = walk_of_chain (next_of mid.records n) (prev_of mid.records n) format.nil row.first members chained
 
         -- the chain ends within the mark
         pub sound : IsSoundWalk mid row.first n mark members
-        sound = subst (λ m. IsSoundWalk mid row.first n m members) (mark_stays ∙ sym marked) (sound_below mid row.first n members chained (λ x i. let low = chain_rows.low s.records s.shape store n sparse x i in let same = mark_stays in omega arith))
+        sound = subst (λ m. IsSoundWalk mid row.first n m members) (mark_stays ∙ sym marked)
+            (sound_below mid row.first n members chained (λ x i. let low = chain_rows.low s.records s.shape store n sparse x i in let same = mark_stays in omega arith))
 
         -- each of them is at the node
         at_node : (r : EdgeRow) → Contains (map (edge_at s.records) members) r → is_at n r ≡ true
@@ -171,12 +177,15 @@ module _ (s : State) (n : ℕ) (row : NodeRow) (found : Some row ≡ row_at s.re
             subst (λ (e : EdgeRow). is_at n e ≡ true) (sym found.2) (chain_rows.at_node s.records s.shape store n sparse found.0 found.1)
 
         -- as many reads as relationships, and one for the node
-        pub sparse_reads : (direction : Direction) (labels : List ℕ) (new : State) → ReadsAtMost (length members) mid new → ReadsAtMost (most_reads s direction labels n) s new
+        pub sparse_reads : (direction : Direction) (labels : List ℕ) (new : State) → ReadsAtMost (length members) mid new
+            → ReadsAtMost (most_reads s direction labels n) s new
         sparse_reads direction labels new reads =
-            let few = length-part (is_at n) (is_at n) (map (edge_at s.records) members) (rows_of s.records) (chain_rows.part s.records s.shape store n sparse) at_node in
+            let few = length-part (is_at n) (is_at n) (map (edge_at s.records) members) (rows_of s.records) (chain_rows.part s.records s.shape store n sparse)
+            at_node in
             let same = length-at_node s.records s.shape store n in
             let long = length-map members (edge_at s.records) in
-            let more : ReadsAtMost (degree_in (graph_in s) n) mid new = record { count = reads.count; within = let le = reads.within in omega arith; is = reads.is } in
+            let more : ReadsAtMost (degree_in (graph_in s) n) mid new =
+            record { count = reads.count; within = let le = reads.within in omega arith; is = reads.is } in
             subst (λ most. ReadsAtMost most s new) (sym (sparse_bound direction labels thin)) (reads_then s mid new n (degree_in (graph_in s) n) loaded more)
 
         module _ (rows : List EdgeRow) (walked : HasWalked mid row.first n mark rows) where
@@ -203,7 +212,8 @@ module _ (s : State) (n : ℕ) (row : NodeRow) (found : Some row ≡ row_at s.re
       dense_fault (Err (NoNode id)) told = absurd told
       dense_fault (Err Memory) told = tt
       dense_fault (Err Disk) told = tt
-      dense_fault (Err (Damaged damage)) told = subst (λ (r : Records). Breaks r s.shape damage) records_stay (subst (λ (shape : Shape). Breaks mid.records shape damage) shape_stays told)
+      dense_fault (Err (Damaged damage)) told = subst (λ (r : Records). Breaks r s.shape damage) records_stay
+          (subst (λ (shape : Shape). Breaks mid.records shape damage) shape_stays told)
 
       -- the node is there
       pub dense_tells : {T : Type 0} (found : Result T ExpandFault) → IfErr found (Blames mid) → TellsNode found n (has_node (graph_in s) n)
@@ -214,7 +224,8 @@ module _ (s : State) (n : ℕ) (row : NodeRow) (found : Some row ≡ row_at s.re
       dense_tells (Err (Damaged damage)) told = tt
 
       pub mid_dense : kind_at mid.records format.nodes_file row.id ≡ format.dense
-      mid_dense = ap (λ x. kind_at mid.records format.nodes_file x) id_is ∙ ap (λ (r : Records). kind_at r format.nodes_file n) records_stay ∙ eqb-true _ _ (sym dense_test ∙ thick)
+      mid_dense = ap (λ x. kind_at mid.records format.nodes_file x) id_is ∙ ap (λ (r : Records). kind_at r format.nodes_file n) records_stay
+          ∙ eqb-true _ _ (sym dense_test ∙ thick)
 
       pub mid_first : row.first ≡ first_link mid.records row.id
       mid_first = first_is ∙ ap (λ (r : Records). first_link r n) (sym records_stay) ∙ ap (first_link mid.records) (sym id_is)
@@ -224,7 +235,8 @@ module _ (s : State) (n : ℕ) (row : NodeRow) (found : Some row ≡ row_at s.re
 
       module _ (store : IsStore s) where
         -- the walks have an end
-        pub can_walk : (direction : Direction) (labels : List ℕ) → CanWalkGroups mid row direction labels (dense_rows.members mid (store_stays store) row mid_dense mid_first direction labels)
+        pub can_walk : (direction : Direction) (labels : List ℕ) → CanWalkGroups mid row direction labels
+            (dense_rows.members mid (store_stays store) row mid_dense mid_first direction labels)
             (dense_rows.chains mid (store_stays store) row mid_dense mid_first direction labels).members
         can_walk direction labels = dense_rows.can_walk mid (store_stays store) row mid_dense mid_first direction labels
 
@@ -245,24 +257,30 @@ module _ (s : State) (n : ℕ) (row : NodeRow) (found : Some row ≡ row_at s.re
               (subst (λ (r : Records). ReadsAtMost (count r n) mid new) records_stay (subst (λ x. ReadsAtMost (count mid.records x) mid new) id_is more)))
 
 -- the rows of a dense node are a part of all rows
-pub dense_parts : (s : State) (n : ℕ) (row : NodeRow) (found : Some row ≡ row_at s.records n) (mid : State) (loaded : mid ≡ after_load s n) (thick : row.dense ≡ true) (direction : Direction) (labels : List ℕ) (new : State)
-    (result : Result Rows ExpandFault) → IfOk result (λ (rows : Rows). HasDenseRows mid new row direction labels rows.items) → IfOk result (λ (rows : Rows). IsStore s → IsPart (is_met direction labels n) rows.items (rows_of s.records))
-dense_parts s n row found mid loaded thick direction labels new (Ok rows) has = λ store. dense_part s n row found mid loaded thick store direction labels new rows.items has
+pub dense_parts : (s : State) (n : ℕ) (row : NodeRow) (found : Some row ≡ row_at s.records n) (mid : State) (loaded : mid ≡ after_load s n)
+    (thick : row.dense ≡ true) (direction : Direction) (labels : List ℕ) (new : State)
+    (result : Result Rows ExpandFault) → IfOk result (λ (rows : Rows). HasDenseRows mid new row direction labels rows.items)
+    → IfOk result (λ (rows : Rows). IsStore s → IsPart (is_met direction labels n) rows.items (rows_of s.records))
+dense_parts s n row found mid loaded thick direction labels new (Ok rows) has = λ store.
+    dense_part s n row found mid loaded thick store direction labels new rows.items has
 dense_parts s n row found mid loaded thick direction labels new (Err fault) has = tt
 
 -- reads after the load are no more than the marks count
-pub dense_at_most : (s : State) (n : ℕ) (mid new : State) → mid ≡ after_load s n → ReadsAtMost (group_mark mid + rel_mark mid) mid new → ReadsAtMost (group_mark s + rel_mark s + 1) s new
+pub dense_at_most : (s : State) (n : ℕ) (mid new : State) → mid ≡ after_load s n → ReadsAtMost (group_mark mid + rel_mark mid) mid new
+    → ReadsAtMost (group_mark s + rel_mark s + 1) s new
 dense_at_most s n mid new loaded more =
     let same = ap (λ (t : State). t.records) loaded ∙ records-after_load s n in
     reads_then s mid new n (group_mark s + rel_mark s) loaded
     (subst (λ (r : Records). ReadsAtMost (high r format.groups_file + high r format.relationships_file) mid new) same more)
 
-pub sparse_at_most : (s : State) (n : ℕ) (mid new : State) → mid ≡ after_load s n → ReadsAtMost (rel_mark s) mid new → ReadsAtMost (group_mark s + rel_mark s + 1) s new
+pub sparse_at_most : (s : State) (n : ℕ) (mid new : State) → mid ≡ after_load s n → ReadsAtMost (rel_mark s) mid new
+    → ReadsAtMost (group_mark s + rel_mark s + 1) s new
 sparse_at_most s n mid new loaded more =
     reads_then s mid new n (group_mark s + rel_mark s) loaded (record { count = more.count; within = let few = more.within in omega arith; is = more.is })
 
 -- a fault of the walk says that the node is there
-pub chain_tells : (s : State) (n : ℕ) → has_node (graph_in s) n ≡ true → (fault : Fault) → TellsNode {T = Rows} (Err (of_fault fault)) n (has_node (graph_in s) n)
+pub chain_tells : (s : State) (n : ℕ) → has_node (graph_in s) n ≡ true → (fault : Fault)
+    → TellsNode {T = Rows} (Err (of_fault fault)) n (has_node (graph_in s) n)
 chain_tells s n there chain.Memory = there
 chain_tells s n there chain.Disk = tt
 chain_tells s n there (chain.Damaged damage) = tt

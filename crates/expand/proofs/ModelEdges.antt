@@ -1,5 +1,6 @@
 -- The rows of a store are those of its graph's edges, and so are those at a node.
-use Rattle.std.proofs.Common.{◌≡◌, ◌<◌, ℕ, zero, suc, nat_eq, Bool, true, false, ◌||◌, ◌&&◌, cond, Option, None, Some, List, [], ◌∷◌, ◌++◌, length, map, refl, sym, ap, ◌∙◌, arith}
+use Rattle.std.proofs.Common.{◌≡◌, ◌<◌, ℕ, zero, suc, nat_eq, Bool, true, false, ◌||◌, ◌&&◌, cond, Option, None, Some}
+use Rattle.std.proofs.Common.{List, [], ◌∷◌, ◌++◌, length, map, refl, sym, ap, ◌∙◌, arith}
 use Rattle.std.specs.List.{AllZip, filter, list_any}
 use Rattle.std.proofs.lemmas.Bool.{eqb-false}
 use Rattle.std.proofs.lemmas.Bool.Decides.{Decides-eqb, Decides-like, same_from_decides}
@@ -38,20 +39,23 @@ module _ {A B : Type 0} (R : A → B → Type 0) where
   zip_append (x ∷ xs) xs' (y ∷ ys) ys' front back = (front.0, zip_append xs xs' ys ys' front.1 back)
 
   -- tests that agree on related items keep related items
-  pub zip_filter : (p : A → Bool) (q : B → Bool) → ((x : A) (y : B) → R x y → p x ≡ q y) → (xs : List A) (ys : List B) → AllZip R xs ys → AllZip R (filter p xs) (filter q ys)
+  pub zip_filter : (p : A → Bool) (q : B → Bool) → ((x : A) (y : B) → R x y → p x ≡ q y) → (xs : List A) (ys : List B) → AllZip R xs ys
+      → AllZip R (filter p xs) (filter q ys)
   zip_filter p q agree [] [] all = tt
   zip_filter p q agree [] (y ∷ ys) all = absurd all
   zip_filter p q agree (x ∷ xs) [] all = absurd all
   zip_filter p q agree (x ∷ xs) (y ∷ ys) all = kept (p x) (q y) (agree x y all.0) all.0 (zip_filter p q agree xs ys all.1)
     where
-      kept : (a b : Bool) → a ≡ b → R x y → AllZip R (filter p xs) (filter q ys) → AllZip R (cond a (x ∷ filter p xs) (filter p xs)) (cond b (y ∷ filter q ys) (filter q ys))
+      kept : (a b : Bool) → a ≡ b → R x y → AllZip R (filter p xs) (filter q ys)
+          → AllZip R (cond a (x ∷ filter p xs) (filter p xs)) (cond b (y ∷ filter q ys) (filter q ys))
       kept true true same first rest = (first, rest)
       kept true false same first rest = absurd cc
       kept false true same first rest = absurd cc
       kept false false same first rest = rest
 
   -- rows that are related number by number
-  zip_collect : (row : ℕ → Option A) (other : ℕ → Option B) (n : ℕ) → ((x : ℕ) → x < n → AllZip R (option_list (row x)) (option_list (other x))) → AllZip R (collect row n) (collect other n)
+  zip_collect : (row : ℕ → Option A) (other : ℕ → Option B) (n : ℕ) → ((x : ℕ) → x < n → AllZip R (option_list (row x)) (option_list (other x)))
+      → AllZip R (collect row n) (collect other n)
   zip_collect row other zero each = tt
   zip_collect row other (suc n) each =
       zip_append (collect row n) (option_list (row n)) (collect other n) (option_list (other n))
@@ -66,10 +70,13 @@ StandFor s labels names = (x : ℕ) → x < high s format.names_file → is_want
 module _ (s : Records) (shape : Shape) {most : ℕ} {empty : List ℕ} (keeps : KeepsRules s shape most empty) where
   -- the rows of the store are those of the graph's edges
   pub rows_are : AreRowsOf s (rows_of s) (graph_of s).edges
-  rows_are = zip_collect (IsRowOf s) (edge_row_at s) (edge_of s) (high s format.relationships_file) (λ x lt. one x (nat_eq (kind_at s format.relationships_file x) 0) refl (λ some. keeps.named.rels_named x _ (row_some _ (rel_in (rec_at s format.relationships_file x) x) (eqb-false _ _ some))))
+  rows_are = zip_collect (IsRowOf s) (edge_row_at s) (edge_of s) (high s format.relationships_file)
+      (λ x lt. one x (nat_eq (kind_at s format.relationships_file x) 0) refl (λ some. keeps.named.rels_named x _ (row_some _ (rel_in (rec_at s format.relationships_file x) x) (eqb-false _ _ some))))
     where
-      one : (x : ℕ) (free : Bool) → nat_eq (kind_at s format.relationships_file x) 0 ≡ free → ((nat_eq (kind_at s format.relationships_file x) 0 ≡ false) → (edge_at s x).label < high s format.names_file)
-          → AllZip (IsRowOf s) (option_list (cond free None (Some (edge_at s x)))) (option_list (edge_from (rec_at s format.names_file) (property_records s) (cond free None (Some (rel_in (rec_at s format.relationships_file x) x)))))
+      one : (x : ℕ) (free : Bool) → nat_eq (kind_at s format.relationships_file x) 0 ≡ free
+          → ((nat_eq (kind_at s format.relationships_file x) 0 ≡ false) → (edge_at s x).label < high s format.names_file)
+          → AllZip (IsRowOf s) (option_list (cond free None (Some (edge_at s x))))
+          (option_list (edge_from (rec_at s format.names_file) (property_records s) (cond free None (Some (rel_in (rec_at s format.relationships_file x) x)))))
       one x true is named = tt
       one x false is named = (record { id = refl; from = refl; to = refl; known = named is; label = refl }, tt)
 
@@ -93,7 +100,8 @@ module _ (s : Records) (shape : Shape) {most : ℕ} {empty : List ℕ} (keeps : 
   names_stand [] all = λ x lt. refl
   names_stand (label ∷ labels) all = λ x lt. any_is x lt (label ∷ labels) all
     where
-      any_is : (x : ℕ) → x < high s format.names_file → (numbers : List ℕ) → AreNameNumbers s numbers → list_any (nat_eq x) numbers ≡ list_any (λ other. is_text other (name_of s x)) (map (name_of s) numbers)
+      any_is : (x : ℕ) → x < high s format.names_file → (numbers : List ℕ) → AreNameNumbers s numbers
+          → list_any (nat_eq x) numbers ≡ list_any (λ other. is_text other (name_of s x)) (map (name_of s) numbers)
       any_is x lt [] all = refl
       any_is x lt (y ∷ ys) all =
           let first = nat_eq-name_of x y lt (all 0 y (omega arith)) in

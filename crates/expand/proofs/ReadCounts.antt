@@ -11,7 +11,8 @@ use Rattle.group_store.proofs.GroupWalks.{gets_add}
 -- more reads
 after_gets-after_get : (n : ℕ) (s : State) → after_gets n (after_get s) ≡ after_gets (n + 1) s
 after_gets-after_get zero s = after_gets-zero (after_get s) ∙ ap after_get (sym (after_gets-zero s)) ∙ sym (after_gets_more 0 (0 + 1) s refl)
-after_gets-after_get (suc n) s = after_gets_more n (suc n) (after_get s) (omega arith) ∙ ap after_get (after_gets-after_get n s) ∙ sym (after_gets_more (n + 1) (suc n + 1) s (omega arith))
+after_gets-after_get (suc n) s = after_gets_more n (suc n) (after_get s) (omega arith) ∙ ap after_get (after_gets-after_get n s)
+    ∙ sym (after_gets_more (n + 1) (suc n + 1) s (omega arith))
 
 -- a load reads at most once
 pub load_reads : (s mid : State) (id most : ℕ) → mid ≡ after_load s id → ReadsAtMost (most + 1) s mid
@@ -59,4 +60,5 @@ reads_wider more r = record { count = r.count; within = let le = r.within in ome
 
 -- those of groups, and then as many as relationships were given out
 pub reads_marks : (s mid new : State) (most : ℕ) → ReadsAtMost most s mid → ReadsAtMost (rel_mark mid) mid new → ReadsAtMost (most + rel_mark s) s new
-reads_marks s mid new most before more = reads_both s mid new most (rel_mark s) before (subst (λ mark. ReadsAtMost mark mid new) (mark_then s mid before.count before.is) more)
+reads_marks s mid new most before more = reads_both s mid new most (rel_mark s) before
+    (subst (λ mark. ReadsAtMost mark mid new) (mark_then s mid before.count before.is) more)

@@ -1,5 +1,6 @@
 -- A dense node has as many groups as its edges have types.
-use Rattle.std.proofs.Common.{◌≡◌, ◌≢◌, ◌<◌, ◌≤◌, ℕ, nat_eq, Bool, true, false, ◌||◌, cond, List, [], ◌∷◌, length, map, refl, sym, ap, ◌∙◌, subst, ⊎_elim, arith}
+use Rattle.std.proofs.Common.{◌≡◌, ◌≢◌, ◌<◌, ◌≤◌, ℕ, nat_eq, Bool, true, false, ◌||◌, cond, List, [], ◌∷◌, length, map}
+use Rattle.std.proofs.Common.{refl, sym, ap, ◌∙◌, subst, ⊎_elim, arith}
 use Rattle.std.specs.Bool.{Decides}
 use Rattle.std.specs.Cmp.{IsEquivalence}
 use Rattle.std.specs.List.{Contains, filter, list_any}
@@ -33,7 +34,9 @@ use Rattle.expand.specs.Costs.{is_met_edge, met_count, type_count}
 use Rattle.expand.specs.Expanding.{AreRowsOf, IsRowOf, edge_row_at, name_of, rows_of}
 use Rattle.expand.specs.Matching.{is_at, is_met, is_met_at, is_wanted}
 use Rattle.expand.proofs.GroupHeads as heads
-use Rattle.store_rules.proofs.Members.{collect_contains, contains_collect, contains_filter, contains_image, contains_map, filter_contains, image_contains, map_contains, pairs_map, pairs_once}
+use Rattle.store_rules.proofs.Members.{collect_contains, contains_collect, contains_filter, contains_image}
+use Rattle.store_rules.proofs.Members.{contains_map, filter_contains, image_contains, map_contains, pairs_map}
+use Rattle.store_rules.proofs.Members.{pairs_once}
 use Rattle.expand.proofs.ModelEdges.{rows_are, zip_filter}
 
 -- ---- texts
@@ -50,21 +53,24 @@ same_text a = texts_equal.refl a
 -- ---- rows and edges
 
 -- the texts of the types of rows are those of their edges
-types_are : (s : Records) (rows : List EdgeRow) (edges : List Edge) → AreRowsOf s rows edges → map (λ (edge : Edge). edge.label) edges ≡ map (λ (row : EdgeRow). name_of s row.label) rows
+types_are : (s : Records) (rows : List EdgeRow) (edges : List Edge) → AreRowsOf s rows edges
+    → map (λ (edge : Edge). edge.label) edges ≡ map (λ (row : EdgeRow). name_of s row.label) rows
 types_are s [] [] are = refl
 types_are s [] (edge ∷ edges) are = absurd are
 types_are s (row ∷ rows) [] are = absurd are
 types_are s (row ∷ rows) (edge ∷ edges) are = λ i. sym (are.0.label) i ∷ types_are s rows edges are.1 i
 
 -- where what passes one test passes the other, no fewer do
-zip_fewer : (s : Records) (p : EdgeRow → Bool) (q : Edge → Bool) → ((row : EdgeRow) (edge : Edge) → IsRowOf s row edge → p row ≡ true → q edge ≡ true) → (rows : List EdgeRow) (edges : List Edge) → AreRowsOf s rows edges
+zip_fewer : (s : Records) (p : EdgeRow → Bool) (q : Edge → Bool) → ((row : EdgeRow) (edge : Edge) → IsRowOf s row edge → p row ≡ true → q edge ≡ true)
+    → (rows : List EdgeRow) (edges : List Edge) → AreRowsOf s rows edges
     → length (filter p rows) ≤ length (filter q edges)
 zip_fewer s p q passes [] [] are = omega arith
 zip_fewer s p q passes [] (edge ∷ edges) are = absurd are
 zip_fewer s p q passes (row ∷ rows) [] are = absurd are
 zip_fewer s p q passes (row ∷ rows) (edge ∷ edges) are = by (p row) (q edge) (passes row edge are.0) (zip_fewer s p q passes rows edges are.1)
   where
-    by : (a b : Bool) → (a ≡ true → b ≡ true) → length (filter p rows) ≤ length (filter q edges) → length (cond a (row ∷ filter p rows) (filter p rows)) ≤ length (cond b (edge ∷ filter q edges) (filter q edges))
+    by : (a b : Bool) → (a ≡ true → b ≡ true) → length (filter p rows) ≤ length (filter q edges)
+        → length (cond a (row ∷ filter p rows) (filter p rows)) ≤ length (cond b (edge ∷ filter q edges) (filter q edges))
     by true true h le = omega arith
     by true false h le = absurd (let e = h refl in absurd cc)
     by false true h le = omega arith
@@ -83,7 +89,8 @@ wanted_named s (label ∷ labels) x is = any (label ∷ labels) is
         (or_cases (nat_eq x y) (list_any (nat_eq x) ys) h)
 
 -- an edge is met where its row is
-met_edge : (s : Records) (direction : Direction) (labels : List ℕ) (n : ℕ) (row : EdgeRow) (edge : Edge) → IsRowOf s row edge → is_met direction labels n row ≡ true → is_met_edge direction (map (name_of s) labels) n edge ≡ true
+met_edge : (s : Records) (direction : Direction) (labels : List ℕ) (n : ℕ) (row : EdgeRow) (edge : Edge) → IsRowOf s row edge
+    → is_met direction labels n row ≡ true → is_met_edge direction (map (name_of s) labels) n edge ≡ true
 met_edge s direction labels n row edge is met = by direction met
   where
     named : is_wanted labels row.label ≡ true → meaning.is_named (map (name_of s) labels) edge.label ≡ true
@@ -107,8 +114,10 @@ met_edge s direction labels n row edge is met = by direction met
 
 module _ (s : Records) (shape : Shape) (store : IsWellFormed s shape) where
   -- no more rows are met than edges
-  pub met_le : (direction : Direction) (labels : List ℕ) (n : ℕ) → length (filter (is_met direction labels n) (rows_of s)) ≤ met_count (graph_of s) direction (map (name_of s) labels) n
-  met_le direction labels n = zip_fewer s (is_met direction labels n) (is_met_edge direction (map (name_of s) labels) n) (met_edge s direction labels n) (rows_of s) (graph_of s).edges (rows_are s shape store)
+  pub met_le : (direction : Direction) (labels : List ℕ) (n : ℕ) → length (filter (is_met direction labels n) (rows_of s)) ≤ met_count (graph_of s) direction
+      (map (name_of s) labels) n
+  met_le direction labels n = zip_fewer s (is_met direction labels n) (is_met_edge direction (map (name_of s) labels) n) (met_edge s direction labels n)
+      (rows_of s) (graph_of s).edges (rows_are s shape store)
 
   -- the texts of the types at a node, by the rows
   row_types : ℕ → List (List ℕ)
@@ -128,7 +137,8 @@ module _ (s : Records) (shape : Shape) (store : IsWellFormed s shape) where
     text_in g = name_of s (type_of s g)
 
     -- a group has a relationship at the node, of its type
-    filled : (g : ℕ) → In g groups → (x : ℕ) × (kind_at s format.relationships_file x ≢ 0) × (is_at n (edge_at s x) ≡ true) × ((edge_at s x).label ≡ type_of s g)
+    filled : (g : ℕ) → In g groups → (x : ℕ) × (kind_at s format.relationships_file x ≢ 0) × (is_at n (edge_at s x) ≡ true)
+        × ((edge_at s x).label ≡ type_of s g)
     filled g i = heads.has_one s shape store n dense g i
 
     -- so its type is a name
@@ -151,7 +161,8 @@ module _ (s : Records) (shape : Shape) (store : IsWellFormed s shape) where
         let one = filled g.0 g.1 in
         let row = edge_at s one.0 in
         let some = row_some (kind_at s format.relationships_file one.0) row one.1 in
-        let there = collect_contains (edge_row_at s) (high s format.relationships_file) one.0 row (kind_below (high s format.relationships_file) (rec_at s format.relationships_file one.0) one.0 one.1) some in
+        let there = collect_contains (edge_row_at s) (high s format.relationships_file) one.0 row
+        (kind_below (high s format.relationships_file) (rec_at s format.relationships_file one.0) one.0 one.1) some in
         subst (Contains (map (λ (row : EdgeRow). name_of s row.label) (filter (is_at n) (rows_of s)))) (ap (name_of s) one.3 ∙ sym g.2)
         (image_contains (λ (row : EdgeRow). name_of s row.label) (filter (is_at n) (rows_of s)) row (filter_contains (is_at n) (rows_of s) row there one.2))
 
@@ -164,7 +175,8 @@ module _ (s : Records) (shape : Shape) (store : IsWellFormed s shape) where
         let has = some_row (kind_at s format.relationships_file x.0) (edge_at s x.0) found.0 x.2 in
         let at : is_at n (edge_at s x.0) ≡ true = subst (λ (row : EdgeRow). is_at n row ≡ true) (sym has.1) kept.1 in
         let g = heads.own_group s shape store n dense x.0 has.0 (heads.end_at n (edge_at s x.0) at) in
-        subst (Contains (map text_in groups)) (ap (name_of s) (g.2 ∙ ap (λ (row : EdgeRow). row.label) has.1) ∙ sym found.2) (map_contains text_in groups g.0 g.1)
+        subst (Contains (map text_in groups)) (ap (name_of s) (g.2 ∙ ap (λ (row : EdgeRow). row.label) has.1) ∙ sym found.2)
+        (map_contains text_in groups g.0 g.1)
 
     -- as many groups as types
     pub groups_count : length groups ≡ type_count (graph_of s) n

@@ -1,6 +1,7 @@
 -- A group that is found or made for a relationship, by what the node has alone.
 use Rattle.std.specs.Prelude.{IsErr}
-use Rattle.std.proofs.Common.{◌≡◌, ◌≢◌, ◌⊎◌, ℕ, ◌+◌, ◌<◌, ◌≤◌, true, cond, List, [], ◌∷◌, length, Result, Ok, Err, IfOk, sym, ap, ◌∙◌, subst, inl, inr, ⊎_elim, arith, refl}
+use Rattle.std.proofs.Common.{◌≡◌, ◌≢◌, ◌⊎◌, ℕ, ◌+◌, ◌<◌, ◌≤◌, true, cond, List, [], ◌∷◌, length, Result, Ok, Err, IfOk}
+use Rattle.std.proofs.Common.{sym, ap, ◌∙◌, subst, inl, inr, ⊎_elim, arith, refl}
 use Rattle.std.proofs.lemmas.Bool.{eqb-true, false≢true}
 use Rattle.id_freelist.specs.Taking.{CanTake, IsCounted, first_of, mark_after, rest_of, room}
 use Rattle.rec_bytes.specs.declared.fault.Fault.{Fault}
@@ -52,7 +53,8 @@ marks_grow : (free : List ℕ) (mark : ℕ) → mark ≤ mark_after free mark
 marks_grow [] mark = omega arith
 marks_grow (x ∷ later) mark = omega arith
 
-rest_counts : (free : List ℕ) (live mark now after : ℕ) → live + length free ≡ mark → now ≡ live + 1 → after ≡ mark_after free mark → now + length (rest_of free) ≡ after
+rest_counts : (free : List ℕ) (live mark now after : ℕ) → live + length free ≡ mark → now ≡ live + 1 → after ≡ mark_after free mark
+    → now + length (rest_of free) ≡ after
 rest_counts [] live mark now after is more grown = omega arith
 rest_counts (x ∷ later) live mark now after is more grown = omega arith
 
@@ -67,14 +69,17 @@ can_read s n free can = record { list = can.list; low = can.low; unused = can.un
 pub take_after : (s l : State) (free : List ℕ) → SameButReads s l → CanTakeEach s free → CanTakeEach l free
 take_after s l free same can = subst (λ (q : State). CanTakeEach q free) (sym same) (record { take = can_read s l.reads free can.take; exact = can.exact })
 
-pub take_rest : (s t : State) (node label : ℕ) (row : GroupRow) (groups free : List ℕ) → HasMade s.records t.records node label row free groups → t.shape ≡ s.shape → (meta_of s format.groups_file).live ≢ room s format.groups_file → CanTakeEach s free
+pub take_rest : (s t : State) (node label : ℕ) (row : GroupRow) (groups free : List ℕ) → HasMade s.records t.records node label row free groups
+    → t.shape ≡ s.shape → (meta_of s format.groups_file).live ≢ room s format.groups_file → CanTakeEach s free
     → CanTakeEach t (rest_of free)
 take_rest s t node label row groups free made shape left can =
     let mark = high s.records format.groups_file in
     let le = marks_grow free mark in
     let counts : (meta_of t format.groups_file).live + length (rest_of free) ≡ high t.records format.groups_file
-    = rest_counts free (meta_of s format.groups_file).live mark (meta_of t format.groups_file).live (high t.records format.groups_file) can.exact made.live made.mark in
-    let off : (x : ℕ) → In x (rest_of free) → x ≢ row.id = λ x i e. rest_once (next_free s.records format.groups_file) (meta_in s.records format.groups_file).free mark row.id free made.first_free can.take.list (subst (λ z. In z (rest_of free)) e i) in
+    = rest_counts free (meta_of s format.groups_file).live mark (meta_of t format.groups_file).live (high t.records format.groups_file) can.exact made.live
+    made.mark in
+    let off : (x : ℕ) → In x (rest_of free) → x ≢ row.id = λ x i e. rest_once (next_free s.records format.groups_file)
+    (meta_in s.records format.groups_file).free mark row.id free made.first_free can.take.list (subst (λ z. In z (rest_of free)) e i) in
     let low : (x : ℕ) → In x (rest_of free) → x < mark = λ x i. can.take.low x (in_rest free x i) in
     let grown = made.mark in
     record {
@@ -83,7 +88,8 @@ take_rest s t node label row groups free made shape left can =
         low = λ x i. let lt = low x i in omega arith;
         unused = λ x i.
             let lt = low x i in
-            kind_low (high t.records format.groups_file) (rec_at t.records format.groups_file x) x (omega arith) ∙ made.numbers x 1 format.kind (omega arith) (off x i) (λ _. inl (omega arith))
+            kind_low (high t.records format.groups_file) (rec_at t.records format.groups_file x) x (omega arith)
+            ∙ made.numbers x 1 format.kind (omega arith) (off x i) (λ _. inl (omega arith))
             ∙ sym (kind_low mark (rec_at s.records format.groups_file x) x lt) ∙ can.take.unused x (in_rest free x i);
         count = counted_of (rest_of free) (meta_of t format.groups_file).live (high t.records format.groups_file) counts;
         mark = let fits = rest_fits free (meta_of s format.groups_file).live mark (room s format.groups_file) can.exact can.take.mark left in
@@ -97,15 +103,18 @@ take_rest s t node label row groups free made shape left can =
 no_error : {T : Type 0} (value : T) → IsErr {T = T} {E = Fault} (Ok value) → ⊥
 no_error value e = false≢true e
 
-pub has_added : (r : Result OwnGroup Fault) (s l t : State) (node label : ℕ) → SameButReads s l → (IsDense s.records node → (xs : List ℕ) → IsGroupChain s.records node xs → LacksGroup s.records node label)
-    → IfOk r (λ own. (free xs : List ℕ) → CanMake l node label free xs → HasMade l.records t.records node label own.row free xs) → IfOk r (λ own. own.first ≡ first_link l.records node)
+pub has_added : (r : Result OwnGroup Fault) (s l t : State) (node label : ℕ) → SameButReads s l
+    → (IsDense s.records node → (xs : List ℕ) → IsGroupChain s.records node xs → LacksGroup s.records node label)
+    → IfOk r (λ own. (free xs : List ℕ) → CanMake l node label free xs → HasMade l.records t.records node label own.row free xs)
+    → IfOk r (λ own. own.first ≡ first_link l.records node)
     → ((meta_of l format.groups_file).live ≡ room l format.groups_file → IsErr r) → t.shape ≡ l.shape
     → IfOk r (λ own. (groups free : List ℕ) → IsDense s.records node → IsGroupChain s.records node groups → CanTakeEach s free → HasFound s t label groups own ⊎ HasAdded s t node label groups free own)
 has_added (Err fault) s l t node label same lacks made first full shape = tt
 has_added (Ok own) s l t node label same lacks made first full shape = λ groups free dense chain can.
     let none : LacksType s.records label groups = λ g i. lacks dense groups chain g (chain.only g i) in
     let is : HasMade s.records t.records node label own.row free groups
-    = subst (λ (q : State). HasMade q.records t.records node label own.row free groups) same (made free groups (subst (λ (q : State). CanMake q node label free groups) (sym same) (record { chain = chain; lacks = none; take = can_read s l.reads free can.take }))) in
+    = subst (λ (q : State). HasMade q.records t.records node label own.row free groups) same
+    (made free groups (subst (λ (q : State). CanMake q node label free groups) (sym same) (record { chain = chain; lacks = none; take = can_read s l.reads free can.take }))) in
     let shaped : t.shape ≡ s.shape = shape ∙ ap (λ (q : State). q.shape) same in
     inr (record {
       lacks = none;
@@ -136,39 +145,45 @@ pub record IsReady (s m : State) (node label g : ℕ) (came groups free : List �
   pub leaves : LeavesApart s.records m.records node came groups
   pub shape : m.shape ≡ s.shape
 
-pub ready_found : (s m : State) (node label : ℕ) (own : OwnGroup) (came groups free : List ℕ) → HasSpread s.records node groups came → CanTakeEach s free → HasFound s m label groups own → IsReady s m node label own.row.id came groups free
-ready_found s m node label own came groups free spread can found = subst (λ (q : State). IsReady s q node label own.row.id came groups free) (sym found.same) (record {
-  chain = spread.chain;
-  here = found.member;
-  named = found.typed;
-  counted = spread.counted;
-  sides = spread.sides;
-  typed = λ k i. inr (spread.typed k i);
-  placed = spread.placed;
-  take = record { take = can_read s m.reads free can.take; exact = can.exact };
-  rels = λ x. refl;
-  rows = λ x. refl;
-  mark = refl;
-  live = omega arith;
-  marks = omega arith;
-  leaves = record { others = λ x n at some absent inside. refl; links = λ x n at inside beside. refl; groups_stay = λ k n at some absent inside. refl };
-  shape = refl;
-})
+pub ready_found : (s m : State) (node label : ℕ) (own : OwnGroup) (came groups free : List ℕ) → HasSpread s.records node groups came → CanTakeEach s free
+    → HasFound s m label groups own → IsReady s m node label own.row.id came groups free
+ready_found s m node label own came groups free spread can found = subst (λ (q : State). IsReady s q node label own.row.id came groups free) (sym found.same)
+    (record {
+      chain = spread.chain;
+      here = found.member;
+      named = found.typed;
+      counted = spread.counted;
+      sides = spread.sides;
+      typed = λ k i. inr (spread.typed k i);
+      placed = spread.placed;
+      take = record { take = can_read s m.reads free can.take; exact = can.exact };
+      rels = λ x. refl;
+      rows = λ x. refl;
+      mark = refl;
+      live = omega arith;
+      marks = omega arith;
+      leaves = record { others = λ x n at some absent inside. refl; links = λ x n at inside beside. refl; groups_stay = λ k n at some absent inside. refl };
+      shape = refl;
+    })
 
-module _ (s m : State) (node label : ℕ) (own : OwnGroup) (came groups free : List ℕ) (spread : HasSpread s.records node groups came) (added : HasAdded s m node label groups free own) where
+module _ (s m : State) (node label : ℕ) (own : OwnGroup) (came groups free : List ℕ) (spread : HasSpread s.records node groups came)
+    (added : HasAdded s m node label groups free own) where
   off : (k : ℕ) → In k groups → k ≢ own.row.id
   off k i e = let walk = walk_of_chain _ _ format.nil (first_link m.records node) (own.row.id ∷ groups) added.made.chain.chain in
       head_once (next_group m.records) own.row.id groups walk.1 walk.2 (subst (λ z. In z groups) e i)
 
-  number : (k n at : ℕ) → In k groups → at + n ≤ 64 → (at + n ≤ 12) ⊎ (16 ≤ at) → field n (rec_at m.records format.groups_file k) at ≡ field n (rec_at s.records format.groups_file k) at
+  number : (k n at : ℕ) → In k groups → at + n ≤ 64 → (at + n ≤ 12) ⊎ (16 ≤ at)
+      → field n (rec_at m.records format.groups_file k) at ≡ field n (rec_at s.records format.groups_file k) at
   number k n at i inside apart = added.made.numbers k n at inside (off k i) (λ _. apart)
 
   rels : (x : ℕ) → rec_at m.records format.relationships_file x ≡ rec_at s.records format.relationships_file x
-  rels x = added.made.stays (record { file = format.relationships_file; id = x }) (λ e. let f = ap (λ (k : Key). k.file) e in omega arith) (λ e. let f = ap (λ (k : Key). k.file) e in omega arith)
+  rels x = added.made.stays (record { file = format.relationships_file; id = x }) (λ e. let f = ap (λ (k : Key). k.file) e in omega arith)
+      (λ e. let f = ap (λ (k : Key). k.file) e in omega arith)
       (λ e. let f = ap (λ (k : Key). k.file) e in omega arith) (λ e. let f = ap (λ (k : Key). k.file) e in omega arith)
 
   meta : m.records (meta_key_of format.relationships_file) ≡ s.records (meta_key_of format.relationships_file)
-  meta = added.made.stays (meta_key_of format.relationships_file) (λ e. let f = ap (λ (k : Key). k.id) e in omega arith) (λ e. let f = ap (λ (k : Key). k.file) e in omega arith)
+  meta = added.made.stays (meta_key_of format.relationships_file) (λ e. let f = ap (λ (k : Key). k.id) e in omega arith)
+      (λ e. let f = ap (λ (k : Key). k.file) e in omega arith)
       (λ e. let f = ap (λ (k : Key). k.file) e in omega arith) (λ e. let f = ap (λ (k : Key). k.file) e in omega arith)
 
   rows : (x : ℕ) → rel_at m.records x ≡ rel_at s.records x
@@ -191,9 +206,12 @@ module _ (s m : State) (node label : ℕ) (own : OwnGroup) (came groups free : L
       let lt = group_below s.records node k (spread.chain.only k i) in
       let le = marks_grow free (high s.records format.groups_file) in
       let grown = added.made.mark in
-      kind_low (high m.records format.groups_file) (rec_at m.records format.groups_file k) k (omega arith) ∙ number k 1 format.kind i (omega arith) (inl (omega arith)) ∙ sym (kind_low (high s.records format.groups_file) (rec_at s.records format.groups_file k) k lt)
+      kind_low (high m.records format.groups_file) (rec_at m.records format.groups_file k) k (omega arith)
+      ∙ number k 1 format.kind i (omega arith) (inl (omega arith)) ∙ sym
+      (kind_low (high s.records format.groups_file) (rec_at s.records format.groups_file k) k lt)
 
-  member_m : (k : ℕ) (side : Side) (x : ℕ) → In k groups → IsMember s.records node (type_of s.records k) side x → IsMember m.records node (type_of m.records k) side x
+  member_m : (k : ℕ) (side : Side) (x : ℕ) → In k groups → IsMember s.records node (type_of s.records k) side x
+      → IsMember m.records node (type_of m.records k) side x
   member_m k side x i a = member_again s.records m.records node (type_of s.records k) (type_of m.records k) side x (rows x) (sym (type_m k i)) a
 
   member_s : (label other : ℕ) (side : Side) (x : ℕ) → label ≡ other → IsMember m.records node label side x → IsMember s.records node other side x
@@ -204,7 +222,8 @@ module _ (s m : State) (node label : ℕ) (own : OwnGroup) (came groups free : L
       let was = spread.sides k i side in
       let range = place_range side in
       let count = count_is side in
-      let first : rules.first_of m.records (group_head k side) ≡ rules.first_of s.records (group_head k side) = number k 4 (place_of side) i (omega arith) (inr (omega arith)) in
+      let first : rules.first_of m.records (group_head k side) ≡ rules.first_of s.records (group_head k side) =
+      number k 4 (place_of side) i (omega arith) (inr (omega arith)) in
       side_by m.records node came k side was.members (added.made.chain.only k (inr i))
       (subst (λ f. IsChainFrom m.records node f was.members) (sym first)
       (chain_stays (next_of s.records node) (prev_of s.records node) (next_of m.records node) (prev_of m.records node) format.nil (rules.first_of s.records (group_head k side)) was.members
@@ -235,7 +254,9 @@ module _ (s m : State) (node label : ℕ) (own : OwnGroup) (came groups free : L
   pub added_fresh : CanTakeEach s free → kind_at s.records format.groups_file own.row.id ≡ format.free_kind
   added_fresh can = by free added.made.first_free can.take.unused
     where
-      by : (ids : List ℕ) → own.row.id ≡ first_of ids (high s.records format.groups_file) → ((x : ℕ) → In x ids → kind_at s.records format.groups_file x ≡ format.free_kind) → kind_at s.records format.groups_file own.row.id ≡ format.free_kind
+      by : (ids : List ℕ) → own.row.id ≡ first_of ids (high s.records format.groups_file)
+          → ((x : ℕ) → In x ids → kind_at s.records format.groups_file x ≡ format.free_kind)
+          → kind_at s.records format.groups_file own.row.id ≡ format.free_kind
       by [] is unused = kind_high (high s.records format.groups_file) (rec_at s.records format.groups_file own.row.id) own.row.id (omega arith)
       by (x ∷ later) is unused = ap (kind_at s.records format.groups_file) is ∙ unused x (inl refl)
 
@@ -267,18 +288,23 @@ module _ (s m : State) (node label : ℕ) (own : OwnGroup) (came groups free : L
   }
     where
       first_known : (first_link s.records node ≡ format.nil) ⊎ In (first_link s.records node) groups
-      first_known = first_in (next_group s.records) (first_link s.records node) groups (walk_of_chain _ _ format.nil (first_link s.records node) groups spread.chain.chain)
+      first_known = first_in (next_group s.records) (first_link s.records node) groups
+          (walk_of_chain _ _ format.nil (first_link s.records node) groups spread.chain.chain)
 
       kind_here : kind_at m.records format.groups_file own.row.id ≡ format.counted
-      kind_here = kind_low (high m.records format.groups_file) (rec_at m.records format.groups_file own.row.id) own.row.id (group_below m.records node own.row.id (added.made.chain.only own.row.id (inl refl))) ∙ eqb-true _ _ counted_here
+      kind_here = kind_low (high m.records format.groups_file) (rec_at m.records format.groups_file own.row.id) own.row.id
+          (group_below m.records node own.row.id (added.made.chain.only own.row.id (inl refl))) ∙ eqb-true _ _ counted_here
 
 -- ---- no damage is told
 
 pub node_read : (s l : State) (node : ℕ) → SameButReads s l → nodes.IsReadable s node → nodes.IsReadable l node
 node_read s l node same can = subst (λ (q : State). nodes.IsReadable q node) (sym same) (record { mark = can.mark; kind = can.kind })
 
-pub make_read : (s l : State) (node label : ℕ) (groups free : List ℕ) → SameButReads s l → IsGroupChain s.records node groups → LacksType s.records label groups → CanTakeEach s free → CanMake l node label free groups
-make_read s l node label groups free same chain lacks can = subst (λ (q : State). CanMake q node label free groups) (sym same) (record { chain = chain; lacks = lacks; take = can_read s l.reads free can.take })
+pub make_read : (s l : State) (node label : ℕ) (groups free : List ℕ) → SameButReads s l → IsGroupChain s.records node groups → LacksType s.records label groups
+    → CanTakeEach s free → CanMake l node label free groups
+make_read s l node label groups free same chain lacks can = subst (λ (q : State). CanMake q node label free groups) (sym same)
+    (record { chain = chain; lacks = lacks; take = can_read s l.reads free can.take })
 
-pub can_walk : (s : State) (node : ℕ) (groups free : List ℕ) → IsGroupChain s.records node groups → CanTakeEach s free → IsWalkable s node (first_link s.records node) groups
+pub can_walk : (s : State) (node : ℕ) (groups free : List ℕ) → IsGroupChain s.records node groups → CanTakeEach s free
+    → IsWalkable s node (first_link s.records node) groups
 can_walk s node groups free chain can = record { mark = can.take.mark; list = record { walk = walk_of_chain _ _ format.nil (first_link s.records node) groups chain.chain; only = chain.only } }

@@ -1,6 +1,7 @@
 -- What the groups of a node tell in two spaces that say the same of its group chain.
 use Rattle.std.specs.Prelude.{not}
-use Rattle.std.proofs.Common.{◌≡◌, ℕ, ◌+◌, ◌<◌, ◌≤◌, nat_eq, Bool, true, false, cond, Option, None, Some, List, sym, ap, ◌∙◌, subst, inl, inr, ⊎_elim, arith, refl}
+use Rattle.std.proofs.Common.{◌≡◌, ℕ, ◌+◌, ◌<◌, ◌≤◌, nat_eq, Bool, true, false, cond, Option, None, Some, List, sym, ap}
+use Rattle.std.proofs.Common.{◌∙◌, subst, inl, inr, ⊎_elim, arith, refl}
 use Rattle.rec_bytes.specs.declared.damage.Damage.{Damage}
 use Rattle.rec_bytes.specs.declared.record.Rec.{Rec}
 use Rattle.rec_bytes.specs.declared.shape.Shape.{Shape}
@@ -36,7 +37,8 @@ pub record AreAlike (s t : State) (n : ℕ) : Type 0 where
   pub node : rec_at t.records format.nodes_file n ≡ rec_at s.records format.nodes_file n
   pub node_mark : high t.records format.nodes_file ≡ high s.records format.nodes_file
   pub group_mark : high t.records format.groups_file ≡ high s.records format.groups_file
-  pub numbers : (g m at : ℕ) → 1 ≤ at → at + m ≤ format.group_first_out → field m (rec_at t.records format.groups_file g) at ≡ field m (rec_at s.records format.groups_file g) at
+  pub numbers : (g m at : ℕ) → 1 ≤ at → at + m ≤ format.group_first_out
+      → field m (rec_at t.records format.groups_file g) at ≡ field m (rec_at s.records format.groups_file g) at
   pub used : (g : ℕ) → is_group_kind (kind_at t.records format.groups_file g) ≡ is_group_kind (kind_at s.records format.groups_file g)
   pub live : (g : ℕ) → is_live t.records format.groups_file g ≡ is_live s.records format.groups_file g
 
@@ -80,7 +82,8 @@ module _ (s t : State) (n : ℕ) (alike : AreAlike s t n) where
   groups_as = λ i g. group_row g i
 
   kind_same : kind_at t.records format.nodes_file n ≡ kind_at s.records format.nodes_file n
-  kind_same = ap (λ m. kind_in m (rec_at t.records format.nodes_file n) n) alike.node_mark ∙ ap (λ (r : Rec). kind_in (high s.records format.nodes_file) r n) alike.node
+  kind_same = ap (λ m. kind_in m (rec_at t.records format.nodes_file n) n) alike.node_mark
+      ∙ ap (λ (r : Rec). kind_in (high s.records format.nodes_file) r n) alike.node
 
   room : (file : ℕ) → room_of t.shape file ≡ room_of s.shape file
   room file = ap (λ (h : Shape). room_of h file) alike.shape

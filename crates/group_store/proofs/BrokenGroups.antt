@@ -1,5 +1,6 @@
 -- Damage that breaks a rule.
-use Rattle.std.proofs.Common.{◌≡◌, ◌≢◌, ℕ, ◌<◌, ◌≤◌, nat_eq, Bool, true, false, cond, None, Some, Result, Ok, Err, IfErr, List, [], ◌∷◌, sym, ap, ◌∙◌, subst, inl, inr, ⊎_elim, arith, refl}
+use Rattle.std.proofs.Common.{◌≡◌, ◌≢◌, ℕ, ◌<◌, ◌≤◌, nat_eq, Bool, true, false, cond, None, Some, Result, Ok, Err}
+use Rattle.std.proofs.Common.{IfErr, List, [], ◌∷◌, sym, ap, ◌∙◌, subst, inl, inr, ⊎_elim, arith, refl}
 use Rattle.rec_bytes.specs.declared.damage.Damage.{Damage}
 use Rattle.rec_bytes.specs.declared.fault.Fault.{Fault}
 use Rattle.rec_bytes.specs.declared.fault.Fault.TheVariants.{Memory, Disk, Damaged}
@@ -71,10 +72,12 @@ node_fault_breaks s n Disk told = tt
 node_fault_breaks s n (Damaged damage) told = node_breaks s n damage told
 
 -- the layout of a group in use
-layout_of_group : (r : Rec) (kind : ℕ) (layout : Layout) → kind ≢ 0 → layout_by format.groups_file r kind ≡ Some layout → (size : ℕ) × (group_layout size ≡ Some layout)
+layout_of_group : (r : Rec) (kind : ℕ) (layout : Layout) → kind ≢ 0 → layout_by format.groups_file r kind ≡ Some layout → (size : ℕ)
+    × (group_layout size ≡ Some layout)
 layout_of_group r kind layout live is = by (nat_eq kind 0) (nat_eq kind 1) (nat_eq kind 2) (eq_false kind 0 live) is
   where
-    by : (free grouped counted : Bool) → free ≡ false → cond free (free_layout format.groups_file) (cond grouped (group_layout 28) (cond counted (group_layout 40) None)) ≡ Some layout → (size : ℕ) × (group_layout size ≡ Some layout)
+    by : (free grouped counted : Bool) → free ≡ false → cond free (free_layout format.groups_file)
+        (cond grouped (group_layout 28) (cond counted (group_layout 40) None)) ≡ Some layout → (size : ℕ) × (group_layout size ≡ Some layout)
     by true grouped counted e h = absurd cc
     by false true counted e h = (28, h)
     by false false true e h = (40, h)
@@ -82,20 +85,24 @@ layout_of_group r kind layout live is = by (nat_eq kind 0) (nat_eq kind 1) (nat_
 
 abbrev group_pointers : List Pointer
 group_pointers = must format.group_owner format.nodes_file ∷ may format.group_previous format.groups_file ∷ may format.group_next format.groups_file
-    ∷ may format.group_first_out format.relationships_file ∷ may format.group_first_in format.relationships_file ∷ may format.group_first_loop format.relationships_file ∷ []
+    ∷ may format.group_first_out format.relationships_file ∷ may format.group_first_in format.relationships_file ∷ may format.group_first_loop
+    format.relationships_file ∷ []
 
 -- the neighbours of a group that fits
-neighbours_low : (marks : ℕ → ℕ) (r : Rec) → field 1 r format.kind ≢ 0 → Fits marks format.groups_file r → IsLow (marks format.groups_file) (field 4 r format.group_previous) × IsLow (marks format.groups_file) (field 4 r format.group_next)
+neighbours_low : (marks : ℕ → ℕ) (r : Rec) → field 1 r format.kind ≢ 0 → Fits marks format.groups_file r
+    → IsLow (marks format.groups_file) (field 4 r format.group_previous) × IsLow (marks format.groups_file) (field 4 r format.group_next)
 neighbours_low marks r used fits =
     let is = layout_of_group r (field 1 r format.kind) fits.layout used fits.is in
-    let point : all_point marks r group_pointers ≡ true = subst (λ (l : Layout). all_point marks r l.pointers ≡ true) (sym (used_is _ fits.layout is.1)) fits.point in
+    let point : all_point marks r group_pointers ≡ true = subst (λ (l : Layout). all_point marks r l.pointers ≡ true) (sym (used_is _ fits.layout is.1))
+    fits.point in
     let a = and_parts (points marks r (must format.group_owner format.nodes_file)) _ point in
     let b = and_parts (points marks r (may format.group_previous format.groups_file)) _ a.1 in
     let c = and_parts (points marks r (may format.group_next format.groups_file)) _ b.1 in
     (low_points marks r format.group_previous format.groups_file b.0, low_points marks r format.group_next format.groups_file c.0)
 
 -- the first link of a dense node that fits
-dense_low : (marks : ℕ → ℕ) (r : Rec) → field 1 r format.kind ≡ format.dense → Fits marks format.nodes_file r → IsLow (marks format.groups_file) (field 4 r format.node_first_link)
+dense_low : (marks : ℕ → ℕ) (r : Rec) → field 1 r format.kind ≡ format.dense → Fits marks format.nodes_file r
+    → IsLow (marks format.groups_file) (field 4 r format.node_first_link)
 dense_low marks r kind fits =
     let is : node_layout format.groups_file ≡ Some fits.layout = ap (layout_by format.nodes_file r) (sym kind) ∙ fits.is in
     let point : all_point marks r (may format.node_first_link format.groups_file ∷ may format.node_first_property format.properties_file ∷ []) ≡ true
@@ -117,8 +124,10 @@ owned_groups records n members groups = record {
       record { used = row.0; owner = ap (λ (r : views.GroupRow). r.owner) row.1 ∙ is.2 };
 }
 
-pub walk_breaks : (s : State) (n : ℕ) → IsDense s.records n → (damage : Damage) → IsWalkDamage s n (first_link s.records n) damage → Breaks s.records s.shape damage
-walk_breaks s n dense damage (NoList none) = OwnerGroups n (dense_below s n dense) (λ keeps. let chain = keeps.groups dense in none chain.0 (owned_groups s.records n chain.0 chain.1))
+pub walk_breaks : (s : State) (n : ℕ) → IsDense s.records n → (damage : Damage) → IsWalkDamage s n (first_link s.records n) damage
+    → Breaks s.records s.shape damage
+walk_breaks s n dense damage (NoList none) = OwnerGroups n (dense_below s n dense)
+    (λ keeps. let chain = keeps.groups dense in none chain.0 (owned_groups s.records n chain.0 chain.1))
 walk_breaks s n dense damage (UnknownGroup g none low unknown) = RecordRange format.groups_file g refl low (λ fits. let layout = fits.is in cc)
 walk_breaks s n dense damage (HighMark above) = mark_breaks s above
 
@@ -129,7 +138,8 @@ find_breaks s n dense (Damaged damage) told = ⊎_elim (λ k. node_breaks s n da
 
 -- ---- a group that is made
 
-first_breaks : (s : State) (n : ℕ) → IsDense s.records n → (damage : Damage) → IsLinkDamage s (first_link s.records n) (link_damage n) damage → Breaks s.records s.shape damage
+first_breaks : (s : State) (n : ℕ) → IsDense s.records n → (damage : Damage) → IsLinkDamage s (first_link s.records n) (link_damage n) damage
+    → Breaks s.records s.shape damage
 first_breaks s n dense damage (LeadsNowhere some above) =
     let r = rec_at s.records format.nodes_file n in
     let lt = dense_below s n dense in
@@ -175,8 +185,10 @@ module _ (s : State) (n g : ℕ) (row : views.GroupRow) (is : group_at s.records
   used : field 1 (rec_at s.records format.groups_file g) format.kind ≢ 0
   used e = found.0 (kind_low (high s.records format.groups_file) (rec_at s.records format.groups_file g) g below ∙ e)
 
-  link_breaks : (link : ℕ) (damage : Damage) → (Fits (high s.records) format.groups_file (rec_at s.records format.groups_file g) → IsLow (group_mark s) link) → IsLinkDamage s link (range_damage g) damage → Breaks s.records s.shape damage
-  link_breaks link damage low (LeadsNowhere some above) = RecordRange format.groups_file g refl below (λ fits. not_low (group_mark s) link some above (low fits))
+  link_breaks : (link : ℕ) (damage : Damage) → (Fits (high s.records) format.groups_file (rec_at s.records format.groups_file g) → IsLow (group_mark s) link)
+      → IsLinkDamage s link (range_damage g) damage → Breaks s.records s.shape damage
+  link_breaks link damage low (LeadsNowhere some above) = RecordRange format.groups_file g refl below
+      (λ fits. not_low (group_mark s) link some above (low fits))
   link_breaks link damage low (HighLink above) = mark_breaks s above
 
   member_breaks : (damage : Damage) → IsMemberDamage s n g damage → Breaks s.records s.shape damage
@@ -186,8 +198,10 @@ module _ (s : State) (n g : ℕ) (row : views.GroupRow) (is : group_at s.records
 
   drop_by : (damage : Damage) → IsDropDamage s n g damage → Breaks s.records s.shape damage
   drop_by damage (BadMember d bad) = member_breaks d bad
-  drop_by damage (BadPrevious d bad) = link_breaks (previous_group s.records g) d (λ fits. (neighbours_low (high s.records) (rec_at s.records format.groups_file g) used fits).0) bad
-  drop_by damage (BadNext d bad) = link_breaks (next_group s.records g) d (λ fits. (neighbours_low (high s.records) (rec_at s.records format.groups_file g) used fits).1) bad
+  drop_by damage (BadPrevious d bad) = link_breaks (previous_group s.records g) d
+      (λ fits. (neighbours_low (high s.records) (rec_at s.records format.groups_file g) used fits).0) bad
+  drop_by damage (BadNext d bad) = link_breaks (next_group s.records g) d
+      (λ fits. (neighbours_low (high s.records) (rec_at s.records format.groups_file g) used fits).1) bad
   drop_by damage (Astray out) = GroupOwner g (λ keeps. let o = keeps.owner row is in
       out o.members (subst (λ m. IsLinkChain s.records m o.members) owner o.groups.chain) o.member)
 
@@ -197,14 +211,16 @@ module _ (s : State) (n g : ℕ) (row : views.GroupRow) (is : group_at s.records
   drop_breaks (Damaged damage) told = drop_by damage told
 
 -- the group of a head that a node owns
-pub close_breaks : (s : State) (head : Head) (n : ℕ) → IsHeadOf s.records head n → head.key.file ≡ format.groups_file → (fault : Fault) → IsDropFault s n head.key.id fault → IsBreakFault s fault
+pub close_breaks : (s : State) (head : Head) (n : ℕ) → IsHeadOf s.records head n → head.key.file ≡ format.groups_file → (fault : Fault)
+    → IsDropFault s n head.key.id fault → IsBreakFault s fault
 close_breaks s head n (inl o) file fault told = absurd (let f = ap (λ (h : Head). h.key.file) o.is in omega arith)
 close_breaks s head n (inr o) file fault told = drop_breaks s n head.key.id o.row (ap (λ (k : Key). group_at s.records k.id) o.key ∙ o.group) o.owner fault told
 
 -- ---- a relationship with no group
 
 -- a relationship at a dense node with no group of its type on its chain breaks the third rule
-pub no_group_breaks : (s : State) (n rel label : ℕ) (row : RelRow) → rel_at s.records rel ≡ Some row → IsEnd n row → row.label ≡ label → LacksGroupOn s.records n label → Breaks s.records s.shape (end_damage rel)
+pub no_group_breaks : (s : State) (n rel label : ℕ) (row : RelRow) → rel_at s.records rel ≡ Some row → IsEnd n row → row.label ≡ label
+    → LacksGroupOn s.records n label → Breaks s.records s.shape (end_damage rel)
 no_group_breaks s n rel label row live end typed lacks =
     RelEnds rel (kind_below (high s.records format.relationships_file) (rec_at s.records format.relationships_file rel) rel (some_row (kind_at s.records format.relationships_file rel) (rel_in (rec_at s.records format.relationships_file rel) rel) row live).0)
     (λ keeps. ⊎_elim (λ (e : row.from ≡ n). none (subst (λ m. breaking.EndKeeps s.records m rel) e (keeps.from row live))) (λ (e : row.to ≡ n). none (subst (λ m. breaking.EndKeeps s.records m rel) e (keeps.to row live))) end)
@@ -248,13 +264,15 @@ node_only s n rel label Memory told = tt
 node_only s n rel label Disk told = tt
 node_only s n rel label (Damaged damage) told = inl (node_breaks s n damage told, BadNode damage told)
 
-pub find_only : (s z : State) (n rel label : ℕ) → SameButReads s z → IsDense z.records n → (fault : Fault) → IsFindFault z n fault → IsHeadFault s n rel label fault
+pub find_only : (s z : State) (n rel label : ℕ) → SameButReads s z → IsDense z.records n → (fault : Fault) → IsFindFault z n fault
+    → IsHeadFault s n rel label fault
 find_only s z n rel label same dense Memory told = tt
 find_only s z n rel label same dense Disk told = tt
 find_only s z n rel label same dense (Damaged damage) told =
     inl (subst (λ (q : State). Breaks q.records q.shape damage) same (find_breaks z n dense (Damaged damage) told), search_read s z n damage same (⊎_elim (λ k. BadNode damage k) (λ k. BadGroups damage dense k) told))
 
-pub count_only : (s z : State) (n rel label g : ℕ) → SameButReads s z → (fault : Fault) → IsCountFault n g fault → IsBreakFault z fault → IsHeadFault s n rel label fault
+pub count_only : (s z : State) (n rel label g : ℕ) → SameButReads s z → (fault : Fault) → IsCountFault n g fault → IsBreakFault z fault
+    → IsHeadFault s n rel label fault
 count_only s z n rel label g same Memory names told = tt
 count_only s z n rel label g same Disk names told = tt
 count_only s z n rel label g same (Damaged damage) names told = inl (subst (λ (q : State). Breaks q.records q.shape damage) same told, Uncounted damage g names)

@@ -19,21 +19,24 @@ use Rattle.rec_bytes.proofs.Causes.{passed}
 pub later_on : {before mid now : ℕ} → before ≤ mid → mid ≤ now → before ≤ now
 later_on one other = omega (arith, one, other)
 
-pub cause_passed : {T U : Type 0} (before mid now : ℕ) (r : Result T Fault) (fault : Fault) → before ≤ mid → HasFaultCause {T = U} mid now (Err fault) → IsErrAnd r (λ f. f ≡ fault) → HasFaultCause before now r
+pub cause_passed : {T U : Type 0} (before mid now : ℕ) (r : Result T Fault) (fault : Fault) → before ≤ mid → HasFaultCause {T = U} mid now (Err fault)
+    → IsErrAnd r (λ f. f ≡ fault) → HasFaultCause before now r
 cause_passed before mid now r fault early cause is = passed (λ f. f) faults.Disk faults.Disk before mid now r fault (λ e. e) early cause is
 
 blames_disk : (fault : SpaceFault) → of_space fault ≡ faults.Disk → fault ≡ spaces.Disk
 blames_disk spaces.Memory e = absurd cc
 blames_disk spaces.Disk e = refl
 
-pub space_cause_passed : {T U : Type 0} (before mid now : ℕ) (r : Result T Fault) (fault : SpaceFault) → before ≤ mid → HasCause {T = U} mid now (Err fault) → IsErrAnd r (λ f. f ≡ of_space fault) → HasFaultCause before now r
+pub space_cause_passed : {T U : Type 0} (before mid now : ℕ) (r : Result T Fault) (fault : SpaceFault) → before ≤ mid → HasCause {T = U} mid now (Err fault)
+    → IsErrAnd r (λ f. f ≡ of_space fault) → HasFaultCause before now r
 space_cause_passed before mid now r fault early cause is = passed of_space spaces.Disk faults.Disk before mid now r fault (blames_disk fault) early cause is
 
 row_blames_disk : (fault : RowFault) → of_row fault ≡ faults.Disk → fault ≡ rows.Disk
 row_blames_disk rows.Disk e = refl
 row_blames_disk (rows.Damaged damage) e = absurd cc
 
-pub row_cause_passed : {T U : Type 0} (before mid now : ℕ) (r : Result T Fault) (fault : RowFault) → before ≤ mid → HasRowCause {T = U} mid now (Err fault) → IsErrAnd r (λ f. f ≡ of_row fault) → HasFaultCause before now r
+pub row_cause_passed : {T U : Type 0} (before mid now : ℕ) (r : Result T Fault) (fault : RowFault) → before ≤ mid → HasRowCause {T = U} mid now (Err fault)
+    → IsErrAnd r (λ f. f ≡ of_row fault) → HasFaultCause before now r
 row_cause_passed before mid now r fault early cause is = passed of_row rows.Disk faults.Disk before mid now r fault (row_blames_disk fault) early cause is
 
 -- want of memory blames no disk
@@ -44,12 +47,14 @@ memory_cause {T} before now r early is =
     subst (HasFaultCause before now) (sym p.1) (subst (λ f. HasFaultCause {T = T} before now (Err f)) (sym p.2) here)
 
 -- nor does damage
-pub damage_cause : {T : Type 0} (before now : ℕ) (r : Result T Fault) (damage : Damage) → before ≤ now → IsErrAnd r (λ f. f ≡ faults.Damaged damage) → HasFaultCause before now r
+pub damage_cause : {T : Type 0} (before now : ℕ) (r : Result T Fault) (damage : Damage) → before ≤ now → IsErrAnd r (λ f. f ≡ faults.Damaged damage)
+    → HasFaultCause before now r
 damage_cause {T} before now r damage early is =
     let p = err_from_is_err_and r is in
     let here : HasFaultCause {T = T} before now (Err (faults.Damaged damage)) = record { later = early; disk = λ blamed. absurd cc } in
     subst (HasFaultCause before now) (sym p.1) (subst (λ f. HasFaultCause {T = T} before now (Err f)) (sym p.2) here)
 
 -- of a call whose own fault is a space's
-pub space_cause : {T U : Type 0} (before mid now : ℕ) (r : Result T SpaceFault) (fault : SpaceFault) → before ≤ mid → HasCause {T = U} mid now (Err fault) → IsErrAnd r (λ f. f ≡ fault) → HasCause before now r
+pub space_cause : {T U : Type 0} (before mid now : ℕ) (r : Result T SpaceFault) (fault : SpaceFault) → before ≤ mid → HasCause {T = U} mid now (Err fault)
+    → IsErrAnd r (λ f. f ≡ fault) → HasCause before now r
 space_cause before mid now r fault early cause is = passed (λ f. f) spaces.Disk spaces.Disk before mid now r fault (λ e. e) early cause is

@@ -41,20 +41,23 @@ pub same_records : (s t : State) → SameButReads s t → t.records ≡ s.record
 same_records s t h = ap (λ (z : State). z.records) h
 
 -- ---- a node in use is sparse or dense
-pub sparse_unless : (s : Records) (shape : Shape) (n : ℕ) → AreInRange s shape → kind_at s format.nodes_file n ≢ 0 → kind_at s format.nodes_file n ≢ format.dense → kind_at s format.nodes_file n ≡ format.sparse
+pub sparse_unless : (s : Records) (shape : Shape) (n : ℕ) → AreInRange s shape → kind_at s format.nodes_file n ≢ 0
+    → kind_at s format.nodes_file n ≢ format.dense → kind_at s format.nodes_file n ≡ format.sparse
 sparse_unless s shape n ranges used thin =
     let r = rec_at s format.nodes_file n in
     let lt = kind_below (high s format.nodes_file) r n used in
     let low = kind_low (high s format.nodes_file) r n lt in
     let fits = ranges.fit format.nodes_file n refl lt in
     ⊎_elim (λ (e : field 1 r format.kind ≡ format.sparse). low ∙ e)
-    (λ (ne : field 1 r format.kind ≢ format.sparse). absurd (none (field 1 r format.kind) fits.layout (λ e. used (low ∙ e)) ne (λ e. thin (low ∙ e)) fits.is)) (nat_cases (field 1 r format.kind) format.sparse)
+    (λ (ne : field 1 r format.kind ≢ format.sparse). absurd (none (field 1 r format.kind) fits.layout (λ e. used (low ∙ e)) ne (λ e. thin (low ∙ e)) fits.is))
+    (nat_cases (field 1 r format.kind) format.sparse)
   where
     none : (kind : ℕ) (layout : Layout) → kind ≢ 0 → kind ≢ 1 → kind ≢ 2 → layout_by format.nodes_file (rec_at s format.nodes_file n) kind ≡ Some layout → ⊥
     none kind layout a b c is = by (nat_eq kind 0) (nat_eq kind 1) (nat_eq kind 2) (eq_false kind 0 a) (eq_false kind 1 b) (eq_false kind 2 c) is
       where
         by : (free sparse dense : Bool) → free ≡ false → sparse ≡ false → dense ≡ false
-            → cond free (free_layout format.nodes_file) (cond sparse (node_layout format.relationships_file) (cond dense (node_layout format.groups_file) None)) ≡ Some layout → ⊥
+            → cond free (free_layout format.nodes_file) (cond sparse (node_layout format.relationships_file) (cond dense (node_layout format.groups_file) None))
+            ≡ Some layout → ⊥
         by true sparse dense e f h k = cc
         by false true dense e f h k = cc
         by false false true e f h k = cc
@@ -63,13 +66,16 @@ sparse_unless s shape n ranges used thin =
 -- ---- heads
 
 -- an end of a relationship is in use
-pub end_used : (s : Records) (shape : Shape) {most : ℕ} {empty : List ℕ} (well : KeepsRules s shape most empty) (n x : ℕ) (row : RelRow) → rel_at s x ≡ Some row → IsEnd n row → kind_at s format.nodes_file n ≢ 0
+pub end_used : (s : Records) (shape : Shape) {most : ℕ} {empty : List ℕ} (well : KeepsRules s shape most empty) (n x : ℕ) (row : RelRow) → rel_at s x ≡ Some row
+    → IsEnd n row → kind_at s format.nodes_file n ≢ 0
 end_used s shape well n x row live end =
     let ends = well.linked.ends x row live in
-    ⊎_elim (λ (e : row.from ≡ n). subst (λ m. kind_at s format.nodes_file m ≢ 0) e ends.from) (λ (e : row.to ≡ n). subst (λ m. kind_at s format.nodes_file m ≢ 0) e ends.to) end
+    ⊎_elim (λ (e : row.from ≡ n). subst (λ m. kind_at s format.nodes_file m ≢ 0) e ends.from)
+    (λ (e : row.to ≡ n). subst (λ m. kind_at s format.nodes_file m ≢ 0) e ends.to) end
 
 -- in a group of a dense node, whatever the other records are
-module _ (s : Records) (n g label : ℕ) (side : Side) (row : RelRow) (member : IsGroupOf s n g) (typed : field 4 (rec_at s format.groups_file g) format.group_type ≡ label) (at : IsAt n label side row) (dense : IsDense s n) where
+module _ (s : Records) (n g label : ℕ) (side : Side) (row : RelRow) (member : IsGroupOf s n g)
+    (typed : field 4 (rec_at s format.groups_file g) format.group_type ≡ label) (at : IsAt n label side row) (dense : IsDense s n) where
   there : group_at s g ≡ Some (group_in (rec_at s format.groups_file g) g)
   there = row_some (kind_at s format.groups_file g) (group_in (rec_at s format.groups_file g) g) (group_used (kind_at s format.groups_file g) member.kind)
 
@@ -131,7 +137,8 @@ module _ (s : Records) (shape : Shape) {most : ℕ} {empty : List ℕ} (well : K
   at_node used thin row end = record { owns = inl (record { sparse = sparse_unless s shape n well.ranges used thin; is = refl }); on = inl (refl, end) }
 
   -- in a group of a dense one
-  pub at_group : (g label : ℕ) (side : Side) (row : RelRow) → IsGroupOf s n g → field 4 (rec_at s format.groups_file g) format.group_type ≡ label → IsAt n label side row → IsEndHead s (group_head g side) n row
+  pub at_group : (g label : ℕ) (side : Side) (row : RelRow) → IsGroupOf s n g → field 4 (rec_at s format.groups_file g) format.group_type ≡ label
+      → IsAt n label side row → IsEndHead s (group_head g side) n row
   at_group g label side row member typed at = group_end s n g label side row member typed at
       (subst (λ m. kind_at s format.nodes_file m ≡ format.dense) member.owner
       (well.grouped.owned g (group_in (rec_at s format.groups_file g) g) (row_some (kind_at s format.groups_file g) (group_in (rec_at s format.groups_file g) g) (group_used (kind_at s format.groups_file g) member.kind))))

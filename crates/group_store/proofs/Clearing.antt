@@ -1,5 +1,6 @@
 -- A sparse node that becomes dense, with no group: its relationships are left to come into groups.
-use Rattle.std.proofs.Common.{◌≡◌, ◌≢◌, ◌⊎◌, ℕ, ◌+◌, ◌<◌, ◌≤◌, nat_eq, nat_lt, Bool, true, false, ◌&&◌, ◌||◌, Option, Some, List, [], ◌∷◌, length, sym, ap, ◌∙◌, subst, inl, inr, ⊎_elim, arith, refl}
+use Rattle.std.proofs.Common.{◌≡◌, ◌≢◌, ◌⊎◌, ℕ, ◌+◌, ◌<◌, ◌≤◌, nat_eq, nat_lt, Bool, true, false, ◌&&◌, ◌||◌, Option}
+use Rattle.std.proofs.Common.{Some, List, [], ◌∷◌, length, sym, ap, ◌∙◌, subst, inl, inr, ⊎_elim, arith, refl}
 use Rattle.std.specs.List.{list_any}
 use Rattle.std.proofs.lemmas.Bool.{cases_lt}
 use Rattle.std.proofs.lemmas.Bool.Decides.{nat_tests}
@@ -15,7 +16,8 @@ use Rattle.node_store.specs.NodeRecord.{node_key}
 use Rattle.store_rules.specs.Chains.{In}
 use Rattle.store_rules.specs.Ends.{Regroups}
 use Rattle.store_rules.specs.Ranges.{Fits, IsBlankOutside, Layout, all_point, bytes_of, is_in, layout_by, may, points}
-use Rattle.store_rules.specs.Rules.{HasCounts, HasGroups, Head, IsEnd, IsGrouped, IsInGroup, IsListed, KeepsRules, Owns, StandsAt, first_of, node_head, stands_in}
+use Rattle.store_rules.specs.Rules.{HasCounts, HasGroups, Head, IsEnd, IsGrouped, IsInGroup, IsListed, KeepsRules, Owns}
+use Rattle.store_rules.specs.Rules.{StandsAt, first_of, node_head, stands_in}
 use Rattle.store_rules.specs.Rows.{ids}
 use Rattle.store_rules.specs.Views as views
 use Rattle.store_rules.specs.Views.{Records, RelRow, degree, first_link, group_at, high, key_in, kind_at, kind_in, rec_at, rel_at, rel_in}
@@ -46,11 +48,13 @@ clear_of r = with_field 4 (with_field 1 r format.kind format.dense) format.node_
 
 -- numbers but the kind and the first link stay
 pub clear_other : (r : Rec) (n at : ℕ) → at + n ≤ 64 → 1 ≤ at → (at + n ≤ 8) ⊎ (12 ≤ at) → field n (clear_of r) at ≡ field n r at
-clear_other r n at inside one apart = field-with_field_other 4 (with_field 1 r format.kind format.dense) format.node_first_link format.nil n at inside (⊎_elim (λ l. inr l) (λ l. inl l) apart)
+clear_other r n at inside one apart = field-with_field_other 4 (with_field 1 r format.kind format.dense) format.node_first_link format.nil n at inside
+    (⊎_elim (λ l. inr l) (λ l. inl l) apart)
     ∙ field-with_field_other 1 r format.kind format.dense n at inside (inl one)
 
 pub clear_kind : (r : Rec) → field 1 (clear_of r) format.kind ≡ format.dense
-clear_kind r = field-with_field_other 4 (with_field 1 r format.kind format.dense) format.node_first_link format.nil 1 format.kind (omega arith) (inr (omega arith))
+clear_kind r = field-with_field_other 4 (with_field 1 r format.kind format.dense) format.node_first_link format.nil 1 format.kind (omega arith)
+    (inr (omega arith))
     ∙ field-with_field_same 1 r format.kind format.dense (omega arith) (omega arith)
 
 pub clear_first : (r : Rec) → field 4 (clear_of r) format.node_first_link ≡ format.nil
@@ -63,7 +67,8 @@ layout_is into = record {
 }
 
 outside : (i : ℕ) → list_any (is_in i) (bytes_of format.kind 1 ∷ bytes_of format.node_label 16 ∷ []) ≡ false → (1 ≤ i) × ((i + 1 ≤ 8) ⊎ (12 ≤ i))
-outside i out = ⊎_elim (λ (low : i < 4). (⊎_elim (λ (z : i < 1). absurd (zero z)) (λ (ge : 1 ≤ i). ge) (cases_lt i 1), inl (omega arith))) (λ (ge : 4 ≤ i). (omega arith, ⊎_elim (λ (l : i < 20). absurd (inside l ge)) (λ (k : 20 ≤ i). inr (omega arith)) (cases_lt i 20))) (cases_lt i 4)
+outside i out = ⊎_elim (λ (low : i < 4). (⊎_elim (λ (z : i < 1). absurd (zero z)) (λ (ge : 1 ≤ i). ge) (cases_lt i 1), inl (omega arith)))
+    (λ (ge : 4 ≤ i). (omega arith, ⊎_elim (λ (l : i < 20). absurd (inside l ge)) (λ (k : 20 ≤ i). inr (omega arith)) (cases_lt i 20))) (cases_lt i 4)
   where
     zero : i < 1 → ⊥
     zero lt = let a : 1 ≤ i = grind (arith, nat_tests) in omega arith
@@ -73,18 +78,23 @@ outside i out = ⊎_elim (λ (low : i < 4). (⊎_elim (λ (z : i < 1). absurd (z
 
 clear_fits : (marks : ℕ → ℕ) (r : Rec) → field 1 r format.kind ≡ format.sparse → Fits marks format.nodes_file r → Fits marks format.nodes_file (clear_of r)
 clear_fits marks r sparse h =
-    let same : layout_is format.relationships_file ≡ h.layout = inner (layout_is format.relationships_file) h.layout (ap (layout_by format.nodes_file r) (sym sparse) ∙ h.is) in
-    let old : all_point marks r (layout_is format.relationships_file).pointers ≡ true = subst (λ (l : Layout). all_point marks r l.pointers ≡ true) (sym same) h.point in
+    let same : layout_is format.relationships_file ≡ h.layout = inner (layout_is format.relationships_file) h.layout
+    (ap (layout_by format.nodes_file r) (sym sparse) ∙ h.is) in
+    let old : all_point marks r (layout_is format.relationships_file).pointers ≡ true =
+    subst (λ (l : Layout). all_point marks r l.pointers ≡ true) (sym same) h.point in
     let property = (and_parts _ _ (and_parts _ _ old).1).0 in
     let property_now : points marks (clear_of r) (may format.node_first_property format.properties_file) ≡ true
-    = ap (λ v. nat_lt v (marks format.properties_file) || (true && nat_eq v format.nil)) (clear_other r 4 format.node_first_property (omega arith) (omega arith) (inr (omega arith))) ∙ property in
+    = ap (λ v. nat_lt v (marks format.properties_file) || (true && nat_eq v format.nil))
+    (clear_other r 4 format.node_first_property (omega arith) (omega arith) (inr (omega arith))) ∙ property in
     let first_now : points marks (clear_of r) (may format.node_first_link format.groups_file) ≡ true
-    = ap (λ v. nat_lt v (marks format.groups_file) || (true && nat_eq v format.nil)) (clear_first r) ∙ right_of (nat_lt format.nil (marks format.groups_file)) in
+    = ap (λ v. nat_lt v (marks format.groups_file) || (true && nat_eq v format.nil)) (clear_first r)
+    ∙ right_of (nat_lt format.nil (marks format.groups_file)) in
     record {
       layout = layout_is format.groups_file;
       is = ap (layout_by format.nodes_file (clear_of r)) (clear_kind r);
       point = rw (first_now, property_now) refl;
-      blank = λ i lt out. let apart = outside i out in clear_other r 1 i (omega arith) apart.0 apart.1 ∙ (subst (λ (l : Layout). IsBlankOutside l.used r) (sym same) h.blank) i lt out;
+      blank = λ i lt out. let apart = outside i out in clear_other r 1 i (omega arith) apart.0 apart.1
+          ∙ (subst (λ (l : Layout). IsBlankOutside l.used r) (sym same) h.blank) i lt out;
     }
   where
     inner : (a b : Layout) → Some a ≡ Some b → a ≡ b
@@ -105,7 +115,8 @@ stands_true n row (inr e) = rw (eq_true row.to n e) (right_of (nat_eq row.from n
     right_of true = refl
     right_of false = refl
 
-module _ (s : State) (node most : ℕ) (empty : List ℕ) (keeps : KeepsRules s.records s.shape most empty) (sparse : kind_at s.records format.nodes_file node ≡ format.sparse) where
+module _ (s : State) (node most : ℕ) (empty : List ℕ) (keeps : KeepsRules s.records s.shape most empty)
+    (sparse : kind_at s.records format.nodes_file node ≡ format.sparse) where
   abbrev t : State
   t = cleared s node
 
@@ -142,7 +153,8 @@ module _ (s : State) (node most : ℕ) (empty : List ℕ) (keeps : KeepsRules s.
   }
 
   dense_now : kind_at t.records format.nodes_file node ≡ format.dense
-  dense_now = kind_low (high s.records format.nodes_file) (rec_at t.records format.nodes_file node) node low ∙ ap (λ r. field 1 r format.kind) here ∙ clear_kind old
+  dense_now = kind_low (high s.records format.nodes_file) (rec_at t.records format.nodes_file node) node low ∙ ap (λ r. field 1 r format.kind) here
+      ∙ clear_kind old
 
   -- the node had no group
   no_group : (g : ℕ) (row : views.GroupRow) → groups g ≡ Some row → row.owner ≡ node → ⊥
@@ -181,7 +193,8 @@ module _ (s : State) (node most : ℕ) (empty : List ℕ) (keeps : KeepsRules s.
   at_node x row is end = node_list.all x (record { row = row; live = is; on = inl (refl, end) })
 
   listed : (h : Head) (n : ℕ) → Owns (kind_at t.records format.nodes_file) groups h n → IsListed t.records h n (StandsBut rels groups node rest h)
-  listed h n o = listed_again s.records t.records h n (StandsAt rels groups h) (StandsBut rels groups node rest h) (λ x. refl) (first_is o) (λ x a. record { stands = a; apart = λ k. absurd (no_group h.key.id k.row k.group k.owner) }) (λ x a. a.stands) (keeps.linked.listed.each h n (was o))
+  listed h n o = listed_again s.records t.records h n (StandsAt rels groups h) (StandsBut rels groups node rest h) (λ x. refl) (first_is o)
+      (λ x a. record { stands = a; apart = λ k. absurd (no_group h.key.id k.row k.group k.owner) }) (λ x a. a.stands) (keeps.linked.listed.each h n (was o))
     where
       not_node : (kind_at t.records format.nodes_file n ≡ format.sparse) → n ≢ node
       not_node is e = let z = sym dense_now ∙ ap (kind_at t.records format.nodes_file) (sym e) ∙ is in omega arith
@@ -217,11 +230,13 @@ module _ (s : State) (node most : ℕ) (empty : List ℕ) (keeps : KeepsRules s.
     walk = walk_of_chain _ _ format.nil (first_link s.records node) node_list.members node_list.chain;
     ends = λ x i. let a = node_list.only x i in (a.row, a.live, end_of x a a.on);
     exact = λ g row is kind. let ne : row.owner ≢ node = no_group g row is in
-        subst (λ (f : ℕ → Option RelRow). HasCounts (rec_at s.records format.groups_file g) row f (high s.records format.relationships_file)) (sym (counted_other node row.owner node_list.members rels ne)) (keeps.exact g row is kind);
+        subst (λ (f : ℕ → Option RelRow). HasCounts (rec_at s.records format.groups_file g) row f (high s.records format.relationships_file))
+        (sym (counted_other node row.owner node_list.members rels ne)) (keeps.exact g row is kind);
     counted = λ g row is owner. absurd (no_group g row is owner);
   }
     where
-      end_of : (x : ℕ) (a : StandsAt rels groups (node_head node) x) → ((format.nodes_file ≡ format.nodes_file) × IsEnd node a.row) ⊎ ((format.nodes_file ≡ format.groups_file) × IsInGroup groups (node_head node) a.row) → IsEnd node a.row
+      end_of : (x : ℕ) (a : StandsAt rels groups (node_head node) x) → ((format.nodes_file ≡ format.nodes_file) × IsEnd node a.row)
+          ⊎ ((format.nodes_file ≡ format.groups_file) × IsInGroup groups (node_head node) a.row) → IsEnd node a.row
       end_of x a (inl k) = k.1
       end_of x a (inr k) = absurd (let z = k.0 in omega arith)
 

@@ -43,7 +43,8 @@ module _ (node : ℕ) (came groups : List ℕ) where
   is_group q x i e = inr (inr (among_right q (map rel_key came) (map group_key groups) (among_map group_key q x groups e i)))
 
   -- what a turn writes
-  is_turn : (rel : ℕ) (turn : Turn) → In rel came → In turn.first came → In turn.group groups → In turn.before groups → (q : Key) → IsAmong q (turn_keys node rel turn) → IsAmong q all
+  is_turn : (rel : ℕ) (turn : Turn) → In rel came → In turn.first came → In turn.group groups → In turn.before groups → (q : Key)
+      → IsAmong q (turn_keys node rel turn) → IsAmong q all
   is_turn rel turn a b c d q (inl e) = is_rel q rel a e
   is_turn rel turn a b c d q (inr (inl e)) = is_rel q turn.first b e
   is_turn rel turn a b c d q (inr (inr (inl e))) = is_group q turn.group c e
@@ -67,7 +68,8 @@ come_none s l t node came groups same w = record {
 }
 
 -- one more came
-pub come_next : (s now end : State) (node rel : ℕ) (turn : Turn) (came groups xs ys : List ℕ) → WritesCome s now node came groups → WritesOnly now end (turn_keys node rel turn)
+pub come_next : (s now end : State) (node rel : ℕ) (turn : Turn) (came groups xs ys : List ℕ) → WritesCome s now node came groups
+    → WritesOnly now end (turn_keys node rel turn)
     → In turn.first came × In turn.before groups → xs ≡ came ++ rel ∷ [] → ys ≡ groups ++ turn.group ∷ [] → WritesCome s end node xs ys
 come_next s now end node rel turn came groups xs ys was w known xs_is ys_is =
     subst (λ zs. WritesCome s end node zs ys) (sym xs_is) (subst (λ zs. WritesCome s end node (came ++ rel ∷ []) zs) (sym ys_is) (record {
@@ -81,8 +83,12 @@ pub one_longer : (x count : ℕ) (xs ys : List ℕ) → ys ≡ xs ++ x ∷ [] �
 one_longer x count xs ys is e = let k = ap length is in omega (arith, length-append xs (x ∷ []))
 
 -- as many as these, besides the node's
-pub come_touches : (s t : State) (node count most : ℕ) (came groups : List ℕ) → length came ≡ count + 1 → length groups ≡ count + 1 → count + 1 ≤ most → WritesCome s t node came groups → TouchesGroups s t node most most
-come_touches s t node count most came groups few_rels few_groups le w = record { rels = came; groups = groups; few_rels = omega arith; few_groups = omega arith; only = w.only }
+pub come_touches : (s t : State) (node count most : ℕ) (came groups : List ℕ) → length came ≡ count + 1 → length groups ≡ count + 1 → count + 1 ≤ most
+    → WritesCome s t node came groups → TouchesGroups s t node most most
+come_touches s t node count most came groups few_rels few_groups le w =
+    record { rels = came; groups = groups; few_rels = omega arith; few_groups = omega arith; only = w.only }
 
-pub come_beside : (s t : State) (node count most : ℕ) (came groups : List ℕ) → length came ≡ count + 1 → length groups ≡ count + 1 → 2 * (count + 1) ≤ most → WritesCome s t node came groups → WritesBeside (node_key node) most s t
-come_beside s t node count most came groups few_rels few_groups le w = touches_beside s t node (count + 1) (count + 1) most (omega arith) (come_touches s t node count (count + 1) came groups few_rels few_groups (omega arith) w)
+pub come_beside : (s t : State) (node count most : ℕ) (came groups : List ℕ) → length came ≡ count + 1 → length groups ≡ count + 1 → 2 * (count + 1) ≤ most
+    → WritesCome s t node came groups → WritesBeside (node_key node) most s t
+come_beside s t node count most came groups few_rels few_groups le w = touches_beside s t node (count + 1) (count + 1) most (omega arith)
+    (come_touches s t node count (count + 1) came groups few_rels few_groups (omega arith) w)

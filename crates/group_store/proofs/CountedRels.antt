@@ -1,5 +1,6 @@
 -- Which relationships counted groups count, while relationships of a node come into its groups, and what leaves the numbers exact.
-use Rattle.std.proofs.Common.{◌≡◌, ◌≢◌, ℕ, ◌+◌, ◌≤◌, nat_eq, Bool, true, false, cond, ◌&&◌, ◌||◌, not, Option, None, Some, List, [], ◌∷◌, length, sym, ap, ◌∙◌, subst, inl, inr, ⊎_elim, arith, refl}
+use Rattle.std.proofs.Common.{◌≡◌, ◌≢◌, ℕ, ◌+◌, ◌≤◌, nat_eq, Bool, true, false, cond, ◌&&◌, ◌||◌, not, Option, None}
+use Rattle.std.proofs.Common.{Some, List, [], ◌∷◌, length, sym, ap, ◌∙◌, subst, inl, inr, ⊎_elim, arith, refl}
 use Rattle.std.specs.List.{list_any}
 use Rattle.std.proofs.lemmas.Bool.{true≢false}
 use Rattle.rec_bytes.specs.declared.record.Rec.{Rec}
@@ -28,11 +29,15 @@ all_counted node owner rels = by (nat_eq owner node)
     by true = λ i x. rels x
     by false = refl
 
-pub exact_all : (s : Records) (node : ℕ) → AreExactBut s node [] → AreExact (kind_at s format.groups_file) (rec_at s format.groups_file) (group_at s) (rel_at s) (high s format.relationships_file)
-exact_all s node old g row is kind = subst (λ (rels : ℕ → Option RelRow). HasCounts (rec_at s format.groups_file g) row rels (high s format.relationships_file)) (all_counted node row.owner (rel_at s)) (old g row is kind)
+pub exact_all : (s : Records) (node : ℕ) → AreExactBut s node [] → AreExact (kind_at s format.groups_file) (rec_at s format.groups_file) (group_at s) (rel_at s)
+    (high s format.relationships_file)
+exact_all s node old g row is kind = subst (λ (rels : ℕ → Option RelRow). HasCounts (rec_at s format.groups_file g) row rels (high s format.relationships_file))
+    (all_counted node row.owner (rel_at s)) (old g row is kind)
 
-pub all_exact : (s : Records) (node : ℕ) → AreExact (kind_at s format.groups_file) (rec_at s format.groups_file) (group_at s) (rel_at s) (high s format.relationships_file) → AreExactBut s node []
-all_exact s node old g row is kind = subst (λ (rels : ℕ → Option RelRow). HasCounts (rec_at s format.groups_file g) row rels (high s format.relationships_file)) (sym (all_counted node row.owner (rel_at s))) (old g row is kind)
+pub all_exact : (s : Records) (node : ℕ) → AreExact (kind_at s format.groups_file) (rec_at s format.groups_file) (group_at s) (rel_at s)
+    (high s format.relationships_file) → AreExactBut s node []
+all_exact s node old g row is kind = subst (λ (rels : ℕ → Option RelRow). HasCounts (rec_at s format.groups_file g) row rels (high s format.relationships_file))
+    (sym (all_counted node row.owner (rel_at s))) (old g row is kind)
 
 -- a relationship that is in none of these
 out_test : (x : ℕ) (xs : List ℕ) → ¬ In x xs → list_any (nat_eq x) xs ≡ false
@@ -50,7 +55,8 @@ left_more x rel rest rels ne = ap (λ b. cond (b || list_any (nat_eq x) rest) No
 
 -- ---- what stays
 
-pub counts_by : (old new : Rec) (group : GroupRow) (rels now : ℕ → Option RelRow) (n m : ℕ) → ((at : ℕ) → (32 ≤ at) × (at + 4 ≤ 44) → field 4 new at ≡ field 4 old at) → now ≡ rels → m ≡ n → HasCounts old group rels n → HasCounts new group now m
+pub counts_by : (old new : Rec) (group : GroupRow) (rels now : ℕ → Option RelRow) (n m : ℕ)
+    → ((at : ℕ) → (32 ≤ at) × (at + 4 ≤ 44) → field 4 new at ≡ field 4 old at) → now ≡ rels → m ≡ n → HasCounts old group rels n → HasCounts new group now m
 counts_by old new group rels now n m same are mark h =
     subst (λ (q : ℕ → Option RelRow). HasCounts new group q m) (sym are) (subst (λ k. HasCounts new group rels k) (sym mark) (record {
       out = same 32 (omega arith, omega arith) ∙ h.out;
@@ -58,14 +64,18 @@ counts_by old new group rels now n m same are mark h =
       loops = same 40 (omega arith, omega arith) ∙ h.loops;
     }))
 
-pub exact_stays : (s t : Records) (node : ℕ) (rest : List ℕ) → ((g : ℕ) → kind_at t format.groups_file g ≡ kind_at s format.groups_file g) → ((g : ℕ) → group_at t g ≡ group_at s g)
-    → ((g at : ℕ) → (32 ≤ at) × (at + 4 ≤ 44) → field 4 (rec_at t format.groups_file g) at ≡ field 4 (rec_at s format.groups_file g) at) → rel_at t ≡ rel_at s → high t format.relationships_file ≡ high s format.relationships_file
+pub exact_stays : (s t : Records) (node : ℕ) (rest : List ℕ) → ((g : ℕ) → kind_at t format.groups_file g ≡ kind_at s format.groups_file g)
+    → ((g : ℕ) → group_at t g ≡ group_at s g)
+    → ((g at : ℕ) → (32 ≤ at) × (at + 4 ≤ 44) → field 4 (rec_at t format.groups_file g) at ≡ field 4 (rec_at s format.groups_file g) at) → rel_at t ≡ rel_at s
+    → high t format.relationships_file ≡ high s format.relationships_file
     → AreExactBut s node rest → AreExactBut t node rest
 exact_stays s t node rest kinds groups numbers rels mark old g row is kind =
-    counts_by (rec_at s format.groups_file g) (rec_at t format.groups_file g) row (counted_rels node rest (rel_at s) row.owner) (counted_rels node rest (rel_at t) row.owner) (high s format.relationships_file) (high t format.relationships_file)
+    counts_by (rec_at s format.groups_file g) (rec_at t format.groups_file g) row (counted_rels node rest (rel_at s) row.owner)
+    (counted_rels node rest (rel_at t) row.owner) (high s format.relationships_file) (high t format.relationships_file)
     (numbers g) (λ i. counted_rels node rest (rels i) row.owner) mark (old g row (sym (groups g) ∙ is) (sym (kinds g) ∙ kind))
 
-pub counted_stays : (s t : Records) (node : ℕ) → ((g : ℕ) → kind_at t format.groups_file g ≡ kind_at s format.groups_file g) → ((g : ℕ) → group_at t g ≡ group_at s g) → HasCountedGroups s node → HasCountedGroups t node
+pub counted_stays : (s t : Records) (node : ℕ) → ((g : ℕ) → kind_at t format.groups_file g ≡ kind_at s format.groups_file g)
+    → ((g : ℕ) → group_at t g ≡ group_at s g) → HasCountedGroups s node → HasCountedGroups t node
 counted_stays s t node kinds groups old g row is owner = kinds g ∙ old g row (sym (groups g) ∙ is) owner
 
 -- and the other way round
@@ -81,7 +91,8 @@ test_out x (y ∷ ys) out (inr i) = test_out x ys (by (nat_eq x y) out) i
 -- ---- none
 
 -- a test of a group that no relationship of its type at its owner passes
-no_test : (group : GroupRow) (row : RelRow) → (row.label ≡ group.label → IsEnd group.owner row → ⊥) → (is_out_of group row ≡ false) × (is_into group row ≡ false) × (is_loop_of group row ≡ false)
+no_test : (group : GroupRow) (row : RelRow) → (row.label ≡ group.label → IsEnd group.owner row → ⊥) → (is_out_of group row ≡ false)
+    × (is_into group row ≡ false) × (is_loop_of group row ≡ false)
 no_test group row none = ⊎_elim
     (λ (typed : row.label ≡ group.label).
     let from : nat_eq row.from group.owner ≡ false = eq_false row.from group.owner (λ e. none typed (inl e)) in
@@ -101,15 +112,18 @@ no_test group row none = ⊎_elim
     no_more false = refl
 
 -- where none is left but these, a group counts none
-pub none_counted : (r : Rec) (group : GroupRow) (rels : ℕ → Option RelRow) (rest : List ℕ) (mark : ℕ) → field 4 r format.group_out_count ≡ 0 → field 4 r format.group_in_count ≡ 0 → field 4 r format.group_loop_count ≡ 0
-    → ((x : ℕ) (row : RelRow) → rels x ≡ Some row → ¬ In x rest → row.label ≡ group.label → IsEnd group.owner row → ⊥) → HasCounts r group (left_out rest rels) mark
+pub none_counted : (r : Rec) (group : GroupRow) (rels : ℕ → Option RelRow) (rest : List ℕ) (mark : ℕ) → field 4 r format.group_out_count ≡ 0
+    → field 4 r format.group_in_count ≡ 0 → field 4 r format.group_loop_count ≡ 0
+    → ((x : ℕ) (row : RelRow) → rels x ≡ Some row → ¬ In x rest → row.label ≡ group.label → IsEnd group.owner row → ⊥)
+    → HasCounts r group (left_out rest rels) mark
 none_counted r group rels rest mark a b c none = record {
   out = a ∙ sym (zero (is_out_of group) (λ row h. (no_test group row h).0));
   into = b ∙ sym (zero (is_into group) (λ row h. (no_test group row h).1));
   loops = c ∙ sym (zero (is_loop_of group) (λ row h. (no_test group row h).2));
 }
   where
-    zero : (test : RelRow → Bool) → ((row : RelRow) → (row.label ≡ group.label → IsEnd group.owner row → ⊥) → test row ≡ false) → count_of test (left_out rest rels) mark ≡ 0
+    zero : (test : RelRow → Bool) → ((row : RelRow) → (row.label ≡ group.label → IsEnd group.owner row → ⊥) → test row ≡ false)
+        → count_of test (left_out rest rels) mark ≡ 0
     zero test fails = ap length (ids_none (λ x. passes test (left_out rest rels x)) mark each)
       where
         by : (x : ℕ) (b : Bool) → list_any (nat_eq x) rest ≡ b → (o : Option RelRow) → rels x ≡ o → passes test (cond b None o) ≡ false

@@ -42,7 +42,8 @@ pub row_told : (s : State) (node before at : ℕ) (fault : RowFault) → rels.Is
 row_told s node before at rows.Disk told = tt
 row_told s node before at (rows.Damaged damage) told = BadRow damage told
 
-pub sparse_undamaged : (s : State) (node count most : ℕ) (empty : List ℕ) → count ≡ views.degree s.records node → CanBecomeDense s node most empty → (fault : Fault) → IsSparseFault s node count fault → IsUndamaged fault
+pub sparse_undamaged : (s : State) (node count most : ℕ) (empty : List ℕ) → count ≡ views.degree s.records node → CanBecomeDense s node most empty
+    → (fault : Fault) → IsSparseFault s node count fault → IsUndamaged fault
 sparse_undamaged s node count most empty is can Memory told = tt
 sparse_undamaged s node count most empty is can Disk told = tt
 sparse_undamaged s node count most empty is can (Damaged damage) told = no_sparse_damage s node can.sparse count most empty is can.keeps damage told
@@ -55,13 +56,15 @@ unread s l node rel same rows.Disk told = tt
 unread s l node rel same (rows.Damaged damage) told = inl (inl (subst (λ (q : State). Breaks q.records q.shape damage) (sym same) (rel_breaks s rel damage told)))
 
 -- no group for it
-pub no_own : (s l m : State) (node rel : ℕ) (fault : Fault) → IsOpenFault l fault → IfSome (damage_of fault) (λ _. SameButReads l m) → IsMoveFault s m node rel fault
+pub no_own : (s l m : State) (node rel : ℕ) (fault : Fault) → IsOpenFault l fault → IfSome (damage_of fault) (λ _. SameButReads l m)
+    → IsMoveFault s m node rel fault
 no_own s l m node rel Memory told same = tt
 no_own s l m node rel Disk told same = tt
 no_own s l m node rel (Damaged damage) told same = inl (subst (λ (q : State). IsOpenFault q (Damaged damage)) (sym same) told)
 
 -- a first link of the group that leads nowhere
-pub no_push : (s t end : State) (node rel : ℕ) (fault : Fault) → IsBreakFault t fault → IfSome (damage_of fault) (λ _. end ≡ after_get t) → IsMoveFault s end node rel fault
+pub no_push : (s t end : State) (node rel : ℕ) (fault : Fault) → IsBreakFault t fault → IfSome (damage_of fault) (λ _. end ≡ after_get t)
+    → IsMoveFault s end node rel fault
 no_push s t end node rel Memory told same = tt
 no_push s t end node rel Disk told same = tt
 no_push s t end node rel (Damaged damage) told same = inl (inl (subst (λ (q : State). Breaks q.records q.shape damage) (sym same) told))
@@ -92,7 +95,8 @@ end_late t node Memory told = tt
 end_late t node Disk told = tt
 end_late t node (Damaged damage) told = inl told
 
-pub end_opened : {T : Type 0} (z t : State) (node : ℕ) (r : Result T Fault) → IfErr r (IsOpenFault z) → OnDamage r (SameButReads z t) → IfErr r (IsEndFault t node)
+pub end_opened : {T : Type 0} (z t : State) (node : ℕ) (r : Result T Fault) → IfErr r (IsOpenFault z) → OnDamage r (SameButReads z t)
+    → IfErr r (IsEndFault t node)
 end_opened z t node (Ok x) told same = tt
 end_opened z t node (Err Memory) told same = tt
 end_opened z t node (Err Disk) told same = tt

@@ -31,16 +31,20 @@ use Rattle.group_store.proofs.Clearing.{clear_kind, clear_of}
 use Rattle.group_store.proofs.Makes.{new, stays}
 use Rattle.group_store.proofs.Tallies.{file-tallied}
 
-dense_by : (s t : Records) (node : ℕ) → high t format.nodes_file ≡ high s format.nodes_file → field 1 (rec_at t format.nodes_file node) format.kind ≡ field 1 (rec_at s format.nodes_file node) format.kind → IsDense s node → IsDense t node
+dense_by : (s t : Records) (node : ℕ) → high t format.nodes_file ≡ high s format.nodes_file
+    → field 1 (rec_at t format.nodes_file node) format.kind ≡ field 1 (rec_at s format.nodes_file node) format.kind → IsDense s node → IsDense t node
 dense_by s t node marks byte dense =
-    let low : node < high s format.nodes_file = kind_below (high s format.nodes_file) (rec_at s format.nodes_file node) node (λ e. let k = sym e ∙ dense in absurd (omega arith)) in
-    kind_low (high t format.nodes_file) (rec_at t format.nodes_file node) node (subst (λ m. node < m) (sym marks) low) ∙ byte ∙ sym (kind_low (high s format.nodes_file) (rec_at s format.nodes_file node) node low) ∙ dense
+    let low : node < high s format.nodes_file = kind_below (high s format.nodes_file) (rec_at s format.nodes_file node) node
+    (λ e. let k = sym e ∙ dense in absurd (omega arith)) in
+    kind_low (high t format.nodes_file) (rec_at t format.nodes_file node) node (subst (λ m. node < m) (sym marks) low) ∙ byte
+    ∙ sym (kind_low (high s format.nodes_file) (rec_at s format.nodes_file node) node low) ∙ dense
 
 -- ---- a group that is made
 
 pub taken_other : (s : State) (key : Key) → key ≢ meta_key_of format.groups_file → (taken s format.groups_file).records key ≡ s.records key
 unfolding mark_taken free_taken
-taken_other s key ne = on_test (λ (q : State). q.records key ≡ s.records key) (meta_of s format.groups_file).free format.nil (mark_taken s format.groups_file) (free_taken s format.groups_file)
+taken_other s key ne = on_test (λ (q : State). q.records key ≡ s.records key) (meta_of s format.groups_file).free format.nil (mark_taken s format.groups_file)
+    (free_taken s format.groups_file)
     (λ _. put_other s.records (meta_key_of format.groups_file) _ key ne) (λ _. put_other s.records (meta_key_of format.groups_file) _ key ne)
 
 module _ (u : State) (node first id : ℕ) (rec : Rec) where
@@ -58,7 +62,8 @@ module _ (u : State) (node first id : ℕ) (rec : Rec) where
   unfolding led backed
   led_kind =
       let t = after_put u (group_key id) rec in
-      field-set_other (backed t first id).records (record { key = node_key node; field = format.node_first_link }) id (node_key node) 1 format.kind (omega arith) (λ _. inl (omega arith))
+      field-set_other (backed t first id).records (record { key = node_key node; field = format.node_first_link }) id (node_key node) 1 format.kind
+      (omega arith) (λ _. inl (omega arith))
       ∙ ap (λ r. field 1 r format.kind) (on_test (λ (q : State). q.records (node_key node) ≡ u.records (node_key node)) first format.nil t (after_set t (group_key first) 4 format.group_previous id) (λ _. put_node)
       (λ _. put_other t.records (group_key first) (with_field 4 (t.records (group_key first)) format.group_previous id) (node_key node) (no_group first) ∙ put_node))
 
@@ -78,7 +83,8 @@ dense_made s node label dense =
 
 -- ---- a relationship that comes into a group
 
-pub pushed_other : (s : State) (h : Head) (node rel : ℕ) (key : Key) → key.file ≢ format.relationships_file → key ≢ h.key → (pushed s h node rel).records key ≡ s.records key
+pub pushed_other : (s : State) (h : Head) (node rel : ℕ) (key : Key) → key.file ≢ format.relationships_file → key ≢ h.key
+    → (pushed s h node rel).records key ≡ s.records key
 unfolding pushed
 pushed_other s h node rel key file ne =
     let first = first_of s.records h in
@@ -87,13 +93,16 @@ pushed_other s h node rel key file ne =
     ∙ elsewhere-set_next b.records node rel first key file ∙ elsewhere-backed (after_get s) node first rel key file
 
 -- the node stays dense
-pub dense_moved : (m t end : State) (node rel : ℕ) (h : Head) → h.key.file ≡ format.groups_file → t ≡ links.prev_set m node rel format.nil → end ≡ tallied one_more (pushed t h node rel) h → IsDense m.records node → IsDense end.records node
+pub dense_moved : (m t end : State) (node rel : ℕ) (h : Head) → h.key.file ≡ format.groups_file → t ≡ links.prev_set m node rel format.nil
+    → end ≡ tallied one_more (pushed t h node rel) h → IsDense m.records node → IsDense end.records node
 dense_moved m t end node rel h group freed put dense =
-    dense_by m.records end.records node (ap (λ r. (metas.meta_of r).high) (other (meta_key_of format.nodes_file) (omega arith) (omega arith))) (ap (λ r. field 1 r format.kind) (other (node_key node) (omega arith) (omega arith))) dense
+    dense_by m.records end.records node (ap (λ r. (metas.meta_of r).high) (other (meta_key_of format.nodes_file) (omega arith) (omega arith)))
+    (ap (λ r. field 1 r format.kind) (other (node_key node) (omega arith) (omega arith))) dense
   where
     other : (key : Key) → key.file ≢ format.relationships_file → key.file ≢ format.groups_file → end.records key ≡ m.records key
     other key a b = ap (λ (q : State). q.records key) put ∙ file-tallied one_more (pushed t h node rel) h key b
-        ∙ pushed_other t h node rel key a (λ e. b (ap (λ (k : Key). k.file) e ∙ group)) ∙ ap (λ (q : State). q.records key) freed ∙ elsewhere-set_prev m.records node rel format.nil key a
+        ∙ pushed_other t h node rel key a (λ e. b (ap (λ (k : Key). k.file) e ∙ group)) ∙ ap (λ (q : State). q.records key) freed
+        ∙ elsewhere-set_prev m.records node rel format.nil key a
 
 -- ---- a node that becomes dense
 

@@ -31,18 +31,22 @@ member_told s node g Memory told = tt
 member_told s node g Disk told = tt
 member_told s node g (Damaged damage) told = BadMember damage told
 
-pub link_read : (s now : State) (link was : ℕ) (named damage : Damage) → now ≡ after_get s → link ≡ was → IsLinkDamage now link named damage → IsLinkDamage s was named damage
-link_read s now link was named damage read is told = subst (λ l. IsLinkDamage s l named damage) is (by damage (subst (λ (t : State). IsLinkDamage t link named damage) read told))
+pub link_read : (s now : State) (link was : ℕ) (named damage : Damage) → now ≡ after_get s → link ≡ was → IsLinkDamage now link named damage
+    → IsLinkDamage s was named damage
+link_read s now link was named damage read is told = subst (λ l. IsLinkDamage s l named damage) is
+    (by damage (subst (λ (t : State). IsLinkDamage t link named damage) read told))
   where
     by : (damage : Damage) → IsLinkDamage (after_get s) link named damage → IsLinkDamage s link named damage
     by damage (LeadsNowhere some high) = LeadsNowhere some high
     by damage (HighLink above) = HighLink above
 
 -- a number of the record that was read
-pub number_read : (records : Records) (g at number : ℕ) (rec : Rec) → rec ≡ rec_at records format.groups_file g → number ≡ field 4 rec at → number ≡ group_field records at g
+pub number_read : (records : Records) (g at number : ℕ) (rec : Rec) → rec ≡ rec_at records format.groups_file g → number ≡ field 4 rec at
+    → number ≡ group_field records at g
 number_read records g at number rec got is = is ∙ ap (λ r. field 4 r at) got
 
-pub filled_is : (records : Records) (g : ℕ) (rec : Rec) (test b : Bool) → rec ≡ rec_at records format.groups_file g → test ≡ is_filled rec → test ≡ b → is_filled (rec_at records format.groups_file g) ≡ b
+pub filled_is : (records : Records) (g : ℕ) (rec : Rec) (test b : Bool) → rec ≡ rec_at records format.groups_file g → test ≡ is_filled rec → test ≡ b
+    → is_filled (rec_at records format.groups_file g) ≡ b
 filled_is records g rec test b got is e = ap is_filled (sym got) ∙ sym is ∙ e
 
 pub same_one : (s now : State) → now ≡ after_get s → SameButReads s now
@@ -74,8 +78,10 @@ unfolding linked dropped
 dropped_is s now b f end node before after g read back is before_is after_is gave =
     gave ∙ ap (λ (t : State). given t format.groups_file g) (linked_is s now b f node before after g read back is before_is after_is)
 
-pub dropped_has : (s now b f end : State) (node before after g : ℕ) (free xs : List ℕ) → now ≡ after_get s → b ≡ backed now after before → f ≡ follows b node before after
-    → before ≡ previous_group s.records g → after ≡ next_group s.records g → (CanGive f format.groups_file g free → HasGiven f.records end.records format.groups_file g free)
+pub dropped_has : (s now b f end : State) (node before after g : ℕ) (free xs : List ℕ) → now ≡ after_get s → b ≡ backed now after before
+    → f ≡ follows b node before after
+    → before ≡ previous_group s.records g → after ≡ next_group s.records g
+    → (CanGive f format.groups_file g free → HasGiven f.records end.records format.groups_file g free)
     → CanDrop s node g free xs → HasDropped s.records end.records node g free xs
 dropped_has s now b f end node before after g free xs read back is before_is after_is gives can =
     let f_is = linked_is s now b f node before after g read back is before_is after_is in
@@ -94,17 +100,21 @@ is_undamaged s node g xs (Damaged damage) on told = by damage told
     by damage (HighMember above) = let mark = on.mark in omega arith
 
 -- a link to a member, or to none, is right
-right_link : (s now : State) (node g link : ℕ) (xs : List ℕ) → now ≡ after_get s → IsOnChain s node g xs → (link ≡ format.nil) ⊎ In link xs → IsRightLink now link
+right_link : (s now : State) (node g link : ℕ) (xs : List ℕ) → now ≡ after_get s → IsOnChain s node g xs → (link ≡ format.nil) ⊎ In link xs
+    → IsRightLink now link
 right_link s now node g link xs read on there = subst (λ (t : State). IsRightLink t link) (sym read) (record {
   low = ⊎_elim (λ none. inl none) (λ i. inr (group_below s.records node link (on.chain.only link i))) there;
   mark = on.mark;
 })
 
-pub right_previous : (s now : State) (node g link : ℕ) (xs : List ℕ) → now ≡ after_get s → link ≡ previous_group s.records g → IsOnChain s node g xs → IsRightLink now link
+pub right_previous : (s now : State) (node g link : ℕ) (xs : List ℕ) → now ≡ after_get s → link ≡ previous_group s.records g → IsOnChain s node g xs
+    → IsRightLink now link
 right_previous s now node g link xs read is on = right_link s now node g link xs read on (subst (λ l. (l ≡ format.nil) ⊎ In l xs) (sym is) (⊎_elim
-    (λ first. inl (first_before (next_group s.records) (previous_group s.records) format.nil (first_link s.records node) xs g on.chain.chain on.member first)) (λ i. inr i)
+    (λ first. inl (first_before (next_group s.records) (previous_group s.records) format.nil (first_link s.records node) xs g on.chain.chain on.member first))
+    (λ i. inr i)
     (before_in (next_group s.records) (previous_group s.records) format.nil (first_link s.records node) xs g on.chain.chain on.member)))
 
-pub right_next : (s now : State) (node g link : ℕ) (xs : List ℕ) → now ≡ after_get s → link ≡ next_group s.records g → IsOnChain s node g xs → IsRightLink now link
+pub right_next : (s now : State) (node g link : ℕ) (xs : List ℕ) → now ≡ after_get s → link ≡ next_group s.records g → IsOnChain s node g xs
+    → IsRightLink now link
 right_next s now node g link xs read is on = right_link s now node g link xs read on (subst (λ l. (l ≡ format.nil) ⊎ In l xs) (sym is)
     (after_in (next_group s.records) (first_link s.records node) xs g (walk_of_chain _ _ format.nil (first_link s.records node) xs on.chain.chain) on.member))

@@ -37,7 +37,8 @@ chain_linked records node g xs chain member = record {
 abbrev pub IsLoose : State → ℕ → ℕ → Fault → Type 0
 IsLoose s node g fault = IsAstrayFault (IsLinkedIn s.records node g → ⊥) g fault
 
-pub behind_loose : (s t : State) (node g before after : ℕ) (fault : Fault) → t ≡ after_get s → before ≡ previous_group s.records g → after ≡ next_group s.records g
+pub behind_loose : (s t : State) (node g before after : ℕ) (fault : Fault) → t ≡ after_get s → before ≡ previous_group s.records g
+    → after ≡ next_group s.records g
     → IsAstrayFault ((after ≢ format.nil) × (IsBehind t.records g before after → ⊥)) g fault → IsLoose s node g fault
 behind_loose s t node g before after Memory read b a told = tt
 behind_loose s t node g before after Disk read b a told = tt
@@ -61,7 +62,8 @@ lead_loose s t node g before (Damaged damage) same b told = (
 pub loose_told : (s : State) (node g : ℕ) (fault : Fault) → IsLoose s node g fault → IsDropFault s node g fault
 loose_told s node g Memory told = tt
 loose_told s node g Disk told = tt
-loose_told s node g (Damaged damage) told = subst (λ d. IsDropFault s node g (Damaged d)) (sym told.0) (Astray (λ xs chain i. told.1 (chain_linked s.records node g xs chain i)))
+loose_told s node g (Damaged damage) told = subst (λ d. IsDropFault s node g (Damaged d)) (sym told.0)
+    (Astray (λ xs chain i. told.1 (chain_linked s.records node g xs chain i)))
 
 pub loose_undamaged : (s : State) (node g : ℕ) (xs : List ℕ) (fault : Fault) → IsOnChain s node g xs → IsLoose s node g fault → IsUndamaged fault
 loose_undamaged s node g xs Memory on told = tt
@@ -78,14 +80,17 @@ unfolding seen
 same_seen t x = on_test (λ (z : State). SameButReads t z) x format.nil t (after_get t) (λ _. refl) (λ _. refl)
 
 pub same_three : (s t u v : State) (after : ℕ) → t ≡ after_get s → u ≡ seen t after → v ≡ after_get u → SameButReads s v
-same_three s t u v after first then last = same_then s u v (same_then s t u (same_one s t first) (subst (SameButReads t) (sym then) (same_seen t after))) (same_one u v last)
+same_three s t u v after first then last = same_then s u v (same_then s t u (same_one s t first) (subst (SameButReads t) (sym then) (same_seen t after)))
+    (same_one u v last)
 
 -- ---- what is written
-pub lead_writes : (s now b f : State) (after lead group meta : Key) → SameButReads s now → WritesOnly now b (after ∷ []) → WritesOnly b f (lead ∷ []) → WritesOnly s f (after ∷ lead ∷ group ∷ meta ∷ [])
+pub lead_writes : (s now b f : State) (after lead group meta : Key) → SameButReads s now → WritesOnly now b (after ∷ []) → WritesOnly b f (lead ∷ [])
+    → WritesOnly s f (after ∷ lead ∷ group ∷ meta ∷ [])
 lead_writes s now b f after lead group meta same one two =
     writes_then s f f (after ∷ lead ∷ []) (group ∷ meta ∷ []) (writes_then s b f (after ∷ []) (lead ∷ []) (writes_then s now b [] (after ∷ []) (same_writes s now [] same) one) two) (same_writes f f _ refl)
 
-pub all_writes : (s now b f end : State) (after lead group meta : Key) → SameButReads s now → WritesOnly now b (after ∷ []) → WritesOnly b f (lead ∷ []) → WritesOnly f end (group ∷ meta ∷ [])
+pub all_writes : (s now b f end : State) (after lead group meta : Key) → SameButReads s now → WritesOnly now b (after ∷ []) → WritesOnly b f (lead ∷ [])
+    → WritesOnly f end (group ∷ meta ∷ [])
     → WritesOnly s end (after ∷ lead ∷ group ∷ meta ∷ [])
 all_writes s now b f end after lead group meta same one two three =
     writes_then s f end (after ∷ lead ∷ []) (group ∷ meta ∷ []) (writes_then s b f (after ∷ []) (lead ∷ []) (writes_then s now b [] (after ∷ []) (same_writes s now [] same) one) two) three
@@ -98,7 +103,8 @@ back_is t x to r got = ⊎_elim
     (λ (e : (x ≢ format.nil) × (nat_eq x format.nil ≡ false)). rw e.1 (ap (λ q. after_put (after_get (after_get t)) (group_key x) (with_field 4 q format.group_previous to)) (got e.0)))
     (eq_cases x format.nil)
 
-led_is : (t : State) (node before after : ℕ) (r : Rec) → (before ≡ format.nil → r ≡ t.records (node_key node)) → (before ≢ format.nil → r ≡ t.records (group_key before))
+led_is : (t : State) (node before after : ℕ) (r : Rec) → (before ≡ format.nil → r ≡ t.records (node_key node))
+    → (before ≢ format.nil → r ≡ t.records (group_key before))
     → put_led (after_get t) node before after r ≡ follows t node before after
 unfolding put_led follows
 led_is t node before after r none some = ⊎_elim
@@ -115,18 +121,22 @@ no_node : (node x : ℕ) → node_key node ≢ group_key x
 no_node node x e = let f = ap (λ (k : Key). k.file) e in absurd cc
 
 -- the calls have read, tested and written these
-pub follows_is : (s1 s2 s3 s4 s5 : State) (node g before after : ℕ) (behind lead : Rec) → s2 ≡ seen s1 after → s3 ≡ after_get s2 → s4 ≡ put_back s3 after before behind → s5 ≡ put_led s4 node before after lead
-    → (after ≢ format.nil → behind ≡ s1.records (group_key after)) → (before ≡ format.nil → lead ≡ s2.records (node_key node)) → (before ≢ format.nil → lead ≡ s2.records (group_key before))
+pub follows_is : (s1 s2 s3 s4 s5 : State) (node g before after : ℕ) (behind lead : Rec) → s2 ≡ seen s1 after → s3 ≡ after_get s2
+    → s4 ≡ put_back s3 after before behind → s5 ≡ put_led s4 node before after lead
+    → (after ≢ format.nil → behind ≡ s1.records (group_key after)) → (before ≡ format.nil → lead ≡ s2.records (node_key node))
+    → (before ≢ format.nil → lead ≡ s2.records (group_key before))
     → (after ≢ format.nil → IsBehind s1.records g before after) → s5 ≡ follows (backed s1 after before) node before after
 follows_is s1 s2 s3 s4 s5 node g before after behind lead two three four five got_behind got_node got_before tested =
     let same : s2.records ≡ s1.records = ap (λ (z : State). z.records) two ∙ seen_records s1 after in
-    let e4 : s4 ≡ after_get (backed s1 after before) = four ∙ ap (λ (z : State). put_back z after before behind) (three ∙ ap after_get two) ∙ back_is s1 after before behind got_behind in
+    let e4 : s4 ≡ after_get (backed s1 after before) = four ∙ ap (λ (z : State). put_back z after before behind) (three ∙ ap after_get two)
+    ∙ back_is s1 after before behind got_behind in
     five ∙ ap (λ (z : State). put_led z node before after lead) e4
     ∙ led_is (backed s1 after before) node before after lead
     (λ none. got_node none ∙ ap (λ (r : Records). r (node_key node)) same ∙ sym (backed_other s1 after before (node_key node) (λ _. no_node node after)))
     (λ some. got_before some ∙ ap (λ (r : Records). r (group_key before)) same ∙ sym (backed_other s1 after before (group_key before) (λ there e. (tested there).apart (sym (ap (λ (k : Key). k.id) e)))))
 
-pub linked_is : (s s1 s2 : State) (node g before after : ℕ) → s1 ≡ after_get s → s2 ≡ seen s1 after → before ≡ previous_group s.records g → after ≡ next_group s.records g
+pub linked_is : (s s1 s2 : State) (node g before after : ℕ) → s1 ≡ after_get s → s2 ≡ seen s1 after → before ≡ previous_group s.records g
+    → after ≡ next_group s.records g
     → (after ≢ format.nil → IsBehind s1.records g before after) → leads_to s2.records node before ≡ g → IsLinkedIn s.records node g
 linked_is s s1 s2 node g before after one two b a behind led =
     let same_one : s1.records ≡ s.records = ap (λ (z : State). z.records) one in

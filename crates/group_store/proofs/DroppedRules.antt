@@ -1,5 +1,6 @@
 -- A store whose empty group is dropped keeps the rules, and its graph.
-use Rattle.std.proofs.Common.{◌≡◌, ◌≢◌, ◌⊎◌, ℕ, ◌+◌, ◌<◌, ◌≤◌, nat_eq, Bool, true, false, not, ◌&&◌, Option, None, Some, List, [], ◌∷◌, refl, sym, ap, ◌∙◌, subst, inl, inr, ⊎_elim, arith}
+use Rattle.std.proofs.Common.{◌≡◌, ◌≢◌, ◌⊎◌, ℕ, ◌+◌, ◌<◌, ◌≤◌, nat_eq, Bool, true, false, not, ◌&&◌, Option, None, Some}
+use Rattle.std.proofs.Common.{List, [], ◌∷◌, refl, sym, ap, ◌∙◌, subst, inl, inr, ⊎_elim, arith}
 use Rattle.std.proofs.lemmas.Bool.{eqb-true, true≢false}
 use Rattle.rec_bytes.specs.declared.key.Key.{Key}
 use Rattle.rec_bytes.specs.declared.record.Rec.{Rec}
@@ -12,8 +13,10 @@ use Rattle.rec_bytes.specs.Space.{State, after_get, after_set}
 use Rattle.rec_bytes.proofs.Spaces.{put_other}
 use Rattle.store_rules.specs.Chains.{In, IsChain, next_in, prev_in, without}
 use Rattle.store_rules.specs.Ends.{Regroups}
-use Rattle.store_rules.specs.Rules.{AreExact, HasGroup, HasGroups, Head, IsEnd, IsGrouped, IsInGroup, IsLinked, IsListed, IsSplit, KeepsRules, Owns, StandsAt, first_of, is_filled}
-use Rattle.store_rules.specs.Views.{GroupRow, RelRow, first_link, group_at, group_in, high, is_live, key_in, kind_at, kind_in, rec_at, rel_at, row_if, is_group_kind}
+use Rattle.store_rules.specs.Rules.{AreExact, HasGroup, HasGroups, Head, IsEnd, IsGrouped, IsInGroup, IsLinked}
+use Rattle.store_rules.specs.Rules.{IsListed, IsSplit, KeepsRules, Owns, StandsAt, first_of, is_filled}
+use Rattle.store_rules.specs.Views.{GroupRow, RelRow, first_link, group_at, group_in, high, is_live, key_in, kind_at}
+use Rattle.store_rules.specs.Views.{kind_in, rec_at, rel_at, row_if, is_group_kind}
 use Rattle.store_rules.proofs.Changes as ch
 use Rattle.store_rules.proofs.Frames.{kind_same}
 use Rattle.store_rules.proofs.GroupLaws.{IsFirstPlace}
@@ -49,9 +52,11 @@ use Rattle.group_store.proofs.Regrouping.{IsFrame, frame_both, frame_none}
 
 -- an empty group has no chain
 pub hollow_none : (r : Rec) → is_filled r ≡ false → (z : Side) → field 4 r (place_of z) ≡ format.nil
-hollow_none r hollow z = by z (nat_eq (field 4 r format.group_first_out) format.nil) (nat_eq (field 4 r format.group_first_in) format.nil) (nat_eq (field 4 r format.group_first_loop) format.nil) refl refl refl hollow
+hollow_none r hollow z = by z (nat_eq (field 4 r format.group_first_out) format.nil) (nat_eq (field 4 r format.group_first_in) format.nil)
+    (nat_eq (field 4 r format.group_first_loop) format.nil) refl refl refl hollow
   where
-    by : (z : Side) (a b c : Bool) → nat_eq (field 4 r format.group_first_out) format.nil ≡ a → nat_eq (field 4 r format.group_first_in) format.nil ≡ b → nat_eq (field 4 r format.group_first_loop) format.nil ≡ c
+    by : (z : Side) (a b c : Bool) → nat_eq (field 4 r format.group_first_out) format.nil ≡ a → nat_eq (field 4 r format.group_first_in) format.nil ≡ b
+        → nat_eq (field 4 r format.group_first_loop) format.nil ≡ c
         → not (a && (b && c)) ≡ false → field 4 r (place_of z) ≡ format.nil
     by Out true b c e f g h = eqb-true (field 4 r format.group_first_out) format.nil e
     by Out false b c e f g h = absurd (true≢false h)
@@ -63,7 +68,8 @@ hollow_none r hollow z = by z (nat_eq (field 4 r format.group_first_out) format.
     by Loop true false c e f g h = absurd (true≢false h)
     by Loop false b c e f g h = absurd (true≢false h)
 
-module _ (s : State) (node g most : ℕ) (empty : List ℕ) (well : KeepsRules s.records s.shape most (g ∷ empty)) (member : IsGroupOf s.records node g) (hollow : is_filled (rec_at s.records format.groups_file g) ≡ false) where
+module _ (s : State) (node g most : ℕ) (empty : List ℕ) (well : KeepsRules s.records s.shape most (g ∷ empty)) (member : IsGroupOf s.records node g)
+    (hollow : is_filled (rec_at s.records format.groups_file g) ≡ false) where
   t : State
   t = dropped s node g
 
@@ -71,7 +77,8 @@ module _ (s : State) (node g most : ℕ) (empty : List ℕ) (well : KeepsRules s
   there = row_of_group s.records node g member
 
   dense : kind_at s.records format.nodes_file node ≡ format.dense
-  dense = subst (λ m. kind_at s.records format.nodes_file m ≡ format.dense) member.owner (well.grouped.owned g (group_in (rec_at s.records format.groups_file g) g) there)
+  dense = subst (λ m. kind_at s.records format.nodes_file m ≡ format.dense) member.owner
+      (well.grouped.owned g (group_in (rec_at s.records format.groups_file g) g) there)
 
   xs : List ℕ
   xs = (well.grouped.each node dense).members
@@ -91,9 +98,11 @@ module _ (s : State) (node g most : ℕ) (empty : List ℕ) (well : KeepsRules s
   can = record { chain = chain; member = chain.all g member; list = split.walk; unused = λ x i. not_live (kind_at s.records format.groups_file x) (split.only x i) }
 
   small : g < format.most_ids
-  small = let a = group_below s.records node g member in let b = (well.ranges.metas format.groups_file refl).high in let c = room_most s.records s.shape format.groups_file well.ranges in omega arith
+  small = let a = group_below s.records node g member in let b = (well.ranges.metas format.groups_file refl).high in let c =
+      room_most s.records s.shape format.groups_file well.ranges in omega arith
 
-  gives : CanGive (d.linked s node (previous_group s.records g) (next_group s.records g)) format.groups_file g free → HasGiven (d.linked s node (previous_group s.records g) (next_group s.records g)).records t.records format.groups_file g free
+  gives : CanGive (d.linked s node (previous_group s.records g) (next_group s.records g)) format.groups_file g free
+      → HasGiven (d.linked s node (previous_group s.records g) (next_group s.records g)).records t.records format.groups_file g free
   unfolding t dropped d.linked
   gives could = has_given (d.linked s node (previous_group s.records g) (next_group s.records g)) format.groups_file g free refl small could
 
@@ -112,7 +121,8 @@ module _ (s : State) (node g most : ℕ) (empty : List ℕ) (well : KeepsRules s
 
   before_low : IsLow (high s.records format.groups_file) before
   unfolding before
-  before_low = ⊎_elim (λ (e : first_link s.records node ≡ g). inl (d.before_nil s t node g free xs can gives e)) (λ i. low_member before i) (d.before_member s t node g free xs can gives)
+  before_low = ⊎_elim (λ (e : first_link s.records node ≡ g). inl (d.before_nil s t node g free xs can gives e)) (λ i. low_member before i)
+      (d.before_member s t node g free xs can gives)
 
   after_low : IsLow (high s.records format.groups_file) after
   unfolding after
@@ -124,7 +134,8 @@ module _ (s : State) (node g most : ℕ) (empty : List ℕ) (well : KeepsRules s
 
   before_kind : before ≢ format.nil → is_group_kind (kind_at s.records format.groups_file before) ≡ true
   unfolding before
-  before_kind some = ⊎_elim (λ e. absurd (some (d.before_nil s t node g free xs can gives e))) (λ i. (chain.only before i).kind) (d.before_member s t node g free xs can gives)
+  before_kind some = ⊎_elim (λ e. absurd (some (d.before_nil s t node g free xs can gives e))) (λ i. (chain.only before i).kind)
+      (d.before_member s t node g free xs can gives)
 
   start : HasStepped s.records s.records s.shape node
   start = record { frame = frame_none s.records node; ranges = well.ranges; free = free; split = split }
@@ -135,18 +146,21 @@ module _ (s : State) (node g most : ℕ) (empty : List ℕ) (well : KeepsRules s
 
   backs : HasStepped s.records b.records s.shape node
   unfolding b backed after before
-  backs = on_test (λ (z : State). HasStepped s.records z.records s.shape node) after format.nil (after_get s) (link_set (after_get s) after format.group_previous before) (λ _. start)
+  backs = on_test (λ (z : State). HasStepped s.records z.records s.shape node) after format.nil (after_get s)
+      (link_set (after_get s) after format.group_previous before) (λ _. start)
       (λ some. steps.step_previous s.records s.records s.shape node start after before (after_kind some) before_low)
 
   b_kind : (x : ℕ) → kind_at b.records format.groups_file x ≡ kind_at s.records format.groups_file x
   unfolding b backed after before
-  b_kind x = on_test (λ (z : State). kind_at z.records format.groups_file x ≡ kind_at s.records format.groups_file x) after format.nil (after_get s) (link_set (after_get s) after format.group_previous before) (λ _. refl)
+  b_kind x = on_test (λ (z : State). kind_at z.records format.groups_file x ≡ kind_at s.records format.groups_file x) after format.nil (after_get s)
+      (link_set (after_get s) after format.group_previous before) (λ _. refl)
       (λ _. kind_by (high s.records format.groups_file) (rec_at (set_at s.records (steps.number_at format.groups_file after format.group_previous) before) format.groups_file x) (rec_at s.records format.groups_file x) x
       (field-set_other s.records (steps.number_at format.groups_file after format.group_previous) before (key_in format.groups_file x) 1 format.kind (omega arith) (λ _. inl (omega arith))))
 
   b_mark : (f : ℕ) → high b.records f ≡ high s.records f
   unfolding b backed after before
-  b_mark f = on_test (λ (z : State). high z.records f ≡ high s.records f) after format.nil (after_get s) (link_set (after_get s) after format.group_previous before) (λ _. refl)
+  b_mark f = on_test (λ (z : State). high z.records f ≡ high s.records f) after format.nil (after_get s)
+      (link_set (after_get s) after format.group_previous before) (λ _. refl)
       (λ _. ap (λ r. (metas.meta_of r).high) (put_other s.records (group_key after) (with_field 4 (s.records (group_key after)) format.group_previous before) (meta_key_of f) (λ e. let k = ap (λ (q : Key). q.file) e in omega arith)))
 
   b_dense : kind_at b.records format.nodes_file node ≡ format.dense
@@ -158,7 +172,8 @@ module _ (s : State) (node g most : ℕ) (empty : List ℕ) (well : KeepsRules s
 
   links : HasStepped s.records u.records s.shape node
   unfolding u follows
-  links = on_test (λ (z : State). HasStepped s.records z.records s.shape node) before format.nil (after_set b (node_key node) 4 format.node_first_link after) (link_set b before format.group_next after)
+  links = on_test (λ (z : State). HasStepped s.records z.records s.shape node) before format.nil (after_set b (node_key node) 4 format.node_first_link after)
+      (link_set b before format.group_next after)
       (λ _. steps.step_first s.records b.records s.shape node backs after b_dense (subst (λ m. IsLow m after) (sym (b_mark format.groups_file)) after_low))
       (λ some. steps.step_next s.records b.records s.shape node backs before after (ap is_group_kind (b_kind before) ∙ before_kind some) (subst (λ m. IsLow m after) (sym (b_mark format.groups_file)) after_low))
 
@@ -172,7 +187,8 @@ module _ (s : State) (node g most : ℕ) (empty : List ℕ) (well : KeepsRules s
   given_has = has_given u format.groups_file g links.free refl small (record { list = links.split.walk; fresh = not_free_id u.records format.groups_file g links.free links.split (group_used (kind_at u.records format.groups_file g) kind_u) })
 
   lost : IsGone u.records t.records s.shape format.groups_file g
-  lost = is_gone u.records t.records s.shape format.groups_file g links.free refl links.split (group_used (kind_at u.records format.groups_file g) kind_u) given_has (room_small s.records s.shape format.groups_file well.ranges) (links.ranges.metas format.groups_file refl)
+  lost = is_gone u.records t.records s.shape format.groups_file g links.free refl links.split (group_used (kind_at u.records format.groups_file g) kind_u)
+      given_has (room_small s.records s.shape format.groups_file well.ranges) (links.ranges.metas format.groups_file refl)
 
   lost_frame : IsFrame u.records t.records node
   lost_frame = record {
@@ -195,8 +211,10 @@ module _ (s : State) (node g most : ℕ) (empty : List ℕ) (well : KeepsRules s
   }
 
   -- ---- the groups
-  number : (h n at : ℕ) → at + n ≤ 64 → h ≢ g → ((at + n ≤ 12) ⊎ (20 ≤ at)) → field n (rec_at t.records format.groups_file h) at ≡ field n (rec_at s.records format.groups_file h) at
-  number h n at inside ne aside = d.number s t node g free xs can gives h n at inside ne (λ _. ⊎_elim (λ k. inl k) (λ k. inr (omega arith)) aside) (λ _. ⊎_elim (λ k. inl (omega arith)) (λ k. inr k) aside)
+  number : (h n at : ℕ) → at + n ≤ 64 → h ≢ g → ((at + n ≤ 12) ⊎ (20 ≤ at))
+      → field n (rec_at t.records format.groups_file h) at ≡ field n (rec_at s.records format.groups_file h) at
+  number h n at inside ne aside = d.number s t node g free xs can gives h n at inside ne (λ _. ⊎_elim (λ k. inl k) (λ k. inr (omega arith)) aside)
+      (λ _. ⊎_elim (λ k. inl (omega arith)) (λ k. inr k) aside)
 
   group_stays_at : (h : ℕ) → h ≢ g → group_at t.records h ≡ group_at s.records h
   group_stays_at h ne = λ i. row_if (d.kind_stays s t node g free xs can gives h ne i) (record {
@@ -212,10 +230,12 @@ module _ (s : State) (node g most : ℕ) (empty : List ℕ) (well : KeepsRules s
   not_g h row is e = absurd (let z : None ≡ Some row = sym is_none ∙ ap (group_at t.records) (sym e) ∙ is in cc)
 
   apart_file : (key : Key) → key.file ≢ format.groups_file → key ≢ meta_key_of format.groups_file → key ≢ node_key node → t.records key ≡ s.records key
-  apart_file key ne meta away = has.stays key meta away (λ e. ne (ap (λ (k : Key). k.file) e)) (λ e. ne (ap (λ (k : Key). k.file) e)) (λ e. ne (ap (λ (k : Key). k.file) e))
+  apart_file key ne meta away = has.stays key meta away (λ e. ne (ap (λ (k : Key). k.file) e)) (λ e. ne (ap (λ (k : Key). k.file) e))
+      (λ e. ne (ap (λ (k : Key). k.file) e))
 
   rels_stay : (x : ℕ) → rec_at t.records format.relationships_file x ≡ rec_at s.records format.relationships_file x
-  rels_stay x = apart_file (key_in format.relationships_file x) (λ e. let z : 2 ≡ 3 = e in omega arith) (λ e. let f = ap (λ (k : Key). k.file) e in absurd (omega arith)) (λ e. let f = ap (λ (k : Key). k.file) e in absurd (omega arith))
+  rels_stay x = apart_file (key_in format.relationships_file x) (λ e. let z : 2 ≡ 3 = e in omega arith)
+      (λ e. let f = ap (λ (k : Key). k.file) e in absurd (omega arith)) (λ e. let f = ap (λ (k : Key). k.file) e in absurd (omega arith))
 
   first_stays : (n : ℕ) → n ≢ node → first_link t.records n ≡ first_link s.records n
   first_stays n ne = ap (λ r. field 4 r format.node_first_link) (apart_file (key_in format.nodes_file n) (λ e. let z : 1 ≡ 3 = e in omega arith) (λ e. let f = ap (λ (k : Key). k.file) e in absurd (omega arith)) (λ e. ne (ap (λ (k : Key). k.id) e)))
@@ -224,20 +244,24 @@ module _ (s : State) (node g most : ℕ) (empty : List ℕ) (well : KeepsRules s
   abbrev rels : ℕ → Option RelRow
   rels = rel_at s.records
 
-  stands_again : (groups now : ℕ → Option GroupRow) (h : Head) (x : ℕ) → (h.key.file ≡ format.groups_file → now h.key.id ≡ groups h.key.id) → StandsAt rels groups h x → StandsAt rels now h x
+  stands_again : (groups now : ℕ → Option GroupRow) (h : Head) (x : ℕ) → (h.key.file ≡ format.groups_file → now h.key.id ≡ groups h.key.id)
+      → StandsAt rels groups h x → StandsAt rels now h x
   stands_again groups now h x same a = record {
     row = a.row;
     live = a.live;
     on = ⊎_elim (λ k. inl k) (λ (k : (h.key.file ≡ format.groups_file) × IsInGroup groups h a.row). inr (k.0, record { row = k.1.row; group = same k.0 ∙ k.1.group; label = k.1.label; side = k.1.side })) a.on;
   }
 
-  listed_old : (h : Head) (n : ℕ) → Owns (kind_at s.records format.nodes_file) (group_at s.records) h n → first_of t.records h ≡ first_of s.records h → (h.key.file ≡ format.groups_file → h.key.id ≢ g)
+  listed_old : (h : Head) (n : ℕ) → Owns (kind_at s.records format.nodes_file) (group_at s.records) h n → first_of t.records h ≡ first_of s.records h
+      → (h.key.file ≡ format.groups_file → h.key.id ≢ g)
       → IsListed t.records h n (StandsAt rels (group_at t.records) h)
-  listed_old h n o first_is ne = listed_again s.records t.records h n (StandsAt rels (group_at s.records) h) (StandsAt rels (group_at t.records) h) rels_stay first_is
+  listed_old h n o first_is ne = listed_again s.records t.records h n (StandsAt rels (group_at s.records) h) (StandsAt rels (group_at t.records) h) rels_stay
+      first_is
       (λ x. stands_again (group_at s.records) (group_at t.records) h x (λ f. group_stays_at h.key.id (ne f)))
       (λ x. stands_again (group_at t.records) (group_at s.records) h x (λ f. sym (group_stays_at h.key.id (ne f)))) (well.linked.listed.each h n o)
 
-  listed : (h : Head) (n : ℕ) → Owns (kind_at t.records format.nodes_file) (group_at t.records) h n → IsListed t.records h n (StandsAt rels (group_at t.records) h)
+  listed : (h : Head) (n : ℕ) → Owns (kind_at t.records format.nodes_file) (group_at t.records) h n
+      → IsListed t.records h n (StandsAt rels (group_at t.records) h)
   listed h n (inl o) =
       let was = fr.sparse_was s.records t.records node stepped.frame n o.sparse in
       let ne : n ≢ node = λ e. let z = sym was ∙ ap (kind_at s.records format.nodes_file) e ∙ dense in omega arith in
@@ -248,21 +272,25 @@ module _ (s : State) (node g most : ℕ) (empty : List ℕ) (well : KeepsRules s
       listed_old h n (inr (record { dense = fr.dense_was s.records t.records node stepped.frame dense n o.dense; row = o.row; group = sym (group_stays_at o.row.id ne) ∙ o.group; owner = o.owner; key = o.key; field = o.field }))
       (ap (λ (k : Key). field 4 (t.records k) h.field) o.key ∙ first_same o.row.id h.field ne o.field ∙ ap (λ (k : Key). field 4 (s.records k) h.field) (sym o.key)) (λ _ e. ne (sym (ap (λ (k : Key). k.id) o.key) ∙ e))
     where
-      first_same : (k at : ℕ) → k ≢ g → IsFirstPlace at → field 4 (rec_at t.records format.groups_file k) at ≡ field 4 (rec_at s.records format.groups_file k) at
+      first_same : (k at : ℕ) → k ≢ g → IsFirstPlace at → field 4 (rec_at t.records format.groups_file k) at ≡ field 4 (rec_at s.records format.groups_file k)
+          at
       first_same k at ne place = number k 4 at within.0 ne (inr within.1)
         where
           within : (at + 4 ≤ 64) × (20 ≤ at)
-          within = ⊎_elim (λ (e : at ≡ 20). (omega arith, omega arith)) (λ j. ⊎_elim (λ (e : at ≡ 24). (omega arith, omega arith)) (λ (e : at ≡ 28). (omega arith, omega arith)) j) place
+          within = ⊎_elim (λ (e : at ≡ 20). (omega arith, omega arith))
+              (λ j. ⊎_elim (λ (e : at ≡ 24). (omega arith, omega arith)) (λ (e : at ≡ 28). (omega arith, omega arith)) j) place
 
   -- no relationship has the group's type, since it would stand in one of its chains
-  none_typed : (x : ℕ) (row : RelRow) → rel_at s.records x ≡ Some row → IsEnd node row → row.label ≢ field 4 (rec_at s.records format.groups_file g) format.group_type
+  none_typed : (x : ℕ) (row : RelRow) → rel_at s.records x ≡ Some row → IsEnd node row
+      → row.label ≢ field 4 (rec_at s.records format.groups_file g) format.group_type
   none_typed x row live end typed =
       let side = side_at node row.from row.to in
       let head = at_group s.records s.shape well node g row.label side row member (sym typed) (record { end = end; typed = refl; aside = refl }) in
       let l = well.linked.listed.each (group_head g side) node head.owns in
       some l.members l.chain (hollow_none (rec_at s.records format.groups_file g) hollow side) (l.all x (record { row = row; live = live; on = head.on }))
     where
-      some : (ms : List ℕ) → IsChain (λ y. next_in (rec_at s.records format.relationships_file y) node) (λ y. prev_in (rec_at s.records format.relationships_file y) node) format.nil (first_of s.records (group_head g (side_at node row.from row.to))) ms
+      some : (ms : List ℕ) → IsChain (λ y. next_in (rec_at s.records format.relationships_file y) node)
+          (λ y. prev_in (rec_at s.records format.relationships_file y) node) format.nil (first_of s.records (group_head g (side_at node row.from row.to))) ms
           → field 4 (rec_at s.records format.groups_file g) (place_of (side_at node row.from row.to)) ≡ format.nil → ¬ In x ms
       some [] c none i = elim i [ ]
       some (y ∷ ys) c none i = c.1 (sym c.0 ∙ none)
@@ -278,7 +306,8 @@ module _ (s : State) (node g most : ℕ) (empty : List ℕ) (well : KeepsRules s
       kept : (x n : ℕ) (q : RelRow) → rel_at s.records x ≡ Some q → IsEnd n q → (k : HasGroup (group_at s.records) n q.label) → k.row.id ≢ g
       kept x n q e end k is =
           let row = some_row (kind_at s.records format.groups_file k.row.id) (group_in (rec_at s.records format.groups_file k.row.id) k.row.id) k.row k.group in
-          let at_g : n ≡ node = sym k.owner ∙ sym (ap (λ (r : GroupRow). r.owner) row.1) ∙ ap (λ z. field 4 (rec_at s.records format.groups_file z) format.group_owner) is ∙ member.owner in
+          let at_g : n ≡ node = sym k.owner ∙ sym (ap (λ (r : GroupRow). r.owner) row.1)
+          ∙ ap (λ z. field 4 (rec_at s.records format.groups_file z) format.group_owner) is ∙ member.owner in
           none_typed x q e (subst (λ z. IsEnd z q) at_g end) (sym k.label ∙ sym (ap (λ (r : GroupRow). r.label) row.1) ∙ ap (λ z. field 4 (rec_at s.records format.groups_file z) format.group_type) is)
 
   -- ---- the fourth
@@ -289,7 +318,8 @@ module _ (s : State) (node g most : ℕ) (empty : List ℕ) (well : KeepsRules s
       let c = number h 4 28 (omega arith) ne (inr (omega arith)) in
       λ i. not (nat_eq (a i) format.nil && (nat_eq (b i) format.nil && nat_eq (c i) format.nil))
 
-  still : (n h : ℕ) (old : HasGroups (first_link s.records n) n (rec_at s.records format.groups_file) (group_at s.records) (g ∷ empty)) → h ≢ g → In h old.members → (is_filled (rec_at t.records format.groups_file h) ≡ true) ⊎ In h empty
+  still : (n h : ℕ) (old : HasGroups (first_link s.records n) n (rec_at s.records format.groups_file) (group_at s.records) (g ∷ empty)) → h ≢ g
+      → In h old.members → (is_filled (rec_at t.records format.groups_file h) ≡ true) ⊎ In h empty
   still n h old ne i = ⊎_elim (λ f. inl (filled_stays h ne ∙ f)) (λ j. ⊎_elim (λ e. absurd (ne e)) (λ k. inr k) j) (old.filled h i)
 
   grouped_now : IsGrouped (kind_at t.records format.nodes_file) (first_link t.records) (rec_at t.records format.groups_file) (group_at t.records) empty
@@ -310,9 +340,11 @@ module _ (s : State) (node g most : ℕ) (empty : List ℕ) (well : KeepsRules s
       none_left : (h : ℕ) → IsGroupOf t.records node h → h ≢ g
       none_left h is e = group_used (kind_at t.records format.groups_file h) is.kind (ap (kind_at t.records format.groups_file) e ∙ has.gone)
 
-  exact_now : AreExact (kind_at t.records format.groups_file) (rec_at t.records format.groups_file) (group_at t.records) (rel_at t.records) (high t.records format.relationships_file)
+  exact_now : AreExact (kind_at t.records format.groups_file) (rec_at t.records format.groups_file) (group_at t.records) (rel_at t.records)
+      (high t.records format.relationships_file)
   exact_now h q is kind = let ne = not_g h q is in
-      counts_by (rec_at s.records format.groups_file h) (rec_at t.records format.groups_file h) q (rel_at s.records) (rel_at t.records) (high s.records format.relationships_file) (high t.records format.relationships_file)
+      counts_by (rec_at s.records format.groups_file h) (rec_at t.records format.groups_file h) q (rel_at s.records) (rel_at t.records)
+      (high s.records format.relationships_file) (high t.records format.relationships_file)
       (λ at within. number h 4 at (let b = within.1 in omega arith) ne (inr (let b = within.0 in omega arith)))
       (fr.rels_same s.records t.records node stepped.frame) (fr.mark_same s.records t.records node stepped.frame format.relationships_file (λ e. omega arith))
       (well.exact h q (sym (group_stays_at h ne) ∙ is) (sym (d.kind_stays s t node g free xs can gives h ne) ∙ kind))
@@ -328,7 +360,8 @@ module _ (s : State) (node g most : ℕ) (empty : List ℕ) (well : KeepsRules s
         ranges = o.ranges;
         split = o.split;
         kept = o.kept;
-        linked = subst (λ (r : ℕ → Option RelRow). IsLinked t.records (kind_at t.records format.nodes_file) r (group_at t.records)) (sym (fr.rels_same s.records t.records node stepped.frame)) linked_now;
+        linked = subst (λ (r : ℕ → Option RelRow). IsLinked t.records (kind_at t.records format.nodes_file) r (group_at t.records))
+            (sym (fr.rels_same s.records t.records node stepped.frame)) linked_now;
         grouped = grouped_now;
         exact = exact_now;
         properties = o.properties;
@@ -338,7 +371,8 @@ module _ (s : State) (node g most : ℕ) (empty : List ℕ) (well : KeepsRules s
         degrees = o.degrees;
       }
 
-  pub dropped_rules : (z : State) → z ≡ dropped s node g → z.shape ≡ s.shape → KeepsRules z.records z.shape most empty × Regroups s z node × (kind_at z.records format.nodes_file node ≡ kind_at s.records format.nodes_file node)
+  pub dropped_rules : (z : State) → z ≡ dropped s node g → z.shape ≡ s.shape → KeepsRules z.records z.shape most empty × Regroups s z node
+      × (kind_at z.records format.nodes_file node ≡ kind_at s.records format.nodes_file node)
       × ((h : ℕ) (row : GroupRow) → group_at s.records h ≡ Some row → row.owner ≢ node → kind_at z.records format.groups_file h ≡ kind_at s.records format.groups_file h)
   unfolding t
   dropped_rules z is shape = (

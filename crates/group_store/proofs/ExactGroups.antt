@@ -1,5 +1,6 @@
 -- The numbers of counted groups, while relationships of a node come into its groups.
-use Rattle.std.proofs.Common.{◌≡◌, ◌≢◌, ℕ, ◌+◌, ◌<◌, ◌≤◌, ◌^◌, Bool, true, false, cond, Option, Some, List, ◌∷◌, sym, ap, ◌∙◌, subst, inl, inr, ⊎_elim, arith, refl}
+use Rattle.std.proofs.Common.{◌≡◌, ◌≢◌, ℕ, ◌+◌, ◌<◌, ◌≤◌, ◌^◌, Bool, true, false, cond, Option, Some, List, ◌∷◌, sym}
+use Rattle.std.proofs.Common.{ap, ◌∙◌, subst, inl, inr, ⊎_elim, arith, refl}
 use Rattle.rec_bytes.specs.declared.record.Rec.{Rec}
 use Rattle.rec_bytes.specs.Format as format
 use Rattle.rec_bytes.specs.Record.{field, with_field}
@@ -31,16 +32,19 @@ count_small : (test : RelRow → Bool) (rels : ℕ → Option RelRow) (mark : �
 count_small test rels mark = length-ids (λ x. passes test (rels x)) mark
 
 -- a number of an exact group is no more than there are relationships
-pub side_small : (at : ℕ) (r : Rec) (group : GroupRow) (row : RelRow) (rels : ℕ → Option RelRow) (mark : ℕ) → IsSide at group row → HasCounts r group rels mark → (field 4 r (at + 12) ≤ mark) × IsCountPlace (at + 12) × (count_place at ≡ at + 12)
+pub side_small : (at : ℕ) (r : Rec) (group : GroupRow) (row : RelRow) (rels : ℕ → Option RelRow) (mark : ℕ) → IsSide at group row → HasCounts r group rels mark
+    → (field 4 r (at + 12) ≤ mark) × IsCountPlace (at + 12) × (count_place at ≡ at + 12)
 side_small at r group row rels mark (inl k) h = subst Is (sym k.0) ((let c = count_small (is_out_of group) rels mark in let e = h.out in omega arith), inl refl, refl)
   where
     Is : ℕ → Type 0
     Is a = (field 4 r (a + 12) ≤ mark) × IsCountPlace (a + 12) × (count_place a ≡ a + 12)
-side_small at r group row rels mark (inr (inl k)) h = subst Is (sym k.0) ((let c = count_small (is_into group) rels mark in let e = h.into in omega arith), inr (inl refl), refl)
+side_small at r group row rels mark (inr (inl k)) h = subst Is (sym k.0)
+    ((let c = count_small (is_into group) rels mark in let e = h.into in omega arith), inr (inl refl), refl)
   where
     Is : ℕ → Type 0
     Is a = (field 4 r (a + 12) ≤ mark) × IsCountPlace (a + 12) × (count_place a ≡ a + 12)
-side_small at r group row rels mark (inr (inr k)) h = subst Is (sym k.0) ((let c = count_small (is_loop_of group) rels mark in let e = h.loops in omega arith), inr (inr refl), refl)
+side_small at r group row rels mark (inr (inr k)) h = subst Is (sym k.0)
+    ((let c = count_small (is_loop_of group) rels mark in let e = h.loops in omega arith), inr (inr refl), refl)
   where
     Is : ℕ → Type 0
     Is a = (field 4 r (a + 12) ≤ mark) × IsCountPlace (a + 12) × (count_place a ≡ a + 12)
@@ -48,8 +52,10 @@ side_small at r group row rels mark (inr (inr k)) h = subst Is (sym k.0) ((let c
 pub one_more_is : (n : ℕ) → n < 2 ^ 26 → one_more n ≡ n + 1
 one_more_is n lt = omega arith
 
-module _ (u : State) (node rel g at : ℕ) (row : RelRow) (rest : List ℕ) (most : ℕ) (empty : List ℕ) (keeps : KeepsBut u.records u.shape node rest most empty) (dense : kind_at u.records format.nodes_file node ≡ format.dense)
-    (live : rel_at u.records rel ≡ Some row) (group : group_at u.records g ≡ Some (record { id = g; label = row.label; owner = node })) (out : ¬ In rel rest) (side : IsSide at (record { id = g; label = row.label; owner = node }) row)
+module _ (u : State) (node rel g at : ℕ) (row : RelRow) (rest : List ℕ) (most : ℕ) (empty : List ℕ) (keeps : KeepsBut u.records u.shape node rest most empty)
+    (dense : kind_at u.records format.nodes_file node ≡ format.dense)
+    (live : rel_at u.records rel ≡ Some row) (group : group_at u.records g ≡ Some (record { id = g; label = row.label; owner = node })) (out : ¬ In rel rest)
+    (side : IsSide at (record { id = g; label = row.label; owner = node }) row)
     (exact : AreExactBut u.records node (rel ∷ rest)) (counted : HasCountedGroups u.records node) where
   abbrev pub head : Head
   head = record { key = group_key g; field = at }
@@ -79,7 +85,8 @@ module _ (u : State) (node rel g at : ℕ) (row : RelRow) (rest : List ℕ) (mos
   byte_g = sym (kind_low (high u.records format.groups_file) r g below_g) ∙ kind_g
 
   below : rel < mark
-  below = kind_below mark (rec_at u.records format.relationships_file rel) rel (some_row (kind_at u.records format.relationships_file rel) (rel_in (rec_at u.records format.relationships_file rel) rel) row live).0
+  below = kind_below mark (rec_at u.records format.relationships_file rel) rel
+      (some_row (kind_at u.records format.relationships_file rel) (rel_in (rec_at u.records format.relationships_file rel) rel) row live).0
 
   old_counts : HasCounts r group_row (left_out (rel ∷ rest) rels) mark
   old_counts = subst (λ (q : ℕ → Option RelRow). HasCounts r group_row q mark) (counted_here node node (rel ∷ rest) rels refl) (exact g group_row group kind_g)
@@ -108,7 +115,8 @@ module _ (u : State) (node rel g at : ℕ) (row : RelRow) (rest : List ℕ) (mos
   now_is = ap (put u.records (group_key g)) (recount (is_counted r) (eq_true _ _ byte_g)
       ∙ (λ i. with_field 4 r (of_side.2 i) (one_more (field 4 r (of_side.2 i)))) ∙ ap (with_field 4 r (at + 12)) (one_more_is (field 4 r (at + 12)) low))
     where
-      recount : (b : Bool) → b ≡ true → cond b (with_field 4 r (count_place at) (one_more (field 4 r (count_place at)))) r ≡ with_field 4 r (count_place at) (one_more (field 4 r (count_place at)))
+      recount : (b : Bool) → b ≡ true → cond b (with_field 4 r (count_place at) (one_more (field 4 r (count_place at)))) r ≡ with_field 4 r (count_place at)
+          (one_more (field 4 r (count_place at)))
       recount true e = refl
       recount false e = absurd cc
 
@@ -122,7 +130,8 @@ module _ (u : State) (node rel g at : ℕ) (row : RelRow) (rest : List ℕ) (mos
 
   same : (place : ℕ) → (4 ≤ place) × (place + 4 ≤ 32) → field 4 rec place ≡ field 4 r place
   unfolding rec
-  same place inside = field-with_field_other 4 r (at + 12) v 4 place (let a = inside.1 in omega arith) (inr (let a = inside.1 in let b = within.0 in omega arith))
+  same place inside = field-with_field_other 4 r (at + 12) v 4 place (let a = inside.1 in omega arith)
+      (inr (let a = inside.1 in let b = within.0 in omega arith))
 
   fits : Fits (high u.records) format.groups_file rec
   unfolding rec
@@ -149,8 +158,10 @@ module _ (u : State) (node rel g at : ℕ) (row : RelRow) (rest : List ℕ) (mos
   same_row a b e = cc
 
   -- the numbers of a group of the node
-  more : (q : GroupRow) (new old : Rec) → HasOneMore old new q row → HasCounts old q (left_out (rel ∷ rest) rels) mark → HasCounts new q (left_out rest rels) mark
-  more q new old one h = counts_more q row (left_out (rel ∷ rest) rels) (left_out rest rels) mark mark rel (left_in rel rest rels) (left_not rel rest rels out ∙ live) (λ x ne. left_more x rel rest rels ne) below (inl refl) old new one h
+  more : (q : GroupRow) (new old : Rec) → HasOneMore old new q row → HasCounts old q (left_out (rel ∷ rest) rels) mark
+      → HasCounts new q (left_out rest rels) mark
+  more q new old one h = counts_more q row (left_out (rel ∷ rest) rels) (left_out rest rels) mark mark rel (left_in rel rest rels)
+      (left_not rel rest rels out ∙ live) (λ x ne. left_more x rel rest rels ne) below (inl refl) old new one h
 
   counts_here : HasCounts rec group_row (left_out rest rels) mark
   unfolding rec v
@@ -165,14 +176,16 @@ module _ (u : State) (node rel g at : ℕ) (row : RelRow) (rest : List ℕ) (mos
       (subst (λ (z : Rec). HasCounts z group_row (left_out rest rels) mark) (sym (ap (rec_at t format.groups_file) e ∙ puts.here u.records u.shape node g rec used (ap is_group_kind kind_now) same fits)) counts_here)))
       (λ (ne : k ≢ g).
       let was = exact k q (sym (group_t k) ∙ is) (sym (kind_t k) ∙ kind) in
-      let rec_is : rec_at t format.groups_file k ≡ rec_at u.records format.groups_file k = puts.other u.records u.shape node g rec used (ap is_group_kind kind_now) same fits k ne in
+      let rec_is : rec_at t format.groups_file k ≡ rec_at u.records format.groups_file k =
+      puts.other u.records u.shape node g rec used (ap is_group_kind kind_now) same fits k ne in
       subst (λ (z : Rec). HasCounts z q (counted_rels node rest rels q.owner) mark) (sym rec_is) (⊎_elim
       (λ (own : q.owner ≡ node).
       subst (λ (f : ℕ → Option RelRow). HasCounts (rec_at u.records format.groups_file k) q f mark) (sym (counted_here node q.owner rest rels own))
       (more q (rec_at u.records format.groups_file k) (rec_at u.records format.groups_file k) (counts_untyped (rec_at u.records format.groups_file k) (rec_at u.records format.groups_file k) q row (λ place inside. refl) (untyped k q ne (sym (group_t k) ∙ is) own))
       (subst (λ (f : ℕ → Option RelRow). HasCounts (rec_at u.records format.groups_file k) q f mark) (counted_here node q.owner (rel ∷ rest) rels own) was)))
       (λ (else : q.owner ≢ node).
-      subst (λ (f : ℕ → Option RelRow). HasCounts (rec_at u.records format.groups_file k) q f mark) (counted_other node q.owner (rel ∷ rest) rels else ∙ sym (counted_other node q.owner rest rels else)) was)
+      subst (λ (f : ℕ → Option RelRow). HasCounts (rec_at u.records format.groups_file k) q f mark)
+      (counted_other node q.owner (rel ∷ rest) rels else ∙ sym (counted_other node q.owner rest rels else)) was)
       (nat_cases q.owner node))) (nat_cases k g)
     where
       untyped : (k : ℕ) (q : GroupRow) → k ≢ g → group_at u.records k ≡ Some q → q.owner ≡ node → row.label ≢ q.label
@@ -184,7 +197,8 @@ module _ (u : State) (node rel g at : ℕ) (row : RelRow) (rest : List ℕ) (mos
 
   -- ---- all of it
   pub tally_keeps : KeepsBut now.records now.shape node rest most empty
-  tally_keeps = subst (λ (z : Records). KeepsBut z now.shape node rest most empty) (sym now_is) (subst (λ z. KeepsBut t z node rest most empty) (sym shape_is) keeps_t)
+  tally_keeps = subst (λ (z : Records). KeepsBut z now.shape node rest most empty) (sym now_is)
+      (subst (λ z. KeepsBut t z node rest most empty) (sym shape_is) keeps_t)
 
   pub tally_exact : AreExactBut now.records node rest
   tally_exact = subst (λ (z : Records). AreExactBut z node rest) (sym now_is) exact_t

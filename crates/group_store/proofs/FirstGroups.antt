@@ -1,5 +1,6 @@
 -- The first link of a node that was loaded, and what follows from it.
-use Rattle.std.proofs.Common.{◌≡◌, inr, ℕ, ◌+◌, ◌<◌, ◌≤◌, Bool, true, false, cond, List, length, Option, None, Some, Result, Ok, Err, IfOk, IfErr, refl, sym, ap, ◌∙◌, subst, arith}
+use Rattle.std.proofs.Common.{◌≡◌, inr, ℕ, ◌+◌, ◌<◌, ◌≤◌, Bool, true, false, cond, List, length, Option, None, Some}
+use Rattle.std.proofs.Common.{Result, Ok, Err, IfOk, IfErr, refl, sym, ap, ◌∙◌, subst, arith}
 use Rattle.std.specs.Prelude.{◌↔◌, IfSome, ◌&&◌, nat_lt}
 use Rattle.rec_bytes.specs.declared.damage.Damage.{Damage}
 use Rattle.rec_bytes.specs.declared.row_fault.RowFault.{RowFault}
@@ -69,7 +70,8 @@ node_fault s node (row.Damaged damage) told = told
 
 -- ---- a search from the first link on, told by the space as it was
 
-pub walkable_then : (s now : State) (node first : ℕ) (xs : List ℕ) → ReadsAtMost 1 s now → first ≡ first_link s.records node → IsWalkable s node (first_link s.records node) xs → IsWalkable now node first xs
+pub walkable_then : (s now : State) (node first : ℕ) (xs : List ℕ) → ReadsAtMost 1 s now → first ≡ first_link s.records node
+    → IsWalkable s node (first_link s.records node) xs → IsWalkable now node first xs
 walkable_then s now node first xs reads is can =
     let mark = mark_then s now reads.count reads.is in
     let room = room_then s now reads.count reads.is in
@@ -79,10 +81,12 @@ walkable_then s now node first xs reads is can =
       list = subst (λ z. IsGroupList now.records node z xs) (sym is) (subst (λ (r : Records). IsGroupList r node (first_link s.records node) xs) (sym (records_then s now reads.count reads.is)) can.list);
     }
 
-pub reads_then : (s now end : State) (label : ℕ) (xs : List ℕ) → ReadsAtMost 1 s now → ReadsAtMost (length (up_to_type now.records label xs)) now end → ReadsAtMost (1 + length (up_to_type s.records label xs)) s end
+pub reads_then : (s now end : State) (label : ℕ) (xs : List ℕ) → ReadsAtMost 1 s now → ReadsAtMost (length (up_to_type now.records label xs)) now end
+    → ReadsAtMost (1 + length (up_to_type s.records label xs)) s end
 reads_then s now end label xs reads more =
     let within = reads.within in
-    let same : length (up_to_type now.records label xs) ≡ length (up_to_type s.records label xs) = ap (λ (r : Records). length (up_to_type r label xs)) (records_then s now reads.count reads.is) in
+    let same : length (up_to_type now.records label xs) ≡ length (up_to_type s.records label xs) =
+    ap (λ (r : Records). length (up_to_type r label xs)) (records_then s now reads.count reads.is) in
     reads_more s now end reads.count (length (up_to_type now.records label xs)) (1 + length (up_to_type s.records label xs)) (omega arith) reads.is more
 
 pub all_reads_then : (s now end : State) → ReadsAtMost 1 s now → ReadsAtMost (group_mark now) now end → ReadsAtMost (1 + group_mark s) s end
@@ -95,11 +99,13 @@ pub reads_fewer : (s now : State) (m n : ℕ) → m ≤ n → ReadsAtMost m s no
 reads_fewer s now m n le reads = let within = reads.within in record { count = reads.count; within = omega arith; is = reads.is }
 
 pub reached_then : (s now : State) (node first : ℕ) (r : Result (Option GroupRow) Fault) → ReadsAtMost 1 s now → first ≡ first_link s.records node
-    → IfOk r (λ found. IfSome found (λ row. IsReached now.records first row.id)) → IfOk r (λ found. IfSome found (λ row. IsReached s.records (first_link s.records node) row.id))
+    → IfOk r (λ found. IfSome found (λ row. IsReached now.records first row.id))
+    → IfOk r (λ found. IfSome found (λ row. IsReached s.records (first_link s.records node) row.id))
 reached_then s now node first r reads is told = subst (λ f. IfOk r (λ found. IfSome found (λ row. IsReached s.records f row.id))) is
     (subst (λ (q : Records). IfOk r (λ found. IfSome found (λ row. IsReached q first row.id))) (records_then s now reads.count reads.is) told)
 
-pub found_then : (s now : State) (node first label : ℕ) (r : Result (Option GroupRow) Fault) → ReadsAtMost 1 s now → IsDense s.records node → first ≡ first_link s.records node
+pub found_then : (s now : State) (node first label : ℕ) (r : Result (Option GroupRow) Fault) → ReadsAtMost 1 s now → IsDense s.records node
+    → first ≡ first_link s.records node
     → IfOk r (IsSought now.records node first label) → IfOk r (IsFound s.records node label)
 found_then s now node first label (Err fault) reads dense is found = tt
 found_then s now node first label (Ok found) reads dense is sought = by found (subst (λ z. IsSought s.records node z label found) is

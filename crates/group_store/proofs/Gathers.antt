@@ -1,5 +1,6 @@
 -- A relationship that comes into its group, by what the node has alone.
-use Rattle.std.proofs.Common.{◌≡◌, ◌≢◌, ◌⊎◌, ℕ, ◌+◌, ◌<◌, ◌≤◌, ◌^◌, nat_eq, true, cond, Some, List, ◌∷◌, length, sym, ap, ◌∙◌, subst, inl, inr, ⊎_elim, arith, refl}
+use Rattle.std.proofs.Common.{◌≡◌, ◌≢◌, ◌⊎◌, ℕ, ◌+◌, ◌<◌, ◌≤◌, ◌^◌, nat_eq, true, cond, Some, List, ◌∷◌, length, sym}
+use Rattle.std.proofs.Common.{ap, ◌∙◌, subst, inl, inr, ⊎_elim, arith, refl}
 use Rattle.rec_bytes.specs.declared.key.Key.{Key}
 use Rattle.rec_bytes.specs.declared.meta.Meta.{Meta}
 use Rattle.rec_bytes.specs.declared.shape.Shape.{Shape}
@@ -23,7 +24,8 @@ use Rattle.chain_edit.specs.Chains.{IsChainAt, IsChainFrom, next_of, prev_of, pr
 use Rattle.chain_edit.specs.Heads.{IsPlace}
 use Rattle.chain_edit.specs.Links.{prev_set}
 use Rattle.chain_edit.specs.Pushing.{HasPushed, pushed}
-use Rattle.chain_edit.proofs.LinkLaws.{elsewhere-set_prev, field-set_other, next_of-set_prev, place-set_prev, place_high, prev_of-set_prev_other, prev_of-set_prev_same}
+use Rattle.chain_edit.proofs.LinkLaws.{elsewhere-set_prev, field-set_other, next_of-set_prev, place-set_prev}
+use Rattle.chain_edit.proofs.LinkLaws.{place_high, prev_of-set_prev_other, prev_of-set_prev_same}
 use Rattle.chain_edit.proofs.Pushes.{has_pushed}
 use Rattle.id_freelist.specs.Taking.{IsCounted, room}
 use Rattle.group_store.specs.declared.side.Side.{Side}
@@ -50,7 +52,8 @@ beside_high s t node file b ne = ap (λ r. (metas.meta_of r).high) (b.others (me
 
 pub beside_kind : (s t : Records) (node x : ℕ) → LeavesBeside s t node → kind_at t format.relationships_file x ≡ kind_at s format.relationships_file x
 beside_kind s t node x b = ap (λ m. kind_in m (rec_at t format.relationships_file x) x) (beside_high s t node format.relationships_file b (λ e. omega arith))
-    ∙ kind_by (high s format.relationships_file) (rec_at t format.relationships_file x) (rec_at s format.relationships_file x) x (b.rels x 1 format.kind (omega arith) (inl (omega arith)))
+    ∙ kind_by (high s format.relationships_file) (rec_at t format.relationships_file x) (rec_at s format.relationships_file x) x
+    (b.rels x 1 format.kind (omega arith) (inl (omega arith)))
 
 pub beside_rels : (s t : Records) (node : ℕ) → LeavesBeside s t node → (x : ℕ) → rel_at t x ≡ rel_at s x
 beside_rels s t node b x =
@@ -67,16 +70,19 @@ inner : (a b : RelRow) → Some a ≡ Some b → a ≡ b
 inner a b e = cc
 
 -- a member of a type and side has no other
-pub one_place : (records : Records) (node label other : ℕ) (side aside : Side) (x : ℕ) → IsMember records node label side x → IsMember records node other aside x → (label ≡ other) × (side ≡ aside)
+pub one_place : (records : Records) (node label other : ℕ) (side aside : Side) (x : ℕ) → IsMember records node label side x
+    → IsMember records node other aside x → (label ≡ other) × (side ≡ aside)
 one_place records node label other side aside x a b =
     let same = inner a.row b.row (sym a.live ∙ b.live) in
     (sym a.at.typed ∙ ap (λ (r : RelRow). r.label) same ∙ b.at.typed, a.at.aside ∙ ap (λ (r : RelRow). side_at node r.from r.to) same ∙ sym b.at.aside)
 
-pub member_again : (s t : Records) (node label other : ℕ) (side : Side) (x : ℕ) → rel_at t x ≡ rel_at s x → label ≡ other → IsMember s node label side x → IsMember t node other side x
+pub member_again : (s t : Records) (node label other : ℕ) (side : Side) (x : ℕ) → rel_at t x ≡ rel_at s x → label ≡ other → IsMember s node label side x
+    → IsMember t node other side x
 member_again s t node label other side x same typed a = record { row = a.row; live = same ∙ a.live; at = subst (λ l. IsAt node l side a.row) typed a.at }
 
 -- it stands at the head of its group
-pub member_stands : (records : Records) (node g : ℕ) (side : Side) (x : ℕ) → IsGroupOf records node g → IsMember records node (type_of records g) side x → StandsAt (rel_at records) (group_at records) (group_head g side) x
+pub member_stands : (records : Records) (node g : ℕ) (side : Side) (x : ℕ) → IsGroupOf records node g → IsMember records node (type_of records g) side x
+    → StandsAt (rel_at records) (group_at records) (group_head g side) x
 member_stands records node g side x is a = record {
   row = a.row;
   live = a.live;
@@ -85,8 +91,10 @@ member_stands records node g side x is a = record {
 }
 
 -- one side of a group, from its chain
-pub side_by : (records : Records) (node : ℕ) (came : List ℕ) (g : ℕ) (side : Side) (members : List ℕ) → IsGroupOf records node g → IsChainAt records (group_head g side) node members
-    → ((x : ℕ) → In x members → In x came × IsMember records node (type_of records g) side x) → ((x : ℕ) → In x came → IsMember records node (type_of records g) side x → In x members)
+pub side_by : (records : Records) (node : ℕ) (came : List ℕ) (g : ℕ) (side : Side) (members : List ℕ) → IsGroupOf records node g
+    → IsChainAt records (group_head g side) node members
+    → ((x : ℕ) → In x members → In x came × IsMember records node (type_of records g) side x)
+    → ((x : ℕ) → In x came → IsMember records node (type_of records g) side x → In x members)
     → field 4 (rec_at records format.groups_file g) (count_place (sides.place_of side)) ≡ length members → HasSide records node came g side
 side_by records node came g side members is chain are all count = record {
   members = members;
@@ -127,7 +135,8 @@ side_head g Loop = record { elsewhere = λ e. omega arith; whole = refl; fits = 
 -- ---- a relationship that comes into its group
 
 module _ (m : State) (node rel g : ℕ) (row : RelRow) (groups came : List ℕ) (chain : IsGroupChain m.records node groups) (here : In g groups)
-    (counted : (k : ℕ) → In k groups → kind_at m.records format.groups_file k ≡ format.counted) (all_sides : (k : ℕ) → In k groups → (side : Side) → HasSide m.records node came k side)
+    (counted : (k : ℕ) → In k groups → kind_at m.records format.groups_file k ≡ format.counted)
+    (all_sides : (k : ℕ) → In k groups → (side : Side) → HasSide m.records node came k side)
     (live : rel_at m.records rel ≡ Some row) (end : IsEnd node row) (typed : row.label ≡ type_of m.records g) (out : ¬ In rel came) (small : rel < 2 ^ 25) where
   abbrev side : Side
   side = side_at node row.from row.to
@@ -160,7 +169,8 @@ module _ (m : State) (node rel g : ℕ) (row : RelRow) (groups came : List ℕ) 
   not_in k i s j = out ((all_sides k i s).are rel j).0
 
   chain_was : (k : ℕ) (i : In k groups) (s : Side) → IsChainAt t.records (group_head k s) node (all_sides k i s).members
-  chain_was k i s = subst (λ f. IsChainFrom t.records node f (all_sides k i s).members) (sym (first_t k s)) (chain_t (first_of m.records (group_head k s)) (all_sides k i s).members (not_in k i s) (all_sides k i s).list.chain)
+  chain_was k i s = subst (λ f. IsChainFrom t.records node f (all_sides k i s).members) (sym (first_t k s))
+      (chain_t (first_of m.records (group_head k s)) (all_sides k i s).members (not_in k i s) (all_sides k i s).list.chain)
 
   -- it is pushed
   unfoldable xs : List ℕ
@@ -176,19 +186,22 @@ module _ (m : State) (node rel g : ℕ) (row : RelRow) (groups came : List ℕ) 
       (record { chain = own_chain; new = not_in g here side; alone = prev_of-set_prev_same m.records node rel format.nil (omega arith) })
 
   -- numbers of other files' records, and of groups
-  other : (key : Key) (n at : ℕ) → key.file ≢ format.relationships_file → key.file ≢ format.groups_file → at + n ≤ 64 → field n (e.records key) at ≡ field n (m.records key) at
+  other : (key : Key) (n at : ℕ) → key.file ≢ format.relationships_file → key.file ≢ format.groups_file → at + n ≤ 64
+      → field n (e.records key) at ≡ field n (m.records key) at
   other key n at no_rel no_group inside = ap (λ r. field n r at) (file-tallied one_more p head key no_group)
       ∙ pushes.only.same key n at inside ((λ q. absurd (no_rel (ap (λ (k : Key). k.file) q))), ((λ q. absurd (no_rel (ap (λ (k : Key). k.file) q))), ((λ q. absurd (no_group (ap (λ (k : Key). k.file) q))), tt)))
       ∙ ap (λ r. field n r at) (elsewhere-set_prev m.records node rel format.nil key no_rel)
 
-  number_p : (k n at : ℕ) → at + n ≤ 64 → (k ≡ g → (at + n ≤ sides.place_of side) ⊎ (sides.place_of side + 4 ≤ at)) → field n (rec_at p.records format.groups_file k) at ≡ field n (rec_at m.records format.groups_file k) at
+  number_p : (k n at : ℕ) → at + n ≤ 64 → (k ≡ g → (at + n ≤ sides.place_of side) ⊎ (sides.place_of side + 4 ≤ at))
+      → field n (rec_at p.records format.groups_file k) at ≡ field n (rec_at m.records format.groups_file k) at
   number_p k n at inside aside = pushes.only.same (key_in format.groups_file k) n at inside
       ((λ q. let f = ap (λ (z : Key). z.file) q in absurd (omega arith)), ((λ q. let f = ap (λ (z : Key). z.file) q in absurd (omega arith)), ((λ q. aside (ap (λ (z : Key). z.id) q)), tt)))
       ∙ ap (λ r. field n r at) (group_t k)
 
   number : (k n at : ℕ) → at + n ≤ 64 → (k ≡ g → ((at + n ≤ sides.place_of side) ⊎ (sides.place_of side + 4 ≤ at)) × ((at + n ≤ count_place (sides.place_of side)) ⊎ (count_place (sides.place_of side) + 4 ≤ at)))
       → field n (rec_at e.records format.groups_file k) at ≡ field n (rec_at m.records format.groups_file k) at
-  number k n at inside aside = apart-tallied one_more p head (key_in format.groups_file k) n at inside (λ q. (aside (ap (λ (z : Key). z.id) q)).1) ∙ number_p k n at inside (λ q. (aside q).0)
+  number k n at inside aside = apart-tallied one_more p head (key_in format.groups_file k) n at inside (λ q. (aside (ap (λ (z : Key). z.id) q)).1)
+      ∙ number_p k n at inside (λ q. (aside q).0)
 
   pub number_low : (k n at : ℕ) → at + n ≤ 20 → field n (rec_at e.records format.groups_file k) at ≡ field n (rec_at m.records format.groups_file k) at
   number_low k n at low = number k n at (omega arith) (λ _. let a = (place_range side).0 in let b = (count_high (sides.place_of side)).0 in (inl (omega arith), inl (omega arith)))
@@ -201,7 +214,8 @@ module _ (m : State) (node rel g : ℕ) (row : RelRow) (groups came : List ℕ) 
 
   pub kind_e : (k : ℕ) → kind_at e.records format.groups_file k ≡ kind_at m.records format.groups_file k
   kind_e k = ap (λ (q : Meta). kind_in q.high (rec_at e.records format.groups_file k) k) meta_e
-      ∙ kind_by (high m.records format.groups_file) (rec_at e.records format.groups_file k) (rec_at m.records format.groups_file k) k (number_low k 1 format.kind (omega arith))
+      ∙ kind_by (high m.records format.groups_file) (rec_at e.records format.groups_file k) (rec_at m.records format.groups_file k) k
+      (number_low k 1 format.kind (omega arith))
 
   pub type_e : (k : ℕ) → type_of e.records k ≡ type_of m.records k
   type_e k = number_low k 4 format.group_type (omega arith)
@@ -214,7 +228,8 @@ module _ (m : State) (node rel g : ℕ) (row : RelRow) (groups came : List ℕ) 
 
   pub chain_e : IsGroupChain e.records node groups
   chain_e = record {
-    chain = subst (λ f. IsChain (next_group e.records) (previous_group e.records) format.nil f groups) (sym (other (key_in format.nodes_file node) 4 format.node_first_link (λ q. omega arith) (λ q. omega arith) (omega arith)))
+    chain = subst (λ f. IsChain (next_group e.records) (previous_group e.records) format.nil f groups)
+        (sym (other (key_in format.nodes_file node) 4 format.node_first_link (λ q. omega arith) (λ q. omega arith) (omega arith)))
         (chain_stays (next_group m.records) (previous_group m.records) (next_group e.records) (previous_group e.records) format.nil (first_link m.records node) groups
         (λ k i. number_low k 4 format.group_next (omega arith)) (λ k i. number_low k 4 format.group_previous (omega arith)) chain.chain);
     only = λ k i. owned_e k (chain.only k i);
@@ -245,13 +260,16 @@ module _ (m : State) (node rel g : ℕ) (row : RelRow) (groups came : List ℕ) 
   rel_member_e = member_e g side rel rel_member
 
   below : (x : ℕ) (a : RelRow) → rel_at m.records x ≡ Some a → x < high m.records format.relationships_file
-  below x a is = kind_below (high m.records format.relationships_file) (rec_at m.records format.relationships_file x) x (some_row (kind_at m.records format.relationships_file x) (rel_in (rec_at m.records format.relationships_file x) x) a is).0
+  below x a is = kind_below (high m.records format.relationships_file) (rec_at m.records format.relationships_file x) x
+      (some_row (kind_at m.records format.relationships_file x) (rel_in (rec_at m.records format.relationships_file x) x) a is).0
 
   -- the chain of its side
   chain_pe : (from : ℕ) (ys : List ℕ) → IsChainFrom p.records node from ys → IsChainFrom e.records node from ys
   chain_pe from ys c =
-      let same : (x : ℕ) → rec_at e.records format.relationships_file x ≡ rec_at p.records format.relationships_file x = λ x. file-tallied one_more p head (key_in format.relationships_file x) (λ q. omega arith) in
-      chain_stays (next_of p.records node) (prev_of p.records node) (next_of e.records node) (prev_of e.records node) format.nil from ys (λ x i. ap (λ r. next_in r node) (same x)) (λ x i. ap (λ r. prev_in r node) (same x)) c
+      let same : (x : ℕ) → rec_at e.records format.relationships_file x ≡ rec_at p.records format.relationships_file x = λ x.
+      file-tallied one_more p head (key_in format.relationships_file x) (λ q. omega arith) in
+      chain_stays (next_of p.records node) (prev_of p.records node) (next_of e.records node) (prev_of e.records node) format.nil from ys
+      (λ x i. ap (λ r. next_in r node) (same x)) (λ x i. ap (λ r. prev_in r node) (same x)) c
 
   first_pe : (k : ℕ) (s : Side) → first_of e.records (group_head k s) ≡ first_of p.records (group_head k s)
   first_pe k s = field-tallied one_more p head (group_key k) 4 (sides.place_of s) (let b = (place_range s).1 in omega arith)
@@ -280,7 +298,8 @@ module _ (m : State) (node rel g : ℕ) (row : RelRow) (groups came : List ℕ) 
   unfolding xs
   own_count =
       let was : field 4 (rec_at p.records format.groups_file g) (count_place (sides.place_of side)) ≡ length (all_sides g here side).members
-      = number_p g 4 (count_place (sides.place_of side)) (let b = (count_high (sides.place_of side)).1 in omega arith) (λ _. inr (let c = count_is side in omega arith)) ∙ (all_sides g here side).count in
+      = number_p g 4 (count_place (sides.place_of side)) (let b = (count_high (sides.place_of side)).1 in omega arith)
+      (λ _. inr (let c = count_is side in omega arith)) ∙ (all_sides g here side).count in
       let b : length xs + 1 < 2 ^ 32 = few in
       let more : one_more (length (all_sides g here side).members) ≡ length (rel ∷ (all_sides g here side).members) = omega arith in
       count-tallied one_more p head refl counted_p (subst (λ v. one_more v < 2 ^ 32) (sym was) (omega arith)) ∙ ap one_more was ∙ more
@@ -308,7 +327,8 @@ module _ (m : State) (node rel g : ℕ) (row : RelRow) (groups came : List ℕ) 
 
     other_chain : IsChainAt e.records (group_head k s) node ys
     unfolding ys xs
-    other_chain = subst (λ f. IsChainFrom e.records node f (all_sides k i s).members) (sym (first_pe k s ∙ other_first)) (chain_pe (first_of t.records (group_head k s)) (all_sides k i s).members
+    other_chain = subst (λ f. IsChainFrom e.records node f (all_sides k i s).members) (sym (first_pe k s ∙ other_first))
+        (chain_pe (first_of t.records (group_head k s)) (all_sides k i s).members
         (pushes.others node (first_of t.records (group_head k s)) (all_sides k i s).members (chain_was k i s)
         (λ x j l. absurd (⊎_elim (λ q. not_in k i s (subst (λ z. In z (all_sides k i s).members) q j)) (λ n. not_both x ((all_sides k i s).are x j).1 (xs_are x n).1) l))))
 
@@ -317,7 +337,8 @@ module _ (m : State) (node rel g : ℕ) (row : RelRow) (groups came : List ℕ) 
     other_count = number k 4 (count_place (sides.place_of s)) (let b = (count_high (sides.place_of s)).1 in omega arith)
         (λ same. let a = count_is s in let b = count_is side in let c = (place_range side).1 in let d = (place_range s).0 in (
           inr (omega arith),
-          ⊎_elim (λ (l : sides.place_of s + 4 ≤ sides.place_of side). inl (omega arith)) (λ (l : sides.place_of side + 4 ≤ sides.place_of s). inr (omega arith)) (apart_places same),
+          ⊎_elim (λ (l : sides.place_of s + 4 ≤ sides.place_of side). inl (omega arith)) (λ (l : sides.place_of side + 4 ≤ sides.place_of s). inr (omega arith))
+              (apart_places same),
         )) ∙ (all_sides k i s).count
 
     pub other_side : HasSide e.records node (rel ∷ came) k s
@@ -336,18 +357,21 @@ module _ (m : State) (node rel g : ℕ) (row : RelRow) (groups came : List ℕ) 
   -- what stood first at its head came there
   pub first_known : (first_of t.records head ≡ format.nil) ⊎ In (first_of t.records head) came
   unfolding xs
-  first_known = ⊎_elim (λ none. inl none) (λ i. inr (xs_are (first_of t.records head) i).0) (first_in (next_of t.records node) (first_of t.records head) xs (walk_of_chain _ _ format.nil (first_of t.records head) xs own_chain))
+  first_known = ⊎_elim (λ none. inl none) (λ i. inr (xs_are (first_of t.records head) i).0)
+      (first_in (next_of t.records node) (first_of t.records head) xs (walk_of_chain _ _ format.nil (first_of t.records head) xs own_chain))
 
   -- a relationship that isn't there has the next one that it had
   pub next_e : (y : ℕ) → y ≢ rel → ¬ In y came → y ≢ format.nil → next_of e.records node y ≡ next_of m.records node y
   next_e y not_rel not_came some =
-      let same : rec_at e.records format.relationships_file y ≡ rec_at p.records format.relationships_file y = file-tallied one_more p head (key_in format.relationships_file y) (λ q. omega arith) in
+      let same : rec_at e.records format.relationships_file y ≡ rec_at p.records format.relationships_file y =
+      file-tallied one_more p head (key_in format.relationships_file y) (λ q. omega arith) in
       let low : (n at : ℕ) → at + n ≤ 64 → field n (rec_at p.records format.relationships_file y) at ≡ field n (rec_at t.records format.relationships_file y) at
       = λ n at inside. pushes.only.same (key_in format.relationships_file y) n at inside
       ((λ q. absurd (not_first (ap (λ (k : Key). k.id) q))), ((λ q. absurd (not_rel (ap (λ (k : Key). k.id) q))), ((λ q. let f = ap (λ (k : Key). k.file) q in absurd (omega arith)), tt))) in
       ap (λ r. next_in r node) same
       ∙ ap (λ v. field 4 (rec_at p.records format.relationships_file y) (cond (nat_eq v node) 16 24 + 4)) (low 4 8 (omega arith))
-      ∙ low 4 (place_of (rec_at t.records format.relationships_file y) node + 4) (let b = place_high (rec_at t.records format.relationships_file y) node in omega arith)
+      ∙ low 4 (place_of (rec_at t.records format.relationships_file y) node + 4)
+      (let b = place_high (rec_at t.records format.relationships_file y) node in omega arith)
       ∙ next_of-set_prev m.records node rel format.nil node y
     where
       not_first : y ≢ first_of t.records head
@@ -360,14 +384,16 @@ module _ (m : State) (node rel g : ℕ) (row : RelRow) (groups came : List ℕ) 
         rels_pe x n at
         ∙ pushes.only.same (key_in format.relationships_file x) n at inside
         ((λ q. absurd (⊎_elim (λ none. some (ap (λ (k : Key). k.id) q ∙ none)) (λ i. absent (inr (subst (λ z. In z came) (sym (ap (λ (k : Key). k.id) q)) i))) first_known)), ((λ q. absurd (absent (inl (ap (λ (k : Key). k.id) q)))), ((λ q. let f = ap (λ (k : Key). k.file) q in absurd (omega arith)), tt)))
-        ∙ field-set_other m.records (prev_place m.records node rel) format.nil (key_in format.relationships_file x) n at inside (λ q. absurd (absent (inl (ap (λ (k : Key). k.id) q))));
+        ∙ field-set_other m.records (prev_place m.records node rel) format.nil (key_in format.relationships_file x) n at inside
+        (λ q. absurd (absent (inl (ap (λ (k : Key). k.id) q))));
     links = λ x n at inside beside.
         rels_pe x n at
         ∙ pushes.only.same (key_in format.relationships_file x) n at inside (
           (λ q. near (first_of t.records head) (place_of (rec_at t.records format.relationships_file (first_of t.records head)) node) x n at (let z = place_same (first_of t.records head) in (omega arith, omega arith)) (ap (λ (k : Key). k.id) q) beside),
           ((λ q. near rel (place_of (rec_at t.records format.relationships_file rel) node + 4) x n at (let z = place_same rel in (omega arith, omega arith)) (ap (λ (k : Key). k.id) q) beside), ((λ q. let f = ap (λ (k : Key). k.file) q in absurd (omega arith)), tt)),
         )
-        ∙ field-set_other m.records (prev_place m.records node rel) format.nil (key_in format.relationships_file x) n at inside (λ q. near rel (place_of (rec_at m.records format.relationships_file rel) node) x n at (omega arith, omega arith) (ap (λ (k : Key). k.id) q) beside);
+        ∙ field-set_other m.records (prev_place m.records node rel) format.nil (key_in format.relationships_file x) n at inside
+        (λ q. near rel (place_of (rec_at m.records format.relationships_file rel) node) x n at (omega arith, omega arith) (ap (λ (k : Key). k.id) q) beside);
     groups_stay = λ k n at some absent inside. number k n at inside (λ q. absurd (absent (subst (λ z. In z groups) (sym q) here)));
   }
     where
@@ -377,11 +403,15 @@ module _ (m : State) (node rel g : ℕ) (row : RelRow) (groups came : List ℕ) 
       place_same : (y : ℕ) → place_of (rec_at t.records format.relationships_file y) node ≡ place_of (rec_at m.records format.relationships_file y) node
       place_same y = place-set_prev m.records node rel format.nil node y
 
-      near : (y f x n at : ℕ) → (place_of (rec_at m.records format.relationships_file y) node ≤ f) × (f + 4 ≤ place_of (rec_at m.records format.relationships_file y) node + 8) → x ≡ y
-          → (at + n ≤ place_of (rec_at m.records format.relationships_file x) node) ⊎ (place_of (rec_at m.records format.relationships_file x) node + 8 ≤ at) → (at + n ≤ f) ⊎ (f + 4 ≤ at)
+      near : (y f x n at : ℕ) → (place_of (rec_at m.records format.relationships_file y) node ≤ f)
+          × (f + 4 ≤ place_of (rec_at m.records format.relationships_file y) node + 8) → x ≡ y
+          → (at + n ≤ place_of (rec_at m.records format.relationships_file x) node) ⊎ (place_of (rec_at m.records format.relationships_file x) node + 8 ≤ at)
+          → (at + n ≤ f) ⊎ (f + 4 ≤ at)
       near y f x n at within same beside =
-          let here : place_of (rec_at m.records format.relationships_file x) node ≡ place_of (rec_at m.records format.relationships_file y) node = ap (λ z. place_of (rec_at m.records format.relationships_file z) node) same in
-          ⊎_elim (λ (low : at + n ≤ place_of (rec_at m.records format.relationships_file x) node). inl (omega arith)) (λ (high : place_of (rec_at m.records format.relationships_file x) node + 8 ≤ at). inr (omega arith)) beside
+          let here : place_of (rec_at m.records format.relationships_file x) node ≡ place_of (rec_at m.records format.relationships_file y) node =
+          ap (λ z. place_of (rec_at m.records format.relationships_file z) node) same in
+          ⊎_elim (λ (low : at + n ≤ place_of (rec_at m.records format.relationships_file x) node). inl (omega arith))
+          (λ (high : place_of (rec_at m.records format.relationships_file x) node + 8 ≤ at). inr (omega arith)) beside
 
   -- free identifiers
   pub shape_e : e.shape ≡ m.shape
@@ -400,7 +430,8 @@ module _ (m : State) (node rel g : ℕ) (row : RelRow) (groups came : List ℕ) 
               (walk_stays (next_free m.records format.groups_file) (next_free e.records format.groups_file) (meta_in m.records format.groups_file).free free (λ x i. number_low x 4 format.free_next (omega arith)) can.take.list);
           low = λ x i. let lt = can.take.low x i in omega arith;
           unused = λ x i. kind_e x ∙ can.take.unused x i;
-          count = subst (λ n. IsCounted free n (high e.records format.groups_file)) (sym live_is) (subst (IsCounted free (meta_of m format.groups_file).live) (sym mark) can.take.count);
+          count = subst (λ n. IsCounted free n (high e.records format.groups_file)) (sym live_is)
+              (subst (IsCounted free (meta_of m format.groups_file).live) (sym mark) can.take.count);
           mark = omega arith;
         };
         exact = omega arith;

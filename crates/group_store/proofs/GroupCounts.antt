@@ -1,5 +1,6 @@
 -- A store has no more groups than ends of relationships, besides those that are empty.
-use Rattle.std.proofs.Common.{◌≡◌, ◌≢◌, ◌⊎◌, ℕ, ◌+◌, ◌*◌, ◌≤◌, nat_eq, Bool, true, false, cond, List, [], ◌∷◌, ◌++◌, length, Some, refl, sym, ap, ◌∙◌, subst, inl, inr, ⊎_elim, arith}
+use Rattle.std.proofs.Common.{◌≡◌, ◌≢◌, ◌⊎◌, ℕ, ◌+◌, ◌*◌, ◌≤◌, nat_eq, Bool, true, false, cond, List, [], ◌∷◌, ◌++◌}
+use Rattle.std.proofs.Common.{length, Some, refl, sym, ap, ◌∙◌, subst, inl, inr, ⊎_elim, arith}
 use Rattle.std.proofs.lemmas.List.{length-append}
 use Rattle.rec_bytes.specs.declared.key.Key.{Key}
 use Rattle.rec_bytes.specs.declared.shape.Shape.{Shape}
@@ -28,7 +29,8 @@ length-without e (x ∷ xs) i = ⊎_elim
     (λ (ne : e ≢ x). rw (eq_false e x ne) (let l = length-without e xs (⊎_elim (λ k. absurd (ne k)) (λ k. k) i) in omega arith)) (nat_cases e x)
 
 -- each of the first has one of the second, and no two have the same
-pub fewer : (R : ℕ → ℕ → Type 0) (gs es : List ℕ) → AreOnce gs → ((g : ℕ) → In g gs → (e : ℕ) × In e es × R g e) → ((g k e : ℕ) → R g e → R k e → g ≡ k) → length gs ≤ length es
+pub fewer : (R : ℕ → ℕ → Type 0) (gs es : List ℕ) → AreOnce gs → ((g : ℕ) → In g gs → (e : ℕ) × In e es × R g e) → ((g k e : ℕ) → R g e → R k e → g ≡ k)
+    → length gs ≤ length es
 fewer R [] es once has apart = omega arith
 fewer R (g ∷ gs) es once has apart =
     let mine = has g (inl refl) in
@@ -143,7 +145,8 @@ module _ (s : Records) (shape : Shape) (node : ℕ) (rest : List ℕ) (most : �
       let at = filled_chain (rec_at s format.groups_file g) full in
       let id = group_id s g group is in
       let h : Head = record { key = key_in format.groups_file g; field = at.0 } in
-      let o : GroupHead (kind_at s format.nodes_file) (group_at s) h group.owner = record { dense = dense; row = group; group = ap (group_at s) id ∙ is; owner = refl; key = ap (key_in format.groups_file) (sym id); field = at.1 } in
+      let o : GroupHead (kind_at s format.nodes_file) (group_at s) h group.owner =
+      record { dense = dense; row = group; group = ap (group_at s) id ∙ is; owner = refl; key = ap (key_in format.groups_file) (sym id); field = at.1 } in
       let l = well.linked.listed.each h group.owner (inr o) in
       inl (some h refl l.members l.chain at.2 l.only)) (λ k. inr k) (has.filled g (has.all g group is refl))
     where
@@ -164,7 +167,8 @@ module _ (s : Records) (shape : Shape) (node : ℕ) (rest : List ℕ) (most : �
           }) b.stands.on
 
       some : (h : Head) → h.key ≡ key_in format.groups_file g → (xs : List ℕ)
-          → IsChain (λ x. next_in (rec_at s format.relationships_file x) group.owner) (λ x. prev_in (rec_at s format.relationships_file x) group.owner) format.nil (first_of s h) xs
+          → IsChain (λ x. next_in (rec_at s format.relationships_file x) group.owner) (λ x. prev_in (rec_at s format.relationships_file x) group.owner)
+          format.nil (first_of s h) xs
           → first_of s h ≢ format.nil → ((x : ℕ) → In x xs → StandsBut (rel_at s) (group_at s) node rest h x) → (x : ℕ) × Fills g x
       some h key [] c ne only = absurd (ne c)
       some h key (x ∷ xs) c ne only = (x, fills h key x (only x (inl refl)))
@@ -183,7 +187,8 @@ module _ (s : Records) (shape : Shape) (node : ℕ) (rest : List ℕ) (most : �
   unfolding rels
   rel_in_rels x row live =
       let k = some_row (kind_at s format.relationships_file x) (rel_in (rec_at s format.relationships_file x) x) row live in
-      in_ids (is_live s format.relationships_file) (high s format.relationships_file) x (kind_below (high s format.relationships_file) (rec_at s format.relationships_file x) x k.0) (live_true (kind_at s format.relationships_file x) k.0)
+      in_ids (is_live s format.relationships_file) (high s format.relationships_file) x
+      (kind_below (high s format.relationships_file) (rec_at s format.relationships_file x) x k.0) (live_true (kind_at s format.relationships_file x) k.0)
 
   in_codes : (x from n : ℕ) → In x rels → In (end_code x from n) codes
   unfolding codes
@@ -197,10 +202,12 @@ module _ (s : Records) (shape : Shape) (node : ℕ) (rest : List ℕ) (most : �
   unfolding groups codes
   takes g i =
       let k = ids_in (is_live s format.groups_file) (high s format.groups_file) g i in
-      let is = row_some (kind_at s format.groups_file g) (group_in (rec_at s format.groups_file g) g) (λ e. clash (sym k.1 ∙ live_false (kind_at s format.groups_file g) e)) in
+      let is = row_some (kind_at s format.groups_file g) (group_in (rec_at s format.groups_file g) g)
+      (λ e. clash (sym k.1 ∙ live_false (kind_at s format.groups_file g) e)) in
       ⊎_elim
       (λ (f : (x : ℕ) × Fills g x). (end_code f.0 f.1.row.from f.1.group.owner, in_codes f.0 f.1.row.from f.1.group.owner (rel_in_rels f.0 f.1.row f.1.live), inl (record { x = f.0; fills = f.1; code = refl })))
-      (λ j. (3 * g + 2, in_right (3 * g + 2) (ends_of rels) (marks_of empty) (in_marks empty g j), inr (record { may = j; code = refl }))) (filled g (group_in (rec_at s format.groups_file g) g) is)
+      (λ j. (3 * g + 2, in_right (3 * g + 2) (ends_of rels) (marks_of empty) (in_marks empty g j), inr (record { may = j; code = refl })))
+      (filled g (group_in (rec_at s format.groups_file g) g) is)
     where
       clash : true ≡ false → ⊥
       clash e = cc
@@ -225,7 +232,8 @@ module _ (s : Records) (shape : Shape) (node : ℕ) (rest : List ℕ) (most : �
   few_groups = let f = fewer Takes groups codes once takes apart in let a = live_groups in let b = live_rels in let c = length-codes in omega arith
 
   -- and fewer where a relationship at the node is apart
-  pub fewer_groups : (x : ℕ) (row : RelRow) → In x rest → rel_at s x ≡ Some row → IsEnd node row → (meta_in s format.groups_file).live + 1 ≤ 2 * (meta_in s format.relationships_file).live + length empty
+  pub fewer_groups : (x : ℕ) (row : RelRow) → In x rest → rel_at s x ≡ Some row → IsEnd node row
+      → (meta_in s format.groups_file).live + 1 ≤ 2 * (meta_in s format.relationships_file).live + length empty
   fewer_groups x row i live end =
       let loose = end_code x row.from node in
       let there : In loose codes = in_codes x row.from node (rel_in_rels x row live) in

@@ -19,7 +19,8 @@ use Rattle.group_store.proofs.UnknownKinds.{layout-other}
 
 -- a group is below the mark
 pub group_below : (records : Records) (node g : ℕ) → IsGroupOf records node g → g < high records format.groups_file
-group_below records node g is = kind_below (high records format.groups_file) (rec_at records format.groups_file g) g (group_used (kind_at records format.groups_file g) is.kind)
+group_below records node g is = kind_below (high records format.groups_file) (rec_at records format.groups_file g) g
+    (group_used (kind_at records format.groups_file g) is.kind)
 
 -- and so is what the node owns, as its groups are
 pub owned_below : (records : Records) (node g : ℕ) → IsOwnedBy records node g → g < high records format.groups_file
@@ -39,7 +40,8 @@ not_both : (kind owner node : ℕ) → (is_group_kind kind && nat_eq owner node)
 not_both kind owner node h k o = true≢false (sym (rw (k, eq_true owner node o) refl) ∙ h)
 
 -- the record of a group below the mark
-pub group_is : (records : Records) (node g : ℕ) (rec : Rec) → g < high records format.groups_file → rec ≡ rec_at records format.groups_file g → is_group_of rec node ≡ true → IsGroupOf records node g
+pub group_is : (records : Records) (node g : ℕ) (rec : Rec) → g < high records format.groups_file → rec ≡ rec_at records format.groups_file g
+    → is_group_of rec node ≡ true → IsGroupOf records node g
 group_is records node g rec lt got test =
     let both = both_true (field 1 rec format.kind) (field 4 rec format.group_owner) node test in
     record {
@@ -47,7 +49,8 @@ group_is records node g rec lt got test =
       owner = ap (λ r. field 4 r format.group_owner) (sym got) ∙ both.1;
     }
 
-pub group_is_not : (records : Records) (node g : ℕ) (rec : Rec) → rec ≡ rec_at records format.groups_file g → is_group_of rec node ≡ false → IsGroupOf records node g → ⊥
+pub group_is_not : (records : Records) (node g : ℕ) (rec : Rec) → rec ≡ rec_at records format.groups_file g → is_group_of rec node ≡ false
+    → IsGroupOf records node g → ⊥
 group_is_not records node g rec got test is =
     let lt = group_below records node g is in
     not_both (field 1 rec format.kind) (field 4 rec format.group_owner) node test
@@ -55,7 +58,8 @@ group_is_not records node g rec got test is =
     (ap (λ r. field 4 r format.group_owner) got ∙ is.owner)
 
 -- what is below the mark and no group of the node is none of its records, or of no kind
-pub not_member : (s : State) (node g : ℕ) (rec : Rec) → g < group_mark s → rec ≡ rec_at s.records format.groups_file g → is_group_of rec node ≡ false → IsMemberDamage s node g (member_damage rec node g)
+pub not_member : (s : State) (node g : ℕ) (rec : Rec) → g < group_mark s → rec ≡ rec_at s.records format.groups_file g → is_group_of rec node ≡ false
+    → IsMemberDamage s node g (member_damage rec node g)
 not_member s node g rec lt got test = by (nat_eq kind format.free_kind) (nat_eq kind format.grouped) (nat_eq kind format.counted) refl refl refl
   where
     kind : ℕ

@@ -14,31 +14,37 @@ use Rattle.store_rules.proofs.ViewLaws.{group_used, row_some, some_row}
 use Rattle.group_store.specs.GroupChain.{IsDense, IsGroupChain, IsGroupList, IsGroupOf, next_group}
 
 -- the kind of a group in use, where its record is in range
-pub kind_of_group : (records : Records) (shape : Shape) (g : ℕ) → AreInRange records shape → kind_at records format.groups_file g ≢ 0 → is_group_kind (kind_at records format.groups_file g) ≡ true
+pub kind_of_group : (records : Records) (shape : Shape) (g : ℕ) → AreInRange records shape → kind_at records format.groups_file g ≢ 0
+    → is_group_kind (kind_at records format.groups_file g) ≡ true
 kind_of_group records shape g ranges some = group_kind records shape ranges g some
 
 -- a group of the rules is one in use that its node owns, and the other way round
-pub group_of_row : (records : Records) (shape : Shape) (node g : ℕ) (row : views.GroupRow) → AreInRange records shape → group_at records g ≡ Some row → row.owner ≡ node → IsGroupOf records node g
+pub group_of_row : (records : Records) (shape : Shape) (node g : ℕ) (row : views.GroupRow) → AreInRange records shape → group_at records g ≡ Some row
+    → row.owner ≡ node → IsGroupOf records node g
 group_of_row records shape node g row ranges is owner =
     let found = some_row (kind_at records format.groups_file g) (group_in (rec_at records format.groups_file g) g) row is in
     record { kind = kind_of_group records shape g ranges found.0; owner = ap (λ (r : views.GroupRow). r.owner) found.1 ∙ owner }
 
 pub row_of_group : (records : Records) (node g : ℕ) → IsGroupOf records node g → group_at records g ≡ Some (group_in (rec_at records format.groups_file g) g)
-row_of_group records node g is = row_some (kind_at records format.groups_file g) (group_in (rec_at records format.groups_file g) g) (group_used (kind_at records format.groups_file g) is.kind)
+row_of_group records node g is = row_some (kind_at records format.groups_file g) (group_in (rec_at records format.groups_file g) g)
+    (group_used (kind_at records format.groups_file g) is.kind)
 
 pub group_owned : (records : Records) (node g : ℕ) → IsGroupOf records node g → IsOwnedBy records node g
 group_owned records node g is = record { used = group_used (kind_at records format.groups_file g) is.kind; owner = is.owner }
 
 -- what is met from the first group on is on the group chain
-pub list_on : (records : Records) (node : ℕ) (xs : List ℕ) → IsDense records node → IsGroupList records node (first_link records node) xs → (g : ℕ) → In g xs → IsOnChain records node g
+pub list_on : (records : Records) (node : ℕ) (xs : List ℕ) → IsDense records node → IsGroupList records node (first_link records node) xs → (g : ℕ) → In g xs
+    → IsOnChain records node g
 list_on records node xs dense list = met (first_link records node) xs list.walk list.only (λ own. First (first_link records node) dense refl own)
   where
-    met : (from : ℕ) (xs : List ℕ) → IsWalk (next_group records) from xs → ((g : ℕ) → In g xs → IsGroupOf records node g) → (IsOwnedBy records node from → IsOnChain records node from) → (g : ℕ) → In g xs → IsOnChain records node g
+    met : (from : ℕ) (xs : List ℕ) → IsWalk (next_group records) from xs → ((g : ℕ) → In g xs → IsGroupOf records node g)
+        → (IsOwnedBy records node from → IsOnChain records node from) → (g : ℕ) → In g xs → IsOnChain records node g
     met from [] walk only here g i = elim i [ ]
     met from (x ∷ xs) walk only here g (inl e) =
         subst (IsOnChain records node) (walk.0 ∙ sym e) (here (subst (IsOwnedBy records node) (sym walk.0) (group_owned records node x (only x (inl refl)))))
     met from (x ∷ xs) walk only here g (inr i) =
-        let on : IsOnChain records node x = subst (IsOnChain records node) walk.0 (here (subst (IsOwnedBy records node) (sym walk.0) (group_owned records node x (only x (inl refl))))) in
+        let on : IsOnChain records node x = subst (IsOnChain records node) walk.0
+        (here (subst (IsOwnedBy records node) (sym walk.0) (group_owned records node x (only x (inl refl))))) in
         met (next_group records x) xs walk.2 (λ k j. only k (inr j)) (λ own. Next x (next_group records x) on refl own) g i
 
 -- the first and the fourth rule make a chain right
@@ -53,7 +59,8 @@ IsGroupChain-HasGroups records shape node {empty} ranges has = record {
 
 -- and such a chain keeps the fourth rule, where each group in it that is empty may be
 pub HasGroups-IsGroupChain : (records : Records) (shape : Shape) (node : ℕ) (xs empty : List ℕ) → AreInRange records shape → IsGroupChain records node xs
-    → ((g : ℕ) → In g xs → (is_filled (rec_at records format.groups_file g) ≡ true) ⊎ In g empty) → HasGroups (first_link records node) node (rec_at records format.groups_file) (group_at records) empty
+    → ((g : ℕ) → In g xs → (is_filled (rec_at records format.groups_file g) ≡ true) ⊎ In g empty)
+    → HasGroups (first_link records node) node (rec_at records format.groups_file) (group_at records) empty
 HasGroups-IsGroupChain records shape node xs empty ranges chain filled = record {
   members = xs;
   chain = chain.chain;

@@ -1,5 +1,6 @@
 -- A walk of a node's groups, step by step.
-use Rattle.std.proofs.Common.{◌≡◌, ◌≢◌, ◌⊎◌, ⊎_elim, inl, inr, ℕ, zero, suc, ◌+◌, ◌<◌, ◌≤◌, true, List, [], ◌∷◌, ◌++◌, length, map, refl, sym, ap, ◌∙◌, subst, append_assoc, append-nil, arith, Err, Result}
+use Rattle.std.proofs.Common.{◌≡◌, ◌≢◌, ◌⊎◌, ⊎_elim, inl, inr, ℕ, zero, suc, ◌+◌, ◌<◌, ◌≤◌, true, List, [], ◌∷◌, ◌++◌}
+use Rattle.std.proofs.Common.{length, map, refl, sym, ap, ◌∙◌, subst, append_assoc, append-nil, arith, Err, Result}
 use Rattle.std.proofs.Math.Dec.{eqb}
 use Rattle.std.specs.List.{list_any}
 use Rattle.std.proofs.lemmas.Bool.{or_cases}
@@ -53,12 +54,14 @@ pub passed_more : (records : Records) (node first at to : ℕ) (ms : List ℕ) �
 passed_more records node first at to ms there is link h =
     let next = next_group records in
     record {
-      walk = λ rest w. subst (IsWalk next first) (sym (append_assoc ms (at ∷ []) rest)) (h.walk (at ∷ rest) (refl, there, subst (λ z. IsWalk next z rest) link w));
+      walk = λ rest w. subst (IsWalk next first) (sym (append_assoc ms (at ∷ []) rest))
+          (h.walk (at ∷ rest) (refl, there, subst (λ z. IsWalk next z rest) link w));
       only = λ g i. ⊎_elim (λ k. h.only g k) (λ e. subst (IsGroupOf records node) (sym e) is) (in_push ms at g i);
     }
 
 -- the end
-pub passed_all : (records : Records) (node first at : ℕ) (ms : List ℕ) → at ≡ format.nil → HasPassed records node first at ms → IsGroupList records node first ms
+pub passed_all : (records : Records) (node first at : ℕ) (ms : List ℕ) → at ≡ format.nil → HasPassed records node first at ms
+    → IsGroupList records node first ms
 passed_all records node first at ms none h = record {
   walk = subst (IsWalk (next_group records) first) (append-nil ms) (h.walk [] none);
   only = h.only;
@@ -77,7 +80,8 @@ in_any q (y ∷ ys) h = ⊎_elim (λ (e : eqb q y ≡ true). inl (grind (arith, 
 -- a list is no longer than the mark
 pub few_owned : (records : Records) (node first : ℕ) (xs : List ℕ) → IsOwnedList records node first xs → length xs ≤ high records format.groups_file
 few_owned records node first xs list =
-    length-le_from_distinct_below xs (high records format.groups_file) (distinct (next_group records) first xs list.walk) (λ q h. owned_below records node q (list.only q (in_any q xs h)))
+    length-le_from_distinct_below xs (high records format.groups_file) (distinct (next_group records) first xs list.walk)
+    (λ q h. owned_below records node q (list.only q (in_any q xs h)))
 
 -- the node owns its groups
 pub owned_list : (records : Records) (node first : ℕ) (xs : List ℕ) → IsGroupList records node first xs → IsOwnedList records node first xs
@@ -86,7 +90,8 @@ owned_list records node first xs list = record { walk = list.walk; only = λ g i
 pub few_groups : (records : Records) (node first : ℕ) (xs : List ℕ) → IsGroupList records node first xs → length xs ≤ high records format.groups_file
 few_groups records node first xs list = few_owned records node first xs (owned_list records node first xs list)
 
-pub left_more : (records : Records) (left less at to : ℕ) (xs : List ℕ) → left ≡ suc less → at ≢ format.nil → to ≡ next_group records at → IsLeft records xs left at → IsLeft records xs less to
+pub left_more : (records : Records) (left less at to : ℕ) (xs : List ℕ) → left ≡ suc less → at ≢ format.nil → to ≡ next_group records at
+    → IsLeft records xs left at → IsLeft records xs less to
 left_more records left less at to xs one there link (ys, walk, few, within) = step ys walk few within
   where
     step : (ys : List ℕ) → IsWalk (next_group records) at ys → length ys ≤ left → ((g : ℕ) → In g ys → In g xs) → IsLeft records xs less to
@@ -105,7 +110,8 @@ left_none records left at xs none (y ∷ ys, walk, few, within) = absurd (omega 
 
 -- ---- how many were met, by a walk that ends
 
-met_and_left : (records : Records) (node first at left : ℕ) (ms xs : List ℕ) → HasPassed records node first at ms → (rest : IsLeft records xs left at) → IsWalk (next_group records) first xs → length xs ≡ length ms + length rest.0
+met_and_left : (records : Records) (node first at left : ℕ) (ms xs : List ℕ) → HasPassed records node first at ms → (rest : IsLeft records xs left at)
+    → IsWalk (next_group records) first xs → length xs ≡ length ms + length rest.0
 met_and_left records node first at left ms xs met (ys, left_walk, few, within) walk =
     ap length (walk_is (next_group records) first xs (ms ++ ys) walk (met.walk ys left_walk)) ∙ length-append ms ys
 
@@ -113,10 +119,12 @@ some_left : (records : Records) (left at : ℕ) (xs : List ℕ) → at ≢ forma
 some_left records left at xs there ([], walk, few, within) = absurd (there walk)
 some_left records left at xs there (y ∷ ys, walk, few, within) = omega arith
 
-pub few_then : (records : Records) (node first at left : ℕ) (ms xs : List ℕ) → HasPassed records node first at ms → IsLeft records xs left at → IsWalk (next_group records) first xs → length ms ≤ length xs
+pub few_then : (records : Records) (node first at left : ℕ) (ms xs : List ℕ) → HasPassed records node first at ms → IsLeft records xs left at
+    → IsWalk (next_group records) first xs → length ms ≤ length xs
 few_then records node first at left ms xs met rest walk = let long = met_and_left records node first at left ms xs met rest walk in omega arith
 
-pub few_next : (records : Records) (node first at left : ℕ) (ms xs : List ℕ) → at ≢ format.nil → HasPassed records node first at ms → IsLeft records xs left at → IsWalk (next_group records) first xs → length ms + 1 ≤ length xs
+pub few_next : (records : Records) (node first at left : ℕ) (ms xs : List ℕ) → at ≢ format.nil → HasPassed records node first at ms → IsLeft records xs left at
+    → IsWalk (next_group records) first xs → length ms + 1 ≤ length xs
 few_next records node first at left ms xs there met rest walk =
     let long = met_and_left records node first at left ms xs met rest walk in
     let some = some_left records left at xs there rest in
@@ -158,7 +166,8 @@ room_then s now n reads = ap group_room reads ∙ ap (λ (shape : Shape). room_o
 
 -- what is no group on the way
 pub walk_fault : (s now : State) (n node first left at : ℕ) (fault : Fault) → now ≡ after_gets n s → at ≢ format.nil
-    → ((xs : List ℕ) → IsWalk (next_group s.records) first xs → length xs ≤ group_mark s → IsLeft s.records xs left at) → IsMemberFault now node at fault → IsWalkFault s node first fault
+    → ((xs : List ℕ) → IsWalk (next_group s.records) first xs → length xs ≤ group_mark s → IsLeft s.records xs left at) → IsMemberFault now node at fault
+    → IsWalkFault s node first fault
 walk_fault s now n node first left at Memory reads there rest told = tt
 walk_fault s now n node first left at Disk reads there rest told = tt
 walk_fault s now n node first left at (Damaged damage) reads there rest told = by damage told
@@ -170,7 +179,8 @@ walk_fault s now n node first left at (Damaged damage) reads there rest told = b
         let below_then : at < group_mark s = let mark = mark_then s now n reads in omega arith in
         let unknown_then : HasNoKind s.records at = subst (λ (r : Records). HasNoKind r at) (records_then s now n reads) unknown in
         UnknownGroup at (λ xs list. known_kind s.records node at below_then
-        (list.only at (left_member s.records left at xs there (rest xs list.walk (few_groups s.records node first xs list)))) unknown_then) below_then unknown_then
+        (list.only at (left_member s.records left at xs there (rest xs list.walk (few_groups s.records node first xs list))))
+        unknown_then) below_then unknown_then
     by damage (HighMember above) = HighMark (let mark = mark_then s now n reads in let room = room_then s now n reads in omega arith)
 
 pub none_damaged : (s : State) (node first : ℕ) (xs : List ℕ) (damage : Damage) → IsWalkable s node first xs → IsWalkDamage s node first damage → ⊥
@@ -180,9 +190,11 @@ none_damaged s node first xs damage can (HighMark above) = let mark = can.mark i
 
 -- ---- rows
 
-pub rows_more : (records : Records) (ms : List ℕ) (rows : List GroupRow) (row : GroupRow) (at : ℕ) → row ≡ group_row_at records at → rows ≡ map (group_row_at records) ms
+pub rows_more : (records : Records) (ms : List ℕ) (rows : List GroupRow) (row : GroupRow) (at : ℕ) → row ≡ group_row_at records at
+    → rows ≡ map (group_row_at records) ms
     → rows ++ row ∷ [] ≡ map (group_row_at records) (ms ++ at ∷ [])
-rows_more records ms rows row at is are = ap (λ r. rows ++ r ∷ []) is ∙ ap (λ rs. rs ++ group_row_at records at ∷ []) are ∙ sym (map-append (group_row_at records) ms (at ∷ []))
+rows_more records ms rows row at is are = ap (λ r. rows ++ r ∷ []) is ∙ ap (λ rs. rs ++ group_row_at records at ∷ []) are
+    ∙ sym (map-append (group_row_at records) ms (at ∷ []))
 
 -- ---- no read, and one
 
@@ -200,10 +212,12 @@ reads_so_far s now n most le reads = record { count = n; within = le; is = reads
 pub member_then : (s now : State) (n node at : ℕ) → now ≡ after_gets n s → IsGroupOf now.records node at → IsGroupOf s.records node at
 member_then s now n node at reads is = subst (λ (r : Records). IsGroupOf r node at) (records_then s now n reads) is
 
-pub rec_then : (s now : State) (n at : ℕ) (rec : Rec) → now ≡ after_gets n s → rec ≡ rec_at now.records format.groups_file at → rec ≡ rec_at s.records format.groups_file at
+pub rec_then : (s now : State) (n at : ℕ) (rec : Rec) → now ≡ after_gets n s → rec ≡ rec_at now.records format.groups_file at
+    → rec ≡ rec_at s.records format.groups_file at
 rec_then s now n at rec reads got = got ∙ ap (λ (r : Records). rec_at r format.groups_file at) (records_then s now n reads)
 
-pub link_then : (s now : State) (n at link : ℕ) (rec : Rec) → now ≡ after_gets n s → rec ≡ rec_at now.records format.groups_file at → link ≡ field 4 rec format.group_next → link ≡ next_group s.records at
+pub link_then : (s now : State) (n at link : ℕ) (rec : Rec) → now ≡ after_gets n s → rec ≡ rec_at now.records format.groups_file at
+    → link ≡ field 4 rec format.group_next → link ≡ next_group s.records at
 link_then s now n at link rec reads got is = is ∙ ap (λ r. field 4 r format.group_next) (rec_then s now n at rec reads got)
 
 -- where the list ends, no record is said to be damaged
@@ -223,4 +237,5 @@ not_damaged T Disk h = tt
 not_damaged T (Damaged damage) h = h
 
 pub not_damaged_at : {T : Type 0} (r : Result T Fault) (e fault : Fault) → r ≡ Err e → e ≡ fault → IsUndamaged fault → NotDamaged r
-not_damaged_at {T = T} r e fault is same h = subst (NotDamaged {T = T}) (sym is) (subst (λ (f : Fault). NotDamaged {T = T} (Err f)) (sym same) (not_damaged T fault h))
+not_damaged_at {T = T} r e fault is same h = subst (NotDamaged {T = T}) (sym is)
+    (subst (λ (f : Fault). NotDamaged {T = T} (Err f)) (sym same) (not_damaged T fault h))

@@ -12,30 +12,37 @@ use Rattle.node_store.specs.NodeRecord.{node_key}
 use Rattle.group_store.specs.GroupRecord.{group_key}
 use Rattle.group_store.specs.Opening.{WritesOpened}
 
-pub made_writes : (s t : State) (node first id : ℕ) → WritesOnly s t (group_key first ∷ group_key id ∷ node_key node ∷ meta_key_of format.groups_file ∷ []) → WritesBeside (node_key node) 2 s t
-made_writes s t node first id = these_written (node_key node) s t (group_key first ∷ group_key id ∷ []) (group_key first ∷ group_key id ∷ node_key node ∷ meta_key_of format.groups_file ∷ []) (refl, (refl, tt))
+pub made_writes : (s t : State) (node first id : ℕ) → WritesOnly s t (group_key first ∷ group_key id ∷ node_key node ∷ meta_key_of format.groups_file ∷ [])
+    → WritesBeside (node_key node) 2 s t
+made_writes s t node first id = these_written (node_key node) s t (group_key first ∷ group_key id ∷ [])
+    (group_key first ∷ group_key id ∷ node_key node ∷ meta_key_of format.groups_file ∷ []) (refl, (refl, tt))
     (λ q i. ⊎_elim (λ e. inr (inl e)) (λ j. ⊎_elim (λ e. inr (inr (inl e))) (λ k. ⊎_elim (λ e. inl e) (λ l. ⊎_elim (λ e. inr (inr (inr (among_metas format.groups_file q refl e)))) (λ e. absurd e) l) k) j) i)
 
 -- a group that is found or made, by its own record
-pub opened_writes : (s t : State) (node first id : ℕ) → WritesOnly s t (group_key id ∷ group_key first ∷ node_key node ∷ meta_key_of format.groups_file ∷ []) → WritesOpened s t node (group_key id) 1
+pub opened_writes : (s t : State) (node first id : ℕ) → WritesOnly s t (group_key id ∷ group_key first ∷ node_key node ∷ meta_key_of format.groups_file ∷ [])
+    → WritesOpened s t node (group_key id) 1
 opened_writes s t node first id w = record {
   keys = group_key first ∷ [];
   few = omega arith;
   own = (refl, tt);
-  only = writes_more s t (group_key id ∷ group_key first ∷ node_key node ∷ meta_key_of format.groups_file ∷ []) (node_key node ∷ group_key id ∷ group_key first ∷ meta_keys)
+  only = writes_more s t (group_key id ∷ group_key first ∷ node_key node ∷ meta_key_of format.groups_file ∷ [])
+      (node_key node ∷ group_key id ∷ group_key first ∷ meta_keys)
       (λ q i. ⊎_elim (λ e. inr (inl e)) (λ j. ⊎_elim (λ e. inr (inr (inl e))) (λ k. ⊎_elim (λ e. inl e) (λ l. ⊎_elim (λ e. inr (inr (inr (among_metas format.groups_file q refl e)))) (λ e. absurd e) l) k) j) i) w;
 }
 
 -- a group that is found or made, and then counted
-pub found_writes : (s m t : State) (id first node : ℕ) → WritesOnly s m (group_key id ∷ group_key first ∷ node_key node ∷ meta_key_of format.groups_file ∷ []) → WritesOnly m t (group_key id ∷ [])
+pub found_writes : (s m t : State) (id first node : ℕ) → WritesOnly s m (group_key id ∷ group_key first ∷ node_key node ∷ meta_key_of format.groups_file ∷ [])
+    → WritesOnly m t (group_key id ∷ [])
     → WritesOnly s t (group_key id ∷ group_key first ∷ node_key node ∷ meta_key_of format.groups_file ∷ [])
 found_writes s m t id first node w v = record { each = λ q k. ⊎_elim (λ old. w.each q old) (λ i. inr (⊎_elim (λ e. inl e) (λ e. absurd e) i)) (v.each q k) }
 
 -- the same, by the order of a group that is made
-pub raised_writes : (s m t : State) (id first node : ℕ) → WritesOnly s m (group_key id ∷ group_key first ∷ node_key node ∷ meta_key_of format.groups_file ∷ []) → WritesOnly m t (group_key id ∷ [])
+pub raised_writes : (s m t : State) (id first node : ℕ) → WritesOnly s m (group_key id ∷ group_key first ∷ node_key node ∷ meta_key_of format.groups_file ∷ [])
+    → WritesOnly m t (group_key id ∷ [])
     → WritesOnly s t (group_key first ∷ group_key id ∷ node_key node ∷ meta_key_of format.groups_file ∷ [])
 raised_writes s m t id first node w v = record {
-  each = λ q k. ⊎_elim (λ old. inl old) (λ i. inr (⊎_elim (λ e. inr (inl e)) (λ j. ⊎_elim (λ e. inl e) (λ l. inr (inr l)) j) i)) ((found_writes s m t id first node w v).each q k);
+  each = λ q k. ⊎_elim (λ old. inl old) (λ i. inr (⊎_elim (λ e. inr (inl e)) (λ j. ⊎_elim (λ e. inl e) (λ l. inr (inr l)) j) i))
+      ((found_writes s m t id first node w v).each q k);
 }
 
 -- ---- after other records were written
@@ -45,7 +52,8 @@ own_both [] ys a b = b
 own_both (x ∷ xs) ys a b = (a.0, own_both xs ys a.1 b)
 
 -- the node's record and so many others, and then the head's
-pub opened_then : {n m : ℕ} (s t u : State) (node : ℕ) (head : Key) → WritesBeside (node_key node) n s t → WritesOpened t u node head m → WritesOpened s u node head (n + m)
+pub opened_then : {n m : ℕ} (s t u : State) (node : ℕ) (head : Key) → WritesBeside (node_key node) n s t → WritesOpened t u node head m
+    → WritesOpened s u node head (n + m)
 opened_then s t u node head h k = record {
   keys = h.keys ++ k.keys;
   few = let a = h.few in let b = k.few in omega (arith, length-append h.keys k.keys);

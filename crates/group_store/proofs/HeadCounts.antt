@@ -24,7 +24,8 @@ use Rattle.group_store.proofs.ExactGroups.{side_small}
 use Rattle.group_store.proofs.Tallies.{elsewhere-tallied, less_counted, more_counted, more_like, tally_cases}
 
 -- numbers before that are the same
-more_from : (old was new : Rec) (group : GroupRow) (row : RelRow) → ((at : ℕ) → (32 ≤ at) × (at + 4 ≤ 44) → field 4 old at ≡ field 4 was at) → HasOneMore old new group row → HasOneMore was new group row
+more_from : (old was new : Rec) (group : GroupRow) (row : RelRow) → ((at : ℕ) → (32 ≤ at) × (at + 4 ≤ 44) → field 4 old at ≡ field 4 was at)
+    → HasOneMore old new group row → HasOneMore was new group row
 more_from old was new group row same h = record {
   out = h.out ∙ ap (λ k. k + one_if (is_out_of group row)) (same 32 (omega arith, omega arith));
   into = h.into ∙ ap (λ k. k + one_if (is_into group row)) (same 36 (omega arith, omega arith));
@@ -35,7 +36,8 @@ in_places : (at : ℕ) → IsCountPlace at → (32 ≤ at) × (at + 4 ≤ 44)
 in_places at is = ⊎_elim (λ (e : at ≡ 32). (omega arith, omega arith)) (λ k. ⊎_elim (λ (e : at ≡ 36). (omega arith, omega arith)) (λ (e : at ≡ 40). (omega arith, omega arith)) k) is
 
 -- the head is one where the row stands, in a store that keeps the rules; the group is counted, and has its numbers still
-module _ (s : Records) (shape : Shape) {most : ℕ} {empty : List ℕ} (well : KeepsRules s shape most empty) (row : RelRow) (h : Head) (n : ℕ) (end : IsEndHead s h n row)
+module _ (s : Records) (shape : Shape) {most : ℕ} {empty : List ℕ} (well : KeepsRules s shape most empty) (row : RelRow) (h : Head) (n : ℕ)
+    (end : IsEndHead s h n row)
     (g : ℕ) (group : GroupRow) (is : group_at s g ≡ Some group) (counted : kind_at s format.groups_file g ≡ format.counted)
     (p : State) (same : (at : ℕ) → (32 ≤ at) × (at + 4 ≤ 44) → field 4 (rec_at p.records format.groups_file g) at ≡ field 4 (rec_at s format.groups_file g) at)
     (byte : field 1 (rec_at p.records format.groups_file g) format.kind ≡ format.counted) where
@@ -120,13 +122,15 @@ module _ (s : Records) (shape : Shape) {most : ℕ} {empty : List ℕ} (well : K
       -- it is counted there
       module _ (x : ℕ) (live : rel_at s x ≡ Some row) where
         below : x < high s format.relationships_file
-        below = kind_below (high s format.relationships_file) (rec_at s format.relationships_file x) x (some_row (kind_at s format.relationships_file x) (rel_in (rec_at s format.relationships_file x) x) row live).0
+        below = kind_below (high s format.relationships_file) (rec_at s format.relationships_file x) x
+            (some_row (kind_at s format.relationships_file x) (rel_in (rec_at s format.relationships_file x) x) row live).0
 
         positive : (test : RelRow → Bool) → test row ≡ true → 1 ≤ count_of test (rel_at s) (high s format.relationships_file)
         positive test passed = ⊎_elim
             (λ (z : count_of test (rel_at s) (high s format.relationships_file) < 1).
             absurd (true≢false (sym (ap (passes test) live ∙ passed) ∙ ids_empty (λ y. passes test (rel_at s y)) (high s format.relationships_file) (omega arith) x below)))
-            (λ (ge : 1 ≤ count_of test (rel_at s) (high s format.relationships_file)). ge) (cases_lt (count_of test (rel_at s) (high s format.relationships_file)) 1)
+            (λ (ge : 1 ≤ count_of test (rel_at s) (high s format.relationships_file)). ge)
+            (cases_lt (count_of test (rel_at s) (high s format.relationships_file)) 1)
 
         some_at : (at : ℕ) → IsSide at group row → 1 ≤ field 4 (rec_at s format.groups_file g) (at + 12)
         some_at at (inl k) = subst (λ a. 1 ≤ field 4 (rec_at s format.groups_file g) (a + 12)) (sym k.0)
@@ -151,20 +155,25 @@ module _ (s : Records) (shape : Shape) {most : ℕ} {empty : List ℕ} (well : K
     pub more_here : HasOneMore (rec_at s format.groups_file g) (rec_at (tallied one_more p h).records format.groups_file g) group row
     more_here = by end.owns
       where
-        by : Owns (kind_at s format.nodes_file) (group_at s) h n → HasOneMore (rec_at s format.groups_file g) (rec_at (tallied one_more p h).records format.groups_file g) group row
+        by : Owns (kind_at s format.nodes_file) (group_at s) h n → HasOneMore (rec_at s format.groups_file g)
+            (rec_at (tallied one_more p h).records format.groups_file g) group row
         by (inl o) = absurd (let z = sym o.sparse ∙ dense in omega arith)
         by (inr o) = ⊎_elim (λ (e : o.row.id ≡ g). more_there o e)
             (λ (ne : o.row.id ≢ g).
             let away = elsewhere-tallied one_more p h (key_in format.groups_file g) (λ e. ne (sym (ap (λ (q : Key). q.id) (e ∙ o.key)))) in
-            counts_untyped (rec_at s format.groups_file g) (rec_at (tallied one_more p h).records format.groups_file g) group row (λ at w. ap (λ (r : Rec). field 4 r at) away ∙ same at w) (untyped o ne)) (nat_cases o.row.id g)
+            counts_untyped (rec_at s format.groups_file g) (rec_at (tallied one_more p h).records format.groups_file g) group row
+            (λ at w. ap (λ (r : Rec). field 4 r at) away ∙ same at w) (untyped o ne)) (nat_cases o.row.id g)
 
     -- and one less, where it stood
-    pub less_here : (x : ℕ) → rel_at s x ≡ Some row → HasOneMore (rec_at (tallied one_less p h).records format.groups_file g) (rec_at s format.groups_file g) group row
+    pub less_here : (x : ℕ) → rel_at s x ≡ Some row → HasOneMore (rec_at (tallied one_less p h).records format.groups_file g) (rec_at s format.groups_file g)
+        group row
     less_here x live = by end.owns
       where
-        by : Owns (kind_at s format.nodes_file) (group_at s) h n → HasOneMore (rec_at (tallied one_less p h).records format.groups_file g) (rec_at s format.groups_file g) group row
+        by : Owns (kind_at s format.nodes_file) (group_at s) h n → HasOneMore (rec_at (tallied one_less p h).records format.groups_file g)
+            (rec_at s format.groups_file g) group row
         by (inl o) = absurd (let z = sym o.sparse ∙ dense in omega arith)
         by (inr o) = ⊎_elim (λ (e : o.row.id ≡ g). less_there o e x live)
             (λ (ne : o.row.id ≢ g).
             let away = elsewhere-tallied one_less p h (key_in format.groups_file g) (λ e. ne (sym (ap (λ (q : Key). q.id) (e ∙ o.key)))) in
-            counts_untyped (rec_at (tallied one_less p h).records format.groups_file g) (rec_at s format.groups_file g) group row (λ at w. sym (ap (λ (r : Rec). field 4 r at) away ∙ same at w)) (untyped o ne)) (nat_cases o.row.id g)
+            counts_untyped (rec_at (tallied one_less p h).records format.groups_file g) (rec_at s format.groups_file g) group row
+            (λ at w. sym (ap (λ (r : Rec). field 4 r at) away ∙ same at w)) (untyped o ne)) (nat_cases o.row.id g)

@@ -1,5 +1,6 @@
 -- Heads that nodes have still, and nodes that were read, whatever the records are.
-use Rattle.std.proofs.Common.{◌≡◌, ◌≢◌, ◌⊎◌, ℕ, ◌+◌, ◌<◌, ◌≤◌, ◌-◌, ◌^◌, nat_eq, Bool, true, false, cond, None, Some, sym, ap, ◌∙◌, subst, inl, inr, ⊎_elim, arith, refl}
+use Rattle.std.proofs.Common.{◌≡◌, ◌≢◌, ◌⊎◌, ℕ, ◌+◌, ◌<◌, ◌≤◌, ◌-◌, ◌^◌, nat_eq, Bool, true, false, cond, None, Some}
+use Rattle.std.proofs.Common.{sym, ap, ◌∙◌, subst, inl, inr, ⊎_elim, arith, refl}
 use Rattle.rec_bytes.specs.declared.key.Key.{Key}
 use Rattle.rec_bytes.specs.declared.meta.Meta.{Meta}
 use Rattle.rec_bytes.specs.declared.record.Rec.{Rec}
@@ -83,12 +84,15 @@ pub alike_by : (s t : Records) → high t format.nodes_file ≡ high s format.no
     → ((n : ℕ) → field 1 (rec_at t format.nodes_file n) format.kind ≡ field 1 (rec_at s format.nodes_file n) format.kind)
     → ((g n at : ℕ) → at + n ≤ 12 → field n (rec_at t format.groups_file g) at ≡ field n (rec_at s format.groups_file g) at) → IsAlike s t
 alike_by s t node_mark group_mark nodes groups = record {
-  nodes = λ n. ap (λ m. kind_in m (rec_at t format.nodes_file n) n) node_mark ∙ kind_by (high s format.nodes_file) (rec_at t format.nodes_file n) (rec_at s format.nodes_file n) n (nodes n);
-  groups = λ g row is. group_kept s t g row group_mark (λ some e. some (sym (groups g 1 format.kind (omega arith)) ∙ e)) (groups g 4 format.group_type (omega arith)) (groups g 4 format.group_owner (omega arith)) is;
+  nodes = λ n. ap (λ m. kind_in m (rec_at t format.nodes_file n) n) node_mark
+      ∙ kind_by (high s format.nodes_file) (rec_at t format.nodes_file n) (rec_at s format.nodes_file n) n (nodes n);
+  groups = λ g row is. group_kept s t g row group_mark (λ some e. some (sym (groups g 1 format.kind (omega arith)) ∙ e))
+      (groups g 4 format.group_type (omega arith)) (groups g 4 format.group_owner (omega arith)) is;
 }
 
 -- a number is set that no head is told by
-alike_set : (s : Records) (p : Head) (to : ℕ) → p.key.file ≢ format.meta_file → (p.key.file ≡ format.groups_file → 12 ≤ p.field) → 1 ≤ p.field → IsAlike s (set_at s p to)
+alike_set : (s : Records) (p : Head) (to : ℕ) → p.key.file ≢ format.meta_file → (p.key.file ≡ format.groups_file → 12 ≤ p.field) → 1 ≤ p.field
+    → IsAlike s (set_at s p to)
 alike_set s p to no_meta far low = alike_by s (set_at s p to) (mark format.nodes_file) (mark format.groups_file)
     (λ n. field-set_other s p to (key_in format.nodes_file n) 1 format.kind (omega arith) (λ e. inl (omega arith)))
     (λ g n at within. field-set_other s p to (key_in format.groups_file g) n at (omega arith) (λ e. inl (let w = far (sym (ap (λ (k : Key). k.file) e)) in omega arith)))
@@ -129,11 +133,13 @@ module _ (l : State) (g : ℕ) (small : g < 2 ^ 32) where
 
   mark_nodes : high t.records format.nodes_file ≡ high l.records format.nodes_file
   mark_nodes = ap (λ (k : Meta). k.high) (meta_of-after_meta_other freed format.groups_file counts format.nodes_file (λ e. omega arith)
-      ∙ meta_in-put_other l.records (key_in format.groups_file g) (free_record (meta_of l format.groups_file).free) format.nodes_file (λ e. let f = ap (λ (k : Key). k.file) e in omega arith))
+      ∙ meta_in-put_other l.records (key_in format.groups_file g) (free_record (meta_of l format.groups_file).free) format.nodes_file
+      (λ e. let f = ap (λ (k : Key). k.file) e in omega arith))
 
   kind_given : (n : ℕ) → kind_at t.records format.nodes_file n ≡ kind_at l.records format.nodes_file n
   kind_given n = ap (λ m. kind_in m (rec_at t.records format.nodes_file n) n) mark_nodes
-      ∙ ap (λ (r : Rec). kind_in (high l.records format.nodes_file) r n) (record_given (key_in format.nodes_file n) (λ e. let f = ap (λ (k : Key). k.file) e in omega arith) (λ e. let f = ap (λ (k : Key). k.file) e in omega arith))
+      ∙ ap (λ (r : Rec). kind_in (high l.records format.nodes_file) r n)
+      (record_given (key_in format.nodes_file n) (λ e. let f = ap (λ (k : Key). k.file) e in omega arith) (λ e. let f = ap (λ (k : Key). k.file) e in omega arith))
 
   heads_given : (h : Head) (n : ℕ) → h.key ≢ group_key g → IsHeadOf l.records h n → IsHeadOf t.records h n
   heads_given h n ne (inl o) = inl (record { sparse = kind_given n ∙ o.sparse; is = o.is })
@@ -150,7 +156,8 @@ module _ (l : State) (g : ℕ) (small : g < 2 ^ 32) where
       })
 
 -- two nodes have no group in common
-apart : (s : Records) (head h : Head) (node n : ℕ) → head.key.file ≡ format.groups_file → IsHeadOf s head node → IsHeadOf s h n → n ≢ node → h.key ≢ group_key head.key.id
+apart : (s : Records) (head h : Head) (node n : ℕ) → head.key.file ≡ format.groups_file → IsHeadOf s head node → IsHeadOf s h n → n ≢ node
+    → h.key ≢ group_key head.key.id
 apart s head h node n file (inl a) b ne e = absurd (let f = ap (λ (z : Head). z.key.file) a.is in omega arith)
 apart s head h node n file (inr a) (inl b) ne e = absurd (let f = ap (λ (z : Head). z.key.file) b.is in let k = ap (λ (z : Key). z.file) e in omega arith)
 apart s head h node n file (inr a) (inr b) ne e =
@@ -168,7 +175,8 @@ below s head node file (inr a) =
     let is : head.key.id ≡ a.row.id = ap (λ (k : Key). k.id) a.key in
     omega arith
 
-heads_dropped : (s : State) (head : Head) (node : ℕ) → head.key.file ≡ format.groups_file → IsHeadOf s.records head node → KeepsOtherHeads s (dropped s node head.key.id) node
+heads_dropped : (s : State) (head : Head) (node : ℕ) → head.key.file ≡ format.groups_file → IsHeadOf s.records head node
+    → KeepsOtherHeads s (dropped s node head.key.id) node
 unfolding dropped
 heads_dropped s head node file owns h n ne o =
     let g = head.key.id in
@@ -214,10 +222,13 @@ alike_raised : (s : State) (g : ℕ) (counts : Counts) → IsAlike s.records (ra
 alike_raised s g counts =
     let rec : Rec = raised (s.records (group_key g)) counts in
     let t : Records = put s.records (group_key g) rec in
-    let marks : (f : ℕ) → high t f ≡ high s.records f = λ f. ap (λ (m : Meta). m.high) (meta_in-put_other s.records (group_key g) rec f (λ e. let k = ap (λ (q : Key). q.file) e in omega arith)) in
-    let node : (n : ℕ) → rec_at t format.nodes_file n ≡ rec_at s.records format.nodes_file n = λ n. put_other s.records (group_key g) rec (key_in format.nodes_file n) (λ e. let k = ap (λ (q : Key). q.file) e in omega arith) in
+    let marks : (f : ℕ) → high t f ≡ high s.records f = λ f. ap (λ (m : Meta). m.high)
+    (meta_in-put_other s.records (group_key g) rec f (λ e. let k = ap (λ (q : Key). q.file) e in omega arith)) in
+    let node : (n : ℕ) → rec_at t format.nodes_file n ≡ rec_at s.records format.nodes_file n = λ n.
+    put_other s.records (group_key g) rec (key_in format.nodes_file n) (λ e. let k = ap (λ (q : Key). q.file) e in omega arith) in
     record {
-      nodes = λ n. ap (λ m. kind_in m (rec_at t format.nodes_file n) n) (marks format.nodes_file) ∙ ap (λ (r : Rec). kind_in (high s.records format.nodes_file) r n) (node n);
+      nodes = λ n. ap (λ m. kind_in m (rec_at t format.nodes_file n) n) (marks format.nodes_file)
+          ∙ ap (λ (r : Rec). kind_in (high s.records format.nodes_file) r n) (node n);
       groups = λ k row is. ⊎_elim
           (λ (e : group_key k ≡ group_key g).
           let there : rec_at t format.groups_file k ≡ rec = ap t e ∙ put_same s.records (group_key g) rec in
@@ -264,13 +275,15 @@ node_known s id known used =
     let low = kind_low (high s.records format.nodes_file) r id lt in
     ⊎_elim (λ (e : field 1 r format.kind ≡ format.sparse). inr (low ∙ e))
     (λ (a : field 1 r format.kind ≢ format.sparse). ⊎_elim (λ (e : field 1 r format.kind ≡ format.dense). inl (low ∙ e))
-    (λ (b : field 1 r format.kind ≢ format.dense). absurd (known.kind lt (none r (field 1 r format.kind) (λ e. used (low ∙ e)) a b))) (nat_cases (field 1 r format.kind) format.dense)) (nat_cases (field 1 r format.kind) format.sparse)
+    (λ (b : field 1 r format.kind ≢ format.dense). absurd (known.kind lt (none r (field 1 r format.kind) (λ e. used (low ∙ e)) a b)))
+    (nat_cases (field 1 r format.kind) format.dense)) (nat_cases (field 1 r format.kind) format.sparse)
   where
     none : (r : Rec) (kind : ℕ) → kind ≢ 0 → kind ≢ 1 → kind ≢ 2 → layout_by format.nodes_file r kind ≡ None
     none r kind a b c = by (nat_eq kind 0) (nat_eq kind 1) (nat_eq kind 2) (eq_false kind 0 a) (eq_false kind 1 b) (eq_false kind 2 c)
       where
         by : (free sparse dense : Bool) → free ≡ false → sparse ≡ false → dense ≡ false
-            → cond free (free_layout format.nodes_file) (cond sparse (node_layout format.relationships_file) (cond dense (node_layout format.groups_file) None)) ≡ None
+            → cond free (free_layout format.nodes_file) (cond sparse (node_layout format.relationships_file) (cond dense (node_layout format.groups_file) None))
+            ≡ None
         by true sparse dense e f h = absurd cc
         by false true dense e f h = absurd cc
         by false false true e f h = absurd cc

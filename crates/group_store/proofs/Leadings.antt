@@ -1,5 +1,7 @@
 -- The groups of a node that becomes dense, and what stands first in them, whatever the records are.
-use Rattle.std.proofs.Common.{◌≡◌, ◌≢◌, ◌⊎◌, ℕ, ◌+◌, ◌<◌, ◌≤◌, ◌^◌, true, false, nat_eq, cond, None, Some, List, [], ◌∷◌, ◌++◌, length, Result, Ok, Err, IfOk, sym, ap, ◌∙◌, subst, inl, inr, ⊎_elim, arith, refl}
+use Rattle.std.proofs.Common.{◌≡◌, ◌≢◌, ◌⊎◌, ℕ, ◌+◌, ◌<◌, ◌≤◌, ◌^◌, true, false, nat_eq, cond, None, Some, List, []}
+use Rattle.std.proofs.Common.{◌∷◌, ◌++◌, length, Result, Ok, Err, IfOk, sym, ap, ◌∙◌, subst, inl, inr, ⊎_elim, arith}
+use Rattle.std.proofs.Common.{refl}
 use Rattle.std.proofs.lemmas.Bool.{cases_lt}
 use Rattle.id_freelist.specs.Taking.{IsUndamaged, free_taken, mark_taken, meta_damage, taken, taken_id}
 use Rattle.id_freelist.specs.Taking.IsTakeDamage.{Unranged}
@@ -50,27 +52,32 @@ use Rattle.group_store.proofs.Tallies.{field-tallied, file-tallied}
 -- ---- the identifier that is taken
 
 high_with : (r : Rec) (m : Meta) → m.high < 2 ^ 32 → field 4 (metas.with_meta r m) format.meta_high ≡ m.high
-high_with r m small = field-with_field_other 4 (with_field 4 (with_field 4 r format.meta_high m.high) format.meta_free m.free) format.meta_live m.live 4 format.meta_high (omega arith) (inr (omega arith))
+high_with r m small = field-with_field_other 4 (with_field 4 (with_field 4 r format.meta_high m.high) format.meta_free m.free) format.meta_live m.live 4
+    format.meta_high (omega arith) (inr (omega arith))
     ∙ field-with_field_other 4 (with_field 4 r format.meta_high m.high) format.meta_free m.free 4 format.meta_high (omega arith) (inr (omega arith))
     ∙ field-with_field_same 4 r format.meta_high m.high (omega arith) small
 
 -- it is below the mark then, which isn't lower than before
 pub taken_marks : (s : State) (id : ℕ) → id ≡ taken_id (meta_of s format.groups_file) → id < 2 ^ 25 → IsUndamaged s format.groups_file
-    → (high s.records format.groups_file ≤ high (taken s format.groups_file).records format.groups_file) × (id < high (taken s format.groups_file).records format.groups_file)
+    → (high s.records format.groups_file ≤ high (taken s format.groups_file).records format.groups_file)
+    × (id < high (taken s format.groups_file).records format.groups_file)
 unfolding mark_taken free_taken
 taken_marks s id is small undamaged = ⊎_elim
     (λ (none : (meta_of s format.groups_file).free ≡ format.nil).
     let test : nat_eq (meta_of s format.groups_file).free format.nil ≡ true = eq_true (meta_of s format.groups_file).free format.nil none in
-    let same : id ≡ (meta_of s format.groups_file).high = subst (λ b. id ≡ cond b (meta_of s format.groups_file).high (meta_of s format.groups_file).free) test is in
+    let same : id ≡ (meta_of s format.groups_file).high = subst (λ b. id ≡ cond b (meta_of s format.groups_file).high (meta_of s format.groups_file).free) test
+    is in
     let more : high (mark_taken s format.groups_file).records format.groups_file ≡ (meta_of s format.groups_file).high + 1 = high_of _ (omega arith) in
     subst (λ b. ((meta_of s format.groups_file).high ≤ high (cond b (mark_taken s format.groups_file) (free_taken s format.groups_file)).records format.groups_file) × (id < high (cond b (mark_taken s format.groups_file) (free_taken s format.groups_file)).records format.groups_file))
     (sym test) (omega arith, omega arith))
     (λ (some : (meta_of s format.groups_file).free ≢ format.nil).
     let test : nat_eq (meta_of s format.groups_file).free format.nil ≡ false = eq_false (meta_of s format.groups_file).free format.nil some in
-    let same : id ≡ (meta_of s format.groups_file).free = subst (λ b. id ≡ cond b (meta_of s format.groups_file).high (meta_of s format.groups_file).free) test is in
+    let same : id ≡ (meta_of s format.groups_file).free = subst (λ b. id ≡ cond b (meta_of s format.groups_file).high (meta_of s format.groups_file).free) test
+    is in
     let fits : (meta_of s format.groups_file).high < 2 ^ 32 = field-lt 4 (s.records (meta_key_of format.groups_file)) format.meta_high in
     let kept : high (free_taken s format.groups_file).records format.groups_file ≡ (meta_of s format.groups_file).high = high_of _ fits in
-    let low : (meta_of s format.groups_file).free < (meta_of s format.groups_file).high = ⊎_elim (λ lt. lt) (λ (ge : (meta_of s format.groups_file).high ≤ (meta_of s format.groups_file).free). absurd (undamaged (meta_damage format.groups_file 1) (Unranged (λ r. ⊎_elim (λ e. some e) (λ lt. omega arith) r.first)))) (cases_lt (meta_of s format.groups_file).free (meta_of s format.groups_file).high) in
+    let low : (meta_of s format.groups_file).free < (meta_of s format.groups_file).high =
+    ⊎_elim (λ lt. lt) (λ (ge : (meta_of s format.groups_file).high ≤ (meta_of s format.groups_file).free). absurd (undamaged (meta_damage format.groups_file 1) (Unranged (λ r. ⊎_elim (λ e. some e) (λ lt. omega arith) r.first)))) (cases_lt (meta_of s format.groups_file).free (meta_of s format.groups_file).high) in
     subst (λ b. ((meta_of s format.groups_file).high ≤ high (cond b (mark_taken s format.groups_file) (free_taken s format.groups_file)).records format.groups_file) × (id < high (cond b (mark_taken s format.groups_file) (free_taken s format.groups_file)).records format.groups_file))
     (sym test) (omega arith, omega arith))
     (nat_cases (meta_of s format.groups_file).free format.nil)
@@ -81,7 +88,8 @@ taken_marks s id is small undamaged = ⊎_elim
 -- ---- a group that is made
 
 module _ (s u : State) (node label id : ℕ) (others : (key : Key) → key ≢ meta_key_of format.groups_file → u.records key ≡ s.records key)
-    (grown : high s.records format.groups_file ≤ high u.records format.groups_file) (low : id < high u.records format.groups_file) (fresh : kind_at s.records format.groups_file id ≡ format.free_kind)
+    (grown : high s.records format.groups_file ≤ high u.records format.groups_file) (low : id < high u.records format.groups_file)
+    (fresh : kind_at s.records format.groups_file id ≡ format.free_kind)
     (small : id < 2 ^ 25) (small_node : node < 2 ^ 32) (small_label : label < 2 ^ 32) (came groups : List ℕ) (h : LeadsAmong s.records node came groups) where
   abbrev was_first : ℕ
   was_first = first_link s.records node
@@ -96,13 +104,16 @@ module _ (s u : State) (node label id : ℕ) (others : (key : Key) → key ≢ m
   small_first = field-lt 4 (rec_at s.records format.nodes_file node) format.node_first_link
 
   off : (g : ℕ) → In g groups → g ≢ id
-  off g i e = ⊎_elim (λ (none : g ≡ format.nil). omega arith) (λ (some : g ≢ format.nil). h.used g i some (ap (kind_at s.records format.groups_file) e ∙ fresh)) (nat_cases g format.nil)
+  off g i e = ⊎_elim (λ (none : g ≡ format.nil). omega arith) (λ (some : g ≢ format.nil). h.used g i some (ap (kind_at s.records format.groups_file) e ∙ fresh))
+      (nat_cases g format.nil)
 
   apart : id ≢ was_first
   apart e = off was_first h.first (sym e)
 
-  number : (g n at : ℕ) → at + n ≤ 64 → g ≢ id → (at + n ≤ 12) ⊎ (16 ≤ at) → field n (rec_at after.records format.groups_file g) at ≡ field n (rec_at s.records format.groups_file g) at
-  number g n at fits ne aside = group_stays u node was_first id rec g n at fits ne (λ _. aside) ∙ ap (λ r. field n r at) (others (group_key g) (λ e. let f = ap (λ (k : Key). k.file) e in absurd (omega arith)))
+  number : (g n at : ℕ) → at + n ≤ 64 → g ≢ id → (at + n ≤ 12) ⊎ (16 ≤ at)
+      → field n (rec_at after.records format.groups_file g) at ≡ field n (rec_at s.records format.groups_file g) at
+  number g n at fits ne aside = group_stays u node was_first id rec g n at fits ne (λ _. aside)
+      ∙ ap (λ r. field n r at) (others (group_key g) (λ e. let f = ap (λ (k : Key). k.file) e in absurd (omega arith)))
 
   here : rec_at after.records format.groups_file id ≡ rec
   here = group_here u node was_first id rec apart
@@ -120,7 +131,8 @@ module _ (s u : State) (node label id : ℕ) (others : (key : Key) → key ≢ m
 
   used_old : (g : ℕ) → In g groups → g ≢ format.nil → kind_at after.records format.groups_file g ≢ format.free_kind
   used_old g i some is =
-      let lt : g < high s.records format.groups_file = kind_below (high s.records format.groups_file) (rec_at s.records format.groups_file g) g (h.used g i some) in
+      let lt : g < high s.records format.groups_file = kind_below (high s.records format.groups_file) (rec_at s.records format.groups_file g) g
+      (h.used g i some) in
       let m = mark in
       h.used g i some (kind_low (high s.records format.groups_file) (rec_at s.records format.groups_file g) g lt ∙ sym (number g 1 format.kind (omega arith) (off g i) (inl (omega arith)))
       ∙ sym (kind_low (high after.records format.groups_file) (rec_at after.records format.groups_file g) g (omega arith)) ∙ is)
@@ -138,10 +150,12 @@ module _ (s u : State) (node label id : ℕ) (others : (key : Key) → key ≢ m
         (λ j. subst (λ z. In z (groups ++ id ∷ [])) (sym (number g 4 format.group_next (omega arith) (off g j) (inr (omega arith)))) (in_before (next_group s.records g) id groups (h.next g j some)))
         (λ e. subst (λ z. In (next_group after.records z) (groups ++ id ∷ [])) (sym e) (subst (λ z. In z (groups ++ id ∷ [])) (sym (value format.group_next was_first refl)) (in_before was_first id groups h.first)))
         (in_push groups id g i);
-    used = λ g i some. ⊎_elim (λ j. used_old g j some) (λ e. subst (λ z. kind_at after.records format.groups_file z ≢ format.free_kind) (sym e) used_here) (in_push groups id g i);
+    used = λ g i some. ⊎_elim (λ j. used_old g j some) (λ e. subst (λ z. kind_at after.records format.groups_file z ≢ format.free_kind) (sym e) used_here)
+        (in_push groups id g i);
     heads = λ g i some side. let b = place_range side in ⊎_elim
         (λ j. subst (λ z. In z came) (sym (number g 4 (place_of side) (let top = b.1 in omega arith) (off g j) (inr (let bottom = b.0 in omega arith)))) (h.heads g j some side))
-        (λ e. subst (λ z. In (first_of after.records (group_head z side)) came) (sym e) (subst (λ z. In z came) (sym (head_here side)) h.no_rel)) (in_push groups id g i);
+        (λ e. subst (λ z. In (first_of after.records (group_head z side)) came) (sym e) (subst (λ z. In z came) (sym (head_here side)) h.no_rel))
+        (in_push groups id g i);
     no_group = in_before format.nil id groups h.no_group;
     no_rel = h.no_rel;
   }
@@ -150,15 +164,20 @@ module _ (s u : State) (node label id : ℕ) (others : (key : Key) → key ≢ m
   unfolding new
   leads_led = leads_new
 
-pub leads_made : (s now u end : State) (node label first id : ℕ) (rec : Rec) → now ≡ after_get s → u ≡ taken now format.groups_file → id ≡ taken_id (meta_of now format.groups_file) → IsUndamaged now format.groups_file
-    → kind_at now.records format.groups_file id ≡ format.free_kind → first ≡ first_link s.records node → rec ≡ empty_group node label first → end ≡ led u node first id rec
-    → id < 2 ^ 25 → node < 2 ^ 32 → label < 2 ^ 32 → (came groups : List ℕ) → LeadsAmong s.records node came groups → LeadsAmong end.records node came (groups ++ id ∷ [])
+pub leads_made : (s now u end : State) (node label first id : ℕ) (rec : Rec) → now ≡ after_get s → u ≡ taken now format.groups_file
+    → id ≡ taken_id (meta_of now format.groups_file) → IsUndamaged now format.groups_file
+    → kind_at now.records format.groups_file id ≡ format.free_kind → first ≡ first_link s.records node → rec ≡ empty_group node label first
+    → end ≡ led u node first id rec
+    → id < 2 ^ 25 → node < 2 ^ 32 → label < 2 ^ 32 → (came groups : List ℕ) → LeadsAmong s.records node came groups
+    → LeadsAmong end.records node came (groups ++ id ∷ [])
 leads_made s now u end node label first id rec read took id_is undamaged fresh first_is rec_is is small small_node small_label came groups h =
     let same : now.records ≡ s.records = ap (λ (t : State). t.records) read in
     let was = first_link now.records node in
     let first_now : first ≡ was = first_is ∙ ap (λ (r : Records). first_link r node) (sym same) in
-    let end_is : end ≡ led u node was id (empty_group node label was) = is ∙ ap (λ f. led u node f id rec) first_now ∙ ap (λ (r : Rec). led u node was id r) (rec_is ∙ ap (empty_group node label) first_now) in
-    let marks = subst (λ (q : State). (high now.records format.groups_file ≤ high q.records format.groups_file) × (id < high q.records format.groups_file)) (sym took) (taken_marks now id id_is small undamaged) in
+    let end_is : end ≡ led u node was id (empty_group node label was) = is ∙ ap (λ f. led u node f id rec) first_now
+    ∙ ap (λ (r : Rec). led u node was id r) (rec_is ∙ ap (empty_group node label) first_now) in
+    let marks = subst (λ (q : State). (high now.records format.groups_file ≤ high q.records format.groups_file) × (id < high q.records format.groups_file))
+    (sym took) (taken_marks now id id_is small undamaged) in
     subst (λ (t : State). LeadsAmong t.records node came (groups ++ id ∷ [])) (sym end_is)
     (leads_led now u node label id (λ key ne. ap (λ (q : State). q.records key) took ∙ taken_other now key ne) marks.0 marks.1 fresh small small_node small_label came groups
     (subst (λ (r : Records). LeadsAmong r node came groups) (sym same) h))
@@ -168,14 +187,17 @@ pub rels_made : (s : State) (node label x : ℕ) → rec_at (made s node label).
 unfolding made new
 rels_made s node label x =
     let first = first_link s.records node in
-    stays (taken (after_get s) format.groups_file) node first (taken_id (meta_of s format.groups_file)) (empty_group node label first) (key_in format.relationships_file x)
-    (λ e. let f = ap (λ (k : Key). k.file) e in omega arith) (λ e. let f = ap (λ (k : Key). k.file) e in omega arith) (λ e. let f = ap (λ (k : Key). k.file) e in omega arith)
+    stays (taken (after_get s) format.groups_file) node first (taken_id (meta_of s format.groups_file)) (empty_group node label first)
+    (key_in format.relationships_file x)
+    (λ e. let f = ap (λ (k : Key). k.file) e in omega arith) (λ e. let f = ap (λ (k : Key). k.file) e in omega arith)
+    (λ e. let f = ap (λ (k : Key). k.file) e in omega arith)
     ∙ taken_other (after_get s) (key_in format.relationships_file x) (λ e. let f = ap (λ (k : Key). k.file) e in omega arith)
 
 -- ---- a group that is found or made
 
 -- what was reached is among the groups
-pub leads_found : (s l : State) (node id : ℕ) → SameButReads s l → IsReached s.records (first_link s.records node) id → (came groups : List ℕ) → LeadsAmong s.records node came groups
+pub leads_found : (s l : State) (node id : ℕ) → SameButReads s l → IsReached s.records (first_link s.records node) id → (came groups : List ℕ)
+    → LeadsAmong s.records node came groups
     → LeadsAmong l.records node came (groups ++ id ∷ []) × In format.nil groups
 leads_found s l node id same reached came groups h = (
   subst (λ (q : State). LeadsAmong q.records node came (groups ++ id ∷ [])) (sym same) (record {
@@ -192,7 +214,8 @@ leads_found s l node id same reached came groups h = (
     old : (g : ℕ) → In g (groups ++ id ∷ []) → In g groups
     old g i = ⊎_elim (λ j. j) (λ e. subst (λ z. In z groups) (sym e) (reached groups h.first h.next)) (in_push groups id g i)
 
-pub leads_own : (r : Result OwnGroup Fault) (s now end : State) (node : ℕ) → SameButReads s now → IfOk r (λ own. (came groups : List ℕ) → LeadsAmong now.records node came groups → LeadsAmong end.records node came (groups ++ own.row.id ∷ []))
+pub leads_own : (r : Result OwnGroup Fault) (s now end : State) (node : ℕ) → SameButReads s now
+    → IfOk r (λ own. (came groups : List ℕ) → LeadsAmong now.records node came groups → LeadsAmong end.records node came (groups ++ own.row.id ∷ []))
     → IfOk r (λ own. own.first ≡ first_link now.records node)
     → IfOk r (λ own. (came groups : List ℕ) → LeadsAmong s.records node came groups → LeadsAmong end.records node came (groups ++ own.row.id ∷ []) × In own.first groups)
 leads_own (Err fault) s now end node same leads first = tt
@@ -202,7 +225,8 @@ leads_own (Ok own) s now end node same leads first = λ came groups h.
 
 -- ---- a relationship that comes into its group
 
-pushed_next : (t : State) (h : Head) (node rel y : ℕ) → h.key.file ≡ format.groups_file → y ≢ rel → next_of (pushed t h node rel).records node y ≡ next_of t.records node y
+pushed_next : (t : State) (h : Head) (node rel y : ℕ) → h.key.file ≡ format.groups_file → y ≢ rel
+    → next_of (pushed t h node rel).records node y ≡ next_of t.records node y
 unfolding pushed
 pushed_next t h node rel y group ne =
     let first = first_of t.records h in
@@ -211,21 +235,24 @@ pushed_next t h node rel y group ne =
     ∙ next_of-set_next_other b.records node rel first node y (λ e. absurd (ne e))
     ∙ next_of-backed (after_get t) node first rel node y
 
-pub pushed_field : (t : State) (h : Head) (node rel k n at : ℕ) → at + n ≤ 64 → (group_key k ≡ h.key → (at + n ≤ h.field) ⊎ (h.field + 4 ≤ at)) → field n (rec_at (pushed t h node rel).records format.groups_file k) at ≡ field n (rec_at t.records format.groups_file k) at
+pub pushed_field : (t : State) (h : Head) (node rel k n at : ℕ) → at + n ≤ 64 → (group_key k ≡ h.key → (at + n ≤ h.field) ⊎ (h.field + 4 ≤ at))
+    → field n (rec_at (pushed t h node rel).records format.groups_file k) at ≡ field n (rec_at t.records format.groups_file k) at
 unfolding pushed
 pushed_field t h node rel k n at inside apart = ⊎_elim
     (λ (e : group_key k ≡ h.key).
     let all = links.next_set (links.backed (after_get t) node (first_of t.records h) rel) node rel (first_of t.records h) in
     let put_there = with_field 4 (t.records h.key) h.field rel in
     ap (λ z. field n (put all.records h.key put_there z) at) e ∙ ap (λ q. field n q at) (put_same all.records h.key put_there)
-    ∙ field-with_field_other 4 (t.records h.key) h.field rel n at inside (⊎_elim (λ low. inr low) (λ high. inl high) (apart e)) ∙ ap (λ z. field n (t.records z) at) (sym e))
+    ∙ field-with_field_other 4 (t.records h.key) h.field rel n at inside (⊎_elim (λ low. inr low) (λ high. inl high) (apart e))
+    ∙ ap (λ z. field n (t.records z) at) (sym e))
     (λ (ne : group_key k ≢ h.key). ap (λ q. field n q at) (pushed_other t h node rel (group_key k) (λ e. omega arith) ne)) (key_cases (group_key k) h.key)
 
 pushed_first : (t : State) (h : Head) (node rel : ℕ) → h.field + 4 ≤ 64 → rel < 2 ^ 32 → first_of (pushed t h node rel).records h ≡ rel
 unfolding pushed
 pushed_first t h node rel fits small =
     let all = links.next_set (links.backed (after_get t) node (first_of t.records h) rel) node rel (first_of t.records h) in
-    ap (λ r. field 4 r h.field) (put_same all.records h.key (with_field 4 (t.records h.key) h.field rel)) ∙ field-with_field_same 4 (t.records h.key) h.field rel fits small
+    ap (λ r. field 4 r h.field) (put_same all.records h.key (with_field 4 (t.records h.key) h.field rel))
+    ∙ field-with_field_same 4 (t.records h.key) h.field rel fits small
 
 module _ (m : State) (node rel g : ℕ) (side : Side) (small : rel < 2 ^ 32) where
   abbrev head : Head
@@ -241,28 +268,35 @@ module _ (m : State) (node rel g : ℕ) (side : Side) (small : rel < 2 ^ 32) whe
   moved = tallied one_more p head
 
   other : (key : Key) → key.file ≢ format.relationships_file → key.file ≢ format.groups_file → moved.records key ≡ m.records key
-  other key a b = file-tallied one_more p head key b ∙ pushed_other t head node rel key a (λ e. b (ap (λ (k : Key). k.file) e)) ∙ elsewhere-set_prev m.records node rel format.nil key a
+  other key a b = file-tallied one_more p head key b ∙ pushed_other t head node rel key a (λ e. b (ap (λ (k : Key). k.file) e))
+      ∙ elsewhere-set_prev m.records node rel format.nil key a
 
   group_t : (k : ℕ) → rec_at t.records format.groups_file k ≡ rec_at m.records format.groups_file k
   group_t k = elsewhere-set_prev m.records node rel format.nil (group_key k) (λ e. omega arith)
 
   low : (k n at : ℕ) → at + n ≤ 20 → field n (rec_at moved.records format.groups_file k) at ≡ field n (rec_at m.records format.groups_file k) at
-  low k n at inside = field-tallied one_more p head (group_key k) n at (omega arith) ∙ pushed_field t head node rel k n at (omega arith) (λ _. let b = (place_range side).0 in inl (omega arith)) ∙ ap (λ r. field n r at) (group_t k)
+  low k n at inside = field-tallied one_more p head (group_key k) n at (omega arith)
+      ∙ pushed_field t head node rel k n at (omega arith) (λ _. let b = (place_range side).0 in inl (omega arith)) ∙ ap (λ r. field n r at) (group_t k)
 
   kind_m : (k : ℕ) → kind_at moved.records format.groups_file k ≡ kind_at m.records format.groups_file k
-  kind_m k = ap (λ r. kind_in (metas.meta_of r).high (rec_at moved.records format.groups_file k) k) (other (meta_key_of format.groups_file) (λ e. omega arith) (λ e. omega arith))
-      ∙ kind_by (high m.records format.groups_file) (rec_at moved.records format.groups_file k) (rec_at m.records format.groups_file k) k (low k 1 format.kind (omega arith))
+  kind_m k = ap (λ r. kind_in (metas.meta_of r).high (rec_at moved.records format.groups_file k) k)
+      (other (meta_key_of format.groups_file) (λ e. omega arith) (λ e. omega arith))
+      ∙ kind_by (high m.records format.groups_file) (rec_at moved.records format.groups_file k) (rec_at m.records format.groups_file k) k
+      (low k 1 format.kind (omega arith))
 
-  first_same : (k : ℕ) (s : Side) → ((k ≡ g) → (place_of s + 4 ≤ place_of side) ⊎ (place_of side + 4 ≤ place_of s)) → first_of moved.records (group_head k s) ≡ first_of m.records (group_head k s)
+  first_same : (k : ℕ) (s : Side) → ((k ≡ g) → (place_of s + 4 ≤ place_of side) ⊎ (place_of side + 4 ≤ place_of s))
+      → first_of moved.records (group_head k s) ≡ first_of m.records (group_head k s)
   first_same k s aside =
       let b = (place_range s).1 in
       field-tallied one_more p head (group_key k) 4 (place_of s) (omega arith)
       ∙ pushed_field t head node rel k 4 (place_of s) (omega arith) (λ e. aside (ap (λ (z : Key). z.id) e)) ∙ ap (λ r. field 4 r (place_of s)) (group_t k)
 
   first_here_now : first_of moved.records head ≡ rel
-  first_here_now = let b = (place_range side).1 in field-tallied one_more p head (group_key g) 4 (place_of side) (omega arith) ∙ pushed_first t head node rel (omega arith) small
+  first_here_now = let b = (place_range side).1 in field-tallied one_more p head (group_key g) 4 (place_of side) (omega arith)
+      ∙ pushed_first t head node rel (omega arith) small
 
-  heads_now : (came : List ℕ) (k : ℕ) → ((s : Side) → In (first_of m.records (group_head k s)) came) → (s : Side) → In (first_of moved.records (group_head k s)) (came ++ rel ∷ [])
+  heads_now : (came : List ℕ) (k : ℕ) → ((s : Side) → In (first_of m.records (group_head k s)) came) → (s : Side)
+      → In (first_of moved.records (group_head k s)) (came ++ rel ∷ [])
   heads_now came k was s = ⊎_elim
       (λ (same : k ≡ g). ⊎_elim
       (λ (e : side ≡ s). subst (λ z. In (first_of moved.records (group_head z s)) (came ++ rel ∷ [])) (sym same)
@@ -284,20 +318,25 @@ module _ (m : State) (node rel g : ℕ) (side : Side) (small : rel < 2 ^ 32) whe
   }
 
   next_moved : (y : ℕ) → y ≢ rel → next_of moved.records node y ≡ next_of m.records node y
-  next_moved y ne = ap (λ r. next_in r node) (file-tallied one_more p head (key_in format.relationships_file y) (λ e. omega arith)) ∙ pushed_next t head node rel y refl ne ∙ next_of-set_prev m.records node rel format.nil node y
+  next_moved y ne = ap (λ r. next_in r node) (file-tallied one_more p head (key_in format.relationships_file y) (λ e. omega arith))
+      ∙ pushed_next t head node rel y refl ne ∙ next_of-set_prev m.records node rel format.nil node y
 
 -- the groups and what stands first in them, after a turn
 pub leads_turn : (s l m t end : State) (node rel : ℕ) (side : Side) (h : Head) (own : OwnGroup) (first : ℕ) → SameButReads s l
-    → ((came groups : List ℕ) → LeadsAmong l.records node came groups → LeadsAmong m.records node came (groups ++ own.row.id ∷ []) × In own.first groups) → own.row.id < 2 ^ 25 → rel < 2 ^ 25
+    → ((came groups : List ℕ) → LeadsAmong l.records node came groups → LeadsAmong m.records node came (groups ++ own.row.id ∷ []) × In own.first groups)
+    → own.row.id < 2 ^ 25 → rel < 2 ^ 25
     → t ≡ prev_set m node rel format.nil → h ≡ group_head own.row.id side → end ≡ tallied one_more (pushed t h node rel) h → first ≡ first_of t.records h
-    → (came groups : List ℕ) → LeadsAmong s.records node came groups → LeadsAmong end.records node (came ++ rel ∷ []) (groups ++ own.row.id ∷ []) × (In first came × In own.first groups)
+    → (came groups : List ℕ) → LeadsAmong s.records node came groups → LeadsAmong end.records node (came ++ rel ∷ []) (groups ++ own.row.id ∷ [])
+    × (In first came × In own.first groups)
 leads_turn s l m t end node rel side h own first same opens group small freed head put first_is came groups was =
     let opened = opens came groups (subst (λ (q : State). LeadsAmong q.records node came groups) (sym same) was) in
     let end_of : moved m node rel own.row.id side (omega arith) ≡ end
     = sym (put ∙ ap (λ (q : State). tallied one_more (pushed q h node rel) h) freed ∙ ap (λ (q : Head). tallied one_more (pushed (prev_set m node rel format.nil) q node rel) q) head) in
     let first_m : first ≡ first_of m.records (group_head own.row.id side)
-    = first_is ∙ ap (λ (q : State). first_of q.records h) freed ∙ ap (λ (q : Head). first_of (prev_set m node rel format.nil).records q) head ∙ ap (λ r. field 4 r (place_of side)) (group_t m node rel own.row.id side (omega arith) own.row.id) in (
-      subst (λ (q : State). LeadsAmong q.records node (came ++ rel ∷ []) (groups ++ own.row.id ∷ [])) end_of (leads_moved m node rel own.row.id side (omega arith) came (groups ++ own.row.id ∷ []) opened.0),
+    = first_is ∙ ap (λ (q : State). first_of q.records h) freed ∙ ap (λ (q : Head). first_of (prev_set m node rel format.nil).records q) head
+    ∙ ap (λ r. field 4 r (place_of side)) (group_t m node rel own.row.id side (omega arith) own.row.id) in (
+      subst (λ (q : State). LeadsAmong q.records node (came ++ rel ∷ []) (groups ++ own.row.id ∷ [])) end_of
+          (leads_moved m node rel own.row.id side (omega arith) came (groups ++ own.row.id ∷ []) opened.0),
       (
         subst (λ z. In z came) (sym first_m) (opened.0.heads own.row.id (in_last own.row.id groups) (λ e. omega arith) side),
         opened.1,
@@ -305,14 +344,17 @@ leads_turn s l m t end node rel side h own first same opens group small freed he
     )
 
 -- the links lead through the rest
-pub walk_turn : (s l m t end : State) (node rel : ℕ) (side : Side) (h : Head) (g next : ℕ) → SameButReads s l → ((x : ℕ) → rec_at m.records format.relationships_file x ≡ rec_at l.records format.relationships_file x)
-    → rel < 2 ^ 25 → t ≡ prev_set m node rel format.nil → h ≡ group_head g side → end ≡ tallied one_more (pushed t h node rel) h → next ≡ next_of s.records node rel
+pub walk_turn : (s l m t end : State) (node rel : ℕ) (side : Side) (h : Head) (g next : ℕ) → SameButReads s l
+    → ((x : ℕ) → rec_at m.records format.relationships_file x ≡ rec_at l.records format.relationships_file x)
+    → rel < 2 ^ 25 → t ≡ prev_set m node rel format.nil → h ≡ group_head g side → end ≡ tallied one_more (pushed t h node rel) h
+    → next ≡ next_of s.records node rel
     → (rest : List ℕ) → IsWalk (next_of s.records node) rel (rel ∷ rest) → IsWalk (next_of end.records node) next rest
 walk_turn s l m t end node rel side h g next same rels small freed head put next_is rest walk =
     let end_of : moved m node rel g side (omega arith) ≡ end
     = sym (put ∙ ap (λ (q : State). tallied one_more (pushed q h node rel) h) freed ∙ ap (λ (q : Head). tallied one_more (pushed (prev_set m node rel format.nil) q node rel) q) head) in
     let stays : (y : ℕ) → In y rest → next_of end.records node y ≡ next_of s.records node y
-    = λ y i. ap (λ (q : State). next_of q.records node y) (sym end_of) ∙ next_moved m node rel g side (omega arith) y (λ e. head_once (next_of s.records node) rel rest walk.1 walk.2 (subst (λ z. In z rest) e i))
+    = λ y i. ap (λ (q : State). next_of q.records node y) (sym end_of) ∙ next_moved m node rel g side (omega arith) y
+    (λ e. head_once (next_of s.records node) rel rest walk.1 walk.2 (subst (λ z. In z rest) e i))
     ∙ ap (λ r. next_in r node) (rels y) ∙ ap (λ (q : State). next_of q.records node y) same in
     walk_stays (next_of s.records node) (next_of end.records node) next rest stays (subst (λ z. IsWalk (next_of s.records node) z rest) (sym next_is) walk.2)
 
@@ -321,7 +363,8 @@ walk_turn s l m t end node rel side h g next same rels small freed head put next
 pub leads_cleared : (s : State) (node : ℕ) → LeadsAmong (cleared s node).records node (format.nil ∷ []) (format.nil ∷ [])
 leads_cleared s node =
     let old = rec_at s.records format.nodes_file node in
-    let none : first_link (cleared s node).records node ≡ format.nil = ap (λ r. field 4 r format.node_first_link) (put_same s.records (node_key node) (clear_of old)) ∙ clear_first old in
+    let none : first_link (cleared s node).records node ≡ format.nil = ap (λ r. field 4 r format.node_first_link)
+    (put_same s.records (node_key node) (clear_of old)) ∙ clear_first old in
     record {
       first = subst (λ z. In z (format.nil ∷ [])) (sym none) (inl refl);
       next = λ g i some. absurd (some (only g i));
@@ -342,13 +385,15 @@ pub record HasRest (s now : State) (node at count : ℕ) : Type 0 where
   pub live : (x : ℕ) → In x rest → rel_at s.records x ≢ None
   pub few : length rest + count ≤ degree s.records node
 
-pub rest_all : (s l v t : State) (node first said : ℕ) → SameButReads s l → SameButReads s v → t ≡ cleared v node → said ≡ degree s.records node → HasChain l.records node first said → HasRest s t node first 0
+pub rest_all : (s l v t : State) (node first said : ℕ) → SameButReads s l → SameButReads s v → t ≡ cleared v node → said ≡ degree s.records node
+    → HasChain l.records node first said → HasRest s t node first 0
 rest_all s l v t node first said same_l same clear said_is chain =
     let h = subst (λ (q : State). HasChain q.records node first said) same_l chain in
     let few = h.few in
     record {
       rest = h.members;
-      walk = subst (λ (q : State). IsWalk (next_of q.records node) first h.members) (sym clear) (walk_stays (next_of s.records node) (next_of (cleared v node).records node) first h.members
+      walk = subst (λ (q : State). IsWalk (next_of q.records node) first h.members) (sym clear)
+          (walk_stays (next_of s.records node) (next_of (cleared v node).records node) first h.members
           (λ x i. ap (λ r. next_in r node) (put_other v.records (node_key node) (clear_of (rec_at v.records format.nodes_file node)) (key_in format.relationships_file x) (λ e. let f = ap (λ (k : Key). k.file) e in omega arith)) ∙ ap (λ (q : State). next_of q.records node x) same) h.walk);
       live = h.live;
       few = omega arith;
@@ -358,9 +403,11 @@ module _ (s now : State) (node at count : ℕ) (there : at ≢ format.nil) (h : 
   rest_first : {P : Type 0} → ((later : List ℕ) → IsWalk (next_of now.records node) at (at ∷ later) → ((x : ℕ) → In x (at ∷ later) → rel_at s.records x ≢ None) → length later + (count + 1) ≤ degree s.records node → P) → P
   rest_first {P} found = by h.rest h.walk h.live h.few
     where
-      by : (xs : List ℕ) → IsWalk (next_of now.records node) at xs → ((x : ℕ) → In x xs → rel_at s.records x ≢ None) → length xs + count ≤ degree s.records node → P
+      by : (xs : List ℕ) → IsWalk (next_of now.records node) at xs → ((x : ℕ) → In x xs → rel_at s.records x ≢ None) → length xs + count ≤ degree s.records node
+          → P
       by [] walk live few = absurd (there walk)
-      by (y ∷ later) walk live few = found later (subst (λ z. IsWalk (next_of now.records node) at (z ∷ later)) (sym walk.0) walk) (λ x i. live x (subst (λ z. In x (z ∷ later)) walk.0 i)) (omega arith)
+      by (y ∷ later) walk live few = found later (subst (λ z. IsWalk (next_of now.records node) at (z ∷ later)) (sym walk.0) walk)
+          (λ x i. live x (subst (λ z. In x (z ∷ later)) walk.0 i)) (omega arith)
 
   pub rest_live : rel_at s.records at ≢ None
   rest_live = rest_first (λ later walk live few. live at (inl refl))
@@ -368,5 +415,6 @@ module _ (s now : State) (node at count : ℕ) (there : at ≢ format.nil) (h : 
   pub rest_over : degree s.records node ≤ count → ⊥
   rest_over all = rest_first (λ later walk live few. omega arith)
 
-  pub rest_next : (end : State) (next : ℕ) → ((rest : List ℕ) → IsWalk (next_of now.records node) at (at ∷ rest) → IsWalk (next_of end.records node) next rest) → HasRest s end node next (count + 1)
+  pub rest_next : (end : State) (next : ℕ) → ((rest : List ℕ) → IsWalk (next_of now.records node) at (at ∷ rest) → IsWalk (next_of end.records node) next rest)
+      → HasRest s end node next (count + 1)
   rest_next end next onward = rest_first (λ later walk live few. record { rest = later; walk = onward later walk; live = λ x i. live x (inr i); few = few })

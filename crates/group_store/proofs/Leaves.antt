@@ -57,7 +57,8 @@ leaves_both s m t node regroups h k = record {
 }
 
 -- groups of other nodes are of the kind that they were
-pub group_kinds : (s t : State) (node : ℕ) → Regroups s t node → LeavesOthers s t node → (g : ℕ) (group : GroupRow) → group_at s.records g ≡ Some group → group.owner ≢ node → kind_at t.records format.groups_file g ≡ kind_at s.records format.groups_file g
+pub group_kinds : (s t : State) (node : ℕ) → Regroups s t node → LeavesOthers s t node → (g : ℕ) (group : GroupRow) → group_at s.records g ≡ Some group
+    → group.owner ≢ node → kind_at t.records format.groups_file g ≡ kind_at s.records format.groups_file g
 group_kinds s t node regroups leaves g group is ne =
     kind_low (high t.records format.groups_file) (rec_at t.records format.groups_file g) g (below t (regroups.groups g group is ne))
     ∙ leaves.groups g group is ne 1 format.kind (omega arith)
@@ -69,7 +70,8 @@ group_kinds s t node regroups leaves g group is ne =
         kind_below (high z.records format.groups_file) r g (some_row (kind_at z.records format.groups_file g) (group_in r g) group at).0
 
 -- the record of a group of the node is replaced
-pub leaves_put : (s t : State) (node g : ℕ) (rec : Rec) (row : GroupRow) → group_at s.records g ≡ Some row → row.owner ≡ node → t.records ≡ put s.records (group_key g) rec → LeavesOthers s t node
+pub leaves_put : (s t : State) (node g : ℕ) (rec : Rec) (row : GroupRow) → group_at s.records g ≡ Some row → row.owner ≡ node
+    → t.records ≡ put s.records (group_key g) rec → LeavesOthers s t node
 leaves_put s t node g rec row group owner is = record {
   files = λ key a b c d. ap (λ (r : Records). r key) is ∙ put_other_file s.records (group_key g) rec key c;
   nodes = λ x n at inside ne. ap (λ (r : Records). field n (rec_at r format.nodes_file x) at) is;

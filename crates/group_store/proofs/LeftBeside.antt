@@ -56,7 +56,8 @@ beside_then s t u node a b = record {
 }
 
 -- no record but groups and their meta record is other
-beside_groups : (s t : Records) (node : ℕ) → ((key : Key) → key.file ≢ format.groups_file → key ≢ meta_key_of format.groups_file → t key ≡ s key) → LeavesBeside s t node
+beside_groups : (s t : Records) (node : ℕ) → ((key : Key) → key.file ≢ format.groups_file → key ≢ meta_key_of format.groups_file → t key ≡ s key)
+    → LeavesBeside s t node
 beside_groups s t node same = record {
   others = λ key a b c d. same key b c;
   here = λ n at inside one apart. ap (λ r. field n r at) (same (key_in format.nodes_file node) (λ e. omega arith) (λ e. let f = ap (λ (k : Key). k.file) e in omega arith));
@@ -65,7 +66,8 @@ beside_groups s t node same = record {
 
 -- a group is written
 pub beside_group : (s : Records) (node : ℕ) (key : Key) (rec : Rec) → key.file ≡ format.groups_file → LeavesBeside s (put s key rec) node
-beside_group s node key rec group = beside_groups s (put s key rec) node (λ q no_group no_meta. put_other s key rec q (λ e. no_group (ap (λ (k : Key). k.file) e ∙ group)))
+beside_group s node key rec group = beside_groups s (put s key rec) node
+    (λ q no_group no_meta. put_other s key rec q (λ e. no_group (ap (λ (k : Key). k.file) e ∙ group)))
 
 -- the node's record is
 beside_node : (s : Records) (node : ℕ) (rec : Rec) → ((n at : ℕ) → at + n ≤ format.record_bytes → 1 ≤ at → (at + n ≤ format.node_first_link) ⊎ (format.node_first_property ≤ at) → field n rec at ≡ field n (s (node_key node)) at)
@@ -77,11 +79,13 @@ beside_node s node rec stays = record {
 }
 
 -- a link of a relationship is set
-beside_link : (s : Records) (node : ℕ) (p : Head) (to : ℕ) → p.key.file ≡ format.relationships_file → 16 ≤ p.field → p.field ≤ 28 → LeavesBeside s (set_at s p to) node
+beside_link : (s : Records) (node : ℕ) (p : Head) (to : ℕ) → p.key.file ≡ format.relationships_file → 16 ≤ p.field → p.field ≤ 28
+    → LeavesBeside s (set_at s p to) node
 beside_link s node p to rel low high = record {
   others = λ key a b c d. put_other s p.key (with_field 4 (s p.key) p.field to) key (λ e. a (ap (λ (k : Key). k.file) e ∙ rel));
   here = λ n at inside one apart. ap (λ r. field n r at) (put_other s p.key (with_field 4 (s p.key) p.field to) (key_in format.nodes_file node) (λ e. let f : format.nodes_file ≡ format.relationships_file = ap (λ (k : Key). k.file) e ∙ rel in omega arith));
-  rels = λ x n at inside apart. field-set_other s p to (key_in format.relationships_file x) n at inside (λ e. ⊎_elim (λ (k : at + n ≤ format.relationship_source_previous). inl (omega arith)) (λ (k : format.relationship_first_property ≤ at). inr (omega arith)) apart);
+  rels = λ x n at inside apart. field-set_other s p to (key_in format.relationships_file x) n at inside
+      (λ e. ⊎_elim (λ (k : at + n ≤ format.relationship_source_previous). inl (omega arith)) (λ (k : format.relationship_first_property ≤ at). inr (omega arith)) apart);
 }
 
 pub beside_prev : (s : State) (node m x to : ℕ) → LeavesBeside s.records (links.prev_set s m x to).records node
@@ -142,7 +146,8 @@ beside_tallied change s node h = beside_groups s.records (tallied change s h).re
 pub beside_freed : (m t : State) (node rel : ℕ) → t ≡ links.prev_set m node rel format.nil → LeavesBeside m.records t.records node
 beside_freed m t node rel freed = subst (λ (z : State). LeavesBeside m.records z.records node) (sym freed) (beside_prev m node node rel format.nil)
 
-pub beside_moved : (m t end : State) (node rel : ℕ) (h : Head) → h.key.file ≡ format.groups_file → t ≡ links.prev_set m node rel format.nil → end ≡ tallied one_more (pushed t h node rel) h → LeavesBeside m.records end.records node
+pub beside_moved : (m t end : State) (node rel : ℕ) (h : Head) → h.key.file ≡ format.groups_file → t ≡ links.prev_set m node rel format.nil
+    → end ≡ tallied one_more (pushed t h node rel) h → LeavesBeside m.records end.records node
 beside_moved m t end node rel h group freed put = beside_then m.records t.records end.records node
     (beside_freed m t node rel freed)
     (subst (λ (z : State). LeavesBeside t.records z.records node) (sym put)
@@ -159,8 +164,10 @@ beside_cleared s t node is = subst (λ (z : State). LeavesBeside s.records z.rec
 -- they are of the kind that they were
 pub beside_kinds : (s t : Records) (node : ℕ) → LeavesBeside s t node → (x : ℕ) → x ≢ node → kind_at t format.nodes_file x ≡ kind_at s format.nodes_file x
 beside_kinds s t node beside x ne =
-    let same = beside.others (key_in format.nodes_file x) (λ e. omega arith) (λ e. omega arith) (λ e. let f = ap (λ (k : Key). k.file) e in omega arith) (λ e. ne (ap (λ (k : Key). k.id) e)) in
-    let meta = beside.others (meta_key_of format.nodes_file) (λ e. omega arith) (λ e. omega arith) (λ e. let f = ap (λ (k : Key). k.id) e in omega arith) (λ e. let f = ap (λ (k : Key). k.file) e in omega arith) in
+    let same = beside.others (key_in format.nodes_file x) (λ e. omega arith) (λ e. omega arith) (λ e. let f = ap (λ (k : Key). k.file) e in omega arith)
+    (λ e. ne (ap (λ (k : Key). k.id) e)) in
+    let meta = beside.others (meta_key_of format.nodes_file) (λ e. omega arith) (λ e. omega arith) (λ e. let f = ap (λ (k : Key). k.id) e in omega arith)
+    (λ e. let f = ap (λ (k : Key). k.file) e in omega arith) in
     ap (λ m. kind_in m (rec_at t format.nodes_file x) x) (ap (λ r. (metas.meta_of r).high) meta) ∙ ap (λ r. kind_in (high s format.nodes_file) r x) same
 
 -- ---- what holds where a call succeeds, or where a record is said to be damaged
@@ -170,19 +177,22 @@ if_done (Ok x) P Q f h = f h
 if_done (Err e) P Q f h = tt
 
 -- a call that writes nothing where it tells a record, after reads
-pub unwritten_beside : (s l t : State) (node : ℕ) → SameButReads s l → (fault : Fault) → IfSome (damage_of fault) (λ _. SameButReads l t) → IfSome (damage_of fault) (λ _. LeavesBeside s.records t.records node)
+pub unwritten_beside : (s l t : State) (node : ℕ) → SameButReads s l → (fault : Fault) → IfSome (damage_of fault) (λ _. SameButReads l t)
+    → IfSome (damage_of fault) (λ _. LeavesBeside s.records t.records node)
 unwritten_beside s l t node same Memory told = tt
 unwritten_beside s l t node same Disk told = tt
 unwritten_beside s l t node same (Damaged damage) told = beside_then s.records l.records t.records node (beside_read s l node same) (beside_read l t node told)
 
 -- one that only reads there
-pub unpushed_beside : (s : Records) (t end : State) (node : ℕ) → LeavesBeside s t.records node → (fault : Fault) → IfSome (damage_of fault) (λ _. end ≡ after_get t) → IfSome (damage_of fault) (λ _. LeavesBeside s end.records node)
+pub unpushed_beside : (s : Records) (t end : State) (node : ℕ) → LeavesBeside s t.records node → (fault : Fault)
+    → IfSome (damage_of fault) (λ _. end ≡ after_get t) → IfSome (damage_of fault) (λ _. LeavesBeside s end.records node)
 unpushed_beside s t end node beside Memory told = tt
 unpushed_beside s t end node beside Disk told = tt
 unpushed_beside s t end node beside (Damaged damage) told = subst (λ (z : State). LeavesBeside s z.records node) (sym told) beside
 
 -- one after another
-pub later_beside : (s t u : Records) (node : ℕ) → LeavesBeside s t node → (fault : Fault) → IfSome (damage_of fault) (λ _. LeavesBeside t u node) → IfSome (damage_of fault) (λ _. LeavesBeside s u node)
+pub later_beside : (s t u : Records) (node : ℕ) → LeavesBeside s t node → (fault : Fault) → IfSome (damage_of fault) (λ _. LeavesBeside t u node)
+    → IfSome (damage_of fault) (λ _. LeavesBeside s u node)
 later_beside s t u node beside Memory told = tt
 later_beside s t u node beside Disk told = tt
 later_beside s t u node beside (Damaged damage) told = beside_then s t u node beside told
@@ -208,7 +218,8 @@ counted_put s node g counts member =
     let was = s.records (group_key g) in
     let rec = raised was counts in
     let t : Records = put s.records (group_key g) rec in
-    let marks : (f : ℕ) → high t f ≡ high s.records f = λ f. ap (λ (m : Meta). m.high) (meta_in-put_other s.records (group_key g) rec f (λ e. let k = ap (λ (q : Key). q.file) e in omega arith)) in
+    let marks : (f : ℕ) → high t f ≡ high s.records f = λ f. ap (λ (m : Meta). m.high)
+    (meta_in-put_other s.records (group_key g) rec f (λ e. let k = ap (λ (q : Key). q.file) e in omega arith)) in
     let elsewhere : (k : ℕ) → k ≢ g → kind_at t format.groups_file k ≡ kind_at s.records format.groups_file k
     = λ k ne. ap (λ m. kind_in m (rec_at t format.groups_file k) k) (marks format.groups_file)
     ∙ ap (λ r. kind_in (high s.records format.groups_file) r k) (put_other s.records (group_key g) rec (group_key k) (λ e. ne (ap (λ (q : Key). q.id) e))) in
@@ -228,7 +239,8 @@ counted_put s node g counts member =
           (λ (ne : k ≢ g). ap (λ z. not (nat_eq z 0)) (elsewhere k ne)) (nat_cases k g);
     }
   where
-    here : ((f : ℕ) → high (put s.records (group_key g) (raised (s.records (group_key g)) counts)) f ≡ high s.records f) → is_group_kind (kind_at (raised_state s g counts).records format.groups_file g) ≡ is_group_kind (kind_at s.records format.groups_file g)
+    here : ((f : ℕ) → high (put s.records (group_key g) (raised (s.records (group_key g)) counts)) f ≡ high s.records f)
+        → is_group_kind (kind_at (raised_state s g counts).records format.groups_file g) ≡ is_group_kind (kind_at s.records format.groups_file g)
     here marks =
         let r = rec_at s.records format.groups_file g in
         let rec = raised r counts in
@@ -236,6 +248,7 @@ counted_put s node g counts member =
         ap is_group_kind (kind_low (high (raised_state s g counts).records format.groups_file) (rec_at (raised_state s g counts).records format.groups_file g) g (subst (λ m. g < m) (sym (marks format.groups_file)) lt)
         ∙ ap (λ q. field 1 q format.kind) (put_same s.records (group_key g) rec) ∙ raised_kind r counts) ∙ sym member.kind
 
-pub counted_raised : (s z t : State) (node g : ℕ) (counts : Counts) → IsGroupOf s.records node g → SameButReads s z → t ≡ raised_state z g counts → LeavesCounted s.records t.records
+pub counted_raised : (s z t : State) (node g : ℕ) (counts : Counts) → IsGroupOf s.records node g → SameButReads s z → t ≡ raised_state z g counts
+    → LeavesCounted s.records t.records
 counted_raised s z t node g counts member same is = counted_then s.records z.records t.records (counted_read s z same)
     (subst (λ (q : State). LeavesCounted z.records q.records) (sym is) (counted_put z node g counts (subst (λ (q : State). IsGroupOf q.records node g) (sym same) member)))

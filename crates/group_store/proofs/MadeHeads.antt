@@ -54,13 +54,16 @@ others_of s t node a h n ne o = a h n o
 
 -- ---- a group that is made
 
-module _ (now u : State) (node label first id : ℕ) (rec : Rec) (took : u ≡ taken now format.groups_file) (id_is : id ≡ taken_id (meta_of now format.groups_file)) (undamaged : IsUndamaged now format.groups_file)
-    (fresh : kind_at now.records format.groups_file id ≡ format.free_kind) (rec_is : rec ≡ empty_group node label first) (small : id < 2 ^ 25) (small_node : node < 2 ^ 32) (small_label : label < 2 ^ 32) (small_first : first < 2 ^ 32) where
+module _ (now u : State) (node label first id : ℕ) (rec : Rec) (took : u ≡ taken now format.groups_file)
+    (id_is : id ≡ taken_id (meta_of now format.groups_file)) (undamaged : IsUndamaged now format.groups_file)
+    (fresh : kind_at now.records format.groups_file id ≡ format.free_kind) (rec_is : rec ≡ empty_group node label first) (small : id < 2 ^ 25)
+    (small_node : node < 2 ^ 32) (small_label : label < 2 ^ 32) (small_first : first < 2 ^ 32) where
   abbrev after : State
   after = new u node first id rec
 
   marks : (high now.records format.groups_file ≤ high u.records format.groups_file) × (id < high u.records format.groups_file)
-  marks = subst (λ (q : State). (high now.records format.groups_file ≤ high q.records format.groups_file) × (id < high q.records format.groups_file)) (sym took) (taken_marks now id id_is small undamaged)
+  marks = subst (λ (q : State). (high now.records format.groups_file ≤ high q.records format.groups_file) × (id < high q.records format.groups_file)) (sym took)
+      (taken_marks now id id_is small undamaged)
 
   mark : high after.records format.groups_file ≡ high u.records format.groups_file
   mark = ap (λ r. (metas.meta_of r).high) (meta_stays u node first id rec)
@@ -73,7 +76,8 @@ module _ (now u : State) (node label first id : ℕ) (rec : Rec) (took : u ≡ t
     used = λ e.
         let m = mark in
         let low = marks.1 in
-        let counted = number_here u node first id rec 1 format.kind (omega arith) ∙ ap (λ r. field 1 r format.kind) rec_is ∙ kind-empty_group node label first small_node small_label small_first in
+        let counted = number_here u node first id rec 1 format.kind (omega arith) ∙ ap (λ r. field 1 r format.kind) rec_is
+        ∙ kind-empty_group node label first small_node small_label small_first in
         let none = sym counted ∙ sym (kind_low (high after.records format.groups_file) (rec_at after.records format.groups_file id) id (omega arith)) ∙ e in
         omega arith;
     owner = number_here u node first id rec 4 format.group_owner (omega arith) ∙ ap (λ r. field 4 r format.group_owner) rec_is
@@ -86,14 +90,17 @@ module _ (now u : State) (node label first id : ℕ) (rec : Rec) (took : u ≡ t
       let was = some_row (kind_at now.records format.groups_file g) (group_in r g) row is in
       let ne : g ≢ id = λ e. was.0 (ap (kind_at now.records format.groups_file) e ∙ fresh) in
       let number : (n at : ℕ) → at + n ≤ 12 → field n (rec_at after.records format.groups_file g) at ≡ field n r at
-      = λ n at low. group_stays u node first id rec g n at (omega arith) ne (λ _. inl low) ∙ ap (λ r. field n r at) (took_other (group_key g) (λ e. let f = ap (λ (k : Key). k.file) e in absurd (omega arith))) in
+      = λ n at low. group_stays u node first id rec g n at (omega arith) ne (λ _. inl low)
+      ∙ ap (λ r. field n r at) (took_other (group_key g) (λ e. let f = ap (λ (k : Key). k.file) e in absurd (omega arith))) in
       let m = mark in
       let grown = marks.0 in
-      group_grown now.records after.records g row (omega arith) (λ some z. some (sym (number 1 format.kind (omega arith)) ∙ z)) (number 4 format.group_type (omega arith)) (number 4 format.group_owner (omega arith)) is
+      group_grown now.records after.records g row (omega arith) (λ some z. some (sym (number 1 format.kind (omega arith)) ∙ z))
+      (number 4 format.group_type (omega arith)) (number 4 format.group_owner (omega arith)) is
 
   node_mark : high after.records format.nodes_file ≡ high now.records format.nodes_file
   node_mark = ap (λ r. (metas.meta_of r).high) (stays u node first id rec (meta_key_of format.nodes_file)
-      (λ e. let f = ap (λ (k : Key). k.file) e in absurd (omega arith)) (λ e. let f = ap (λ (k : Key). k.file) e in absurd (omega arith)) (λ e. let f = ap (λ (k : Key). k.file) e in absurd (omega arith))
+      (λ e. let f = ap (λ (k : Key). k.file) e in absurd (omega arith)) (λ e. let f = ap (λ (k : Key). k.file) e in absurd (omega arith))
+      (λ e. let f = ap (λ (k : Key). k.file) e in absurd (omega arith))
       ∙ took_other (meta_key_of format.nodes_file) (λ e. let f = ap (λ (k : Key). k.id) e in absurd (omega arith)))
 
   own_byte : field 1 (rec_at after.records format.nodes_file node) format.kind ≡ field 1 (rec_at u.records format.nodes_file node) format.kind
@@ -142,14 +149,17 @@ heads_freed m t node rel freed = heads_alike m.records t.records (alike_by m.rec
     mark : (f : ℕ) → high t.records f ≡ high m.records f
     mark f = ap (λ r. (metas.meta_of r).high) (other (meta_key_of f) (omega arith))
 
-pub heads_pushed : (t end : State) (node rel : ℕ) (h : Head) → h.key.file ≡ format.groups_file → 12 ≤ h.field → end ≡ tallied one_more (pushed t h node rel) h → KeepsHeads t end
-heads_pushed t end node rel h group high_field put = heads_alike t.records end.records (alike_by t.records end.records (mark format.nodes_file) (mark format.groups_file)
+pub heads_pushed : (t end : State) (node rel : ℕ) (h : Head) → h.key.file ≡ format.groups_file → 12 ≤ h.field → end ≡ tallied one_more (pushed t h node rel) h
+    → KeepsHeads t end
+heads_pushed t end node rel h group high_field put = heads_alike t.records end.records
+    (alike_by t.records end.records (mark format.nodes_file) (mark format.groups_file)
     (λ n. ap (λ r. field 1 r format.kind) (other (node_key n) (omega arith) (omega arith)))
     (λ g n at low. ap (λ (q : State). field n (q.records (group_key g)) at) put ∙ field-tallied one_more (pushed t h node rel) h (group_key g) n at (omega arith)
     ∙ pushed_field t h node rel g n at (omega arith) (λ _. inl (omega arith))))
   where
     other : (key : Key) → key.file ≢ format.relationships_file → key.file ≢ format.groups_file → end.records key ≡ t.records key
-    other key a b = ap (λ (q : State). q.records key) put ∙ file-tallied one_more (pushed t h node rel) h key b ∙ pushed_other t h node rel key a (λ e. b (ap (λ (k : Key). k.file) e ∙ group))
+    other key a b = ap (λ (q : State). q.records key) put ∙ file-tallied one_more (pushed t h node rel) h key b
+        ∙ pushed_other t h node rel key a (λ e. b (ap (λ (k : Key). k.file) e ∙ group))
 
     mark : (f : ℕ) → high end.records f ≡ high t.records f
     mark f = ap (λ r. (metas.meta_of r).high) (other (meta_key_of f) (omega arith) (omega arith))
@@ -173,7 +183,8 @@ heads_cleared s t node is h n ne o = subst (λ (z : State). IsHeadOf z.records h
     group g row there =
         let same = other (group_key g) (λ e. let k = ap (λ (k : Key). k.file) e in absurd (omega arith)) in
         let m = mark format.groups_file in
-        group_grown s.records (cleared s node).records g row (omega arith) (λ some z. some (ap (λ r. field 1 r format.kind) (sym same) ∙ z)) (ap (λ r. field 4 r format.group_type) same) (ap (λ r. field 4 r format.group_owner) same) there
+        group_grown s.records (cleared s node).records g row (omega arith) (λ some z. some (ap (λ r. field 1 r format.kind) (sym same) ∙ z))
+        (ap (λ r. field 4 r format.group_type) same) (ap (λ r. field 4 r format.group_owner) same) there
 
     by : IsHeadOf s.records h n → IsHeadOf (cleared s node).records h n
     by (inl o) = inl (record { sparse = kind ∙ o.sparse; is = o.is })

@@ -1,5 +1,7 @@
 -- A group that is made keeps the rules, but that it is empty.
-use Rattle.std.proofs.Common.{◌≡◌, ◌≢◌, ◌⊎◌, ℕ, ◌+◌, ◌<◌, ◌≤◌, ◌^◌, nat_eq, nat_lt, not, Bool, true, false, cond, ◌&&◌, ◌||◌, Option, None, Some, List, [], ◌∷◌, sym, ap, ◌∙◌, subst, inl, inr, ⊎_elim, arith, refl}
+use Rattle.std.proofs.Common.{◌≡◌, ◌≢◌, ◌⊎◌, ℕ, ◌+◌, ◌<◌, ◌≤◌, ◌^◌, nat_eq, nat_lt, not, Bool, true, false, cond, ◌&&◌}
+use Rattle.std.proofs.Common.{◌||◌, Option, None, Some, List, [], ◌∷◌, sym, ap, ◌∙◌, subst, inl, inr, ⊎_elim, arith}
+use Rattle.std.proofs.Common.{refl}
 use Rattle.std.specs.List.{list_any}
 use Rattle.std.proofs.lemmas.Bool.{cases_lt, eqb-true}
 use Rattle.std.proofs.lemmas.Bool.Decides.{nat_tests}
@@ -54,7 +56,8 @@ use Rattle.group_store.proofs.Regrouping.{IsFrame, others_stay, regroups_of}
 -- ---- what a head lists, in other words
 
 -- where the chain is as it was
-pub listed_again : (s t : Records) (h : Head) (n : ℕ) (at at' : ℕ → Type 0) → ((x : ℕ) → rec_at t format.relationships_file x ≡ rec_at s format.relationships_file x) → first_of t h ≡ first_of s h
+pub listed_again : (s t : Records) (h : Head) (n : ℕ) (at at' : ℕ → Type 0)
+    → ((x : ℕ) → rec_at t format.relationships_file x ≡ rec_at s format.relationships_file x) → first_of t h ≡ first_of s h
     → ((x : ℕ) → at x → at' x) → ((x : ℕ) → at' x → at x) → IsListed s h n at → IsListed t h n at'
 listed_again s t h n at at' rels first there back l = record {
   members = l.members;
@@ -66,7 +69,8 @@ listed_again s t h n at at' rels first there back l = record {
 }
 
 -- where the head's group is as it was, and no fewer are apart
-pub stands_again : (rels : ℕ → Option RelRow) (groups now : ℕ → Option views.GroupRow) (node : ℕ) (rest : List ℕ) (h : Head) (x : ℕ) → (h.key.file ≡ format.groups_file → now h.key.id ≡ groups h.key.id)
+pub stands_again : (rels : ℕ → Option RelRow) (groups now : ℕ → Option views.GroupRow) (node : ℕ) (rest : List ℕ) (h : Head) (x : ℕ)
+    → (h.key.file ≡ format.groups_file → now h.key.id ≡ groups h.key.id)
     → StandsBut rels groups node rest h x → StandsBut rels now node rest h x
 stands_again rels groups now node rest h x same b = record {
   stands = record {
@@ -79,11 +83,13 @@ stands_again rels groups now node rest h x same b = record {
 
 -- ---- the record of an empty group
 
-outside : (node label next i : ℕ) → list_any (is_in i) (bytes_of format.kind 1 ∷ bytes_of format.group_type 40 ∷ []) ≡ false → is_clear i 1 (empty_fields node label next) ≡ true
+outside : (node label next i : ℕ) → list_any (is_in i) (bytes_of format.kind 1 ∷ bytes_of format.group_type 40 ∷ []) ≡ false
+    → is_clear i 1 (empty_fields node label next) ≡ true
 outside node label next i out = ⊎_elim (λ (low : i < 4). grind (arith, nat_tests)) (λ (high : 4 ≤ i). grind (arith, nat_tests)) (cases_lt i 4)
 
 -- it fits where its owner and the group after it are below their marks
-pub empty_fits : (marks : ℕ → ℕ) (node label next : ℕ) → node < 2 ^ 32 → label < 2 ^ 32 → next < 2 ^ 32 → node < marks format.nodes_file → IsLow (marks format.groups_file) next → Fits marks format.groups_file (empty_group node label next)
+pub empty_fits : (marks : ℕ → ℕ) (node label next : ℕ) → node < 2 ^ 32 → label < 2 ^ 32 → next < 2 ^ 32 → node < marks format.nodes_file
+    → IsLow (marks format.groups_file) next → Fits marks format.groups_file (empty_group node label next)
 empty_fits marks node label next a b c owner low = record {
   layout = record {
     pointers = must format.group_owner format.nodes_file ∷ may format.group_previous format.groups_file ∷ may format.group_next format.groups_file
@@ -121,21 +127,25 @@ empty_fits marks node label next a b c owner low = record {
 
 -- ---- the links that lead to it
 
-back_stepped : (s : Records) (m : State) (shape : Shape) (node first id : ℕ) → HasStepped s m.records shape node → (first ≢ format.nil → is_group_kind (kind_at m.records format.groups_file first) ≡ true) → IsLow (high m.records format.groups_file) id
+back_stepped : (s : Records) (m : State) (shape : Shape) (node first id : ℕ) → HasStepped s m.records shape node
+    → (first ≢ format.nil → is_group_kind (kind_at m.records format.groups_file first) ≡ true) → IsLow (high m.records format.groups_file) id
     → HasStepped s (backed m first id).records shape node × IsLow (high (backed m first id).records format.groups_file) id
 unfolding backed
 back_stepped s m shape node first id h kind low =
-    on_test (λ (q : State). HasStepped s q.records shape node × IsLow (high q.records format.groups_file) id) first format.nil m (after_set m (group_key first) 4 format.group_previous id)
+    on_test (λ (q : State). HasStepped s q.records shape node × IsLow (high q.records format.groups_file) id) first format.nil m
+    (after_set m (group_key first) 4 format.group_previous id)
     (λ _. (h, low)) (λ some. (step_previous s m.records shape node h first id (kind some) low, low))
 
 led_shape : (u : State) (node first id : ℕ) (rec : Rec) → (led u node first id rec).shape ≡ u.shape
 unfolding led backed
-led_shape u node first id rec = on_test (λ (q : State). q.shape ≡ u.shape) first format.nil (after_put u (group_key id) rec) (after_set (after_put u (group_key id) rec) (group_key first) 4 format.group_previous id) (λ _. refl) (λ _. refl)
+led_shape u node first id rec = on_test (λ (q : State). q.shape ≡ u.shape) first format.nil (after_put u (group_key id) rec)
+    (after_set (after_put u (group_key id) rec) (group_key first) 4 format.group_previous id) (λ _. refl) (λ _. refl)
 
 module _ (s u : State) (node label id : ℕ) (rest : List ℕ) (most : ℕ) (empty : List ℕ) (keeps : KeepsBut s.records s.shape node rest most empty)
     (dense : kind_at s.records format.nodes_file node ≡ format.dense) (lacks : LacksGroup s.records node label)
     (took : (free : List ℕ) → IsFreeList s.records format.groups_file free → HasTaken s.records u.records format.groups_file id free)
-    (fresh : kind_at s.records format.groups_file id ≡ 0) (small : id < room_of s.shape format.groups_file) (small_node : node < 2 ^ 32) (small_label : label < 2 ^ 32) where
+    (fresh : kind_at s.records format.groups_file id ≡ 0) (small : id < room_of s.shape format.groups_file) (small_node : node < 2 ^ 32)
+    (small_label : label < 2 ^ 32) where
   abbrev free : List ℕ
   free = (keeps.others.split format.groups_file refl).0
 
@@ -186,7 +196,8 @@ module _ (s u : State) (node label id : ℕ) (rest : List ℕ) (most : ℕ) (emp
   node_low = kind_below (high s.records format.nodes_file) (rec_at s.records format.nodes_file node) node (λ e. let k = sym e ∙ dense in omega arith)
 
   first_group : first ≢ format.nil → IsGroupOf s.records node first
-  first_group some = ⊎_elim (λ e. absurd (some e)) (λ i. chain.only first i) (first_in (next_group s.records) first xs (walk_of_chain _ _ format.nil first xs chain.chain))
+  first_group some = ⊎_elim (λ e. absurd (some e)) (λ i. chain.only first i)
+      (first_in (next_group s.records) first xs (walk_of_chain _ _ format.nil first xs chain.chain))
 
   not_id : (g : ℕ) → kind_at s.records format.groups_file g ≢ 0 → g ≢ id
   not_id g used e = used (ap (kind_at s.records format.groups_file) e ∙ fresh)
@@ -194,7 +205,8 @@ module _ (s u : State) (node label id : ℕ) (rest : List ℕ) (most : ℕ) (emp
   put_low : IsLow (high m.records format.groups_file) first
   put_low = ⊎_elim (λ e. inl e)
       (λ some. let k = (first_group some).kind in
-      let lt = kind_below (high s.records format.groups_file) (rec_at s.records format.groups_file first) first (group_used (kind_at s.records format.groups_file first) k) in
+      let lt = kind_below (high s.records format.groups_file) (rec_at s.records format.groups_file first) first
+      (group_used (kind_at s.records format.groups_file first) k) in
       let le = is_put.change.more in inr (omega arith)) (nat_cases first format.nil)
 
   put_record : (f x : ℕ) → is_meta_file f ≡ true → f ≢ format.groups_file → rec_at m.records f x ≡ rec_at s.records f x
@@ -229,12 +241,15 @@ module _ (s u : State) (node label id : ℕ) (rest : List ℕ) (most : ℕ) (emp
 
   stepped : HasStepped s.records now.records s.shape node
   unfolding led
-  stepped = step_first s.records (backed m first id).records s.shape node linked.0 id (re.dense_same s.records (backed m first id).records node linked.0.frame node dense) linked.1
+  stepped = step_first s.records (backed m first id).records s.shape node linked.0 id
+      (re.dense_same s.records (backed m first id).records node linked.0.frame node dense) linked.1
 
   -- ---- the groups
-  number : (g n at : ℕ) → at + n ≤ 64 → g ≢ id → (g ≡ first → (at + n ≤ 12) ⊎ (16 ≤ at)) → field n (rec_at now.records format.groups_file g) at ≡ field n (rec_at s.records format.groups_file g) at
+  number : (g n at : ℕ) → at + n ≤ 64 → g ≢ id → (g ≡ first → (at + n ≤ 12) ⊎ (16 ≤ at))
+      → field n (rec_at now.records format.groups_file g) at ≡ field n (rec_at s.records format.groups_file g) at
   unfolding new
-  number g n at inside ne apart = group_stays u node first id rec g n at inside ne apart ∙ ap (λ r. field n r at) (has_taken.others (group_key g) (λ e. let f = ap (λ (k : Key). k.file) e in absurd (omega arith)))
+  number g n at inside ne apart = group_stays u node first id rec g n at inside ne apart
+      ∙ ap (λ r. field n r at) (has_taken.others (group_key g) (λ e. let f = ap (λ (k : Key). k.file) e in absurd (omega arith)))
 
   mark : high now.records format.groups_file ≡ high m.records format.groups_file
   unfolding new
@@ -269,7 +284,8 @@ module _ (s u : State) (node label id : ℕ) (rest : List ℕ) (most : ℕ) (emp
   old_group g q is e = absurd (let z : None ≡ Some q = sym was_none ∙ ap (group_at s.records) (sym e) ∙ is in cc)
 
   rels_stay : (x : ℕ) → rec_at now.records format.relationships_file x ≡ rec_at s.records format.relationships_file x
-  rels_stay x = made.stays (key_in format.relationships_file x) (λ e. let f = ap (λ (k : Key). k.file) e in absurd (omega arith)) (λ e. let f = ap (λ (k : Key). k.file) e in absurd (omega arith))
+  rels_stay x = made.stays (key_in format.relationships_file x) (λ e. let f = ap (λ (k : Key). k.file) e in absurd (omega arith))
+      (λ e. let f = ap (λ (k : Key). k.file) e in absurd (omega arith))
       (λ e. let f = ap (λ (k : Key). k.file) e in absurd (omega arith)) (λ e. let f = ap (λ (k : Key). k.file) e in absurd (omega arith))
 
   first_stays : (n : ℕ) → n ≢ node → first_link now.records n ≡ first_link s.records n
@@ -280,11 +296,14 @@ module _ (s u : State) (node label id : ℕ) (rest : List ℕ) (most : ℕ) (emp
   rels = rel_at s.records
 
   -- a head whose group was there
-  listed_old : (h : Head) (n : ℕ) → Owns (kind_at s.records format.nodes_file) (group_at s.records) h n → first_of now.records h ≡ first_of s.records h → (h.key.file ≡ format.groups_file → h.key.id ≢ id)
+  listed_old : (h : Head) (n : ℕ) → Owns (kind_at s.records format.nodes_file) (group_at s.records) h n → first_of now.records h ≡ first_of s.records h
+      → (h.key.file ≡ format.groups_file → h.key.id ≢ id)
       → IsListed now.records h n (StandsBut rels (group_at now.records) node rest h)
-  listed_old h n o first_is ne = listed_again s.records now.records h n (StandsBut rels (group_at s.records) node rest h) (StandsBut rels (group_at now.records) node rest h) rels_stay first_is
+  listed_old h n o first_is ne = listed_again s.records now.records h n (StandsBut rels (group_at s.records) node rest h)
+      (StandsBut rels (group_at now.records) node rest h) rels_stay first_is
       (λ x. stands_again rels (group_at s.records) (group_at now.records) node rest h x (λ f. group_stays_at h.key.id (ne f)))
-      (λ x. stands_again rels (group_at now.records) (group_at s.records) node rest h x (λ f. sym (group_stays_at h.key.id (ne f)))) (keeps.linked.listed.each h n o)
+      (λ x. stands_again rels (group_at now.records) (group_at s.records) node rest h x (λ f. sym (group_stays_at h.key.id (ne f))))
+      (keeps.linked.listed.each h n o)
 
   -- nothing stands at the new group
   none_stands : (h : Head) (x : ℕ) → h.key ≡ key_in format.groups_file id → StandsBut rels (group_at now.records) node rest h x → ⊥
@@ -304,7 +323,8 @@ module _ (s u : State) (node label id : ℕ) (rest : List ℕ) (most : ℕ) (emp
       type_is : (g : ℕ) (q : views.GroupRow) → group_at s.records g ≡ Some q → type_of s.records g ≡ q.label
       type_is g q is = ap (λ (r : views.GroupRow). r.label) (some_row (kind_at s.records format.groups_file g) (group_in (rec_at s.records format.groups_file g) g) q is).1
 
-  listed_new : (h : Head) (n : ℕ) → h.key ≡ key_in format.groups_file id → IsFirstPlace h.field → IsListed now.records h n (StandsBut rels (group_at now.records) node rest h)
+  listed_new : (h : Head) (n : ℕ) → h.key ≡ key_in format.groups_file id → IsFirstPlace h.field
+      → IsListed now.records h n (StandsBut rels (group_at now.records) node rest h)
   listed_new h n key place = record {
     members = [];
     chain = ap (λ (k : Key). field 4 (now.records k) h.field) key ∙ none;
@@ -315,9 +335,11 @@ module _ (s u : State) (node label id : ℕ) (rest : List ℕ) (most : ℕ) (emp
       none : field 4 (rec_at now.records format.groups_file id) h.field ≡ format.nil
       none = ⊎_elim (λ (e : h.field ≡ format.group_first_out). ap (field 4 (rec_at now.records format.groups_file id)) e ∙ ap (λ (r : GroupRow). r.first_out) made.here)
           (λ k. ⊎_elim (λ (e : h.field ≡ format.group_first_in). ap (field 4 (rec_at now.records format.groups_file id)) e ∙ ap (λ (r : GroupRow). r.first_in) made.here)
-          (λ (e : h.field ≡ format.group_first_loop). ap (field 4 (rec_at now.records format.groups_file id)) e ∙ ap (λ (r : GroupRow). r.first_loop) made.here) k) place
+          (λ (e : h.field ≡ format.group_first_loop). ap (field 4 (rec_at now.records format.groups_file id)) e ∙ ap (λ (r : GroupRow). r.first_loop) made.here)
+          k) place
 
-  listed : (h : Head) (n : ℕ) → Owns (kind_at now.records format.nodes_file) (group_at now.records) h n → IsListed now.records h n (StandsBut rels (group_at now.records) node rest h)
+  listed : (h : Head) (n : ℕ) → Owns (kind_at now.records format.nodes_file) (group_at now.records) h n
+      → IsListed now.records h n (StandsBut rels (group_at now.records) node rest h)
   listed h n (inl o) =
       let was = re.sparse_was s.records now.records node stepped.frame n o.sparse in
       let ne : n ≢ node = λ e. let z = sym was ∙ ap (kind_at s.records format.nodes_file) e ∙ dense in omega arith in
@@ -330,11 +352,13 @@ module _ (s u : State) (node label id : ℕ) (rest : List ℕ) (most : ℕ) (emp
       listed_old h n (inr (record { dense = re.dense_was s.records now.records node stepped.frame dense n o.dense; row = o.row; group = sym (group_stays_at o.row.id ne) ∙ o.group; owner = o.owner; key = o.key; field = o.field }))
       (ap (λ (k : Key). field 4 (now.records k) h.field) o.key ∙ first_same o.row.id h.field ne o.field ∙ ap (λ (k : Key). field 4 (s.records k) h.field) (sym o.key)) apart) (nat_cases o.row.id id)
     where
-      first_same : (g at : ℕ) → g ≢ id → IsFirstPlace at → field 4 (rec_at now.records format.groups_file g) at ≡ field 4 (rec_at s.records format.groups_file g) at
+      first_same : (g at : ℕ) → g ≢ id → IsFirstPlace at → field 4 (rec_at now.records format.groups_file g) at ≡ field 4
+          (rec_at s.records format.groups_file g) at
       first_same g at ne place = number g 4 at within.0 ne (λ _. inr within.1)
         where
           within : (at + 4 ≤ 64) × (16 ≤ at)
-          within = ⊎_elim (λ (e : at ≡ 20). (omega arith, omega arith)) (λ k. ⊎_elim (λ (e : at ≡ 24). (omega arith, omega arith)) (λ (e : at ≡ 28). (omega arith, omega arith)) k) place
+          within = ⊎_elim (λ (e : at ≡ 20). (omega arith, omega arith))
+              (λ k. ⊎_elim (λ (e : at ≡ 24). (omega arith, omega arith)) (λ (e : at ≡ 28). (omega arith, omega arith)) k) place
 
   linked_now : IsLinkedBut now.records (kind_at now.records format.nodes_file) rels (group_at now.records) node rest
   linked_now = record {
@@ -351,12 +375,14 @@ module _ (s u : State) (node label id : ℕ) (rest : List ℕ) (most : ℕ) (emp
       let c = number g 4 28 (omega arith) ne (λ _. inr (omega arith)) in
       λ i. not (nat_eq (a i) format.nil && (nat_eq (b i) format.nil && nat_eq (c i) format.nil))
 
-  grouped_now : IsGrouped (kind_at now.records format.nodes_file) (first_link now.records) (rec_at now.records format.groups_file) (group_at now.records) (id ∷ empty)
+  grouped_now : IsGrouped (kind_at now.records format.nodes_file) (first_link now.records) (rec_at now.records format.groups_file) (group_at now.records)
+      (id ∷ empty)
   grouped_now = record {
     owned = λ g q e. ⊎_elim
         (λ (k : g ≡ id). let same : q ≡ row = same_group q row (sym e ∙ ap (group_at now.records) k ∙ is_new) in
         re.dense_same s.records now.records node stepped.frame q.owner (ap (λ (r : views.GroupRow). kind_at s.records format.nodes_file r.owner) same ∙ dense))
-        (λ (ne : g ≢ id). re.dense_same s.records now.records node stepped.frame q.owner (keeps.grouped.owned g q (sym (group_stays_at g ne) ∙ e))) (nat_cases g id);
+        (λ (ne : g ≢ id). re.dense_same s.records now.records node stepped.frame q.owner (keeps.grouped.owned g q (sym (group_stays_at g ne) ∙ e)))
+        (nat_cases g id);
     each = λ n d. ⊎_elim
         (λ (e : n ≡ node). subst (λ z. HasGroups (first_link now.records z) z (rec_at now.records format.groups_file) (group_at now.records) (id ∷ empty)) (sym e)
         (HasGroups-IsGroupChain now.records s.shape node (id ∷ xs) (id ∷ empty) stepped.ranges made.chain
@@ -364,16 +390,20 @@ module _ (s u : State) (node label id : ℕ) (rest : List ℕ) (most : ℕ) (emp
         (λ (ne : n ≢ node).
         let old = keeps.grouped.each n (re.dense_was s.records now.records node stepped.frame dense n d) in
         let other = IsGroupChain-HasGroups s.records s.shape n keeps.others.ranges old in
-        HasGroups-IsGroupChain now.records s.shape n old.members (id ∷ empty) stepped.ranges (made.others n old.members ne other) (λ g i. still n g old (other.only g i) i)) (nat_cases n node);
+        HasGroups-IsGroupChain now.records s.shape n old.members (id ∷ empty) stepped.ranges (made.others n old.members ne other)
+        (λ g i. still n g old (other.only g i) i)) (nat_cases n node);
   }
     where
-      still : (n g : ℕ) (old : HasGroups (first_link s.records n) n (rec_at s.records format.groups_file) (group_at s.records) empty) → IsGroupOf s.records n g → In g old.members
+      still : (n g : ℕ) (old : HasGroups (first_link s.records n) n (rec_at s.records format.groups_file) (group_at s.records) empty) → IsGroupOf s.records n g
+          → In g old.members
           → (is_filled (rec_at now.records format.groups_file g) ≡ true) ⊎ In g (id ∷ empty)
-      still n g old is i = ⊎_elim (λ f. inl (filled_stays g (not_id g (group_used (kind_at s.records format.groups_file g) is.kind)) ∙ f)) (λ j. inr (inr j)) (old.filled g i)
+      still n g old is i = ⊎_elim (λ f. inl (filled_stays g (not_id g (group_used (kind_at s.records format.groups_file g) is.kind)) ∙ f)) (λ j. inr (inr j))
+          (old.filled g i)
 
   -- ---- the numbers
   kind_new : kind_at now.records format.groups_file id ≡ format.counted
-  kind_new = kind_low (high now.records format.groups_file) (rec_at now.records format.groups_file id) id (group_below now.records node id (made.chain.only id (inl refl))) ∙ eqb-true _ _ (ap (λ (r : GroupRow). r.counted) made.here)
+  kind_new = kind_low (high now.records format.groups_file) (rec_at now.records format.groups_file id) id
+      (group_below now.records node id (made.chain.only id (inl refl))) ∙ eqb-true _ _ (ap (λ (r : GroupRow). r.counted) made.here)
 
   count_zero : (at : ℕ) → count_in (rec_at now.records format.groups_file id) at ≡ 0 → field 4 (rec_at now.records format.groups_file id) at ≡ 0
   count_zero at zero = sym (ap (λ b. cond b (field 4 (rec_at now.records format.groups_file id) at) 0) (ap (λ (r : GroupRow). r.counted) made.here)) ∙ zero
@@ -393,15 +423,20 @@ module _ (s u : State) (node label id : ℕ) (rest : List ℕ) (most : ℕ) (emp
       (subst (λ (f : ℕ → Option RelRow). HasCounts (rec_at now.records format.groups_file id) row f (high now.records format.relationships_file)) (sym (counted_here node node rest (rel_at now.records) refl))
       (subst (λ (f : ℕ → Option RelRow). HasCounts (rec_at now.records format.groups_file id) row (left_out rest f) (high now.records format.relationships_file)) (sym (re.rels_same s.records now.records node stepped.frame))
       (none_counted (rec_at now.records format.groups_file id) row rels rest (high now.records format.relationships_file)
-      (count_zero format.group_out_count (ap (λ (r : GroupRow). r.out_count) made.here)) (count_zero format.group_in_count (ap (λ (r : GroupRow). r.in_count) made.here)) (count_zero format.group_loop_count (ap (λ (r : GroupRow). r.loop_count) made.here)) none_typed)))))
+      (count_zero format.group_out_count (ap (λ (r : GroupRow). r.out_count) made.here))
+      (count_zero format.group_in_count (ap (λ (r : GroupRow). r.in_count) made.here))
+      (count_zero format.group_loop_count (ap (λ (r : GroupRow). r.loop_count) made.here)) none_typed)))))
       (λ (ne : k ≢ id).
-      counts_by (rec_at s.records format.groups_file k) (rec_at now.records format.groups_file k) q (counted_rels node rest rels q.owner) (counted_rels node rest (rel_at now.records) q.owner) (high s.records format.relationships_file) (high now.records format.relationships_file)
+      counts_by (rec_at s.records format.groups_file k) (rec_at now.records format.groups_file k) q (counted_rels node rest rels q.owner)
+      (counted_rels node rest (rel_at now.records) q.owner) (high s.records format.relationships_file) (high now.records format.relationships_file)
       (λ at within. number k 4 at (let b = within.1 in omega arith) ne (λ _. inr (let b = within.0 in omega arith)))
-      (λ i. counted_rels node rest (re.rels_same s.records now.records node stepped.frame i) q.owner) (re.mark_same s.records now.records node stepped.frame format.relationships_file (λ e. omega arith))
+      (λ i. counted_rels node rest (re.rels_same s.records now.records node stepped.frame i) q.owner)
+      (re.mark_same s.records now.records node stepped.frame format.relationships_file (λ e. omega arith))
       (old k q (sym (group_stays_at k ne) ∙ is) (sym (kind_stays k ne) ∙ kind))) (nat_cases k id)
 
   counted_now : HasCountedGroups s.records node → HasCountedGroups now.records node
-  counted_now old k q is owner = ⊎_elim (λ (e : k ≡ id). ap (kind_at now.records format.groups_file) e ∙ kind_new) (λ (ne : k ≢ id). kind_stays k ne ∙ old k q (sym (group_stays_at k ne) ∙ is) owner) (nat_cases k id)
+  counted_now old k q is owner = ⊎_elim (λ (e : k ≡ id). ap (kind_at now.records format.groups_file) e ∙ kind_new)
+      (λ (ne : k ≢ id). kind_stays k ne ∙ old k q (sym (group_stays_at k ne) ∙ is) owner) (nat_cases k id)
 
   shape_is : u.shape ≡ s.shape → now.shape ≡ s.shape
   shape_is e = led_shape u node first id rec ∙ e
@@ -426,8 +461,10 @@ module _ (s u : State) (node label id : ℕ) (rest : List ℕ) (most : ℕ) (emp
         (key_far format.nodes_file x format.groups_file id (λ e. omega arith)) (key_far format.nodes_file x format.groups_file first (λ e. omega arith)));
     here = λ n at inside one apart. stepped.frame.nodes node n at inside one apart;
     rels = λ x n at some inside beside. ap (λ r. field n r at) (made.stays (key_in format.relationships_file x)
-        (key_far format.relationships_file x format.meta_file format.groups_file (λ e. omega arith)) (key_far format.relationships_file x format.nodes_file node (λ e. omega arith))
-        (key_far format.relationships_file x format.groups_file id (λ e. omega arith)) (key_far format.relationships_file x format.groups_file first (λ e. omega arith)));
+        (key_far format.relationships_file x format.meta_file format.groups_file (λ e. omega arith))
+        (key_far format.relationships_file x format.nodes_file node (λ e. omega arith))
+        (key_far format.relationships_file x format.groups_file id (λ e. omega arith))
+        (key_far format.relationships_file x format.groups_file first (λ e. omega arith)));
     groups = λ g q is ne n at inside. number g n at inside (old_group g q is) (λ e. absurd (not_first g q is ne e));
   }
 
@@ -436,7 +473,8 @@ module _ (s u : State) (node label id : ℕ) (rest : List ℕ) (most : ℕ) (emp
   made_rules shape =
       let keeps_now : KeepsBut now.records s.shape node rest most (id ∷ empty) = record {
         others = others_stay s.records now.records node stepped.frame s.shape most keeps.others stepped.ranges stepped.free stepped.split;
-        linked = subst (λ (r : ℕ → Option RelRow). IsLinkedBut now.records (kind_at now.records format.nodes_file) r (group_at now.records) node rest) (sym (re.rels_same s.records now.records node stepped.frame)) linked_now;
+        linked = subst (λ (r : ℕ → Option RelRow). IsLinkedBut now.records (kind_at now.records format.nodes_file) r (group_at now.records) node rest)
+            (sym (re.rels_same s.records now.records node stepped.frame)) linked_now;
         grouped = grouped_now;
       } in (
         subst (λ (q : Shape). KeepsBut now.records q node rest most (id ∷ empty)) (sym (shape_is shape)) keeps_now,
@@ -457,9 +495,12 @@ taken_shape s file = on_test (λ (q : State). q.shape ≡ s.shape) (meta_of s fi
 
 -- told by the space as it was, step by step
 pub rules_made : (s now u end : State) (node label link id : ℕ) (rec : Rec) (row : GroupRow) → now ≡ after_get s
-    → ((free : List ℕ) → IsFreeList now.records format.groups_file free → HasTaken now.records u.records format.groups_file id free) → kind_at now.records format.groups_file id ≡ 0
-    → id < room_of now.shape format.groups_file → u ≡ taken now format.groups_file → link ≡ first_link s.records node → rec ≡ empty_group node label link → end ≡ led u node link id rec → row ≡ empty_row id label
-    → node < 2 ^ 32 → label < 2 ^ 32 → (rest : List ℕ) (most : ℕ) (empty : List ℕ) → KeepsBut s.records s.shape node rest most empty → kind_at s.records format.nodes_file node ≡ format.dense → LacksGroup s.records node label
+    → ((free : List ℕ) → IsFreeList now.records format.groups_file free → HasTaken now.records u.records format.groups_file id free)
+    → kind_at now.records format.groups_file id ≡ 0
+    → id < room_of now.shape format.groups_file → u ≡ taken now format.groups_file → link ≡ first_link s.records node → rec ≡ empty_group node label link
+    → end ≡ led u node link id rec → row ≡ empty_row id label
+    → node < 2 ^ 32 → label < 2 ^ 32 → (rest : List ℕ) (most : ℕ) (empty : List ℕ) → KeepsBut s.records s.shape node rest most empty
+    → kind_at s.records format.nodes_file node ≡ format.dense → LacksGroup s.records node label
     → KeepsBut end.records end.shape node rest most (row.id ∷ empty) × HasOpened s end node label row.id rest
 rules_made s now u end node label link id rec row read took fresh small at link_is rec_is is row_is small_node small_label rest most empty keeps dense lacks =
     let same : now.records ≡ s.records = ap (λ (t : State). t.records) read in
@@ -471,5 +512,6 @@ rules_made s now u end node label link id rec row read took fresh small at link_
     (subst (λ (t : State). KeepsBut t.records t.shape node rest most (id ∷ empty) × HasOpened s t node label id rest) end_is
     (made_rules s u node label id rest most empty keeps dense lacks
     (λ free list. subst (λ (r : Records). HasTaken r u.records format.groups_file id free) same (took free (subst (λ (r : Records). IsFreeList r format.groups_file free) (sym same) list)))
-    (ap (λ (r : Records). kind_at r format.groups_file id) (sym same) ∙ fresh) (subst (λ (q : Shape). id < room_of q format.groups_file) (ap (λ (t : State). t.shape) read) small) small_node small_label
+    (ap (λ (r : Records). kind_at r format.groups_file id) (sym same) ∙ fresh)
+    (subst (λ (q : Shape). id < room_of q format.groups_file) (ap (λ (t : State). t.shape) read) small) small_node small_label
     (ap (λ (q : State). q.shape) at ∙ taken_shape now format.groups_file ∙ ap (λ (t : State). t.shape) read)))

@@ -52,7 +52,8 @@ on_damage (Err (Damaged damage)) P p = p
 pub same_writes : (s now : State) (keys : List Key) → SameButReads s now → WritesOnly s now keys
 same_writes s now keys same = record { each = λ q w. inl (subst (λ (t : Key → Bool). t q ≡ true) (ap (λ (t : State). t.written) same) w) }
 
-pub all_writes : (s now u end : State) (a b c m : Key) → SameButReads s now → WritesOnly now u (m ∷ []) → WritesOnly u end (a ∷ b ∷ c ∷ []) → WritesOnly s end (a ∷ b ∷ c ∷ m ∷ [])
+pub all_writes : (s now u end : State) (a b c m : Key) → SameButReads s now → WritesOnly now u (m ∷ []) → WritesOnly u end (a ∷ b ∷ c ∷ [])
+    → WritesOnly s end (a ∷ b ∷ c ∷ m ∷ [])
 all_writes s now u end a b c m same one three = record { each = λ q w. late q (three.each q w) }
   where
     before : (q : Key) → now.written q ≡ true → s.written q ≡ true
@@ -76,7 +77,8 @@ node_told s node Memory told = tt
 node_told s node Disk told = tt
 node_told s node (Damaged damage) told = BadNode damage told
 
-pub link_told : (s now : State) (n first was : ℕ) (named damage : Damage) → now ≡ after_gets n s → first ≡ was → IsLinkDamage now first named damage → IsLinkDamage s was named damage
+pub link_told : (s now : State) (n first was : ℕ) (named damage : Damage) → now ≡ after_gets n s → first ≡ was → IsLinkDamage now first named damage
+    → IsLinkDamage s was named damage
 link_told s now n first was named damage reads is told = subst (λ l. IsLinkDamage s l named damage) is (by damage told)
   where
     by : (damage : Damage) → IsLinkDamage now first named damage → IsLinkDamage s first named damage
@@ -84,7 +86,8 @@ link_told s now n first was named damage reads is told = subst (λ l. IsLinkDama
     by damage (HighLink above) = HighLink (let mark = mark_then s now n reads in let room = room_then s now n reads in omega arith)
 
 -- a chain that is right has a first link that is right
-pub right_first : (s now : State) (n node label first : ℕ) (free xs : List ℕ) → now ≡ after_gets n s → first ≡ first_link s.records node → CanMake s node label free xs → IsRightLink now first
+pub right_first : (s now : State) (n node label first : ℕ) (free xs : List ℕ) → now ≡ after_gets n s → first ≡ first_link s.records node
+    → CanMake s node label free xs → IsRightLink now first
 right_first s now n node label first free xs reads is can =
     let mark = mark_then s now n reads in
     let room = room_then s now n reads in
@@ -105,7 +108,8 @@ take_read s damage (Overcounted a b) = Overcounted a b
 take_read s damage (InUse a b) = InUse a b
 take_read s damage (BadNext a b c d) = BadNext a b c d
 
-pub take_told : (s now : State) (node : ℕ) (fault : TakeFault) → now ≡ after_get s → IsTakeFault now format.groups_file fault → IsMakeFault s node (of_take fault)
+pub take_told : (s now : State) (node : ℕ) (fault : TakeFault) → now ≡ after_get s → IsTakeFault now format.groups_file fault
+    → IsMakeFault s node (of_take fault)
 take_told s now node fault read told = by fault (subst (λ (t : State). IsTakeFault t format.groups_file fault) read told)
   where
     by : (fault : TakeFault) → IsTakeFault (after_get s) format.groups_file fault → IsMakeFault s node (of_take fault)
@@ -116,7 +120,8 @@ take_told s now node fault read told = by fault (subst (λ (t : State). IsTakeFa
 
 -- ---- the end
 
-pub made_is : (s now u end : State) (node label first id : ℕ) (rec : Rec) → now ≡ after_get s → u ≡ taken now format.groups_file → first ≡ first_link s.records node
+pub made_is : (s now u end : State) (node label first id : ℕ) (rec : Rec) → now ≡ after_get s → u ≡ taken now format.groups_file
+    → first ≡ first_link s.records node
     → id ≡ taken_id (meta_of now format.groups_file) → rec ≡ empty_group node label first → end ≡ led u node first id rec → end ≡ made s node label
 unfolding made
 made_is s now u end node label first id rec read took first_is id_is rec_is is =
@@ -129,15 +134,18 @@ made_is s now u end node label first id rec read took first_is id_is rec_is is =
     ∙ ap (λ (r : Rec). led at node was new r) (rec_is ∙ ap (empty_group node label) first_is)
 
 pub made_has : (s now u end : State) (node label first id : ℕ) (rec : Rec) (row : GroupRow) (free xs : List ℕ) → now ≡ after_get s
-    → (IsFreeList now.records format.groups_file free → HasTaken now.records u.records format.groups_file id free) → kind_at now.records format.groups_file id ≡ 0
+    → (IsFreeList now.records format.groups_file free → HasTaken now.records u.records format.groups_file id free)
+    → kind_at now.records format.groups_file id ≡ 0
     → first ≡ first_link s.records node → rec ≡ empty_group node label first → end ≡ led u node first id rec → row ≡ empty_row id label
     → id < 2 ^ 25 → node < 2 ^ 32 → label < 2 ^ 32 → CanMake s node label free xs → HasMade s.records end.records node label row free xs
 made_has s now u end node label first id rec row free xs read took fresh first_is rec_is is row_is small small_node small_label can =
     let same : now.records ≡ s.records = ap (λ (t : State). t.records) read in
     let was = first_link s.records node in
-    let end_is : end ≡ led u node was id (empty_group node label was) = is ∙ ap (λ f. led u node f id rec) first_is ∙ ap (λ (r : Rec). led u node was id r) (rec_is ∙ ap (empty_group node label) first_is) in
+    let end_is : end ≡ led u node was id (empty_group node label was) = is ∙ ap (λ f. led u node f id rec) first_is
+    ∙ ap (λ (r : Rec). led u node was id r) (rec_is ∙ ap (empty_group node label) first_is) in
     let has_taken : HasTaken s.records u.records format.groups_file id free
-    = subst (λ (r : Records). HasTaken r u.records format.groups_file id free) same (took (subst (λ (r : Records). IsFreeList r format.groups_file free) (sym same) can.take.list)) in
+    = subst (λ (r : Records). HasTaken r u.records format.groups_file id free) same
+    (took (subst (λ (r : Records). IsFreeList r format.groups_file free) (sym same) can.take.list)) in
     let unused : kind_at s.records format.groups_file id ≡ 0 = ap (λ (r : Records). kind_at r format.groups_file id) (sym same) ∙ fresh in
     subst (λ (t : State). HasMade s.records t.records node label row free xs) (sym end_is)
     (subst (λ (r : GroupRow). HasMade s.records (led u node was id (empty_group node label was)).records node label r free xs) (sym row_is)

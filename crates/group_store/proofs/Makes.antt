@@ -34,10 +34,13 @@ use Rattle.group_store.specs.Walking.{group_row_at}
 all_fit : (node label next : ℕ) → node < 2 ^ 32 → label < 2 ^ 32 → next < 2 ^ 32 → AllFit (empty_fields node label next)
 all_fit node label next a b c = (omega arith, (b, (a, (omega arith, (c, (omega arith, (omega arith, (omega arith, (omega arith, (omega arith, (omega arith, tt)))))))))))
 
-pub kind-empty_group : (node label next : ℕ) → node < 2 ^ 32 → label < 2 ^ 32 → next < 2 ^ 32 → field 1 (empty_group node label next) format.kind ≡ format.counted
-kind-empty_group node label next a b c = field-with_fields 1 zeros (empty_fields node label next) format.kind format.counted refl (all_fit node label next a b c) refl
+pub kind-empty_group : (node label next : ℕ) → node < 2 ^ 32 → label < 2 ^ 32 → next < 2 ^ 32
+    → field 1 (empty_group node label next) format.kind ≡ format.counted
+kind-empty_group node label next a b c = field-with_fields 1 zeros (empty_fields node label next) format.kind format.counted refl
+    (all_fit node label next a b c) refl
 
-pub number-empty_group : (node label next at value : ℕ) → node < 2 ^ 32 → label < 2 ^ 32 → next < 2 ^ 32 → field_at (empty_fields node label next) 4 at ≡ Some value
+pub number-empty_group : (node label next at value : ℕ) → node < 2 ^ 32 → label < 2 ^ 32 → next < 2 ^ 32
+    → field_at (empty_fields node label next) 4 at ≡ Some value
     → field 4 (empty_group node label next) at ≡ value
 number-empty_group node label next at value a b c is = field-with_fields 4 zeros (empty_fields node label next) at value refl (all_fit node label next a b c) is
 
@@ -60,18 +63,22 @@ module _ (u : State) (node first id : ℕ) (rec : Rec) where
   unfolding new led b t
   new_is = refl
 
-  field_back : (key : Key) (n at : ℕ) → at + n ≤ 64 → (key ≡ group_key first → (at + n ≤ 12) ⊎ (16 ≤ at)) → field n (b.records key) at ≡ field n (t.records key) at
+  field_back : (key : Key) (n at : ℕ) → at + n ≤ 64 → (key ≡ group_key first → (at + n ≤ 12) ⊎ (16 ≤ at))
+      → field n (b.records key) at ≡ field n (t.records key) at
   unfolding b backed
-  field_back key n at fits apart = on_test (λ (q : State). field n (q.records key) at ≡ field n (t.records key) at) first format.nil t (after_set t (group_key first) 4 format.group_previous id) (λ _. refl)
+  field_back key n at fits apart = on_test (λ (q : State). field n (q.records key) at ≡ field n (t.records key) at) first format.nil t
+      (after_set t (group_key first) 4 format.group_previous id) (λ _. refl)
       (λ _. field-set_other t.records (record { key = group_key first; field = format.group_previous }) id key n at fits apart)
 
   other_back : (key : Key) → key ≢ group_key first → b.records key ≡ t.records key
   unfolding b backed
-  other_back key ne = on_test (λ (q : State). q.records key ≡ t.records key) first format.nil t (after_set t (group_key first) 4 format.group_previous id) (λ _. refl)
+  other_back key ne = on_test (λ (q : State). q.records key ≡ t.records key) first format.nil t (after_set t (group_key first) 4 format.group_previous id)
+      (λ _. refl)
       (λ _. put_other t.records (group_key first) (with_field 4 (t.records (group_key first)) format.group_previous id) key ne)
 
   new_other : (key : Key) → key ≢ node_key node → new.records key ≡ b.records key
-  new_other key ne = ap (λ (q : State). q.records key) new_is ∙ put_other b.records (node_key node) (with_field 4 (b.records (node_key node)) format.node_first_link id) key ne
+  new_other key ne = ap (λ (q : State). q.records key) new_is ∙ put_other b.records (node_key node)
+      (with_field 4 (b.records (node_key node)) format.node_first_link id) key ne
 
   t_other : (key : Key) → key ≢ group_key id → t.records key ≡ u.records key
   unfolding t
@@ -88,7 +95,8 @@ module _ (u : State) (node first id : ℕ) (rec : Rec) where
   stays key a c d = new_other key a ∙ other_back key d ∙ t_other key c
 
   -- numbers of groups
-  pub group_stays : (g n at : ℕ) → at + n ≤ 64 → g ≢ id → (g ≡ first → (at + n ≤ 12) ⊎ (16 ≤ at)) → field n (rec_at new.records 3 g) at ≡ field n (rec_at u.records 3 g) at
+  pub group_stays : (g n at : ℕ) → at + n ≤ 64 → g ≢ id → (g ≡ first → (at + n ≤ 12) ⊎ (16 ≤ at))
+      → field n (rec_at new.records 3 g) at ≡ field n (rec_at u.records 3 g) at
   group_stays g n at fits ne apart = ap (λ r. field n r at) (new_other (group_key g) (no_node g))
       ∙ field_back (group_key g) n at fits (λ e. apart (same_group g first e)) ∙ ap (λ r. field n r at) (t_other (group_key g) (λ e. ne (same_group g id e)))
 
@@ -103,12 +111,14 @@ module _ (u : State) (node first id : ℕ) (rec : Rec) where
   pub back_link : first ≢ format.nil → id < 2 ^ 32 → previous_group new.records first ≡ id
   unfolding b backed
   back_link some small = ap (λ r. field 4 r format.group_previous) (new_other (group_key first) (no_node first))
-      ∙ on_test (λ (q : State). previous_group q.records first ≡ id) first format.nil t (after_set t (group_key first) 4 format.group_previous id) (λ none. absurd (some none))
+      ∙ on_test (λ (q : State). previous_group q.records first ≡ id) first format.nil t (after_set t (group_key first) 4 format.group_previous id)
+      (λ none. absurd (some none))
       (λ _. field-set_same t.records (record { key = group_key first; field = format.group_previous }) id (omega arith) small)
 
   -- the node's first link
   pub first_here : id < 2 ^ 32 → first_link new.records node ≡ id
-  first_here small = ap (λ (q : State). first_link q.records node) new_is ∙ field-set_same b.records (record { key = node_key node; field = format.node_first_link }) id (omega arith) small
+  first_here small = ap (λ (q : State). first_link q.records node) new_is
+      ∙ field-set_same b.records (record { key = node_key node; field = format.node_first_link }) id (omega arith) small
 
   pub first_other : (m : ℕ) → m ≢ node → first_link new.records m ≡ first_link u.records m
   first_other m ne = ap (λ r. field 4 r format.node_first_link) (stays (node_key m) (λ e. ne (ap (λ (k : Key). k.id) e)) (λ e. absurd (no_node id m e)) (λ e. absurd (no_node first m e)))
@@ -119,7 +129,8 @@ module _ (u : State) (node first id : ℕ) (rec : Rec) where
   -- the meta record
   pub meta_stays : new.records (meta_key_of format.groups_file) ≡ u.records (meta_key_of format.groups_file)
   meta_stays = stays (meta_key_of format.groups_file)
-      (λ e. let f = ap (λ (k : Key). k.file) e in absurd (omega arith)) (λ e. let f = ap (λ (k : Key). k.file) e in absurd (omega arith)) (λ e. let f = ap (λ (k : Key). k.file) e in absurd (omega arith))
+      (λ e. let f = ap (λ (k : Key). k.file) e in absurd (omega arith)) (λ e. let f = ap (λ (k : Key). k.file) e in absurd (omega arith))
+      (λ e. let f = ap (λ (k : Key). k.file) e in absurd (omega arith))
 
 -- ---- the chains
 
@@ -167,12 +178,14 @@ module _ (s u : State) (node label id : ℕ) (free xs : List ℕ)
   id_out i = unused_apart s.records node id id fresh (chain.only id i) refl
 
   apart : id ≢ first
-  apart e = ⊎_elim (λ (none : first ≡ format.nil). omega arith) (λ (i : In first xs). id_out (subst (λ z. In z xs) (sym e) i)) (first_in (next_group s.records) first xs walked)
+  apart e = ⊎_elim (λ (none : first ≡ format.nil). omega arith) (λ (i : In first xs). id_out (subst (λ z. In z xs) (sym e) i))
+      (first_in (next_group s.records) first xs walked)
 
   group_old : (g : ℕ) → rec_at u.records 3 g ≡ rec_at s.records 3 g
   group_old g = taken.others (group_key g) (λ e. let f = ap (λ (k : Key). k.file) e in absurd (omega arith))
 
-  number : (g n at : ℕ) → at + n ≤ 64 → g ≢ id → (g ≡ first → (at + n ≤ 12) ⊎ (16 ≤ at)) → field n (rec_at now.records 3 g) at ≡ field n (rec_at s.records 3 g) at
+  number : (g n at : ℕ) → at + n ≤ 64 → g ≢ id → (g ≡ first → (at + n ≤ 12) ⊎ (16 ≤ at))
+      → field n (rec_at now.records 3 g) at ≡ field n (rec_at s.records 3 g) at
   unfolding now
   number g n at fits ne where_first = group_stays u node first id rec g n at fits ne where_first ∙ ap (λ r. field n r at) (group_old g)
 
@@ -190,7 +203,8 @@ module _ (s u : State) (node label id : ℕ) (free xs : List ℕ)
       let both = marks free (high s.records 3) id g taken.is ne in
       ⊎_elim
       (λ (lt : g < high s.records 3). let now_lt = both.1 lt in
-      kind_low (high now.records 3) (rec_at now.records 3 g) g (omega arith) ∙ number g 1 0 (omega arith) ne (λ _. inl (omega arith)) ∙ sym (kind_low (high s.records 3) (rec_at s.records 3 g) g lt))
+      kind_low (high now.records 3) (rec_at now.records 3 g) g (omega arith) ∙ number g 1 0 (omega arith) ne (λ _. inl (omega arith))
+      ∙ sym (kind_low (high s.records 3) (rec_at s.records 3 g) g lt))
       (λ (ge : high s.records 3 ≤ g).
       kind_high (high now.records 3) (rec_at now.records 3 g) g (⊎_elim (λ (lt : g < high now.records 3). let l = both.0 (omega arith) in absurd (omega arith)) (λ (le : high now.records 3 ≤ g). le) (cases_lt g (high now.records 3)))
       ∙ sym (kind_high (high s.records 3) (rec_at s.records 3 g) g ge))
@@ -233,7 +247,8 @@ module _ (s u : State) (node label id : ℕ) (free xs : List ℕ)
   -- the node's chain
   links_here : IsChain (next_group now.records) (previous_group now.records) format.nil (first_link now.records node) (id ∷ xs)
   unfolding rec now first
-  links_here = subst (λ z. IsChain (next_group now.records) (previous_group now.records) format.nil z (id ∷ xs)) (sym (first_here u node first id rec (omega arith)))
+  links_here = subst (λ z. IsChain (next_group now.records) (previous_group now.records) format.nil z (id ∷ xs))
+      (sym (first_here u node first id rec (omega arith)))
       (chain_push (next_group s.records) (previous_group s.records) (next_group now.records) (previous_group now.records) first id xs chain.chain id_out (omega arith)
       (ap (λ r. field 4 r format.group_next) here ∙ number-empty_group node label first format.group_next first small_node small_label small_first refl)
       (ap (λ r. field 4 r format.group_previous) here ∙ number-empty_group node label first format.group_previous format.nil small_node small_label small_first refl)
@@ -250,7 +265,8 @@ module _ (s u : State) (node label id : ℕ) (free xs : List ℕ)
   chain_here : IsGroupChain now.records node (id ∷ xs)
   chain_here = record {
     chain = links_here;
-    only = λ g i. ⊎_elim (λ e. subst (IsGroupOf now.records node) (sym e) member_here) (λ j. member_now node g (not_id node g (chain.only g j)) (chain.only g j)) i;
+    only = λ g i. ⊎_elim (λ e. subst (IsGroupOf now.records node) (sym e) member_here)
+        (λ j. member_now node g (not_id node g (chain.only g j)) (chain.only g j)) i;
     all = λ g is. ⊎_elim (λ e. inl e) (λ ne. inr (chain.all g (member_was node g ne is))) (nat_cases g id);
     once = types_once;
   }
@@ -258,21 +274,25 @@ module _ (s u : State) (node label id : ℕ) (free xs : List ℕ)
   -- the others' chains
   first_apart : (m g : ℕ) → m ≢ node → IsGroupOf s.records m g → g ≢ format.nil → g ≢ first
   first_apart m g ne is some e = ⊎_elim (λ (none : first ≡ format.nil). some (e ∙ none))
-      (λ (i : In first xs). ne (sym is.owner ∙ ap (group_field s.records format.group_owner) e ∙ (chain.only first i).owner)) (first_in (next_group s.records) first xs walked)
+      (λ (i : In first xs). ne (sym is.owner ∙ ap (group_field s.records format.group_owner) e ∙ (chain.only first i).owner))
+      (first_in (next_group s.records) first xs walked)
 
   chain_other : (m : ℕ) (ys : List ℕ) → m ≢ node → IsGroupChain s.records m ys → IsGroupChain now.records m ys
   unfolding now
   chain_other m ys ne other =
       let walk = walk_of_chain _ _ format.nil (first_link s.records m) ys other.chain in
-      let out : (g : ℕ) → In g ys → g ≢ first = λ g i. first_apart m g ne (other.only g i) (λ e. nil_out (next_group s.records) (first_link s.records m) ys walk (subst (λ z. In z ys) e i)) in
+      let out : (g : ℕ) → In g ys → g ≢ first = λ g i. first_apart m g ne (other.only g i)
+      (λ e. nil_out (next_group s.records) (first_link s.records m) ys walk (subst (λ z. In z ys) e i)) in
       let off : (g : ℕ) → In g ys → g ≢ id = λ g i. not_id m g (other.only g i) in
       record {
-        chain = subst (λ z. IsChain (next_group now.records) (previous_group now.records) format.nil z ys) (sym (first_other u node first id rec m ne ∙ ap (λ r. field 4 r format.node_first_link) (taken.others (node_key m) (λ e. let f = ap (λ (k : Key). k.file) e in absurd (omega arith)))))
+        chain = subst (λ z. IsChain (next_group now.records) (previous_group now.records) format.nil z ys)
+            (sym (first_other u node first id rec m ne ∙ ap (λ r. field 4 r format.node_first_link) (taken.others (node_key m) (λ e. let f = ap (λ (k : Key). k.file) e in absurd (omega arith)))))
             (chain_stays (next_group s.records) (previous_group s.records) (next_group now.records) (previous_group now.records) format.nil (first_link s.records m) ys
             (λ x i. number x 4 16 (omega arith) (off x i) (λ _. inr (omega arith)))
             (λ x i. number x 4 12 (omega arith) (off x i) (λ e. absurd (out x i e))) other.chain);
         only = λ g i. member_now m g (off g i) (other.only g i);
-        all = λ g is. ⊎_elim (λ e. absurd (ne (only_node m (subst (IsGroupOf now.records m) e is)))) (λ nid. other.all g (member_was m g nid is)) (nat_cases g id);
+        all = λ g is. ⊎_elim (λ e. absurd (ne (only_node m (subst (IsGroupOf now.records m) e is)))) (λ nid. other.all g (member_was m g nid is))
+            (nat_cases g id);
         once = λ g k i j same. other.once g k i j (sym (type_stays g (off g i)) ∙ same ∙ type_stays k (off k j));
       }
 
@@ -308,7 +328,8 @@ module _ (s u : State) (node label id : ℕ) (free xs : List ℕ)
         loop_count = (count_is format.group_loop_count ∙ value format.group_loop_count 0 refl) i;
       }
 
-  pub has_made : HasMade s.records (led u node (first_link s.records node) id (empty_group node label (first_link s.records node))).records node label (empty_row id label) free xs
+  pub has_made : HasMade s.records (led u node (first_link s.records node) id (empty_group node label (first_link s.records node))).records node label
+      (empty_row id label) free xs
   unfolding now first rec new
   has_made = record {
     is = refl;

@@ -1,5 +1,6 @@
 -- A relationship that comes into a group of a dense node keeps the rules for those that are left.
-use Rattle.std.proofs.Common.{◌≡◌, ◌≢◌, ◌⊎◌, ℕ, ◌+◌, ◌<◌, ◌≤◌, ◌^◌, nat_eq, not, true, ◌&&◌, cond, Option, Some, List, ◌∷◌, sym, ap, ◌∙◌, subst, inl, inr, ⊎_elim, arith, refl}
+use Rattle.std.proofs.Common.{◌≡◌, ◌≢◌, ◌⊎◌, ℕ, ◌+◌, ◌<◌, ◌≤◌, ◌^◌, nat_eq, not, true, ◌&&◌, cond, Option, Some, List}
+use Rattle.std.proofs.Common.{◌∷◌, sym, ap, ◌∙◌, subst, inl, inr, ⊎_elim, arith, refl}
 use Rattle.rec_bytes.specs.declared.key.Key.{Key}
 use Rattle.rec_bytes.specs.declared.record.Rec.{Rec}
 use Rattle.rec_bytes.specs.declared.shape.Shape.{Shape}
@@ -15,7 +16,8 @@ use Rattle.store_rules.specs.Chains.{In, IsChain, IsWalk, place_of}
 use Rattle.store_rules.specs.Ends.{Regroups}
 use Rattle.store_rules.specs.Rules.{AllListed, GroupHead, Head, IsEnd, IsGrouped, IsInGroup, IsListed, IsOn, Owns, first_of, is_filled}
 use Rattle.store_rules.specs.Views as views
-use Rattle.store_rules.specs.Views.{Records, RelRow, first_link, group_at, group_in, high, is_group_kind, key_in, kind_at, kind_in, rec_at, rel_at, rel_in, row_if}
+use Rattle.store_rules.specs.Views.{Records, RelRow, first_link, group_at, group_in, high, is_group_kind, key_in}
+use Rattle.store_rules.specs.Views.{kind_at, kind_in, rec_at, rel_at, rel_in, row_if}
 use Rattle.store_rules.proofs.ChainLaws.{chain_stays, walk_of_chain, walk_stays}
 use Rattle.store_rules.proofs.GroupLaws.{IsFirstPlace, chain_filled, same_group}
 use Rattle.store_rules.proofs.LinkFits.{IsLink, IsLow}
@@ -60,14 +62,17 @@ side_place Out = inl refl
 side_place Into = inr (inl refl)
 side_place Loop = inr (inr refl)
 
-pub at_side : (g node label : ℕ) (row : RelRow) → IsEnd node row → IsSide (sides.place_of (side_at node row.from row.to)) (record { id = g; label = label; owner = node }) row
-at_side g node label row end = on_test (λ (side : Side). IsSide (sides.place_of side) (record { id = g; label = label; owner = node }) row) row.from row.to Loop (cond (nat_eq row.from node) Out Into)
+pub at_side : (g node label : ℕ) (row : RelRow) → IsEnd node row → IsSide (sides.place_of (side_at node row.from row.to))
+    (record { id = g; label = label; owner = node }) row
+at_side g node label row end = on_test (λ (side : Side). IsSide (sides.place_of side) (record { id = g; label = label; owner = node }) row) row.from row.to Loop
+    (cond (nat_eq row.from node) Out Into)
     (λ (same : row.from ≡ row.to). inr (inr (refl, ⊎_elim (λ e. e) (λ e. same ∙ e) end, ⊎_elim (λ e. sym same ∙ e) (λ e. e) end)))
     (λ (ne : row.from ≢ row.to). on_test (λ (side : Side). IsSide (sides.place_of side) (record { id = g; label = label; owner = node }) row) row.from node Out Into
     (λ (e : row.from ≡ node). inl (refl, e, λ k. ne (e ∙ sym k)))
     (λ (a : row.from ≢ node). inr (inl (refl, a, ⊎_elim (λ e. absurd (a e)) (λ e. e) end))))
 
-pub in_group : (groups : ℕ → Option views.GroupRow) (g node label : ℕ) (row : RelRow) → groups g ≡ Some (record { id = g; label = label; owner = node }) → row.label ≡ label → IsEnd node row
+pub in_group : (groups : ℕ → Option views.GroupRow) (g node label : ℕ) (row : RelRow) → groups g ≡ Some (record { id = g; label = label; owner = node })
+    → row.label ≡ label → IsEnd node row
     → IsInGroup groups (group_head g (side_at node row.from row.to)) row
 in_group groups g node label row group typed end = record {
   row = record { id = g; label = label; owner = node };
@@ -87,14 +92,17 @@ next_link r n = on_test (λ p. IsLink (p + 4)) (field 4 r 8) n 16 24 (λ _. inr 
 
 -- ---- the links that are set, as steps
 
-back_stepped : (s : Records) (m : State) (shape : Shape) (node first to : ℕ) → HasStepped s m.records shape node → (first ≢ format.nil → kind_at m.records format.relationships_file first ≡ format.related) → IsLow (high m.records format.relationships_file) to
+back_stepped : (s : Records) (m : State) (shape : Shape) (node first to : ℕ) → HasStepped s m.records shape node
+    → (first ≢ format.nil → kind_at m.records format.relationships_file first ≡ format.related) → IsLow (high m.records format.relationships_file) to
     → HasStepped s (backed m node first to).records shape node × (high (backed m node first to).records format.relationships_file ≡ high m.records format.relationships_file)
 unfolding backed
 back_stepped s m shape node first to h kind low =
-    on_test (λ (q : State). HasStepped s q.records shape node × (high q.records format.relationships_file ≡ high m.records format.relationships_file)) first format.nil m (prev_set m node first to)
+    on_test (λ (q : State). HasStepped s q.records shape node × (high q.records format.relationships_file ≡ high m.records format.relationships_file)) first
+    format.nil m (prev_set m node first to)
     (λ _. (h, refl)) (λ some. (step_link s m.records shape node h first (place_of (rec_at m.records format.relationships_file first) node) to (place_link (rec_at m.records format.relationships_file first) node) (kind some) low, refl))
 
-pushed_stepped : (s : Records) (m : State) (shape : Shape) (node rel g at : ℕ) → HasStepped s m.records shape node → IsFirstPlace at → is_group_kind (kind_at m.records format.groups_file g) ≡ true
+pushed_stepped : (s : Records) (m : State) (shape : Shape) (node rel g at : ℕ) → HasStepped s m.records shape node → IsFirstPlace at
+    → is_group_kind (kind_at m.records format.groups_file g) ≡ true
     → kind_at m.records format.relationships_file rel ≡ format.related → (field 4 (rec_at m.records format.groups_file g) at ≢ format.nil → kind_at m.records format.relationships_file (field 4 (rec_at m.records format.groups_file g) at) ≡ format.related)
     → HasStepped s (pushed m (record { key = group_key g; field = at }) node rel).records shape node
 unfolding pushed
@@ -106,21 +114,26 @@ pushed_stepped s m shape node rel g at h place grouped related first_kind =
     let below : (x : ℕ) → kind_at m.records format.relationships_file x ≡ format.related → x < high m.records format.relationships_file
     = λ x is. kind_below (high m.records format.relationships_file) (rec_at m.records format.relationships_file x) x (λ e. let z = sym e ∙ is in omega arith) in
     let back = back_stepped s a shape node first rel h first_kind (inr (below rel related)) in
-    let first_low : IsLow (high b.records format.relationships_file) first = ⊎_elim (λ e. inl e) (λ some. let lt = below first (first_kind some) in let e = back.1 in inr (omega arith)) (nat_cases first format.nil) in
-    let rel_is : kind_at b.records format.relationships_file rel ≡ format.related = re.rel_kind s b.records node back.0.frame rel ∙ sym (re.rel_kind s m.records node h.frame rel) ∙ related in
-    let next = step_link s b.records shape node back.0 rel (place_of (rec_at b.records format.relationships_file rel) node + 4) first (next_link (rec_at b.records format.relationships_file rel) node) rel_is first_low in
+    let first_low : IsLow (high b.records format.relationships_file) first =
+    ⊎_elim (λ e. inl e) (λ some. let lt = below first (first_kind some) in let e = back.1 in inr (omega arith)) (nat_cases first format.nil) in
+    let rel_is : kind_at b.records format.relationships_file rel ≡ format.related = re.rel_kind s b.records node back.0.frame rel
+    ∙ sym (re.rel_kind s m.records node h.frame rel) ∙ related in
+    let next = step_link s b.records shape node back.0 rel (place_of (rec_at b.records format.relationships_file rel) node + 4) first
+    (next_link (rec_at b.records format.relationships_file rel) node) rel_is first_low in
     let group_same : (k : ℕ) → rec_at c.records format.groups_file k ≡ rec_at m.records format.groups_file k
     = λ k. elsewhere-set_next b.records node rel first (group_key k) (λ e. omega arith) ∙ elsewhere-backed a node first rel (group_key k) (λ e. omega arith) in
     let meta_same : high c.records format.groups_file ≡ high m.records format.groups_file
     = ap (λ r. (metas.meta_of r).high) (elsewhere-set_next b.records node rel first (meta_key_of format.groups_file) (λ e. omega arith) ∙ elsewhere-backed a node first rel (meta_key_of format.groups_file) (λ e. omega arith)) in
-    let group_is : is_group_kind (kind_at c.records format.groups_file g) ≡ true = ap is_group_kind (ap (λ q. kind_in q (rec_at c.records format.groups_file g) g) meta_same ∙ ap (λ r. kind_in (high m.records format.groups_file) r g) (group_same g)) ∙ grouped in
+    let group_is : is_group_kind (kind_at c.records format.groups_file g) ≡ true =
+    ap is_group_kind (ap (λ q. kind_in q (rec_at c.records format.groups_file g) g) meta_same ∙ ap (λ r. kind_in (high m.records format.groups_file) r g) (group_same g)) ∙ grouped in
     let rel_low : IsLow (high c.records format.relationships_file) rel = inr (let lt = below rel related in let e = back.1 in omega arith) in
     subst (λ (r : Rec). HasStepped s (put c.records (group_key g) (with_field 4 r at rel)) shape node) (group_same g)
     (step_chain s c.records shape node next g at rel place group_is rel_low)
 
 pub pushed_shape : (m : State) (h : Head) (node rel : ℕ) → (pushed m h node rel).shape ≡ m.shape
 unfolding pushed backed
-pushed_shape m h node rel = on_test (λ (q : State). q.shape ≡ m.shape) (first_of m.records h) format.nil (after_get m) (prev_set (after_get m) node (first_of m.records h) rel) (λ _. refl) (λ _. refl)
+pushed_shape m h node rel = on_test (λ (q : State). q.shape ≡ m.shape) (first_of m.records h) format.nil (after_get m)
+    (prev_set (after_get m) node (first_of m.records h) rel) (λ _. refl) (λ _. refl)
 
 -- ---- one relationship
 
@@ -132,8 +145,10 @@ joined s head node rel = pushed (prev_set s node rel format.nil) head node rel
 abbrev pub counted_joined : State → Head → ℕ → ℕ → State
 counted_joined s head node rel = tallied one_more (joined s head node rel) head
 
-module _ (s : State) (node rel g : ℕ) (row : RelRow) (rest : List ℕ) (most : ℕ) (empty : List ℕ) (keeps : KeepsBut s.records s.shape node (rel ∷ rest) most (g ∷ empty)) (dense : kind_at s.records format.nodes_file node ≡ format.dense)
-    (live : rel_at s.records rel ≡ Some row) (end : IsEnd node row) (group : group_at s.records g ≡ Some (record { id = g; label = row.label; owner = node })) (out : ¬ In rel rest)
+module _ (s : State) (node rel g : ℕ) (row : RelRow) (rest : List ℕ) (most : ℕ) (empty : List ℕ)
+    (keeps : KeepsBut s.records s.shape node (rel ∷ rest) most (g ∷ empty)) (dense : kind_at s.records format.nodes_file node ≡ format.dense)
+    (live : rel_at s.records rel ≡ Some row) (end : IsEnd node row) (group : group_at s.records g ≡ Some (record { id = g; label = row.label; owner = node }))
+    (out : ¬ In rel rest)
     (left : (x : ℕ) → In x rest → (row : RelRow) × (rel_at s.records x ≡ Some row) × IsEnd node row) where
   abbrev kind : ℕ → ℕ
   kind = kind_at s.records format.nodes_file
@@ -178,7 +193,8 @@ module _ (s : State) (node rel g : ℕ) (row : RelRow) (rest : List ℕ) (most :
   related x a is = rel_kind s.records s.shape keeps.others.ranges x (some_row (kind_at s.records format.relationships_file x) (rel_in (rec_at s.records format.relationships_file x) x) a is).0
 
   below : (x : ℕ) (a : RelRow) → rels x ≡ Some a → x < high s.records format.relationships_file
-  below x a is = kind_below (high s.records format.relationships_file) (rec_at s.records format.relationships_file x) x (λ e. let k = sym e ∙ related x a is in omega arith)
+  below x a is = kind_below (high s.records format.relationships_file) (rec_at s.records format.relationships_file x) x
+      (λ e. let k = sym e ∙ related x a is in omega arith)
 
   small : rel < 2 ^ 25
   small = let lt = below rel row live in let le = high_most s.records s.shape format.relationships_file keeps.others.ranges refl in omega arith
@@ -233,7 +249,8 @@ module _ (s : State) (node rel g : ℕ) (row : RelRow) (rest : List ℕ) (most :
     where
       there : (h : Head) (n x : ℕ) → Own h n → with_one At head rel h x → StandsBut rels groups node rest h x
       there h n x o (inl a) = record { stands = a.stands; apart = λ k i. a.apart k (inr i) }
-      there h n x o (inr k) = subst (λ z. StandsBut rels groups node rest z x) (sym k.0) (subst (StandsBut rels groups node rest head) (sym k.1) (record { stands = record { row = row; live = live; on = on_head }; apart = λ _. out }))
+      there h n x o (inr k) = subst (λ z. StandsBut rels groups node rest z x) (sym k.0)
+          (subst (StandsBut rels groups node rest head) (sym k.1) (record { stands = record { row = row; live = live; on = on_head }; apart = λ _. out }))
 
       back : (h : Head) (n x : ℕ) → Own h n → StandsBut rels groups node rest h x → with_one At head rel h x
       back h n x o b = ⊎_elim
@@ -246,26 +263,31 @@ module _ (s : State) (node rel g : ℕ) (row : RelRow) (rest : List ℕ) (most :
         where
           owner_is : (h : Head) (n : ℕ) → Own h n → IsHeadOf groups node h → n ≡ node
           owner_is h n (inl o) k = absurd (let f = ap (λ (z : Head). z.key.file) o.is in let e = k.file in omega arith)
-          owner_is h n (inr o) k = sym o.owner ∙ ap (λ (r : views.GroupRow). r.owner) (same_group o.row k.row (sym o.group ∙ ap (λ (z : Key). groups z.id) (sym o.key) ∙ k.group)) ∙ k.owner
+          owner_is h n (inr o) k = sym o.owner ∙ ap (λ (r : views.GroupRow). r.owner)
+              (same_group o.row k.row (sym o.group ∙ ap (λ (z : Key). groups z.id) (sym o.key) ∙ k.group)) ∙ k.owner
 
   -- ---- numbers
   here : IsListed t.records head node (At head)
   here = listed_t.each head node (inr owned)
 
   pushes : HasPushed t.records now.records head node rel here.members
-  pushes = has_pushed t head node rel (heads.place head node (inr owned)) here.members small (record { chain = here.chain; new = λ i. fresh (here.only rel i); alone = alone })
+  pushes = has_pushed t head node rel (heads.place head node (inr owned)) here.members small
+      (record { chain = here.chain; new = λ i. fresh (here.only rel i); alone = alone })
 
-  number : (x n at : ℕ) → at + n ≤ 64 → (x ≡ g → (at + n ≤ sides.place_of side) ⊎ (sides.place_of side + 4 ≤ at)) → field n (rec_at now.records format.groups_file x) at ≡ field n (rec_at s.records format.groups_file x) at
+  number : (x n at : ℕ) → at + n ≤ 64 → (x ≡ g → (at + n ≤ sides.place_of side) ⊎ (sides.place_of side + 4 ≤ at))
+      → field n (rec_at now.records format.groups_file x) at ≡ field n (rec_at s.records format.groups_file x) at
   number x n at inside aside =
       pushes.only.same (key_in format.groups_file x) n at inside
       ((λ e. let f = ap (λ (k : Key). k.file) e in absurd (omega arith)), ((λ e. let f = ap (λ (k : Key). k.file) e in absurd (omega arith)), ((λ e. aside (ap (λ (k : Key). k.id) e)), tt)))
       ∙ ap (λ r. field n r at) (elsewhere-set_prev s.records node rel format.nil (key_in format.groups_file x) (λ e. omega arith))
 
   first_member : (first_of t.records head ≡ format.nil) ⊎ In (first_of t.records head) here.members
-  first_member = first_in (next_of t.records node) (first_of t.records head) here.members (walk_of_chain _ _ format.nil (first_of t.records head) here.members here.chain)
+  first_member = first_in (next_of t.records node) (first_of t.records head) here.members
+      (walk_of_chain _ _ format.nil (first_of t.records head) here.members here.chain)
 
   link_stays : (y : ℕ) → In y rest → next_of now.records node y ≡ next_of s.records node y
-  link_stays y i = ap (λ p. field 4 (rec_at now.records format.relationships_file y) (p + 4)) place_same ∙ stays 4 (place_of (rec_at t.records format.relationships_file y) node + 4) (bound (field 4 (rec_at t.records format.relationships_file y) 8))
+  link_stays y i = ap (λ p. field 4 (rec_at now.records format.relationships_file y) (p + 4)) place_same
+      ∙ stays 4 (place_of (rec_at t.records format.relationships_file y) node + 4) (bound (field 4 (rec_at t.records format.relationships_file y) 8))
       ∙ next_of-set_prev s.records node rel format.nil node y
     where
       not_rel : y ≢ rel
@@ -277,7 +299,8 @@ module _ (s : State) (node rel g : ℕ) (row : RelRow) (rest : List ℕ) (most :
           (λ k. none_left head (first_of t.records head) owned (here.only (first_of t.records head) k) (inr (subst (λ z. In z rest) e i))) first_member
         where
           left_below : y < 4294967295
-          left_below = let l = left y i in let lt = below y l.0 l.1 in let le = high_most s.records s.shape format.relationships_file keeps.others.ranges refl in omega arith
+          left_below = let l = left y i in let lt = below y l.0 l.1 in let le =
+              high_most s.records s.shape format.relationships_file keeps.others.ranges refl in omega arith
 
       stays : (n at : ℕ) → at + n ≤ 64 → field n (rec_at now.records format.relationships_file y) at ≡ field n (rec_at t.records format.relationships_file y) at
       stays n at inside = pushes.only.same (key_in format.relationships_file y) n at inside
@@ -292,7 +315,8 @@ module _ (s : State) (node rel g : ℕ) (row : RelRow) (rest : List ℕ) (most :
   -- the first one of the head leads to a relationship, or there is none
   pub first_right : IsRightLink t (first_of t.records head)
   first_right = record {
-    low = ⊎_elim (λ none. inl none) (λ k. let a = here.only (first_of t.records head) k in inr (below (first_of t.records head) a.stands.row a.stands.live)) first_member;
+    low = ⊎_elim (λ none. inl none) (λ k. let a = here.only (first_of t.records head) k in inr (below (first_of t.records head) a.stands.row a.stands.live))
+        first_member;
     mark = (keeps.others.ranges.metas format.relationships_file refl).high;
   }
 
@@ -314,17 +338,21 @@ module _ (s : State) (node rel g : ℕ) (row : RelRow) (rest : List ℕ) (most :
       base = record { frame = frame_none s.records node; ranges = keeps.others.ranges; free = (keeps.others.split format.groups_file refl).0; split = (keeps.others.split format.groups_file refl).1 }
 
       one : HasStepped s.records t.records s.shape node
-      one = step_link s.records s.records s.shape node base rel (place_of (rec_at s.records format.relationships_file rel) node) format.nil (place_link (rec_at s.records format.relationships_file rel) node) (related rel row live) (inl refl)
+      one = step_link s.records s.records s.shape node base rel (place_of (rec_at s.records format.relationships_file rel) node) format.nil
+          (place_link (rec_at s.records format.relationships_file rel) node) (related rel row live) (inl refl)
 
       grouped_is : is_group_kind (kind_at t.records format.groups_file g) ≡ true
       grouped_is = (group_of_row s.records s.shape node g (record { id = g; label = row.label; owner = node }) keeps.others.ranges group refl).kind
 
       first_related : first_of t.records head ≢ format.nil → kind_at t.records format.relationships_file (first_of t.records head) ≡ format.related
       first_related some = re.rel_kind s.records t.records node one.frame (first_of t.records head)
-          ∙ ⊎_elim (λ e. absurd (some e)) (λ k. let a = here.only (first_of t.records head) k in related (first_of t.records head) a.stands.row a.stands.live) first_member
+          ∙ ⊎_elim (λ e. absurd (some e)) (λ k. let a = here.only (first_of t.records head) k in related (first_of t.records head) a.stands.row a.stands.live)
+          first_member
 
   kind_stays : (x : ℕ) → kind_at now.records format.groups_file x ≡ kind_at s.records format.groups_file x
-  kind_stays x = ap (λ q. kind_in q (rec_at now.records format.groups_file x) x) mark ∙ kind_by (high s.records format.groups_file) (rec_at now.records format.groups_file x) (rec_at s.records format.groups_file x) x (number x 1 format.kind (omega arith) (λ _. inl low))
+  kind_stays x = ap (λ q. kind_in q (rec_at now.records format.groups_file x) x) mark
+      ∙ kind_by (high s.records format.groups_file) (rec_at now.records format.groups_file x) (rec_at s.records format.groups_file x) x
+      (number x 1 format.kind (omega arith) (λ _. inl low))
     where
       low : format.kind + 1 ≤ sides.place_of side
       low = let l = first_low (sides.place_of side) (side_place side) in omega arith
@@ -347,7 +375,8 @@ module _ (s : State) (node rel g : ℕ) (row : RelRow) (rest : List ℕ) (most :
   groups_same = λ i x. group_stays x i
 
   groups_here : (x : ℕ) → IsGroupOf now.records node x → IsGroupOf s.records node x
-  groups_here x is = group_of_row s.records s.shape node x (group_in (rec_at now.records format.groups_file x) x) keeps.others.ranges (sym (group_stays x) ∙ row_of_group now.records node x is) is.owner
+  groups_here x is = group_of_row s.records s.shape node x (group_in (rec_at now.records format.groups_file x) x) keeps.others.ranges
+      (sym (group_stays x) ∙ row_of_group now.records node x is) is.owner
 
   kinds_same : kind_at now.records format.nodes_file ≡ kind
   kinds_same = λ i x. each x i
@@ -373,8 +402,10 @@ module _ (s : State) (node rel g : ℕ) (row : RelRow) (rest : List ℕ) (most :
       members = h.members;
       chain = subst (λ f. IsChain (λ k. field 4 (rec_at now.records format.groups_file k) format.group_next) (λ k. field 4 (rec_at now.records format.groups_file k) format.group_previous) format.nil f h.members) (sym (first_stays n))
           (chain_stays (λ k. field 4 (rec_at s.records format.groups_file k) format.group_next) (λ k. field 4 (rec_at s.records format.groups_file k) format.group_previous)
-          (λ k. field 4 (rec_at now.records format.groups_file k) format.group_next) (λ k. field 4 (rec_at now.records format.groups_file k) format.group_previous) format.nil (first_link s.records n) h.members
-          (λ k i. number k 4 format.group_next (omega arith) (λ _. inl (low 20 (omega arith)))) (λ k i. number k 4 format.group_previous (omega arith) (λ _. inl (low 16 (omega arith)))) h.chain);
+          (λ k. field 4 (rec_at now.records format.groups_file k) format.group_next)
+          (λ k. field 4 (rec_at now.records format.groups_file k) format.group_previous) format.nil (first_link s.records n) h.members
+          (λ k i. number k 4 format.group_next (omega arith) (λ _. inl (low 20 (omega arith))))
+          (λ k i. number k 4 format.group_previous (omega arith) (λ _. inl (low 16 (omega arith)))) h.chain);
       only = h.only;
       filled = λ k i. ⊎_elim
           (λ (e : k ≡ g). inl (subst (λ z. is_filled (rec_at now.records format.groups_file z) ≡ true) (sym e) (chain_filled (rec_at now.records format.groups_file g) (sides.place_of side) (side_place side) (λ none. let is = sym (pushes.chain.0) ∙ none in let few = small in omega arith))))
@@ -387,7 +418,8 @@ module _ (s : State) (node rel g : ℕ) (row : RelRow) (rest : List ℕ) (most :
       low : (n : ℕ) → n ≤ 20 → n ≤ sides.place_of side
       low n le = let l = first_low (sides.place_of side) (side_place side) in omega arith
 
-      type_stays : (k : ℕ) → field 4 (rec_at now.records format.groups_file k) format.group_type ≡ field 4 (rec_at s.records format.groups_file k) format.group_type
+      type_stays : (k : ℕ) → field 4 (rec_at now.records format.groups_file k) format.group_type ≡ field 4 (rec_at s.records format.groups_file k)
+          format.group_type
       type_stays k = number k 4 format.group_type (omega arith) (λ _. inl (low 8 (omega arith)))
 
       filled_stays : (k : ℕ) → k ≢ g → is_filled (rec_at now.records format.groups_file k) ≡ is_filled (rec_at s.records format.groups_file k)
@@ -443,20 +475,24 @@ module _ (s : State) (node rel g : ℕ) (row : RelRow) (rest : List ℕ) (most :
       place_is x = place-set_prev s.records node rel format.nil node x
 
       first_apart : (x n at : ℕ) → x ≢ format.nil → IsBesideLinks (rec_at s.records format.relationships_file x) node n at → x ≡ first_of t.records head
-          → (at + n ≤ place_of (rec_at t.records format.relationships_file (first_of t.records head)) node) ⊎ (place_of (rec_at t.records format.relationships_file (first_of t.records head)) node + 4 ≤ at)
+          → (at + n ≤ place_of (rec_at t.records format.relationships_file (first_of t.records head)) node)
+          ⊎ (place_of (rec_at t.records format.relationships_file (first_of t.records head)) node + 4 ≤ at)
       first_apart x n at some beside e = ⊎_elim (λ none. absurd (some (e ∙ none)))
           (λ (k : HasCome s.records node (rel ∷ rest) (first_of t.records head)).
           let first = first_of t.records head in
           let a = at_place first n at k.row k.live k.end (subst (λ z. IsBesideLinks (rec_at s.records format.relationships_file z) node n at) e beside) in
-          subst (λ p. (at + n ≤ p) ⊎ (p + 4 ≤ at)) (sym (place_is first)) (⊎_elim (λ l. inl l) (λ (l : place_of (rec_at s.records format.relationships_file first) node + 8 ≤ at). inr (omega arith)) a)) first_end
+          subst (λ p. (at + n ≤ p) ⊎ (p + 4 ≤ at)) (sym (place_is first))
+          (⊎_elim (λ l. inl l) (λ (l : place_of (rec_at s.records format.relationships_file first) node + 8 ≤ at). inr (omega arith)) a)) first_end
 
       rel_apart : (n at : ℕ) → IsBesideLinks (rec_at s.records format.relationships_file rel) node n at
-          → (at + n ≤ place_of (rec_at t.records format.relationships_file rel) node + 4) ⊎ ((place_of (rec_at t.records format.relationships_file rel) node + 4) + 4 ≤ at)
+          → (at + n ≤ place_of (rec_at t.records format.relationships_file rel) node + 4)
+          ⊎ ((place_of (rec_at t.records format.relationships_file rel) node + 4) + 4 ≤ at)
       rel_apart n at beside =
           subst (λ p. (at + n ≤ p + 4) ⊎ ((p + 4) + 4 ≤ at)) (sym (place_is rel))
           (⊎_elim (λ (l : at + n ≤ place_of (rec_at s.records format.relationships_file rel) node). inl (omega arith)) (λ (l : place_of (rec_at s.records format.relationships_file rel) node + 8 ≤ at). inr (omega arith)) (at_place rel n at row live end beside))
 
-      freed_stays : (x n at : ℕ) → at + n ≤ 64 → IsBesideLinks (rec_at s.records format.relationships_file x) node n at → field n (rec_at t.records format.relationships_file x) at ≡ field n (rec_at s.records format.relationships_file x) at
+      freed_stays : (x n at : ℕ) → at + n ≤ 64 → IsBesideLinks (rec_at s.records format.relationships_file x) node n at
+          → field n (rec_at t.records format.relationships_file x) at ≡ field n (rec_at s.records format.relationships_file x) at
       freed_stays x n at inside beside =
           let place = place_of (rec_at s.records format.relationships_file rel) node in
           let freed : Rec = with_field 4 (rec_at s.records format.relationships_file rel) place format.nil in
@@ -467,7 +503,8 @@ module _ (s : State) (node rel g : ℕ) (row : RelRow) (rest : List ℕ) (most :
           (⊎_elim (λ (l : at + n ≤ place). inr l) (λ (l : place + 8 ≤ at). inl (omega arith)) (at_place rel n at row live end (subst (λ z. IsBesideLinks (rec_at s.records format.relationships_file z) node n at) e beside)))))
           (λ (ne : x ≢ rel). ap (λ r. field n r at) (put_other s.records (rel_key rel) freed (key_in format.relationships_file x) (λ e. ne (ap (λ (k : Key). k.id) e)))) (nat_cases x rel)
 
-      rel_stays : (x n at : ℕ) → x ≢ format.nil → at + n ≤ 64 → IsBesideLinks (rec_at s.records format.relationships_file x) node n at → field n (rec_at now.records format.relationships_file x) at ≡ field n (rec_at s.records format.relationships_file x) at
+      rel_stays : (x n at : ℕ) → x ≢ format.nil → at + n ≤ 64 → IsBesideLinks (rec_at s.records format.relationships_file x) node n at
+          → field n (rec_at now.records format.relationships_file x) at ≡ field n (rec_at s.records format.relationships_file x) at
       rel_stays x n at some inside beside = pushes.only.same (key_in format.relationships_file x) n at inside (
         (λ e. first_apart x n at some beside (ap (λ (k : Key). k.id) e)),
         (
@@ -497,7 +534,8 @@ module _ (s : State) (node rel g : ℕ) (row : RelRow) (rest : List ℕ) (most :
         (re.rels_same s.records now.records node stepped.frame) (re.mark_same s.records now.records node stepped.frame format.relationships_file (λ e. omega arith)) exact
       where
         place_high : sides.place_of side + 4 ≤ 32
-        place_high = ⊎_elim (λ (e : sides.place_of side ≡ 20). omega arith) (λ k. ⊎_elim (λ (e : sides.place_of side ≡ 24). omega arith) (λ (e : sides.place_of side ≡ 28). omega arith) k) (side_place side)
+        place_high = ⊎_elim (λ (e : sides.place_of side ≡ 20). omega arith)
+            (λ k. ⊎_elim (λ (e : sides.place_of side ≡ 24). omega arith) (λ (e : sides.place_of side ≡ 28). omega arith) k) (side_place side)
 
     counted_here : HasCountedGroups now.records node
     counted_here = counted_stays s.records now.records node kind_stays group_stays counted
@@ -509,7 +547,8 @@ module _ (s : State) (node rel g : ℕ) (row : RelRow) (rest : List ℕ) (most :
     side_here = at_side g node row.label row end
 
     put_is : (z : ℕ) × (end_state.records ≡ put now.records (group_key g) (with_field 4 (rec_at now.records format.groups_file g) (sides.place_of side + 12) z))
-    put_is = ex.tally_put now node rel g (sides.place_of side) row rest most empty keeps_here dense_here live_here group_here out side_here exact_here counted_here
+    put_is = ex.tally_put now node rel g (sides.place_of side) row rest most empty keeps_here dense_here live_here group_here out side_here exact_here
+        counted_here
 
     -- the node has no more groups
     pub groups_joined : (x : ℕ) → IsGroupOf end_state.records node x → IsGroupOf s.records node x
@@ -525,10 +564,14 @@ module _ (s : State) (node rel g : ℕ) (row : RelRow) (rest : List ℕ) (most :
     -- the others are left
     pub spread_joined : (next : ℕ) → IsWalk (next_of s.records node) next rest → IsSpread end_state node next rest most empty
     spread_joined next walk = record {
-      keeps = ex.tally_keeps now node rel g (sides.place_of side) row rest most empty keeps_here dense_here live_here group_here out side_here exact_here counted_here;
+      keeps = ex.tally_keeps now node rel g (sides.place_of side) row rest most empty keeps_here dense_here live_here group_here out side_here exact_here
+          counted_here;
       dense = ap (λ (r : Records). kind_at r format.nodes_file node) put_is.1 ∙ dense_here;
-      walk = subst (λ (r : Records). IsWalk (next_of r node) next rest) (sym put_is.1) (walk_stays (next_of s.records node) (next_of now.records node) next rest link_stays walk);
+      walk = subst (λ (r : Records). IsWalk (next_of r node) next rest) (sym put_is.1)
+          (walk_stays (next_of s.records node) (next_of now.records node) next rest link_stays walk);
       ends = λ x i. let l = left x i in (l.0, ap (λ (r : Records). rel_at r x) put_is.1 ∙ re.rel_same s.records now.records node stepped.frame x ∙ l.1, l.2);
-      exact = ex.tally_exact now node rel g (sides.place_of side) row rest most empty keeps_here dense_here live_here group_here out side_here exact_here counted_here;
-      counted = ex.tally_counted now node rel g (sides.place_of side) row rest most empty keeps_here dense_here live_here group_here out side_here exact_here counted_here;
+      exact = ex.tally_exact now node rel g (sides.place_of side) row rest most empty keeps_here dense_here live_here group_here out side_here exact_here
+          counted_here;
+      counted = ex.tally_counted now node rel g (sides.place_of side) row rest most empty keeps_here dense_here live_here group_here out side_here exact_here
+          counted_here;
     }

@@ -19,7 +19,8 @@ handed A B (Damaged damage) h = h
 -- ---- groups that may be empty
 
 -- one that isn't empty needn't be named
-pub is_not : (s : Records) (shape : Shape) (most g : ℕ) (empty : List ℕ) → is_filled (rec_at s format.groups_file g) ≡ true → KeepsRules s shape most (g ∷ empty) → KeepsRules s shape most empty
+pub is_not : (s : Records) (shape : Shape) (most g : ℕ) (empty : List ℕ) → is_filled (rec_at s format.groups_file g) ≡ true
+    → KeepsRules s shape most (g ∷ empty) → KeepsRules s shape most empty
 is_not s shape most g empty filled well = record {
   ranges = well.ranges;
   split = well.split;
@@ -31,7 +32,8 @@ is_not s shape most g empty filled well = record {
       members = h.members;
       chain = h.chain;
       only = h.only;
-      filled = λ k i. ⊎_elim (λ f. inl f) (λ j. ⊎_elim (λ e. inl (ap (λ z. is_filled (rec_at s format.groups_file z)) e ∙ filled)) (λ l. inr l) j) (h.filled k i);
+      filled = λ k i. ⊎_elim (λ f. inl f) (λ j. ⊎_elim (λ e. inl (ap (λ z. is_filled (rec_at s format.groups_file z)) e ∙ filled)) (λ l. inr l) j)
+          (h.filled k i);
       all = h.all;
       once = h.once;
     };

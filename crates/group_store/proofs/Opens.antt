@@ -48,7 +48,9 @@ all_but s shape node most empty well = record {
   grouped = well.grouped;
 }
 
-pub but_all : (s : Records) (shape : Shape) (node most : ℕ) (empty : List ℕ) → KeepsBut s shape node [] most empty → AreExact (kind_at s format.groups_file) (rec_at s format.groups_file) (group_at s) (rel_at s) (high s format.relationships_file) → KeepsRules s shape most empty
+pub but_all : (s : Records) (shape : Shape) (node most : ℕ) (empty : List ℕ) → KeepsBut s shape node [] most empty
+    → AreExact (kind_at s format.groups_file) (rec_at s format.groups_file) (group_at s) (rel_at s) (high s format.relationships_file)
+    → KeepsRules s shape most empty
 but_all s shape node most empty well exact = record {
   ranges = well.others.ranges;
   split = well.others.split;
@@ -70,13 +72,16 @@ but_all s shape node most empty well exact = record {
 }
 
 -- a store with room has a free identifier for a group
-pub not_full : (s : State) (node most : ℕ) (empty : List ℕ) → KeepsRules s.records s.shape most empty → HasGroupRoom s empty → (meta_of s format.groups_file).live ≢ room_of s.shape format.groups_file
-not_full s node most empty well room e = let f = few_groups s.records s.shape node [] most empty (all_but s.records s.shape node most empty well) in omega (arith, room, f, e)
+pub not_full : (s : State) (node most : ℕ) (empty : List ℕ) → KeepsRules s.records s.shape most empty → HasGroupRoom s empty
+    → (meta_of s format.groups_file).live ≢ room_of s.shape format.groups_file
+not_full s node most empty well room e = let f = few_groups s.records s.shape node [] most empty (all_but s.records s.shape node most empty well) in
+    omega (arith, room, f, e)
 
 -- ---- a group that was opened, and has counts
 
 -- a head stays where the nodes and the groups do
-pub head_after : (s t : Records) (h : Head) (n : ℕ) (row : RelRow) → ((m : ℕ) → kind_at t format.nodes_file m ≡ kind_at s format.nodes_file m) → ((k : ℕ) → group_at t k ≡ group_at s k) → IsEndHead s h n row → IsEndHead t h n row
+pub head_after : (s t : Records) (h : Head) (n : ℕ) (row : RelRow) → ((m : ℕ) → kind_at t format.nodes_file m ≡ kind_at s format.nodes_file m)
+    → ((k : ℕ) → group_at t k ≡ group_at s k) → IsEndHead s h n row → IsEndHead t h n row
 head_after s t h n row kinds groups end =
     let kind : kind_at t format.nodes_file ≡ kind_at s format.nodes_file = λ i m. kinds m i in
     let group : group_at t ≡ group_at s = λ i k. groups k i in
@@ -88,7 +93,8 @@ head_after s t h n row kinds groups end =
 module _ (s m : State) (node label : ℕ) (own : Row) (side : Side) (row : RelRow) (empty : List ℕ) (can : CanOpenGroup s node label side row empty)
     (keeps : KeepsBut m.records m.shape node [] s.shape.threshold (own.id ∷ empty)) (opened : HasOpened s m node label own.id []) where
   well : KeepsRules m.records m.shape s.shape.threshold (own.id ∷ empty)
-  well = but_all m.records m.shape node s.shape.threshold (own.id ∷ empty) keeps (exact_all m.records node (opened.exact (all_exact s.records node can.keeps.exact)))
+  well = but_all m.records m.shape node s.shape.threshold (own.id ∷ empty) keeps
+      (exact_all m.records node (opened.exact (all_exact s.records node can.keeps.exact)))
 
   row_is : group_in (rec_at m.records format.groups_file own.id) own.id ≡ record { id = own.id; label = label; owner = node }
   row_is = (some_row (kind_at m.records format.groups_file own.id) (group_in (rec_at m.records format.groups_file own.id) own.id) (record { id = own.id; label = label; owner = node }) opened.group).1
@@ -113,19 +119,23 @@ module _ (s m : State) (node label : ℕ) (own : Row) (side : Side) (row : RelRo
   pub opens_group : (t : State) → HasRaised m t node own.id s.shape.threshold (own.id ∷ empty) → OpensChain s t (group_head own.id side) node row empty
   opens_group t raised = record {
     keeps = subst (λ (q : Shape). KeepsRules t.records t.shape q.threshold (own.id ∷ empty)) (sym (raised.regroups.shape ∙ opened.regroups.shape)) raised.keeps;
-    stands = head_after m.records t.records (group_head own.id side) node row raised.kinds raised.groups (at_group m.records m.shape well node own.id label side row member (ap (λ (r : GroupRow). r.label) row_is) can.at);
+    stands = head_after m.records t.records (group_head own.id side) node row raised.kinds raised.groups
+        (at_group m.records m.shape well node own.id label side row member (ap (λ (r : GroupRow). r.label) row_is) can.at);
     counted = λ is. raised.counted;
     few = λ sparse. let k = sym (raised.kinds node ∙ dense_now) ∙ sparse in absurd (omega arith);
-    group_kinds = group_kinds s t node (regroups_both s m t node opened.regroups raised.regroups) (leaves_both s m t node opened.regroups opened.leaves raised.leaves);
+    group_kinds = group_kinds s t node (regroups_both s m t node opened.regroups raised.regroups)
+        (leaves_both s m t node opened.regroups opened.leaves raised.leaves);
     regroups = regroups_both s m t node opened.regroups raised.regroups;
     leaves = leaves_both s m t node opened.regroups opened.leaves raised.leaves;
   }
 
 -- ---- a node whose head is opened
 
-module _ (s z : State) (same : SameButReads s z) (node degree_is threshold label : ℕ) (side : Side) (row : RelRow) (empty : List ℕ) (can : CanOpen s node degree_is threshold label side row empty) where
+module _ (s z : State) (same : SameButReads s z) (node degree_is threshold label : ℕ) (side : Side) (row : RelRow) (empty : List ℕ)
+    (can : CanOpen s node degree_is threshold label side row empty) where
   pub group_can : IsDense s.records node → CanOpenGroup z node label side row empty
-  group_can dense = subst (λ (q : State). CanOpenGroup q node label side row empty) (sym same) (record { keeps = can.keeps; dense = dense; named = can.named; at = can.at })
+  group_can dense = subst (λ (q : State). CanOpenGroup q node label side row empty) (sym same)
+      (record { keeps = can.keeps; dense = dense; named = can.named; at = can.at })
 
   pub room_same : HasGroupRoom s empty → HasGroupRoom z empty
   room_same room = subst (λ (q : State). HasGroupRoom q empty) (sym same) room
@@ -156,7 +166,8 @@ module _ (s z : State) (same : SameButReads s z) (node degree_is threshold label
     dense_can = subst (λ (q : State). CanBecomeDense q node s.shape.threshold empty) (sym same) (record { keeps = can.keeps; sparse = sparse })
 
     pub dense_room : HasGroupRoom s empty → HasDenseRoom z node threshold empty
-    dense_room room = subst (λ (q : State). HasDenseRoom q node threshold empty) (sym same) (record { few = let f = can.keeps.degrees.few node sparse in let k = can.limit in omega arith; room = omega (arith, room) })
+    dense_room room = subst (λ (q : State). HasDenseRoom q node threshold empty) (sym same)
+        (record { few = let f = can.keeps.degrees.few node sparse in let k = can.limit in omega arith; room = omega (arith, room) })
 
   -- after it became dense
   module _ (u : State) (becomes : BecomesDense z u node s.shape.threshold empty) where
@@ -175,7 +186,8 @@ module _ (s z : State) (same : SameButReads s z) (node degree_is threshold label
     }
 
     pub dense_group_room : HasGroupRoom s empty → HasGroupRoom u empty
-    dense_group_room room = subst (λ (m : Meta). 2 * m.live + length empty < room_of u.shape format.groups_file) (sym (meta_u format.relationships_file (λ e. omega arith)))
+    dense_group_room room = subst (λ (m : Meta). 2 * m.live + length empty < room_of u.shape format.groups_file)
+        (sym (meta_u format.relationships_file (λ e. omega arith)))
         (subst (λ (q : Shape). 2 * (meta_of s format.relationships_file).live + length empty < room_of q format.groups_file) (sym shape_u) room)
 
     pub dense_opens : (t : State) (h : Head) → OpensChain u t h node row empty → OpensChain s t h node row empty
@@ -199,8 +211,10 @@ module _ (s z t : State) (node threshold degree_is : ℕ) (same : SameButReads s
     pub failed_beside : WritesBeside (node_key node) (2 * (threshold + 1) + 2) z u → WritesBeside (node_key node) (moved_writes threshold degree_is + 2) s u
     failed_beside w = beside_more (let c = count in omega arith) (beside_then (none_beside (node_key node) s z same) w)
 
-    pub dense_beside : WritesBeside (node_key node) (2 * (threshold + 1)) z u → WritesBeside (node_key node) 2 u t → WritesBeside (node_key node) (moved_writes threshold degree_is + 2) s t
+    pub dense_beside : WritesBeside (node_key node) (2 * (threshold + 1)) z u → WritesBeside (node_key node) 2 u t
+        → WritesBeside (node_key node) (moved_writes threshold degree_is + 2) s t
     dense_beside w v = beside_more (let c = count in omega arith) (beside_then (none_beside (node_key node) s z same) (beside_then w v))
 
-    pub dense_opened : (head : Key) → WritesBeside (node_key node) (2 * (threshold + 1)) z u → WritesOpened u t node head 1 → WritesOpened s t node head (moved_writes threshold degree_is + 1)
+    pub dense_opened : (head : Key) → WritesBeside (node_key node) (2 * (threshold + 1)) z u → WritesOpened u t node head 1
+        → WritesOpened s t node head (moved_writes threshold degree_is + 1)
     dense_opened head w v = opened_more (let c = count in omega arith) (opened_then s z t node head (none_beside (node_key node) s z same) (opened_then z u t node head w v))

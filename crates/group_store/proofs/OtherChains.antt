@@ -59,7 +59,8 @@ module _ (s : State) (node g : ℕ) (own : IsOwnedBy s.records node g) (tested :
 
   number : (h n at : ℕ) → at + n ≤ 64 → h ≢ g → (h ≡ after → (at + n ≤ 12) ⊎ (16 ≤ at)) → (h ≡ before → (at + n ≤ 16) ⊎ (20 ≤ at))
       → field n (rec_at t.records format.groups_file h) at ≡ field n (rec_at s.records format.groups_file h) at
-  number h n at fits ne where_after where_before = ap (λ (r : Rec). field n r at) (rec_t h ne) ∙ group_stays s node before after h n at fits where_after where_before
+  number h n at fits ne where_after where_before = ap (λ (r : Rec). field n r at) (rec_t h ne)
+      ∙ group_stays s node before after h n at fits where_after where_before
 
   mark : group_mark t ≡ group_mark s
   mark = mark_groups l g small ∙ ap (λ (r : Rec). (metas.meta_of r).high) (meta_stays s node before after)
@@ -91,7 +92,8 @@ module _ (s : State) (node g : ℕ) (own : IsOwnedBy s.records node g) (tested :
     off_before : (h : ℕ) → In h xs → h ≢ before
     off_before h i e =
         let member : In before xs = subst (λ z. In z xs) e i in
-        let led : next_group s.records before ≡ g = on_test (λ v. v ≡ g → next_group s.records before ≡ g) before format.nil (first_link s.records node) (next_group s.records before)
+        let led : next_group s.records before ≡ g = on_test (λ v. v ≡ g → next_group s.records before ≡ g) before format.nil (first_link s.records node)
+        (next_group s.records before)
         (λ none. absurd (some before member none)) (λ _ is. is) tested.led in
         ⊎_elim (λ none. some_g (sym led ∙ none)) (λ k. off g (subst (λ z. In z xs) led k) refl)
         (after_in (next_group s.records) first xs before (walk_of_chain _ _ format.nil first xs here.chain) member)
@@ -120,7 +122,8 @@ module _ (s : State) (node g : ℕ) (own : IsOwnedBy s.records node g) (tested :
     before_t = ⊎_elim
         (λ (e : h ≡ after).
         let is : previous_group t.records h ≡ before
-        = ap (λ (r : Rec). field 4 r format.group_previous) (rec_t h other) ∙ ap (previous_group l.records) e ∙ previous_after s node before after (λ none. some_h (e ∙ none)) small_before in
+        = ap (λ (r : Rec). field 4 r format.group_previous) (rec_t h other) ∙ ap (previous_group l.records) e
+        ∙ previous_after s node before after (λ none. some_h (e ∙ none)) small_before in
         inr (⊎_elim (λ none. inl (is ∙ none)) (λ some. inr (subst (λ m. previous_group t.records h < m) (sym mark) (subst (λ x. x < group_mark s) (sym is) (low.before some)))) (nat_cases before format.nil)))
         (λ (apart : h ≢ after). inl (number h 4 format.group_previous (omega arith) other (λ e. absurd (apart e)) (λ _. inl (omega arith))))
         (nat_cases h after)
@@ -129,7 +132,8 @@ module _ (s : State) (node g : ℕ) (own : IsOwnedBy s.records node g) (tested :
     after_t = ⊎_elim
         (λ (e : h ≡ before).
         let is : next_group t.records h ≡ after
-        = ap (λ (r : Rec). field 4 r format.group_next) (rec_t h other) ∙ ap (next_group l.records) e ∙ next_before s node before after (λ none. some_h (e ∙ none)) small_after in
+        = ap (λ (r : Rec). field 4 r format.group_next) (rec_t h other) ∙ ap (next_group l.records) e
+        ∙ next_before s node before after (λ none. some_h (e ∙ none)) small_after in
         inr (⊎_elim (λ none. inl (is ∙ none)) (λ some. inr (subst (λ m. next_group t.records h < m) (sym mark) (subst (λ x. x < group_mark s) (sym is) (low.after some)))) (nat_cases after format.nil)))
         (λ (apart : h ≢ before). inl (number h 4 format.group_next (omega arith) other (λ _. inr (omega arith)) (λ e. absurd (apart e))))
         (nat_cases h before)
@@ -170,8 +174,11 @@ head_owned s head node file (inr o) =
     subst (IsOwnedBy s.records node) (sym (ap (λ (k : Key). k.id) o.key)) (record { used = row.0; owner = ap (λ (r : GroupRow). r.owner) row.1 ∙ o.owner })
 
 -- a head that is closed
-pub others_closed : (s t : State) (head : Head) (node : ℕ) → head.key.file ≡ format.groups_file → IsHeadOf s.records head node → t.shape ≡ s.shape → (gone : Bool)
-    → (gone ≡ false → SameButReads s t) → (gone ≡ true → t ≡ dropped s node head.key.id) → (gone ≡ true → IsLinkedIn s.records node head.key.id) → (gone ≡ true → HasLowLinks s head.key.id)
+pub others_closed : (s t : State) (head : Head) (node : ℕ) → head.key.file ≡ format.groups_file → IsHeadOf s.records head node → t.shape ≡ s.shape
+    → (gone : Bool)
+    → (gone ≡ false → SameButReads s t) → (gone ≡ true → t ≡ dropped s node head.key.id) → (gone ≡ true → IsLinkedIn s.records node head.key.id)
+    → (gone ≡ true → HasLowLinks s head.key.id)
     → KeepsOtherChains s t node
-others_closed s t head node file owns shape true same is tested low = others_dropped s node head.key.id (head_owned s head node file owns) (tested refl) (low refl) t (is refl) shape
+others_closed s t head node file owns shape true same is tested low = others_dropped s node head.key.id (head_owned s head node file owns) (tested refl)
+    (low refl) t (is refl) shape
 others_closed s t head node file owns shape false same is tested low = others_read s t node (same refl)

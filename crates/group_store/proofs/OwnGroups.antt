@@ -23,11 +23,13 @@ if_ok (Err e) P Q f p = tt
 pub writes_after : (s now end : State) (keys : List Key) → SameButReads s now → WritesOnly now end keys → WritesOnly s end keys
 writes_after s now end keys same writes = record { each = λ q w. ⊎_elim (λ k. inl (subst (λ (t : Key → Bool). t q ≡ true) (ap (λ (t : State). t.written) same) k)) (λ k. inr k) (writes.each q w) }
 
-pub keeps_then : (s now : State) (node : ℕ) (rest : List ℕ) (most : ℕ) (empty : List ℕ) → SameButReads s now → KeepsBut s.records s.shape node rest most empty → KeepsBut now.records now.shape node rest most empty
+pub keeps_then : (s now : State) (node : ℕ) (rest : List ℕ) (most : ℕ) (empty : List ℕ) → SameButReads s now → KeepsBut s.records s.shape node rest most empty
+    → KeepsBut now.records now.shape node rest most empty
 keeps_then s now node rest most empty same keeps = subst (λ (t : State). KeepsBut t.records t.shape node rest most empty) (sym same) keeps
 
 -- one group more may be empty
-pub keeps_more : (records : Records) (shape : Shape) (node g : ℕ) (rest : List ℕ) (most : ℕ) (empty : List ℕ) → KeepsBut records shape node rest most empty → KeepsBut records shape node rest most (g ∷ empty)
+pub keeps_more : (records : Records) (shape : Shape) (node g : ℕ) (rest : List ℕ) (most : ℕ) (empty : List ℕ) → KeepsBut records shape node rest most empty
+    → KeepsBut records shape node rest most (g ∷ empty)
 keeps_more records shape node g rest most empty keeps = record {
   others = keeps.others;
   linked = keeps.linked;
@@ -38,7 +40,8 @@ keeps_more records shape node g rest most empty keeps = record {
 }
 
 -- a group that is found
-pub opened_found : (s now : State) (node label : ℕ) (row : GroupRow) → SameButReads s now → IsFound s.records node label (Some row) → (rest : List ℕ) (most : ℕ) (empty : List ℕ)
+pub opened_found : (s now : State) (node label : ℕ) (row : GroupRow) → SameButReads s now → IsFound s.records node label (Some row)
+    → (rest : List ℕ) (most : ℕ) (empty : List ℕ)
     → KeepsBut s.records s.shape node rest most empty → KeepsBut now.records now.shape node rest most (row.id ∷ empty) × HasOpened s now node label row.id rest
 opened_found s now node label row same found rest most empty keeps = (
   keeps_then s now node rest most (row.id ∷ empty) same (keeps_more s.records s.shape node row.id rest most empty keeps),
@@ -55,7 +58,8 @@ opened_found s now node label row same found rest most empty keeps = (
 )
 
 -- where none is found the node has none
-pub none_found : (s : State) (node label : ℕ) (rest : List ℕ) (most : ℕ) (empty : List ℕ) → KeepsBut s.records s.shape node rest most empty → (dense : IsDense s.records node) (found : Option GroupRow) → found ≡ None
+pub none_found : (s : State) (node label : ℕ) (rest : List ℕ) (most : ℕ) (empty : List ℕ) → KeepsBut s.records s.shape node rest most empty
+    → (dense : IsDense s.records node) (found : Option GroupRow) → found ≡ None
     → ((xs : List ℕ) → IsGroupChain s.records node xs → (found ≡ None) ↔ LacksGroup s.records node label) → LacksGroup s.records node label
 none_found s node label rest most empty keeps dense found is exact =
     let has = keeps.grouped.each node dense in
@@ -63,14 +67,16 @@ none_found s node label rest most empty keeps dense found is exact =
 
 -- a group that is made after reads
 pub opened_made : (s now end : State) (node label id : ℕ) (rest : List ℕ) (most : ℕ) (empty : List ℕ) → SameButReads s now
-    → KeepsBut end.records end.shape node rest most (id ∷ empty) × HasOpened now end node label id rest → KeepsBut end.records end.shape node rest most (id ∷ empty) × HasOpened s end node label id rest
+    → KeepsBut end.records end.shape node rest most (id ∷ empty) × HasOpened now end node label id rest
+    → KeepsBut end.records end.shape node rest most (id ∷ empty) × HasOpened s end node label id rest
 opened_made s now end node label id rest most empty same made = (
   made.0,
   record {
     group = made.1.group;
     dense = made.1.dense;
     regroups = regroups_both s now end node (subst (λ (t : State). Regroups s t node) (sym same) (regroups_read s now.reads node)) made.1.regroups;
-    leaves = leaves_both s now end node (subst (λ (t : State). Regroups s t node) (sym same) (regroups_read s now.reads node)) (leaves_read s now node same) made.1.leaves;
+    leaves = leaves_both s now end node (subst (λ (t : State). Regroups s t node) (sym same) (regroups_read s now.reads node)) (leaves_read s now node same)
+        made.1.leaves;
     rels = λ x. made.1.rels x ∙ ap (λ (t : State). rec_at t.records format.relationships_file x) same;
     exact = λ h. made.1.exact (subst (λ (t : State). AreExactBut t.records node rest) (sym same) h);
     counted = λ h. made.1.counted (subst (λ (t : State). HasCountedGroups t.records node) (sym same) h);

@@ -13,7 +13,8 @@ use Rattle.group_store.specs.Spreading.{KeepsBut}
 use Rattle.group_store.specs.Walking.{IsWalkable}
 use Rattle.group_store.proofs.GroupRules.{IsGroupChain-HasGroups}
 
-module _ (s : State) (node : ℕ) (rest : List ℕ) (most : ℕ) (empty : List ℕ) (keeps : KeepsBut s.records s.shape node rest most empty) (dense : IsDense s.records node) where
+module _ (s : State) (node : ℕ) (rest : List ℕ) (most : ℕ) (empty : List ℕ) (keeps : KeepsBut s.records s.shape node rest most empty)
+    (dense : IsDense s.records node) where
   pub node_known : nodes.IsReadable s node
   node_known = node_rows.IsReadable-AreInRange s node keeps.others.ranges
 
@@ -38,5 +39,6 @@ module _ (s : State) (node : ℕ) (rest : List ℕ) (most : ℕ) (empty : List �
   can_make label lacks = record {
     chain = chain;
     lacks = λ g i. lacks g (chain.only g i);
-    take = can_take s format.groups_file (keeps.others.split format.groups_file refl).0 (keeps.others.ranges.metas format.groups_file refl).high (keeps.others.split format.groups_file refl).1;
+    take = can_take s format.groups_file (keeps.others.split format.groups_file refl).0 (keeps.others.ranges.metas format.groups_file refl).high
+        (keeps.others.split format.groups_file refl).1;
   }

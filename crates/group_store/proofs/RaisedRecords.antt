@@ -1,5 +1,6 @@
 -- The record of a group that gets its numbers.
-use Rattle.std.proofs.Common.{◌≡◌, ◌⊎◌, ℕ, ◌+◌, ◌<◌, ◌≤◌, ◌^◌, nat_lt, nat_eq, Bool, true, false, ◌&&◌, ◌||◌, Some, [], ◌∷◌, sym, ap, ◌∙◌, subst, inl, inr, ⊎_elim, arith, refl}
+use Rattle.std.proofs.Common.{◌≡◌, ◌⊎◌, ℕ, ◌+◌, ◌<◌, ◌≤◌, ◌^◌, nat_lt, nat_eq, Bool, true, false, ◌&&◌, ◌||◌, Some, []}
+use Rattle.std.proofs.Common.{◌∷◌, sym, ap, ◌∙◌, subst, inl, inr, ⊎_elim, arith, refl}
 use Rattle.std.proofs.lemmas.Bool.{cases_lt}
 use Rattle.std.proofs.lemmas.Bool.Decides.{nat_tests}
 use Rattle.rec_bytes.specs.declared.record.Rec.{Rec}
@@ -65,9 +66,12 @@ module _ (r : Rec) (counts : Counts) (out : counts.out < 2 ^ 32) (into : counts.
   -- all that stands apart from the kind and the numbers
   pub stays : (n at : ℕ) → at + n ≤ 64 → 1 ≤ at → (at + n ≤ 32) ⊎ (44 ≤ at) → field n rec at ≡ field n r at
   stays n at within low out =
-      field-with_field_other 4 r3 format.group_loop_count counts.loops n at within (⊎_elim (λ (le : at + n ≤ 32). inr (omega arith)) (λ (ge : 44 ≤ at). inl (omega arith)) out)
-      ∙ field-with_field_other 4 r2 format.group_in_count counts.into n at within (⊎_elim (λ (le : at + n ≤ 32). inr (omega arith)) (λ (ge : 44 ≤ at). inl (omega arith)) out)
-      ∙ field-with_field_other 4 r1 format.group_out_count counts.out n at within (⊎_elim (λ (le : at + n ≤ 32). inr (omega arith)) (λ (ge : 44 ≤ at). inl (omega arith)) out)
+      field-with_field_other 4 r3 format.group_loop_count counts.loops n at within
+      (⊎_elim (λ (le : at + n ≤ 32). inr (omega arith)) (λ (ge : 44 ≤ at). inl (omega arith)) out)
+      ∙ field-with_field_other 4 r2 format.group_in_count counts.into n at within
+      (⊎_elim (λ (le : at + n ≤ 32). inr (omega arith)) (λ (ge : 44 ≤ at). inl (omega arith)) out)
+      ∙ field-with_field_other 4 r1 format.group_out_count counts.out n at within
+      (⊎_elim (λ (le : at + n ≤ 32). inr (omega arith)) (λ (ge : 44 ≤ at). inl (omega arith)) out)
       ∙ field-with_field_other 1 r format.kind format.counted n at within (inl (omega arith))
 
   pub same : (at : ℕ) → (4 ≤ at) × (at + 4 ≤ 32) → field 4 rec at ≡ field 4 r at

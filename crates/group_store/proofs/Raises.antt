@@ -32,7 +32,8 @@ use Rattle.group_store.specs.declared.raising.Counts.{Counts}
 use Rattle.group_store.specs.declared.side.Side.{Side}
 use Rattle.group_store.specs.declared.side.Side.TheVariants.{Out, In as Into, Loop}
 use Rattle.group_store.specs.GroupRecord.{is_counted}
-use Rattle.group_store.specs.Raising.{AreLengths, CanRaise, HasLength, HasRaised, IsCountDamage, IsCountFault, IsGroupAt, degree_damage, first_in, members_of, raised, raised_state}
+use Rattle.group_store.specs.Raising.{AreLengths, CanRaise, HasLength, HasRaised, IsCountDamage, IsCountFault}
+use Rattle.group_store.specs.Raising.{IsGroupAt, degree_damage, first_in, members_of, raised, raised_state}
 use Rattle.group_store.specs.Sides.{group_head}
 use Rattle.group_store.proofs.GroupPuts as puts
 use Rattle.group_store.proofs.GroupRules.{row_of_group}
@@ -50,7 +51,8 @@ breaks_read s z same Disk told = tt
 breaks_read s z same (Damaged damage) told = subst (λ (q : State). Breaks q.records q.shape damage) same told
 
 -- which record is said to be damaged
-pub length_names : (s : State) (node g first : ℕ) (members : Members) (fault : Fault) → IsLengthFault s (key_in format.groups_file g) first node members fault → IsCountFault node g fault
+pub length_names : (s : State) (node g first : ℕ) (members : Members) (fault : Fault) → IsLengthFault s (key_in format.groups_file g) first node members fault
+    → IsCountFault node g fault
 length_names s node g first members Memory told = tt
 length_names s node g first members Disk told = tt
 length_names s node g first members (Damaged damage) told = by damage told
@@ -62,7 +64,8 @@ length_names s node g first members (Damaged damage) told = by damage told
 group_reads : (s : State) (r node : ℕ) (row : GroupRow) → IsGroupAt s node row → IsGroupAt (record s { reads = r }) node row
 group_reads s r node row at = record { dense = at.dense; member = at.member; on = at.on; is = at.is }
 
-pub can_read : (s z : State) (node : ℕ) (row : GroupRow) (most : ℕ) (empty : List ℕ) → SameButReads s z → CanRaise s node row most empty → CanRaise z node row most empty
+pub can_read : (s z : State) (node : ℕ) (row : GroupRow) (most : ℕ) (empty : List ℕ) → SameButReads s z → CanRaise s node row most empty
+    → CanRaise z node row most empty
 can_read s z node row most empty same can =
     subst (λ (q : State). CanRaise q node row most empty) (sym same) (record { keeps = can.keeps; group = group_reads s z.reads node row can.group })
 
@@ -78,7 +81,8 @@ pub lengths_read : (s z : State) (node : ℕ) (row : GroupRow) (counts : Counts)
 lengths_read s z node row counts same h = subst (λ (q : State). AreLengths q node row counts) (sym same)
     (record { out = length_reads s z.reads node row.first_out counts.out h.out; into = length_reads s z.reads node row.first_in counts.into h.into; loops = length_reads s z.reads node row.first_loop counts.loops h.loops })
 
-counted_reads : (s : State) (r first node : ℕ) (members : Members) (budget n : ℕ) → HasCounted (record s { reads = r }) first node members budget n → HasCounted s first node members budget n
+counted_reads : (s : State) (r first node : ℕ) (members : Members) (budget n : ℕ) → HasCounted (record s { reads = r }) first node members budget n
+    → HasCounted s first node members budget n
 counted_reads s r first node members budget n h = record {
   last = h.last;
   counted = h.counted;
@@ -91,8 +95,10 @@ counted_reads s r first node members budget n h = record {
 }
 
 -- what was counted after reads
-pub counted_read : (s z : State) (first node : ℕ) (members : Members) (budget n : ℕ) → SameButReads s z → HasCounted z first node members budget n → HasCounted s first node members budget n
-counted_read s z first node members budget n same h = counted_reads s z.reads first node members budget n (subst (λ (q : State). HasCounted q first node members budget n) same h)
+pub counted_read : (s z : State) (first node : ℕ) (members : Members) (budget n : ℕ) → SameButReads s z → HasCounted z first node members budget n
+    → HasCounted s first node members budget n
+counted_read s z first node members budget n same h = counted_reads s z.reads first node members budget n
+    (subst (λ (q : State). HasCounted q first node members budget n) same h)
 
 -- ---- the group of a row
 
@@ -107,7 +113,8 @@ module _ (s : State) (node : ℕ) (row : GroupRow) (at : IsGroupAt s node row) w
   first_is Loop = ap (λ (q : GroupRow). q.first_loop) at.is
 
   pub below : row.id < high s.records format.groups_file
-  below = kind_below (high s.records format.groups_file) (rec_at s.records format.groups_file row.id) row.id (group_used (kind_at s.records format.groups_file row.id) at.member.kind)
+  below = kind_below (high s.records format.groups_file) (rec_at s.records format.groups_file row.id) row.id
+      (group_used (kind_at s.records format.groups_file row.id) at.member.kind)
 
   pub byte_is : kind_at s.records format.groups_file row.id ≡ field 1 (rec_at s.records format.groups_file row.id) format.kind
   byte_is = kind_low (high s.records format.groups_file) (rec_at s.records format.groups_file row.id) row.id below
@@ -129,8 +136,10 @@ module _ (s : State) (node : ℕ) (row : GroupRow) (at : IsGroupAt s node row) w
       (group_kinds (kind_at s.records format.groups_file row.id) at.member.kind)
 
   -- more relationships than the degree says
-  module _ (degree_is limit a b c : ℕ) {f g h k m n : ℕ} (is : degree_is ≡ degree s.records node) (allowed : limit ≡ min (degree_is + 1) 4294967295) (all : (a + b) + c ≡ limit)
-      (out : HasCounted s f node (members_of row.label Out) k a) (into : HasCounted s g node (members_of row.label Into) m b) (loops : HasCounted s h node (members_of row.label Loop) n c) where
+  module _ (degree_is limit a b c : ℕ) {f g h k m n : ℕ} (is : degree_is ≡ degree s.records node) (allowed : limit ≡ min (degree_is + 1) 4294967295)
+      (all : (a + b) + c ≡ limit)
+      (out : HasCounted s f node (members_of row.label Out) k a) (into : HasCounted s g node (members_of row.label Into) m b)
+      (loops : HasCounted s h node (members_of row.label Loop) n c) where
     wrong : degree s.records node ≢ degree_of (rel_at s.records) (high s.records format.relationships_file) node
     wrong e = less_said s node row.label a b c out into loops degree_is limit allowed all (is ∙ e)
 
@@ -138,7 +147,8 @@ module _ (s : State) (node : ℕ) (row : GroupRow) (at : IsGroupAt s node row) w
     used e = let d = at.dense in omega arith
 
     pub degree_breaks : Breaks s.records s.shape (degree_damage node)
-    degree_breaks = WrongDegree node (kind_below (high s.records format.nodes_file) (rec_at s.records format.nodes_file node) node used) (λ keeps. wrong (keeps.exact used))
+    degree_breaks = WrongDegree node (kind_below (high s.records format.nodes_file) (rec_at s.records format.nodes_file node) node used)
+        (λ keeps. wrong (keeps.exact used))
 
     pub degree_right : {most : ℕ} {empty : List ℕ} → KeepsRules s.records s.shape most empty → ⊥
     degree_right well = wrong (well.degrees.each node used)
@@ -146,12 +156,14 @@ module _ (s : State) (node : ℕ) (row : GroupRow) (at : IsGroupAt s node row) w
 -- ---- in a store that keeps the rules
 
 -- the chain of a side
-pub side_chain : (s : State) (node : ℕ) (row : GroupRow) (most : ℕ) (empty : List ℕ) → CanRaise s node row most empty → (z : Side) → (xs : List ℕ) × IsMemberChain s (first_in row z) node (members_of row.label z) xs
+pub side_chain : (s : State) (node : ℕ) (row : GroupRow) (most : ℕ) (empty : List ℕ) → CanRaise s node row most empty → (z : Side) → (xs : List ℕ)
+    × IsMemberChain s (first_in row z) node (members_of row.label z) xs
 side_chain s node row most empty can z =
     let c = chain_of_side s.records row.id row.label node (group_is s node row can.group) s.shape can.keeps can.group.dense z s refl in
     (c.0, subst (λ f. IsMemberChain s f node (members_of row.label z) c.0) (sym (first_is s node row can.group z)) c.1)
 
-module _ (s : State) (node : ℕ) (row : GroupRow) (most : ℕ) (empty : List ℕ) (can : CanRaise s node row most empty) (uncounted : row.counted ≡ false) (counts : Counts) (lengths : AreLengths s node row counts) where
+module _ (s : State) (node : ℕ) (row : GroupRow) (most : ℕ) (empty : List ℕ) (can : CanRaise s node row most empty) (uncounted : row.counted ≡ false)
+    (counts : Counts) (lengths : AreLengths s node row counts) where
   at : IsGroupAt s node row
   at = can.group
 
@@ -165,7 +177,8 @@ module _ (s : State) (node : ℕ) (row : GroupRow) (most : ℕ) (empty : List �
   mark_small = high_fits s.records format.relationships_file
 
   -- the number of a side is that of the relationships that stand there
-  number : (z : Side) (n : ℕ) → HasLength s node (first_in row z) n → n ≡ count_of (λ rel. is_member node (members_of row.label z) rel) (rel_at s.records) (high s.records format.relationships_file)
+  number : (z : Side) (n : ℕ) → HasLength s node (first_in row z) n → n ≡ count_of (λ rel. is_member node (members_of row.label z) rel) (rel_at s.records)
+      (high s.records format.relationships_file)
   number z n h = sym h.2 ∙ length_is s.records row.id row.label node (group_is s node row at) s.shape can.keeps at.dense z h.0
       (subst (λ f. IsWalk (next_of s.records node) f h.0) (first_is s node row at z) (walk_in s (first_in row z) node n h.0 h.1))
 
@@ -200,7 +213,8 @@ module _ (s : State) (node : ℕ) (row : GroupRow) (most : ℕ) (empty : List �
   kind = records.kind_is r counts a b c
 
   fits : Fits (high s.records) format.groups_file rec
-  fits = records.fits_now r counts a b c (high s.records) (grouped_byte s node row at uncounted) (can.keeps.ranges.fit format.groups_file row.id refl (below s node row at))
+  fits = records.fits_now r counts a b c (high s.records) (grouped_byte s node row at uncounted)
+      (can.keeps.ranges.fit format.groups_file row.id refl (below s node row at))
 
   abbrev t : Records
   t = put s.records (key_in format.groups_file row.id) rec
@@ -215,7 +229,8 @@ module _ (s : State) (node : ℕ) (row : GroupRow) (most : ℕ) (empty : List �
     loops = records.loops_is r counts a b c ∙ loops_is;
   }
 
-  exact : (k : ℕ) (q : views.GroupRow) → group_at t k ≡ Some q → kind_at t format.groups_file k ≡ format.counted → HasCounts (rec_at t format.groups_file k) q (rel_at s.records) (high s.records format.relationships_file)
+  exact : (k : ℕ) (q : views.GroupRow) → group_at t k ≡ Some q → kind_at t format.groups_file k ≡ format.counted
+      → HasCounts (rec_at t format.groups_file k) q (rel_at s.records) (high s.records format.relationships_file)
   exact k q is counted = ⊎_elim
       (λ (e : k ≡ row.id).
       let same : gr ≡ q = same_group gr q (sym (group_is s node row at) ∙ ap (group_at s.records) (sym e) ∙ sym (group_same k) ∙ is) in
@@ -223,7 +238,8 @@ module _ (s : State) (node : ℕ) (row : GroupRow) (most : ℕ) (empty : List �
       (subst (λ (v : Rec). HasCounts v q (rel_at s.records) (high s.records format.relationships_file)) (sym (puts.here s.records s.shape node row.id rec at.member.kind (ap is_group_kind kind) (records.same r counts a b c) fits))
       (subst (λ (v : views.GroupRow). HasCounts rec v (rel_at s.records) (high s.records format.relationships_file)) same counts_now)))
       (λ (ne : k ≢ row.id).
-      subst (λ (v : Rec). HasCounts v q (rel_at s.records) (high s.records format.relationships_file)) (sym (puts.other s.records s.shape node row.id rec at.member.kind (ap is_group_kind kind) (records.same r counts a b c) fits k ne))
+      subst (λ (v : Rec). HasCounts v q (rel_at s.records) (high s.records format.relationships_file))
+      (sym (puts.other s.records s.shape node row.id rec at.member.kind (ap is_group_kind kind) (records.same r counts a b c) fits k ne))
       (can.keeps.exact k q (sym (group_same k) ∙ is) (sym (puts.kind_other s.records s.shape node row.id rec at.member.kind (ap is_group_kind kind) (records.same r counts a b c) fits k ne) ∙ counted)))
       (nat_cases k row.id)
 
@@ -244,7 +260,8 @@ module _ (s : State) (node : ℕ) (row : GroupRow) (most : ℕ) (empty : List �
   }
 
 -- one that has its numbers
-pub raises_none : (s : State) (node : ℕ) (row : GroupRow) (most : ℕ) (empty : List ℕ) → CanRaise s node row most empty → row.counted ≡ true → HasRaised s s node row.id most empty
+pub raises_none : (s : State) (node : ℕ) (row : GroupRow) (most : ℕ) (empty : List ℕ) → CanRaise s node row most empty → row.counted ≡ true
+    → HasRaised s s node row.id most empty
 raises_none s node row most empty can counted = record {
   keeps = can.keeps;
   counted = counted_kind s node row can.group counted;

@@ -1,5 +1,6 @@
 -- What a change of a node's groups leaves: rows and names, the graph, and all rules but the third and the fourth.
-use Rattle.std.proofs.Common.{◌≡◌, ◌≢◌, ◌⊎◌, ℕ, ◌+◌, ◌<◌, ◌≤◌, nat_eq, not, true, Option, Some, List, length, sym, ap, ◌∙◌, subst, inl, inr, ⊎_elim, arith, refl}
+use Rattle.std.proofs.Common.{◌≡◌, ◌≢◌, ◌⊎◌, ℕ, ◌+◌, ◌<◌, ◌≤◌, nat_eq, not, true, Option, Some, List, length, sym, ap}
+use Rattle.std.proofs.Common.{◌∙◌, subst, inl, inr, ⊎_elim, arith, refl}
 use Rattle.std.proofs.lemmas.Bool.{true≢false}
 use Rattle.rec_bytes.specs.declared.key.Key.{Key}
 use Rattle.rec_bytes.specs.declared.meta.Meta.{Meta}
@@ -16,7 +17,8 @@ use Rattle.store_rules.specs.Graph.{edge_from, graph_of, node_from, indexes_from
 use Rattle.store_rules.specs.Ranges.{AreInRange, is_reused}
 use Rattle.store_rules.specs.Rows.{collect, ids}
 use Rattle.store_rules.specs.Rules.{AreNamed, AreNames, HaveProperties, IsSplit, PropertyFiles, degree_of, next_free, property_files}
-use Rattle.store_rules.specs.Views.{GroupRow, NodeRow, Records, RelRow, degree, group_at, high, is_live, key_in, kind_at, kind_in, node_at, node_in, rec_at, rel_at, row_if, text_of}
+use Rattle.store_rules.specs.Views.{GroupRow, NodeRow, Records, RelRow, degree, group_at, high, is_live, key_in}
+use Rattle.store_rules.specs.Views.{kind_at, kind_in, node_at, node_in, rec_at, rel_at, row_if, text_of}
 use Rattle.store_rules.proofs.DefinedStays.{defined_stay}
 use Rattle.store_rules.proofs.ChainLaws.{walk_stays}
 use Rattle.store_rules.proofs.Frames.{IsSame, files_same, records_same, split_same}
@@ -27,11 +29,15 @@ use Rattle.group_store.specs.Spreading.{KeepsOthers}
 
 -- No record changed but nodes in their kinds and first links, relationships in their links, and groups. At most this node changed its kind: it was sparse, and is dense.
 pub record IsFrame (s t : Records) (node : ℕ) : Type 0 where
-  pub others : (key : Key) → key.file ≢ format.nodes_file → key.file ≢ format.relationships_file → key.file ≢ format.groups_file → key ≢ meta_key_of format.groups_file → t key ≡ s key
-  pub nodes : (x n at : ℕ) → at + n ≤ 64 → 1 ≤ at → (at + n ≤ format.node_first_link) ⊎ (format.node_first_property ≤ at) → field n (rec_at t format.nodes_file x) at ≡ field n (rec_at s format.nodes_file x) at
+  pub others : (key : Key) → key.file ≢ format.nodes_file → key.file ≢ format.relationships_file → key.file ≢ format.groups_file
+      → key ≢ meta_key_of format.groups_file → t key ≡ s key
+  pub nodes : (x n at : ℕ) → at + n ≤ 64 → 1 ≤ at → (at + n ≤ format.node_first_link) ⊎ (format.node_first_property ≤ at)
+      → field n (rec_at t format.nodes_file x) at ≡ field n (rec_at s format.nodes_file x) at
   pub kinds : (x : ℕ) → x ≢ node → kind_at t format.nodes_file x ≡ kind_at s format.nodes_file x
-  pub here : (kind_at t format.nodes_file node ≡ kind_at s format.nodes_file node) ⊎ ((kind_at s format.nodes_file node ≡ format.sparse) × (kind_at t format.nodes_file node ≡ format.dense))
-  pub rels : (x n at : ℕ) → at + n ≤ 64 → (at + n ≤ format.relationship_source_previous) ⊎ (format.relationship_first_property ≤ at) → field n (rec_at t format.relationships_file x) at ≡ field n (rec_at s format.relationships_file x) at
+  pub here : (kind_at t format.nodes_file node ≡ kind_at s format.nodes_file node)
+      ⊎ ((kind_at s format.nodes_file node ≡ format.sparse) × (kind_at t format.nodes_file node ≡ format.dense))
+  pub rels : (x n at : ℕ) → at + n ≤ 64 → (at + n ≤ format.relationship_source_previous) ⊎ (format.relationship_first_property ≤ at)
+      → field n (rec_at t format.relationships_file x) at ≡ field n (rec_at s format.relationships_file x) at
 
 pub frame_none : (s : Records) (node : ℕ) → IsFrame s s node
 frame_none s node = record { others = λ key a b c d. refl; nodes = λ x n at inside one apart. refl; kinds = λ x ne. refl; here = inl refl; rels = λ x n at inside apart. refl }
@@ -60,7 +66,8 @@ module _ (s t : Records) (node : ℕ) (h : IsFrame s t node) where
   file_same f is a b c = record { meta = ap metas.meta_of (meta_same f c); each = λ x. h.others (key_in f x) a b c (not_meta_key f x format.groups_file is) }
 
   -- a node keeps its kind, or is in use before and after
-  kind_cases : (x : ℕ) → (kind_at t format.nodes_file x ≡ kind_at s format.nodes_file x) ⊎ ((kind_at s format.nodes_file x ≢ 0) × (kind_at t format.nodes_file x ≢ 0))
+  kind_cases : (x : ℕ) → (kind_at t format.nodes_file x ≡ kind_at s format.nodes_file x)
+      ⊎ ((kind_at s format.nodes_file x ≢ 0) × (kind_at t format.nodes_file x ≢ 0))
   kind_cases x = ⊎_elim
       (λ (e : x ≡ node). subst (λ z. (kind_at t format.nodes_file z ≡ kind_at s format.nodes_file z) ⊎ ((kind_at s format.nodes_file z ≢ 0) × (kind_at t format.nodes_file z ≢ 0))) (sym e)
       (⊎_elim (λ f. inl f) (λ f. inr ((λ z. let a = sym z ∙ f.0 in omega arith), (λ z. let a = sym z ∙ f.1 in omega arith))) h.here))
@@ -83,7 +90,8 @@ module _ (s t : Records) (node : ℕ) (h : IsFrame s t node) where
       (λ (ne : x ≢ node). h.kinds x ne ∙ is) (nat_cases x node)
 
   -- where the node was dense before, so was each that is
-  pub dense_was : kind_at s format.nodes_file node ≡ format.dense → (x : ℕ) → kind_at t format.nodes_file x ≡ format.dense → kind_at s format.nodes_file x ≡ format.dense
+  pub dense_was : kind_at s format.nodes_file node ≡ format.dense → (x : ℕ) → kind_at t format.nodes_file x ≡ format.dense
+      → kind_at s format.nodes_file x ≡ format.dense
   dense_was dense x is = ⊎_elim (λ (e : x ≡ node). ap (kind_at s format.nodes_file) e ∙ dense) (λ (ne : x ≢ node). sym (h.kinds x ne) ∙ is) (nat_cases x node)
 
   node_row : (x : ℕ) → node_in (rec_at t format.nodes_file x) x ≡ node_in (rec_at s format.nodes_file x) x
@@ -101,7 +109,8 @@ module _ (s t : Records) (node : ℕ) (h : IsFrame s t node) where
 
   pub rel_kind : (x : ℕ) → kind_at t format.relationships_file x ≡ kind_at s format.relationships_file x
   rel_kind x = ap (λ m. kind_in m (rec_at t format.relationships_file x) x) (mark_same format.relationships_file (λ e. omega arith))
-      ∙ kind_by (high s format.relationships_file) (rec_at t format.relationships_file x) (rec_at s format.relationships_file x) x (h.rels x 1 format.kind (omega arith) (inl (omega arith)))
+      ∙ kind_by (high s format.relationships_file) (rec_at t format.relationships_file x) (rec_at s format.relationships_file x) x
+      (h.rels x 1 format.kind (omega arith) (inl (omega arith)))
 
   pub rel_same : (x : ℕ) → rel_at t x ≡ rel_at s x
   rel_same x = λ i. row_if (rel_kind x i) (record {
@@ -151,9 +160,11 @@ module _ (s t : Records) (node : ℕ) (h : IsFrame s t node) where
   live_node : (x : ℕ) → is_live t format.nodes_file x ≡ is_live s format.nodes_file x
   live_node x = ⊎_elim (λ e. ap (λ k. not (nat_eq k 0)) e) (λ k. live_true (kind_at t format.nodes_file x) k.1 ∙ sym (live_true (kind_at s format.nodes_file x) k.0)) (kind_cases x)
 
-  split_stays : (f : ℕ) (free : List ℕ) → f ≢ format.groups_file → is_live t f ≡ is_live s f → ((x : ℕ) → next_free t f x ≡ next_free s f x) → IsSplit s f (is_live s f) free → IsSplit t f (is_live t f) free
+  split_stays : (f : ℕ) (free : List ℕ) → f ≢ format.groups_file → is_live t f ≡ is_live s f → ((x : ℕ) → next_free t f x ≡ next_free s f x)
+      → IsSplit s f (is_live s f) free → IsSplit t f (is_live t f) free
   split_stays f free ne live next k = subst (λ v. IsSplit t f v free) (sym live) (record {
-    walk = subst (λ (m : Meta). IsWalk (next_free t f) m.free free) (sym (ap metas.meta_of (meta_same f ne))) (walk_stays (next_free s f) (next_free t f) (meta_in s f).free free (λ x _. next x) k.walk);
+    walk = subst (λ (m : Meta). IsWalk (next_free t f) m.free free) (sym (ap metas.meta_of (meta_same f ne)))
+        (walk_stays (next_free s f) (next_free t f) (meta_in s f).free free (λ x _. next x) k.walk);
     low = λ x i. subst (λ m. x < m) (sym (mark_same f ne)) (k.low x i);
     only = k.only;
     all = λ x lt. k.all x (subst (λ m. x < m) (mark_same f ne) lt);
@@ -167,17 +178,21 @@ module _ (s t : Records) (node : ℕ) (h : IsFrame s t node) where
       (λ (a : f ≢ format.nodes_file). ⊎_elim
       (λ (e : f ≡ format.relationships_file). subst (λ g. IsSplit s g (is_live s g) free → IsSplit t g (is_live t g) free) (sym e)
       (split_stays format.relationships_file free (λ e. omega arith) (λ i x. not (nat_eq (rel_kind x i) 0)) (λ x. h.rels x 4 4 (omega arith) (inl (omega arith)))) k)
-      (λ (b : f ≢ format.relationships_file). split_same s t f free (file_same f (meta_of_reused f is) a b ne) k) (nat_cases f format.relationships_file)) (nat_cases f format.nodes_file)
+      (λ (b : f ≢ format.relationships_file). split_same s t f free (file_same f (meta_of_reused f is) a b ne) k)
+      (nat_cases f format.relationships_file)) (nat_cases f format.nodes_file)
 
   -- ---- all rules but the third and the fourth
-  pub others_stay : (shape : Shape) (most : ℕ) → KeepsOthers s shape most → AreInRange t shape → (free : List ℕ) → IsSplit t format.groups_file (is_live t format.groups_file) free → KeepsOthers t shape most
+  pub others_stay : (shape : Shape) (most : ℕ) → KeepsOthers s shape most → AreInRange t shape → (free : List ℕ)
+      → IsSplit t format.groups_file (is_live t format.groups_file) free → KeepsOthers t shape most
   others_stay shape most old ranges free split = record {
     ranges = ranges;
     split = λ f is. ⊎_elim
         (λ (e : f ≡ format.groups_file). subst (λ g. (free : List ℕ) × IsSplit t g (is_live t g) free) (sym e) (free, split))
         (λ (ne : f ≢ format.groups_file). let k = old.split f is in (k.0, split_other f k.0 is ne k.1)) (nat_cases f format.groups_file);
-    kept = λ f is no_reuse. subst (λ (m : Meta). m.live ≡ m.high) (sym (ap metas.meta_of (meta_same f (λ e. true≢false (sym (ap is_reused e) ∙ no_reuse))))) (old.kept f is no_reuse);
-    properties = subst (λ (f : PropertyFiles). HaveProperties f (node_at t) (rel_at t) (high t format.names_file)) (sym (files_same s t properties_same strings_same))
+    kept = λ f is no_reuse. subst (λ (m : Meta). m.live ≡ m.high) (sym (ap metas.meta_of (meta_same f (λ e. true≢false (sym (ap is_reused e) ∙ no_reuse)))))
+        (old.kept f is no_reuse);
+    properties = subst (λ (f : PropertyFiles). HaveProperties f (node_at t) (rel_at t) (high t format.names_file))
+        (sym (files_same s t properties_same strings_same))
         (subst (λ (n : ℕ → Option NodeRow). HaveProperties (property_files s) n (rel_at t) (high t format.names_file)) (sym nodes_same)
         (subst (λ (r : ℕ → Option RelRow). HaveProperties (property_files s) (node_at s) r (high t format.names_file)) (sym rels_same)
         (subst (HaveProperties (property_files s) (node_at s) (rel_at s)) (sym name_mark) old.properties)));
@@ -187,16 +202,19 @@ module _ (s t : Records) (node : ℕ) (h : IsFrame s t node) where
       records = λ i x. (file_same format.index_file refl (λ e. omega arith) (λ e. omega arith) (λ e. omega arith)).each x i;
       meta = meta_same format.index_file (λ e. omega arith);
     }) (omega (arith, name_mark)) old.defined;
-    names = subst (λ (r : ℕ → Rec). AreNames r (high t format.names_file)) (sym name_file) (subst (AreNames (rec_at s format.names_file)) (sym name_mark) old.names);
+    names = subst (λ (r : ℕ → Rec). AreNames r (high t format.names_file)) (sym name_file)
+        (subst (AreNames (rec_at s format.names_file)) (sym name_mark) old.names);
     degrees = record {
       each = λ n used. degree_same n ∙ old.degrees.each n (used_was n used)
-          ∙ ap (λ (r : ℕ → Option RelRow). degree_of r (high s format.relationships_file) n) (sym rels_same) ∙ ap (λ m. degree_of (rel_at t) m n) (sym (mark_same format.relationships_file (λ e. omega arith)));
+          ∙ ap (λ (r : ℕ → Option RelRow). degree_of r (high s format.relationships_file) n) (sym rels_same)
+          ∙ ap (λ m. degree_of (rel_at t) m n) (sym (mark_same format.relationships_file (λ e. omega arith)));
       few = λ n is. let e = degree_same n in let b = old.degrees.few n (sparse_was n is) in omega arith;
     };
   }
 
 -- the groups of other nodes stay besides
-pub regroups_of : (s t : State) (node : ℕ) → IsFrame s.records t.records node → t.shape ≡ s.shape → ((g : ℕ) (row : GroupRow) → group_at s.records g ≡ Some row → row.owner ≢ node → group_at t.records g ≡ Some row) → Regroups s t node
+pub regroups_of : (s t : State) (node : ℕ) → IsFrame s.records t.records node → t.shape ≡ s.shape
+    → ((g : ℕ) (row : GroupRow) → group_at s.records g ≡ Some row → row.owner ≢ node → group_at t.records g ≡ Some row) → Regroups s t node
 regroups_of s t node h shape groups = record {
   shape = shape;
   graph = graph_same s.records t.records node h;

@@ -1,5 +1,7 @@
 -- How many relationships stand in the chains of a group.
-use Rattle.std.proofs.Common.{◌≡◌, ◌≢◌, ℕ, zero, suc, ◌+◌, ◌<◌, ◌≤◌, nat_eq, min, not, Bool, true, false, ◌&&◌, ◌||◌, ◌⊎◌, cond, Option, None, Some, List, length, sym, ap, ◌∙◌, subst, inl, inr, ⊎_elim, arith, refl}
+use Rattle.std.proofs.Common.{◌≡◌, ◌≢◌, ℕ, zero, suc, ◌+◌, ◌<◌, ◌≤◌, nat_eq, min, not, Bool, true, false, ◌&&◌, ◌||◌}
+use Rattle.std.proofs.Common.{◌⊎◌, cond, Option, None, Some, List, length, sym, ap, ◌∙◌, subst, inl, inr, ⊎_elim, arith}
+use Rattle.std.proofs.Common.{refl}
 use Rattle.std.proofs.lemmas.Bool.{true≢false}
 use Rattle.std.proofs.lemmas.Bool.Decides.{nat_tests}
 use Rattle.std.proofs.lemmas.List.{length-append}
@@ -45,7 +47,8 @@ is_eq a b e = grind (arith, nat_tests)
 differ : (a b : ℕ) → not (nat_eq a b) ≡ true → a ≢ b
 differ a b e k = true≢false (sym e ∙ ap not (eq_true a b k))
 
-pub from_side : (g label node : ℕ) (z : Side) (row : RelRow) → row.label ≡ label → IsSide (place_of z) (row_as g label node) row → is_member node (members_of label z) row ≡ true
+pub from_side : (g label node : ℕ) (z : Side) (row : RelRow) → row.label ≡ label → IsSide (place_of z) (row_as g label node) row
+    → is_member node (members_of label z) row ≡ true
 from_side g label node Out row typed (inl k) = λ i. eq_true row.label label typed i && (eq_true row.from node k.1 i && not (eq_false row.to node k.2 i))
 from_side g label node Out row typed (inr (inl k)) = absurd (let e = k.0 in omega arith)
 from_side g label node Out row typed (inr (inr k)) = absurd (let e = k.0 in omega arith)
@@ -56,7 +59,8 @@ from_side g label node Loop row typed (inl k) = absurd (let e = k.0 in omega ari
 from_side g label node Loop row typed (inr (inl k)) = absurd (let e = k.0 in omega arith)
 from_side g label node Loop row typed (inr (inr k)) = λ i. eq_true row.label label typed i && (eq_true row.from node k.1 i && eq_true row.to node k.2 i)
 
-pub to_side : (g label node : ℕ) (z : Side) (row : RelRow) → is_member node (members_of label z) row ≡ true → (row.label ≡ label) × IsSide (place_of z) (row_as g label node) row
+pub to_side : (g label node : ℕ) (z : Side) (row : RelRow) → is_member node (members_of label z) row ≡ true → (row.label ≡ label)
+    × IsSide (place_of z) (row_as g label node) row
 to_side g label node Out row e =
     let a = and_parts (nat_eq row.label label) (nat_eq row.from node && not (nat_eq row.to node)) e in
     let b = and_parts (nat_eq row.from node) (not (nat_eq row.to node)) a.1 in
@@ -90,7 +94,8 @@ module _ (s : Records) (g label node : ℕ) (is : group_at s g ≡ Some (row_as 
       by : IsInGroup (group_at s) (group_head g z) at.row → is_member node (members_of label z) at.row ≡ true
       by k =
           let same : k.row ≡ row_as g label node = same_group k.row (row_as g label node) (sym k.group ∙ is) in
-          from_side g label node z at.row (k.label ∙ ap (λ (q : views.GroupRow). q.label) same) (subst (λ (q : views.GroupRow). IsSide (place_of z) q at.row) same k.side)
+          from_side g label node z at.row (k.label ∙ ap (λ (q : views.GroupRow). q.label) same)
+          (subst (λ (q : views.GroupRow). IsSide (place_of z) q at.row) same k.side)
 
   -- and the other way round
   pub test_stands : (z : Side) (x : ℕ) → stands s node (members_of label z) x ≡ true → StandsAt (rel_at s) (group_at s) (group_head g z) x
@@ -99,13 +104,15 @@ module _ (s : Records) (g label node : ℕ) (is : group_at s g ≡ Some (row_as 
       let k = to_side g label node z p.0 p.2 in
       record { row = p.0; live = p.1; on = inr (refl, record { row = row_as g label node; group = is; label = k.0; side = k.1 }) }
 
-  abbrev pub owns_group : (z : Side) → kind_at s format.nodes_file node ≡ format.dense → GroupHead (kind_at s format.nodes_file) (group_at s) (group_head g z) node
+  abbrev pub owns_group : (z : Side) → kind_at s format.nodes_file node ≡ format.dense
+      → GroupHead (kind_at s format.nodes_file) (group_at s) (group_head g z) node
   owns_group z dense = record { dense = dense; row = row_as g label node; group = is; owner = refl; key = refl; field = place z }
 
   pub owns : (z : Side) → kind_at s format.nodes_file node ≡ format.dense → Owns (kind_at s format.nodes_file) (group_at s) (group_head g z) node
   owns z dense = inr (owns_group z dense)
 
-  module _ (shape : Shape) {most : ℕ} {empty : List ℕ} (well : KeepsRules s shape most empty) (dense : kind_at s format.nodes_file node ≡ format.dense) (z : Side) where
+  module _ (shape : Shape) {most : ℕ} {empty : List ℕ} (well : KeepsRules s shape most empty) (dense : kind_at s format.nodes_file node ≡ format.dense)
+      (z : Side) where
     -- the chain of a side
     pub chain_of_side : (t : State) → t.records ≡ s → (xs : List ℕ) × IsMemberChain t (first_of s (group_head g z)) node (members_of label z) xs
     chain_of_side t same =
@@ -116,7 +123,8 @@ module _ (s : Records) (g label node : ℕ) (is : group_at s g ≡ Some (row_as 
         )
 
     -- it has as many as stand there
-    pub length_is : (xs : List ℕ) → IsWalk (next_of s node) (first_of s (group_head g z)) xs → length xs ≡ count_of (is_member node (members_of label z)) (rel_at s) (high s format.relationships_file)
+    pub length_is : (xs : List ℕ) → IsWalk (next_of s node) (first_of s (group_head g z)) xs
+        → length xs ≡ count_of (is_member node (members_of label z)) (rel_at s) (high s format.relationships_file)
     length_is xs walk =
         let l = well.linked.listed.each (group_head g z) node (owns z dense) in
         let test = stands s node (members_of label z) in
@@ -151,7 +159,8 @@ length_next test n = length-append (ids test n) (option_list (cond (test n) (Som
     by true = refl
     by false = refl
 
-three_fit : (a b c d : ℕ → Bool) → ((x : ℕ) → (one_if (a x) + one_if (b x)) + one_if (c x) ≤ one_if (d x)) → (n : ℕ) → (length (ids a n) + length (ids b n)) + length (ids c n) ≤ length (ids d n)
+three_fit : (a b c d : ℕ → Bool) → ((x : ℕ) → (one_if (a x) + one_if (b x)) + one_if (c x) ≤ one_if (d x)) → (n : ℕ)
+    → (length (ids a n) + length (ids b n)) + length (ids c n) ≤ length (ids d n)
 three_fit a b c d h zero = omega arith
 three_fit a b c d h (suc n) =
     let before = three_fit a b c d h n in
@@ -163,10 +172,12 @@ three_fit a b c d h (suc n) =
     omega arith
 
 -- what was counted on a side stands there
-counted_few : (s : State) (first node label budget n : ℕ) (z : Side) → HasCounted s first node (members_of label z) budget n → n ≤ count_of (is_member node (members_of label z)) (rel_at s.records) (rel_mark s)
+counted_few : (s : State) (first node label budget n : ℕ) (z : Side) → HasCounted s first node (members_of label z) budget n
+    → n ≤ count_of (is_member node (members_of label z)) (rel_at s.records) (rel_mark s)
 counted_few s first node label budget n z h =
     let test = stands s.records node (members_of label z) in
-    let le = length_once h.counted (ids test (rel_mark s)) (once_walk (prev_of s.records node) h.last h.counted h.walk) (λ x i. in_ids test (rel_mark s) x (h.low x i) (h.are x i)) in
+    let le = length_once h.counted (ids test (rel_mark s)) (once_walk (prev_of s.records node) h.last h.counted h.walk)
+    (λ x i. in_ids test (rel_mark s) x (h.low x i) (h.are x i)) in
     let e = h.many in
     omega arith
 
@@ -176,13 +187,16 @@ counted_small s first node label budget n z h =
     let e = h.many in
     omega arith
 
-module _ (s : State) (node label a b c : ℕ) {f g h k m n : ℕ} (out : HasCounted s f node (members_of label Out) k a) (into : HasCounted s g node (members_of label Into) m b) (loops : HasCounted s h node (members_of label Loop) n c) where
+module _ (s : State) (node label a b c : ℕ) {f g h k m n : ℕ} (out : HasCounted s f node (members_of label Out) k a)
+    (into : HasCounted s g node (members_of label Into) m b) (loops : HasCounted s h node (members_of label Loop) n c) where
   pub no_more : (a + b) + c ≤ degree_of (rel_at s.records) (rel_mark s) node
   no_more =
       let x = counted_few s f node label k a Out out in
       let y = counted_few s g node label m b Into into in
       let z = counted_few s h node label n c Loop loops in
-      let all = three_fit (stands s.records node (members_of label Out)) (stands s.records node (members_of label Into)) (stands s.records node (members_of label Loop)) (λ q. stands_in node (rel_at s.records q)) (λ q. row_test node label (rel_at s.records q)) (rel_mark s) in
+      let all = three_fit (stands s.records node (members_of label Out)) (stands s.records node (members_of label Into))
+      (stands s.records node (members_of label Loop)) (λ q. stands_in node (rel_at s.records q)) (λ q. row_test node label (rel_at s.records q))
+      (rel_mark s) in
       omega arith
 
   -- so the degree says less, where they are as many as it allows and one

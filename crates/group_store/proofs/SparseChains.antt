@@ -1,5 +1,6 @@
 -- The chain of a sparse node, as a test meets it.
-use Rattle.std.proofs.Common.{◌≡◌, ◌≢◌, ◌⊎◌, ⊎_elim, inl, inr, ℕ, ◌+◌, ◌<◌, ◌≤◌, ◌||◌, nat_eq, Bool, None, Some, true, List, [], ◌∷◌, ◌++◌, length, refl, sym, ap, ◌∙◌, subst, arith}
+use Rattle.std.proofs.Common.{◌≡◌, ◌≢◌, ◌⊎◌, ⊎_elim, inl, inr, ℕ, ◌+◌, ◌<◌, ◌≤◌, ◌||◌, nat_eq, Bool, None, Some, true}
+use Rattle.std.proofs.Common.{List, [], ◌∷◌, ◌++◌, length, refl, sym, ap, ◌∙◌, subst, arith}
 use Rattle.std.proofs.lemmas.Bool.{false≢true}
 use Rattle.std.proofs.lemmas.List.{append-nil, append_assoc, length_push}
 use Rattle.rec_bytes.specs.declared.damage.Damage.{Damage}
@@ -38,11 +39,13 @@ use Rattle.group_store.proofs.GroupWalks.{IsUndamaged, in_push}
 -- ---- a row that was read
 
 -- the relationship stands at its ends
-pub row_stands : (records : Records) (node at : ℕ) (row : RelRow) → Some row ≡ row_at records at → stands_in node (rel_at records at) ≡ (nat_eq row.from node || nat_eq row.to node)
+pub row_stands : (records : Records) (node at : ℕ) (row : RelRow) → Some row ≡ row_at records at
+    → stands_in node (rel_at records at) ≡ (nat_eq row.from node || nat_eq row.to node)
 row_stands records node at row is = ap (stands_in node) (rel_at-Some records at row (sym is))
 
 -- its links are those of its record
-pub links_are : (records : Records) (node at : ℕ) (row : RelRow) (links : ℕ × ℕ) → Some row ≡ row_at records at → ((rec : Rec) → row ≡ row_of rec row.id → links ≡ (prev_in rec node, next_in rec node))
+pub links_are : (records : Records) (node at : ℕ) (row : RelRow) (links : ℕ × ℕ) → Some row ≡ row_at records at
+    → ((rec : Rec) → row ≡ row_of rec row.id → links ≡ (prev_in rec node, next_in rec node))
     → (links.0 ≡ prev_of records node at) × (links.1 ≡ next_of records node at)
 links_are records node at row links is of =
     let rec = rec_at records format.relationships_file at in
@@ -60,7 +63,8 @@ pub record HasTail (s : State) (node before at n : ℕ) (xs : List ℕ) : Type 0
   pub among : (x : ℕ) → In x left → In x xs
   pub many : length left + n ≡ length xs
 
-pub tail_all : (s : State) (node first : ℕ) (xs : List ℕ) → first ≡ first_link s.records node → IsHeadChain s.records (node_head node) node xs → HasTail s node format.nil first 0 xs
+pub tail_all : (s : State) (node first : ℕ) (xs : List ℕ) → first ≡ first_link s.records node → IsHeadChain s.records (node_head node) node xs
+    → HasTail s node format.nil first 0 xs
 tail_all s node first xs is c = record {
   left = xs;
   chain = subst (λ f. IsChain (next_of s.records node) (prev_of s.records node) format.nil f xs) (sym is) c.chain;
@@ -72,7 +76,8 @@ tail_all s node first xs is c = record {
 end_stands : (s : State) (node x : ℕ) → StandsAt (rel_at s.records) (group_at s.records) (node_head node) x → stands_in node (rel_at s.records x) ≡ true
 end_stands s node x a = ap (stands_in node) a.live ∙ stands_true node a.row (end_of a.on)
   where
-    end_of : ((format.nodes_file ≡ format.nodes_file) × IsEnd node a.row) ⊎ ((format.nodes_file ≡ format.groups_file) × IsInGroup (group_at s.records) (node_head node) a.row) → IsEnd node a.row
+    end_of : ((format.nodes_file ≡ format.nodes_file) × IsEnd node a.row)
+        ⊎ ((format.nodes_file ≡ format.groups_file) × IsInGroup (group_at s.records) (node_head node) a.row) → IsEnd node a.row
     end_of (inl k) = k.1
     end_of (inr k) = absurd (let z = k.0 in omega arith)
 
@@ -80,7 +85,8 @@ module _ (s : State) (node before at n : ℕ) (xs : List ℕ) (some : at ≢ for
   tail_first : {P : Type 0} → ((ys : List ℕ) → IsChain (next_of s.records node) (prev_of s.records node) before at (at ∷ ys) → ((x : ℕ) → In x (at ∷ ys) → In x t.left) → length ys + (n + 1) ≡ length xs → P) → P
   tail_first {P} found = by t.left t.chain (λ x i. i) t.many
     where
-      by : (ys : List ℕ) → IsChain (next_of s.records node) (prev_of s.records node) before at ys → ((x : ℕ) → In x ys → In x t.left) → length ys + n ≡ length xs → P
+      by : (ys : List ℕ) → IsChain (next_of s.records node) (prev_of s.records node) before at ys → ((x : ℕ) → In x ys → In x t.left)
+          → length ys + n ≡ length xs → P
       by [] chain from many = absurd (some chain)
       by (y ∷ ys) chain from many = found ys (subst (λ z. IsChain (next_of s.records node) (prev_of s.records node) before at (z ∷ ys)) (sym chain.0) chain)
           (λ x i. from x (subst (λ z. In x (z ∷ ys)) chain.0 i)) (omega arith)
@@ -133,18 +139,21 @@ pub met_few : (s : State) (node before n : ℕ) → HasMet s node before n → n
 met_few s node before n m =
     let mark = high s.records format.relationships_file in
     let test : ℕ → Bool = λ x. stands_in node (rel_at s.records x) in
-    let le = length_once m.met (ids test mark) (once_walk (prev_of s.records node) before m.met m.walk) (λ x i. in_ids test mark x (stands_low s node x (m.are x i)) (m.are x i)) in
+    let le = length_once m.met (ids test mark) (once_walk (prev_of s.records node) before m.met m.walk)
+    (λ x i. in_ids test mark x (stands_low s node x (m.are x i)) (m.are x i)) in
     let e = m.long in
     omega arith
 
 -- ---- damage
 
-row_read : (s : State) (n x : ℕ) (damage : Damage) → IsRowDamage format.relationships_file (record s { reads = n }) x damage → IsRowDamage format.relationships_file s x damage
+row_read : (s : State) (n x : ℕ) (damage : Damage) → IsRowDamage format.relationships_file (record s { reads = n }) x damage
+    → IsRowDamage format.relationships_file s x damage
 row_read s n x damage (HighMark above) = HighMark above
 row_read s n x damage (UnknownKind low unknown) = UnknownKind low unknown
 
 -- a step that fails
-pub step_told : (s z : State) (node count before at n : ℕ) → SameButReads s z → at ≢ format.nil → ((xs : List ℕ) → IsHeadChain s.records (node_head node) node xs → HasTail s node before at n xs)
+pub step_told : (s z : State) (node count before at n : ℕ) → SameButReads s z → at ≢ format.nil
+    → ((xs : List ℕ) → IsHeadChain s.records (node_head node) node xs → HasTail s node before at n xs)
     → (fault : Fault) → IsStepFault z node before at fault → IsSparseFault s node count fault
 step_told s z node count before at n same some tail Memory told = tt
 step_told s z node count before at n same some tail Disk told = tt
@@ -155,10 +164,12 @@ step_told s z node count before at n same some tail (Damaged damage) told = by d
     by damage (BadRow d bad) = BadRelationship at d (row_read s z.reads at d bad)
 
 -- none does in a chain of relationships that can be read
-pub step_sound : (s z : State) (node before at n : ℕ) (xs : List ℕ) → SameButReads s z → at ≢ format.nil → AreReadable s xs → HasTail s node before at n xs → (fault : Fault) → IsStepFault z node before at fault → IsUndamaged fault
+pub step_sound : (s z : State) (node before at n : ℕ) (xs : List ℕ) → SameButReads s z → at ≢ format.nil → AreReadable s xs → HasTail s node before at n xs
+    → (fault : Fault) → IsStepFault z node before at fault → IsUndamaged fault
 step_sound s z node before at n xs same some readable tail Memory told = tt
 step_sound s z node before at n xs same some readable tail Disk told = tt
-step_sound s z node before at n xs same some readable tail (Damaged damage) told = by damage (subst (λ (q : State). IsStepDamage q node before at damage) same told)
+step_sound s z node before at n xs same some readable tail (Damaged damage) told =
+    by damage (subst (λ (q : State). IsStepDamage q node before at damage) same told)
   where
     row : (d : Damage) → IsRowDamage format.relationships_file (record s { reads = z.reads }) at d → ⊥
     row d (HighMark above) = let few = (readable at (tail_in s node before at n xs some tail)).mark in omega arith
@@ -196,7 +207,8 @@ module _ (s : State) (node : ℕ) (sparse : kind_at s.records format.nodes_file 
   sparse_breaks count is (Damaged damage) told = by_damage count is damage told
 
   -- none is told in a store that keeps the rules
-  pub no_sparse_damage : (count most : ℕ) (empty : List ℕ) → count ≡ degree s.records node → KeepsRules s.records s.shape most empty → (damage : Damage) → IsSparseDamage s node count damage → ⊥
+  pub no_sparse_damage : (count most : ℕ) (empty : List ℕ) → count ≡ degree s.records node → KeepsRules s.records s.shape most empty → (damage : Damage)
+      → IsSparseDamage s node count damage → ⊥
   no_sparse_damage count most empty is keeps damage (NoChain none) =
       let list = keeps.linked.listed.each (node_head node) node (inl (record { sparse = sparse; is = refl })) in
       none list.members (record { chain = list.chain; only = list.only })
@@ -219,11 +231,14 @@ pub record HasCrossed (s : State) (node first at n : ℕ) : Type 0 where
 pub crossed_none : (s : State) (node first : ℕ) → HasCrossed s node first first 0
 crossed_none s node first = record { met = []; walk = λ rest h. h; live = λ x i. elim i [ ]; long = refl }
 
-pub crossed_more : (s : State) (node first before at next n : ℕ) → at ≢ format.nil → IsMet s.records node before at → next_of s.records node at ≡ next → HasCrossed s node first at n → HasCrossed s node first next (n + 1)
+pub crossed_more : (s : State) (node first before at next n : ℕ) → at ≢ format.nil → IsMet s.records node before at → next_of s.records node at ≡ next
+    → HasCrossed s node first at n → HasCrossed s node first next (n + 1)
 crossed_more s node first before at next n there here link h = record {
   met = h.met ++ at ∷ [];
-  walk = λ rest w. subst (IsWalk (next_of s.records node) first) (sym (append_assoc h.met (at ∷ []) rest)) (h.walk (at ∷ rest) (refl, there, subst (λ z. IsWalk (next_of s.records node) z rest) (sym link) w));
-  live = λ x i. ⊎_elim (h.live x) (λ e none. false≢true (sym (ap (stands_in node) (ap (rel_at s.records) (sym e) ∙ none)) ∙ here.stands)) (in_push h.met at x i);
+  walk = λ rest w. subst (IsWalk (next_of s.records node) first) (sym (append_assoc h.met (at ∷ []) rest))
+      (h.walk (at ∷ rest) (refl, there, subst (λ z. IsWalk (next_of s.records node) z rest) (sym link) w));
+  live = λ x i. ⊎_elim (h.live x) (λ e none. false≢true (sym (ap (stands_in node) (ap (rel_at s.records) (sym e) ∙ none)) ∙ here.stands))
+      (in_push h.met at x i);
   long = let e = h.long in length_push h.met at ∙ ap (λ m. m + 1) e;
 }
 

@@ -1,5 +1,6 @@
 -- The relationships of a node that come into its groups, one after another.
-use Rattle.std.proofs.Common.{◌≡◌, ◌≢◌, ◌⊎◌, ℕ, ◌+◌, ◌≤◌, nat_lt, Bool, true, false, cond, ◌&&◌, Option, None, Some, Err, List, [], ◌∷◌, ◌++◌, length, sym, ap, ◌∙◌, subst, inl, inr, ⊎_elim, arith, refl}
+use Rattle.std.proofs.Common.{◌≡◌, ◌≢◌, ◌⊎◌, ℕ, ◌+◌, ◌≤◌, nat_lt, Bool, true, false, cond, ◌&&◌, Option, None, Some}
+use Rattle.std.proofs.Common.{Err, List, [], ◌∷◌, ◌++◌, length, sym, ap, ◌∙◌, subst, inl, inr, ⊎_elim, arith, refl}
 use Rattle.rec_bytes.specs.declared.key.Key.{Key}
 use Rattle.rec_bytes.specs.declared.meta.Meta.{Meta}
 use Rattle.rec_bytes.specs.declared.record.Rec.{Rec}
@@ -79,13 +80,15 @@ module _ (s l m : State) (node rel : ℕ) (row : RelRow) (g : ℕ) (same : SameB
     (opens : (rest : List ℕ) (most : ℕ) (empty : List ℕ) → KeepsBut l.records l.shape node rest most empty → IsDense l.records node → KeepsBut m.records m.shape node rest most (g ∷ empty) × HasOpened l m node row.label g rest)
     (rest : List ℕ) (most : ℕ) (empty : List ℕ) (spread : IsSpread s node rel (rel ∷ rest) most empty) where
   pub opened : KeepsBut m.records m.shape node (rel ∷ rest) most (g ∷ empty) × HasOpened l m node row.label g (rel ∷ rest)
-  opened = opens (rel ∷ rest) most empty (keeps_then s l node (rel ∷ rest) most empty same spread.keeps) (subst (λ (q : State). IsDense q.records node) (sym same) spread.dense)
+  opened = opens (rel ∷ rest) most empty (keeps_then s l node (rel ∷ rest) most empty same spread.keeps)
+      (subst (λ (q : State). IsDense q.records node) (sym same) spread.dense)
 
   pub to_m : Regroups s m node
   to_m = regroups_both s l m node (subst (λ (q : State). Regroups s q node) (sym same) (regroups_read s l.reads node)) opened.1.regroups
 
   leaves_m : LeavesOthers s m node
-  leaves_m = leaves_both s l m node (subst (λ (q : State). Regroups s q node) (sym same) (regroups_read s l.reads node)) (leaves_read s l node same) opened.1.leaves
+  leaves_m = leaves_both s l m node (subst (λ (q : State). Regroups s q node) (sym same) (regroups_read s l.reads node)) (leaves_read s l node same)
+      opened.1.leaves
 
   pub live_row : rel_at s.records rel ≡ Some (rule_row row)
   live_row = rel_at-Some s.records rel row (sym is)
@@ -104,23 +107,29 @@ module _ (s l m : State) (node rel : ℕ) (row : RelRow) (g : ℕ) (same : SameB
   }
 
   -- a push at its head finds a right link
-  pub push_right : (t : State) (h : Head) → t ≡ prev_set m node rel format.nil → h ≡ group_head g (side_at node row.from row.to) → IsRightLink t (first_of t.records h)
+  pub push_right : (t : State) (h : Head) → t ≡ prev_set m node rel format.nil → h ≡ group_head g (side_at node row.from row.to)
+      → IsRightLink t (first_of t.records h)
   push_right t h freed head =
-      subst (λ (q : Head). IsRightLink t (first_of t.records q)) (sym head) (subst (λ (q : State). IsRightLink q (first_of q.records (group_head g (side_at node row.from row.to)))) (sym freed)
+      subst (λ (q : Head). IsRightLink t (first_of t.records q)) (sym head)
+      (subst (λ (q : State). IsRightLink q (first_of q.records (group_head g (side_at node row.from row.to)))) (sym freed)
       (first_right m node rel g (rule_row row) rest most empty moving.keeps moving.dense moving.live moving.end moving.group moving.out moving.left))
 
   -- it is moved
-  pub moved : (t end : State) (next : ℕ) (h : Head) → t ≡ prev_set m node rel format.nil → h ≡ group_head g (side_at node row.from row.to) → end ≡ tallied one_more (pushed t h node rel) h → ((rec : Rec) → row ≡ row_of rec row.id → next ≡ next_in rec node)
+  pub moved : (t end : State) (next : ℕ) (h : Head) → t ≡ prev_set m node rel format.nil → h ≡ group_head g (side_at node row.from row.to)
+      → end ≡ tallied one_more (pushed t h node rel) h → ((rec : Rec) → row ≡ row_of rec row.id → next ≡ next_in rec node)
       → IsSpread end node next rest most empty × Regroups s end node × LeavesOthers s end node
   moved t end next h freed head put links =
-      let recs : (x : ℕ) → rec_at m.records format.relationships_file x ≡ rec_at s.records format.relationships_file x = λ x. opened.1.rels x ∙ ap (λ (q : State). rec_at q.records format.relationships_file x) same in
+      let recs : (x : ℕ) → rec_at m.records format.relationships_file x ≡ rec_at s.records format.relationships_file x = λ x. opened.1.rels x
+      ∙ ap (λ (q : State). rec_at q.records format.relationships_file x) same in
       let nexts : next_of s.records node ≡ next_of m.records node = λ i x. next_in (sym (recs x) i) node in
       let rec = rec_at s.records format.relationships_file rel in
       let row_is : row_of rec rel ≡ row = (kind-row_at-Some s.records rel row (sym is)).1 in
       let next_is : next ≡ next_of s.records node rel = links rec (sym row_is ∙ ap (row_of rec) (ap (λ (q : RelRow). q.id) row_is)) in
-      let walk : IsWalk (next_of m.records node) next rest = subst (λ (f : ℕ → ℕ). IsWalk f next rest) nexts (subst (λ z. IsWalk (next_of s.records node) z rest) (sym next_is) spread.walk.2) in
+      let walk : IsWalk (next_of m.records node) next rest = subst (λ (f : ℕ → ℕ). IsWalk f next rest) nexts
+      (subst (λ z. IsWalk (next_of s.records node) z rest) (sym next_is) spread.walk.2) in
       let side = side_at node row.from row.to in
-      let end_of : counted_joined m (group_head g side) node rel ≡ end = sym (put ∙ ap (λ (q : State). tallied one_more (pushed q h node rel) h) freed ∙ ap (λ (q : Head). tallied one_more (pushed (prev_set m node rel format.nil) q node rel) q) head) in (
+      let end_of : counted_joined m (group_head g side) node rel ≡ end =
+      sym (put ∙ ap (λ (q : State). tallied one_more (pushed q h node rel) h) freed ∙ ap (λ (q : Head). tallied one_more (pushed (prev_set m node rel format.nil) q node rel) q) head) in (
         subst (λ (q : State). IsSpread q node next rest most empty) end_of
             (spread_joined m node rel g (rule_row row) rest most empty moving.keeps moving.dense moving.live moving.end moving.group moving.out moving.left moving.exact moving.counted next walk),
         regroups_both s m end node to_m
@@ -130,9 +139,11 @@ module _ (s l m : State) (node rel : ℕ) (row : RelRow) (g : ℕ) (same : SameB
       )
 
 -- there is room for another group
-pub has_room : (s l : State) (node rel : ℕ) (rest : List ℕ) (most : ℕ) (empty : List ℕ) → SameButReads s l → IsSpread s node rel (rel ∷ rest) most empty → HasEndRoom s empty
+pub has_room : (s l : State) (node rel : ℕ) (rest : List ℕ) (most : ℕ) (empty : List ℕ) → SameButReads s l → IsSpread s node rel (rel ∷ rest) most empty
+    → HasEndRoom s empty
     → (meta_of l format.groups_file).live ≢ room_of l.shape format.groups_file
-has_room s l node rel rest most empty same spread room = subst (λ (q : State). (meta_of q format.groups_file).live ≢ room_of q.shape format.groups_file) (sym same)
+has_room s l node rel rest most empty same spread room = subst (λ (q : State). (meta_of q format.groups_file).live ≢ room_of q.shape format.groups_file)
+    (sym same)
     (λ full. let found = spread.ends rel (inl refl) in let lt = fewer_groups s.records s.shape node (rel ∷ rest) most empty spread.keeps rel found.0 (inl refl) found.1 found.2 in omega arith)
 
 -- ---- no damage is told
@@ -147,34 +158,37 @@ chain_sound chain_fault.Disk h = tt
 chain_sound (chain_fault.Damaged damage) h = h
 
 -- a relationship that is left is there
-pub rel_there : (s : State) (node rel : ℕ) (rest : List ℕ) (most : ℕ) (empty : List ℕ) → IsSpread s node rel (rel ∷ rest) most empty → loading.row_at s.records rel ≢ None
-rel_there s node rel rest most empty spread none = let found = spread.ends rel (inl refl) in absurd (let z : None ≡ Some found.0 = sym (rel_at-None s.records rel none) ∙ found.1 in cc)
+pub rel_there : (s : State) (node rel : ℕ) (rest : List ℕ) (most : ℕ) (empty : List ℕ) → IsSpread s node rel (rel ∷ rest) most empty
+    → loading.row_at s.records rel ≢ None
+rel_there s node rel rest most empty spread none = let found = spread.ends rel (inl refl) in
+    absurd (let z : None ≡ Some found.0 = sym (rel_at-None s.records rel none) ∙ found.1 in cc)
 
 -- ---- what is written
 
-module _ (s l m t end : State) (same : SameButReads s l) (r k g f n q : Key) (made : WritesOnly l m (g ∷ f ∷ n ∷ q ∷ [])) (freed : WritesOnly m t (r ∷ [])) where
-  two : WritesOnly s t (g ∷ f ∷ n ∷ q ∷ r ∷ [])
-  two = writes_then s m t (g ∷ f ∷ n ∷ q ∷ []) (r ∷ []) (writes_after s l m (g ∷ f ∷ n ∷ q ∷ []) same made) freed
+module _ (s l m t end : State) (same : SameButReads s l) (r k g f n q : Key) (made : WritesOnly l m (g ∷ f ∷ n ∷ q ∷ [])) (freed : WritesOnly m t (r ∷ []))
+  where
+    two : WritesOnly s t (g ∷ f ∷ n ∷ q ∷ r ∷ [])
+    two = writes_then s m t (g ∷ f ∷ n ∷ q ∷ []) (r ∷ []) (writes_after s l m (g ∷ f ∷ n ∷ q ∷ []) same made) freed
 
-  among : (z : Key) → IsAmong z (g ∷ f ∷ n ∷ q ∷ r ∷ []) → IsAmong z (r ∷ k ∷ g ∷ f ∷ n ∷ q ∷ [])
-  among z (inl e) = inr (inr (inl e))
-  among z (inr (inl e)) = inr (inr (inr (inl e)))
-  among z (inr (inr (inl e))) = inr (inr (inr (inr (inl e))))
-  among z (inr (inr (inr (inl e)))) = inr (inr (inr (inr (inr (inl e)))))
-  among z (inr (inr (inr (inr (inl e))))) = inl e
-  among z (inr (inr (inr (inr (inr e))))) = elim e [ ]
+    among : (z : Key) → IsAmong z (g ∷ f ∷ n ∷ q ∷ r ∷ []) → IsAmong z (r ∷ k ∷ g ∷ f ∷ n ∷ q ∷ [])
+    among z (inl e) = inr (inr (inl e))
+    among z (inr (inl e)) = inr (inr (inr (inl e)))
+    among z (inr (inr (inl e))) = inr (inr (inr (inr (inl e))))
+    among z (inr (inr (inr (inl e)))) = inr (inr (inr (inr (inr (inl e)))))
+    among z (inr (inr (inr (inr (inl e))))) = inl e
+    among z (inr (inr (inr (inr (inr e))))) = elim e [ ]
 
-  pub writes_freed : WritesOnly s t (r ∷ k ∷ g ∷ f ∷ n ∷ q ∷ [])
-  writes_freed = writes_more s t (g ∷ f ∷ n ∷ q ∷ r ∷ []) (r ∷ k ∷ g ∷ f ∷ n ∷ q ∷ []) among two
+    pub writes_freed : WritesOnly s t (r ∷ k ∷ g ∷ f ∷ n ∷ q ∷ [])
+    writes_freed = writes_more s t (g ∷ f ∷ n ∷ q ∷ r ∷ []) (r ∷ k ∷ g ∷ f ∷ n ∷ q ∷ []) among two
 
-  pub writes_pushed : WritesOnly t end (k ∷ r ∷ g ∷ []) → WritesOnly s end (r ∷ k ∷ g ∷ f ∷ n ∷ q ∷ [])
-  writes_pushed push = record { each = λ z w. ⊎_elim (λ a. writes_freed.each z a) (λ i. inr (late z i)) (push.each z w) }
-    where
-      late : (z : Key) → IsAmong z (k ∷ r ∷ g ∷ []) → IsAmong z (r ∷ k ∷ g ∷ f ∷ n ∷ q ∷ [])
-      late z (inl e) = inr (inl e)
-      late z (inr (inl e)) = inl e
-      late z (inr (inr (inl e))) = inr (inr (inl e))
-      late z (inr (inr (inr e))) = elim e [ ]
+    pub writes_pushed : WritesOnly t end (k ∷ r ∷ g ∷ []) → WritesOnly s end (r ∷ k ∷ g ∷ f ∷ n ∷ q ∷ [])
+    writes_pushed push = record { each = λ z w. ⊎_elim (λ a. writes_freed.each z a) (λ i. inr (late z i)) (push.each z w) }
+      where
+        late : (z : Key) → IsAmong z (k ∷ r ∷ g ∷ []) → IsAmong z (r ∷ k ∷ g ∷ f ∷ n ∷ q ∷ [])
+        late z (inl e) = inr (inl e)
+        late z (inr (inl e)) = inl e
+        late z (inr (inr (inl e))) = inr (inr (inl e))
+        late z (inr (inr (inr e))) = elim e [ ]
 
 -- ---- those that are left
 
@@ -192,17 +206,22 @@ pub record HasLeft (s now : State) (node at count most : ℕ) (empty came groups
   pub no_group : In format.nil groups
 
 -- a sparse node has no group
-none_owned : (s : State) (node most : ℕ) (empty : List ℕ) → KeepsRules s.records s.shape most empty → kind_at s.records format.nodes_file node ≡ format.sparse → (g : ℕ) → IsGroupOf (cleared s node).records node g → ⊥
+none_owned : (s : State) (node most : ℕ) (empty : List ℕ) → KeepsRules s.records s.shape most empty → kind_at s.records format.nodes_file node ≡ format.sparse
+    → (g : ℕ) → IsGroupOf (cleared s node).records node g → ⊥
 none_owned s node most empty keeps sparse g is =
-    let dense = keeps.grouped.owned g (group_in (rec_at s.records format.groups_file g) g) (row_of_group s.records node g (record { kind = is.kind; owner = is.owner })) in
+    let dense = keeps.grouped.owned g (group_in (rec_at s.records format.groups_file g) g)
+    (row_of_group s.records node g (record { kind = is.kind; owner = is.owner })) in
     let z = sym (ap (kind_at s.records format.nodes_file) is.owner ∙ sparse) ∙ dense in omega arith
 
-pub left_all : (s l t : State) (node : ℕ) (row : NodeRow) (most : ℕ) (empty came groups : List ℕ) → SameButReads s l → Some row ≡ nodes.row_at s.records node → t ≡ cleared l node → came ≡ format.nil ∷ [] → groups ≡ format.nil ∷ [] → CanBecomeDense s node most empty
+pub left_all : (s l t : State) (node : ℕ) (row : NodeRow) (most : ℕ) (empty came groups : List ℕ) → SameButReads s l → Some row ≡ nodes.row_at s.records node
+    → t ≡ cleared l node → came ≡ format.nil ∷ [] → groups ≡ format.nil ∷ [] → CanBecomeDense s node most empty
     → HasLeft s t node row.first 0 most empty came groups
 left_all s l t node row most empty came groups same is clear came_is groups_is can =
     let keeps : KeepsRules l.records l.shape most empty = subst (λ (q : State). KeepsRules q.records q.shape most empty) (sym same) can.keeps in
-    let sparse : kind_at l.records format.nodes_file node ≡ format.sparse = subst (λ (q : State). kind_at q.records format.nodes_file node ≡ format.sparse) (sym same) can.sparse in
-    let first : first_link l.records node ≡ row.first = ap (λ (q : State). first_link q.records node) same ∙ sym (ap (λ (q : NodeRow). q.first) (node_row s.records node row (sym is)).1) in
+    let sparse : kind_at l.records format.nodes_file node ≡ format.sparse =
+    subst (λ (q : State). kind_at q.records format.nodes_file node ≡ format.sparse) (sym same) can.sparse in
+    let first : first_link l.records node ≡ row.first = ap (λ (q : State). first_link q.records node) same
+    ∙ sym (ap (λ (q : NodeRow). q.first) (node_row s.records node row (sym is)).1) in
     let to_l : Regroups s l node = subst (λ (q : State). Regroups s q node) (sym same) (regroups_read s l.reads node) in
     record {
       rest = rest l node most empty keeps sparse;
@@ -236,7 +255,8 @@ module _ (s now end : State) (node at count most : ℕ) (empty came groups : Lis
   left_next xs ys xs_is ys_is move = by left.rest left.spread left.few left.rels
     where
       by : (later : List ℕ) → IsSpread now node at later most empty → length later + count ≤ degree s.records node
-          → ((x : ℕ) (row : views.RelRow) → rel_at s.records x ≡ Some row → IsEnd node row → In x later ⊎ In x came) → HasLeft s end node turn.next (count + 1) most empty xs ys
+          → ((x : ℕ) (row : views.RelRow) → rel_at s.records x ≡ Some row → IsEnd node row → In x later ⊎ In x came)
+          → HasLeft s end node turn.next (count + 1) most empty xs ys
       by [] spread few rels = absurd (there spread.walk)
       by (x ∷ later) spread few rels =
           let here = subst (λ z. IsSpread now node at (z ∷ later) most empty) (sym spread.walk.0) spread in
@@ -270,7 +290,8 @@ module _ (s now end : State) (node at count most : ℕ) (empty came groups : Lis
             ⊎_elim (λ e. subst (λ z. In z groups) (sym e) left.no_group) (λ k. left.owned turn.before k) turned.grows.first,
           )
 
-pub left_none : (s now : State) (node at count most : ℕ) (empty came groups : List ℕ) → at ≡ format.nil → HasLeft s now node at count most empty came groups → BecomesDense s now node most empty
+pub left_none : (s now : State) (node at count most : ℕ) (empty came groups : List ℕ) → at ≡ format.nil → HasLeft s now node at count most empty came groups
+    → BecomesDense s now node most empty
 left_none s now node at count most empty came groups none left = by left.rest left.spread
   where
     by : (later : List ℕ) → IsSpread now node at later most empty → BecomesDense s now node most empty
@@ -278,14 +299,17 @@ left_none s now node at count most empty came groups none left = by left.rest le
     by (x ∷ later) spread = absurd (spread.walk.1 (sym spread.walk.0 ∙ none))
 
 -- where some are left the next one is the first of them
-pub left_first : {P : Type 0} (s now : State) (node at count most threshold : ℕ) (empty came groups : List ℕ) → at ≢ format.nil → HasLeft s now node at count most empty came groups → HasDenseRoom s node threshold empty
+pub left_first : {P : Type 0} (s now : State) (node at count most threshold : ℕ) (empty came groups : List ℕ) → at ≢ format.nil
+    → HasLeft s now node at count most empty came groups → HasDenseRoom s node threshold empty
     → ((rest : List ℕ) (most : ℕ) (empty : List ℕ) → IsSpread now node at (at ∷ rest) most empty → HasEndRoom now empty → P) → P
 left_first {P} s now node at count most threshold empty came groups there left room found = by left.rest left.spread
   where
     end_room : HasEndRoom now empty
     end_room =
-        let live : (meta_of now format.relationships_file).live ≡ (meta_of s format.relationships_file).live = ap (λ (m : Meta). m.live) (left.regroups.metas format.relationships_file (λ e. omega arith)) in
-        let most : room_of now.shape format.groups_file ≡ room_of s.shape format.groups_file = ap (λ (q : Shape). room_of q format.groups_file) left.regroups.shape in
+        let live : (meta_of now format.relationships_file).live ≡ (meta_of s format.relationships_file).live =
+        ap (λ (m : Meta). m.live) (left.regroups.metas format.relationships_file (λ e. omega arith)) in
+        let most : room_of now.shape format.groups_file ≡ room_of s.shape format.groups_file =
+        ap (λ (q : Shape). room_of q format.groups_file) left.regroups.shape in
         let le = room.room in omega arith
 
     by : (later : List ℕ) → IsSpread now node at later most empty → P
@@ -293,7 +317,8 @@ left_first {P} s now node at count most threshold empty came groups there left r
     by (x ∷ later) spread = found later most empty (subst (λ z. IsSpread now node at (z ∷ later) most empty) (sym spread.walk.0) spread) end_room
 
 -- none is left once as many were moved as the degree says
-pub none_over : (s now : State) (node at count most : ℕ) (empty came groups : List ℕ) → at ≢ format.nil → HasLeft s now node at count most empty came groups → degree s.records node ≤ count → ⊥
+pub none_over : (s now : State) (node at count most : ℕ) (empty came groups : List ℕ) → at ≢ format.nil → HasLeft s now node at count most empty came groups
+    → degree s.records node ≤ count → ⊥
 none_over s now node at count most empty came groups there left all = by left.rest left.spread left.few
   where
     by : (later : List ℕ) → IsSpread now node at later most empty → length later + count ≤ degree s.records node → ⊥
@@ -305,5 +330,6 @@ pub row_degree : (s : State) (node : ℕ) (row : NodeRow) → Some row ≡ nodes
 row_degree s node row is = ap (λ (q : NodeRow). q.degree) (node_row s.records node row (sym is)).1
 
 -- a sparse node isn't read as a dense one
-pub not_dense_row : (s : State) (node : ℕ) (row : NodeRow) (most : ℕ) (empty : List ℕ) → Some row ≡ nodes.row_at s.records node → CanBecomeDense s node most empty → row.dense ≡ true → ⊥
+pub not_dense_row : (s : State) (node : ℕ) (row : NodeRow) (most : ℕ) (empty : List ℕ) → Some row ≡ nodes.row_at s.records node
+    → CanBecomeDense s node most empty → row.dense ≡ true → ⊥
 not_dense_row s node row most empty is can dense = let d = dense_is s.records node row is dense in let k = can.sparse in let z = sym k ∙ d in omega arith

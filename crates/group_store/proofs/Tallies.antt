@@ -22,11 +22,13 @@ use Rattle.group_store.specs.GroupRecord.{is_counted}
 pub tally_cases : (change : ℕ → ℕ) (t : State) (head : Head) (P : State → Type 0) → (head.key.file ≢ format.groups_file → P t)
     → (head.key.file ≡ format.groups_file → is_counted (t.records head.key) ≡ true
     → P (after_put (after_get t) head.key (with_field 4 (t.records head.key) (count_place head.field) (change (field 4 (t.records head.key) (count_place head.field))))))
-    → (head.key.file ≡ format.groups_file → is_counted (t.records head.key) ≡ false → P (after_put (after_get t) head.key (t.records head.key))) → P (tallied change t head)
+    → (head.key.file ≡ format.groups_file → is_counted (t.records head.key) ≡ false → P (after_put (after_get t) head.key (t.records head.key)))
+    → P (tallied change t head)
 unfolding tallied
 tally_cases change t head P none counted plain = by (nat_eq head.key.file format.groups_file) refl
   where
-    of_group : head.key.file ≡ format.groups_file → (b : Bool) → is_counted (t.records head.key) ≡ b → P (after_put (after_get t) head.key (cond b (with_field 4 (t.records head.key) (count_place head.field) (change (field 4 (t.records head.key) (count_place head.field)))) (t.records head.key)))
+    of_group : head.key.file ≡ format.groups_file → (b : Bool) → is_counted (t.records head.key) ≡ b
+        → P (after_put (after_get t) head.key (cond b (with_field 4 (t.records head.key) (count_place head.field) (change (field 4 (t.records head.key) (count_place head.field)))) (t.records head.key)))
     of_group is true e = counted is e
     of_group is false e = plain is e
 
@@ -65,12 +67,14 @@ count_high at = by (nat_eq at 20) (nat_eq at 24)
     by false false = (omega arith, omega arith, inr (inr refl))
 
 -- and all numbers before the counts
-pub field-tallied : (change : ℕ → ℕ) (t : State) (head : Head) (key : Key) (n at : ℕ) → at + n ≤ 32 → field n ((tallied change t head).records key) at ≡ field n (t.records key) at
+pub field-tallied : (change : ℕ → ℕ) (t : State) (head : Head) (key : Key) (n at : ℕ) → at + n ≤ 32
+    → field n ((tallied change t head).records key) at ≡ field n (t.records key) at
 field-tallied change t head key n at low = tally_cases change t head (λ z. field n (z.records key) at ≡ field n (t.records key) at) (λ _. refl)
     (λ _ _. ⊎_elim
     (λ (e : key ≡ head.key). ap (λ k. field n (put t.records head.key (with_field 4 (t.records head.key) (count_place head.field) (change (field 4 (t.records head.key) (count_place head.field)))) k) at) e
     ∙ ap (λ r. field n r at) (put_same t.records head.key (with_field 4 (t.records head.key) (count_place head.field) (change (field 4 (t.records head.key) (count_place head.field)))))
-    ∙ field-with_field_other 4 (t.records head.key) (count_place head.field) (change (field 4 (t.records head.key) (count_place head.field))) n at (omega arith) (inr (let h = (count_high head.field).0 in omega arith))
+    ∙ field-with_field_other 4 (t.records head.key) (count_place head.field) (change (field 4 (t.records head.key) (count_place head.field))) n at (omega arith)
+    (inr (let h = (count_high head.field).0 in omega arith))
     ∙ ap (λ k. field n (t.records k) at) (sym e))
     (λ (ne : key ≢ head.key). ap (λ r. field n r at) (put_other t.records head.key (with_field 4 (t.records head.key) (count_place head.field) (change (field 4 (t.records head.key) (count_place head.field)))) key ne)) (key_cases key head.key))
     (λ _ _. ⊎_elim
@@ -78,7 +82,8 @@ field-tallied change t head key n at low = tally_cases change t head (λ z. fiel
     (λ (ne : key ≢ head.key). ap (λ r. field n r at) (put_other t.records head.key (t.records head.key) key ne)) (key_cases key head.key))
 
 -- and each number that stands apart from the one of the head
-pub apart-tallied : (change : ℕ → ℕ) (t : State) (head : Head) (key : Key) (n at : ℕ) → at + n ≤ 64 → (key ≡ head.key → (at + n ≤ count_place head.field) ⊎ (count_place head.field + 4 ≤ at))
+pub apart-tallied : (change : ℕ → ℕ) (t : State) (head : Head) (key : Key) (n at : ℕ) → at + n ≤ 64
+    → (key ≡ head.key → (at + n ≤ count_place head.field) ⊎ (count_place head.field + 4 ≤ at))
     → field n ((tallied change t head).records key) at ≡ field n (t.records key) at
 apart-tallied change t head key n at inside apart = tally_cases change t head (λ z. field n (z.records key) at ≡ field n (t.records key) at) (λ _. refl)
     (λ _ _. by (with_field 4 (t.records head.key) (count_place head.field) (change (field 4 (t.records head.key) (count_place head.field))))
@@ -91,7 +96,8 @@ apart-tallied change t head key n at inside apart = tally_cases change t head (�
         (λ (ne : key ≢ head.key). ap (λ q. field n q at) (put_other t.records head.key r key ne)) (key_cases key head.key)
 
 -- the number itself, of a counted group
-pub count-tallied : (change : ℕ → ℕ) (t : State) (head : Head) → head.key.file ≡ format.groups_file → is_counted (t.records head.key) ≡ true → change (field 4 (t.records head.key) (count_place head.field)) < 2 ^ 32
+pub count-tallied : (change : ℕ → ℕ) (t : State) (head : Head) → head.key.file ≡ format.groups_file → is_counted (t.records head.key) ≡ true
+    → change (field 4 (t.records head.key) (count_place head.field)) < 2 ^ 32
     → field 4 ((tallied change t head).records head.key) (count_place head.field) ≡ change (field 4 (t.records head.key) (count_place head.field))
 count-tallied change t head file counted small =
     let n = change (field 4 (t.records head.key) (count_place head.field)) in
@@ -106,15 +112,20 @@ put_again : (t : Records) (key : Key) → put t key (t key) ≡ t
 put_again t key = λ i q. each q i
   where
     each : (q : Key) → put t key (t key) q ≡ t q
-    each q = ⊎_elim (λ (e : q ≡ key). ap (put t key (t key)) e ∙ put_same t key (t key) ∙ ap t (sym e)) (λ (ne : q ≢ key). put_other t key (t key) q ne) (key_cases q key)
+    each q = ⊎_elim (λ (e : q ≡ key). ap (put t key (t key)) e ∙ put_same t key (t key) ∙ ap t (sym e)) (λ (ne : q ≢ key). put_other t key (t key) q ne)
+        (key_cases q key)
 
-pub links_tallied : (s : Records) (t : State) (change : ℕ → ℕ) (head : Head) → ((n : ℕ) → n < 2 ^ 32 → change n < 2 ^ 32) → (head.key.file ≡ format.groups_file → head.key.id < high s format.groups_file) → IsRelinked s t.records
+pub links_tallied : (s : Records) (t : State) (change : ℕ → ℕ) (head : Head) → ((n : ℕ) → n < 2 ^ 32 → change n < 2 ^ 32)
+    → (head.key.file ≡ format.groups_file → head.key.id < high s format.groups_file) → IsRelinked s t.records
     → IsRelinked s (tallied change t head).records
 links_tallied s t change head small below old = tally_cases change t head (λ z. IsRelinked s z.records) (λ _. old)
     (λ is counted.
     let key : head.key ≡ key_in format.groups_file head.key.id = λ i. record { file = is i; id = head.key.id } in
-    let byte : field 1 (rec_at t.records format.groups_file head.key.id) format.kind ≡ format.counted = ap (λ k. field 1 (t.records k) format.kind) (sym key) ∙ eqb-true _ _ counted in
-    let kind : kind_at s format.groups_file head.key.id ≡ format.counted = kind_low (high s format.groups_file) (rec_at s format.groups_file head.key.id) head.key.id (below is) ∙ sym (byte_stays s t.records old format.groups_file head.key.id) ∙ byte in
+    let byte : field 1 (rec_at t.records format.groups_file head.key.id) format.kind ≡ format.counted = ap (λ k. field 1 (t.records k) format.kind) (sym key)
+    ∙ eqb-true _ _ counted in
+    let kind : kind_at s format.groups_file head.key.id ≡ format.counted =
+    kind_low (high s format.groups_file) (rec_at s format.groups_file head.key.id) head.key.id (below is)
+    ∙ sym (byte_stays s t.records old format.groups_file head.key.id) ∙ byte in
     subst (λ (k : Key). IsRelinked s (put t.records k (with_field 4 (t.records k) (count_place head.field) (change (field 4 (t.records k) (count_place head.field)))))) (sym key)
     (set_count s t.records old head.key.id (count_place head.field) (change (field 4 (rec_at t.records format.groups_file head.key.id) (count_place head.field))) kind (count_high head.field).2
     (small (field 4 (rec_at t.records format.groups_file head.key.id) (count_place head.field)) (field-lt 4 (rec_at t.records format.groups_file head.key.id) (count_place head.field)))))
@@ -134,18 +145,21 @@ place_is at group row (inr (inl k)) = subst (λ a. count_place a ≡ a + 12) (sy
 place_is at group row (inr (inr k)) = subst (λ a. count_place a ≡ a + 12) (sym k.0) refl
 
 -- numbers that are the same
-pub more_like : (old new then : Rec) (group : GroupRow) (row : RelRow) → ((at : ℕ) → IsCountPlace at → field 4 then at ≡ field 4 new at) → HasOneMore old new group row → HasOneMore old then group row
+pub more_like : (old new then : Rec) (group : GroupRow) (row : RelRow) → ((at : ℕ) → IsCountPlace at → field 4 then at ≡ field 4 new at)
+    → HasOneMore old new group row → HasOneMore old then group row
 more_like old new then group row same h = record { out = same 32 (inl refl) ∙ h.out; into = same 36 (inr (inl refl)) ∙ h.into; loops = same 40 (inr (inr refl)) ∙ h.loops }
 
 -- one more relationship is one more
-pub more_counted : (r : Rec) (at : ℕ) (group : GroupRow) (row : RelRow) → row.label ≡ group.label → IsSide at group row → field 4 r (at + 12) < 2 ^ 32 - 1 → HasOneMore r (with_field 4 r (count_place at) (one_more (field 4 r (count_place at)))) group row
+pub more_counted : (r : Rec) (at : ℕ) (group : GroupRow) (row : RelRow) → row.label ≡ group.label → IsSide at group row → field 4 r (at + 12) < 2 ^ 32 - 1
+    → HasOneMore r (with_field 4 r (count_place at) (one_more (field 4 r (count_place at)))) group row
 more_counted r at group row typed side low =
     let place = place_is at group row side in
     subst (λ p. HasOneMore r (with_field 4 r p (one_more (field 4 r p))) group row) (sym place)
     (counts_at r group row (one_more (field 4 r (at + 12))) typed (omega arith) at side (omega arith))
 
 -- and one less is one less
-pub less_counted : (r : Rec) (at : ℕ) (group : GroupRow) (row : RelRow) → row.label ≡ group.label → IsSide at group row → 1 ≤ field 4 r (at + 12) → HasOneMore (with_field 4 r (count_place at) (one_less (field 4 r (count_place at)))) r group row
+pub less_counted : (r : Rec) (at : ℕ) (group : GroupRow) (row : RelRow) → row.label ≡ group.label → IsSide at group row → 1 ≤ field 4 r (at + 12)
+    → HasOneMore (with_field 4 r (count_place at) (one_less (field 4 r (count_place at)))) r group row
 less_counted r at group row typed side some =
     let place = place_is at group row side in
     let high = count_high at in
@@ -161,7 +175,8 @@ less_counted r at group row typed side some =
     (λ (ne : q ≢ at + 12).
     let apart : (at + 12 + 4 ≤ q) ⊎ (q + 4 ≤ at + 12) = spaced q (at + 12) is (subst IsCountPlace place high.2) ne in
     let inside : q + 4 ≤ 64 = within q is in
-    sym (field-with_field_other 4 low (at + 12) n 4 q inside apart ∙ field-with_field_other 4 r (at + 12) (one_less n) 4 q inside apart)) (nat_cases q (at + 12)))
+    sym (field-with_field_other 4 low (at + 12) n 4 q inside apart ∙ field-with_field_other 4 r (at + 12) (one_less n) 4 q inside apart)) (nat_cases q
+    (at + 12)))
     (counts_at low group row n typed bound at side (less_more n (field 4 low (at + 12)) some here)))
   where
     less_more : (n m : ℕ) → 1 ≤ n → m ≡ one_less n → n ≡ m + 1

@@ -21,7 +21,8 @@ own_map key own (x ∷ xs) = (own x, own_map key own xs)
 pub touches_beside : (s t : State) (node a b most : ℕ) → a + b ≤ most → TouchesGroups s t node a b → WritesBeside (node_key node) most s t
 touches_beside s t node a b most le h = record {
   keys = map rel_key h.rels ++ map group_key h.groups;
-  few = let c = length-map h.rels rel_key in let d = length-map h.groups group_key in let e = h.few_rels in let f = h.few_groups in omega (arith, length-append (map rel_key h.rels) (map group_key h.groups));
+  few = let c = length-map h.rels rel_key in let d = length-map h.groups group_key in let e = h.few_rels in let f = h.few_groups in
+      omega (arith, length-append (map rel_key h.rels) (map group_key h.groups));
   own = own_both (map rel_key h.rels) (map group_key h.groups) (own_map rel_key (λ x. refl) h.rels) (own_map group_key (λ x. refl) h.groups);
   only = record {
     each = λ q w. ⊎_elim inl (λ i. inr (⊎_elim inl (λ j. inr (⊎_elim
@@ -61,10 +62,12 @@ touches_then s m t node a b c d h k = record {
     each = λ q w. ⊎_elim
         (λ old. ⊎_elim inl (λ i. inr (⊎_elim inl (λ j. inr (⊎_elim inl (λ l. inr (among_both q (map rel_key h.rels) (map group_key h.groups)
         (λ x. among_left q (map rel_key (h.rels ++ k.rels)) (map group_key (h.groups ++ k.groups)) (map_left rel_key q h.rels k.rels x))
-        (λ x. among_right q (map rel_key (h.rels ++ k.rels)) (map group_key (h.groups ++ k.groups)) (map_left group_key q h.groups k.groups x)) l)) j)) i)) (h.only.each q old))
+        (λ x. among_right q (map rel_key (h.rels ++ k.rels)) (map group_key (h.groups ++ k.groups)) (map_left group_key q h.groups k.groups x))
+        l)) j)) i)) (h.only.each q old))
         (λ i. inr (⊎_elim inl (λ j. inr (⊎_elim inl (λ l. inr (among_both q (map rel_key k.rels) (map group_key k.groups)
         (λ x. among_left q (map rel_key (h.rels ++ k.rels)) (map group_key (h.groups ++ k.groups)) (map_right rel_key q h.rels k.rels x))
-        (λ x. among_right q (map rel_key (h.rels ++ k.rels)) (map group_key (h.groups ++ k.groups)) (map_right group_key q h.groups k.groups x)) l)) j)) i)) (k.only.each q w);
+        (λ x. among_right q (map rel_key (h.rels ++ k.rels)) (map group_key (h.groups ++ k.groups)) (map_right group_key q h.groups k.groups x))
+        l)) j)) i)) (k.only.each q w);
   };
 }
 
@@ -78,7 +81,8 @@ four_touched s t node r k g f w = record {
   only = record { each = λ q l. ⊎_elim inl (λ i. inr (among q i)) (w.each q l) };
 }
   where
-    among : (q : Key) → IsAmong q (rel_key r ∷ rel_key k ∷ group_key g ∷ group_key f ∷ node_key node ∷ meta_key_of format.groups_file ∷ []) → IsAmong q (node_key node ∷ meta_key_of format.groups_file ∷ rel_key r ∷ rel_key k ∷ group_key g ∷ group_key f ∷ [])
+    among : (q : Key) → IsAmong q (rel_key r ∷ rel_key k ∷ group_key g ∷ group_key f ∷ node_key node ∷ meta_key_of format.groups_file ∷ [])
+        → IsAmong q (node_key node ∷ meta_key_of format.groups_file ∷ rel_key r ∷ rel_key k ∷ group_key g ∷ group_key f ∷ [])
     among q (inl e) = inr (inr (inl e))
     among q (inr (inl e)) = inr (inr (inr (inl e)))
     among q (inr (inr (inl e))) = inr (inr (inr (inr (inl e))))
@@ -88,7 +92,8 @@ four_touched s t node r k g f w = record {
     among q (inr (inr (inr (inr (inr (inr i)))))) = elim i [ ]
 
 -- a group that is found or made, and the group that follows it
-pub made_touched : (s t : State) (node first id : ℕ) → WritesOnly s t (group_key first ∷ group_key id ∷ node_key node ∷ meta_key_of format.groups_file ∷ []) → TouchesGroups s t node 0 2
+pub made_touched : (s t : State) (node first id : ℕ) → WritesOnly s t (group_key first ∷ group_key id ∷ node_key node ∷ meta_key_of format.groups_file ∷ [])
+    → TouchesGroups s t node 0 2
 made_touched s t node first id w = record {
   rels = [];
   groups = first ∷ id ∷ [];

@@ -34,7 +34,8 @@ found_grows s t node g same = subst (λ (q : State). GrowsBy s q node g format.n
 -- where none is found one was made
 pub made_grows : (r : Result OwnGroup Fault) (s l t : State) (node label : ℕ) → SameButReads s l
     → ((rest : List ℕ) (most : ℕ) (empty : List ℕ) → KeepsBut s.records s.shape node rest most empty → IsDense s.records node → LacksGroup s.records node label)
-    → IfOk r (λ own. (free xs : List ℕ) → CanMake l node label free xs → HasMade l.records t.records node label own.row free xs) → IfOk r (λ own. own.first ≡ first_link l.records node)
+    → IfOk r (λ own. (free xs : List ℕ) → CanMake l node label free xs → HasMade l.records t.records node label own.row free xs)
+    → IfOk r (λ own. own.first ≡ first_link l.records node)
     → IfOk r (λ own. (rest : List ℕ) (most : ℕ) (empty : List ℕ) → KeepsBut s.records s.shape node rest most empty → IsDense s.records node → GrowsBy s t node own.row.id own.first)
 made_grows (Err fault) s l t node label same lacks has first = tt
 made_grows (Ok own) s l t node label same lacks has first = λ rest most empty keeps dense.
@@ -56,16 +57,20 @@ module _ (s l m : State) (node rel : ℕ) (row : loaded.RelRow) (g : ℕ) (same 
     (opens : (rest : List ℕ) (most : ℕ) (empty : List ℕ) → KeepsBut l.records l.shape node rest most empty → IsDense l.records node → KeepsBut m.records m.shape node rest most (g ∷ empty) × HasOpened l m node row.label g rest)
     (rest : List ℕ) (most : ℕ) (empty : List ℕ) (spread : IsSpread s node rel (rel ∷ rest) most empty) where
   pub own_turn : (first : ℕ) → ((rest : List ℕ) (most : ℕ) (empty : List ℕ) → KeepsBut l.records l.shape node rest most empty → IsDense l.records node → GrowsBy l m node g first)
-      → (t end : State) (h : Head) (old next : ℕ) → t ≡ prev_set m node rel format.nil → h ≡ group_head g (side_at node row.from row.to) → end ≡ tallied one_more (pushed t h node rel) h → old ≡ first_of t.records h
+      → (t end : State) (h : Head) (old next : ℕ) → t ≡ prev_set m node rel format.nil → h ≡ group_head g (side_at node row.from row.to)
+      → end ≡ tallied one_more (pushed t h node rel) h → old ≡ first_of t.records h
       → IsOwnTurn s end node (rel ∷ rest) (record { next = next; group = g; before = first; first = old })
   own_turn first grows t end h old next freed head put old_is =
       let v = moving s l m node rel row g same is opens rest most empty spread in
       let to = to_m s l m node rel row g same is opens rest most empty spread in
-      let w = grows (rel ∷ rest) most empty (keeps_then s l node (rel ∷ rest) most empty same spread.keeps) (subst (λ (q : State). IsDense q.records node) (sym same) spread.dense) in
+      let w = grows (rel ∷ rest) most empty (keeps_then s l node (rel ∷ rest) most empty same spread.keeps)
+      (subst (λ (q : State). IsDense q.records node) (sym same) spread.dense) in
       let was : (k : ℕ) → IsGroupOf l.records node k → IsGroupOf s.records node k = λ k i. subst (λ (q : State). IsGroupOf q.records node k) same i in
       let side = side_at node row.from row.to in
-      let end_of : counted_joined m (group_head g side) node rel ≡ end = sym (put ∙ ap (λ (q : State). tallied one_more (pushed q h node rel) h) freed ∙ ap (λ (q : Head). tallied one_more (pushed (prev_set m node rel format.nil) q node rel) q) head) in
-      let old_of : old ≡ first_of (prev_set m node rel format.nil).records (group_head g side) = old_is ∙ ap (λ (q : State). first_of q.records h) freed ∙ ap (λ (q : Head). first_of (prev_set m node rel format.nil).records q) head in
+      let end_of : counted_joined m (group_head g side) node rel ≡ end =
+      sym (put ∙ ap (λ (q : State). tallied one_more (pushed q h node rel) h) freed ∙ ap (λ (q : Head). tallied one_more (pushed (prev_set m node rel format.nil) q node rel) q) head) in
+      let old_of : old ≡ first_of (prev_set m node rel format.nil).records (group_head g side) = old_is ∙ ap (λ (q : State). first_of q.records h) freed
+      ∙ ap (λ (q : Head). first_of (prev_set m node rel format.nil).records q) head in
       record {
         grows = record {
           groups = λ k i. ⊎_elim inl (λ j. inr (was k j))

@@ -1,5 +1,6 @@
 -- Groups of one type on the chain of a node.
-use Rattle.std.proofs.Common.{◌≡◌, ◌≢◌, ℕ, ◌+◌, ◌≤◌, Bool, true, false, Some, Result, Ok, Err, IfErr, IfOk, List, [], ◌∷◌, ◌++◌, sym, ap, ◌∙◌, subst, inl, inr, ⊎_elim, arith, refl}
+use Rattle.std.proofs.Common.{◌≡◌, ◌≢◌, ℕ, ◌+◌, ◌≤◌, Bool, true, false, Some, Result, Ok, Err, IfErr, IfOk, List, []}
+use Rattle.std.proofs.Common.{◌∷◌, ◌++◌, sym, ap, ◌∙◌, subst, inl, inr, ⊎_elim, arith, refl}
 use Rattle.std.proofs.lemmas.Bool.Decides.{nat_tests}
 use Rattle.rec_bytes.specs.declared.damage.Damage.{Damage}
 use Rattle.rec_bytes.specs.declared.fault.Fault.{Fault}
@@ -29,7 +30,8 @@ use Rattle.group_store.specs.Loading.{group_mark}
 use Rattle.row_store.specs.Loading.IsRowDamage.{HighMark as HighNodes, UnknownKind}
 use Rattle.node_store.specs.Loading.{IsNodeDamage}
 use Rattle.group_store.specs.Opening.{IsPlaced}
-use Rattle.group_store.specs.Twins.{HasTwin, HasTwinIf, IsGroupsDamage, IsGroupsFault, IsLone, IsLoneAt, IsMet, IsNamed, IsPartFault, IsTwinDamage, IsTwinFault, is_twin}
+use Rattle.group_store.specs.Twins.{HasTwin, HasTwinIf, IsGroupsDamage, IsGroupsFault, IsLone, IsLoneAt, IsMet, IsNamed}
+use Rattle.group_store.specs.Twins.{IsPartFault, IsTwinDamage, IsTwinFault, is_twin}
 use Rattle.group_store.specs.Walking.{IsWalkDamage, IsWalkFault, chain_damage}
 use Rattle.group_store.specs.Walking.IsWalkDamage.{HighMark, NoList, UnknownGroup}
 use Rattle.group_store.proofs.ChainHeads.{same_records}
@@ -49,13 +51,15 @@ no_twin rec at group label h e = grind (arith, nat_tests)
 pub lone_none : (records : Records) (group label : ℕ) → (k : ℕ) → In k [] → type_of records k ≡ label → k ≡ group
 lone_none records group label k i e = elim i [ ]
 
-pub lone_more : (records : Records) (group label at : ℕ) (ms : List ℕ) → (type_of records at ≡ label → at ≡ group) → ((k : ℕ) → In k ms → type_of records k ≡ label → k ≡ group)
+pub lone_more : (records : Records) (group label at : ℕ) (ms : List ℕ) → (type_of records at ≡ label → at ≡ group)
+    → ((k : ℕ) → In k ms → type_of records k ≡ label → k ≡ group)
     → (k : ℕ) → In k (ms ++ at ∷ []) → type_of records k ≡ label → k ≡ group
 lone_more records group label at ms here lone k i e = ⊎_elim (λ j. lone k j e) (λ q. q ∙ here (ap (type_of records) (sym q) ∙ e)) (in_push ms at k i)
 
 -- ---- a search over the whole chain
 
-pub met_all : (records : Records) (node group label : ℕ) (twin : Bool) → IsDense records node → type_of records group ≡ label → IsMet records node (first_link records node) group label twin → HasTwinIf records node group twin
+pub met_all : (records : Records) (node group label : ℕ) (twin : Bool) → IsDense records node → type_of records group ≡ label
+    → IsMet records node (first_link records node) group label twin → HasTwinIf records node group twin
 met_all records node group label true dense typed met = record { twin = met.twin; other = met.other; typed = met.typed ∙ sym typed; on = met.on refl dense }
 met_all records node group label false dense typed met = λ g on same.
     met.lone g (on_walk records node met.members met.list.walk g on) (same ∙ typed)
@@ -99,13 +103,16 @@ node_then s z node Memory same told = tt
 node_then s z node Disk same told = tt
 node_then s z node (Damaged damage) same told = inl (node_read s z node damage same told)
 
-pub walk_then : (s z : State) (node first : ℕ) (r : Result Bool Fault) → SameButReads s z → IsDense s.records node → first ≡ first_link s.records node → IfErr r (IsWalkFault z node first) → IfErr r (IsGroupsFault s node)
+pub walk_then : (s z : State) (node first : ℕ) (r : Result Bool Fault) → SameButReads s z → IsDense s.records node → first ≡ first_link s.records node
+    → IfErr r (IsWalkFault z node first) → IfErr r (IsGroupsFault s node)
 walk_then s z node first (Ok twin) same dense is told = tt
 walk_then s z node first (Err Memory) same dense is told = tt
 walk_then s z node first (Err Disk) same dense is told = tt
-walk_then s z node first (Err (Damaged damage)) same dense is told = inr (dense, subst (λ f. IsWalkDamage s node f damage) is (walk_read s z node first damage same told))
+walk_then s z node first (Err (Damaged damage)) same dense is told = inr
+    (dense, subst (λ f. IsWalkDamage s node f damage) is (walk_read s z node first damage same told))
 
-pub met_then : (s z : State) (node first group label : ℕ) (r : Result Bool Fault) → SameButReads s z → IsDense s.records node → first ≡ first_link s.records node → type_of s.records group ≡ label
+pub met_then : (s z : State) (node first group label : ℕ) (r : Result Bool Fault) → SameButReads s z → IsDense s.records node
+    → first ≡ first_link s.records node → type_of s.records group ≡ label
     → IfOk r (IsMet z.records node first group label) → IfOk r (HasTwinIf s.records node group)
 met_then s z node first group label (Err fault) same dense is typed told = tt
 met_then s z node first group label (Ok twin) same dense is typed told =
@@ -119,7 +126,8 @@ reads_then s now end m n most le one more = let a = one.within in reads_more s n
 -- ---- heads
 
 -- a relationship that stands at a head of a group that is the only one of its type stands at no other head of the node
-pub lone_head : (records : Records) (head : Head) (node rel : ℕ) (row : RelRow) → rel_at records rel ≡ Some row → IsPlaced records head node row → IsLoneAt records head node → IsLoneHead records head node rel row
+pub lone_head : (records : Records) (head : Head) (node rel : ℕ) (row : RelRow) → rel_at records rel ≡ Some row → IsPlaced records head node row
+    → IsLoneAt records head node → IsLoneHead records head node rel row
 lone_head records head node rel row live placed lone = record {
   end = end_on (kind_at records format.nodes_file) (group_at records) head node row (chain_head records head node placed.owns) placed.on;
   has = has placed.owns;
@@ -151,11 +159,13 @@ lone_head records head node rel row live placed lone = record {
 -- ---- which record breaks a rule
 
 -- the group of a head where a chain of the node begins is on the chain of the node
-pub head_on : (records : Records) (head : Head) (node : ℕ) → IsChainHead records head node → head.key.file ≡ format.groups_file → IsOnChain records node head.key.id
+pub head_on : (records : Records) (head : Head) (node : ℕ) → IsChainHead records head node → head.key.file ≡ format.groups_file
+    → IsOnChain records node head.key.id
 head_on records head node (inl o) file = absurd (let f = ap (λ (h : Head). h.key.file) o.is in omega arith)
 head_on records head node (inr c) file = subst (IsOnChain records node) (sym (ap (λ (k : Key). k.id) c.own.key)) c.on
 
-pub twin_breaks : (s : State) (head : Head) (node : ℕ) (damage : Damage) → IsChainHead s.records head node → IsTwinDamage s head node damage → Breaks s.records s.shape damage
+pub twin_breaks : (s : State) (head : Head) (node : ℕ) (damage : Damage) → IsChainHead s.records head node → IsTwinDamage s head node damage
+    → Breaks s.records s.shape damage
 twin_breaks s head node damage owns told = ⊎_elim (λ k. groups_break s node damage k)
     (λ k. subst (Breaks s.records s.shape) (sym k.0) (twins_break s node head.key.id (head_on s.records head node owns told.group) k.1)) told.broken
 
@@ -168,33 +178,40 @@ twin_read s z head node damage same told = record {
       (λ k. inl (⊎_elim (λ b. inl (node_read s z node damage same b))
       (λ b. inr (
         subst (λ (r : Records). IsDense r node) (same_records s z same) b.0,
-        subst (λ (r : Records). IsWalkDamage s node (first_link r node) damage) (same_records s z same) (walk_read s z node (first_link z.records node) damage same b.1),
+        subst (λ (r : Records). IsWalkDamage s node (first_link r node) damage) (same_records s z same)
+            (walk_read s z node (first_link z.records node) damage same b.1),
       )) k))
       (λ k. inr (k.0, subst (λ (r : Records). HasTwin r node head.key.id) (same_records s z same) k.1)) told.broken;
 }
 
-pub part_twin : (s z : State) (head : Head) (node rel : ℕ) (fault : Fault) → SameButReads s z → IsTwinFault z head node fault → IsPartFault s head node rel fault
+pub part_twin : (s z : State) (head : Head) (node rel : ℕ) (fault : Fault) → SameButReads s z → IsTwinFault z head node fault
+    → IsPartFault s head node rel fault
 part_twin s z head node rel Memory same told = tt
 part_twin s z head node rel Disk same told = tt
 part_twin s z head node rel (Damaged damage) same told = inr (twin_read s z head node damage same told)
 
-pub part_named : (s z : State) (head : Head) (node rel : ℕ) (damage named : Damage) → SameButReads s z → IsUnlinkFault s head node rel (Damaged damage) → IsNamed z head node damage named → IsPartFault s head node rel (Damaged named)
+pub part_named : (s z : State) (head : Head) (node rel : ℕ) (damage named : Damage) → SameButReads s z → IsUnlinkFault s head node rel (Damaged damage)
+    → IsNamed z head node damage named → IsPartFault s head node rel (Damaged named)
 part_named s z head node rel damage named same told (inl k) =
     inl (subst (λ d. IsUnlinkFault s head node rel (Damaged d)) (sym k.0) told, subst (λ (r : Records). IsLoneAt r head node) (same_records s z same) k.1)
 part_named s z head node rel damage named same told (inr k) = inr (twin_read s z head node named same k)
 
-pub twin_then_breaks : (s z : State) (head : Head) (node : ℕ) (fault : Fault) → SameButReads s z → IsChainHead s.records head node → IsTwinFault z head node fault → IsBreakFault s fault
+pub twin_then_breaks : (s z : State) (head : Head) (node : ℕ) (fault : Fault) → SameButReads s z → IsChainHead s.records head node
+    → IsTwinFault z head node fault → IsBreakFault s fault
 twin_then_breaks s z head node Memory same owns told = tt
 twin_then_breaks s z head node Disk same owns told = tt
 twin_then_breaks s z head node (Damaged damage) same owns told = twin_breaks s head node damage owns (twin_read s z head node damage same told)
 
-pub named_breaks : (s z : State) (head : Head) (node rel : ℕ) (row : RelRow) (damage named : Damage) → SameButReads s z → rel_at s.records rel ≡ Some row → IsPlaced s.records head node row
+pub named_breaks : (s z : State) (head : Head) (node rel : ℕ) (row : RelRow) (damage named : Damage) → SameButReads s z → rel_at s.records rel ≡ Some row
+    → IsPlaced s.records head node row
     → (IsLoneHead s.records head node rel row → Breaks s.records s.shape damage) → IsNamed z head node damage named → Breaks s.records s.shape named
 named_breaks s z head node rel row damage named same live placed breaks (inl k) =
     subst (Breaks s.records s.shape) (sym k.0) (breaks (lone_head s.records head node rel row live placed (subst (λ (r : Records). IsLoneAt r head node) (same_records s z same) k.1)))
-named_breaks s z head node rel row damage named same live placed breaks (inr k) = twin_breaks s head node named placed.owns (twin_read s z head node named same k)
+named_breaks s z head node rel row damage named same live placed breaks (inr k) =
+    twin_breaks s head node named placed.owns (twin_read s z head node named same k)
 
-pub reads_more_groups : (s now end : State) (m n most : ℕ) → ReadsAtMost m s now → m + (n + group_mark s) ≤ most → ReadsAtMost (n + group_mark now) now end → ReadsAtMost most s end
+pub reads_more_groups : (s now end : State) (m n most : ℕ) → ReadsAtMost m s now → m + (n + group_mark s) ≤ most → ReadsAtMost (n + group_mark now) now end
+    → ReadsAtMost most s end
 reads_more_groups s now end m n most one le more =
     let same : group_mark now ≡ group_mark s = mark_then s now one.count one.is in
     reads_then s now end m (n + group_mark now) most (omega arith) one more

@@ -30,7 +30,8 @@ layout-known rec kind known = by (nat_eq kind format.grouped) (nat_eq kind forma
     used : nat_eq kind format.free_kind ≡ false
     used = eq_false kind format.free_kind (group_used kind known)
 
-    by : (p q : Bool) → nat_eq kind format.grouped ≡ p → nat_eq kind format.counted ≡ q → (p || q) ≡ true → (layout : Layout) × (layout_by format.groups_file rec kind ≡ Some layout)
+    by : (p q : Bool) → nat_eq kind format.grouped ≡ p → nat_eq kind format.counted ≡ q → (p || q) ≡ true → (layout : Layout)
+        × (layout_by format.groups_file rec kind ≡ Some layout)
     by true q a b e = rw (used, a) (_, refl)
     by false true a b e = rw (used, a, b) (_, refl)
     by false false a b e = absurd (true≢false (sym e))
@@ -38,11 +39,13 @@ layout-known rec kind known = by (nat_eq kind format.grouped) (nat_eq kind forma
 -- a group below the mark is of a kind
 pub known_kind : (records : Records) (node g : ℕ) → g < high records format.groups_file → IsGroupOf records node g → HasNoKind records g → ⊥
 known_kind records node g lt is none =
-    let known = layout-known (rec_at records format.groups_file g) (field 1 (rec_at records format.groups_file g) format.kind) (ap is_group_kind (sym (kind_low (high records format.groups_file) (rec_at records format.groups_file g) g lt)) ∙ is.kind) in
+    let known = layout-known (rec_at records format.groups_file g) (field 1 (rec_at records format.groups_file g) format.kind)
+    (ap is_group_kind (sym (kind_low (high records format.groups_file) (rec_at records format.groups_file g) g lt)) ∙ is.kind) in
     let both = sym none ∙ known.1 in
     cc
 
-pub fault-read_row : (s : State) (id : ℕ) (rec : Rec) → id < group_mark s → rec ≡ rec_at s.records format.groups_file id → IfErr (read_row rec id) (IsRowFault s id)
+pub fault-read_row : (s : State) (id : ℕ) (rec : Rec) → id < group_mark s → rec ≡ rec_at s.records format.groups_file id
+    → IfErr (read_row rec id) (IsRowFault s id)
 fault-read_row s id rec lt is = by (nat_eq kind format.free_kind) (is_group_kind kind) refl refl
   where
     kind : ℕ

@@ -38,12 +38,14 @@ search_fault s from to Disk told = tt
 search_fault s from to (Damaged damage) told = told
 
 -- nor is a node said to be missing, and none is where both were looked up
-pub search_tells : (T : Type 0) (from to : ℕ) (there to_there : Bool) (fault : Fault) → (there ≡ true) × (to_there ≡ true) → TellsEnds {T = T} (Err (expand.of_fault fault)) from to there to_there
+pub search_tells : (T : Type 0) (from to : ℕ) (there to_there : Bool) (fault : Fault) → (there ≡ true) × (to_there ≡ true)
+    → TellsEnds {T = T} (Err (expand.of_fault fault)) from to there to_there
 search_tells T from to there to_there Memory both = both
 search_tells T from to there to_there Disk both = tt
 search_tells T from to there to_there (Damaged damage) both = tt
 
-pub ends_there : (s t : State) → SameButReads s t → IsStore s → (from to : ℕ) (first second : Bool) → first ≡ has_node (graph_in s) from → first ≡ true → (IsStore t → second ≡ has_node (graph_in t) to) → second ≡ true
+pub ends_there : (s t : State) → SameButReads s t → IsStore s → (from to : ℕ) (first second : Bool) → first ≡ has_node (graph_in s) from → first ≡ true
+    → (IsStore t → second ≡ has_node (graph_in t) to) → second ≡ true
     → (has_node (graph_in s) from ≡ true) × (has_node (graph_in s) to ≡ true)
 ends_there s t same store from to first second is held told also = (
   sym is ∙ held,
@@ -53,7 +55,8 @@ ends_there s t same store from to first second is held told also = (
 module _ (s : State) (store : IsStore s) (direction : Direction) (labels : List ℕ) (types : List (List ℕ)) (stand : StandFor s.records labels types) where
   -- the neighbours by the graph are nodes
   pub closed_graph : (node end : ℕ) → Contains ((adjacency_of s direction types).next node) end → has_node (graph_in s) end ≡ true
-  closed_graph = subst (λ (near : Adjacency). (node end : ℕ) → Contains (near.next node) end → has_node (graph_in s) end ≡ true) (neighbours_are s store direction labels types stand) (neighbour_there s store direction labels)
+  closed_graph = subst (λ (near : Adjacency). (node end : ℕ) → Contains (near.next node) end → has_node (graph_in s) end ≡ true)
+      (neighbours_are s store direction labels types stand) (neighbour_there s store direction labels)
 
   pub answered : (t : State) → SameButReads s t → (from to : ℕ) → has_node (graph_in s) from ≡ true → (rows : Rows) (walk : List ℕ) (levels : List NodeLevel)
       → (IsStore t → has_node (graph_in t) from ≡ true → HasSearched (neighbours_at t direction labels) rows from to)
@@ -62,13 +65,15 @@ module _ (s : State) (store : IsStore s) (direction : Direction) (labels : List 
   answered t same from to there rows walk levels searched answer =
       let has = searched (subst IsStore (sym same) store) (subst (λ (u : State). has_node (graph_in u) from ≡ true) (sym same) there) in
       let at_s = subst (λ (u : State). HasSearched (neighbours_at u direction labels) rows from to) same has in
-      subst (λ (near : Adjacency). IsAnswer near from to walk levels) (neighbours_are s store direction labels types stand) (answer (neighbours_at s direction labels) from at_s)
+      subst (λ (near : Adjacency). IsAnswer near from to walk levels) (neighbours_are s store direction labels types stand)
+      (answer (neighbours_at s direction labels) from at_s)
 
   -- so with the walk alone
   pub walked : (t : State) → SameButReads s t → (from to : ℕ) → has_node (graph_in s) from ≡ true → has_node (graph_in s) to ≡ true → (walk : List ℕ)
       → (IsStore t → has_node (graph_in t) from ≡ true → has_node (graph_in t) to ≡ true → IsLeastOrNone (neighbours_at t direction labels) from to walk)
       → IsLeastOrNone (adjacency_of s direction types) from to walk
   walked t same from to there to_there walk found =
-      let at_t = found (subst IsStore (sym same) store) (subst (λ (u : State). has_node (graph_in u) from ≡ true) (sym same) there) (subst (λ (u : State). has_node (graph_in u) to ≡ true) (sym same) to_there) in
+      let at_t = found (subst IsStore (sym same) store) (subst (λ (u : State). has_node (graph_in u) from ≡ true) (sym same) there)
+      (subst (λ (u : State). has_node (graph_in u) to ≡ true) (sym same) to_there) in
       let at_s = subst (λ (u : State). IsLeastOrNone (neighbours_at u direction labels) from to walk) same at_t in
       subst (λ (near : Adjacency). IsLeastOrNone near from to walk) (neighbours_are s store direction labels types stand) at_s

@@ -15,7 +15,8 @@ use Rattle.rec_bytes.proofs.Causes.{passed}
 pub later_on : {before mid now : ℕ} → before ≤ mid → mid ≤ now → before ≤ now
 later_on one other = omega (arith, one, other)
 
-pub cause_passed : {T U : Type 0} (before mid now : ℕ) (r : Result T Fault) (fault : Fault) → before ≤ mid → HasFaultCause {T = U} mid now (Err fault) → IsErrAnd r (λ f. f ≡ fault) → HasFaultCause before now r
+pub cause_passed : {T U : Type 0} (before mid now : ℕ) (r : Result T Fault) (fault : Fault) → before ≤ mid → HasFaultCause {T = U} mid now (Err fault)
+    → IsErrAnd r (λ f. f ≡ fault) → HasFaultCause before now r
 cause_passed before mid now r fault early cause is = passed (λ f. f) faults.Disk faults.Disk before mid now r fault (λ e. e) early cause is
 
 -- want of memory blames no disk
@@ -29,5 +30,6 @@ row_blames : (fault : RowFault) → row_fault fault ≡ faults.Disk → fault �
 row_blames rows.Disk e = refl
 row_blames (rows.Damaged damage) e = absurd cc
 
-pub row_passed : {T U : Type 0} (before mid now : ℕ) (r : Result T Fault) (fault : RowFault) → before ≤ mid → HasDiskCause {T = U} rows.Disk mid now (Err fault) → IsErrAnd r (λ f. f ≡ row_fault fault) → HasFaultCause before now r
+pub row_passed : {T U : Type 0} (before mid now : ℕ) (r : Result T Fault) (fault : RowFault) → before ≤ mid → HasDiskCause {T = U} rows.Disk mid now (Err fault)
+    → IsErrAnd r (λ f. f ≡ row_fault fault) → HasFaultCause before now r
 row_passed before mid now r fault early cause is = passed row_fault rows.Disk faults.Disk before mid now r fault (row_blames fault) early cause is

@@ -19,7 +19,8 @@ module _ (near : Adjacency) (levels : List NodeLevel) where
   module _ (from to edges : ℕ) (rules : AreLevelsFor near from to edges levels) where
     -- from a node of a level on there are at least so many edges to go
     pub length-from_level : (later : List ℕ) (at level : ℕ) → Contains levels (level_of at level) → LeadsTo near at later to → edges ≤ level + length later
-    length-from_level [] at level has leads = let same : level ≡ edges = one_level rules.are to level edges (subst (λ n. Contains levels (level_of n level)) leads.1 has) rules.end in omega (arith, same)
+    length-from_level [] at level has leads = let same : level ≡ edges =
+        one_level rules.are to level edges (subst (λ n. Contains levels (level_of n level)) leads.1 has) rules.end in omega (arith, same)
     length-from_level (node ∷ later) at level has leads = elim (cases_lt level edges) [
       | inl lt ↦
           let next = rules.spread (level_of at level) has lt node leads.1 in
@@ -32,7 +33,8 @@ module _ (near : Adjacency) (levels : List NodeLevel) where
     -- no walk is shorter
     pub length-certified : (other : List ℕ) → IsWalk near from to other → suc edges ≤ length other
     length-certified [] walk = absurd walk
-    length-certified (first ∷ later) walk = let least = length-from_level later first 0 (subst (λ n. Contains levels (level_of n 0)) (sym walk.0) rules.start) walk.1 in omega (arith, least)
+    length-certified (first ∷ later) walk = let least = length-from_level later first 0 (subst (λ n. Contains levels (level_of n 0)) (sym walk.0) rules.start)
+        walk.1 in omega (arith, least)
 
   module _ (from to : ℕ) (rules : AreLevelsOfNoWalk near from to levels) where
     -- each node that is reached has a level

@@ -10,7 +10,8 @@ use Rattle.plain_graph.specs.declared.node_level.NodeLevel.{NodeLevel}
 use Rattle.path_find.proofs.WalkLaws.{LeadsTo-push}
 
 -- the walk of an answer is a shortest one
-pub shortest_or_none : (near : Adjacency) (from to : ℕ) (walk : List ℕ) (levels : List NodeLevel) → IsAnswer near from to walk levels → IsShortestOrNone near from to walk
+pub shortest_or_none : (near : Adjacency) (from to : ℕ) (walk : List ℕ) (levels : List NodeLevel) → IsAnswer near from to walk levels
+    → IsShortestOrNone near from to walk
 shortest_or_none near from to [] levels is = is.0
 shortest_or_none near from to (first ∷ later) levels is = is.0.shortest
 
@@ -33,7 +34,8 @@ module _ (near : Adjacency) (closed : (node end : ℕ) → Contains (near.next n
     are_levels : AreLevels near levels
     are_levels = record {
       distinct = λ i j d lt low same. let less = held.ascend i j d lt low in omega (arith, less, same);
-      nodes = λ k d lt. let distance = (held.each (get_or levels k d) (Contains-get_or levels k d lt)).1 in walk_there distance.walk (get_or levels k d).node distance.shortest.leads;
+      nodes = λ k d lt. let distance = (held.each (get_or levels k d) (Contains-get_or levels k d lt)).1 in
+          walk_there distance.walk (get_or levels k d).node distance.shortest.leads;
     }
 
     -- the least level of a node that is reached
@@ -45,14 +47,17 @@ module _ (near : Adjacency) (closed : (node end : ℕ) → Contains (near.next n
         let its = distance.long in
         (level.0, level.1, omega (arith, least, its, long))
 
-    neighbour_level : (row : NodeLevel) → Contains levels row → (node : ℕ) → Contains (near.next row.node) node → IsAllowed (row.level + 1) → HasLevelUpTo levels node (row.level + 1)
+    neighbour_level : (row : NodeLevel) → Contains levels row → (node : ℕ) → Contains (near.next row.node) node → IsAllowed (row.level + 1)
+        → HasLevelUpTo levels node (row.level + 1)
     neighbour_level row has node edge may =
         let distance = (held.each row has).1 in
         let more = length_push distance.walk node in
         let long = distance.long in
-        at_most node (row.level + 1) (distance.walk ++ node ∷ []) (further distance.walk row.node node distance.shortest.leads edge) (omega (arith, more, long)) may
+        at_most node (row.level + 1) (distance.walk ++ node ∷ []) (further distance.walk row.node node distance.shortest.leads edge) (omega (arith, more, long))
+        may
 
-  pub certified_answer : (to : ℕ) → near.is_node from ≡ true → (walk : List ℕ) (levels : List NodeLevel) → IsAnswer near from to walk levels → IsCertified near from to walk levels
+  pub certified_answer : (to : ℕ) → near.is_node from ≡ true → (walk : List ℕ) (levels : List NodeLevel) → IsAnswer near from to walk levels
+      → IsCertified near from to walk levels
   certified_answer to is [] levels answer =
       let start = at_most (λ edges. Unit {0}) levels answer.1 from 0 (from ∷ []) (refl, (is, refl)) refl tt in
       record {

@@ -1,5 +1,6 @@
 -- What the tests of a walk and of levels say together.
-use Rattle.std.proofs.Common.{◌≡◌, ◌<◌, ◌≤◌, ℕ, zero, suc, ◌+◌, ◌-◌, Bool, true, false, Option, None, Some, List, [], ◌∷◌, length, get_or, nat_lt, nat_le, Contains, sym, refl, subst, arith}
+use Rattle.std.proofs.Common.{◌≡◌, ◌<◌, ◌≤◌, ℕ, zero, suc, ◌+◌, ◌-◌, Bool, true, false, Option, None, Some, List, []}
+use Rattle.std.proofs.Common.{◌∷◌, length, get_or, nat_lt, nat_le, Contains, sym, refl, subst, arith}
 use Rattle.std.specs.Bool.{IsTrue, OnFalse, OnTrue}
 use Rattle.std.specs.Prelude.{◌↔◌}
 use Rattle.std.proofs.lemmas.Bool.Decides.{nat_tests}
@@ -85,17 +86,20 @@ module _ (near : Adjacency) (levels : List NodeLevel) (row : NodeLevel) where
     spread = λ lt. let above = last_above row edges last in absurd (omega (arith, above, lt));
   }
 
-  within_of : (edges : Option ℕ) → is_past row edges ≡ false → near.is_node row.node ≡ true → AreIn levels edges row (near.next row.node) → IsSpreadAt near levels edges row
+  within_of : (edges : Option ℕ) → is_past row edges ≡ false → near.is_node row.node ≡ true → AreIn levels edges row (near.next row.node)
+      → IsSpreadAt near levels edges row
   within_of None inner there held = record { node = there; within = tt; spread = held }
   within_of (Some edges) inner there held = record { node = there; within = not_past row edges inner; spread = held }
 
   -- the same nodes are in the levels
-  held_on : (edges : Option ℕ) (ends others : List ℕ) → ((end : ℕ) → Contains others end → Contains ends end) → AreIn levels edges row ends → AreIn levels edges row others
+  held_on : (edges : Option ℕ) (ends others : List ℕ) → ((end : ℕ) → Contains others end → Contains ends end) → AreIn levels edges row ends
+      → AreIn levels edges row others
   held_on None ends others some held = λ end has. held end (some end has)
   held_on (Some edges) ends others some held = λ lt end has. held lt end (some end has)
 
   module _ (ends : List ℕ) (are : AreNeighbours near row.node ends) where
-    pub inner_spreads : (edges : Option ℕ) → is_past row edges ≡ false → near.is_node row.node ≡ true → AreIn levels edges row ends → IsSpreadAt near levels edges row
+    pub inner_spreads : (edges : Option ℕ) → is_past row edges ≡ false → near.is_node row.node ≡ true → AreIn levels edges row ends
+        → IsSpreadAt near levels edges row
     inner_spreads edges inner there held = within_of edges inner there (held_on edges ends (near.next row.node) are.all held)
 
     pub inner_fails : (edges : Option ℕ) → ¬ AreIn levels edges row ends → ¬ IsSpreadAt near levels edges row
@@ -108,7 +112,8 @@ inner_below row edges inner = not_last row edges inner
 -- ---- the steps of a walk
 
 module _ (near : Adjacency) where
-  leads_from : (later : List ℕ) (at to : ℕ) → ((k : ℕ) → k < length later → IsStep near (get_or (at ∷ later) k 0) (get_or later k 0)) → get_or (at ∷ later) (length later) 0 ≡ to → near.is_node to ≡ true → LeadsTo near at later to
+  leads_from : (later : List ℕ) (at to : ℕ) → ((k : ℕ) → k < length later → IsStep near (get_or (at ∷ later) k 0) (get_or later k 0))
+      → get_or (at ∷ later) (length later) 0 ≡ to → near.is_node to ≡ true → LeadsTo near at later to
   leads_from [] at to steps last there = (subst (λ n. near.is_node n ≡ true) (sym last) there, last)
   leads_from (node ∷ later) at to steps last there = ((steps 0 (omega arith)).there, (steps 0 (omega arith)).edge, leads_from later node to (λ k lt. steps (suc k) (omega arith)) last there)
 
@@ -122,19 +127,24 @@ module _ (near : Adjacency) where
   last_in (node ∷ later) at to leads = last_in later node to leads.2
 
   -- the tests of a list that isn't empty prove a walk, and the other way round
-  pub walk-from_steps : (from to : ℕ) (walk : List ℕ) → get_or walk 0 0 ≡ from → get_or walk (length walk - 1) 0 ≡ to → ((k : ℕ) → k < length walk - 1 → IsStep near (get_or walk k 0) (get_or walk (k + 1) 0)) → near.is_node to ≡ true → IsWalkOrNone near from to walk
+  pub walk-from_steps : (from to : ℕ) (walk : List ℕ) → get_or walk 0 0 ≡ from → get_or walk (length walk - 1) 0 ≡ to
+      → ((k : ℕ) → k < length walk - 1 → IsStep near (get_or walk k 0) (get_or walk (k + 1) 0)) → near.is_node to ≡ true → IsWalkOrNone near from to walk
   walk-from_steps from to [] first last steps there = tt
   walk-from_steps from to (node ∷ later) first last steps there =
       let whole : length (node ∷ later) - 1 ≡ length later = omega arith in
       (first, leads_from later node to (λ k lt. let more : k + 1 ≡ suc k = omega arith in subst (λ n. IsStep near (get_or (node ∷ later) k 0) (get_or (node ∷ later) n 0)) more (steps k (omega arith))) (subst (λ n. get_or (node ∷ later) n 0 ≡ to) whole last) there)
 
-  pub last-from_walk : (from to : ℕ) (walk : List ℕ) → 0 < length walk → IsWalkOrNone near from to walk → (get_or walk (length walk - 1) 0 ≡ to) × (near.is_node to ≡ true)
+  pub last-from_walk : (from to : ℕ) (walk : List ℕ) → 0 < length walk → IsWalkOrNone near from to walk → (get_or walk (length walk - 1) 0 ≡ to)
+      × (near.is_node to ≡ true)
   last-from_walk from to [] some is = absurd (omega arith)
-  last-from_walk from to (node ∷ later) some is = let last = last_in later node to is.1 in let whole : length later ≡ length (node ∷ later) - 1 = omega arith in (subst (λ n. get_or (node ∷ later) n 0 ≡ to) whole last.0, last.1)
+  last-from_walk from to (node ∷ later) some is = let last = last_in later node to is.1 in let whole : length later ≡ length (node ∷ later) - 1 = omega arith in
+      (subst (λ n. get_or (node ∷ later) n 0 ≡ to) whole last.0, last.1)
 
-  pub step-from_walk : (from to : ℕ) (walk : List ℕ) → IsWalkOrNone near from to walk → (k : ℕ) → k < length walk - 1 → IsStep near (get_or walk k 0) (get_or walk (k + 1) 0)
+  pub step-from_walk : (from to : ℕ) (walk : List ℕ) → IsWalkOrNone near from to walk → (k : ℕ) → k < length walk - 1
+      → IsStep near (get_or walk k 0) (get_or walk (k + 1) 0)
   step-from_walk from to [] is k lt = absurd (omega arith)
-  step-from_walk from to (node ∷ later) is k lt = let more : suc k ≡ k + 1 = omega arith in subst (λ n. IsStep near (get_or (node ∷ later) k 0) (get_or (node ∷ later) n 0)) more (step_in later node to is.1 k (omega arith))
+  step-from_walk from to (node ∷ later) is k lt = let more : suc k ≡ k + 1 = omega arith in
+      subst (λ n. IsStep near (get_or (node ∷ later) k 0) (get_or (node ∷ later) n 0)) more (step_in later node to is.1 k (omega arith))
 
 -- ---- decisions
 
@@ -143,7 +153,8 @@ module _ (near : Adjacency) (levels : List NodeLevel) (from to : ℕ) (walk : Li
   not_certified fails = (λ e. absurd (clash (sym e)), λ is. absurd (fails (tests-from_certified near levels from to walk is)))
 
   pub is_certified : (all : Bool) → AreDistinct levels → HaveEnds levels from to (edges_of walk) → IsWalkOrNone near from to walk
-      → OnTrue all (AllSpread near levels (edges_of walk)) → OnFalse all (¬ AllSpread near levels (edges_of walk)) → IsTrue all ↔ IsCertified near from to walk levels
+      → OnTrue all (AllSpread near levels (edges_of walk)) → OnFalse all (¬ AllSpread near levels (edges_of walk))
+      → IsTrue all ↔ IsCertified near from to walk levels
   is_certified true distinct ends leads spread far =
       (λ e. certified-from_tests near levels from to walk (record { distinct = distinct; ends = ends; leads = leads; spread = spread }), λ is. refl)
   is_certified false distinct ends leads spread far = not_certified (λ is. far is.spread)

@@ -20,10 +20,12 @@ pub descent_on : (near : Adjacency) (rows : Rows) (start at next level below : �
     → (rest : List ℕ) → length rest ≡ below → IsDescent near rows next rest → IsDescent near rows start (new ++ rest)
 descent_on near rows start at next level below way new is old step pushed rest long descends =
     let one = old (node_at rows next ∷ rest) (omega (arith, is, long)) (next, refl, subst (λ n. IsNextRow near rows at n next) (sym long) step, descends) in
-    subst (λ (list : List ℕ). IsDescent near rows start (list ++ rest)) (sym pushed) (subst (IsDescent near rows start) (sym (append_assoc way (node_at rows next ∷ []) rest)) one)
+    subst (λ (list : List ℕ). IsDescent near rows start (list ++ rest)) (sym pushed)
+    (subst (IsDescent near rows start) (sym (append_assoc way (node_at rows next ∷ []) rest)) one)
 
 -- the first of a node's neighbours that has a level is the least
-pub next_from_first : (near : Adjacency) (rows : Rows) (at level row : ℕ) (ends : List ℕ) → AreNeighbours near (node_at rows at) ends → IsNonDecreasing ends → HasNearer near rows at level
+pub next_from_first : (near : Adjacency) (rows : Rows) (at level row : ℕ) (ends : List ℕ) → AreNeighbours near (node_at rows at) ends → IsNonDecreasing ends
+    → HasNearer near rows at level
     → (SomeAtLevel rows level ends → IsFirstAtLevel rows level ends row) → IsNextRow near rows at level row
 next_from_first near rows at level row ends are ascend nearer pick =
     let there = at_from_Contains ends (node_at rows nearer.row) (are.all (node_at rows nearer.row) nearer.edge) in
@@ -44,7 +46,8 @@ next_from_first near rows at level row ends are ascend nearer pick =
           ];
     }
 
-module _ (near back : Adjacency) (there : AreOpposite near back) (return : AreOpposite back near) (rows : Rows) (done depth : ℕ) (layers : AreLayers rows done depth) (spans : Spans back rows done) where
+module _ (near back : Adjacency) (there : AreOpposite near back) (return : AreOpposite back near) (rows : Rows) (done depth : ℕ)
+    (layers : AreLayers rows done depth) (spans : Spans back rows done) where
   -- from each row but the first there is a neighbour a level lower
   pub can_descend : CanDescend near rows
   can_descend at level low is =
@@ -69,23 +72,28 @@ module _ (near back : Adjacency) (there : AreOpposite near back) (return : AreOp
       let turned = turn near back there later node (node_at rows 0) leads in
       let root = layers.tree.root in
       let long = turned.long in
-      let found = reached rows done layers.tree back spans depth layers.complete turned.later (node_at rows 0) node 0 layers.tree.some refl turned.leads (omega (arith, root, long, few)) in
+      let found = reached rows done layers.tree back spans depth layers.complete turned.later (node_at rows 0) node 0 layers.tree.some refl turned.leads
+      (omega (arith, root, long, few)) in
       let level = found.level in
       record { row = found.row; low = found.low; is = found.is; level = omega (arith, level, root, long) }
 
   -- a neighbour's level is at most one lower
-  not_lower : (at row level : ℕ) → at < row_count rows → row < row_count rows → Contains (near.next (node_at rows at)) (node_at rows row) → level_at rows at ≡ suc level → level_at rows row ≤ level → level_at rows row ≡ level
+  not_lower : (at row level : ℕ) → at < row_count rows → row < row_count rows → Contains (near.next (node_at rows at)) (node_at rows row)
+      → level_at rows at ≡ suc level → level_at rows row ≤ level → level_at rows row ≡ level
   not_lower at row level at_low low edge is most =
       let way = way_to rows (level_at rows row) row in
       let leads = way_to-leads rows done layers.tree back spans (level_at rows row) row low refl in
       let long = length-way_to rows done layers.tree (level_at rows row) row in
       let more = length_push way (node_at rows at) in
-      let pushed = LeadsTo-push back way (node_at rows 0) (node_at rows row) (node_at rows at) leads (there.edge (node_at rows at) (node_at rows row) edge) (spans.nodes at at_low) in
+      let pushed = LeadsTo-push back way (node_at rows 0) (node_at rows row) (node_at rows at) leads (there.edge (node_at rows at) (node_at rows row) edge)
+      (spans.nodes at at_low) in
       let deep = layers.most at at_low in
-      let least = level-least rows done layers.tree back spans depth layers.complete at (way ++ node_at rows at ∷ []) at_low pushed (omega (arith, more, long, most, is, deep)) in
+      let least = level-least rows done layers.tree back spans depth layers.complete at (way ++ node_at rows at ∷ []) at_low pushed
+      (omega (arith, more, long, most, is, deep)) in
       omega (arith, more, long, most, is, least)
 
-  pub descent-leads : (way : List ℕ) (at : ℕ) → at < row_count rows → length way ≡ level_at rows at → IsDescent near rows at way → LeadsTo near (node_at rows at) way (node_at rows 0)
+  pub descent-leads : (way : List ℕ) (at : ℕ) → at < row_count rows → length way ≡ level_at rows at → IsDescent near rows at way
+      → LeadsTo near (node_at rows at) way (node_at rows 0)
   descent-leads [] at low long descends = (return.node (node_at rows at) (spans.nodes at low), ap (node_at rows) (row_first rows done layers.tree at low (sym long)))
   descent-leads (node ∷ way) at low long descends =
       let row = descends.0 in
@@ -95,7 +103,8 @@ module _ (near back : Adjacency) (there : AreOpposite near back) (return : AreOp
         subst (λ n. LeadsTo near n way (node_at rows 0)) descends.1 (descent-leads way row next.low (sym next.exact) descends.3),
       )
 
-  pub descent-least : (way : List ℕ) (at : ℕ) (other : List ℕ) → at < row_count rows → length way ≡ level_at rows at → IsDescent near rows at way → LeadsTo near (node_at rows at) other (node_at rows 0) → length other ≡ length way → IsNotAfter way other
+  pub descent-least : (way : List ℕ) (at : ℕ) (other : List ℕ) → at < row_count rows → length way ≡ level_at rows at → IsDescent near rows at way
+      → LeadsTo near (node_at rows at) other (node_at rows 0) → length other ≡ length way → IsNotAfter way other
   descent-least [] at other low long descends leads same = tt
   descent-least (node ∷ way) at [] low long descends leads same = absurd (omega (arith, same))
   descent-least (node ∷ way) at (other ∷ later) low long descends leads same =

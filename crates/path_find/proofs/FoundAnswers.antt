@@ -40,7 +40,8 @@ module _ (near : Adjacency) (rows : Rows) (from to : ℕ) (searched : IsSearched
           let long = length-way_to rows searched.done searched.tree (level_at rows i) i in
           elim (bound (length later)) [
             | inl complete ↦
-                let most = level-least rows searched.done searched.tree near spans (length later) complete i later low (from_root first later (node_at rows i) walk.0 walk.1) (omega arith) in
+                let most = level-least rows searched.done searched.tree near spans (length later) complete i later low
+                (from_root first later (node_at rows i) walk.0 walk.1) (omega arith) in
                 omega (arith, long, most)
             | inr le ↦ omega (arith, long, le)
           ]
@@ -61,10 +62,12 @@ module _ (near : Adjacency) (rows : Rows) (from to : ℕ) (searched : IsSearched
   walked : (node first : ℕ) (later : List ℕ) → IsComplete (length later) → IsWalk near from node (first ∷ later) → HasRow node
   walked node first later complete walk =
       let root = searched.tree.root in
-      let there = reached rows searched.done searched.tree near spans (length later) complete later (node_at rows 0) node 0 searched.tree.some refl (from_root first later node walk.0 walk.1) (omega (arith, root)) in
+      let there = reached rows searched.done searched.tree near spans (length later) complete later (node_at rows 0) node 0 searched.tree.some refl
+      (from_root first later node walk.0 walk.1) (omega (arith, root)) in
       record { row = there.row; low = there.low; is = there.is }
 
-  module _ (levels : List NodeLevel) (are : AreLevelsOf rows levels) (IsAllowed : ℕ → Type 0) (allowed : (i : ℕ) → i < row_count rows → IsAllowed (level_at rows i)) (full : (n : ℕ) → IsAllowed n → IsComplete n)
+  module _ (levels : List NodeLevel) (are : AreLevelsOf rows levels) (IsAllowed : ℕ → Type 0)
+      (allowed : (i : ℕ) → i < row_count rows → IsAllowed (level_at rows i)) (full : (n : ℕ) → IsAllowed n → IsComplete n)
       (bound : (i : ℕ) → i < row_count rows → (n : ℕ) → IsComplete n ⊎ (level_at rows i ≤ n)) where
     all_held : (node edges : ℕ) (walk : List ℕ) → IsWalk near from node walk → length walk ≡ edges + 1 → IsAllowed edges → HasLevel levels node
     all_held node edges [] walk long may = absurd walk
@@ -116,7 +119,8 @@ module _ (near : Adjacency) (rows : Rows) (from to : ℕ) (searched : IsSearched
         let leads = subst (LeadsTo near (node_at rows 0) later) (sym is) (from_root first later to walk.0 walk.1) in
         inr (
           searched.first ∙ sym walk.0,
-          way_to-least rows searched.done searched.tree near spans (level_at rows goal) goal_complete (level_at rows goal) goal later low refl (omega arith) leads (omega (arith, mine, long)),
+          way_to-least rows searched.done searched.tree near spans (level_at rows goal) goal_complete (level_at rows goal) goal later low refl (omega arith)
+              leads (omega (arith, mine, long)),
         )
 
     -- the way to it is the answer
@@ -144,7 +148,8 @@ module _ (near : Adjacency) (rows : Rows) (from to : ℕ) (searched : IsSearched
 
     none_leads : HasNoWalk near from to
     none_leads [] walk = walk
-    none_leads (first ∷ later) walk = let there = walked to first later (none_complete (length later)) walk in none (subst (Contains rows.nodes) there.is (Contains-get_or rows.nodes there.row 0 there.low))
+    none_leads (first ∷ later) walk = let there = walked to first later (none_complete (length later)) walk in
+        none (subst (Contains rows.nodes) there.is (Contains-get_or rows.nodes there.row 0 there.low))
 
     -- there is no walk
     pub no_answer : (levels : List NodeLevel) → AreLevelsOf rows levels → IsAnswer near from to [] levels

@@ -26,7 +26,8 @@ longer-none near from to (first ∷ later) walk = omega arith
 
 module _ (near back : Adjacency) (there : AreOpposite near back) (return : AreOpposite back near)
     (ahead : Rows) (ahead_done ahead_depth : ℕ) (ahead_layers : AreLayers ahead ahead_done ahead_depth) (ahead_spans : Spans near ahead ahead_done)
-    (behind_rows : Rows) (behind_done behind_depth : ℕ) (behind_layers : AreLayers behind_rows behind_done behind_depth) (behind_spans : Spans back behind_rows behind_done) where
+    (behind_rows : Rows) (behind_done behind_depth : ℕ) (behind_layers : AreLayers behind_rows behind_done behind_depth)
+    (behind_spans : Spans back behind_rows behind_done) where
   abbrev from : ℕ
   from = node_at ahead 0
 
@@ -43,7 +44,8 @@ module _ (near back : Adjacency) (there : AreOpposite near back) (return : AreOp
   is_ahead : (later : List ℕ) (node : ℕ) → LeadsTo near from later node → length later ≤ ahead_depth → IsAhead node (length later)
   is_ahead later node leads few =
       let root = ahead_layers.tree.root in
-      let found = reached ahead ahead_done ahead_layers.tree near ahead_spans ahead_depth ahead_layers.complete later from node 0 ahead_layers.tree.some refl leads (omega (arith, root, few)) in
+      let found = reached ahead ahead_done ahead_layers.tree near ahead_spans ahead_depth ahead_layers.complete later from node 0 ahead_layers.tree.some refl
+      leads (omega (arith, root, few)) in
       let level = found.level in
       record { row = found.row; low = found.low; is = found.is; level = omega (arith, level, root) }
 
@@ -55,13 +57,15 @@ module _ (near back : Adjacency) (there : AreOpposite near back) (return : AreOp
     last_is : node_at behind_rows last ≡ node
     last_level : level_at behind_rows last ≤ after
 
-  is_mid : (node : ℕ) (before after : List ℕ) → LeadsTo near from before node → LeadsTo near node after to → length before ≤ ahead_depth → length after ≤ behind_depth → IsMid node (length before) (length after)
+  is_mid : (node : ℕ) (before after : List ℕ) → LeadsTo near from before node → LeadsTo near node after to → length before ≤ ahead_depth
+      → length after ≤ behind_depth → IsMid node (length before) (length after)
   is_mid node before after leads rest few most =
       let found = behind near back there return behind_rows behind_done behind_depth behind_layers behind_spans after node rest most in
       record { first = is_ahead before node leads few; last = found.row; last_low = found.low; last_is = found.is; last_level = found.level }
 
   shared_mid : (node before after : ℕ) (mid : IsMid node before after) → IsShared ahead behind_rows mid.first.row
-  shared_mid node before after mid = subst (Contains behind_rows.nodes) (mid.last_is ∙ sym mid.first.is) (Contains-get_or behind_rows.nodes mid.last 0 mid.last_low)
+  shared_mid node before after mid = subst (Contains behind_rows.nodes) (mid.last_is ∙ sym mid.first.is)
+      (Contains-get_or behind_rows.nodes mid.last 0 mid.last_low)
 
   -- ---- no node is shared
 
@@ -93,7 +97,8 @@ module _ (near back : Adjacency) (there : AreOpposite near back) (return : AreOp
   whole_ahead apart whole [] walk = walk
   whole_ahead apart whole (first ∷ later) walk =
       let root = ahead_layers.tree.root in
-      let found = reached ahead ahead_done ahead_layers.tree near ahead_spans (length later) (λ i low less. omega (arith, low, whole)) later from to 0 ahead_layers.tree.some refl
+      let found = reached ahead ahead_done ahead_layers.tree near ahead_spans (length later) (λ i low less. omega (arith, low, whole)) later from to 0
+      ahead_layers.tree.some refl
       (subst (λ n. LeadsTo near n later to) walk.0 walk.1) (omega (arith, root)) in
       apart found.row found.low (subst (Contains behind_rows.nodes) (sym found.is) (Contains-get_or behind_rows.nodes 0 0 behind_layers.tree.some))
 
@@ -102,7 +107,8 @@ module _ (near back : Adjacency) (there : AreOpposite near back) (return : AreOp
   whole_behind apart whole (first ∷ later) walk =
       let root = behind_layers.tree.root in
       let turned = turn near back there later from to (subst (λ n. LeadsTo near n later to) walk.0 walk.1) in
-      let found = reached behind_rows behind_done behind_layers.tree back behind_spans (length turned.later) (λ i low less. omega (arith, low, whole)) turned.later to from 0 behind_layers.tree.some refl turned.leads (omega (arith, root)) in
+      let found = reached behind_rows behind_done behind_layers.tree back behind_spans (length turned.later) (λ i low less. omega (arith, low, whole))
+      turned.later to from 0 behind_layers.tree.some refl turned.leads (omega (arith, root)) in
       apart 0 ahead_layers.tree.some (subst (Contains behind_rows.nodes) found.is (Contains-get_or behind_rows.nodes found.row 0 found.low))
 
   -- ---- a node is shared
@@ -146,7 +152,8 @@ module _ (near back : Adjacency) (there : AreOpposite near back) (return : AreOp
       leads : IsWalk near from to joined_walk
       leads =
           let first = way_to-leads ahead ahead_done ahead_layers.tree near ahead_spans (level_at ahead joined.row) joined.row joined.low refl in
-          let rest = descent-leads near back there return behind_rows behind_done behind_depth behind_layers behind_spans joined.way joined.last joined.last_low joined.long joined.descends in
+          let rest = descent-leads near back there return behind_rows behind_done behind_depth behind_layers behind_spans joined.way joined.last joined.last_low
+          joined.long joined.descends in
           (refl, LeadsTo-append near way joined.way from (node_at ahead joined.row) to first (subst (λ n. LeadsTo near n joined.way to) joined.shared rest))
 
       long : length (way ++ joined.way) ≡ ahead_depth + behind_depth
@@ -159,11 +166,14 @@ module _ (near back : Adjacency) (there : AreOpposite near back) (return : AreOp
           omega (arith, whole, first, second, full_first, full_second)
 
       -- the way to the first shared row is not after one to another
-      prefix : (before : List ℕ) (row : ℕ) → row < row_count ahead → joined.row ≤ row → level_at ahead row ≡ ahead_depth → LeadsTo near from before (node_at ahead row) → length before ≡ ahead_depth → IsNotAfter (way_to ahead ahead_depth joined.row) before
+      prefix : (before : List ℕ) (row : ℕ) → row < row_count ahead → joined.row ≤ row → level_at ahead row ≡ ahead_depth
+          → LeadsTo near from before (node_at ahead row) → length before ≡ ahead_depth → IsNotAfter (way_to ahead ahead_depth joined.row) before
       prefix before row low le is leads_there count =
-          let rest = way_to-least ahead ahead_done ahead_layers.tree near ahead_spans ahead_depth ahead_layers.complete ahead_depth row before low is (omega arith) leads_there count in
+          let rest = way_to-least ahead ahead_done ahead_layers.tree near ahead_spans ahead_depth ahead_layers.complete ahead_depth row before low is
+          (omega arith) leads_there count in
           elim (cases_lt joined.row row) [
-            | inl lt ↦ not_after-earlier (way_to ahead ahead_depth joined.row) (way_to ahead ahead_depth row) before (way_to-order ahead ahead_done ahead_layers.tree ahead_depth joined.row row full.first is lt low) rest
+            | inl lt ↦ not_after-earlier (way_to ahead ahead_depth joined.row) (way_to ahead ahead_depth row) before
+                (way_to-order ahead ahead_done ahead_layers.tree ahead_depth joined.row row full.first is lt low) rest
             | inr ge ↦ let same : row ≡ joined.row = omega arith in subst (λ r. IsNotAfter (way_to ahead ahead_depth r) before) same rest
           ]
 
@@ -180,15 +190,18 @@ module _ (near back : Adjacency) (there : AreOpposite near back) (return : AreOp
             | inr le ↦ le
           ] in
           let there_leads = subst (LeadsTo near from two.before) (sym mid.first.is) two.leads in
-          let upto = subst (λ l. IsNotAfter (way_to ahead l joined.row) two.before) (sym full.first) (prefix two.before row mid.first.low not_before full_there.first there_leads before_long) in
+          let upto = subst (λ l. IsNotAfter (way_to ahead l joined.row) two.before) (sym full.first)
+          (prefix two.before row mid.first.low not_before full_there.first there_leads before_long) in
           let mine_long = length-way_to ahead ahead_done ahead_layers.tree (level_at ahead joined.row) joined.row in
           let mine_full = full.first in
           let last_full = full.second in
           let way_long = joined.long in
           let mine_leads = way_to-leads ahead ahead_done ahead_layers.tree near ahead_spans (level_at ahead joined.row) joined.row joined.low refl in
           let onward : way ≡ two.before → IsNotAfter joined.way two.after = λ e.
-          let ends : node_at ahead joined.row ≡ two.mid = one_end near two.before from (node_at ahead joined.row) two.mid (subst (λ list. LeadsTo near from list (node_at ahead joined.row)) e mine_leads) two.leads in
-          descent-least near back there return behind_rows behind_done behind_depth behind_layers behind_spans joined.way joined.last two.after joined.last_low joined.long joined.descends
+          let ends : node_at ahead joined.row ≡ two.mid = one_end near two.before from (node_at ahead joined.row) two.mid
+          (subst (λ list. LeadsTo near from list (node_at ahead joined.row)) e mine_leads) two.leads in
+          descent-least near back there return behind_rows behind_done behind_depth behind_layers behind_spans joined.way joined.last two.after joined.last_low
+          joined.long joined.descends
           (subst (λ n. LeadsTo near n two.after to) (sym ends ∙ sym joined.shared) two.rest) (omega (arith, before_long, whole, count, last_full, way_long)) in
           subst (IsNotAfter (way ++ joined.way)) (sym two.is) (not_after-join way two.before joined.way two.after (omega (arith, mine_long, mine_full, before_long)) upto onward)
 

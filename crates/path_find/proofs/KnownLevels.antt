@@ -1,5 +1,6 @@
 -- Levels by the places of their nodes.
-use Rattle.std.proofs.Common.{◌≡◌, ◌≢◌, ◌<◌, inl, inr, ℕ, ◌+◌, nat_eq, true, false, List, [], ◌∷◌, ◌++◌, length, get_or, map, take, Contains, refl, sym, ap, subst, ◌∙◌, arith}
+use Rattle.std.proofs.Common.{◌≡◌, ◌≢◌, ◌<◌, inl, inr, ℕ, ◌+◌, nat_eq, true, false, List, [], ◌∷◌, ◌++◌, length, get_or}
+use Rattle.std.proofs.Common.{map, take, Contains, refl, sym, ap, subst, ◌∙◌, arith}
 use Rattle.std.specs.List.{list_any}
 use Rattle.std.proofs.lemmas.Bool.{cases_lt}
 use Rattle.std.proofs.lemmas.Cmp.{nat_eq_equiv}
@@ -36,11 +37,14 @@ module _ (levels : List NodeLevel) (nodes : List ℕ) (count : ℕ) (some : AreS
   nodes_long = ap length some.are ∙ length-map (take count levels) node_of ∙ length-take-le count levels (omega arith)
 
   node_at_place : (i : ℕ) (d : NodeLevel) → i < count → get_or nodes i 0 ≡ (get_or levels i d).node
-  node_at_place i d lt = let long = length-take-le count levels (omega arith) in ap (λ (list : List ℕ). get_or list i 0) some.are ∙ get_or-map node_of (take count levels) i d 0 (omega (arith, long)) ∙ ap node_of (get_or-take count levels i d lt)
+  node_at_place i d lt = let long = length-take-le count levels (omega arith) in ap (λ (list : List ℕ). get_or list i 0) some.are
+      ∙ get_or-map node_of (take count levels) i d 0 (omega (arith, long)) ∙ ap node_of (get_or-take count levels i d lt)
 
-  pub places_more : (row : NodeLevel) → ((d : NodeLevel) → get_or levels count d ≡ row) → list_any (nat_eq row.node) nodes ≡ false → AreSomePlaces levels (nodes ++ row.node ∷ []) (count + 1)
+  pub places_more : (row : NodeLevel) → ((d : NodeLevel) → get_or levels count d ≡ row) → list_any (nat_eq row.node) nodes ≡ false
+      → AreSomePlaces levels (nodes ++ row.node ∷ []) (count + 1)
   places_more row at fresh = record {
-    are = ap (λ (list : List ℕ). list ++ row.node ∷ []) some.are ∙ sym (map-append node_of (take count levels) (row ∷ [])) ∙ ap (map node_of) (ap (λ r. take count levels ++ r ∷ []) (sym (at row)) ∙ sym (take_more levels count row short));
+    are = ap (λ (list : List ℕ). list ++ row.node ∷ []) some.are ∙ sym (map-append node_of (take count levels) (row ∷ []))
+        ∙ ap (map node_of) (ap (λ r. take count levels ++ r ∷ []) (sym (at row)) ∙ sym (take_more levels count row short));
     distinct = λ i j d lt low. elim (cases_lt j count) [
       | inl old ↦ some.distinct i j d lt old
       | inr last ↦

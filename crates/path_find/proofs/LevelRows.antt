@@ -23,7 +23,8 @@ apart : (a b : ℕ) → a ≢ b → nat_eq a b ≡ false
 apart a b h = grind (arith, nat_tests, h)
 
 module _ (rows : Rows) where
-  module _ (tree : IsSomeTree rows) (levels sorted : List NodeLevel) (are : AreLevelsInOrder rows (row_count rows) levels) (moved : IsPermutation levels sorted) (up : IsNonDecreasingBy node_of sorted) where
+  module _ (tree : IsSomeTree rows) (levels sorted : List NodeLevel) (are : AreLevelsInOrder rows (row_count rows) levels) (moved : IsPermutation levels sorted)
+      (up : IsNonDecreasingBy node_of sorted) where
     differs : (i j : ℕ) (d : NodeLevel) → i < j → j < length levels → same_node (get_or levels i d) (get_or levels j d) ≡ false
     unfolding same_node
     differs i j d lt low =

@@ -32,14 +32,16 @@ apart_start from to ahead behind first second =
 -- ---- on by a level
 
 -- the search ahead has found no node of the other's
-pub apart_ahead : (old new other : Rows) (done : ℕ) → GrowsFrom old new done → AreApart old other → AreApartFrom new (row_count old) (row_count new) other → AreApart new other
+pub apart_ahead : (old new other : Rows) (done : ℕ) → GrowsFrom old new done → AreApart old other → AreApartFrom new (row_count old) (row_count new) other
+    → AreApart new other
 apart_ahead old new other done grows apart fresh row low shared = elim (cases_lt row (row_count old)) [
   | inl early ↦ apart row early (subst (Contains other.nodes) (grows.nodes row early) shared)
   | inr late ↦ fresh row late low shared
 ]
 
 -- nor the one that goes back
-pub apart_behind : (ahead old new : Rows) (done : ℕ) → GrowsFrom old new done → AreApart ahead old → AreApartFrom new (row_count old) (row_count new) ahead → AreApart ahead new
+pub apart_behind : (ahead old new : Rows) (done : ℕ) → GrowsFrom old new done → AreApart ahead old → AreApartFrom new (row_count old) (row_count new) ahead
+    → AreApart ahead new
 apart_behind ahead old new done grows apart fresh row low shared =
     let there = at_from_Contains new.nodes (node_at ahead row) shared in
     let place = there.0 in

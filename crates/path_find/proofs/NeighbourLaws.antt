@@ -34,16 +34,19 @@ ends-rows s node (row ∷ rows) (edge ∷ edges) are =
 
 in_both : (p q : EdgeRow → Bool) (rows : List EdgeRow) (row : EdgeRow) → Contains (filter p rows ++ filter q rows) row → Contains rows row
 in_both p q rows row has =
-    ⊎_elim (λ (first : Contains (filter p rows) row). (contains_filter p rows row first).0) (λ (second : Contains (filter q rows) row). (contains_filter q rows row second).0)
+    ⊎_elim (λ (first : Contains (filter p rows) row). (contains_filter p rows row first).0)
+    (λ (second : Contains (filter q rows) row). (contains_filter q rows row second).0)
     (Contains-append_cases (filter p rows) (filter q rows) row has)
 
 module _ (s : State) (store : IsStore s) where
   -- the neighbours by rows are the graph's
-  pub neighbours_are : (direction : Direction) (labels : List ℕ) (types : List (List ℕ)) → StandFor s.records labels types → neighbours_at s direction labels ≡ adjacency_of s direction types
+  pub neighbours_are : (direction : Direction) (labels : List ℕ) (types : List (List ℕ)) → StandFor s.records labels types
+      → neighbours_at s direction labels ≡ adjacency_of s direction types
   neighbours_are direction labels types stand =
       λ i. record {
         is_node = has_node (graph_in s);
-        next = λ node. ends-rows s.records node (rows_at direction labels node (rows_of s.records)) _ (rows_at_are s.records s.shape store labels types stand node direction) i;
+        next = λ node. ends-rows s.records node (rows_at direction labels node (rows_of s.records)) _
+            (rows_at_are s.records s.shape store labels types stand node direction) i;
       }
 
   -- the ends of a row are nodes
@@ -57,29 +60,34 @@ module _ (s : State) (store : IsStore s) where
         subst (λ (r : EdgeRow). has_node (graph_in s) r.to ≡ true) used.1 (node_there s.records (edge_at s.records x).to both.to),
       )
 
-  at_a_node : (direction : Direction) (labels : List ℕ) (node : ℕ) (row : EdgeRow) → Contains (rows_at direction labels node (rows_of s.records)) row → Contains (rows_of s.records) row
+  at_a_node : (direction : Direction) (labels : List ℕ) (node : ℕ) (row : EdgeRow) → Contains (rows_at direction labels node (rows_of s.records)) row
+      → Contains (rows_of s.records) row
   at_a_node directions.Outgoing labels node row has = (contains_filter _ (rows_of s.records) row has).0
   at_a_node directions.Incoming labels node row has = (contains_filter _ (rows_of s.records) row has).0
   at_a_node directions.Both labels node row has = in_both _ _ (rows_of s.records) row has
 
   -- neighbours are nodes
-  pub neighbour_there : (direction : Direction) (labels : List ℕ) (node end : ℕ) → Contains ((neighbours_at s direction labels).next node) end → has_node (graph_in s) end ≡ true
+  pub neighbour_there : (direction : Direction) (labels : List ℕ) (node end : ℕ) → Contains ((neighbours_at s direction labels).next node) end
+      → has_node (graph_in s) end ≡ true
   neighbour_there direction labels node end has =
       let image = contains_image (row_end node) (rows_at direction labels node (rows_of s.records)) end has in
       let row = image.0 in
       let both = row_nodes row (at_a_node direction labels node row image.1) in
       subst (λ n. has_node (graph_in s) n ≡ true) (sym image.2) (either (nat_eq row.from node) row both.0 both.1)
     where
-      either : (b : Bool) (row : EdgeRow) → has_node (graph_in s) row.from ≡ true → has_node (graph_in s) row.to ≡ true → has_node (graph_in s) (cond b row.to row.from) ≡ true
+      either : (b : Bool) (row : EdgeRow) → has_node (graph_in s) row.from ≡ true → has_node (graph_in s) row.to ≡ true
+          → has_node (graph_in s) (cond b row.to row.from) ≡ true
       either true row from to = to
       either false row from to = from
 
   -- the ends of the rows at a node, in any order
-  pub are_neighbours : (direction : Direction) (labels : List ℕ) (node : ℕ) (rows : List EdgeRow) (found : List ℕ) → rows ≡ rows_at direction labels node (rows_of s.records) → IsPermutation (map (row_end node) rows) found
+  pub are_neighbours : (direction : Direction) (labels : List ℕ) (node : ℕ) (rows : List EdgeRow) (found : List ℕ)
+      → rows ≡ rows_at direction labels node (rows_of s.records) → IsPermutation (map (row_end node) rows) found
       → AreNeighbours (neighbours_at s direction labels) node found
   are_neighbours direction labels node rows found is moved =
       let all = subst (λ (r : List EdgeRow). IsPermutation (map (row_end node) r) found) is moved in
-      let back = λ (end : ℕ) (has : Contains found end). Contains-permutation found ((neighbours_at s direction labels).next node) end (IsPermutation-sym ((neighbours_at s direction labels).next node) found all) has in
+      let back = λ (end : ℕ) (has : Contains found end). Contains-permutation found ((neighbours_at s direction labels).next node) end
+      (IsPermutation-sym ((neighbours_at s direction labels).next node) found all) has in
       record {
         only = back;
         all = λ end has. Contains-permutation ((neighbours_at s direction labels).next node) found end all has;

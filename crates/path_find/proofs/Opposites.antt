@@ -1,5 +1,6 @@
 -- Neighbours by edges seen from their other ends.
-use Rattle.std.proofs.Common.{◌≡◌, ℕ, Bool, true, false, nat_eq, ◌&&◌, cond, List, [], ◌∷◌, ◌++◌, length, map, Contains, refl, sym, ap, subst, ◌∙◌, arith, ⊎_elim}
+use Rattle.std.proofs.Common.{◌≡◌, ℕ, Bool, true, false, nat_eq, ◌&&◌, cond, List, [], ◌∷◌, ◌++◌, length, map, Contains}
+use Rattle.std.proofs.Common.{refl, sym, ap, subst, ◌∙◌, arith, ⊎_elim}
 use Rattle.std.specs.List.{filter}
 use Rattle.std.proofs.lemmas.List.{length_push}
 use Rattle.std.proofs.lemmas.List.Elements.{Contains-append_cases, Contains-append_left, Contains-append_right}
@@ -91,7 +92,8 @@ module _ (labels : List ℕ) (rows : List EdgeRow) where
 
   enters_back : (a b : ℕ) → IsEdge b a → Contains (map (row_end a) (entering a)) b
   enters_back a b edge =
-      let kept = filter_contains (is_entering a) rows edge.row edge.has (and-true (nat_eq edge.row.to a) (is_wanted labels edge.row.label) (equal edge.row.to a edge.to) edge.wanted) in
+      let kept = filter_contains (is_entering a) rows edge.row edge.has
+      (and-true (nat_eq edge.row.to a) (is_wanted labels edge.row.label) (equal edge.row.to a edge.to) edge.wanted) in
       subst (Contains (map (row_end a) (entering a))) (end_entering edge.row a edge.to ∙ edge.from) (image_contains (row_end a) (entering a) edge.row kept)
 
   map-both : (node : ℕ) (xs ys : List EdgeRow) → map (row_end node) (xs ++ ys) ≡ map (row_end node) xs ++ map (row_end node) ys
@@ -106,7 +108,8 @@ module _ (labels : List ℕ) (rows : List EdgeRow) where
       (λ (second : Contains (map (row_end a) (entering a)) b). Contains-append_left (map (row_end b) (leaving b)) (map (row_end b) (entering b)) a (leaves_back b a (enters a b second)))
       (Contains-append_cases (map (row_end a) (leaving a)) (map (row_end a) (entering a)) b (subst (λ (list : List ℕ). Contains list b) (map-both a (leaving a) (entering a)) has)))
 
-  edge_back : (direction : Direction) (a b : ℕ) → Contains (map (row_end a) (rows_at direction labels a rows)) b → Contains (map (row_end b) (rows_at (reversed direction) labels b rows)) a
+  edge_back : (direction : Direction) (a b : ℕ) → Contains (map (row_end a) (rows_at direction labels a rows)) b
+      → Contains (map (row_end b) (rows_at (reversed direction) labels b rows)) a
   edge_back directions.Outgoing a b has = enters_back b a (leaves a b has)
   edge_back directions.Incoming a b has = leaves_back b a (enters a b has)
   edge_back directions.Both a b has = both_back a b has
@@ -116,12 +119,15 @@ reversed-twice directions.Outgoing = refl
 reversed-twice directions.Incoming = refl
 reversed-twice directions.Both = refl
 
-pub opposite : (s : State) (direction : Direction) (labels : List ℕ) → AreOpposite (neighbours_at s direction labels) (neighbours_at s (reversed direction) labels)
+pub opposite : (s : State) (direction : Direction) (labels : List ℕ) → AreOpposite (neighbours_at s direction labels)
+    (neighbours_at s (reversed direction) labels)
 opposite s direction labels = record { node = λ n is. is; edge = edge_back labels (rows_of s.records) direction }
 
-pub opposite_back : (s : State) (direction : Direction) (labels : List ℕ) → AreOpposite (neighbours_at s (reversed direction) labels) (neighbours_at s direction labels)
+pub opposite_back : (s : State) (direction : Direction) (labels : List ℕ)
+    → AreOpposite (neighbours_at s (reversed direction) labels) (neighbours_at s direction labels)
 opposite_back s direction labels =
-    subst (λ (d : Direction). AreOpposite (neighbours_at s (reversed direction) labels) (neighbours_at s d labels)) (reversed-twice direction) (opposite s (reversed direction) labels)
+    subst (λ (d : Direction). AreOpposite (neighbours_at s (reversed direction) labels) (neighbours_at s d labels)) (reversed-twice direction)
+    (opposite s (reversed direction) labels)
 
 -- ---- walks, turned round
 

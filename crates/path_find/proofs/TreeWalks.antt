@@ -46,7 +46,8 @@ module _ (rows : Rows) (done : ℕ) (tree : IsTree rows done) where
         let grown = tree.grown j (omega arith) low in
         let level = grown.level in
         let earlier = grown.earlier in
-        let ordered : parent_at rows i ≤ parent_at rows j = elim (tree.order i j pos lt low) [ inl below ↦ omega arith | inr same ↦ let e = same.0 in omega (arith, e) ] in
+        let ordered : parent_at rows i ≤ parent_at rows j = elim (tree.order i j pos lt low)
+        [ inl below ↦ omega arith | inr same ↦ let e = same.0 in omega (arith, e) ] in
         let rest = level-rises l (parent_at rows i) (parent_at rows j) (parent_level i l (omega arith) is) ordered (omega (arith, earlier)) in
         omega (arith, rest, level)
     | inr ge ↦ let same : i ≡ j = omega arith in let e = ap (level_at rows) same in omega (arith, e)
@@ -54,7 +55,8 @@ module _ (rows : Rows) (done : ℕ) (tree : IsTree rows done) where
 
   pub length-way_to : (l i : ℕ) → length (way_to rows l i) ≡ l
   length-way_to zero i = refl
-  length-way_to (suc l) i = let long = length_push (way_to rows l (parent_at rows i)) (node_at rows i) in let rest = length-way_to l (parent_at rows i) in omega (arith, long, rest)
+  length-way_to (suc l) i = let long = length_push (way_to rows l (parent_at rows i)) (node_at rows i) in let rest = length-way_to l (parent_at rows i) in
+      omega (arith, long, rest)
 
   -- rows of a level stand in the order of their ways
   pub way_to-order : (l i j : ℕ) → level_at rows i ≡ l → level_at rows j ≡ l → i < j → j < row_count rows → IsEarlier (way_to rows l i) (way_to rows l j)
@@ -91,7 +93,8 @@ module _ (rows : Rows) (done : ℕ) (tree : IsTree rows done) where
     level-found i j low low' by = elim (cases_lt 0 j) [
       | inl pos ↦ elim by [
         | inl none ↦ absurd (omega arith)
-        | inr le ↦ let grown = (tree.grown j pos low').level in let rest = level-rises (level_at rows (parent_at rows j)) (parent_at rows j) i refl le low in omega (arith, grown, rest)
+        | inr le ↦ let grown = (tree.grown j pos low').level in let rest = level-rises (level_at rows (parent_at rows j)) (parent_at rows j) i refl le low in
+            omega (arith, grown, rest)
       ]
       | inr le ↦ let none : j ≡ 0 = omega arith in let root = tree.root in let same = ap (level_at rows) none in omega (arith, root, same)
     ]
@@ -105,7 +108,8 @@ module _ (rows : Rows) (done : ℕ) (tree : IsTree rows done) where
         pub level : level_at rows row ≤ steps
 
       -- where a walk leads from a row, there is a row
-      pub reached : (later : List ℕ) (at to i : ℕ) → i < row_count rows → node_at rows i ≡ at → LeadsTo near at later to → level_at rows i + length later ≤ most → IsReached to (level_at rows i + length later)
+      pub reached : (later : List ℕ) (at to i : ℕ) → i < row_count rows → node_at rows i ≡ at → LeadsTo near at later to → level_at rows i + length later ≤ most
+          → IsReached to (level_at rows i + length later)
       reached [] at to i low is leads few = record { row = i; low = low; is = is ∙ leads.1; level = omega arith }
       reached (node ∷ later) at to i low is leads few =
           let next = spans.found i node (complete i low (omega arith)) (subst (λ n. Contains (near.next n) node) (sym is) leads.1) in
@@ -115,7 +119,8 @@ module _ (rows : Rows) (done : ℕ) (tree : IsTree rows done) where
           record { row = rest.row; low = rest.low; is = rest.is; level = omega (arith, step, level) }
 
       -- no walk to a row is shorter than its level
-      pub level-least : (i : ℕ) (other : List ℕ) → i < row_count rows → LeadsTo near (node_at rows 0) other (node_at rows i) → length other ≤ most → level_at rows i ≤ length other
+      pub level-least : (i : ℕ) (other : List ℕ) → i < row_count rows → LeadsTo near (node_at rows 0) other (node_at rows i) → length other ≤ most
+          → level_at rows i ≤ length other
       level-least i other low leads few =
           let root = tree.root in
           let there = reached other (node_at rows 0) (node_at rows i) 0 tree.some refl leads (omega (arith, root)) in
@@ -124,7 +129,8 @@ module _ (rows : Rows) (done : ℕ) (tree : IsTree rows done) where
           omega (arith, same, level, root)
 
       -- the way to a row is the least of the walks of its length
-      pub way_to-least : (l i : ℕ) (other : List ℕ) → i < row_count rows → level_at rows i ≡ l → l ≤ most → LeadsTo near (node_at rows 0) other (node_at rows i) → length other ≡ l → IsNotAfter (way_to rows l i) other
+      pub way_to-least : (l i : ℕ) (other : List ℕ) → i < row_count rows → level_at rows i ≡ l → l ≤ most → LeadsTo near (node_at rows 0) other (node_at rows i)
+          → length other ≡ l → IsNotAfter (way_to rows l i) other
       way_to-least zero i other low is few leads long = tt
       way_to-least (suc l) i [] low is few leads long = absurd (omega arith)
       way_to-least (suc l) i (node ∷ later) low is few leads long =
@@ -135,7 +141,8 @@ module _ (rows : Rows) (done : ℕ) (tree : IsTree rows done) where
           let root = tree.root in
           let there = reached last.before (node_at rows 0) last.from 0 tree.some refl last.leads (omega (arith, root, before_long)) in
           let there_level = there.level in
-          let found = spans.found there.row (node_at rows i) (complete there.row there.low (omega (arith, there_level, root, before_long))) (subst (λ n. Contains (near.next n) (node_at rows i)) (sym there.is) last.edge) in
+          let found = spans.found there.row (node_at rows i) (complete there.row there.low (omega (arith, there_level, root, before_long)))
+          (subst (λ n. Contains (near.next n) (node_at rows i)) (sym there.is) last.edge) in
           let mine : found.row ≡ i = one_row found.row i found.low low found.is in
           let pos = row_later i l is in
           let from_there : parent_at rows i ≤ there.row = elim found.by [
@@ -145,9 +152,11 @@ module _ (rows : Rows) (done : ℕ) (tree : IsTree rows done) where
           let up = parent_level i l low is in
           let above = level-rises l (parent_at rows i) there.row up from_there there.low in
           let there_is : level_at rows there.row ≡ l = omega (arith, above, there_level, root, before_long) in
-          let rest = way_to-least l there.row last.before there.low there_is (omega arith) (subst (LeadsTo near (node_at rows 0) last.before) (sym there.is) last.leads) before_long in
+          let rest = way_to-least l there.row last.before there.low there_is (omega arith)
+          (subst (LeadsTo near (node_at rows 0) last.before) (sym there.is) last.leads) before_long in
           let upto : IsNotAfter (way_to rows l (parent_at rows i)) last.before = elim (cases_lt (parent_at rows i) there.row) [
-            | inl lt ↦ not_after-earlier (way_to rows l (parent_at rows i)) (way_to rows l there.row) last.before (way_to-order l (parent_at rows i) there.row up there_is lt there.low) rest
+            | inl lt ↦ not_after-earlier (way_to rows l (parent_at rows i)) (way_to rows l there.row) last.before
+                (way_to-order l (parent_at rows i) there.row up there_is lt there.low) rest
             | inr ge ↦ let same : there.row ≡ parent_at rows i = omega arith in subst (λ p. IsNotAfter (way_to rows l p) last.before) same rest
           ] in
           let lengths = length-way_to l (parent_at rows i) in

@@ -5,7 +5,8 @@ use Rattle.plain_graph.specs.Walks.{LeadsTo}
 
 module _ (near : Adjacency) where
   -- on by one edge
-  pub LeadsTo-push : (later : List ℕ) (at to node : ℕ) → LeadsTo near at later to → Contains (near.next to) node → near.is_node node ≡ true → LeadsTo near at (later ++ node ∷ []) node
+  pub LeadsTo-push : (later : List ℕ) (at to node : ℕ) → LeadsTo near at later to → Contains (near.next to) node → near.is_node node ≡ true
+      → LeadsTo near at (later ++ node ∷ []) node
   LeadsTo-push [] at to node leads next is = (leads.0, subst (λ n. Contains (near.next n) node) (sym leads.1) next, (is, refl))
   LeadsTo-push (first ∷ later) at to node leads next is = (leads.0, leads.1, LeadsTo-push later first to node leads.2 next is)
 

@@ -12,7 +12,8 @@ module _ (rows : Rows) (done : ℕ) (tree : IsTree rows done) (at : ℕ) (low : 
   ]
 
   -- the way is one node longer than the one to the parent
-  pub way_back : (way walk walk' : List ℕ) → 0 < level_at rows at → way ≡ way_to rows (level_at rows at) at ++ reverse walk → walk' ≡ walk ++ node_at rows at ∷ []
+  pub way_back : (way walk walk' : List ℕ) → 0 < level_at rows at → way ≡ way_to rows (level_at rows at) at ++ reverse walk
+      → walk' ≡ walk ++ node_at rows at ∷ []
       → way ≡ way_to rows (level_at rows (parent_at rows at)) (parent_at rows at) ++ reverse walk'
   way_back way walk walk' some is more =
       let up = (tree.grown at (pos_at some) low).level in

@@ -27,7 +27,8 @@ pub record IsTaking {R : Type 0} (space : SpaceGhosts R) (names : List (List ℕ
   pub read : IsRead space old now
 
 -- nothing was found yet
-pub taking-first : {R : Type 0} (space : SpaceGhosts R) (names : List (List ℕ)) → ((a : R) → space.onward a a) → (r : R) (run : Run) → stopped_by run ≡ None → IsTaking space names run r r [] run
+pub taking-first : {R : Type 0} (space : SpaceGhosts R) (names : List (List ℕ)) → ((a : R) → space.onward a a) → (r : R) (run : Run) → stopped_by run ≡ None
+    → IsTaking space names run r r [] run
 taking-first space names stays r run goes = record {
   coming = λ tells store. refl;
   shown = tt;
@@ -35,7 +36,8 @@ taking-first space names stays r run goes = record {
   read = record { same = refl; onward = stays r; later = omega arith };
 }
 
-module _ {R : Type 0} (space : SpaceGhosts R) (names : List (List ℕ)) (first : Run) (further : (a b c : R) → space.onward a b → space.onward b c → space.onward a c) (old now : R) (found : List Item) (run : Run)
+module _ {R : Type 0} (space : SpaceGhosts R) (names : List (List ℕ)) (first : Run)
+    (further : (a b c : R) → space.onward a b → space.onward b c → space.onward a c) (old now : R) (found : List Item) (run : Run)
     (taking : IsTaking space names first old now found run) where
   -- what the run says of the records as they are now, it says of those at the start
   at_start : (P : Graph → Type 0) → (space.tells → IsNamedStore (space.state now).records (space.state now).shape names → P (graph_of (space.state now).records))
@@ -50,7 +52,8 @@ module _ {R : Type 0} (space : SpaceGhosts R) (names : List (List ℕ)) (first :
     coming = λ tells store.
         let is : to_come (graph_of (space.state old).records) run ≡ with_first (item ∷ []) (to_come (graph_of (space.state old).records) later) =
         at_start (λ graph. to_come graph run ≡ with_first (item ∷ []) (to_come graph later)) comes tells store in
-        taking.coming tells store ∙ ap (λ (s : Stream). found ++ s.items) is ∙ sym (append_assoc found (item ∷ []) (to_come (graph_of (space.state old).records) later).items);
+        taking.coming tells store ∙ ap (λ (s : Stream). found ++ s.items) is
+        ∙ sym (append_assoc found (item ∷ []) (to_come (graph_of (space.state old).records) later).items);
     shown = all_end IsShown found item taking.shown shown;
     goes = goes;
     read = is_read-on space further old now next taking.read reads;

@@ -37,7 +37,8 @@ same_tests false true to back = back refl
 same_tests false false to back = refl
 
 -- two lists with the same members
-same_any : (xs ys : List ℕ) → ((x : ℕ) → Contains xs x → Contains ys x) → ((x : ℕ) → Contains ys x → Contains xs x) → (x : ℕ) → list_any (nat_eq x) xs ≡ list_any (nat_eq x) ys
+same_any : (xs ys : List ℕ) → ((x : ℕ) → Contains xs x → Contains ys x) → ((x : ℕ) → Contains ys x → Contains xs x) → (x : ℕ)
+    → list_any (nat_eq x) xs ≡ list_any (nat_eq x) ys
 same_any xs ys to back x = same_tests (list_any (nat_eq x) xs) (list_any (nat_eq x) ys)
     (λ e. contains_any x ys (to x (any_contains x xs e))) (λ e. contains_any x xs (back x (any_contains x ys e)))
 

@@ -1,5 +1,6 @@
 -- What a lookup says of the numbers of two names, of the names.
-use Rattle.std.proofs.Common.{◌≡◌, ◌<◌, ◌∙◌, ℕ, None, Some, Result, Ok, Err, IfErr, IfOk, OnOk, List, Vec, map, false, true, true≢false, sym, ap, subst, inl, inr}
+use Rattle.std.proofs.Common.{◌≡◌, ◌<◌, ◌∙◌, ℕ, None, Some, Result, Ok, Err, IfErr, IfOk, OnOk, List, Vec, map, false}
+use Rattle.std.proofs.Common.{true, true≢false, sym, ap, subst, inl, inr}
 use Rattle.std.proofs.lemmas.Bool.{eqb-true}
 use Rattle.std.proofs.lemmas.Cmp.{nat_eq_equiv}
 use Rattle.plain_graph.specs.Indexes.{has_index, scan}
@@ -40,7 +41,8 @@ err-then (Ok value) more holds = tt
 err-then (Err fault) more holds = more fault holds
 
 -- whatever a lookup answers, it reads no more than one
-pub looked-reads : (l k : ℕ) (value : Value) (s t : State) (result : Result (Vec ℕ Global) LookupFault) → OnOk result (ReadsForLookup l k value s t) → IfErr result (ReadsForRefusal l k value s t) → ReadsForEither l k value s t
+pub looked-reads : (l k : ℕ) (value : Value) (s t : State) (result : Result (Vec ℕ Global) LookupFault) → OnOk result (ReadsForLookup l k value s t)
+    → IfErr result (ReadsForRefusal l k value s t) → ReadsForEither l k value s t
 looked-reads l k value s t (Ok nodes) found refused = inl found
 looked-reads l k value s t (Err faults.NoIndex) found refused = inr refused
 looked-reads l k value s t (Err faults.Memory) found refused = refused
@@ -101,7 +103,8 @@ module _ (s : Records) (shape : Shape) (store : IsIndexed s shape) (label key : 
           ap (map items.Vertex) (is ∙ (λ i. nodes_having (graph_of s) (sym own_label i) (sym own_key i) value)) ∙ sym (scan-having s label key value)
 
       -- the index is one of the graph
-      pub found-index : (ds : List ℕ) → IsWalk (next_definition s) (first_definition s) ds → (d : ℕ) → In d ds → IsPair s l k d → has_index (graph_of s) label key ≡ true
+      pub found-index : (ds : List ℕ) → IsWalk (next_definition s) (first_definition s) ds → (d : ℕ) → In d ds → IsPair s l k d
+          → has_index (graph_of s) label key ≡ true
       found-index ds walked d i pair =
           (λ j. has_index (graph_of s) (own_label j) (own_key j))
           ∙ has_defined s shape store l k d label_low key_low (subst (λ (xs : List ℕ). In d xs) (walk_is (next_definition s) (first_definition s) ds store.indexes.definitions walked store.indexes.walk) i) pair

@@ -1,5 +1,6 @@
 -- A run begins with all that its query means.
-use Rattle.std.proofs.Common.{◌≡◌, ℕ, ◌+◌, suc, zero, List, [], ◌∷◌, ◌++◌, length, map, refl, sym, ap, ◌∙◌, append_assoc, zero-add, pos, Bool, true, false, ◌||◌, nat_lt, cond, arith}
+use Rattle.std.proofs.Common.{◌≡◌, ℕ, ◌+◌, suc, zero, List, [], ◌∷◌, ◌++◌, length, map, refl, sym, ap, ◌∙◌}
+use Rattle.std.proofs.Common.{append_assoc, zero-add, pos, Bool, true, false, ◌||◌, nat_lt, cond, arith}
 use Rattle.std.specs.List.{filter, flat_map}
 use Rattle.plain_graph.specs.Graph.{Graph}
 use Rattle.plain_graph.specs.declared.item.Item.{Item}
@@ -36,25 +37,30 @@ through-append graph (row ∷ rows) more coming = through-append graph rows more
 abbrev changed : (List Item → List Item) → Stream → Stream
 changed f coming = record { items = f coming.items; past = coming.past }
 
-no_count : (graph : Graph) (stage : Stage) (coming : Stream) → counts_past stage coming.items ≡ false → after_row graph (fresh stage) coming ≡ changed (after_stage graph stage) coming
+no_count : (graph : Graph) (stage : Stage) (coming : Stream) → counts_past stage coming.items ≡ false
+    → after_row graph (fresh stage) coming ≡ changed (after_stage graph stage) coming
 no_count graph stage coming none = λ i. record { items = after_stage graph stage coming.items; past = (ap (λ (b : Bool). coming.past || b) none ∙ or_false coming.past) i }
 
 filtered_all : (graph : Graph) (test : Filter) (list : List Item) → flat_map (filtered graph test) list ≡ filter (passes graph test) list
 filtered_all graph test [] = refl
-filtered_all graph test (item ∷ list) = by (passes graph test item) ∙ ap (λ rest. cond (passes graph test item) (item ∷ rest) rest) (filtered_all graph test list)
+filtered_all graph test (item ∷ list) = by (passes graph test item) ∙ ap (λ rest. cond (passes graph test item) (item ∷ rest) rest)
+    (filtered_all graph test list)
   where
-    by : (b : Bool) → cond b (item ∷ []) [] ++ flat_map (filtered graph test) list ≡ cond b (item ∷ flat_map (filtered graph test) list) (flat_map (filtered graph test) list)
+    by : (b : Bool) → cond b (item ∷ []) [] ++ flat_map (filtered graph test) list ≡ cond b (item ∷ flat_map (filtered graph test) list)
+        (flat_map (filtered graph test) list)
     by true = refl
     by false = refl
 
 through_body : (graph : Graph) (body : List BodyStep) (coming : Stream) → through graph (map body_row body) coming ≡ changed (after_bodies graph body) coming
 through_body graph [] coming = refl
-through_body graph (bodies.Neighbours hop ∷ body) coming = ap (through graph (map body_row body)) (no_count graph (stages.Mapped (mappings.Neighbours hop)) coming refl) ∙ through_body graph body (changed (after_body graph (bodies.Neighbours hop)) coming)
+through_body graph (bodies.Neighbours hop ∷ body) coming = ap (through graph (map body_row body))
+    (no_count graph (stages.Mapped (mappings.Neighbours hop)) coming refl) ∙ through_body graph body (changed (after_body graph (bodies.Neighbours hop)) coming)
 through_body graph (bodies.Filter test ∷ body) coming =
     ap (through graph (map body_row body)) (no_count graph (stages.Mapped (mappings.Filter test)) coming refl ∙ (λ i. record { items = filtered_all graph test coming.items i; past = coming.past }))
     ∙ through_body graph body (changed (after_body graph (bodies.Filter test)) coming)
 
-through_repeat : (graph : Graph) (body : List BodyStep) (times : ℕ) (coming : Stream) → through graph (repeat_rows times (map body_row body)) coming ≡ changed (repeated graph body times) coming
+through_repeat : (graph : Graph) (body : List BodyStep) (times : ℕ) (coming : Stream)
+    → through graph (repeat_rows times (map body_row body)) coming ≡ changed (repeated graph body times) coming
 through_repeat graph body zero coming = refl
 through_repeat graph body (suc times) coming =
     through-append graph (map body_row body) (repeat_rows times (map body_row body)) coming
@@ -65,16 +71,20 @@ through_repeat graph body (suc times) coming =
 abbrev stepped : Graph → Step → Stream → Stream
 stepped graph step coming = record { items = after_step graph step coming.items; past = coming.past || step_past step coming.items }
 
-quiet_step : (graph : Graph) (step : Step) (coming out : Stream) → out ≡ changed (after_step graph step) coming → step_past step coming.items ≡ false → out ≡ stepped graph step coming
+quiet_step : (graph : Graph) (step : Step) (coming out : Stream) → out ≡ changed (after_step graph step) coming → step_past step coming.items ≡ false
+    → out ≡ stepped graph step coming
 quiet_step graph step coming out same none = same ∙ (λ i. record { items = after_step graph step coming.items; past = sym (ap (λ (b : Bool). coming.past || b) none ∙ or_false coming.past) i })
 
 through_step : (graph : Graph) (step : Step) (coming : Stream) → through graph (rows_of_step step) coming ≡ stepped graph step coming
-through_step graph (steps.Repeat body times) coming = quiet_step graph (steps.Repeat body times) coming (through graph (rows_of_step (steps.Repeat body times)) coming) (through_repeat graph body times coming) refl
+through_step graph (steps.Repeat body times) coming = quiet_step graph (steps.Repeat body times) coming
+    (through graph (rows_of_step (steps.Repeat body times)) coming) (through_repeat graph body times coming) refl
 through_step graph (steps.Values []) coming = refl
 through_step graph (steps.Values (key ∷ keys)) coming = refl
 through_step graph (steps.Filter test) coming = quiet_step graph (steps.Filter test) coming (through graph (rows_of_step (steps.Filter test)) coming)
-    (no_count graph (stages.Mapped (mappings.Filter test)) coming refl ∙ (λ i. record { items = filtered_all graph test coming.items i; past = coming.past })) refl
-through_step graph steps.Count coming = let len : 0 + length coming.items ≡ length coming.items = zero-add (length coming.items) in λ i. record { items = items.Value (values.Int (pos (len i))) ∷ []; past = coming.past || nat_lt 9223372036854775807 (len i) }
+    (no_count graph (stages.Mapped (mappings.Filter test)) coming refl ∙ (λ i. record { items = filtered_all graph test coming.items i; past = coming.past }))
+    refl
+through_step graph steps.Count coming = let len : 0 + length coming.items ≡ length coming.items = zero-add (length coming.items) in λ i.
+    record { items = items.Value (values.Int (pos (len i))) ∷ []; past = coming.past || nat_lt 9223372036854775807 (len i) }
 through_step graph step coming = refl
 
 -- what the steps make of a stream

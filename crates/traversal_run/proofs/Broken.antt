@@ -55,27 +55,32 @@ rel_blamed s id (row.Damaged d) told = rel_breaks s id d told
 live : (records : Records) (file x : ℕ) → kind_at records file x ≢ 0 → is_live records file x ≡ true
 live records file x used = ap not (eq_false (kind_at records file x) 0 used)
 
-pub node_unnamed : (s : State) (id : ℕ) (node : NodeRow) → Some node ≡ nodes.row_at s.records id → name_count s.records ≤ node.label → Breaks s.records s.shape (damage format.nodes_file id 5)
+pub node_unnamed : (s : State) (id : ℕ) (node : NodeRow) → Some node ≡ nodes.row_at s.records id → name_count s.records ≤ node.label
+    → Breaks s.records s.shape (damage format.nodes_file id 5)
 node_unnamed s id node found high_label =
     let is = node_rows.kind-row_at-Some s.records id node (sym found) in
     WrongElement format.nodes_file id refl (kind_below (high s.records format.nodes_file) (rec_at s.records format.nodes_file id) id is.0)
     (λ keeps. let low = subst (λ (r : NodeRow). r.label < name_count s.records) (sym is.1) (keeps.named (live s.records format.nodes_file id is.0)) in omega arith)
 
-pub rel_unnamed : (s : State) (id : ℕ) (rel : RelRow) → Some rel ≡ rels.row_at s.records id → name_count s.records ≤ rel.label → Breaks s.records s.shape (damage format.relationships_file id 5)
+pub rel_unnamed : (s : State) (id : ℕ) (rel : RelRow) → Some rel ≡ rels.row_at s.records id → name_count s.records ≤ rel.label
+    → Breaks s.records s.shape (damage format.relationships_file id 5)
 rel_unnamed s id rel found high_label =
     let is = rel_rows.kind-row_at-Some s.records id rel (sym found) in
     WrongElement format.relationships_file id refl (kind_below (high s.records format.relationships_file) (rec_at s.records format.relationships_file id) id is.0)
     (λ keeps. let low = subst (λ (r : RelRow). r.label < name_count s.records) is.1 (keeps.named (live s.records format.relationships_file id is.0)) in omega arith)
 
-all_named : (records : Records) (mark : ℕ) (ps : List ℕ) → ((p : ℕ) → In p ps → key_of records p < mark) → list_all (λ (prop : Prop). nat_lt prop.key mark) (map prop_of (map (property_at (property_records records)) ps)) ≡ true
+all_named : (records : Records) (mark : ℕ) (ps : List ℕ) → ((p : ℕ) → In p ps → key_of records p < mark)
+    → list_all (λ (prop : Prop). nat_lt prop.key mark) (map prop_of (map (property_at (property_records records)) ps)) ≡ true
 all_named records mark [] named = refl
 all_named records mark (p ∷ ps) named = (λ i. lt_true (key_of records p) mark (named p (inl refl)) i && all_named records mark ps (λ q at. named q (inr at)) i)
 
-pub keys_below : (mark : ℕ) (es : List Property) → ((key : ℕ) → In key (keys_of es) → key < mark) → list_all (λ (prop : Prop). nat_lt prop.key mark) (map prop_of es) ≡ true
+pub keys_below : (mark : ℕ) (es : List Property) → ((key : ℕ) → In key (keys_of es) → key < mark)
+    → list_all (λ (prop : Prop). nat_lt prop.key mark) (map prop_of es) ≡ true
 keys_below mark [] known = refl
 keys_below mark (e ∷ es) known = (λ i. lt_true e.key mark (known e.key (inl refl)) i && keys_below mark es (λ key at. known key (inr at)) i)
 
-pub owner_unnamed : (s : State) (owner : Owner) → IsOwner owner → IsInUse s.records owner → (props : List Prop) → props ≡ map prop_of (properties_met s.records owner)
+pub owner_unnamed : (s : State) (owner : Owner) → IsOwner owner → IsInUse s.records owner → (props : List Prop)
+    → props ≡ map prop_of (properties_met s.records owner)
     → list_all (λ (prop : Prop). nat_lt prop.key (name_count s.records)) props ≡ false → Breaks s.records s.shape (damage owner.key.file owner.key.id 5)
 owner_unnamed s owner is used props met some = element_breaks s owner is used (λ members list.
     let ids : property_ids (rec_at s.records format.properties_file) (first_of s.records owner) ≡ members

@@ -24,7 +24,8 @@ use Rattle.traversal_run.proofs.Texts.{is_text-pointwise}
 -- ---- values by their codes
 
 signed_back : (number : ℤ) → FitsSigned w64 number → cast_signed w64 (from_le_bytes w64 (to_le_bytes w64 (cast_unsigned w64 number))) ≡ number
-signed_back number fits = ap (cast_signed w64) (from_le_bytes-to_le_bytes_8 (cast_unsigned w64 number) (Fits-lt-pow (Fits-of_z fits))) ∙ to_z-of_z w64 number fits
+signed_back number fits = ap (cast_signed w64) (from_le_bytes-to_le_bytes_8 (cast_unsigned w64 number) (Fits-lt-pow (Fits-of_z fits)))
+    ∙ to_z-of_z w64 number fits
 
 -- the code of a value is read back
 decoded : (value : Value) → IsInRange value → value_of (code_of value) ≡ value
@@ -56,7 +57,8 @@ itself (values.Bool false) = refl
 itself (values.Text text) = is_text-pointwise text text ∙ nat_list_eq_equiv.refl text
 
 -- values in their ranges are the same where their codes are
-code_same : (value other : Value) → IsInRange value → IsInRange other → pointwise nat_eq (code_of value) (code_of other) ≡ is_same (items.Value value) (items.Value other)
+code_same : (value other : Value) → IsInRange value → IsInRange other → pointwise nat_eq (code_of value) (code_of other) ≡ is_same (items.Value value)
+    (items.Value other)
 code_same value other range there = same_tests (pointwise nat_eq (code_of value) (code_of other)) (is_same (items.Value value) (items.Value other))
     (λ e.
     let codes = same_text (code_of value) (code_of other) (sym e) in
@@ -75,17 +77,20 @@ codes-more : (codes : List (List ℕ)) (value : Value) → IsInRange value → A
 codes-more [] value range are = (code_is value range, tt)
 codes-more (code ∷ codes) value range are = (are.0, codes-more codes value range are.1)
 
-pub codes-kept : (codes kept : List (List ℕ)) (value : Value) (is_new : Bool) → IsInRange value → AreCodes codes → kept ≡ cond is_new (codes ++ code_of value ∷ []) codes → AreCodes kept
+pub codes-kept : (codes kept : List (List ℕ)) (value : Value) (is_new : Bool) → IsInRange value → AreCodes codes
+    → kept ≡ cond is_new (codes ++ code_of value ∷ []) codes → AreCodes kept
 codes-kept codes kept value true range are is = subst AreCodes (sym is) (codes-more codes value range are)
 codes-kept codes kept value false range are is = subst AreCodes (sym is) are
 
 -- ---- which were seen
 
 -- a value was seen where its code was
-codes-values : (value : Value) → IsInRange value → (codes : List (List ℕ)) → AreCodes codes → list_any (pointwise nat_eq (code_of value)) codes ≡ list_any (is_same (items.Value value)) (map value_item codes)
+codes-values : (value : Value) → IsInRange value → (codes : List (List ℕ)) → AreCodes codes
+    → list_any (pointwise nat_eq (code_of value)) codes ≡ list_any (is_same (items.Value value)) (map value_item codes)
 codes-values value range [] are = refl
 codes-values value range (code ∷ codes) are =
-    let first : pointwise nat_eq (code_of value) code ≡ is_same (items.Value value) (value_item code) = ap (pointwise nat_eq (code_of value)) (sym are.0.is) ∙ code_same value (value_of code) range are.0.range in
+    let first : pointwise nat_eq (code_of value) code ≡ is_same (items.Value value) (value_item code) = ap (pointwise nat_eq (code_of value)) (sym are.0.is)
+    ∙ code_same value (value_of code) range are.0.range in
     λ i. first i || codes-values value range codes are.1 i
 
 -- an element where its identifier was
@@ -98,7 +103,8 @@ ids-edges id from to label [] = refl
 ids-edges id from to label (x ∷ xs) = ap (λ b. nat_eq id x || b) (ids-edges id from to label xs)
 
 -- none of another kind is the same
-none-in : {X : Type 0} (make : X → Item) (item : Item) → ((x : X) → is_same item (make x) ≡ false) → (xs : List X) → list_any (is_same item) (map make xs) ≡ false
+none-in : {X : Type 0} (make : X → Item) (item : Item) → ((x : X) → is_same item (make x) ≡ false) → (xs : List X)
+    → list_any (is_same item) (map make xs) ≡ false
 none-in make item none [] = refl
 none-in make item none (x ∷ xs) = λ i. none x i || none-in make item none xs i
 
@@ -110,25 +116,30 @@ mid_false : (a : Bool) → false || (a || false) ≡ a
 mid_false true = refl
 mid_false false = refl
 
-any-seen : (p : Item → Bool) (vertices edges : List ℕ) (codes : List (List ℕ)) → list_any p (seen_items vertices edges codes) ≡ list_any p (map items.Vertex vertices) || (list_any p (map bare_edge edges) || list_any p (map value_item codes))
+any-seen : (p : Item → Bool) (vertices edges : List ℕ) (codes : List (List ℕ))
+    → list_any p (seen_items vertices edges codes) ≡ list_any p (map items.Vertex vertices) ||
+    (list_any p (map bare_edge edges) || list_any p (map value_item codes))
 any-seen p vertices edges codes =
     list_any-append p (map items.Vertex vertices) (map bare_edge edges ++ map value_item codes)
     ∙ ap (λ b. list_any p (map items.Vertex vertices) || b) (list_any-append p (map bare_edge edges) (map value_item codes))
 
-seen-vertex : (id : ℕ) (vertices edges : List ℕ) (codes : List (List ℕ)) → list_any (is_same (items.Vertex id)) (seen_items vertices edges codes) ≡ list_any (nat_eq id) vertices
+seen-vertex : (id : ℕ) (vertices edges : List ℕ) (codes : List (List ℕ))
+    → list_any (is_same (items.Vertex id)) (seen_items vertices edges codes) ≡ list_any (nat_eq id) vertices
 seen-vertex id vertices edges codes =
     any-seen (is_same (items.Vertex id)) vertices edges codes
     ∙ (λ i. ids-vertices id vertices i || (none-in bare_edge (items.Vertex id) (λ x. refl) edges i || none-in value_item (items.Vertex id) (λ x. refl) codes i))
     ∙ last_false (list_any (nat_eq id) vertices)
 
-seen-edge : (id from to : ℕ) (label : List ℕ) (vertices edges : List ℕ) (codes : List (List ℕ)) → list_any (is_same (items.Edge id label from to)) (seen_items vertices edges codes) ≡ list_any (nat_eq id) edges
+seen-edge : (id from to : ℕ) (label : List ℕ) (vertices edges : List ℕ) (codes : List (List ℕ))
+    → list_any (is_same (items.Edge id label from to)) (seen_items vertices edges codes) ≡ list_any (nat_eq id) edges
 seen-edge id from to label vertices edges codes =
     let item = items.Edge id label from to in
     any-seen (is_same item) vertices edges codes
     ∙ (λ i. none-in items.Vertex item (λ x. refl) vertices i || (ids-edges id from to label edges i || none-in value_item item (λ x. refl) codes i))
     ∙ mid_false (list_any (nat_eq id) edges)
 
-seen-value : (value : Value) → IsInRange value → (vertices edges : List ℕ) (codes : List (List ℕ)) → AreCodes codes → list_any (is_same (items.Value value)) (seen_items vertices edges codes) ≡ list_any (pointwise nat_eq (code_of value)) codes
+seen-value : (value : Value) → IsInRange value → (vertices edges : List ℕ) (codes : List (List ℕ)) → AreCodes codes
+    → list_any (is_same (items.Value value)) (seen_items vertices edges codes) ≡ list_any (pointwise nat_eq (code_of value)) codes
 seen-value value range vertices edges codes are =
     let item = items.Value value in
     let own = sym (codes-values value range codes are) in
@@ -138,18 +149,22 @@ seen-value value range vertices edges codes are =
 -- ---- one more item
 
 -- of the items seen, only which they are the same as counts
-unseen-seen : (seen other later : List Item) → ((item : Item) → list_any (is_same item) seen ≡ list_any (is_same item) other) → unseen seen later ≡ unseen other later
+unseen-seen : (seen other later : List Item) → ((item : Item) → list_any (is_same item) seen ≡ list_any (is_same item) other)
+    → unseen seen later ≡ unseen other later
 unseen-seen seen other [] same = refl
 unseen-seen seen other (item ∷ later) same =
-    let more = unseen-seen (seen ++ item ∷ []) (other ++ item ∷ []) later (λ x. list_any-append (is_same x) seen (item ∷ []) ∙ ap (λ b. b || list_any (is_same x) (item ∷ [])) (same x) ∙ sym (list_any-append (is_same x) other (item ∷ []))) in
+    let more = unseen-seen (seen ++ item ∷ []) (other ++ item ∷ []) later
+    (λ x. list_any-append (is_same x) seen (item ∷ []) ∙ ap (λ b. b || list_any (is_same x) (item ∷ [])) (same x) ∙ sym (list_any-append (is_same x) other (item ∷ []))) in
     λ i. cond (same item i) (unseen-seen seen other later same i) (item ∷ more i)
 
 -- an item is kept where it is new
-unseen-added : (seen added kept : List Item) (item : Item) (is_new : Bool) → is_new ≡ not (list_any (is_same item) seen) → ((x : Item) → list_any (is_same x) (seen ++ item ∷ []) ≡ list_any (is_same x) added)
+unseen-added : (seen added kept : List Item) (item : Item) (is_new : Bool) → is_new ≡ not (list_any (is_same item) seen)
+    → ((x : Item) → list_any (is_same x) (seen ++ item ∷ []) ≡ list_any (is_same x) added)
     → kept ≡ cond is_new added seen → (later : List Item) → unseen seen (item ∷ later) ≡ cond is_new (item ∷ []) [] ++ unseen kept later
 unseen-added seen added kept item is_new is same is_kept later = by (list_any (is_same item) seen) is_new is is_kept
   where
-    by : (b n : Bool) → n ≡ not b → kept ≡ cond n added seen → cond b (unseen seen later) (item ∷ unseen (seen ++ item ∷ []) later) ≡ cond n (item ∷ []) [] ++ unseen kept later
+    by : (b n : Bool) → n ≡ not b → kept ≡ cond n added seen → cond b (unseen seen later) (item ∷ unseen (seen ++ item ∷ []) later) ≡ cond n (item ∷ [])
+        [] ++ unseen kept later
     by true false e k = ap (λ list. unseen list later) (sym k)
     by false true e k = ap (λ rest. item ∷ rest) (unseen-seen (seen ++ item ∷ []) added later same ∙ ap (λ list. unseen list later) (sym k))
     by true true e k = absurd cc
@@ -174,15 +189,20 @@ or_last false false c p = refl
 -- the list that is seen after one more, by its parts
 after-item : (p : Item → Bool) (vertices edges : List ℕ) (codes : List (List ℕ)) (item : Item)
     → list_any p (seen_items vertices edges codes ++ item ∷ []) ≡ (list_any p (map items.Vertex vertices) || (list_any p (map bare_edge edges) || list_any p (map value_item codes))) || (p item || false)
-after-item p vertices edges codes item = list_any-append p (seen_items vertices edges codes) (item ∷ []) ∙ ap (λ b. b || (p item || false)) (any-seen p vertices edges codes)
+after-item p vertices edges codes item = list_any-append p (seen_items vertices edges codes) (item ∷ [])
+    ∙ ap (λ b. b || (p item || false)) (any-seen p vertices edges codes)
 
-more-in : {X : Type 0} (p : Item → Bool) (make : X → Item) (xs : List X) (x : X) → list_any p (map make (xs ++ x ∷ [])) ≡ list_any p (map make xs) || (p (make x) || false)
+more-in : {X : Type 0} (p : Item → Bool) (make : X → Item) (xs : List X) (x : X)
+    → list_any p (map make (xs ++ x ∷ [])) ≡ list_any p (map make xs) || (p (make x) || false)
 more-in p make xs x = ap (list_any p) (map-append make xs (x ∷ [])) ∙ list_any-append p (map make xs) (make x ∷ [])
 
-pub unseen-vertex : (vertices edges : List ℕ) (codes : List (List ℕ)) (id : ℕ) (kept : List ℕ) (is_new : Bool) → is_new ≡ not (list_any (nat_eq id) vertices) → kept ≡ cond is_new (vertices ++ id ∷ []) vertices
-    → (later : List Item) → unseen (seen_items vertices edges codes) (items.Vertex id ∷ later) ≡ cond is_new (items.Vertex id ∷ []) [] ++ unseen (seen_items kept edges codes) later
+pub unseen-vertex : (vertices edges : List ℕ) (codes : List (List ℕ)) (id : ℕ) (kept : List ℕ) (is_new : Bool) → is_new ≡ not (list_any (nat_eq id) vertices)
+    → kept ≡ cond is_new (vertices ++ id ∷ []) vertices
+    → (later : List Item) → unseen (seen_items vertices edges codes) (items.Vertex id ∷ later) ≡ cond is_new (items.Vertex id ∷ []) [] ++ unseen
+    (seen_items kept edges codes) later
 unseen-vertex vertices edges codes id kept is_new is is_kept =
-    unseen-added (seen_items vertices edges codes) (seen_items (vertices ++ id ∷ []) edges codes) (seen_items kept edges codes) (items.Vertex id) is_new (is ∙ ap not (sym (seen-vertex id vertices edges codes)))
+    unseen-added (seen_items vertices edges codes) (seen_items (vertices ++ id ∷ []) edges codes) (seen_items kept edges codes) (items.Vertex id) is_new
+    (is ∙ ap not (sym (seen-vertex id vertices edges codes)))
     (λ x.
     let p = is_same x in
     let rest = list_any p (map bare_edge edges) || list_any p (map value_item codes) in
@@ -192,7 +212,8 @@ unseen-vertex vertices edges codes id kept is_new is is_kept =
     ∙ sym (any-seen p (vertices ++ id ∷ []) edges codes))
     (by is_new is_kept)
   where
-    by : (n : Bool) → kept ≡ cond n (vertices ++ id ∷ []) vertices → seen_items kept edges codes ≡ cond n (seen_items (vertices ++ id ∷ []) edges codes) (seen_items vertices edges codes)
+    by : (n : Bool) → kept ≡ cond n (vertices ++ id ∷ []) vertices → seen_items kept edges codes ≡ cond n (seen_items (vertices ++ id ∷ []) edges codes)
+        (seen_items vertices edges codes)
     by true k = ap (λ list. seen_items list edges codes) k
     by false k = ap (λ list. seen_items list edges codes) k
 
@@ -202,10 +223,13 @@ bare_same (items.Vertex other) id from to label = refl
 bare_same (items.Edge other name source target) id from to label = refl
 bare_same (items.Value value) id from to label = refl
 
-pub unseen-edge : (vertices edges : List ℕ) (codes : List (List ℕ)) (id from to : ℕ) (label : List ℕ) (kept : List ℕ) (is_new : Bool) → is_new ≡ not (list_any (nat_eq id) edges) → kept ≡ cond is_new (edges ++ id ∷ []) edges
-    → (later : List Item) → unseen (seen_items vertices edges codes) (items.Edge id label from to ∷ later) ≡ cond is_new (items.Edge id label from to ∷ []) [] ++ unseen (seen_items vertices kept codes) later
+pub unseen-edge : (vertices edges : List ℕ) (codes : List (List ℕ)) (id from to : ℕ) (label : List ℕ) (kept : List ℕ) (is_new : Bool)
+    → is_new ≡ not (list_any (nat_eq id) edges) → kept ≡ cond is_new (edges ++ id ∷ []) edges
+    → (later : List Item) → unseen (seen_items vertices edges codes) (items.Edge id label from to ∷ later) ≡ cond is_new (items.Edge id label from to ∷ [])
+    [] ++ unseen (seen_items vertices kept codes) later
 unseen-edge vertices edges codes id from to label kept is_new is is_kept =
-    unseen-added (seen_items vertices edges codes) (seen_items vertices (edges ++ id ∷ []) codes) (seen_items vertices kept codes) (items.Edge id label from to) is_new (is ∙ ap not (sym (seen-edge id from to label vertices edges codes)))
+    unseen-added (seen_items vertices edges codes) (seen_items vertices (edges ++ id ∷ []) codes) (seen_items vertices kept codes) (items.Edge id label from to)
+    is_new (is ∙ ap not (sym (seen-edge id from to label vertices edges codes)))
     (λ x.
     let p = is_same x in
     let first = list_any p (map items.Vertex vertices) in
@@ -217,14 +241,19 @@ unseen-edge vertices edges codes id from to label kept is_new is is_kept =
     ∙ sym (any-seen p vertices (edges ++ id ∷ []) codes))
     (by is_new is_kept)
   where
-    by : (n : Bool) → kept ≡ cond n (edges ++ id ∷ []) edges → seen_items vertices kept codes ≡ cond n (seen_items vertices (edges ++ id ∷ []) codes) (seen_items vertices edges codes)
+    by : (n : Bool) → kept ≡ cond n (edges ++ id ∷ []) edges → seen_items vertices kept codes ≡ cond n (seen_items vertices (edges ++ id ∷ []) codes)
+        (seen_items vertices edges codes)
     by true k = ap (λ list. seen_items vertices list codes) k
     by false k = ap (λ list. seen_items vertices list codes) k
 
-pub unseen-value : (vertices edges : List ℕ) (codes : List (List ℕ)) (value : Value) (kept : List (List ℕ)) (is_new : Bool) → IsInRange value → AreCodes codes → is_new ≡ not (list_any (pointwise nat_eq (code_of value)) codes)
-    → kept ≡ cond is_new (codes ++ code_of value ∷ []) codes → (later : List Item) → unseen (seen_items vertices edges codes) (items.Value value ∷ later) ≡ cond is_new (items.Value value ∷ []) [] ++ unseen (seen_items vertices edges kept) later
+pub unseen-value : (vertices edges : List ℕ) (codes : List (List ℕ)) (value : Value) (kept : List (List ℕ)) (is_new : Bool) → IsInRange value → AreCodes codes
+    → is_new ≡ not (list_any (pointwise nat_eq (code_of value)) codes)
+    → kept ≡ cond is_new (codes ++ code_of value ∷ []) codes → (later : List Item)
+    → unseen (seen_items vertices edges codes) (items.Value value ∷ later) ≡ cond is_new (items.Value value ∷ []) [] ++ unseen
+    (seen_items vertices edges kept) later
 unseen-value vertices edges codes value kept is_new range are is is_kept =
-    unseen-added (seen_items vertices edges codes) (seen_items vertices edges (codes ++ code_of value ∷ [])) (seen_items vertices edges kept) (items.Value value) is_new (is ∙ ap not (sym (seen-value value range vertices edges codes are)))
+    unseen-added (seen_items vertices edges codes) (seen_items vertices edges (codes ++ code_of value ∷ [])) (seen_items vertices edges kept)
+    (items.Value value) is_new (is ∙ ap not (sym (seen-value value range vertices edges codes are)))
     (λ x.
     let p = is_same x in
     let first = list_any p (map items.Vertex vertices) in
@@ -236,6 +265,7 @@ unseen-value vertices edges codes value kept is_new range are is is_kept =
     ∙ sym (any-seen p vertices edges (codes ++ code_of value ∷ [])))
     (by is_new is_kept)
   where
-    by : (n : Bool) → kept ≡ cond n (codes ++ code_of value ∷ []) codes → seen_items vertices edges kept ≡ cond n (seen_items vertices edges (codes ++ code_of value ∷ [])) (seen_items vertices edges codes)
+    by : (n : Bool) → kept ≡ cond n (codes ++ code_of value ∷ []) codes
+        → seen_items vertices edges kept ≡ cond n (seen_items vertices edges (codes ++ code_of value ∷ [])) (seen_items vertices edges codes)
     by true k = ap (λ list. seen_items vertices edges list) k
     by false k = ap (λ list. seen_items vertices edges list) k

@@ -19,10 +19,12 @@ counts_all graph false so_far after waiting left coming more none =
     let same : so_far + length (waiting ++ coming) ≡ after + length (left ++ coming) = omega (arith, length-append waiting coming) in
     (ap (counted false) same, ap (λ n. nat_lt 9223372036854775807 n) same)
 
-pub counts_row : (graph : Graph) (stage : Stage) (told : Bool) (so_far after : ℕ) (waiting left coming outs : List Item) → stage ≡ stages.Count so_far told → outs ≡ [] → (told ≡ false → after ≡ so_far + length waiting) → left ≡ []
+pub counts_row : (graph : Graph) (stage : Stage) (told : Bool) (so_far after : ℕ) (waiting left coming outs : List Item) → stage ≡ stages.Count so_far told
+    → outs ≡ [] → (told ≡ false → after ≡ so_far + length waiting) → left ≡ []
     → Advances graph (record { stage = stage; waiting = waiting }) coming outs (record { stage = stages.Count after told; waiting = left })
 counts_row graph stage told so_far after waiting left coming outs is nothing more none =
-    subst (λ (s : Stage). Advances graph (record { stage = s; waiting = waiting }) coming outs (record { stage = stages.Count after told; waiting = left })) (sym is)
+    subst (λ (s : Stage). Advances graph (record { stage = s; waiting = waiting }) coming outs (record { stage = stages.Count after told; waiting = left }))
+    (sym is)
     (subst (λ (list : List Item). Advances graph (record { stage = stages.Count so_far told; waiting = waiting }) coming list (record { stage = stages.Count after told; waiting = left })) (sym nothing)
     (counts_all graph told so_far after waiting left coming more none))
 

@@ -1,5 +1,7 @@
 -- Steps that take the items of a source.
-use Rattle.std.proofs.Common.{◌≡◌, cond, ◌<◌, ℕ, ◌+◌, Bool, true, false, not, ◌&&◌, ◌||◌, nat_lt, List, [], ◌∷◌, ◌++◌, length, take, drop, get_or, set, Option, Some, None, is_some, refl, sym, ap, ◌∙◌, subst, arith}
+use Rattle.std.proofs.Common.{◌≡◌, cond, ◌<◌, ℕ, ◌+◌, Bool, true, false, not, ◌&&◌, ◌||◌, nat_lt, List, [], ◌∷◌, ◌++◌}
+use Rattle.std.proofs.Common.{length, take, drop, get_or, set, Option, Some, None, is_some, refl, sym, ap, ◌∙◌, subst}
+use Rattle.std.proofs.Common.{arith}
 use Rattle.std.proofs.lemmas.Bool.{lt-ltb}
 use Rattle.std.specs.Int.{from_bool}
 use Rattle.std.specs.List.{flat_map}
@@ -36,8 +38,10 @@ ended graph old new is = ap (left_of graph) is ∙ left_of-over graph old.edges
 -- ---- a count
 
 -- an element that was taken, and one more where it is in use
-counts_more : (graph : Graph) (source now rest : Source) (found : Option Item) (used : Bool) (before so_far more : ℕ) → so_far + length (left_of graph now) ≡ before + length (left_of graph source)
-    → left_of graph now ≡ option_list found ++ left_of graph rest → used ≡ is_some found → more ≡ from_bool used → so_far + more + length (left_of graph rest) ≡ before + length (left_of graph source)
+counts_more : (graph : Graph) (source now rest : Source) (found : Option Item) (used : Bool) (before so_far more : ℕ)
+    → so_far + length (left_of graph now) ≡ before + length (left_of graph source)
+    → left_of graph now ≡ option_list found ++ left_of graph rest → used ≡ is_some found → more ≡ from_bool used
+    → so_far + more + length (left_of graph rest) ≡ before + length (left_of graph source)
 counts_more graph source now rest None used before so_far more same takes some one =
     let long : length (left_of graph now) ≡ length (left_of graph rest) = ap length takes in
     let none : more ≡ 0 = one ∙ ap from_bool some in
@@ -47,13 +51,15 @@ counts_more graph source now rest (Some item) used before so_far more same takes
     let is : more ≡ 1 = one ∙ ap from_bool some in
     omega arith
 
-pub counts_on : (graph : Graph) (source now rest : Source) (found : Option Item) (used : Bool) (before so_far more after : ℕ) → so_far + length (left_of graph now) ≡ before + length (left_of graph source)
+pub counts_on : (graph : Graph) (source now rest : Source) (found : Option Item) (used : Bool) (before so_far more after : ℕ)
+    → so_far + length (left_of graph now) ≡ before + length (left_of graph source)
     → left_of graph now ≡ option_list found ++ left_of graph rest → used ≡ is_some found → more ≡ from_bool used → after ≡ so_far + more
     → after + length (left_of graph rest) ≡ before + length (left_of graph source)
 counts_on graph source now rest found used before so_far more after same takes some one counted =
     ap (λ n. n + length (left_of graph rest)) counted ∙ counts_more graph source now rest found used before so_far more same takes some one
 
-pub counts_passes : (graph : Graph) (source now rest : Source) (found : Option Item) (used : Bool) (before so_far more : ℕ) → so_far + length (left_of graph now) ≡ before + length (left_of graph source)
+pub counts_passes : (graph : Graph) (source now rest : Source) (found : Option Item) (used : Bool) (before so_far more : ℕ)
+    → so_far + length (left_of graph now) ≡ before + length (left_of graph source)
     → left_of graph now ≡ option_list found ++ left_of graph rest → used ≡ is_some found → more ≡ from_bool used → 9223372036854775807 < so_far + more
     → 9223372036854775807 < before + length (left_of graph source)
 counts_passes graph source now rest found used before so_far more same takes some one past =
@@ -65,7 +71,8 @@ counts_end graph source now rest before so_far same none is =
     let long : length (left_of graph now) ≡ 0 = ap length none in (omega arith, ended graph now rest is)
 
 -- what a count makes of the source
-pub count_feeds : (graph : Graph) (source rest : Source) (before after : ℕ) (told fits : Bool) → Counts graph source before fits rest after → fits || told ≡ true
+pub count_feeds : (graph : Graph) (source rest : Source) (before after : ℕ) (told fits : Bool) → Counts graph source before fits rest after
+    → fits || told ≡ true
     → Feeds graph source (stages.Count before told) [] rest (stages.Count after told)
 count_feeds graph source rest before after true fits counts gives = (refl, refl)
 count_feeds graph source rest before after false true counts gives =
@@ -75,7 +82,8 @@ count_feeds graph source rest before after false true counts gives =
     (ap (counted false) same, ap (λ n. nat_lt 9223372036854775807 n) same)
 count_feeds graph source rest before after false false counts gives = cc
 
-pub count_past : (graph : Graph) (source rest : Source) (before after : ℕ) (told fits : Bool) → Counts graph source before fits rest after → fits || told ≡ false
+pub count_past : (graph : Graph) (source rest : Source) (before after : ℕ) (told fits : Bool) → Counts graph source before fits rest after
+    → fits || told ≡ false
     → counts_past (stages.Count before told) (left_of graph source) ≡ true
 count_past graph source rest before after told true counts none = cc
 count_past graph source rest before after true false counts none = cc
@@ -91,19 +99,23 @@ feeds_more graph source now rest old stage new item outs feeds gives takes =
     (feeds.0 ∙ ap (after_stage graph stage) gives ∙ more.0, feeds.1 ∙ ap (counts_past stage) gives ∙ more.1)
 
 -- it gave nothing
-pub feeds_on : (graph : Graph) (source now : Source) (old stage : Stage) (outs : List Item) → outs ≡ [] → Feeds graph source old outs now stage → Feeds graph source old [] now stage
+pub feeds_on : (graph : Graph) (source now : Source) (old stage : Stage) (outs : List Item) → outs ≡ [] → Feeds graph source old outs now stage
+    → Feeds graph source old [] now stage
 feeds_on graph source now old stage outs none feeds = subst (λ (list : List Item). Feeds graph source old list now stage) none feeds
 
 -- nothing is left
-pub feeds_end : (graph : Graph) (source now rest : Source) (old stage : Stage) (outs : List Item) → outs ≡ [] → Feeds graph source old [] now stage → left_of graph now ≡ [] → left_of graph rest ≡ []
+pub feeds_end : (graph : Graph) (source now rest : Source) (old stage : Stage) (outs : List Item) → outs ≡ [] → Feeds graph source old [] now stage
+    → left_of graph now ≡ [] → left_of graph rest ≡ []
     → Feeds graph source old outs rest stage
 feeds_end graph source now rest old stage outs nothing feeds none end =
     let same = none ∙ sym end in
-    subst (λ (list : List Item). Feeds graph source old list rest stage) (sym nothing) (feeds.0 ∙ ap (after_stage graph stage) same, feeds.1 ∙ ap (counts_past stage) same)
+    subst (λ (list : List Item). Feeds graph source old list rest stage) (sym nothing)
+    (feeds.0 ∙ ap (after_stage graph stage) same, feeds.1 ∙ ap (counts_past stage) same)
 
 -- ---- rows
 
-fed_row : (graph : Graph) (source rest : Source) (row : Row) (outs : List Item) (stage : Stage) → row.waiting ≡ [] → Feeds graph source row.stage outs rest stage
+fed_row : (graph : Graph) (source rest : Source) (row : Row) (outs : List Item) (stage : Stage) → row.waiting ≡ []
+    → Feeds graph source row.stage outs rest stage
     → after_row graph row (stream (left_of graph source)) ≡ with_first outs (after_row graph (record row { stage = stage }) (stream (left_of graph rest)))
 fed_row graph source rest row outs stage none feeds =
     ap (λ waiting. after_row graph (record row { waiting = waiting }) (stream (left_of graph source))) none
@@ -111,7 +123,8 @@ fed_row graph source rest row outs stage none feeds =
     ∙ ap (λ waiting. with_first outs (after_row graph (record { stage = stage; waiting = waiting }) (stream (left_of graph rest)))) (sym none)
 
 -- the rows after the first one took of the source, and after its items were put before the next
-pub fed : (graph : Graph) (source rest : Source) (rows later : List Row) (ready : List Item) (row any : Row) (outs : List Item) (stage : Stage) → 0 < length rows → row ≡ get_or rows 0 any → AreIdle rows
+pub fed : (graph : Graph) (source rest : Source) (rows later : List Row) (ready : List Item) (row any : Row) (outs : List Item) (stage : Stage)
+    → 0 < length rows → row ≡ get_or rows 0 any → AreIdle rows
     → Feeds graph source row.stage outs rest stage
     → take 1 later ≡ take 1 (set rows 0 (record row { stage = stage }))
     → ((more : Stream) → with_first ready (through graph (drop 1 later) more) ≡ through graph (drop 1 (set rows 0 (record row { stage = stage }))) (with_first outs more))
@@ -126,7 +139,8 @@ fed graph source rest (first ∷ rows) later ready row any outs stage lt is idle
     ∙ ap (λ (r : Row). through graph rows (after_row graph r (stream (left_of graph source)))) is
 
 -- where the first row's count passes, it does on the way through the rows
-pub fed_past : (graph : Graph) (source : Source) (rows : List Row) (row any : Row) → 0 < length rows → row ≡ get_or rows 0 any → AreIdle rows → counts_past row.stage (left_of graph source) ≡ true
+pub fed_past : (graph : Graph) (source : Source) (rows : List Row) (row any : Row) → 0 < length rows → row ≡ get_or rows 0 any → AreIdle rows
+    → counts_past row.stage (left_of graph source) ≡ true
     → (through graph rows (stream (left_of graph source))).past ≡ true
 fed_past graph source [] row any lt is idle past = absurd (omega arith)
 fed_past graph source (first ∷ rows) row any lt is idle past =
@@ -134,13 +148,15 @@ fed_past graph source (first ∷ rows) row any lt is idle past =
     (ap (λ waiting. counts_past first.stage (waiting ++ left_of graph source)) idle.0 ∙ ap (λ (r : Row). counts_past r.stage (left_of graph source)) (sym is) ∙ past)
 
 -- what a filter gives for an item
-pub filter_takes : (graph : Graph) (test : Filter) (item : Item) (outs : List Item) (passed : Bool) → passed ≡ passes graph test item → outs ≡ cond passed (item ∷ []) []
+pub filter_takes : (graph : Graph) (test : Filter) (item : Item) (outs : List Item) (passed : Bool) → passed ≡ passes graph test item
+    → outs ≡ cond passed (item ∷ []) []
     → Takes graph (filter_stage test) item outs (filter_stage test)
 filter_takes graph test item outs passed is gives = λ coming.
     (ap (λ list. list ++ flat_map (filtered graph test) coming) (ap (λ b. cond b (item ∷ []) []) (sym is) ∙ sym gives), refl)
 
 -- the source gave nothing
-pub none_left : (graph : Graph) (now next rest : Source) (item : Option Item) → item ≡ None → GivesFirst graph now item next → rest ≡ record next { left = Nothing }
+pub none_left : (graph : Graph) (now next rest : Source) (item : Option Item) → item ≡ None → GivesFirst graph now item next
+    → rest ≡ record next { left = Nothing }
     → (left_of graph now ≡ []) × (left_of graph rest ≡ [])
 none_left graph now next rest item none gives is =
     let gave = subst (λ (found : Option Item). GivesFirst graph now found next) none gives in
@@ -149,20 +165,25 @@ none_left graph now next rest item none gives is =
 -- ---- vertices
 
 -- the identifier that was taken is that of a vertex, or of none
-pub gives_vertex : (records : Records) (now : Source) (left : Left) (id : ℕ) (row : Option NodeRow) → now.edges ≡ false → TakesId now.left id left → element_at records false id ≡ vertex_if id row → is_some row ≡ true
+pub gives_vertex : (records : Records) (now : Source) (left : Left) (id : ℕ) (row : Option NodeRow) → now.edges ≡ false → TakesId now.left id left
+    → element_at records false id ≡ vertex_if id row → is_some row ≡ true
     → left_of (graph_of records) now ≡ items.Vertex id ∷ left_of (graph_of records) (record now { left = left })
 gives_vertex records now left id None no_edges takes is some = absurd cc
 gives_vertex records now left id (Some row) no_edges takes is some =
-    left-takes records now.edges now.left left id takes ∙ ap (λ found. option_list found ++ left_of (graph_of records) (record now { left = left })) (ap (λ e. element_at records e id) no_edges ∙ is)
+    left-takes records now.edges now.left left id takes ∙ ap (λ found. option_list found ++ left_of (graph_of records) (record now { left = left }))
+    (ap (λ e. element_at records e id) no_edges ∙ is)
 
-pub gives_none : (records : Records) (now : Source) (left : Left) (id : ℕ) (row : Option NodeRow) → now.edges ≡ false → TakesId now.left id left → element_at records false id ≡ vertex_if id row → is_some row ≡ false
+pub gives_none : (records : Records) (now : Source) (left : Left) (id : ℕ) (row : Option NodeRow) → now.edges ≡ false → TakesId now.left id left
+    → element_at records false id ≡ vertex_if id row → is_some row ≡ false
     → left_of (graph_of records) now ≡ left_of (graph_of records) (record now { left = left })
 gives_none records now left id (Some row) no_edges takes is none = absurd cc
 gives_none records now left id None no_edges takes is none =
-    left-takes records now.edges now.left left id takes ∙ ap (λ found. option_list found ++ left_of (graph_of records) (record now { left = left })) (ap (λ e. element_at records e id) no_edges ∙ is)
+    left-takes records now.edges now.left left id takes ∙ ap (λ found. option_list found ++ left_of (graph_of records) (record now { left = left }))
+    (ap (λ e. element_at records e id) no_edges ∙ is)
 
 -- so nothing was given
-pub feeds_past : (graph : Graph) (source now rest : Source) (old stage : Stage) → left_of graph now ≡ left_of graph rest → Feeds graph source old [] now stage → Feeds graph source old [] rest stage
+pub feeds_past : (graph : Graph) (source now rest : Source) (old stage : Stage) → left_of graph now ≡ left_of graph rest → Feeds graph source old [] now stage
+    → Feeds graph source old [] rest stage
 feeds_past graph source now rest old stage same feeds = (feeds.0 ∙ ap (after_stage graph stage) same, feeds.1 ∙ ap (counts_past stage) same)
 
 -- a limit of a step that gave nothing stays

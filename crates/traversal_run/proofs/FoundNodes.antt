@@ -1,5 +1,6 @@
 -- The nodes that an index finds are those that the query over all nodes gives.
-use Rattle.std.proofs.Common.{◌≡◌, ◌<◌, ◌≤◌, ◌∙◌, ℕ, zero, suc, nat_eq, Bool, true, false, ◌&&◌, ◌||◌, cond, Option, None, Some, List, [], ◌∷◌, ◌++◌, find, map, refl, sym, ap, subst, arith}
+use Rattle.std.proofs.Common.{◌≡◌, ◌<◌, ◌≤◌, ◌∙◌, ℕ, zero, suc, nat_eq, Bool, true, false, ◌&&◌, ◌||◌, cond, Option}
+use Rattle.std.proofs.Common.{None, Some, List, [], ◌∷◌, ◌++◌, find, map, refl, sym, ap, subst, arith}
 use Rattle.std.specs.FinMap as maps
 use Rattle.std.specs.List.{filter, list_any}
 use Rattle.std.specs.Option.{option_map}
@@ -57,7 +58,8 @@ module _ (s : Records) (label key : List ℕ) (value : Value) where
   -- a node is found by its identifier
   node_found : (x : ℕ) (e : Node) → x < mark → node_of s x ≡ Some e → find (λ node. nat_eq (node_number node) e.id) (graph_of s).nodes ≡ Some e
   node_found x e low is =
-      ap (λ (id : ℕ). find (λ node. nat_eq (node_number node) id) (graph_of s).nodes) (nodes_numbered s x e is) ∙ find_collect node_number (node_of s) mark x (nodes_numbered s) low ∙ is
+      ap (λ (id : ℕ). find (λ node. nat_eq (node_number node) id) (graph_of s).nodes) (nodes_numbered s x e is)
+      ∙ find_collect node_number (node_of s) mark x (nodes_numbered s) low ∙ is
 
   same_value : (o : Option Value) → is_some_and o (λ other. is_related relations.Eq other value) ≡ has_value value o
   same_value None = refl
@@ -71,12 +73,16 @@ module _ (s : Records) (label key : List ℕ) (value : Value) where
       by (Some e) is =
           let found = node_found x e low is in
           let labels : has_label (vertex_of e) ≡ is_text e.label label
-          = ap (λ (o : Option Node). is_some_and (option_map (λ (node : Node). node.label) o) (λ own. list_any (λ name. is_text name own) (label ∷ []))) found ∙ or_none (is_text label e.label) ∙ is_text-turned label e.label in
+          = ap (λ (o : Option Node). is_some_and (option_map (λ (node : Node). node.label) o) (λ own. list_any (λ name. is_text name own) (label ∷ []))) found
+          ∙ or_none (is_text label e.label) ∙ is_text-turned label e.label in
           let values : holds (vertex_of e) ≡ has_value value (maps.get e.properties key)
-          = ap (λ (o : Option Node). is_some_and (maps.get (node_properties o) key) (λ other. is_related relations.Eq other value)) found ∙ same_value (maps.get e.properties key) in
-          ap (λ (b : Bool). filter holds (cond b (vertex_of e ∷ []) [])) labels ∙ pick (is_text e.label label) (has_value value (maps.get e.properties key)) values
+          = ap (λ (o : Option Node). is_some_and (maps.get (node_properties o) key) (λ other. is_related relations.Eq other value)) found
+          ∙ same_value (maps.get e.properties key) in
+          ap (λ (b : Bool). filter holds (cond b (vertex_of e ∷ []) [])) labels
+          ∙ pick (is_text e.label label) (has_value value (maps.get e.properties key)) values
         where
-          pick : (b c : Bool) → holds (vertex_of e) ≡ c → filter holds (cond b (vertex_of e ∷ []) []) ≡ map items.Vertex (map node_number (cond (b && c) (e ∷ []) []))
+          pick : (b c : Bool) → holds (vertex_of e) ≡ c → filter holds (cond b (vertex_of e ∷ []) []) ≡ map items.Vertex
+              (map node_number (cond (b && c) (e ∷ []) []))
           pick false c is = refl
           pick true c is = ap (λ (t : Bool). cond t (vertex_of e ∷ []) []) is ∙ on c
             where
@@ -87,13 +93,16 @@ module _ (s : Records) (label key : List ℕ) (value : Value) where
   scanned-append : (xs ys : List Node) → scanned (xs ++ ys) ≡ scanned xs ++ scanned ys
   scanned-append xs ys =
       ap (λ (nodes : List Node). filter holds (filter has_label (map vertex_of nodes))) (filter-append (λ (node : Node). true) xs ys)
-      ∙ ap (λ (found : List Item). filter holds (filter has_label found)) (map-append vertex_of (filter (λ (node : Node). true) xs) (filter (λ (node : Node). true) ys))
+      ∙ ap (λ (found : List Item). filter holds (filter has_label found))
+      (map-append vertex_of (filter (λ (node : Node). true) xs) (filter (λ (node : Node). true) ys))
       ∙ ap (filter holds) (filter-append has_label (map vertex_of (filter (λ (node : Node). true) xs)) (map vertex_of (filter (λ (node : Node). true) ys)))
-      ∙ filter-append holds (filter has_label (map vertex_of (filter (λ (node : Node). true) xs))) (filter has_label (map vertex_of (filter (λ (node : Node). true) ys)))
+      ∙ filter-append holds (filter has_label (map vertex_of (filter (λ (node : Node). true) xs)))
+      (filter has_label (map vertex_of (filter (λ (node : Node). true) ys)))
 
   having-append : (xs ys : List Node) → having (xs ++ ys) ≡ having xs ++ having ys
   having-append xs ys =
-      ap (λ (nodes : List Node). map items.Vertex (map node_number nodes)) (filter-append test xs ys) ∙ ap (map items.Vertex) (map-append node_number (filter test xs) (filter test ys))
+      ap (λ (nodes : List Node). map items.Vertex (map node_number nodes)) (filter-append test xs ys)
+      ∙ ap (map items.Vertex) (map-append node_number (filter test xs) (filter test ys))
       ∙ map-append items.Vertex (map node_number (filter test xs)) (map node_number (filter test ys))
 
   below : (n : ℕ) → n ≤ mark → scanned (collect (node_of s) n) ≡ having (collect (node_of s) n)

@@ -1,5 +1,6 @@
 -- How many elements wait behind the steps of a run.
-use Rattle.std.proofs.Common.{◌≡◌, ◌⊎◌, inl, inr, ⊎_elim, ◌<◌, ◌≤◌, ℕ, ◌+◌, suc, zero, Bool, true, false, cond, List, [], ◌∷◌, length, drop, get_or, set, add-one, refl, sym, ap, ◌∙◌, subst, arith}
+use Rattle.std.proofs.Common.{◌≡◌, ◌⊎◌, inl, inr, ⊎_elim, ◌<◌, ◌≤◌, ℕ, ◌+◌, suc, zero, Bool, true, false, cond, List}
+use Rattle.std.proofs.Common.{[], ◌∷◌, length, drop, get_or, set, add-one, refl, sym, ap, ◌∙◌, subst, arith}
 use Rattle.std.proofs.lemmas.Bool.{cases_lt}
 use Rattle.std.proofs.lemmas.List.{length-set}
 use Rattle.std.proofs.lemmas.List.Sums.{count_by-le-length, sum_by-cons}
@@ -42,9 +43,11 @@ hops-cons row rows = sum_by-cons (λ (r : Row). cond (is_hop r.stage) 1 0) row r
 pub hops-set : (rows : List Row) (at : ℕ) (new any : Row) → is_hop new.stage ≡ is_hop (get_or rows at any).stage → hops_in (set rows at new) ≡ hops_in rows
 hops-set [] at new any same = refl
 hops-set (row ∷ rows) zero new any same = hops-cons new rows ∙ ap (λ b. cond b 1 0 + hops_in rows) same ∙ sym (hops-cons row rows)
-hops-set (row ∷ rows) (suc at) new any same = hops-cons row (set rows at new) ∙ ap (λ n. cond (is_hop row.stage) 1 0 + n) (hops-set rows at new any same) ∙ sym (hops-cons row rows)
+hops-set (row ∷ rows) (suc at) new any same = hops-cons row (set rows at new) ∙ ap (λ n. cond (is_hop row.stage) 1 0 + n) (hops-set rows at new any same)
+    ∙ sym (hops-cons row rows)
 
-pub plain-set : (rows : List Row) (at : ℕ) (new any : Row) → is_plain new.stage ≡ is_plain (get_or rows at any).stage → ArePlain rows → ArePlain (set rows at new)
+pub plain-set : (rows : List Row) (at : ℕ) (new any : Row) → is_plain new.stage ≡ is_plain (get_or rows at any).stage → ArePlain rows
+    → ArePlain (set rows at new)
 plain-set [] at new any same plain = plain
 plain-set (row ∷ rows) zero new any same plain = (same ∙ plain.0, plain.1)
 plain-set (row ∷ rows) (suc at) new any same plain = (plain.0, plain-set rows at new any same plain.1)
@@ -80,13 +83,15 @@ near-idle d behind (row ∷ rows) idle =
     inl (omega arith, near-idle d (is_hop row.stage) rows idle.1)
 
 -- items come to a row that is idle, as all behind it
-near_given : (d : ℕ) (behind : Bool) (row : Row) (rows : List Row) (outs : List Item) → AreIdle rows → IsBatch d behind outs → AreNear d behind (record row { waiting = outs } ∷ rows) []
+near_given : (d : ℕ) (behind : Bool) (row : Row) (rows : List Row) (outs : List Item) → AreIdle rows → IsBatch d behind outs
+    → AreNear d behind (record row { waiting = outs } ∷ rows) []
 near_given d behind row rows outs idle batch =
     ⊎_elim (λ (few : elements_in outs ≤ room_behind d behind). inl (few, near-idle d (is_hop row.stage) rows idle))
     (λ (one : length outs ≤ 1). inr (one, idle, refl)) batch
 
 -- one item comes to the first row, or is ready where there is none
-pub near-first : (d : ℕ) (rows : List Row) (any : Row) (outs ready : List Item) → AreIdle rows → length outs ≤ 1 → (0 < length rows → ready ≡ []) → (length rows ≤ 0 → ready ≡ outs) → AreNear d false (set rows 0 (record (get_or rows 0 any) { waiting = outs })) ready
+pub near-first : (d : ℕ) (rows : List Row) (any : Row) (outs ready : List Item) → AreIdle rows → length outs ≤ 1 → (0 < length rows → ready ≡ [])
+    → (length rows ≤ 0 → ready ≡ outs) → AreNear d false (set rows 0 (record (get_or rows 0 any) { waiting = outs })) ready
 near-first d [] any outs ready idle one passed given = subst (IsBatch d false) (sym (given (omega arith))) (inr one)
 near-first d (row ∷ rows) any outs ready idle one passed given =
     subst (AreNear d false (record row { waiting = outs } ∷ rows)) (sym (passed (omega arith))) (near_given d false row rows outs idle.1 (inr one))
@@ -107,16 +112,19 @@ module _ (d : ℕ) (row new next : Row) (outs ready : List Item)
       → AreNear d behind (set (set rows at new) (suc at) (record (get_or (set rows at new) (suc at) next) { waiting = outs })) ready
   near_suc behind [] at any lt is idle passed given near = absurd (omega arith)
   near_suc behind (first ∷ []) zero any lt is idle passed given near =
-      let here = ⊎_elim (λ (few : (elements_in first.waiting ≤ room_behind d behind) × IsBatch d (is_hop first.stage) []). inl few.0) (λ (one : (length first.waiting ≤ 1) × Unit {0} × ([] ≡ [])). inr one.0) near in
+      let here = ⊎_elim (λ (few : (elements_in first.waiting ≤ room_behind d behind) × IsBatch d (is_hop first.stage) []). inl few.0)
+      (λ (one : (length first.waiting ≤ 1) × Unit {0} × ([] ≡ [])). inr one.0) near in
       inl (
         rest_within (room_behind d behind) (subst (λ (r : Row). (elements_in r.waiting ≤ room_behind d behind) ⊎ (length r.waiting ≤ 1)) (sym is) here),
         subst (IsBatch d (is_hop new.stage)) (sym (given (omega arith))) (subst (λ b. IsBatch d b outs) (sym hops) batch),
       )
   near_suc behind (first ∷ second ∷ rows) zero any lt is idle passed given near =
-      let here = ⊎_elim (λ (few : (elements_in first.waiting ≤ room_behind d behind) × AreNear d (is_hop first.stage) (second ∷ rows) []). inl few.0) (λ (one : (length first.waiting ≤ 1) × AreIdle (second ∷ rows) × ([] ≡ [])). inr one.0) near in
+      let here = ⊎_elim (λ (few : (elements_in first.waiting ≤ room_behind d behind) × AreNear d (is_hop first.stage) (second ∷ rows) []). inl few.0)
+      (λ (one : (length first.waiting ≤ 1) × AreIdle (second ∷ rows) × ([] ≡ [])). inr one.0) near in
       inl (
         rest_within (room_behind d behind) (subst (λ (r : Row). (elements_in r.waiting ≤ room_behind d behind) ⊎ (length r.waiting ≤ 1)) (sym is) here),
-        subst (AreNear d (is_hop new.stage) (record second { waiting = outs } ∷ rows)) (sym (passed (omega arith))) (near_given d (is_hop new.stage) second rows outs idle.1 (subst (λ b. IsBatch d b outs) (sym hops) batch)),
+        subst (AreNear d (is_hop new.stage) (record second { waiting = outs } ∷ rows)) (sym (passed (omega arith)))
+            (near_given d (is_hop new.stage) second rows outs idle.1 (subst (λ b. IsBatch d b outs) (sym hops) batch)),
       )
   near_suc behind (first ∷ rows) (suc at) any lt is idle passed given near =
       ⊎_elim (λ (few : (elements_in first.waiting ≤ room_behind d behind) × AreNear d (is_hop first.stage) rows []).
@@ -130,7 +138,8 @@ module _ (d : ℕ) (row new next : Row) (outs ready : List Item)
 
 -- the same of all that is known of rows
 pub near-advanced : (d most : ℕ) (rows later : List Row) (at : ℕ) (row new any : Row) (outs ready : List Item) → at < length rows → row ≡ get_or rows at any
-    → is_hop new.stage ≡ is_hop row.stage → is_plain new.stage ≡ is_plain row.stage → new.waiting ≡ drop 1 row.waiting → (row.waiting ≡ [] → outs ≡ []) → IsBatch d (is_hop row.stage) outs
+    → is_hop new.stage ≡ is_hop row.stage → is_plain new.stage ≡ is_plain row.stage → new.waiting ≡ drop 1 row.waiting → (row.waiting ≡ [] → outs ≡ [])
+    → IsBatch d (is_hop row.stage) outs
     → AreIdle (drop (at + 1) rows) → (at + 1 < length (set rows at new) → ready ≡ []) → (length (set rows at new) ≤ at + 1 → ready ≡ outs)
     → ((next : Row) → later ≡ set (set rows at new) (at + 1) (record (get_or (set rows at new) (at + 1) next) { waiting = outs }))
     → IsNear d most rows [] → IsNear d most later ready
@@ -153,7 +162,8 @@ near-advanced d most rows later at row new any outs ready lt is hops plain rest 
     }
 
 -- the source's item comes to the first row
-pub near-sourced : (d most : ℕ) (rows later : List Row) (item : Item) (outs ready : List Item) → outs ≡ item ∷ [] → AreIdle rows → (0 < length rows → ready ≡ []) → (length rows ≤ 0 → ready ≡ outs)
+pub near-sourced : (d most : ℕ) (rows later : List Row) (item : Item) (outs ready : List Item) → outs ≡ item ∷ [] → AreIdle rows
+    → (0 < length rows → ready ≡ []) → (length rows ≤ 0 → ready ≡ outs)
     → ((any : Row) → later ≡ set rows 0 (record (get_or rows 0 any) { waiting = outs })) → IsNear d most rows [] → IsNear d most later ready
 near-sourced d most rows later item outs ready one idle passed given put near =
     let any = limit_row 0 [] in
@@ -168,21 +178,25 @@ near-sourced d most rows later item outs ready one idle passed given put near =
     }
 
 -- items come to the first row, or are ready where there is none
-near_put : (d : ℕ) (behind : Bool) (rows : List Row) (any : Row) (outs ready : List Item) → AreIdle rows → IsBatch d behind outs → (0 < length rows → ready ≡ []) → (length rows ≤ 0 → ready ≡ outs)
+near_put : (d : ℕ) (behind : Bool) (rows : List Row) (any : Row) (outs ready : List Item) → AreIdle rows → IsBatch d behind outs
+    → (0 < length rows → ready ≡ []) → (length rows ≤ 0 → ready ≡ outs)
     → AreNear d behind (set rows 0 (record (get_or rows 0 any) { waiting = outs })) ready
 near_put d behind [] any outs ready idle batch passed given = subst (IsBatch d behind) (sym (given (omega arith))) batch
 near_put d behind (row ∷ rows) any outs ready idle batch passed given =
     subst (AreNear d behind (record row { waiting = outs } ∷ rows)) (sym (passed (omega arith))) (near_given d behind row rows outs idle.1 batch)
 
-near_first_gives : (d : ℕ) (rows : List Row) (row new any : Row) (outs ready : List Item) → 0 < length rows → row ≡ get_or rows 0 any → new.waiting ≡ row.waiting → IsBatch d (is_hop new.stage) outs → AreIdle rows
-    → (1 < length rows → ready ≡ []) → (length rows ≤ 1 → ready ≡ outs) → AreNear d false (set (set rows 0 new) 1 (record (get_or (set rows 0 new) 1 any) { waiting = outs })) ready
+near_first_gives : (d : ℕ) (rows : List Row) (row new any : Row) (outs ready : List Item) → 0 < length rows → row ≡ get_or rows 0 any
+    → new.waiting ≡ row.waiting → IsBatch d (is_hop new.stage) outs → AreIdle rows
+    → (1 < length rows → ready ≡ []) → (length rows ≤ 1 → ready ≡ outs)
+    → AreNear d false (set (set rows 0 new) 1 (record (get_or (set rows 0 new) 1 any) { waiting = outs })) ready
 near_first_gives d [] row new any outs ready lt is same batch idle passed given = absurd (omega arith)
 near_first_gives d (first ∷ rows) row new any outs ready lt is same batch idle passed given =
     let none = nothing_left new.waiting (same ∙ ap (λ (r : Row). r.waiting) is ∙ idle.0) in
     inl (none, near_put d (is_hop new.stage) rows any outs ready idle.1 batch (λ l. passed (omega arith)) (λ l. given (omega arith)))
 
 -- the first row gives items of the source, with none that waits
-pub near-fed : (d most : ℕ) (rows later : List Row) (row new any : Row) (outs ready : List Item) → 0 < length rows → row ≡ get_or rows 0 any → new.waiting ≡ row.waiting
+pub near-fed : (d most : ℕ) (rows later : List Row) (row new any : Row) (outs ready : List Item) → 0 < length rows → row ≡ get_or rows 0 any
+    → new.waiting ≡ row.waiting
     → is_hop new.stage ≡ is_hop row.stage → is_plain new.stage ≡ is_plain row.stage → IsBatch d (is_hop row.stage) outs → AreIdle rows
     → (1 < length (set rows 0 new) → ready ≡ []) → (length (set rows 0 new) ≤ 1 → ready ≡ outs)
     → ((next : Row) → later ≡ set (set rows 0 new) 1 (record (get_or (set rows 0 new) 1 next) { waiting = outs }))

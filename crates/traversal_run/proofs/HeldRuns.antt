@@ -1,5 +1,6 @@
 -- How many elements a run holds: at rest, amid a call, and at its beginning.
-use Rattle.std.proofs.Common.{◌≡◌, inl, ⊎_elim, ◌<◌, ◌≤◌, ℕ, ◌+◌, ◌*◌, suc, zero, Bool, true, false, cond, List, [], ◌∷◌, ◌++◌, length, map, drop, get_or, add-one, refl, sym, ap, ◌∙◌, subst, arith}
+use Rattle.std.proofs.Common.{◌≡◌, inl, ⊎_elim, ◌<◌, ◌≤◌, ℕ, ◌+◌, ◌*◌, suc, zero, Bool, true, false, cond, List, []}
+use Rattle.std.proofs.Common.{◌∷◌, ◌++◌, length, map, drop, get_or, add-one, refl, sym, ap, ◌∙◌, subst, arith}
 use Rattle.std.specs.List.{count_by, sum_by}
 use Rattle.std.proofs.Math.Nat.{mul-le-mul_right}
 use Rattle.std.proofs.lemmas.List.Sums.{sum_by-append, sum_by-cons}
@@ -8,7 +9,8 @@ use Rattle.plain_graph.specs.declared.query.BodyStep.{BodyStep}
 use Rattle.plain_graph.specs.declared.query.BodyStep.TheVariants as bodies
 use Rattle.plain_graph.specs.declared.query.Step.{Step}
 use Rattle.plain_graph.specs.declared.query.Step.TheVariants as steps
-use Rattle.traversal_run.specs.Held.{AreNear, ArePlain, ArePlainSteps, AreWithin, IsNear, IsWithin, elements_in, hops_in, hops_of, hops_of_step, is_body_hop, is_hop, is_plain_step, room_behind}
+use Rattle.traversal_run.specs.Held.{AreNear, ArePlain, ArePlainSteps, AreWithin, IsNear, IsWithin, elements_in}
+use Rattle.traversal_run.specs.Held.{hops_in, hops_of, hops_of_step, is_body_hop, is_hop, is_plain_step, room_behind}
 use Rattle.traversal_run.specs.Row.{AreIdle}
 use Rattle.traversal_run.specs.Stage.{is_spent}
 use Rattle.traversal_run.specs.Starting.{body_row, repeat_rows, rows_of, rows_of_step}
@@ -32,11 +34,13 @@ within_held d behind (row ∷ rows) ready within =
     let here = within.0 in
     let rest = within_held d (is_hop row.stage) rows ready within.1 in
     let sum = sum_by-cons (λ (r : Row). elements_in r.waiting) row rows in
-    let hops : hops_in (row ∷ rows) * (2 * d) ≡ room_behind d (is_hop row.stage) + hops_in rows * (2 * d) = ap (λ n. n * (2 * d)) (hops-cons row rows) ∙ times_hop (is_hop row.stage) (hops_in rows) (2 * d) in
+    let hops : hops_in (row ∷ rows) * (2 * d) ≡ room_behind d (is_hop row.stage) + hops_in rows * (2 * d) = ap (λ n. n * (2 * d)) (hops-cons row rows)
+    ∙ times_hop (is_hop row.stage) (hops_in rows) (2 * d) in
     omega arith
 
 -- so the bound follows
-pub within_made : (d most : ℕ) (run : Run) → ArePlain run.rows.items → hops_in run.rows.items ≤ most → AreWithin d false run.rows.items run.ready → IsWithin d most run
+pub within_made : (d most : ℕ) (run : Run) → ArePlain run.rows.items → hops_in run.rows.items ≤ most → AreWithin d false run.rows.items run.ready
+    → IsWithin d most run
 within_made d most run plain hops rows = record {
   plain = plain;
   hops = hops;
@@ -82,7 +86,8 @@ pub spent_no_hop : (stage : Stage) → is_spent stage ≡ true → is_hop stage 
 spent_no_hop (stages.Mapped mapping) spent = absurd cc
 spent_no_hop stage spent = refl
 
-near_cut : (d : ℕ) (behind : Bool) (rows : List Row) (ready : List Item) (at : ℕ) (row any : Row) → at < length rows → row ≡ get_or rows at any → is_hop row.stage ≡ false
+near_cut : (d : ℕ) (behind : Bool) (rows : List Row) (ready : List Item) (at : ℕ) (row any : Row) → at < length rows → row ≡ get_or rows at any
+    → is_hop row.stage ≡ false
     → AreNear d behind rows ready → AreNear d false (drop (suc at) rows) ready
 near_cut d behind [] ready at row any lt is other near = absurd (omega arith)
 near_cut d behind (first ∷ rows) ready zero row any lt is other near =
@@ -94,7 +99,8 @@ near_cut d behind (first ∷ rows) ready (suc at) row any lt is other near =
     near_cut d (is_hop first.stage) rows ready at row any (omega arith) is other few.1)
     (λ (one : (length first.waiting ≤ 1) × AreIdle rows × (ready ≡ [])). subst (AreNear d false (drop (suc at) rows)) (sym one.2) (near-idle d false (drop (suc at) rows) (idle_drop rows (suc at) one.1))) near
 
-pub near-cut : (d most : ℕ) (rows later : List Row) (ready : List Item) (at : ℕ) (row any : Row) → at < length rows → row ≡ get_or rows at any → is_spent row.stage ≡ true → later ≡ drop (at + 1) rows
+pub near-cut : (d most : ℕ) (rows later : List Row) (ready : List Item) (at : ℕ) (row any : Row) → at < length rows → row ≡ get_or rows at any
+    → is_spent row.stage ≡ true → later ≡ drop (at + 1) rows
     → IsNear d most rows ready → IsNear d most later ready
 near-cut d most rows later ready at row any lt is spent drops near =
     let same : later ≡ drop (suc at) rows = drops ∙ ap (λ n. drop n rows) (add-one at) in
@@ -104,7 +110,8 @@ near-cut d most rows later ready at row any lt is spent drops near =
     record {
       plain = subst ArePlain (sym same) (plain-drop rows (suc at) near.plain);
       hops = omega arith;
-      near = subst (λ (list : List Row). AreNear d false list ready) (sym same) (near_cut d false rows ready at row any lt is (spent_no_hop row.stage spent) near.near);
+      near = subst (λ (list : List Row). AreNear d false list ready) (sym same)
+          (near_cut d false rows ready at row any lt is (spent_no_hop row.stage spent) near.near);
     }
 
 -- ---- the beginning
@@ -114,8 +121,10 @@ hops_append rows more = sum_by-append (λ (r : Row). cond (is_hop r.stage) 1 0) 
 
 hops_body : (body : List BodyStep) → hops_in (map body_row body) ≡ count_by is_body_hop body
 hops_body [] = refl
-hops_body (bodies.Neighbours hop ∷ body) = hops-cons (body_row (bodies.Neighbours hop)) (map body_row body) ∙ ap (λ n. 1 + n) (hops_body body) ∙ sym (sum_by-cons (λ b. cond (is_body_hop b) 1 0) (bodies.Neighbours hop) body)
-hops_body (bodies.Filter test ∷ body) = hops-cons (body_row (bodies.Filter test)) (map body_row body) ∙ ap (λ n. 0 + n) (hops_body body) ∙ sym (sum_by-cons (λ b. cond (is_body_hop b) 1 0) (bodies.Filter test) body)
+hops_body (bodies.Neighbours hop ∷ body) = hops-cons (body_row (bodies.Neighbours hop)) (map body_row body) ∙ ap (λ n. 1 + n) (hops_body body)
+    ∙ sym (sum_by-cons (λ b. cond (is_body_hop b) 1 0) (bodies.Neighbours hop) body)
+hops_body (bodies.Filter test ∷ body) = hops-cons (body_row (bodies.Filter test)) (map body_row body) ∙ ap (λ n. 0 + n) (hops_body body)
+    ∙ sym (sum_by-cons (λ b. cond (is_body_hop b) 1 0) (bodies.Filter test) body)
 
 hops_repeat : (times : ℕ) (rows : List Row) → hops_in (repeat_rows times rows) ≡ times * hops_in rows
 hops_repeat zero rows = omega arith

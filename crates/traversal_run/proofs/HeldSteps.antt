@@ -1,5 +1,6 @@
 -- What a step that keeps nothing gives for one item.
-use Rattle.std.proofs.Common.{◌≡◌, inl, inr, ◌≤◌, ℕ, ◌*◌, suc, zero, nat_eq, Bool, true, false, ◌||◌, cond, Option, None, Some, List, [], ◌∷◌, ◌++◌, length, map, take, refl, sym, ap, ◌∙◌, subst, arith}
+use Rattle.std.proofs.Common.{◌≡◌, inl, inr, ◌≤◌, ℕ, ◌*◌, suc, zero, nat_eq, Bool, true, false, ◌||◌, cond, Option}
+use Rattle.std.proofs.Common.{None, Some, List, [], ◌∷◌, ◌++◌, length, map, take, refl, sym, ap, ◌∙◌, subst, arith}
 use Rattle.std.specs.FinMap as maps
 use Rattle.std.specs.List.{filter, filter_map}
 use Rattle.std.specs.Option.{option_to_list}
@@ -75,7 +76,8 @@ few_at s shape store d degrees direction labels id = by (has_node (graph_of s) i
   where
     by : (b : Bool) → has_node (graph_of s) id ≡ b → length (edges_at (graph_of s) direction labels id) ≤ 2 * d
     by true node = let few = degrees id node in let most = edges_few (graph_of s) labels id direction in omega arith
-    by false none = let no : length (edges_at (graph_of s) direction labels id) ≡ 0 = ap length (edges_at-no_node s shape store labels id direction none) in omega arith
+    by false none = let no : length (edges_at (graph_of s) direction labels id) ≡ 0 = ap length (edges_at-no_node s shape store labels id direction none) in
+        omega arith
 
 -- ---- one item
 
@@ -120,7 +122,8 @@ module _ (graph : Graph) (d : ℕ) (few : AreFewAt graph d) where
   mapped_batch (mappings.Neighbours hop) (items.Value value) = hop_batch [] (omega arith)
   mapped_batch (mappings.Incident hop) (items.Vertex id) = hop_batch _ (edges_most hop.direction hop.labels id)
     where
-      edges_most : (direction : Direction) (labels : List (List ℕ)) (id : ℕ) → length (incident graph (record { direction = direction; labels = labels }) (items.Vertex id)) ≤ 2 * d
+      edges_most : (direction : Direction) (labels : List (List ℕ)) (id : ℕ)
+          → length (incident graph (record { direction = direction; labels = labels }) (items.Vertex id)) ≤ 2 * d
       edges_most direction labels id = let most = few direction labels id in omega (arith, length-map (edges_at graph direction labels id) edge_item)
   mapped_batch (mappings.Incident hop) (items.Edge id label from to) = hop_batch [] (omega arith)
   mapped_batch (mappings.Incident hop) (items.Value value) = hop_batch [] (omega arith)
@@ -136,7 +139,8 @@ module _ (graph : Graph) (d : ℕ) (few : AreFewAt graph d) where
       by true = omega arith
       by false = omega arith
   mapped_batch (mappings.Values keys) item =
-      let none : elements_in (distinct_values graph keys item ++ []) ≡ 0 = ap elements_in (append-nil (distinct_values graph keys item)) ∙ distinct_none graph keys item in
+      let none : elements_in (distinct_values graph keys item ++ []) ≡ 0 = ap elements_in (append-nil (distinct_values graph keys item))
+      ∙ distinct_none graph keys item in
       inl (omega arith)
   mapped_batch mappings.Id (items.Vertex id) = inr (omega arith)
   mapped_batch mappings.Id (items.Edge id label from to) = inr (omega arith)
@@ -170,7 +174,8 @@ plain_quiet (stages.Order key descending kept told) plain = absurd cc
 plain_quiet stage plain = refl
 
 -- so of what a step took
-pub takes_batch : (graph : Graph) (d : ℕ) → AreFewAt graph d → (old new : Stage) (item : Item) (outs : List Item) → is_plain old ≡ true → is_plain new ≡ is_plain old
+pub takes_batch : (graph : Graph) (d : ℕ) → AreFewAt graph d → (old new : Stage) (item : Item) (outs : List Item) → is_plain old ≡ true
+    → is_plain new ≡ is_plain old
     → Takes graph old item outs new → IsBatch d (is_hop old) outs
 takes_batch graph d few old new item outs plain same takes =
     let quiet = nothing_after graph new (plain_quiet new (same ∙ plain)) in

@@ -1,5 +1,7 @@
 -- The edges that a hop takes at a vertex.
-use Rattle.std.proofs.Common.{◌≡◌, ◌≢◌, ◌<◌, ◌⊎◌, ℕ, zero, suc, Bool, true, false, ◌&&◌, ◌||◌, nat_eq, cond, Option, None, Some, List, [], ◌∷◌, ◌++◌, length, map, All, inl, inr, refl, sym, ap, ◌∙◌, subst, arith}
+use Rattle.std.proofs.Common.{◌≡◌, ◌≢◌, ◌<◌, ◌⊎◌, ℕ, zero, suc, Bool, true, false, ◌&&◌, ◌||◌, nat_eq, cond, Option}
+use Rattle.std.proofs.Common.{None, Some, List, [], ◌∷◌, ◌++◌, length, map, All, inl, inr, refl, sym, ap, ◌∙◌, subst}
+use Rattle.std.proofs.Common.{arith}
 use Rattle.std.specs.List.{filter, list_any}
 use Rattle.std.proofs.lemmas.Cmp.{nat_eq_equiv}
 use Rattle.std.proofs.lemmas.List.{map-append}
@@ -55,20 +57,24 @@ module _ (s : Records) (shape : Shape) (store : IsWellFormed s shape) where
   edge_is x e is = edge_parts (rec_at s format.names_file) (property_records s) (rel_at s x) e is
 
   -- no edge leaves or enters
-  nothing_at : (texts : List (List ℕ)) (id : ℕ) → ((x : ℕ) (e : Edge) → edge_of s x ≡ Some e → leaves_by texts id e ≡ false) → ((x : ℕ) (e : Edge) → edge_of s x ≡ Some e → enters_by texts id e ≡ false)
+  nothing_at : (texts : List (List ℕ)) (id : ℕ) → ((x : ℕ) (e : Edge) → edge_of s x ≡ Some e → leaves_by texts id e ≡ false)
+      → ((x : ℕ) (e : Edge) → edge_of s x ≡ Some e → enters_by texts id e ≡ false)
       → (direction : Direction) → edges_at (graph_of s) direction texts id ≡ []
   nothing_at texts id leave enter direction = by direction (collect_none (edge_of s) (leaves_by texts id) (high s format.relationships_file) (λ x e lt is. leave x e is)) (collect_none (edge_of s) (enters_by texts id) (high s format.relationships_file) (λ x e lt is. enter x e is))
     where
-      by : (direction : Direction) → filter (leaves_by texts id) (graph_of s).edges ≡ [] → filter (enters_by texts id) (graph_of s).edges ≡ [] → edges_at (graph_of s) direction texts id ≡ []
+      by : (direction : Direction) → filter (leaves_by texts id) (graph_of s).edges ≡ [] → filter (enters_by texts id) (graph_of s).edges ≡ []
+          → edges_at (graph_of s) direction texts id ≡ []
       by directions.Outgoing leaving entering = leaving
       by directions.Incoming leaving entering = entering
       by directions.Both leaving entering = λ i. leaving i ++ entering i
 
   -- no edge has one of these types, none of which is a name
-  pub edges_at-untyped : (texts : List (List ℕ)) (id : ℕ) (direction : Direction) → FindsNames s [] texts → texts ≢ [] → edges_at (graph_of s) direction texts id ≡ []
+  pub edges_at-untyped : (texts : List (List ℕ)) (id : ℕ) (direction : Direction) → FindsNames s [] texts → texts ≢ []
+      → edges_at (graph_of s) direction texts id ≡ []
   edges_at-untyped [] id direction finds some = absurd (some refl)
   edges_at-untyped (text ∷ texts) id direction finds some =
-      nothing_at (text ∷ texts) id (λ x e is. ap (λ b. nat_eq e.from id && b) (unnamed x e is) ∙ and_false (nat_eq e.from id)) (λ x e is. ap (λ b. nat_eq e.to id && b) (unnamed x e is) ∙ and_false (nat_eq e.to id)) direction
+      nothing_at (text ∷ texts) id (λ x e is. ap (λ b. nat_eq e.from id && b) (unnamed x e is) ∙ and_false (nat_eq e.from id))
+      (λ x e is. ap (λ b. nat_eq e.to id && b) (unnamed x e is) ∙ and_false (nat_eq e.to id)) direction
     where
       unnamed : (x : ℕ) (e : Edge) → edge_of s x ≡ Some e → is_named (text ∷ texts) e.label ≡ false
       unnamed x e is =
@@ -83,14 +89,16 @@ module _ (s : Records) (shape : Shape) (store : IsWellFormed s shape) where
       clash e = cc
 
   -- no edge is at what is no node
-  pub edges_at-no_node : (texts : List (List ℕ)) (id : ℕ) (direction : Direction) → has_node (graph_of s) id ≡ false → edges_at (graph_of s) direction texts id ≡ []
+  pub edges_at-no_node : (texts : List (List ℕ)) (id : ℕ) (direction : Direction) → has_node (graph_of s) id ≡ false
+      → edges_at (graph_of s) direction texts id ≡ []
   edges_at-no_node texts id direction gone =
       nothing_at texts id
       (λ x e is. let edge = edge_is x e is in ap (λ b. b && is_named texts e.label) (not_here id gone edge.row.from e.from edge.from (store.linked.ends x edge.row edge.is).from))
       (λ x e is. let edge = edge_is x e is in ap (λ b. b && is_named texts e.label) (not_here id gone edge.row.to e.to edge.to (store.linked.ends x edge.row edge.is).to)) direction
 
 -- the numbers of some texts stand for them, where some number is known or no text is written
-pub stand_for : (s : Records) (labels : List ℕ) (texts : List (List ℕ)) → FindsNames s labels texts → All (λ label. label < name_count s) labels → (labels ≡ [] → texts ≡ []) → StandFor s labels texts
+pub stand_for : (s : Records) (labels : List ℕ) (texts : List (List ℕ)) → FindsNames s labels texts → All (λ label. label < name_count s) labels
+    → (labels ≡ [] → texts ≡ []) → StandFor s labels texts
 stand_for s [] [] finds below none = λ x lt. refl
 stand_for s [] (text ∷ texts) finds below none = absurd (clash (none refl))
   where
@@ -156,7 +164,8 @@ module _ (s : Records) where
 
   -- each edge is at the vertex by this end, and this is the other one
   ends_by : (id : ℕ) (test : Edge → Bool) (other : Edge → ℕ) → ((row : EdgeRow) (edge : Edge) → IsRowOf s row edge → test edge ≡ true → other_end id row ≡ other edge)
-      → (edges : List Edge) (rows : List EdgeRow) → AreRowsOf s rows (filter test edges) → map (end_item id) rows ≡ map (λ (edge : Edge). items.Vertex (other edge)) (filter test edges)
+      → (edges : List Edge) (rows : List EdgeRow) → AreRowsOf s rows (filter test edges)
+      → map (end_item id) rows ≡ map (λ (edge : Edge). items.Vertex (other edge)) (filter test edges)
   ends_by id test other each [] [] are = refl
   ends_by id test other each [] (row ∷ rows) are = absurd are
   ends_by id test other each (edge ∷ edges) rows are = by (ends_by id test other each edges) (test edge) refl rows are
@@ -181,16 +190,20 @@ module _ (s : Records) where
   module _ (graph : Graph) (texts : List (List ℕ)) (id : ℕ) where
     heads : (rows : List EdgeRow) → AreRowsOf s rows (leaving graph texts id) → map (end_item id) rows ≡ heads_of (leaving graph texts id)
     heads rows are = ends_by id (leaves_by texts id) (λ edge. edge.to)
-        (λ row edge is passes. end_from id row (is.from ∙ eqb-true edge.from id (and_parts (nat_eq edge.from id) (is_named texts edge.label) passes).0) ∙ is.to) graph.edges rows are
+        (λ row edge is passes. end_from id row (is.from ∙ eqb-true edge.from id (and_parts (nat_eq edge.from id) (is_named texts edge.label) passes).0) ∙ is.to)
+        graph.edges rows are
 
     tails : (rows : List EdgeRow) → AreRowsOf s rows (entering graph texts id) → map (end_item id) rows ≡ tails_of (entering graph texts id)
     tails rows are = ends_by id (enters_by texts id) (λ edge. edge.from)
-        (λ row edge is passes. end_to id row (is.to ∙ eqb-true edge.to id (and_parts (nat_eq edge.to id) (is_named texts edge.label) passes).0) ∙ is.from) graph.edges rows are
+        (λ row edge is passes. end_to id row (is.to ∙ eqb-true edge.to id (and_parts (nat_eq edge.to id) (is_named texts edge.label) passes).0) ∙ is.from)
+        graph.edges rows are
 
     -- rows at a vertex give its neighbours
-    pub rows-ends : (direction : Direction) (rows : List EdgeRow) → AreRowsOf s rows (edges_at graph direction texts id) → map (end_item id) rows ≡ neighbours_at graph direction texts id
+    pub rows-ends : (direction : Direction) (rows : List EdgeRow) → AreRowsOf s rows (edges_at graph direction texts id)
+        → map (end_item id) rows ≡ neighbours_at graph direction texts id
     rows-ends directions.Outgoing rows are = heads rows are
     rows-ends directions.Incoming rows are = tails rows are
     rows-ends directions.Both rows are =
         let parts = rows_of_both s (leaving graph texts id) (entering graph texts id) rows are in
-        ap (map (end_item id)) parts.is ∙ map-append (end_item id) parts.first parts.second ∙ (λ i. heads parts.first parts.firsts i ++ tails parts.second parts.seconds i)
+        ap (map (end_item id)) parts.is ∙ map-append (end_item id) parts.first parts.second
+        ∙ (λ i. heads parts.first parts.firsts i ++ tails parts.second parts.seconds i)

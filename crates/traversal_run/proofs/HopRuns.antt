@@ -1,5 +1,6 @@
 -- What a hop at one vertex reads, from its source up to the run.
-use Rattle.std.proofs.Common.{◌≡◌, ◌⊎◌, inl, inr, ⊎_elim, ◌<◌, ℕ, Bool, true, false, ◌||◌, nat_eq, None, List, [], ◌∷◌, length, get_or, set, refl, sym, ap, ◌∙◌, subst, arith}
+use Rattle.std.proofs.Common.{◌≡◌, ◌⊎◌, inl, inr, ⊎_elim, ◌<◌, ℕ, Bool, true, false, ◌||◌, nat_eq, None, List, [], ◌∷◌}
+use Rattle.std.proofs.Common.{length, get_or, set, refl, sym, ap, ◌∙◌, subst, arith}
 use Rattle.std.proofs.lemmas.Cmp.{nat_eq_equiv}
 use borrow.Author.Tests.{eqb-true}
 use Rattle.plain_graph.specs.Meaning.{is_asked}
@@ -81,7 +82,8 @@ pub record HopLeft {R : Type 0} (old now : R) (stage step : Stage) (left : Left)
 -- it was taken
 pub record HopTaken {R : Type 0} (space : SpaceGhosts R) (names : List (List ℕ)) (old now : R) (hop : Hop) (left : Left) (id : ℕ) : Type 0 where
   pub none : HasNone left
-  pub cost : space.tells → IsNamedStore (space.state old).records (space.state old).shape names → ReadsAtMost (reads_for_hop (space.state old).records hop id) (space.state old) (space.state now)
+  pub cost : space.tells → IsNamedStore (space.state old).records (space.state old).shape names
+      → ReadsAtMost (reads_for_hop (space.state old).records hop id) (space.state old) (space.state now)
 
 -- amid the loop
 pub record FedHop {R : Type 0} (space : SpaceGhosts R) (names : List (List ℕ)) (stage step : Stage) (old now : R) (before rest : Left) : Type 0 where
@@ -94,7 +96,8 @@ pub record JustTook {R : Type 0} (space : SpaceGhosts R) (names : List (List ℕ
   pub none : HasNone before → ⊥
 
 -- what a step that makes this hop reads
-as_hop : (stage : Stage) (hop : Hop) (item : Item) (s t : State) → MakesHop stage hop → StageReads stage item s t → ReadsAtMost (hop_reads s.records hop item) s t
+as_hop : (stage : Stage) (hop : Hop) (item : Item) (s t : State) → MakesHop stage hop → StageReads stage item s t
+    → ReadsAtMost (hop_reads s.records hop item) s t
 as_hop stage hop item s t makes reads =
     ⊎_elim (λ (is : stage ≡ stages.Mapped (mappings.Neighbours hop)). subst (λ (step : Stage). StageReads step item s t) is reads)
     (λ (is : stage ≡ stages.Mapped (mappings.Incident hop)). subst (λ (step : Stage). StageReads step item s t) is reads) makes
@@ -111,7 +114,8 @@ module _ {R : Type 0} (space : SpaceGhosts R) (names : List (List ℕ)) (stage :
         ⊎_elim (λ (l : HopLeft old now stage step left id).
         let taken : HopTaken space names old mid hop rest id = record {
           none = (taken_only left rest id x l.only takes).1;
-          cost = λ tells store. subst (λ (r : R). ReadsAtMost (reads_for_hop (space.state old).records hop id) (space.state r) (space.state mid)) l.here (reads_more 1 (reads_for_hop (space.state old).records hop id) (space.state now) (space.state mid) (omega arith) get);
+          cost = λ tells store. subst (λ (r : R). ReadsAtMost (reads_for_hop (space.state old).records hop id) (space.state r) (space.state mid)) l.here
+              (reads_more 1 (reads_for_hop (space.state old).records hop id) (space.state now) (space.state mid) (omega arith) get);
         } in
         taken)
         (λ (t : HopTaken space names old now hop left id). absurd (taken_none left rest x t.none takes)) (fed.one id hop makes only);
@@ -132,10 +136,13 @@ module _ {R : Type 0} (space : SpaceGhosts R) (names : List (List ℕ)) (stage :
           none = taken.1;
           cost = λ tells store.
               let there : IsNamedStore (space.state mid).records (space.state mid).shape names = rw read.same store in
-              let hops = as_hop stage hop (items.Vertex x) (space.state mid) (space.state last) makes (subst (λ (st : Stage). StageReads st (items.Vertex x) (space.state mid) (space.state last)) l.same (steps tells there)) in
-              let cost : reads_at_vertex (space.state mid).records hop x ≡ reads_at_vertex (space.state old).records hop id = λ i. reads_at_vertex (same i) hop (taken.0 i) in
+              let hops = as_hop stage hop (items.Vertex x) (space.state mid) (space.state last) makes
+              (subst (λ (st : Stage). StageReads st (items.Vertex x) (space.state mid) (space.state last)) l.same (steps tells there)) in
+              let cost : reads_at_vertex (space.state mid).records hop x ≡ reads_at_vertex (space.state old).records hop id = λ i.
+              reads_at_vertex (same i) hop (taken.0 i) in
               let first : ReadsAtMost 1 (space.state old) (space.state mid) = subst (λ (r : R). ReadsAtMost 1 (space.state r) (space.state mid)) l.here get in
-              reads_then 1 (reads_at_vertex (space.state old).records hop id) (reads_for_hop (space.state old).records hop id) (space.state old) (space.state mid) (space.state last) (omega arith) first
+              reads_then 1 (reads_at_vertex (space.state old).records hop id) (reads_for_hop (space.state old).records hop id) (space.state old)
+              (space.state mid) (space.state last) (omega arith) first
               (subst (λ n. ReadsAtMost n (space.state mid) (space.state last)) cost hops);
         } in
         done)
@@ -147,7 +154,8 @@ module _ {R : Type 0} (space : SpaceGhosts R) (names : List (List ℕ)) (stage :
   fed_took step now rest took = record { one = λ id hop makes only. inr (took.one id hop makes only); none = λ none. absurd (took.none none) }
 
 module _ {R : Type 0} (space : SpaceGhosts R) (names : List (List ℕ)) (stage : Stage) (old : R) (before : Source) where
-  pub feeds_took : (now : R) (after : Source) → after.edges ≡ before.edges → JustTook space names stage old now before.left after.left → FeedsHop space names stage old now before after
+  pub feeds_took : (now : R) (after : Source) → after.edges ≡ before.edges → JustTook space names stage old now before.left after.left
+      → FeedsHop space names stage old now before after
   feeds_took now after edges took = record {
     edges = edges;
     one = λ id hop makes only. let taken = took.one id hop makes only in (taken.none, taken.cost);
@@ -155,11 +163,13 @@ module _ {R : Type 0} (space : SpaceGhosts R) (names : List (List ℕ)) (stage :
   }
 
   -- no more is to come
-  pub feeds_over : (step : Stage) (now : R) (left : Left) (after : Source) → after.edges ≡ before.edges → HasNone after.left → FedHop space names stage step old now before.left left → FeedsHop space names stage old now before after
+  pub feeds_over : (step : Stage) (now : R) (left : Left) (after : Source) → after.edges ≡ before.edges → HasNone after.left
+      → FedHop space names stage step old now before.left left → FeedsHop space names stage old now before after
   feeds_over step now left after edges none fed = record {
     edges = edges;
     one = λ id hop makes only.
-        let cost : space.tells → IsNamedStore (space.state old).records (space.state old).shape names → ReadsAtMost (reads_for_hop (space.state old).records hop id) (space.state old) (space.state now)
+        let cost : space.tells → IsNamedStore (space.state old).records (space.state old).shape names
+        → ReadsAtMost (reads_for_hop (space.state old).records hop id) (space.state old) (space.state now)
         = ⊎_elim (λ (l : HopLeft old now stage step left id). λ tells store. subst (λ (r : R). ReadsAtMost (reads_for_hop (space.state old).records hop id) (space.state old) (space.state r)) (sym l.here) (reads_none (reads_for_hop (space.state old).records hop id) (space.state old)))
         (λ (t : HopTaken space names old now hop left id). t.cost) (fed.one id hop makes only) in
         (none, cost);
@@ -167,7 +177,8 @@ module _ {R : Type 0} (space : SpaceGhosts R) (names : List (List ℕ)) (stage :
   }
 
   -- nothing was to come
-  pub feeds_nothing : (now : R) (after : Source) → now ≡ old → after.edges ≡ before.edges → HasNone before.left → HasNone after.left → FeedsHop space names stage old now before after
+  pub feeds_nothing : (now : R) (after : Source) → now ≡ old → after.edges ≡ before.edges → HasNone before.left → HasNone after.left
+      → FeedsHop space names stage old now before after
   feeds_nothing now after same edges none over = record {
     edges = edges;
     one = λ id hop makes only. absurd (only_none before.left id only none);
@@ -211,7 +222,8 @@ quiet_alone rows alone at any lt opens =
     off_on opens (ap (λ n. is_open (get_or rows n any).stage) none ∙ ap (λ (rs : List Row). is_open (get_or rs 0 any).stage) alone.is ∙ hop_shut alone.row.stage alone.hop)
 
 -- the only row is one still, after it was fed
-pub alone_fed : (rows later : List Row) (any : Row) (stage : Stage) (outs : List Item) (alone : IsHopAlone rows) → is_hop stage ≡ is_hop (get_or rows 0 any).stage
+pub alone_fed : (rows later : List Row) (any : Row) (stage : Stage) (outs : List Item) (alone : IsHopAlone rows)
+    → is_hop stage ≡ is_hop (get_or rows 0 any).stage
     → ((next : Row) → later ≡ set (set rows 0 (record (get_or rows 0 any) { stage = stage })) 1 (record (get_or (set rows 0 (record (get_or rows 0 any) { stage = stage })) 1 next) { waiting = outs }))
     → IsHopAlone later
 alone_fed rows later any stage outs alone hops put = record {
@@ -257,10 +269,12 @@ module _ {R : Type 0} (space : SpaceGhosts R) (names : List (List ℕ)) (old now
         ⊎_elim (λ (here : (now ≡ old) × IsHop run id hop).
         let run_is = here.1 in
         let fed = (turn run_is.alone run_is.vertices).one id hop run_is.makes run_is.only in
-        subst (λ (r : R). ReadsAtMost (reads_for_hop (space.state r).records hop id) (space.state r) (space.state next)) here.0 (fed.1 tells (subst (λ (r : R). IsNamedStore (space.state r).records (space.state r).shape names) (sym here.0) store)))
+        subst (λ (r : R). ReadsAtMost (reads_for_hop (space.state r).records hop id) (space.state r) (space.state next)) here.0
+        (fed.1 tells (subst (λ (r : R). IsNamedStore (space.state r).records (space.state r).shape names) (sym here.0) store)))
         (λ (made : HopCost space names old now hop id × IsReady run).
         let fed = (turn made.1.alone made.1.vertices).none made.1.none in
-        subst (λ (r : R). ReadsAtMost (reads_for_hop (space.state old).records hop id) (space.state old) (space.state r)) (sym fed.1) (made.0 tells store)) (state.one id hop is)
+        subst (λ (r : R). ReadsAtMost (reads_for_hop (space.state old).records hop id) (space.state old) (space.state r)) (sym fed.1)
+        (made.0 tells store)) (state.one id hop is)
 
     pub turn_stops : HopStops space names old next first
     turn_stops = record {
@@ -305,7 +319,8 @@ ready_like run new source rows stopped is = record {
 }
 
 -- a result that was ready is given
-pub hop_gives : {R : Type 0} (space : SpaceGhosts R) (names : List (List ℕ)) (old now : R) (first run new : Run) (item : Item) (rest : List Item) → run.ready ≡ item ∷ rest
+pub hop_gives : {R : Type 0} (space : SpaceGhosts R) (names : List (List ℕ)) (old now : R) (first run new : Run) (item : Item) (rest : List Item)
+    → run.ready ≡ item ∷ rest
     → new.source ≡ run.source → new.rows.items ≡ run.rows.items → new.stopped ≡ run.stopped → HopState space names old now first run
     → ((id : ℕ) (hop : Hop) → IsHop first id hop → HopCost space names old now hop id × IsReady new) × (IsReady first → (now ≡ old) × IsReady new)
 hop_gives space names old now first run new item rest takes source rows stopped state = (

@@ -1,5 +1,7 @@
 -- The elements of the identifiers that are still to come, without the first.
-use Rattle.std.proofs.Common.{◌≡◌, ◌≢◌, ◌<◌, ◌≤◌, ◌⊎◌, ℕ, zero, suc, Bool, true, false, ◌||◌, nat_eq, cond, Option, None, Some, is_some, IfSome, List, [], ◌∷◌, ◌++◌, append_assoc, map, inl, inr, ⊎_elim, refl, sym, ap, ◌∙◌, arith}
+use Rattle.std.proofs.Common.{◌≡◌, ◌≢◌, ◌<◌, ◌≤◌, ◌⊎◌, ℕ, zero, suc, Bool, true, false, ◌||◌, nat_eq, cond, Option}
+use Rattle.std.proofs.Common.{None, Some, is_some, IfSome, List, [], ◌∷◌, ◌++◌, append_assoc, map, inl, inr, ⊎_elim}
+use Rattle.std.proofs.Common.{refl, sym, ap, ◌∙◌, arith}
 use Rattle.std.specs.List.{AllByRecursion, filter, list_any}
 use Rattle.std.specs.Option.{option_map}
 use Rattle.std.proofs.lemmas.Bool.{cases_lt}
@@ -34,12 +36,14 @@ option_all : {E : Type 0} (test : E → Bool) (o : Option E) → ((e : E) → o 
 option_all test None each = refl
 option_all test (Some e) each = rw (each e refl) refl
 
-option_same : {E : Type 0} (test other : E → Bool) (o : Option E) → ((e : E) → o ≡ Some e → test e ≡ other e) → filter test (option_list o) ≡ filter other (option_list o)
+option_same : {E : Type 0} (test other : E → Bool) (o : Option E) → ((e : E) → o ≡ Some e → test e ≡ other e)
+    → filter test (option_list o) ≡ filter other (option_list o)
 option_same test other None each = refl
 option_same test other (Some e) each = ap (λ b. cond b (e ∷ []) []) (each e refl)
 
 -- none of them passes
-pub collect_none : {E : Type 0} (row : ℕ → Option E) (test : E → Bool) (n : ℕ) → ((x : ℕ) (e : E) → x < n → row x ≡ Some e → test e ≡ false) → filter test (collect row n) ≡ []
+pub collect_none : {E : Type 0} (row : ℕ → Option E) (test : E → Bool) (n : ℕ) → ((x : ℕ) (e : E) → x < n → row x ≡ Some e → test e ≡ false)
+    → filter test (collect row n) ≡ []
 collect_none row test zero none = refl
 collect_none row test (suc n) none =
     filter-append test (collect row n) (option_list (row n))
@@ -73,7 +77,8 @@ module _ {E : Type 0} (of : E → ℕ) (row : ℕ → Option E) (numbered : (x :
     first_left zero lt = absurd (omega arith)
     first_left (suc n) lt = by (nat_cases id n) (first_left n)
       where
-        both : (test : ℕ → Bool) → filter (λ e. test (of e)) (collect row (suc n)) ≡ filter (λ e. test (of e)) (collect row n) ++ filter (λ e. test (of e)) (option_list (row n))
+        both : (test : ℕ → Bool) → filter (λ e. test (of e)) (collect row (suc n)) ≡ filter (λ e. test (of e)) (collect row n) ++ filter (λ e. test (of e))
+            (option_list (row n))
         both test = filter-append (λ e. test (of e)) (collect row n) (option_list (row n))
 
         by : (id ≡ n) ⊎ (id ≢ n) → (id < n → filter (λ e. old (of e)) (collect row n) ≡ option_list (row id) ++ filter (λ e. new (of e)) (collect row n))
@@ -88,7 +93,8 @@ module _ {E : Type 0} (of : E → ℕ) (row : ℕ → Option E) (numbered : (x :
             ∙ sym (append-nil (option_list (row id)))
             ∙ ap (λ list. option_list (row id) ++ list) (sym new_gone)
         by (inr other) before =
-            let same = option_same (λ e. old (of e)) (λ e. new (of e)) (row n) (λ e is. ap old (numbered n e is) ∙ old_later n (omega (arith, lt, other)) ∙ ap new (sym (numbered n e is))) in
+            let same = option_same (λ e. old (of e)) (λ e. new (of e)) (row n)
+            (λ e is. ap old (numbered n e is) ∙ old_later n (omega (arith, lt, other)) ∙ ap new (sym (numbered n e is))) in
             both old
             ∙ (λ i. before (omega (arith, lt, other)) i ++ same i)
             ∙ append_assoc (option_list (row id)) (filter (λ e. new (of e)) (collect row n)) (filter (λ e. new (of e)) (option_list (row n)))
@@ -134,11 +140,13 @@ module _ (records : Records) where
 
 -- ---- the first that was to come
 
-pub gives-some : (graph : Graph) (old now new : Source) (item : Option Item) → is_some item ≡ true → left_of graph now ≡ left_of graph old → left_of graph now ≡ option_list item ++ left_of graph new → GivesFirst graph old item new
+pub gives-some : (graph : Graph) (old now new : Source) (item : Option Item) → is_some item ≡ true → left_of graph now ≡ left_of graph old
+    → left_of graph now ≡ option_list item ++ left_of graph new → GivesFirst graph old item new
 gives-some graph old now new None some same takes = absurd cc
 gives-some graph old now new (Some item) some same takes = sym same ∙ takes
 
-pub gives-later : (graph : Graph) (old now new : Source) (item : Option Item) → is_some item ≡ false → left_of graph now ≡ left_of graph old → left_of graph now ≡ option_list item ++ left_of graph new → left_of graph new ≡ left_of graph old
+pub gives-later : (graph : Graph) (old now new : Source) (item : Option Item) → is_some item ≡ false → left_of graph now ≡ left_of graph old
+    → left_of graph now ≡ option_list item ++ left_of graph new → left_of graph new ≡ left_of graph old
 gives-later graph old now new None none same takes = sym takes ∙ same
 gives-later graph old now new (Some item) none same takes = absurd cc
 
@@ -152,12 +160,14 @@ above_any id other (first ∷ ids) above any = by (nat_eq other first) refl any 
     by true same any later = let is = eqb-true other first same in let low = above.0 in omega (arith, is, low)
     by false same any later = later any
 
-takes-asked : (old : Left) (asked ids : List ℕ) (id : ℕ) → old ≡ Among asked → asked ≡ id ∷ ids → AllByRecursion (λ later. id < later) ids → TakesId old id (Among ids)
+takes-asked : (old : Left) (asked ids : List ℕ) (id : ℕ) → old ≡ Among asked → asked ≡ id ∷ ids → AllByRecursion (λ later. id < later) ids
+    → TakesId old id (Among ids)
 takes-asked old asked ids id is first above = record {
   among = λ other. ap (λ (left : Left). is_left left other) is ∙ ap (λ list. list_any (nat_eq other) list) first;
   first = λ other any. above_any id other ids above any;
 }
 
-pub takes-if : (old : Left) (asked ids : List ℕ) (found : Option ℕ) → old ≡ Among asked → IfSome found (λ id. asked ≡ id ∷ ids) → IfSome found (λ id. AllByRecursion (λ later. id < later) ids) → IfSome found (λ id. TakesId old id (Among ids))
+pub takes-if : (old : Left) (asked ids : List ℕ) (found : Option ℕ) → old ≡ Among asked → IfSome found (λ id. asked ≡ id ∷ ids)
+    → IfSome found (λ id. AllByRecursion (λ later. id < later) ids) → IfSome found (λ id. TakesId old id (Among ids))
 takes-if old asked ids None is first above = tt
 takes-if old asked ids (Some id) is first above = takes-asked old asked ids id is first above

@@ -1,5 +1,7 @@
 -- A limit that is the last step, and how many items it still lets through.
-use Rattle.std.proofs.Common.{◌≡◌, ◌<◌, ◌≤◌, ℕ, ◌+◌, ◌-◌, suc, zero, Bool, true, false, not, ◌&&◌, cond, Option, None, Some, List, [], ◌∷◌, ◌++◌, length, take, drop, get_or, set, map, add-one, add-zero, zero-add, refl, sym, ap, ◌∙◌, ⊎_elim, arith}
+use Rattle.std.proofs.Common.{◌≡◌, ◌<◌, ◌≤◌, ℕ, ◌+◌, ◌-◌, suc, zero, Bool, true, false, not, ◌&&◌, cond, Option, None}
+use Rattle.std.proofs.Common.{Some, List, [], ◌∷◌, ◌++◌, length, take, drop, get_or, set, map, add-one, add-zero}
+use Rattle.std.proofs.Common.{zero-add, refl, sym, ap, ◌∙◌, ⊎_elim, arith}
 use borrow.Author.Tests.{eqb-true}
 use Rattle.std.proofs.Math.ListN.{get_or-map}
 use Rattle.std.specs.Bool.{IsTrue}
@@ -26,7 +28,8 @@ with_more_none None = refl
 with_more_none (Some n) = ap (λ m. Some m) (add-zero n)
 
 -- a step that takes another's place counts where that did
-no_count-set : (steps : List Stage) (at : ℕ) (new any : Stage) → at < length steps → is_count new ≡ is_count (get_or steps at any) → have_no_count (set steps at new) ≡ have_no_count steps
+no_count-set : (steps : List Stage) (at : ℕ) (new any : Stage) → at < length steps → is_count new ≡ is_count (get_or steps at any)
+    → have_no_count (set steps at new) ≡ have_no_count steps
 no_count-set [] at new any lt same = absurd (omega arith)
 no_count-set (step ∷ steps) zero new any lt same = λ i. not (same i) && have_no_count steps
 no_count-set (step ∷ steps) (suc at) new any lt same = ap (λ b. not (is_count step) && b) (no_count-set steps at new any (omega arith) same)
@@ -63,7 +66,8 @@ last_other (step ∷ next ∷ steps) zero new lt = refl
 last_other (step ∷ next ∷ steps) (suc at) new lt =
     last_behind step (set (next ∷ steps) at new) (omega (arith, length-set (next ∷ steps) at new)) ∙ last_other (next ∷ steps) at new (omega arith)
 
-pub allowed_some : (over : Bool) (steps : List Stage) (ready : ℕ) → 0 < length steps → allowed_by over steps ready ≡ cond (have_no_count steps) (with_more (last_limit steps) ready) None
+pub allowed_some : (over : Bool) (steps : List Stage) (ready : ℕ) → 0 < length steps
+    → allowed_by over steps ready ≡ cond (have_no_count steps) (with_more (last_limit steps) ready) None
 allowed_some over [] ready some = absurd (omega arith)
 allowed_some over (step ∷ steps) ready some = refl
 
@@ -76,7 +80,8 @@ module _ (steps : List Stage) (at : ℕ) (new any : Stage) (outs ready : ℕ) (w
       (λ (lt : at + 1 < length steps). ap (with_more (last_limit (set steps at new))) (passed lt) ∙ ap (λ o. with_more o 0) (last_other steps at new (omega arith)))
       (λ (le : length steps ≤ at + 1).
       let long : length steps ≡ suc at = omega arith in
-      ap (with_more (last_limit (set steps at new))) (given le) ∙ ap (λ o. with_more o outs) (last_set steps at new long) ∙ limits ∙ sym (last_at steps at any long) ∙ sym (with_more_none (last_limit steps)))
+      ap (with_more (last_limit (set steps at new))) (given le) ∙ ap (λ o. with_more o outs) (last_set steps at new long) ∙ limits
+      ∙ sym (last_at steps at any long) ∙ sym (with_more_none (last_limit steps)))
       (cases_lt (at + 1) (length steps))
 
   pub allowed-set : (over : Bool) → allowed_by over (set steps at new) ready ≡ allowed_by over steps 0
@@ -99,7 +104,8 @@ allowed-row rows later at row new any outs ready within is limits counts stages 
     let kept = length-set rows at new in
     let stage = stage_at rows at row any is in
     ap (λ steps. allowed_by over steps (length ready)) (stages ∙ map-set (λ (r : Row). r.stage) rows at new)
-    ∙ allowed-set (stages_of rows) at new.stage any.stage (length outs) (length ready) (omega arith) (limits ∙ ap limit_left (sym stage)) (counts ∙ ap is_count (sym stage))
+    ∙ allowed-set (stages_of rows) at new.stage any.stage (length outs) (length ready) (omega arith) (limits ∙ ap limit_left (sym stage))
+    (counts ∙ ap is_count (sym stage))
     (λ lt. ap length (passed (omega arith))) (λ le. ap length (given (omega arith))) over
 
 -- ---- a limit that lets nothing more through
@@ -121,7 +127,8 @@ first_no_count true b none = cc
 first_no_count false b none = (refl, none)
 
 -- what these steps let through is not of the first of them, unless it counts or is the only one
-allowed_later : (over : Bool) (step : Stage) (steps : List Stage) (ready : ℕ) → 0 < length steps → is_count step ≡ false → allowed_by over (step ∷ steps) ready ≡ allowed_by over steps ready
+allowed_later : (over : Bool) (step : Stage) (steps : List Stage) (ready : ℕ) → 0 < length steps → is_count step ≡ false
+    → allowed_by over (step ∷ steps) ready ≡ allowed_by over steps ready
 allowed_later over step steps ready some none =
     (λ i. cond (not (none i) && have_no_count steps) (with_more (last_behind step steps some i) ready) None) ∙ sym (allowed_some over steps ready some)
 
@@ -134,21 +141,25 @@ allowed_any [] ready over other some = absurd (omega arith)
 allowed_any (step ∷ steps) ready over other some = refl
 
 -- the steps up to such a limit are left out, if none of them counts
-allowed_cut : (over : Bool) (steps : List Stage) (at : ℕ) (any : Stage) (ready : ℕ) → at < length steps → is_spent (get_or steps at any) ≡ true → have_no_count (take at steps) ≡ true
+allowed_cut : (over : Bool) (steps : List Stage) (at : ℕ) (any : Stage) (ready : ℕ) → at < length steps → is_spent (get_or steps at any) ≡ true
+    → have_no_count (take at steps) ≡ true
     → allowed_by true (drop (suc at) steps) ready ≡ allowed_by over steps ready
 allowed_cut over [] at any ready lt spent none = absurd (omega arith)
 allowed_cut over (step ∷ []) zero any ready lt spent none = sym (allowed_one over step ready spent)
-allowed_cut over (step ∷ next ∷ steps) zero any ready lt spent none = sym (allowed_later over step (next ∷ steps) ready (omega arith) (spent_no_count step spent))
+allowed_cut over (step ∷ next ∷ steps) zero any ready lt spent none = sym
+    (allowed_later over step (next ∷ steps) ready (omega arith) (spent_no_count step spent))
 allowed_cut over (step ∷ steps) (suc at) any ready lt spent none =
     let both = first_no_count (is_count step) (have_no_count (take at steps)) none in
     allowed_cut over steps at any ready (omega arith) spent both.1 ∙ sym (allowed_later over step steps ready (omega arith) both.0)
 
 -- the same of rows of steps
 pub allowed-cut : (over : Bool) (rows : List Row) (at : ℕ) (row any : Row) (ready : ℕ) → at < length rows → row ≡ get_or rows at any → is_spent row.stage ≡ true
-    → list_all (λ (r : Row). not (is_count r.stage)) (take at rows) ≡ true → allowed_by true (stages_of (drop (at + 1) rows)) ready ≡ allowed_by over (stages_of rows) ready
+    → list_all (λ (r : Row). not (is_count r.stage)) (take at rows) ≡ true
+    → allowed_by true (stages_of (drop (at + 1) rows)) ready ≡ allowed_by over (stages_of rows) ready
 allowed-cut over rows at row any ready lt is spent none =
     let long = length-map rows (λ (r : Row). r.stage) in
-    let first : have_no_count (take at (stages_of rows)) ≡ true = ap have_no_count (take-map (λ (r : Row). r.stage) at rows) ∙ sym (no_count-rows (take at rows)) ∙ none in
+    let first : have_no_count (take at (stages_of rows)) ≡ true = ap have_no_count (take-map (λ (r : Row). r.stage) at rows)
+    ∙ sym (no_count-rows (take at rows)) ∙ none in
     ap (λ n. allowed_by true (stages_of (drop n rows)) ready) (add-one at)
     ∙ ap (λ steps. allowed_by true steps ready) (sym (drop-map (λ (r : Row). r.stage) (suc at) rows))
     ∙ allowed_cut over (stages_of rows) at any.stage ready (omega arith) (ap is_spent (stage_at rows at row any is) ∙ spent) first
@@ -174,11 +185,13 @@ allowed-zero_ready over steps [] all = refl
 allowed-zero_ready over steps (item ∷ ready) all = let none = ready_none over steps (suc (length ready)) all in absurd (omega (arith, none))
 
 -- and the last step is such a limit, or no step is left
-pub allowed-zero_last : (over : Bool) (rows : List Row) (at : ℕ) (row any : Row) → length rows ≡ suc at → row ≡ get_or rows at any → allowed_by over (stages_of rows) 0 ≡ Some 0
+pub allowed-zero_last : (over : Bool) (rows : List Row) (at : ℕ) (row any : Row) → length rows ≡ suc at → row ≡ get_or rows at any
+    → allowed_by over (stages_of rows) 0 ≡ Some 0
     → (is_spent row.stage ≡ true) × (list_all (λ (r : Row). not (is_count r.stage)) rows ≡ true)
 allowed-zero_last over rows at row any long is none =
     let same = length-map rows (λ (r : Row). r.stage) in
-    let last : last_limit (stages_of rows) ≡ limit_left row.stage = last_at (stages_of rows) at any.stage (omega arith) ∙ ap limit_left (stage_at rows at row any is) in
+    let last : last_limit (stages_of rows) ≡ limit_left row.stage = last_at (stages_of rows) at any.stage (omega arith)
+    ∙ ap limit_left (stage_at rows at row any is) in
     let parts = by (have_no_count (stages_of rows)) (last_limit (stages_of rows)) (sym (allowed_some over (stages_of rows) 0 (omega arith)) ∙ none) in
     (ap is_zero (sym last ∙ parts.1), no_count-rows rows ∙ parts.0)
   where
@@ -191,7 +204,8 @@ pub allowed-zero_is : (over : Bool) (rows : List Row) (at : ℕ) (row any : Row)
     → list_all (λ (r : Row). not (is_count r.stage)) rows ≡ true → allowed_by over (stages_of rows) 0 ≡ Some 0
 allowed-zero_is over rows at row any long is spent none =
     let same = length-map rows (λ (r : Row). r.stage) in
-    let last : last_limit (stages_of rows) ≡ limit_left row.stage = last_at (stages_of rows) at any.stage (omega arith) ∙ ap limit_left (stage_at rows at row any is) in
+    let last : last_limit (stages_of rows) ≡ limit_left row.stage = last_at (stages_of rows) at any.stage (omega arith)
+    ∙ ap limit_left (stage_at rows at row any is) in
     let none_counts : have_no_count (stages_of rows) ≡ true = sym (no_count-rows rows) ∙ none in
     allowed_some over (stages_of rows) 0 (omega arith) ∙ (λ i. cond (none_counts i) (with_more ((last ∙ spent_limit row.stage spent) i) 0) None)
 
@@ -204,9 +218,11 @@ module _ (over : Bool) (rows : List Row) (row : Row) (ready : List Item) (none :
   last_is = sym (get_or_from_slice_get rows (length rows - 1) row row (sym last))
 
   pub spent-yes : is_spent row.stage ≡ true → (counts_none : Bool) → counts_none ≡ list_all (λ (r : Row). not (is_count r.stage)) rows
-      → (IsTrue counts_none → allowed_by over (stages_of rows) (length ready) ≡ Some 0) × (allowed_by over (stages_of rows) (length ready) ≡ Some 0 → IsTrue counts_none)
+      → (IsTrue counts_none → allowed_by over (stages_of rows) (length ready) ≡ Some 0)
+      × (allowed_by over (stages_of rows) (length ready) ≡ Some 0 → IsTrue counts_none)
   spent-yes spent counts_none is = (
-    λ yes. ap (λ (items : List Item). allowed_by over (stages_of rows) (length items)) none ∙ allowed-zero_is over rows (length rows - 1) row row last_there last_is spent (sym is ∙ yes),
+    λ yes. ap (λ (items : List Item). allowed_by over (stages_of rows) (length items)) none
+        ∙ allowed-zero_is over rows (length rows - 1) row row last_there last_is spent (sym is ∙ yes),
     λ all. is ∙ (allowed-zero_last over rows (length rows - 1) row row last_there last_is (sym (ap (λ (items : List Item). allowed_by over (stages_of rows) (length items)) none) ∙ all)).1,
   )
 
@@ -223,7 +239,8 @@ no_count-append (step ∷ steps) later none =
     ap (λ b. not b && have_no_count (steps ++ later)) both.0 ∙ no_count-append steps later both.1
 
 -- what the last steps let through, whatever doesn't count before them
-allowed-append : (over : Bool) (steps later : List Stage) (ready : ℕ) → have_no_count steps ≡ true → 0 < length later → allowed_by over (steps ++ later) ready ≡ allowed_by over later ready
+allowed-append : (over : Bool) (steps later : List Stage) (ready : ℕ) → have_no_count steps ≡ true → 0 < length later
+    → allowed_by over (steps ++ later) ready ≡ allowed_by over later ready
 allowed-append over [] later ready none some = refl
 allowed-append over (step ∷ steps) later ready none some =
     let both = first_no_count (is_count step) (have_no_count steps) none in

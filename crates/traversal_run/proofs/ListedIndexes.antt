@@ -1,5 +1,7 @@
 -- The indexes of the graph of a store are those that its definitions list.
-use Rattle.std.proofs.Common.{◌≡◌, ◌<◌, ◌⊎◌, ◌∙◌, ℕ, zero, suc, nat_eq, nat_lt, Bool, true, false, ◌||◌, ◌&&◌, if◌then◌else◌, Option, None, Some, List, [], ◌∷◌, length, true≢false, inl, inr, refl, sym, ap, subst, ⊎_elim, arith}
+use Rattle.std.proofs.Common.{◌≡◌, ◌<◌, ◌⊎◌, ◌∙◌, ℕ, zero, suc, nat_eq, nat_lt, Bool, true, false, ◌||◌, ◌&&◌}
+use Rattle.std.proofs.Common.{if◌then◌else◌, Option, None, Some, List, [], ◌∷◌, length, true≢false, inl, inr, refl, sym}
+use Rattle.std.proofs.Common.{ap, subst, ⊎_elim, arith}
 use Rattle.std.specs.List.{flat_map, list_any}
 use borrow.Author.Tests.{eqb-true}
 use Rattle.std.proofs.lemmas.List.Folds.{list_any-append}
@@ -124,14 +126,16 @@ module _ (s : Records) (shape : Shape) (store : IsIndexed s shape) where
   of_pair label key = record { label = name label; key = name key }
 
   -- a definition of names is that of an index
-  pub has_defined : (label key d : ℕ) → label < count → key < count → In d store.indexes.definitions → IsPair s label key d → has_index (graph_of s) (name label) (name key) ≡ true
+  pub has_defined : (label key d : ℕ) → label < count → key < count → In d store.indexes.definitions → IsPair s label key d
+      → has_index (graph_of s) (name label) (name key) ≡ true
   has_defined label key d label_low key_low i pair =
       let used : kinds d ≡ format.definition = store.indexes.defined d i in
       let low : d < mark = kind_below mark (records d) d (λ e. omega (arith, used, e)) in
       let is : is_definition_of kinds records label key d ≡ true
       = ap (λ (b : Bool). b && (nat_eq (indexed_label s d) label && nat_eq (indexed_key s d) key)) (eq_true (kinds d) format.definition used)
       ∙ ap (λ (b : Bool). b && nat_eq (indexed_key s d) key) (eq_true (indexed_label s d) label pair.0) ∙ eq_true (indexed_key s d) key pair.1 in
-      let some : nat_lt 0 (length (ids (is_definition_of kinds records label key) mark)) ≡ true = has_some (ids (is_definition_of kinds records label key) mark) d (in_ids (is_definition_of kinds records label key) mark d low is) in
+      let some : nat_lt 0 (length (ids (is_definition_of kinds records label key) mark)) ≡ true =
+      has_some (ids (is_definition_of kinds records label key) mark) d (in_ids (is_definition_of kinds records label key) mark d low is) in
       let here : from label key ≡ Some (of_pair label key) = ap (λ (b : Bool). if b then Some (of_pair label key) else None) some in
       any_flat (is_of (name label) (name key)) (λ l. collect (from l) count) (ids (λ l. true) count) label (in_ids (λ l. true) count label label_low refl)
       (any_collect (is_of (name label) (name key)) (from label) count key (of_pair label key) key_low here
@@ -154,7 +158,8 @@ module _ (s : Records) (shape : Shape) (store : IsIndexed s shape) where
       let entry : kinds d ≡ format.indexed = (store.indexes.buckets e b i lt).kind d member in absurd (omega (arith, used, entry))
 
   -- an index that is found is listed
-  from_listed : (label key : ℕ) (texts : Index) → label < count → key < count → from label key ≡ Some texts → (l k : List ℕ) → is_of l k texts ≡ true → HasListed l k
+  from_listed : (label key : ℕ) (texts : Index) → label < count → key < count → from label key ≡ Some texts → (l k : List ℕ) → is_of l k texts ≡ true
+      → HasListed l k
   from_listed label key texts label_low key_low is l k passes = by (nat_lt 0 (length found)) refl is
     where
       found : List ℕ

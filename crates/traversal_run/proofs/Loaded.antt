@@ -1,5 +1,6 @@
 -- What a load of an element says of its item.
-use Rattle.std.proofs.Common.{◌≡◌, ◌≢◌, ◌⊎◌, ◌<◌, ℕ, Bool, true, false, ◌||◌, cond, nat_eq, None, Some, List, [], ◌∷◌, find, inl, inr, refl, sym, ap, ◌∙◌, subst, ⊎_elim}
+use Rattle.std.proofs.Common.{◌≡◌, ◌≢◌, ◌⊎◌, ◌<◌, ℕ, Bool, true, false, ◌||◌, cond, nat_eq, None, Some, List, [], ◌∷◌}
+use Rattle.std.proofs.Common.{find, inl, inr, refl, sym, ap, ◌∙◌, subst, ⊎_elim}
 use Rattle.std.specs.List.{list_any}
 use Rattle.std.specs.Option.{option_map}
 use Rattle.std.specs.FinMap as maps
@@ -50,14 +51,16 @@ find-none test (x ∷ xs) none = by (test x) (find-none test xs) none
     by false later e = later e
 
 -- a node that isn't in use has no properties and no label
-pub node_not_found : (s : Records) (id : ℕ) → kind_at s format.nodes_file id ≡ format.free_kind → find (λ node. nat_eq (node_number node) id) (graph_of s).nodes ≡ None
+pub node_not_found : (s : Records) (id : ℕ) → kind_at s format.nodes_file id ≡ format.free_kind
+    → find (λ node. nat_eq (node_number node) id) (graph_of s).nodes ≡ None
 node_not_found s id free = find-none (λ node. nat_eq (node_number node) id) (graph_of s).nodes (no_node s id free)
 
 no_node_properties : (s : Records) (id : ℕ) → kind_at s format.nodes_file id ≡ format.free_kind → properties_at (graph_of s) (targets.Node id) ≡ no_properties
 no_node_properties s id free = ap node_properties (node_not_found s id free)
 
 -- nor has an edge that isn't in use properties
-no_edge_properties : (s : Records) (id : ℕ) → kind_at s format.relationships_file id ≡ format.free_kind → properties_at (graph_of s) (targets.Edge id) ≡ no_properties
+no_edge_properties : (s : Records) (id : ℕ) → kind_at s format.relationships_file id ≡ format.free_kind
+    → properties_at (graph_of s) (targets.Edge id) ≡ no_properties
 no_edge_properties s id free = ap edge_properties (find-none (λ edge. nat_eq (edge_number edge) id) (graph_of s).edges (no_edge s id free))
 
 -- no row of a relationship: it isn't in use
@@ -83,7 +86,8 @@ node_owned s id row found =
     let is = node_rows.kind-row_at-Some s.records id row (sym found) in
     record { used = is.0; are = refl; first = ap (λ (r : NodeRow). r.props) is.1 }
 
-pub edge_owned : (s : State) (id : ℕ) (label : List ℕ) (from to : ℕ) (row : RelRow) → Some row ≡ rels.row_at s.records id → IsOwnerOf s (items.Edge id label from to) (Some (owned_edge id row))
+pub edge_owned : (s : State) (id : ℕ) (label : List ℕ) (from to : ℕ) (row : RelRow) → Some row ≡ rels.row_at s.records id
+    → IsOwnerOf s (items.Edge id label from to) (Some (owned_edge id row))
 edge_owned s id label from to row found =
     let is = rel_rows.kind-row_at-Some s.records id row (sym found) in
     record { used = is.0; are = refl; first = sym (ap (λ (r : RelRow). r.property) is.1) }
@@ -109,7 +113,8 @@ label_known s shape store id row found =
 
 module _ (s : State) (store : IsWellFormed s.records s.shape) (text : List ℕ) (none : FindsName s.records None text) where
   -- an element in use has no value of it
-  lacks_value : (file x : ℕ) → (file ≡ format.nodes_file) ⊎ (file ≡ format.relationships_file) → kind_at s.records file x ≢ format.free_kind → maps.get (properties_at (graph_of s.records) (target_in file x)) text ≡ None
+  lacks_value : (file x : ℕ) → (file ≡ format.nodes_file) ⊎ (file ≡ format.relationships_file) → kind_at s.records file x ≢ format.free_kind
+      → maps.get (properties_at (graph_of s.records) (target_in file x)) text ≡ None
   lacks_value file x element used =
       let es : List Property = listed s.records s.shape store file x in
       let first = property_from s.records file x in
@@ -125,8 +130,10 @@ module _ (s : State) (store : IsWellFormed s.records s.shape) (text : List ℕ) 
   pub no_name_no_value : (item : Item) → maps.get (properties_of (graph_of s.records) item) text ≡ None
   no_name_no_value (items.Vertex id) = ⊎_elim
       (λ (free : kind_at s.records format.nodes_file id ≡ 0). ap (λ m. maps.get m text) (no_node_properties s.records id free) ∙ none_of_none)
-      (λ (used : kind_at s.records format.nodes_file id ≢ 0). lacks_value format.nodes_file id (inl refl) used) (nat_cases (kind_at s.records format.nodes_file id) 0)
+      (λ (used : kind_at s.records format.nodes_file id ≢ 0). lacks_value format.nodes_file id (inl refl) used)
+      (nat_cases (kind_at s.records format.nodes_file id) 0)
   no_name_no_value (items.Edge id label from to) = ⊎_elim
       (λ (free : kind_at s.records format.relationships_file id ≡ 0). ap (λ m. maps.get m text) (no_edge_properties s.records id free) ∙ none_of_none)
-      (λ (used : kind_at s.records format.relationships_file id ≢ 0). lacks_value format.relationships_file id (inr refl) used) (nat_cases (kind_at s.records format.relationships_file id) 0)
+      (λ (used : kind_at s.records format.relationships_file id ≢ 0). lacks_value format.relationships_file id (inr refl) used)
+      (nat_cases (kind_at s.records format.relationships_file id) 0)
   no_name_no_value (items.Value value) = none_of_none

@@ -1,5 +1,6 @@
 -- The names of a store, and those that are kept of it.
-use Rattle.std.proofs.Common.{◌≡◌, ◌<◌, ◌≤◌, ℕ, zero, suc, true, false, nat_eq, None, Some, List, [], ◌∷◌, length, get_or, slice_get, Contains, refl, sym, ap, ◌∙◌, subst, arith}
+use Rattle.std.proofs.Common.{◌≡◌, ◌<◌, ◌≤◌, ℕ, zero, suc, true, false, nat_eq, None, Some, List, [], ◌∷◌, length}
+use Rattle.std.proofs.Common.{get_or, slice_get, Contains, refl, sym, ap, ◌∙◌, subst, arith}
 use Rattle.std.specs.Cmp.Lexicographic.{same_text}
 use borrow.Author.Tests.{eqb-true}
 use Rattle.std.proofs.lemmas.Cmp.{nat_eq_equiv, nat_list_eq_equiv}
@@ -82,5 +83,6 @@ module _ (records : Records) (shape : Shape) (names : List (List ℕ)) (store : 
   pub finds_unknown : (text : List ℕ) → ¬ Contains names text → FindsName records None text
   finds_unknown text unknown = finds_none text (λ number lt at. unknown (once_contained names text number at))
 
-  pub finds_later : (text : List ℕ) (found : ℕ) → AreDistinct names → slice_get names found ≡ Some text → name_count records ≤ found → FindsName records None text
+  pub finds_later : (text : List ℕ) (found : ℕ) → AreDistinct names → slice_get names found ≡ Some text → name_count records ≤ found
+      → FindsName records None text
   finds_later text found once at high = finds_none text (λ number lt there. let same = once_placed names text number found once there at in omega arith)

@@ -56,7 +56,8 @@ past_told ended past stop next is may passed = by stop may (sym is ∙ passed)
     by stops.PastCount all e = all
 
 -- damage
-pub damage_told : (records : Records) (shape : Shape) (stop : Stop) (next : Next) → next ≡ answer_of stop → StopsAtBroken records shape stop → IfDamaged next (Breaks records shape)
+pub damage_told : (records : Records) (shape : Shape) (stop : Stop) (next : Next) → next ≡ answer_of stop → StopsAtBroken records shape stop
+    → IfDamaged next (Breaks records shape)
 damage_told records shape stop next is broken = subst (λ (n : Next). IfDamaged n (Breaks records shape)) (sym is) (by stop broken)
   where
     by : (s : Stop) → StopsAtBroken records shape s → IfDamaged (answer_of s) (Breaks records shape)

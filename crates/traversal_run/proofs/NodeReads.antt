@@ -17,6 +17,7 @@ load_reads file s t id = by (nat_lt id (row_mark file s) && nat_lt id (row_room 
     by false is = rw is (reads_none 1 s)
 
 -- an edge has no row that is known
-pub edge_reads : (tells : Type 0) (records : Records) (id : ℕ) (label : List ℕ) (from to : ℕ) (row : Option NodeRow) → IsRowOf tells records (items.Edge id label from to) row → owner_reads row ≡ 1
+pub edge_reads : (tells : Type 0) (records : Records) (id : ℕ) (label : List ℕ) (from to : ℕ) (row : Option NodeRow)
+    → IsRowOf tells records (items.Edge id label from to) row → owner_reads row ≡ 1
 edge_reads tells records id label from to None is = refl
 edge_reads tells records id label from to (Some row) is = absurd is

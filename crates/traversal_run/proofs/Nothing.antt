@@ -19,19 +19,22 @@ over_gives graph edges (From from) over = cc
 over_gives graph edges (Among ids) over = cc
 over_gives graph edges Nothing over = left_of-over graph edges
 
-no_count-take : (rows : List Row) (at : ℕ) → list_all (λ (r : Row). not (is_count r.stage)) rows ≡ true → list_all (λ (r : Row). not (is_count r.stage)) (take at rows) ≡ true
+no_count-take : (rows : List Row) (at : ℕ) → list_all (λ (r : Row). not (is_count r.stage)) rows ≡ true
+    → list_all (λ (r : Row). not (is_count r.stage)) (take at rows) ≡ true
 no_count-take [] zero none = refl
 no_count-take [] (suc at) none = refl
 no_count-take (row ∷ rows) zero none = refl
 no_count-take (row ∷ rows) (suc at) none = by (no_count-take rows at) (is_count row.stage) none
   where
     by : (list_all (λ (r : Row). not (is_count r.stage)) rows ≡ true → list_all (λ (r : Row). not (is_count r.stage)) (take at rows) ≡ true)
-        → (b : Bool) → not b && list_all (λ (r : Row). not (is_count r.stage)) rows ≡ true → not b && list_all (λ (r : Row). not (is_count r.stage)) (take at rows) ≡ true
+        → (b : Bool) → not b && list_all (λ (r : Row). not (is_count r.stage)) rows ≡ true → not b
+        && list_all (λ (r : Row). not (is_count r.stage)) (take at rows) ≡ true
     by later true all = cc
     by later false all = later all
 
 -- a run whose last step lets nothing through
-pub spent-to_come : (graph : Graph) (ready : List Item) (rows : List Row) (edges : Bool) (left : Left) → allowed_by (is_over left) (stages_of rows) (length ready) ≡ Some 0
+pub spent-to_come : (graph : Graph) (ready : List Item) (rows : List Row) (edges : Bool) (left : Left)
+    → allowed_by (is_over left) (stages_of rows) (length ready) ≡ Some 0
     → with_first ready (through graph rows (stream (elements_left graph edges left))) ≡ stream []
 spent-to_come graph ready rows edges left all =
     let none = allowed-zero_ready (is_over left) (stages_of rows) ready all in

@@ -31,5 +31,6 @@ module _ {R : Type 0} (space : SpaceGhosts R) where
   is_read-gets n a b is onward later = record { same = then_same n (space.state a) (space.state b) is; onward = onward; later = later }
 
   -- the store is as it was
-  pub named-read : (a b : R) (names : List (List ℕ)) → IsRead space a b → IsNamedStore (space.state a).records (space.state a).shape names → IsNamedStore (space.state b).records (space.state b).shape names
+  pub named-read : (a b : R) (names : List (List ℕ)) → IsRead space a b → IsNamedStore (space.state a).records (space.state a).shape names
+      → IsNamedStore (space.state b).records (space.state b).shape names
   named-read a b names read store = rw read.same store

@@ -51,7 +51,8 @@ pub record HasListed (records now : Records) (item : Item) (owner : Owner) : Typ
   pub is : properties_of (graph_of records) item ≡ map_of (rec_at records format.names_file) es
 
 -- so it is in a store, after reads
-pub listed_in : (s z : State) (item : Item) (owned : Owned) → SameButReads s z → IsWellFormed s.records s.shape → IsOwner owned.owner → Owns s item owned → HasListed s.records z.records item owned.owner
+pub listed_in : (s z : State) (item : Item) (owned : Owned) → SameButReads s z → IsWellFormed s.records s.shape → IsOwner owned.owner → Owns s item owned
+    → HasListed s.records z.records item owned.owner
 listed_in s z item owned same store is owns =
     let owner = owned.owner in
     let has : HasElement s owner = record { store = store; used = owns.used } in
@@ -77,7 +78,8 @@ first_in s z item owned same owns = subst (λ (t : State). owned.first ≡ first
 
 module _ (name_file : ℕ → Rec) (names : ℕ) (named : AreNames name_file names) where
   -- of a name's text is found what has the name's number
-  pub find-named : (es : List Property) (key : ℕ) → key < names → ((k : ℕ) → In k (keys_of es) → k < names) → maps.find order (text_of (name_file key)) (map (named_property name_file) es) ≡ value_of es key
+  pub find-named : (es : List Property) (key : ℕ) → key < names → ((k : ℕ) → In k (keys_of es) → k < names)
+      → maps.find order (text_of (name_file key)) (map (named_property name_file) es) ≡ value_of es key
   find-named [] key low known = refl
   find-named (e ∷ es) key low known =
       let test : eq_by_cmp order (text_of (name_file key)) (text_of (name_file e.key)) ≡ nat_eq e.key key =
@@ -88,12 +90,14 @@ module _ (name_file : ℕ → Rec) (names : ℕ) (named : AreNames name_file nam
       ∙ by (nat_eq e.key key) (find-named es key low (λ k i. known k (inr i)))
     where
       by : (b : Bool) → maps.find order (text_of (name_file key)) (map (named_property name_file) es) ≡ value_of es key
-          → cond b (Some e.value) (maps.find order (text_of (name_file key)) (map (named_property name_file) es)) ≡ option_map (λ (d : Property). d.value) (cond b (Some e) (property_of es key))
+          → cond b (Some e.value) (maps.find order (text_of (name_file key)) (map (named_property name_file) es)) ≡ option_map (λ (d : Property). d.value)
+          (cond b (Some e) (property_of es key))
       by true later = refl
       by false later = later
 
 -- properties that a store's element has, as a list and as a map
-module _ (records : Records) (shape : Shape) (store : IsWellFormed records shape) (properties : Properties) (es : List Property) (known : (key : ℕ) → In key (keys_of es) → key < name_count records) (are : properties ≡ map_of (rec_at records format.names_file) es) (text : List ℕ) where
+module _ (records : Records) (shape : Shape) (store : IsWellFormed records shape) (properties : Properties) (es : List Property)
+    (known : (key : ℕ) → In key (keys_of es) → key < name_count records) (are : properties ≡ map_of (rec_at records format.names_file) es) (text : List ℕ) where
   -- a name's value is that of its number
   pub value_is : (key : ℕ) → key < name_count records → FindsName records (Some key) text → value_of es key ≡ maps.get properties text
   value_is key low finds =
@@ -109,8 +113,10 @@ module _ (records : Records) (shape : Shape) (store : IsWellFormed records shape
       ap (λ m. maps.get m text) are ∙ get-map_of_none names es text (λ k i e. absurd (let no = finds k (known k i) in let yes = subst (λ t. is_text text t ≡ true) (sym e) (is_text-itself text) in cc))
 
 -- what was read of an owner are the item's properties
-pub are_read : (records now : Records) (item : Item) (owner : Owner) (listed : HasListed records now item owner) (props : List Prop) → props ≡ map prop_of listed.es → AreRead records props (properties_of (graph_of records) item)
+pub are_read : (records now : Records) (item : Item) (owner : Owner) (listed : HasListed records now item owner) (props : List Prop)
+    → props ≡ map prop_of listed.es → AreRead records props (properties_of (graph_of records) item)
 are_read records now item owner listed props read = record { es = listed.es; read = read; known = listed.known; once = listed.has.are.keys_once; are = listed.is }
 
-pub none_read : (records : Records) (item : Item) (props : List Prop) → props ≡ [] → properties_of (graph_of records) item ≡ no_properties → AreRead records props (properties_of (graph_of records) item)
+pub none_read : (records : Records) (item : Item) (props : List Prop) → props ≡ [] → properties_of (graph_of records) item ≡ no_properties
+    → AreRead records props (properties_of (graph_of records) item)
 none_read records item props none are = record { es = []; read = none; known = λ k i. elim i [ ]; once = tt; are = are }

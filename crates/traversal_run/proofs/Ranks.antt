@@ -14,7 +14,8 @@ module _ {X Y : Type 0} (f : X → Y) (less : Y → Y → Bool) where
   map-placed x [] = refl
   map-placed x (y ∷ ys) = by (map-placed x ys) (under y x)
     where
-      by : map f (placed under x ys) ≡ placed less (f x) (map f ys) → (b : Bool) → map f (cond b (y ∷ placed under x ys) (x ∷ y ∷ ys)) ≡ cond b (f y ∷ placed less (f x) (map f ys)) (f x ∷ f y ∷ map f ys)
+      by : map f (placed under x ys) ≡ placed less (f x) (map f ys) → (b : Bool)
+          → map f (cond b (y ∷ placed under x ys) (x ∷ y ∷ ys)) ≡ cond b (f y ∷ placed less (f x) (map f ys)) (f x ∷ f y ∷ map f ys)
       by same true = ap (λ rest. f y ∷ rest) same
       by same false = refl
 
@@ -23,5 +24,6 @@ module _ {X Y : Type 0} (f : X → Y) (less : Y → Y → Bool) where
   map-sorted (x ∷ xs) = map-placed x (sorted under xs) ∙ ap (placed less (f x)) (map-sorted xs)
 
 -- the rows of an order are in the order of their places
-pub places_sorted : (descending : Bool) (rows : List Ranked) → map place_of (sorted (row_ranks_below descending) rows) ≡ sorted (meaning.ranks_below descending) (map place_of rows)
+pub places_sorted : (descending : Bool) (rows : List Ranked) → map place_of (sorted (row_ranks_below descending) rows) ≡ sorted (meaning.ranks_below descending)
+    (map place_of rows)
 places_sorted descending rows = map-sorted place_of (meaning.ranks_below descending) rows

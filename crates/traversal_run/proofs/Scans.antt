@@ -1,5 +1,7 @@
 -- Where a scan stands amid a call.
-use Rattle.std.proofs.Common.{◌≡◌, ◌⊎◌, inl, inr, ⊎_elim, ◌<◌, ◌≤◌, ℕ, ◌+◌, ◌-◌, suc, zero, true, false, Option, None, Some, List, [], ◌∷◌, length, drop, get_or, take, set, add-one, refl, sym, ap, ◌∙◌, subst, arith}
+use Rattle.std.proofs.Common.{◌≡◌, ◌⊎◌, inl, inr, ⊎_elim, ◌<◌, ◌≤◌, ℕ, ◌+◌, ◌-◌, suc, zero, true, false, Option, None}
+use Rattle.std.proofs.Common.{Some, List, [], ◌∷◌, length, drop, get_or, take, set, add-one, refl, sym, ap, ◌∙◌, subst}
+use Rattle.std.proofs.Common.{arith}
 use Rattle.std.specs.Option.{IfSome}
 use Rattle.std.proofs.lemmas.List.{length-set}
 use Rattle.plain_graph.specs.declared.item.Item.{Item}
@@ -60,7 +62,8 @@ no_item item list none some = cc
 
 ready_not : (run : Run) (from most : ℕ) (item : Item) → run.ready ≡ [] → IsScanReady run from most item → ⊥
 ready_not run from most item none there =
-    ⊎_elim (λ (w : IsScanWith run from most [] (item ∷ [])). no_item item run.ready none w.ready) (λ (last : IsLast run item). no_item item run.ready none last.ready) there
+    ⊎_elim (λ (w : IsScanWith run from most [] (item ∷ [])). no_item item run.ready none w.ready)
+    (λ (last : IsLast run item). no_item item run.ready none last.ready) there
 
 -- a turn, where no item is ready
 pub scan_turns : (at before now later : ℕ) (old new : Run) → old.ready ≡ []
@@ -92,7 +95,8 @@ first_is : (item first : Item) (list rest : List Item) → list ≡ item ∷ res
 first_is item first list rest one two = (cc, cc)
 
 -- an item that was ready is given
-pub scan_gives : (at before now : ℕ) (old new : Run) (item : Item) → old.ready ≡ item ∷ new.ready → new.source ≡ old.source → new.rows.items ≡ old.rows.items → new.stopped ≡ None
+pub scan_gives : (at before now : ℕ) (old new : Run) (item : Item) → old.ready ≡ item ∷ new.ready → new.source ≡ old.source → new.rows.items ≡ old.rows.items
+    → new.stopped ≡ None
     → ScanState at before now old → IsScanned at before now item new
 scan_gives at before now old new item takes source rows going state =
     ⊎_elim (λ (begins : ScanBegins at before now old). absurd (empty (sym begins.is.ready ∙ takes)))
@@ -115,7 +119,8 @@ scan_gives at before now old new item takes source rows going state =
     empty e = cc
 
 -- the run of a limit over all vertices
-pub scan_begins : (run : Run) (list : List Step) (most : ℕ) → list ≡ steps.Limit most ∷ [] → run.source ≡ vertices_from 0 → run.rows.items ≡ rows_of list → run.ready ≡ [] → run.stopped ≡ None → IsScan run 0
+pub scan_begins : (run : Run) (list : List Step) (most : ℕ) → list ≡ steps.Limit most ∷ [] → run.source ≡ vertices_from 0 → run.rows.items ≡ rows_of list
+    → run.ready ≡ [] → run.stopped ≡ None → IsScan run 0
 scan_begins run list most one source rows ready going =
     let w : IsScanWith run 0 most [] [] = record { source = source; rows = rows ∙ ap rows_of one; ready = ready } in
     record { most = most; is = w; going = going }
@@ -123,7 +128,8 @@ scan_begins run list most one source rows ready going =
 -- ---- the source
 
 -- the vertex of the identifier that was to come next
-pub scan_found : (at next before read after id : ℕ) (item : Option Item) (new : Source) → at ≤ next → read ≤ before + (next - at) → after ≤ read + 1 → id ≡ next → new ≡ vertices_from (next + 1)
+pub scan_found : (at next before read after id : ℕ) (item : Option Item) (new : Source) → at ≤ next → read ≤ before + (next - at) → after ≤ read + 1 → id ≡ next
+    → new ≡ vertices_from (next + 1)
     → IfSome item (λ found. found ≡ items.Vertex id) → IfSome item (λ found. TakesVertex at before after found new)
 scan_found at next before read after id None new from reads more is source found = tt
 scan_found at next before read after id (Some item) new from reads more is source found = record {
@@ -153,12 +159,15 @@ pub quiet_scan : (rows : List Row) (most at : ℕ) (any : Row) → rows ≡ limi
 quiet_scan rows most at any is lt opens =
     let lt_one : at < 1 = subst (λ (rs : List Row). at < length rs) is lt in
     let none : at ≡ 0 = omega arith in
-    let shut : is_open (get_or rows at any).stage ≡ false = ap (λ n. is_open (get_or rows n any).stage) none ∙ ap (λ (rs : List Row). is_open (get_or rs 0 any).stage) is in
+    let shut : is_open (get_or rows at any).stage ≡ false = ap (λ n. is_open (get_or rows n any).stage) none
+    ∙ ap (λ (rs : List Row). is_open (get_or rs 0 any).stage) is in
     cc
 
 -- what the limit made of it is ready, and maybe rows were cut
-pub cut_scan : (old new : Run) (at from most : ℕ) (item : Item) → at < 1 → old.source ≡ vertices_from from → old.rows.items ≡ limit_row (most + 1 - 1) [] ∷ [] → old.ready ≡ take (most + 1) (item ∷ [])
-    → (new ≡ old) ⊎ ((new.rows.items ≡ drop (at + 1) old.rows.items) × (is_over new.source.left ≡ true) × (new.ready ≡ old.ready)) → IsScanReady new from most item
+pub cut_scan : (old new : Run) (at from most : ℕ) (item : Item) → at < 1 → old.source ≡ vertices_from from → old.rows.items ≡ limit_row (most + 1 - 1) [] ∷ []
+    → old.ready ≡ take (most + 1) (item ∷ [])
+    → (new ≡ old) ⊎ ((new.rows.items ≡ drop (at + 1) old.rows.items) × (is_over new.source.left ≡ true) × (new.ready ≡ old.ready))
+    → IsScanReady new from most item
 cut_scan old new at from most item lt source rows ready either =
     let left : most + 1 - 1 ≡ most = omega arith in
     let next : most + 1 ≡ suc most = add-one most in
@@ -179,7 +188,8 @@ cut_scan old new at from most item lt source rows ready either =
     took (suc n) = refl
 
 -- the only row is a limit, which took its item
-pub limit_advanced : (Same : Type 0) (rows later : List Row) (at : ℕ) (row new any : Row) (outs ready : List Item) (most : ℕ) (item : Item) → at < length rows → row ≡ get_or rows at any → rows ≡ limit_row most (item ∷ []) ∷ []
+pub limit_advanced : (Same : Type 0) (rows later : List Row) (at : ℕ) (row new any : Row) (outs ready : List Item) (most : ℕ) (item : Item) → at < length rows
+    → row ≡ get_or rows at any → rows ≡ limit_row most (item ∷ []) ∷ []
     → (row ≡ limit_row most (item ∷ []) → (outs ≡ take most (item ∷ [])) × (new ≡ limit_row (most - 1) []) × Same)
     → ((next : Row) → later ≡ set (set rows at new) (at + 1) (record (get_or (set rows at new) (at + 1) next) { waiting = outs }))
     → (length (set rows at new) ≤ at + 1 → ready ≡ outs) → (later ≡ limit_row (most - 1) [] ∷ []) × (ready ≡ take most (item ∷ [])) × Same
@@ -194,7 +204,8 @@ limit_advanced Same rows later at row new any outs ready most item lt is only ta
     (rows_is ∙ ap (λ r. r ∷ []) step.1, given (omega arith) ∙ step.0, step.2)
 
 -- the limit takes the item that waits
-pub limit_taken : (Same : Type 0) (old : Row) (stage : Stage) (waiting outs : List Item) (taken item : Item) (most : ℕ) → old ≡ limit_row most (item ∷ []) → old.waiting ≡ taken ∷ waiting
+pub limit_taken : (Same : Type 0) (old : Row) (stage : Stage) (waiting outs : List Item) (taken item : Item) (most : ℕ) → old ≡ limit_row most (item ∷ [])
+    → old.waiting ≡ taken ∷ waiting
     → (old.stage ≡ stages.Limit most → (outs ≡ take most (taken ∷ [])) × (stage ≡ stages.Limit (most - 1)) × Same)
     → (outs ≡ take most (item ∷ [])) × (record { stage = stage; waiting = waiting } ≡ limit_row (most - 1) []) × Same
 limit_taken Same old stage waiting outs taken item most is first takes =

@@ -1,5 +1,6 @@
 -- What a stable sort leaves is one list: the one that the model puts in order.
-use Rattle.std.proofs.Common.{◌≡◌, ◌<◌, ℕ, ◌+◌, suc, Bool, true, false, not, ◌&&◌, cond, List, [], ◌∷◌, length, get_or, refl, sym, ap, ◌∙◌, subst, ⊎_elim, arith}
+use Rattle.std.proofs.Common.{◌≡◌, ◌<◌, ℕ, ◌+◌, suc, Bool, true, false, not, ◌&&◌, cond, List, [], ◌∷◌, length, get_or}
+use Rattle.std.proofs.Common.{refl, sym, ap, ◌∙◌, subst, ⊎_elim, arith}
 use Rattle.std.specs.List.{filter, AllByRecursion}
 use Rattle.std.specs.List.Sorted.{IsSortedBy, IsStableBy, ties}
 use Rattle.std.specs.Cmp.{IsStrictWeakOrder}
@@ -71,7 +72,8 @@ module _ {X : Type 0} (less : X → X → Bool) (order : IsStrictWeakOrder less)
       rises_cond behind false is = ((is, all_more x y ys is up.0), up)
 
   -- two that are not both kept may change places
-  exchanged : (x y : X) (rest : List X) (a b : Bool) → ((a ≡ true) → (b ≡ true) → ⊥) → cond b (y ∷ cond a (x ∷ rest) rest) (cond a (x ∷ rest) rest) ≡ cond a (x ∷ cond b (y ∷ rest) rest) (cond b (y ∷ rest) rest)
+  exchanged : (x y : X) (rest : List X) (a b : Bool) → ((a ≡ true) → (b ≡ true) → ⊥)
+      → cond b (y ∷ cond a (x ∷ rest) rest) (cond a (x ∷ rest) rest) ≡ cond a (x ∷ cond b (y ∷ rest) rest) (cond b (y ∷ rest) rest)
   exchanged x y rest true true apart = absurd (apart refl refl)
   exchanged x y rest true false apart = refl
   exchanged x y rest false true apart = refl
@@ -82,7 +84,8 @@ module _ {X : Type 0} (less : X → X → Bool) (order : IsStrictWeakOrder less)
   placed_stable z x [] = refl
   placed_stable z x (y ∷ ys) = stable_cond (placed_stable z x ys) (less y x) refl
     where
-      stable_cond : filter (ties less z) (placed less x ys) ≡ filter (ties less z) (x ∷ ys) → (b : Bool) → less y x ≡ b → filter (ties less z) (cond b (y ∷ placed less x ys) (x ∷ y ∷ ys)) ≡ filter (ties less z) (x ∷ y ∷ ys)
+      stable_cond : filter (ties less z) (placed less x ys) ≡ filter (ties less z) (x ∷ ys) → (b : Bool) → less y x ≡ b
+          → filter (ties less z) (cond b (y ∷ placed less x ys) (x ∷ y ∷ ys)) ≡ filter (ties less z) (x ∷ y ∷ ys)
       stable_cond behind true is =
           ap (λ list. cond (ties less z y) (y ∷ list) list) behind
           ∙ exchanged x y (filter (ties less z) ys) (ties less z x) (ties less z y) (λ with_x with_y.
@@ -128,7 +131,8 @@ module _ {X : Type 0} (less : X → X → Bool) (order : IsStrictWeakOrder less)
       let x_over : less x y ≡ false = first_kept (λ z. less z y ≡ false) (ties less x) (y ∷ ys) x (filter (ties less x) xs) x_first (itself y, rise.0) in
       let y_over : less y x ≡ false = first_kept (λ z. less z x ≡ false) (ties less y) (x ∷ xs) y (filter (ties less y) ys) y_first (itself x, up.0) in
       let tied = ties_of x y x_over y_over in
-      let heads : y ∷ filter (ties less x) ys ≡ x ∷ filter (ties less x) xs = sym (cond-true (ties less x y) (y ∷ filter (ties less x) ys) (filter (ties less x) ys) tied) ∙ x_first in
+      let heads : y ∷ filter (ties less x) ys ≡ x ∷ filter (ties less x) xs =
+      sym (cond-true (ties less x y) (y ∷ filter (ties less x) ys) (filter (ties less x) ys) tied) ∙ x_first in
       let head : y ≡ x = cc in
       let tails : xs ≡ ys = one_stable_order xs ys up.1 rise.1 (λ z. rests (ties less z x) x (filter (ties less z) xs) (filter (ties less z) ys) (same z ∙ ap (λ w. filter (ties less z) (w ∷ ys)) head)) in
       (λ i. sym head i ∷ tails i)

@@ -26,7 +26,8 @@ row_if key None = []
 row_if key (Some value) = (key, value) ∷ []
 
 -- one key more
-pub more_rows : (properties : Properties) (keys : List (List ℕ)) (i : ℕ) (key : List ℕ) (value : Option Value) → i < length keys → key ≡ get_or keys i key → value ≡ maps.get properties key
+pub more_rows : (properties : Properties) (keys : List (List ℕ)) (i : ℕ) (key : List ℕ) (value : Option Value) → i < length keys → key ≡ get_or keys i key
+    → value ≡ maps.get properties key
     → first_rows properties keys i ++ row_if key value ≡ first_rows properties keys (i + 1)
 more_rows properties keys i key value lt at is = sym (
     ap (filter_map (entry_at properties)) (take_more keys i key lt ∙ ap (λ k. take i keys ++ k ∷ []) (sym at))
@@ -38,7 +39,8 @@ more_rows properties keys i key value lt at is = sym (
     by (Some v) = refl
 
 -- all keys
-pub whole_rows : (properties : Properties) (keys : List (List ℕ)) (i : ℕ) → length keys ≤ i → first_rows properties keys i ≡ filter_map (entry_at properties) keys
+pub whole_rows : (properties : Properties) (keys : List (List ℕ)) (i : ℕ) → length keys ≤ i
+    → first_rows properties keys i ≡ filter_map (entry_at properties) keys
 whole_rows properties keys i all = ap (filter_map (entry_at properties)) (take_all i keys all)
 
 -- where some key is written
@@ -47,9 +49,11 @@ entries-some properties [] some = absurd (some refl)
 entries-some properties (key ∷ keys) some = refl
 
 -- what is made of rows is made of what was found
-made_of : {A B C : Type 0} (f : A → Option B) (g : B → C) (h : A → Option C) → ((a : A) → h a ≡ option_map g (f a)) → (xs : List A) → map g (filter_map f xs) ≡ filter_map h xs
+made_of : {A B C : Type 0} (f : A → Option B) (g : B → C) (h : A → Option C) → ((a : A) → h a ≡ option_map g (f a)) → (xs : List A)
+    → map g (filter_map f xs) ≡ filter_map h xs
 made_of f g h same [] = refl
-made_of {B = B} f g h same (x ∷ xs) = by (f x) ∙ ap (λ (o : Option _). cons_option o (map g (filter_map f xs))) (sym (same x)) ∙ ap (cons_option (h x)) (made_of f g h same xs)
+made_of {B = B} f g h same (x ∷ xs) = by (f x) ∙ ap (λ (o : Option _). cons_option o (map g (filter_map f xs))) (sym (same x))
+    ∙ ap (cons_option (h x)) (made_of f g h same xs)
   where
     by : (o : Option B) → map g (cons_option o (filter_map f xs)) ≡ cons_option (option_map g o) (map g (filter_map f xs))
     by None = refl
@@ -65,7 +69,8 @@ pairs-rows properties (key ∷ keys) = made_of (entry_at properties) pair_of (pa
     by k (Some v) = refl
 
 -- the values of rows
-pub values-rows : (graph : Graph) (keys : List (List ℕ)) (item : Item) → map entry_item (entries_of (properties_of graph item) keys) ≡ distinct_values graph keys item
+pub values-rows : (graph : Graph) (keys : List (List ℕ)) (item : Item) → map entry_item (entries_of (properties_of graph item) keys) ≡ distinct_values graph
+    keys item
 values-rows graph [] item = sym (map-map items.Value (λ (e : List ℕ × Value). e.1) (maps.entries (properties_of graph item)))
 values-rows graph (key ∷ keys) item =
     made_of (entry_at (properties_of graph item)) entry_item shown (λ k. sym (by k (maps.get (properties_of graph item) k))) (key ∷ keys)

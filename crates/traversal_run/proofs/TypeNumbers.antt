@@ -1,5 +1,6 @@
 -- The numbers of the types that a hop names.
-use Rattle.std.proofs.Common.{◌≡◌, ◌<◌, ◌+◌, ℕ, suc, zero, Bool, true, false, ◌||◌, Option, None, Some, List, [], ◌∷◌, ◌++◌, length, take, get_or, nat_eq, All, refl, sym, ap, ◌∙◌, subst, arith}
+use Rattle.std.proofs.Common.{◌≡◌, ◌<◌, ◌+◌, ℕ, suc, zero, Bool, true, false, ◌||◌, Option, None, Some, List, [], ◌∷◌}
+use Rattle.std.proofs.Common.{◌++◌, length, take, get_or, nat_eq, All, refl, sym, ap, ◌∙◌, subst, arith}
 use Rattle.std.specs.Prelude.{IfSome}
 use Rattle.std.specs.List.{cons_option, list_any}
 use Rattle.std.proofs.lemmas.List.{append-nil}
@@ -49,12 +50,14 @@ any_found : (found : Option ℕ) (number : ℕ) → list_any (nat_eq number) (co
 any_found None number = refl
 any_found (Some one) number = or_false (nat_eq number one)
 
-pub numbers_more : (s : Records) (numbers : List ℕ) (texts : List (List ℕ)) (i : ℕ) (text : List ℕ) (found : Option ℕ) → i < length texts → text ≡ get_or texts i text → FindsName s found text → FindsNames s numbers (take i texts)
+pub numbers_more : (s : Records) (numbers : List ℕ) (texts : List (List ℕ)) (i : ℕ) (text : List ℕ) (found : Option ℕ) → i < length texts
+    → text ≡ get_or texts i text → FindsName s found text → FindsNames s numbers (take i texts)
     → FindsNames s (numbers ++ cons_option found []) (take (i + 1) texts)
 numbers_more s numbers texts i text found lt is finds before = λ number low.
     let here : list_any (nat_eq number) (cons_option found []) ≡ is_text (get_or texts i text) (name_at s number)
     = any_found found number ∙ finds number low ∙ ap (λ (other : List ℕ). is_text other (name_at s number)) is in
-    list_any-append (nat_eq number) numbers (cons_option found []) ∙ (λ j. before number low j || here j) ∙ sym (list_any_more (λ (other : List ℕ). is_text other (name_at s number)) texts i text lt)
+    list_any-append (nat_eq number) numbers (cons_option found []) ∙ (λ j. before number low j || here j)
+    ∙ sym (list_any_more (λ (other : List ℕ). is_text other (name_at s number)) texts i text lt)
 
 pub all_found : (P : ℕ → Type 0) (numbers : List ℕ) (found : Option ℕ) → All P numbers → IfSome found P → All P (numbers ++ cons_option found [])
 all_found P numbers None all has = subst (All P) (sym (append-nil numbers)) all

@@ -40,7 +40,8 @@ module _ (s : Records) (id : ℕ) where
   pub item_at-edge : item_at (graph_of s) (targets.Edge id) ≡ element_at s true id
   item_at-edge = ⊎_elim
       (λ (free : kind ≡ 0). ap (option_map edge_item) (find-none (λ edge. nat_eq (edge_number edge) id) (graph_of s).edges (no_edge s id free))
-      ∙ ap (λ (row : Option views.RelRow). option_map edge_item (edge_from names (property_records s) row)) (sym (row_none kind (rel_in (rec_at s format.relationships_file id) id) free)))
+      ∙ ap (λ (row : Option views.RelRow). option_map edge_item (edge_from names (property_records s) row))
+      (sym (row_none kind (rel_in (rec_at s format.relationships_file id) id) free)))
       (λ (used : kind ≢ 0). ap (option_map edge_item) (find_collect edge_number (edge_of s) (high s format.relationships_file) id (edges_numbered s) (kind_below (high s format.relationships_file) (rec_at s format.relationships_file id) id used)))
       (nat_cases kind 0)
     where

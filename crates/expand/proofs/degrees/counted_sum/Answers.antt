@@ -9,5 +9,6 @@ done sum rest all fits none same = omega (arith, fits, none, same)
 pub returns : goal.returns
 returns c =
     let left = c.loop-group.invariant.left in
-    done c.loop-group.sum (counted_sum c.args.direction c.args.labels.now (drop c.loop-group.group-index c.args.groups.now)) (counted_sum c.args.direction c.args.labels.now c.args.groups.now) c.loop-group.invariant.fits
+    done c.loop-group.sum (counted_sum c.args.direction c.args.labels.now (drop c.loop-group.group-index c.args.groups.now))
+    (counted_sum c.args.direction c.args.labels.now c.args.groups.now) c.loop-group.invariant.fits
     (ap (counted_sum c.args.direction c.args.labels.now) (drop_all c.loop-group.group-index c.args.groups.now (omega arith))) left

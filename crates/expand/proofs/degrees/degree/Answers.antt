@@ -32,19 +32,23 @@ module _ (s : State) (direction : Direction) (node : ℕ) (r : Result ℕ Expand
 pub returns-in-Some-clause-rows : goal.returns-in-Some-clause-rows
 returns-in-Some-clause-rows g c = λ tells.
     let s = g.R.Reads.state c.args.space.now in
-    listed s c.args.direction c.args.node c.degree_of.result c.args.label (subst (Counted s c.args.direction c.args.node c.degree_of.result) (sym c.in-Some.is) (c.degree_of.ensures.rows tells))
+    listed s c.args.direction c.args.node c.degree_of.result c.args.label
+    (subst (Counted s c.args.direction c.args.node c.degree_of.result) (sym c.in-Some.is) (c.degree_of.ensures.rows tells))
 
 pub returns-in-Some-clause-edges : goal.returns-in-Some-clause-edges
 returns-in-Some-clause-edges g c = λ tells.
     let s = g.R.Reads.state c.args.space.now in
-    edged s c.args.direction c.args.node c.degree_of.result c.args.label (subst (Counted s c.args.direction c.args.node c.degree_of.result) (sym c.in-Some.is) (c.degree_of.ensures.rows tells))
+    edged s c.args.direction c.args.node c.degree_of.result c.args.label
+    (subst (Counted s c.args.direction c.args.node c.degree_of.result) (sym c.in-Some.is) (c.degree_of.ensures.rows tells))
 
 pub returns-in-None-clause-rows : goal.returns-in-None-clause-rows
 returns-in-None-clause-rows g c = λ tells.
     let s = g.R.Reads.state c.args.space.now in
-    listed s c.args.direction c.args.node c.degree_of-in-None.result c.args.label (subst (Counted s c.args.direction c.args.node c.degree_of-in-None.result) (sym c.in-None.is) (c.degree_of-in-None.ensures.rows tells))
+    listed s c.args.direction c.args.node c.degree_of-in-None.result c.args.label
+    (subst (Counted s c.args.direction c.args.node c.degree_of-in-None.result) (sym c.in-None.is) (c.degree_of-in-None.ensures.rows tells))
 
 pub returns-in-None-clause-edges : goal.returns-in-None-clause-edges
 returns-in-None-clause-edges g c = λ tells.
     let s = g.R.Reads.state c.args.space.now in
-    edged s c.args.direction c.args.node c.degree_of-in-None.result c.args.label (subst (Counted s c.args.direction c.args.node c.degree_of-in-None.result) (sym c.in-None.is) (c.degree_of-in-None.ensures.rows tells))
+    edged s c.args.direction c.args.node c.degree_of-in-None.result c.args.label
+    (subst (Counted s c.args.direction c.args.node c.degree_of-in-None.result) (sym c.in-None.is) (c.degree_of-in-None.ensures.rows tells))

@@ -11,7 +11,9 @@ use Rattle.expand.specs.Costs.{type_count}
 use Rattle.expand.specs.Degrees.{as_number, rows_count}
 use Rattle.expand.specs.Expanding.{graph_in, rows_of}
 use Rattle.expand.proofs.DenseDegrees.{if_degree, loaded_counted, loaded_degree, number_is, one_read}
-use Rattle.expand.proofs.LoadedRows.{can_walk, chain_fault, chain_tells, dense_at_most, dense_fault, dense_most, load_most, mid_row, dense_tells, dense_test, members, none_there, one_there, row_fault, sound, sparse_at_most, sparse_part, sparse_reads}
+use Rattle.expand.proofs.LoadedRows.{can_walk, chain_fault, chain_tells, dense_at_most, dense_fault, dense_most}
+use Rattle.expand.proofs.LoadedRows.{load_most, mid_row, dense_tells, dense_test, members, none_there, one_there}
+use Rattle.expand.proofs.LoadedRows.{row_fault, sound, sparse_at_most, sparse_part, sparse_reads}
 use Rattle.expand.proofs.ReadCounts.{load_reads}
 use Rattle.expand.proofs.RowCounts.{part_count}
 use Rattle.rec_bytes.proofs.Causes.{never_ok, ok_cause}
@@ -47,7 +49,8 @@ returns-then-row-clause-rows g c = λ tells.
     let mid = g.R.Reads.state c.load.new.space in
     let found = sym c.in-Some.is ∙ c.in_ok-row.ensures.found tells in
     if_degree c.dense_degree.result (λ count h store.
-    loaded_degree s c.args.node c.in-Some.row found mid c.in_ok-row.ensures.state c.if-row.true store c.args.direction c.args.labels.now (g.R.Reads.state c.dense_degree.new.space) count h) (c.dense_degree.ensures.count tells)
+    loaded_degree s c.args.node c.in-Some.row found mid c.in_ok-row.ensures.state c.if-row.true store c.args.direction c.args.labels.now
+    (g.R.Reads.state c.dense_degree.new.space) count h) (c.dense_degree.ensures.count tells)
 
 pub returns-then-row-clause-missing : goal.returns-then-row-clause-missing
 returns-then-row-clause-missing g c = λ tells store.
@@ -67,7 +70,8 @@ returns-then-row-clause-reads g c = λ tells store.
     let mid = g.R.Reads.state c.load.new.space in
     let found = sym c.in-Some.is ∙ c.in_ok-row.ensures.found tells in
     let can = can_walk s c.args.node c.in-Some.row found mid c.in_ok-row.ensures.state c.if-row.true store c.args.direction c.args.labels.now in
-    dense_most s c.args.node c.in-Some.row found mid c.in_ok-row.ensures.state c.if-row.true store c.args.direction c.args.labels.now (g.R.Reads.state c.dense_degree.new.space)
+    dense_most s c.args.node c.in-Some.row found mid c.in_ok-row.ensures.state c.if-row.true store c.args.direction c.args.labels.now
+    (g.R.Reads.state c.dense_degree.new.space)
     (c.dense_degree.ensures.few_reads tells _ _ can)
 
 pub returns-then-row-clause-counted_reads : goal.returns-then-row-clause-counted_reads
@@ -76,12 +80,14 @@ returns-then-row-clause-counted_reads g c = λ tells store dense all.
     let mid = g.R.Reads.state c.load.new.space in
     let found = sym c.in-Some.is ∙ c.in_ok-row.ensures.found tells in
     let can = can_walk s c.args.node c.in-Some.row found mid c.in_ok-row.ensures.state c.if-row.true store c.args.direction c.args.labels.now in
-    loaded_counted s c.args.node c.in-Some.row found mid c.in_ok-row.ensures.state c.if-row.true store c.args.direction c.args.labels.now (g.R.Reads.state c.dense_degree.new.space) all
+    loaded_counted s c.args.node c.in-Some.row found mid c.in_ok-row.ensures.state c.if-row.true store c.args.direction c.args.labels.now
+    (g.R.Reads.state c.dense_degree.new.space) all
     (c.dense_degree.ensures.counted_reads tells _ can.walkable)
 
 pub returns-then-row-clause-at_most : goal.returns-then-row-clause-at_most
 returns-then-row-clause-at_most g c =
-    dense_at_most (g.R.Reads.state c.args.space.now) c.args.node (g.R.Reads.state c.load.new.space) (g.R.Reads.state c.dense_degree.new.space) c.in_ok-row.ensures.state c.dense_degree.ensures.at_most
+    dense_at_most (g.R.Reads.state c.args.space.now) c.args.node (g.R.Reads.state c.load.new.space) (g.R.Reads.state c.dense_degree.new.space)
+    c.in_ok-row.ensures.state c.dense_degree.ensures.at_most
 
 -- ---- a sparse one
 
@@ -113,10 +119,12 @@ returns-clause-rows g c = λ tells store.
     let s = g.R.Reads.state c.args.space.now in
     let found = sym c.in-Some.is ∙ c.in_ok-row.ensures.found tells in
     let marked = ap (λ (meta : Meta). meta.high) c.meta-mark.ensures in
-    let part = sparse_part s c.args.node c.in-Some.row found (g.R.Reads.state c.load.new.space) c.in_ok-row.ensures.state c.meta-mark.result.high marked c.if-row.false store
+    let part = sparse_part s c.args.node c.in-Some.row found (g.R.Reads.state c.load.new.space) c.in_ok-row.ensures.state c.meta-mark.result.high marked
+    c.if-row.false store
     c.in_ok-rows.rows.items (c.in_ok-rows.ensures.rows tells) c.args.direction c.args.labels.now in
     c.count_rows.ensures ∙ ap (λ (rows : List EdgeRow). as_number (rows_count c.args.direction c.args.labels.now c.args.node rows)) c.deref.ensures.value
-    ∙ ap as_number (part_count c.args.direction c.args.labels.now c.args.node c.in_ok-rows.rows.items (rows_of s.records) part) ∙ number_is s store c.args.direction c.args.labels.now c.args.node
+    ∙ ap as_number (part_count c.args.direction c.args.labels.now c.args.node c.in_ok-rows.rows.items (rows_of s.records) part)
+    ∙ number_is s store c.args.direction c.args.labels.now c.args.node
 
 pub returns-clause-missing : goal.returns-clause-missing
 returns-clause-missing g c = λ tells store.
@@ -149,10 +157,12 @@ returns-in_err-rows-clause-reads g c = λ tells store.
     (c.in_err-rows.ensures.few_reads tells (members s n row found mid loaded mark marked c.if-row.false store) (sound s n row found mid loaded mark marked c.if-row.false store))
 
 pub returns-in_err-row-clause-reads : goal.returns-in_err-row-clause-reads
-returns-in_err-row-clause-reads g c = λ tells store. load_most (g.R.Reads.state c.args.space.now) (g.R.Reads.state c.load.new.space) c.args.node c.args.direction c.args.labels.now c.in_err-row.ensures.state
+returns-in_err-row-clause-reads g c = λ tells store. load_most (g.R.Reads.state c.args.space.now) (g.R.Reads.state c.load.new.space) c.args.node
+    c.args.direction c.args.labels.now c.in_err-row.ensures.state
 
 pub returns-in_default-clause-reads : goal.returns-in_default-clause-reads
-returns-in_default-clause-reads g c = λ tells store. load_most (g.R.Reads.state c.args.space.now) (g.R.Reads.state c.load.new.space) c.args.node c.args.direction c.args.labels.now c.in_ok-row.ensures.state
+returns-in_default-clause-reads g c = λ tells store. load_most (g.R.Reads.state c.args.space.now) (g.R.Reads.state c.load.new.space) c.args.node
+    c.args.direction c.args.labels.now c.in_ok-row.ensures.state
 
 pub returns-in_default-clause-damaged : goal.returns-in_default-clause-damaged
 returns-in_default-clause-damaged g c = λ tells. (λ i. c.args.node, sym (sym c.in_default.is ∙ c.in_ok-row.ensures.found tells))
@@ -168,10 +178,14 @@ returns-in_err-rows-clause-counted_reads g c = λ tells store dense all.
     absurd (true≢false (sym (eq_true _ _ dense) ∙ sym (dense_test (g.R.Reads.state c.args.space.now) c.args.node c.in-Some.row found) ∙ c.if-row.false))
 
 pub returns-in_err-row-clause-counted_reads : goal.returns-in_err-row-clause-counted_reads
-returns-in_err-row-clause-counted_reads g c = λ tells store dense all. one_read (type_count (graph_in (g.R.Reads.state c.args.space.now)) c.args.node) (g.R.Reads.state c.args.space.now) (g.R.Reads.state c.load.new.space) (load_reads (g.R.Reads.state c.args.space.now) (g.R.Reads.state c.load.new.space) c.args.node (type_count (graph_in (g.R.Reads.state c.args.space.now)) c.args.node) c.in_err-row.ensures.state)
+returns-in_err-row-clause-counted_reads g c = λ tells store dense all. one_read (type_count (graph_in (g.R.Reads.state c.args.space.now)) c.args.node)
+    (g.R.Reads.state c.args.space.now) (g.R.Reads.state c.load.new.space)
+    (load_reads (g.R.Reads.state c.args.space.now) (g.R.Reads.state c.load.new.space) c.args.node (type_count (graph_in (g.R.Reads.state c.args.space.now)) c.args.node) c.in_err-row.ensures.state)
 
 pub returns-in_default-clause-counted_reads : goal.returns-in_default-clause-counted_reads
-returns-in_default-clause-counted_reads g c = λ tells store dense all. one_read (type_count (graph_in (g.R.Reads.state c.args.space.now)) c.args.node) (g.R.Reads.state c.args.space.now) (g.R.Reads.state c.load.new.space) (load_reads (g.R.Reads.state c.args.space.now) (g.R.Reads.state c.load.new.space) c.args.node (type_count (graph_in (g.R.Reads.state c.args.space.now)) c.args.node) c.in_ok-row.ensures.state)
+returns-in_default-clause-counted_reads g c = λ tells store dense all. one_read (type_count (graph_in (g.R.Reads.state c.args.space.now)) c.args.node)
+    (g.R.Reads.state c.args.space.now) (g.R.Reads.state c.load.new.space)
+    (load_reads (g.R.Reads.state c.args.space.now) (g.R.Reads.state c.load.new.space) c.args.node (type_count (graph_in (g.R.Reads.state c.args.space.now)) c.args.node) c.in_ok-row.ensures.state)
 
 pub returns-clause-at_most : goal.returns-clause-at_most
 returns-clause-at_most g c =
@@ -199,7 +213,8 @@ returns-in_err-row-clause-cause g c =
 
 pub returns-in_err-rows-clause-cause : goal.returns-in_err-rows-clause-cause
 returns-in_err-rows-clause-cause g c =
-    expand_cause_passed _ _ _ c.from_residual-in_err-rows.result c.in_err-rows.field-0.0 c.in_ok-row.ensures.cause.later c.in_err-rows.ensures.cause c.from_residual-in_err-rows.ensures.1
+    expand_cause_passed _ _ _ c.from_residual-in_err-rows.result c.in_err-rows.field-0.0 c.in_ok-row.ensures.cause.later c.in_err-rows.ensures.cause
+    c.from_residual-in_err-rows.ensures.1
 
 pub returns-in_err-rows-clause-onward : goal.returns-in_err-rows-clause-onward
 returns-in_err-rows-clause-onward g c =

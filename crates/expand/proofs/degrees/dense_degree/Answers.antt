@@ -25,13 +25,15 @@ returns-in_err-links-clause-few_reads g c = λ tells members xs can. reads_wider
 pub returns-in_err-rows-clause-at_most : goal.returns-in_err-rows-clause-at_most
 returns-in_err-rows-clause-at_most g c =
     let s = g.R.Reads.state c.args.space.now in
-    reads_marks s (g.R.Reads.state c.groups.new.space) (g.R.Reads.state c.walk_all.new.space) (group_mark s) c.in_ok-groups.ensures.at_most c.in_err-rows.ensures.at_most
+    reads_marks s (g.R.Reads.state c.groups.new.space) (g.R.Reads.state c.walk_all.new.space) (group_mark s) c.in_ok-groups.ensures.at_most
+    c.in_err-rows.ensures.at_most
 
 pub returns-in_err-rows-clause-damaged : goal.returns-in_err-rows-clause-damaged
 returns-in_err-rows-clause-damaged g c = λ tells is.
     let rows = c.in_ok-groups.groups.items in
     let are = c.deref-3.ensures.value ∙ c.in_ok-links.ensures ∙ ap (first_links c.args.direction c.args.labels.now) c.deref-2.ensures.value in
-    let of = of_groups (g.R.Reads.state c.args.space.now) (g.R.Reads.state c.groups.new.space) (length rows) c.in_ok-groups.ensures.reads c.args.row.now c.args.direction c.args.labels.now
+    let of = of_groups (g.R.Reads.state c.args.space.now) (g.R.Reads.state c.groups.new.space) (length rows) c.in_ok-groups.ensures.reads c.args.row.now
+    c.args.direction c.args.labels.now
     c.deref-3.result.now rows (c.in_ok-groups.ensures.rows tells) are is in
     let p = err_from_is_err_and c.from_residual-in_err-rows.result c.from_residual-in_err-rows.ensures.1 in
     rw (p.1, p.2) (blamed_then (g.R.Reads.state c.args.space.now) (g.R.Reads.state c.groups.new.space) (length rows) c.in_ok-groups.ensures.reads c.in_err-rows.field-0.0 (c.in_err-rows.ensures.damaged tells of))
@@ -40,17 +42,21 @@ pub returns-clause-few_reads : goal.returns-clause-few_reads
 returns-clause-few_reads g c = λ tells members xs can.
     let rows = c.in_ok-groups.groups.items in
     let are = c.deref-3.ensures.value ∙ c.in_ok-links.ensures ∙ ap (first_links c.args.direction c.args.labels.now) c.deref-2.ensures.value in
-    let sound = can_walk (g.R.Reads.state c.args.space.now) (g.R.Reads.state c.groups.new.space) (length rows) c.in_ok-groups.ensures.reads c.args.row.now c.args.direction c.args.labels.now
+    let sound = can_walk (g.R.Reads.state c.args.space.now) (g.R.Reads.state c.groups.new.space) (length rows) c.in_ok-groups.ensures.reads c.args.row.now
+    c.args.direction c.args.labels.now
     c.deref-3.result.now rows (c.in_ok-groups.ensures.rows tells) are members xs can in
-    reads_both (g.R.Reads.state c.args.space.now) (g.R.Reads.state c.groups.new.space) (g.R.Reads.state c.walk_all.new.space) (length members) (length xs) (c.in_ok-groups.ensures.few_reads tells members can.walkable) (c.in_ok-rows.ensures.few_reads tells xs sound)
+    reads_both (g.R.Reads.state c.args.space.now) (g.R.Reads.state c.groups.new.space) (g.R.Reads.state c.walk_all.new.space) (length members) (length xs)
+    (c.in_ok-groups.ensures.few_reads tells members can.walkable) (c.in_ok-rows.ensures.few_reads tells xs sound)
 
 pub returns-in_err-rows-clause-few_reads : goal.returns-in_err-rows-clause-few_reads
 returns-in_err-rows-clause-few_reads g c = λ tells members xs can.
     let rows = c.in_ok-groups.groups.items in
     let are = c.deref-3.ensures.value ∙ c.in_ok-links.ensures ∙ ap (first_links c.args.direction c.args.labels.now) c.deref-2.ensures.value in
-    let sound = can_walk (g.R.Reads.state c.args.space.now) (g.R.Reads.state c.groups.new.space) (length rows) c.in_ok-groups.ensures.reads c.args.row.now c.args.direction c.args.labels.now
+    let sound = can_walk (g.R.Reads.state c.args.space.now) (g.R.Reads.state c.groups.new.space) (length rows) c.in_ok-groups.ensures.reads c.args.row.now
+    c.args.direction c.args.labels.now
     c.deref-3.result.now rows (c.in_ok-groups.ensures.rows tells) are members xs can in
-    reads_both (g.R.Reads.state c.args.space.now) (g.R.Reads.state c.groups.new.space) (g.R.Reads.state c.walk_all.new.space) (length members) (length xs) (c.in_ok-groups.ensures.few_reads tells members can.walkable) (c.in_err-rows.ensures.few_reads tells xs sound)
+    reads_both (g.R.Reads.state c.args.space.now) (g.R.Reads.state c.groups.new.space) (g.R.Reads.state c.walk_all.new.space) (length members) (length xs)
+    (c.in_ok-groups.ensures.few_reads tells members can.walkable) (c.in_err-rows.ensures.few_reads tells xs sound)
 
 pub returns-clause-count : goal.returns-clause-count
 returns-clause-count g c = λ tells.
@@ -58,8 +64,10 @@ returns-clause-count g c = λ tells.
     let are = c.deref-3.ensures.value ∙ c.in_ok-links.ensures ∙ ap (first_links c.args.direction c.args.labels.now) c.deref-2.ensures.value in
     inr (record {
       rows = c.in_ok-rows.rows.items;
-      has = has_dense_rows (g.R.Reads.state c.args.space.now) (g.R.Reads.state c.groups.new.space) (length rows) c.in_ok-groups.ensures.reads c.args.row.now c.args.direction c.args.labels.now
-          c.deref-3.result.now rows (c.in_ok-groups.ensures.rows tells) are (g.R.Reads.state c.walk_all.new.space) c.in_ok-rows.rows.items (λ i. length rows) (c.in_ok-rows.ensures.rows tells) c.in_ok-rows.ensures.reads;
+      has = has_dense_rows (g.R.Reads.state c.args.space.now) (g.R.Reads.state c.groups.new.space) (length rows) c.in_ok-groups.ensures.reads c.args.row.now
+          c.args.direction c.args.labels.now
+          c.deref-3.result.now rows (c.in_ok-groups.ensures.rows tells) are (g.R.Reads.state c.walk_all.new.space) c.in_ok-rows.rows.items (λ i. length rows)
+          (c.in_ok-rows.ensures.rows tells) c.in_ok-rows.ensures.reads;
       groups = rows;
       listed = c.in_ok-groups.ensures.rows tells;
       uncounted = sym (c.lacks_counts.ensures ∙ ap (lacks_counts c.args.labels.now) c.deref.ensures.value) ∙ c.if-not-lacks_counts.false;
@@ -69,12 +77,14 @@ returns-clause-count g c = λ tells.
 pub returns-clause-at_most : goal.returns-clause-at_most
 returns-clause-at_most g c =
     let s = g.R.Reads.state c.args.space.now in
-    reads_marks s (g.R.Reads.state c.groups.new.space) (g.R.Reads.state c.walk_all.new.space) (group_mark s) c.in_ok-groups.ensures.at_most c.in_ok-rows.ensures.at_most
+    reads_marks s (g.R.Reads.state c.groups.new.space) (g.R.Reads.state c.walk_all.new.space) (group_mark s) c.in_ok-groups.ensures.at_most
+    c.in_ok-rows.ensures.at_most
 
 -- ---- where the numbers are known
 
 pub returns-then-not-lacks_counts-clause-few_reads : goal.returns-then-not-lacks_counts-clause-few_reads
-returns-then-not-lacks_counts-clause-few_reads g c = λ tells members xs can. reads_wider (length xs) (c.in_ok-groups.ensures.few_reads tells members can.walkable)
+returns-then-not-lacks_counts-clause-few_reads g c = λ tells members xs can.
+    reads_wider (length xs) (c.in_ok-groups.ensures.few_reads tells members can.walkable)
 
 pub returns-then-not-lacks_counts-clause-counted_reads : goal.returns-then-not-lacks_counts-clause-counted_reads
 returns-then-not-lacks_counts-clause-counted_reads g c = λ tells members walkable counted. c.in_ok-groups.ensures.few_reads tells members walkable
@@ -135,4 +145,5 @@ returns-in_err-rows-clause-onward g c =
 
 pub returns-in_err-rows-clause-cause : goal.returns-in_err-rows-clause-cause
 returns-in_err-rows-clause-cause g c =
-    same_cause_passed _ _ _ c.from_residual-in_err-rows.result c.in_err-rows.field-0.0 c.in_ok-groups.ensures.cause.later c.in_err-rows.ensures.cause c.from_residual-in_err-rows.ensures.1
+    same_cause_passed _ _ _ c.from_residual-in_err-rows.result c.in_err-rows.field-0.0 c.in_ok-groups.ensures.cause.later c.in_err-rows.ensures.cause
+    c.from_residual-in_err-rows.ensures.1

@@ -22,7 +22,8 @@ returns-clause-edges g c = λ tells store names.
     let s = g.R.Reads.state c.args.space.now in
     let labels = c.args.labels.now in
     let texts = map (name_of s.records) labels in
-    subst (λ (rows : List EdgeRow). AreRowsOf s.records rows (edges_at (graph_in s) c.args.direction texts c.args.node)) (sym {A = List EdgeRow} (returns-clause-rows g c tells store))
+    subst (λ (rows : List EdgeRow). AreRowsOf s.records rows (edges_at (graph_in s) c.args.direction texts c.args.node))
+    (sym {A = List EdgeRow} (returns-clause-rows g c tells store))
     (rows_at_are s.records s.shape store labels texts (names_stand s.records s.shape store labels names) c.args.node c.args.direction)
 
 pub returns-clause-dense_reads : goal.returns-clause-dense_reads

@@ -4,7 +4,9 @@ use Rattle.rec_bytes.specs.declared.meta.Meta.{Meta}
 use Rattle.rel_store.specs.Loading.{rel_mark}
 use Rattle.chain_edit.specs.Walking.{ReadsAtMost}
 use Rattle.group_store.specs.Loading.{group_mark}
-use Rattle.expand.proofs.LoadedRows.{can_walk, chain_fault, chain_tells, dense_at_most, dense_fault, dense_most, load_most, mid_row, dense_parts, dense_tells, members, none_there, one_there, row_fault, sound, sparse_at_most, sparse_part, sparse_reads}
+use Rattle.expand.proofs.LoadedRows.{can_walk, chain_fault, chain_tells, dense_at_most, dense_fault, dense_most}
+use Rattle.expand.proofs.LoadedRows.{load_most, mid_row, dense_parts, dense_tells, members, none_there, one_there}
+use Rattle.expand.proofs.LoadedRows.{row_fault, sound, sparse_at_most, sparse_part, sparse_reads}
 use Rattle.expand.proofs.ReadCounts.{load_reads}
 use Rattle.rec_bytes.proofs.Causes.{never_ok, ok_cause}
 use Rattle.expand.proofs.Causes.{expand_cause_passed, row_cause_passed}
@@ -37,7 +39,8 @@ pub returns-then-row-clause-part : goal.returns-then-row-clause-part
 returns-then-row-clause-part g c = λ tells.
     let s = g.R.Reads.state c.args.space.now in
     let found = sym c.in-Some.is ∙ c.in_ok-row.ensures.found tells in
-    dense_parts s c.args.node c.in-Some.row found (g.R.Reads.state c.load.new.space) c.in_ok-row.ensures.state c.if-row.true c.args.direction c.args.labels.now (g.R.Reads.state c.dense_rows.new.space)
+    dense_parts s c.args.node c.in-Some.row found (g.R.Reads.state c.load.new.space) c.in_ok-row.ensures.state c.if-row.true c.args.direction c.args.labels.now
+    (g.R.Reads.state c.dense_rows.new.space)
     c.dense_rows.result (c.dense_rows.ensures.rows tells)
 
 pub returns-then-row-clause-missing : goal.returns-then-row-clause-missing
@@ -58,12 +61,14 @@ returns-then-row-clause-reads g c = λ tells store.
     let mid = g.R.Reads.state c.load.new.space in
     let found = sym c.in-Some.is ∙ c.in_ok-row.ensures.found tells in
     let can = can_walk s c.args.node c.in-Some.row found mid c.in_ok-row.ensures.state c.if-row.true store c.args.direction c.args.labels.now in
-    dense_most s c.args.node c.in-Some.row found mid c.in_ok-row.ensures.state c.if-row.true store c.args.direction c.args.labels.now (g.R.Reads.state c.dense_rows.new.space)
+    dense_most s c.args.node c.in-Some.row found mid c.in_ok-row.ensures.state c.if-row.true store c.args.direction c.args.labels.now
+    (g.R.Reads.state c.dense_rows.new.space)
     (c.dense_rows.ensures.few_reads tells _ _ can)
 
 pub returns-then-row-clause-at_most : goal.returns-then-row-clause-at_most
 returns-then-row-clause-at_most g c =
-    dense_at_most (g.R.Reads.state c.args.space.now) c.args.node (g.R.Reads.state c.load.new.space) (g.R.Reads.state c.dense_rows.new.space) c.in_ok-row.ensures.state c.dense_rows.ensures.at_most
+    dense_at_most (g.R.Reads.state c.args.space.now) c.args.node (g.R.Reads.state c.load.new.space) (g.R.Reads.state c.dense_rows.new.space)
+    c.in_ok-row.ensures.state c.dense_rows.ensures.at_most
 
 -- ---- a sparse one
 
@@ -94,7 +99,8 @@ pub returns-clause-part : goal.returns-clause-part
 returns-clause-part g c = λ tells store.
     let found = sym c.in-Some.is ∙ c.in_ok-row.ensures.found tells in
     let marked = ap (λ (meta : Meta). meta.high) c.meta-mark.ensures in
-    sparse_part (g.R.Reads.state c.args.space.now) c.args.node c.in-Some.row found (g.R.Reads.state c.load.new.space) c.in_ok-row.ensures.state c.meta-mark.result.high marked c.if-row.false store
+    sparse_part (g.R.Reads.state c.args.space.now) c.args.node c.in-Some.row found (g.R.Reads.state c.load.new.space) c.in_ok-row.ensures.state
+    c.meta-mark.result.high marked c.if-row.false store
     c.in_ok-rows.rows.items (c.in_ok-rows.ensures.rows tells) c.args.direction c.args.labels.now
 
 pub returns-clause-missing : goal.returns-clause-missing
@@ -128,10 +134,12 @@ returns-in_err-rows-clause-reads g c = λ tells store.
     (c.in_err-rows.ensures.few_reads tells (members s n row found mid loaded mark marked c.if-row.false store) (sound s n row found mid loaded mark marked c.if-row.false store))
 
 pub returns-in_err-row-clause-reads : goal.returns-in_err-row-clause-reads
-returns-in_err-row-clause-reads g c = λ tells store. load_most (g.R.Reads.state c.args.space.now) (g.R.Reads.state c.load.new.space) c.args.node c.args.direction c.args.labels.now c.in_err-row.ensures.state
+returns-in_err-row-clause-reads g c = λ tells store. load_most (g.R.Reads.state c.args.space.now) (g.R.Reads.state c.load.new.space) c.args.node
+    c.args.direction c.args.labels.now c.in_err-row.ensures.state
 
 pub returns-in_default-clause-reads : goal.returns-in_default-clause-reads
-returns-in_default-clause-reads g c = λ tells store. load_most (g.R.Reads.state c.args.space.now) (g.R.Reads.state c.load.new.space) c.args.node c.args.direction c.args.labels.now c.in_ok-row.ensures.state
+returns-in_default-clause-reads g c = λ tells store. load_most (g.R.Reads.state c.args.space.now) (g.R.Reads.state c.load.new.space) c.args.node
+    c.args.direction c.args.labels.now c.in_ok-row.ensures.state
 
 pub returns-in_default-clause-damaged : goal.returns-in_default-clause-damaged
 returns-in_default-clause-damaged g c = λ tells. (λ i. c.args.node, sym (sym c.in_default.is ∙ c.in_ok-row.ensures.found tells))
@@ -162,7 +170,8 @@ returns-in_err-row-clause-cause g c =
 
 pub returns-in_err-rows-clause-cause : goal.returns-in_err-rows-clause-cause
 returns-in_err-rows-clause-cause g c =
-    expand_cause_passed _ _ _ c.from_residual-in_err-rows.result c.in_err-rows.field-0.0 c.in_ok-row.ensures.cause.later c.in_err-rows.ensures.cause c.from_residual-in_err-rows.ensures.1
+    expand_cause_passed _ _ _ c.from_residual-in_err-rows.result c.in_err-rows.field-0.0 c.in_ok-row.ensures.cause.later c.in_err-rows.ensures.cause
+    c.from_residual-in_err-rows.ensures.1
 
 pub returns-in_err-rows-clause-onward : goal.returns-in_err-rows-clause-onward
 returns-in_err-rows-clause-onward g c =

@@ -28,6 +28,8 @@ returns-in_ok-extend_from_slice-in-Both c = rw c.in-Both.is (λ edges part.
     let leaves = is_met_at ends.Source labels node in
     let enters = is_met_at ends.Target labels node in
     let either = is_met directions.Both labels node in
-    let first = sorted_part either leaves rows edges leaving.found.items part (λ row is. or_left (leaves row) (enters row) is) leaving.ensures.moved leaving.ensures.sorted in
-    let second = sorted_part either enters rows edges entering.entering.items part (λ row is. or_right (leaves row) (enters row) is) entering.ensures.moved entering.ensures.sorted in
+    let first = sorted_part either leaves rows edges leaving.found.items part (λ row is. or_left (leaves row) (enters row) is) leaving.ensures.moved
+    leaving.ensures.sorted in
+    let second = sorted_part either enters rows edges entering.entering.items part (λ row is. or_right (leaves row) (enters row) is) entering.ensures.moved
+    entering.ensures.sorted in
     c.in_ok-extend_from_slice-in-Both.ensures.items ∙ (λ i. first i ++ (c.deref.ensures.value ∙ second) i))

@@ -28,12 +28,16 @@ numbers_long : (links : List FirstLink) → length (numbers_of links) ≡ length
 numbers_long links = length-map links (λ (link : FirstLink). link.first)
 
 -- what is left begins with it
-links_here : (links : List FirstLink) (at : ℕ) → at < length links → drop at (numbers_of links) ≡ (get_or links at no_link).first ∷ drop (at + 1) (numbers_of links)
-links_here links at lt = drop_more (numbers_of links) at 0 (let e = numbers_long links in omega arith) ∙ ap (λ f. f ∷ drop (at + 1) (numbers_of links)) (first_here links at lt)
+links_here : (links : List FirstLink) (at : ℕ) → at < length links → drop at (numbers_of links) ≡ (get_or links at no_link).first ∷ drop (at + 1)
+    (numbers_of links)
+links_here links at lt = drop_more (numbers_of links) at 0 (let e = numbers_long links in omega arith)
+    ∙ ap (λ f. f ∷ drop (at + 1) (numbers_of links)) (first_here links at lt)
 
 -- walks that are left begin with its chain
-left_at : (s : State) (node at n budget : ℕ) (links : List FirstLink) → at < length links → budget ≡ rel_mark s - n → AreLeft s node (drop at (numbers_of links)) (rel_mark s - n) → AreLeft s node ((get_or links at no_link).first ∷ drop (at + 1) (numbers_of links)) budget
-left_at s node at n budget links low is left = subst (λ most. AreLeft s node ((get_or links at no_link).first ∷ drop (at + 1) (numbers_of links)) most) (sym is) (subst (λ fs. AreLeft s node fs (rel_mark s - n)) (links_here links at low) left)
+left_at : (s : State) (node at n budget : ℕ) (links : List FirstLink) → at < length links → budget ≡ rel_mark s - n
+    → AreLeft s node (drop at (numbers_of links)) (rel_mark s - n) → AreLeft s node ((get_or links at no_link).first ∷ drop (at + 1) (numbers_of links)) budget
+left_at s node at n budget links low is left = subst (λ most. AreLeft s node ((get_or links at no_link).first ∷ drop (at + 1) (numbers_of links)) most) (sym is)
+    (subst (λ fs. AreLeft s node fs (rel_mark s - n)) (links_here links at low) left)
 
 pub loop-link-init : goal.loop-link-init
 loop-link-init g c =
@@ -51,7 +55,8 @@ loop-link-init g c =
     }
 
 -- a chain's rows as they are tested
-all_is : (link : FirstLink) (node : ℕ) (chain slice : List EdgeRow) (result value : Bool) → slice ≡ chain → result ≡ list_all (belongs link node) slice → result ≡ value → list_all (belongs link node) chain ≡ value
+all_is : (link : FirstLink) (node : ℕ) (chain slice : List EdgeRow) (result value : Bool) → slice ≡ chain → result ≡ list_all (belongs link node) slice
+    → result ≡ value → list_all (belongs link node) chain ≡ value
 all_is link node chain slice result value same is told = ap (list_all (belongs link node)) (sym same) ∙ sym is ∙ told
 
 pub loop-link-preserved : goal.loop-link-preserved
@@ -68,7 +73,8 @@ loop-link-preserved g c =
     let both = c.extend_from_slice.new.self.items in
     let link = get_or links at no_link in
     let marked = ap (λ (meta : Meta). meta.high) c.meta-mark.ensures in
-    let budget : c.saturating_sub-budget.result ≡ rel_mark s - length rows = let left = c.saturating_sub-budget.ensures in let len = c.len.ensures in omega (arith, left, len, marked) in
+    let budget : c.saturating_sub-budget.result ≡ rel_mark s - length rows = let left = c.saturating_sub-budget.ensures in let len = c.len.ensures in
+    omega (arith, left, len, marked) in
     let more = c.in_ok-extend_from_slice.ensures.items ∙ ap (λ xs. rows ++ xs) c.deref-in-loop-link.ensures.value in
     let low : at < length links = c.loop-link-test.true in
     let here = links_here links at low in
@@ -76,12 +82,15 @@ loop-link-preserved g c =
       met = λ tells. rw more (chain_met s now (length rows) n link.first c.saturating_sub-budget.result firsts (drop (at + 1) firsts) rows chain c.loop-link.invariant.read
           (c.in-Ok.ensures.rows tells) (subst (λ left. HaveMet s n firsts left rows) here (c.loop-link.invariant.met tells)));
       stood = λ tells. rw more (more_stood s now (length rows) n at c.saturating_sub-budget.result links no_link c.loop-link.invariant.read low chain (c.in-Ok.ensures.rows tells) rows
-          (all_is link n chain c.deref.result.now c.all_belong.result true c.deref.ensures.value c.all_belong.ensures c.if-not-all_belong.false) (c.loop-link.invariant.stood tells));
-      left = λ tells xs sound. rest_left s now (length rows) n link.first c.saturating_sub-budget.result (rel_mark s - length both) (drop (at + 1) firsts) chain c.loop-link.invariant.read
+          (all_is link n chain c.deref.result.now c.all_belong.result true c.deref.ensures.value c.all_belong.ensures c.if-not-all_belong.false)
+          (c.loop-link.invariant.stood tells));
+      left = λ tells xs sound. rest_left s now (length rows) n link.first c.saturating_sub-budget.result (rel_mark s - length both) (drop (at + 1) firsts) chain
+          c.loop-link.invariant.read
           (let long = ap length more ∙ length-append rows chain in omega (arith, long, budget)) (c.in-Ok.ensures.rows tells)
           (left_at s n at (length rows) c.saturating_sub-budget.result links low budget (c.loop-link.invariant.left tells xs sound));
       read = reads_more s now new rows chain both more c.loop-link.invariant.read c.in-Ok.ensures.reads;
-      most = mark_bounds s now new (length rows) (rel_mark s) c.saturating_sub-budget.result budget c.loop-link.invariant.read c.loop-link.invariant.most c.walk.ensures.at_most;
+      most = mark_bounds s now new (length rows) (rel_mark s) c.saturating_sub-budget.result budget c.loop-link.invariant.read c.loop-link.invariant.most
+          c.walk.ensures.at_most;
       onward = g.met.R.Reads.further_onward c.args.space.now c.loop-link.space c.walk.new.space c.loop-link.invariant.onward c.walk.ensures.onward;
       later = let cause = c.walk.ensures.cause in omega (arith, c.loop-link.invariant.later, cause.later);
     }
@@ -89,14 +98,17 @@ loop-link-preserved g c =
 -- ---- reads of a chain more
 
 -- no more than walks that end meet
-few_here : (s now new : State) (node at budget : ℕ) (links : List FirstLink) (rows : List EdgeRow) (xs : List ℕ) → at < length links → now ≡ after_gets (length rows) s → budget ≡ rel_mark s - length rows
-    → HaveMet s node (numbers_of links) (drop at (numbers_of links)) rows → AreLeft s node (drop at (numbers_of links)) (rel_mark s - length rows) → AreWalks s.records node (numbers_of links) xs
+few_here : (s now new : State) (node at budget : ℕ) (links : List FirstLink) (rows : List EdgeRow) (xs : List ℕ) → at < length links
+    → now ≡ after_gets (length rows) s → budget ≡ rel_mark s - length rows
+    → HaveMet s node (numbers_of links) (drop at (numbers_of links)) rows → AreLeft s node (drop at (numbers_of links)) (rel_mark s - length rows)
+    → AreWalks s.records node (numbers_of links) xs
     → ((ys : List ℕ) → IsSoundWalk now (get_or links at no_link).first node budget ys → ReadsAtMost (length ys) now new) → ReadsAtMost (length xs) s new
 few_here s now new node at budget links rows xs low reads is met left walks few =
     let here = links_here links at low in
     let rest = left_at s node at (length rows) budget links low is left in
     let next = chain_left s now (length rows) node (get_or links at no_link).first budget (drop (at + 1) (numbers_of links)) reads rest in
-    few_more s now new node budget (numbers_of links) ((get_or links at no_link).first ∷ drop (at + 1) (numbers_of links)) rows xs (subst (λ fs. HaveMet s node (numbers_of links) fs rows) here met) rest walks reads
+    few_more s now new node budget (numbers_of links) ((get_or links at no_link).first ∷ drop (at + 1) (numbers_of links)) rows xs
+    (subst (λ fs. HaveMet s node (numbers_of links) fs rows) here met) rest walks reads
     (length next.members) next.few (few next.members next.sound)
 
 pub returns-in-Err-clause-few_reads : goal.returns-in-Err-clause-few_reads
@@ -109,9 +121,11 @@ returns-in-Err-clause-few_reads g c = λ tells xs sound.
     let at = c.loop-link.link-index in
     let rows = c.loop-link.rows.items in
     let marked = ap (λ (meta : Meta). meta.high) c.meta-mark.ensures in
-    let budget : c.saturating_sub-budget.result ≡ rel_mark s - length rows = let left = c.saturating_sub-budget.ensures in let len = c.len.ensures in omega (arith, left, len, marked) in
+    let budget : c.saturating_sub-budget.result ≡ rel_mark s - length rows = let left = c.saturating_sub-budget.ensures in let len = c.len.ensures in
+    omega (arith, left, len, marked) in
     let low : at < length links = c.loop-link-test.true in
-    few_here s now new n at c.saturating_sub-budget.result links rows xs low c.loop-link.invariant.read budget (c.loop-link.invariant.met tells) (c.loop-link.invariant.left tells xs sound) sound.walks (c.in-Err.ensures.few_reads tells)
+    few_here s now new n at c.saturating_sub-budget.result links rows xs low c.loop-link.invariant.read budget (c.loop-link.invariant.met tells)
+    (c.loop-link.invariant.left tells xs sound) sound.walks (c.in-Err.ensures.few_reads tells)
 
 pub returns-in-Err-clause-at_most : goal.returns-in-Err-clause-at_most
 returns-in-Err-clause-at_most g c =
@@ -123,8 +137,10 @@ returns-in-Err-clause-at_most g c =
     let at = c.loop-link.link-index in
     let rows = c.loop-link.rows.items in
     let marked = ap (λ (meta : Meta). meta.high) c.meta-mark.ensures in
-    let budget : c.saturating_sub-budget.result ≡ rel_mark s - length rows = let left = c.saturating_sub-budget.ensures in let len = c.len.ensures in omega (arith, left, len, marked) in
-    mark_bounds s now new (length rows) (rel_mark s) c.saturating_sub-budget.result budget c.loop-link.invariant.read c.loop-link.invariant.most c.in-Err.ensures.at_most
+    let budget : c.saturating_sub-budget.result ≡ rel_mark s - length rows = let left = c.saturating_sub-budget.ensures in let len = c.len.ensures in
+    omega (arith, left, len, marked) in
+    mark_bounds s now new (length rows) (rel_mark s) c.saturating_sub-budget.result budget c.loop-link.invariant.read c.loop-link.invariant.most
+    c.in-Err.ensures.at_most
 
 pub returns-then-not-all_belong-clause-few_reads : goal.returns-then-not-all_belong-clause-few_reads
 returns-then-not-all_belong-clause-few_reads g c = λ tells xs sound.
@@ -136,9 +152,11 @@ returns-then-not-all_belong-clause-few_reads g c = λ tells xs sound.
     let at = c.loop-link.link-index in
     let rows = c.loop-link.rows.items in
     let marked = ap (λ (meta : Meta). meta.high) c.meta-mark.ensures in
-    let budget : c.saturating_sub-budget.result ≡ rel_mark s - length rows = let left = c.saturating_sub-budget.ensures in let len = c.len.ensures in omega (arith, left, len, marked) in
+    let budget : c.saturating_sub-budget.result ≡ rel_mark s - length rows = let left = c.saturating_sub-budget.ensures in let len = c.len.ensures in
+    omega (arith, left, len, marked) in
     let low : at < length links = c.loop-link-test.true in
-    few_here s now new n at c.saturating_sub-budget.result links rows xs low c.loop-link.invariant.read budget (c.loop-link.invariant.met tells) (c.loop-link.invariant.left tells xs sound) sound.walks (c.in-Ok.ensures.few_reads tells)
+    few_here s now new n at c.saturating_sub-budget.result links rows xs low c.loop-link.invariant.read budget (c.loop-link.invariant.met tells)
+    (c.loop-link.invariant.left tells xs sound) sound.walks (c.in-Ok.ensures.few_reads tells)
 
 pub returns-then-not-all_belong-clause-at_most : goal.returns-then-not-all_belong-clause-at_most
 returns-then-not-all_belong-clause-at_most g c =
@@ -150,8 +168,10 @@ returns-then-not-all_belong-clause-at_most g c =
     let at = c.loop-link.link-index in
     let rows = c.loop-link.rows.items in
     let marked = ap (λ (meta : Meta). meta.high) c.meta-mark.ensures in
-    let budget : c.saturating_sub-budget.result ≡ rel_mark s - length rows = let left = c.saturating_sub-budget.ensures in let len = c.len.ensures in omega (arith, left, len, marked) in
-    mark_bounds s now new (length rows) (rel_mark s) c.saturating_sub-budget.result budget c.loop-link.invariant.read c.loop-link.invariant.most c.in-Ok.ensures.at_most
+    let budget : c.saturating_sub-budget.result ≡ rel_mark s - length rows = let left = c.saturating_sub-budget.ensures in let len = c.len.ensures in
+    omega (arith, left, len, marked) in
+    mark_bounds s now new (length rows) (rel_mark s) c.saturating_sub-budget.result budget c.loop-link.invariant.read c.loop-link.invariant.most
+    c.in-Ok.ensures.at_most
 
 pub returns-in_err-extend_from_slice-clause-few_reads : goal.returns-in_err-extend_from_slice-clause-few_reads
 returns-in_err-extend_from_slice-clause-few_reads g c = λ tells xs sound.
@@ -163,9 +183,11 @@ returns-in_err-extend_from_slice-clause-few_reads g c = λ tells xs sound.
     let at = c.loop-link.link-index in
     let rows = c.loop-link.rows.items in
     let marked = ap (λ (meta : Meta). meta.high) c.meta-mark.ensures in
-    let budget : c.saturating_sub-budget.result ≡ rel_mark s - length rows = let left = c.saturating_sub-budget.ensures in let len = c.len.ensures in omega (arith, left, len, marked) in
+    let budget : c.saturating_sub-budget.result ≡ rel_mark s - length rows = let left = c.saturating_sub-budget.ensures in let len = c.len.ensures in
+    omega (arith, left, len, marked) in
     let low : at < length links = c.loop-link-test.true in
-    few_here s now new n at c.saturating_sub-budget.result links rows xs low c.loop-link.invariant.read budget (c.loop-link.invariant.met tells) (c.loop-link.invariant.left tells xs sound) sound.walks (c.in-Ok.ensures.few_reads tells)
+    few_here s now new n at c.saturating_sub-budget.result links rows xs low c.loop-link.invariant.read budget (c.loop-link.invariant.met tells)
+    (c.loop-link.invariant.left tells xs sound) sound.walks (c.in-Ok.ensures.few_reads tells)
 
 pub returns-in_err-extend_from_slice-clause-at_most : goal.returns-in_err-extend_from_slice-clause-at_most
 returns-in_err-extend_from_slice-clause-at_most g c =
@@ -177,8 +199,10 @@ returns-in_err-extend_from_slice-clause-at_most g c =
     let at = c.loop-link.link-index in
     let rows = c.loop-link.rows.items in
     let marked = ap (λ (meta : Meta). meta.high) c.meta-mark.ensures in
-    let budget : c.saturating_sub-budget.result ≡ rel_mark s - length rows = let left = c.saturating_sub-budget.ensures in let len = c.len.ensures in omega (arith, left, len, marked) in
-    mark_bounds s now new (length rows) (rel_mark s) c.saturating_sub-budget.result budget c.loop-link.invariant.read c.loop-link.invariant.most c.in-Ok.ensures.at_most
+    let budget : c.saturating_sub-budget.result ≡ rel_mark s - length rows = let left = c.saturating_sub-budget.ensures in let len = c.len.ensures in
+    omega (arith, left, len, marked) in
+    mark_bounds s now new (length rows) (rel_mark s) c.saturating_sub-budget.result budget c.loop-link.invariant.read c.loop-link.invariant.most
+    c.in-Ok.ensures.at_most
 
 -- ---- what is damaged
 
@@ -192,7 +216,8 @@ returns-in-Err-clause-damaged g c = λ tells of.
     let at = c.loop-link.link-index in
     let rows = c.loop-link.rows.items in
     let marked = ap (λ (meta : Meta). meta.high) c.meta-mark.ensures in
-    let budget : c.saturating_sub-budget.result ≡ rel_mark s - length rows = let left = c.saturating_sub-budget.ensures in let len = c.len.ensures in omega (arith, left, len, marked) in
+    let budget : c.saturating_sub-budget.result ≡ rel_mark s - length rows = let left = c.saturating_sub-budget.ensures in let len = c.len.ensures in
+    omega (arith, left, len, marked) in
     let low : at < length links = c.loop-link-test.true in
     subst (Blames s) (sym c.with_node.ensures)
     (walk_breaks s now (length rows) n at c.saturating_sub-budget.result links no_link c.loop-link.invariant.read low of rows budget (c.loop-link.invariant.stood tells) c.in-Err.fault (c.in-Err.ensures.damaged tells))
@@ -207,7 +232,8 @@ returns-then-not-all_belong-clause-damaged g c = λ tells of.
     let rows = c.loop-link.rows.items in
     let low : at < length links = c.loop-link-test.true in
     let chain = c.in-Ok.chain.items in
-    let stray = all_is (get_or links at no_link) n chain c.deref.result.now c.all_belong.result false c.deref.ensures.value c.all_belong.ensures c.if-not-all_belong.true in
+    let stray = all_is (get_or links at no_link) n chain c.deref.result.now c.all_belong.result false c.deref.ensures.value c.all_belong.ensures
+    c.if-not-all_belong.true in
     subst (Breaks s.records s.shape) (sym c.chains_damage.ensures) (stray_breaks s now (length rows) n at c.saturating_sub-budget.result links no_link c.loop-link.invariant.read low chain (c.in-Ok.ensures.rows tells) of stray)
 
 -- ---- the end
@@ -223,7 +249,8 @@ returns-clause-few_reads g c = λ tells xs sound.
     let s = g.R.Reads.state c.args.space.now in
     let links = c.args.links.now in
     let rows = c.loop-link.rows.items in
-    few_met s (g.R.Reads.state c.loop-link.space) c.args.node (rel_mark s - length rows) (numbers_of links) (drop c.loop-link.link-index (numbers_of links)) rows xs
+    few_met s (g.R.Reads.state c.loop-link.space) c.args.node (rel_mark s - length rows) (numbers_of links) (drop c.loop-link.link-index (numbers_of links))
+    rows xs
     (c.loop-link.invariant.met tells) (c.loop-link.invariant.left tells xs sound) sound.walks c.loop-link.invariant.read
 
 pub returns-in_err-extend_from_slice-clause-rows : goal.returns-in_err-extend_from_slice-clause-rows

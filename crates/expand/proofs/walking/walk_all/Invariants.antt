@@ -16,7 +16,8 @@ invariant-loop-link g l =
     record {
       met : g.R.Reads.tells → HaveMet s l.fn.node firsts (drop l.link-index firsts) l.rows.items;
       stood : g.R.Reads.tells → HaveStood s l.fn.node l.fn.links l.link-index no_link l.rows.items;
-      left : g.R.Reads.tells → (xs : List ℕ) → AreSoundWalks s l.fn.node firsts (rel_mark s) xs → AreLeft s l.fn.node (drop l.link-index firsts) (rel_mark s - length l.rows.items);
+      left : g.R.Reads.tells → (xs : List ℕ) → AreSoundWalks s l.fn.node firsts (rel_mark s) xs
+          → AreLeft s l.fn.node (drop l.link-index firsts) (rel_mark s - length l.rows.items);
       read : g.R.Reads.state l.space ≡ after_gets (length l.rows.items) s;
       most : ReadsAtMost (rel_mark s) s (g.R.Reads.state l.space);
       onward : g.R.Reads.onward l.fn.space l.space;

@@ -26,7 +26,8 @@ returns-in_err-drop_if_empty-clause-sound g c = λ tells most empty can.
     rw (p.1, p.2) (handed Bool Unit c.in_err-drop_if_empty.field-0.0 (c.in_err-drop_if_empty.ensures.sound tells on.0 on.1))
 
 -- the group's key is that of the head
-written : (g : Over) (c : After-drop_if_empty g) → (before after : ℕ) × WritesOnly (g.S.Reads.state c.args.space.now) (g.S.Reads.state c.drop_if_empty.new.space) (group_key after ∷ lead_key c.args.node before ∷ c.args.head.key ∷ meta_key_of format.groups_file ∷ [])
+written : (g : Over) (c : After-drop_if_empty g) → (before after : ℕ) × WritesOnly (g.S.Reads.state c.args.space.now)
+    (g.S.Reads.state c.drop_if_empty.new.space) (group_key after ∷ lead_key c.args.node before ∷ c.args.head.key ∷ meta_key_of format.groups_file ∷ [])
 written g c =
     let w = c.drop_if_empty.ensures.writes in
     (w.0, w.1, subst (λ f. WritesOnly (g.S.Reads.state c.args.space.now) (g.S.Reads.state c.drop_if_empty.new.space) (group_key w.1 ∷ lead_key c.args.node w.0 ∷ key_in f c.args.head.key.id ∷ meta_key_of format.groups_file ∷ [])) (sym c.if-head-eq-GROUPS.true) w.2)
@@ -36,8 +37,10 @@ returns-in_err-drop_if_empty-clause-writes g c = written g (goal.at.returns-in_e
 
 pub returns-in_ok-drop_if_empty-clause-closed : goal.returns-in_ok-drop_if_empty-clause-closed
 returns-in_ok-drop_if_empty-clause-closed g c = λ tells most empty can.
-    closed_by (g.S.Reads.state c.args.space.now) c.args.head.key.file c.args.head.key.id c.args.head.field c.args.node most empty c.if-head-eq-GROUPS.true can (g.S.Reads.state c.drop_if_empty.new.space)
-    c.in_ok-drop_if_empty.field-0 (c.in_ok-drop_if_empty.ensures.is tells) c.in_ok-drop_if_empty.ensures.kept (c.in_ok-drop_if_empty.ensures.ok tells) (g.met.S.Reads.onward_shape _ _ c.in_ok-drop_if_empty.ensures.onward)
+    closed_by (g.S.Reads.state c.args.space.now) c.args.head.key.file c.args.head.key.id c.args.head.field c.args.node most empty c.if-head-eq-GROUPS.true can
+    (g.S.Reads.state c.drop_if_empty.new.space)
+    c.in_ok-drop_if_empty.field-0 (c.in_ok-drop_if_empty.ensures.is tells) c.in_ok-drop_if_empty.ensures.kept (c.in_ok-drop_if_empty.ensures.ok tells)
+    (g.met.S.Reads.onward_shape _ _ c.in_ok-drop_if_empty.ensures.onward)
 
 pub returns-in_ok-drop_if_empty-clause-writes : goal.returns-in_ok-drop_if_empty-clause-writes
 returns-in_ok-drop_if_empty-clause-writes g c = written g (goal.at.returns-in_ok-drop_if_empty-clause-writes g c).After-drop_if_empty
@@ -65,8 +68,10 @@ returns-in_ok-drop_if_empty-clause-heads g c = λ tells owns.
 
 pub returns-in_ok-drop_if_empty-clause-others : goal.returns-in_ok-drop_if_empty-clause-others
 returns-in_ok-drop_if_empty-clause-others g c = λ tells owns.
-    others_closed (g.S.Reads.state c.args.space.now) (g.S.Reads.state c.drop_if_empty.new.space) (head_of c.args.head) c.args.node c.if-head-eq-GROUPS.true owns (g.met.S.Reads.onward_shape _ _ c.in_ok-drop_if_empty.ensures.onward)
-    c.in_ok-drop_if_empty.field-0 c.in_ok-drop_if_empty.ensures.kept (c.in_ok-drop_if_empty.ensures.ok tells) (c.in_ok-drop_if_empty.ensures.linked tells) (c.in_ok-drop_if_empty.ensures.low tells)
+    others_closed (g.S.Reads.state c.args.space.now) (g.S.Reads.state c.drop_if_empty.new.space) (head_of c.args.head) c.args.node c.if-head-eq-GROUPS.true owns
+    (g.met.S.Reads.onward_shape _ _ c.in_ok-drop_if_empty.ensures.onward)
+    c.in_ok-drop_if_empty.field-0 c.in_ok-drop_if_empty.ensures.kept (c.in_ok-drop_if_empty.ensures.ok tells) (c.in_ok-drop_if_empty.ensures.linked tells)
+    (c.in_ok-drop_if_empty.ensures.low tells)
 
 pub returns-in_err-drop_if_empty-clause-damaged : goal.returns-in_err-drop_if_empty-clause-damaged
 returns-in_err-drop_if_empty-clause-damaged g c = λ tells.

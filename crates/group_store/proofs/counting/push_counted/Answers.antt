@@ -10,7 +10,8 @@ returns-in_err-first-clause-cause g c =
 
 pub returns-in_err-count_more-clause-cause : goal.returns-in_err-count_more-clause-cause
 returns-in_err-count_more-clause-cause g c =
-    space_cause_passed _ _ _ c.from_residual-in_err-count_more.result c.in_err-count_more.field-0.0 c.in_ok-first.ensures.cause.later c.in_err-count_more.ensures.cause c.from_residual-in_err-count_more.ensures.1
+    space_cause_passed _ _ _ c.from_residual-in_err-count_more.result c.in_err-count_more.field-0.0 c.in_ok-first.ensures.cause.later
+    c.in_err-count_more.ensures.cause c.from_residual-in_err-count_more.ensures.1
 
 pub returns-in_err-first-clause-ok : goal.returns-in_err-first-clause-ok
 returns-in_err-first-clause-ok g c _ = never_ok c.from_residual.result _ _ c.from_residual.ensures.1
@@ -52,19 +53,24 @@ pub returns-in_err-first-clause-shape : goal.returns-in_err-first-clause-shape
 returns-in_err-first-clause-shape g c _ = g.met.S.Reads.onward_shape _ _ c.in_err-first.ensures.onward
 
 pub returns-in_err-count_more-clause-damaged : goal.returns-in_err-count_more-clause-damaged
-returns-in_err-count_more-clause-damaged g c _ = space_has _ tt tt c.from_residual-in_err-count_more.result c.in_err-count_more.field-0.0 c.from_residual-in_err-count_more.ensures.1
+returns-in_err-count_more-clause-damaged g c _ = space_has _ tt tt c.from_residual-in_err-count_more.result c.in_err-count_more.field-0.0
+    c.from_residual-in_err-count_more.ensures.1
 
 pub returns-in_err-count_more-clause-unwritten : goal.returns-in_err-count_more-clause-unwritten
-returns-in_err-count_more-clause-unwritten g c = space_has _ tt tt c.from_residual-in_err-count_more.result c.in_err-count_more.field-0.0 c.from_residual-in_err-count_more.ensures.1
+returns-in_err-count_more-clause-unwritten g c = space_has _ tt tt c.from_residual-in_err-count_more.result c.in_err-count_more.field-0.0
+    c.from_residual-in_err-count_more.ensures.1
 
 pub returns-in_err-count_more-clause-breaks : goal.returns-in_err-count_more-clause-breaks
-returns-in_err-count_more-clause-breaks g c _ _ _ = space_has _ tt tt c.from_residual-in_err-count_more.result c.in_err-count_more.field-0.0 c.from_residual-in_err-count_more.ensures.1
+returns-in_err-count_more-clause-breaks g c _ _ _ = space_has _ tt tt c.from_residual-in_err-count_more.result c.in_err-count_more.field-0.0
+    c.from_residual-in_err-count_more.ensures.1
 
 pub returns-in_err-count_more-clause-sound : goal.returns-in_err-count_more-clause-sound
-returns-in_err-count_more-clause-sound g c _ _ = space_has _ tt tt c.from_residual-in_err-count_more.result c.in_err-count_more.field-0.0 c.from_residual-in_err-count_more.ensures.1
+returns-in_err-count_more-clause-sound g c _ _ = space_has _ tt tt c.from_residual-in_err-count_more.result c.in_err-count_more.field-0.0
+    c.from_residual-in_err-count_more.ensures.1
 
 pub returns-in_err-count_more-clause-shape : goal.returns-in_err-count_more-clause-shape
-returns-in_err-count_more-clause-shape g c _ = g.met.S.Reads.onward_shape _ _ (g.met.S.Reads.further_onward _ _ _ c.in_ok-first.ensures.onward c.in_err-count_more.ensures.onward)
+returns-in_err-count_more-clause-shape g c _ = g.met.S.Reads.onward_shape _ _
+    (g.met.S.Reads.further_onward _ _ _ c.in_ok-first.ensures.onward c.in_err-count_more.ensures.onward)
 
 pub returns-in_err-count_more-clause-onward : goal.returns-in_err-count_more-clause-onward
 returns-in_err-count_more-clause-onward g c =

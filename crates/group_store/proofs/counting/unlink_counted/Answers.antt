@@ -11,7 +11,8 @@ returns-in_err-unlink_named-clause-cause g c =
 
 pub returns-in_err-count_less-clause-cause : goal.returns-in_err-count_less-clause-cause
 returns-in_err-count_less-clause-cause g c =
-    space_cause_passed _ _ _ c.from_residual-in_err-count_less.result c.in_err-count_less.field-0.0 c.in_ok-unlink_named.ensures.cause.later c.in_err-count_less.ensures.cause c.from_residual-in_err-count_less.ensures.1
+    space_cause_passed _ _ _ c.from_residual-in_err-count_less.result c.in_err-count_less.field-0.0 c.in_ok-unlink_named.ensures.cause.later
+    c.in_err-count_less.ensures.cause c.from_residual-in_err-count_less.ensures.1
 
 pub returns-in_err-unlink_named-clause-breaks : goal.returns-in_err-unlink_named-clause-breaks
 returns-in_err-unlink_named-clause-breaks g c = λ tells row live placed.
@@ -34,13 +35,15 @@ pub returns-in_err-count_less-clause-linked : goal.returns-in_err-count_less-cla
 returns-in_err-count_less-clause-linked g c _ = never_ok c.from_residual-in_err-count_less.result _ _ c.from_residual-in_err-count_less.ensures.1
 
 pub returns-in_err-unlink_named-clause-damaged : goal.returns-in_err-unlink_named-clause-damaged
-returns-in_err-unlink_named-clause-damaged g c tells = same_has _ c.from_residual.result _ c.from_residual.ensures.1 (c.in_err-unlink_named.ensures.damaged tells)
+returns-in_err-unlink_named-clause-damaged g c tells = same_has _ c.from_residual.result _ c.from_residual.ensures.1
+    (c.in_err-unlink_named.ensures.damaged tells)
 
 pub returns-in_err-unlink_named-clause-unwritten : goal.returns-in_err-unlink_named-clause-unwritten
 returns-in_err-unlink_named-clause-unwritten g c = same_has _ c.from_residual.result _ c.from_residual.ensures.1 c.in_err-unlink_named.ensures.unwritten
 
 pub returns-in_err-unlink_named-clause-sound : goal.returns-in_err-unlink_named-clause-sound
-returns-in_err-unlink_named-clause-sound g c tells before after xs can = same_has _ c.from_residual.result _ c.from_residual.ensures.1 (c.in_err-unlink_named.ensures.sound tells before after xs can)
+returns-in_err-unlink_named-clause-sound g c tells before after xs can =
+    same_has _ c.from_residual.result _ c.from_residual.ensures.1 (c.in_err-unlink_named.ensures.sound tells before after xs can)
 
 pub returns-in_err-unlink_named-clause-writes : goal.returns-in_err-unlink_named-clause-writes
 returns-in_err-unlink_named-clause-writes g c = c.in_err-unlink_named.ensures.writes
@@ -49,19 +52,24 @@ pub returns-in_err-unlink_named-clause-shape : goal.returns-in_err-unlink_named-
 returns-in_err-unlink_named-clause-shape g c _ = g.met.S.Reads.onward_shape _ _ c.in_err-unlink_named.ensures.onward
 
 pub returns-in_err-count_less-clause-damaged : goal.returns-in_err-count_less-clause-damaged
-returns-in_err-count_less-clause-damaged g c _ = space_has _ tt tt c.from_residual-in_err-count_less.result c.in_err-count_less.field-0.0 c.from_residual-in_err-count_less.ensures.1
+returns-in_err-count_less-clause-damaged g c _ = space_has _ tt tt c.from_residual-in_err-count_less.result c.in_err-count_less.field-0.0
+    c.from_residual-in_err-count_less.ensures.1
 
 pub returns-in_err-count_less-clause-unwritten : goal.returns-in_err-count_less-clause-unwritten
-returns-in_err-count_less-clause-unwritten g c = space_has _ tt tt c.from_residual-in_err-count_less.result c.in_err-count_less.field-0.0 c.from_residual-in_err-count_less.ensures.1
+returns-in_err-count_less-clause-unwritten g c = space_has _ tt tt c.from_residual-in_err-count_less.result c.in_err-count_less.field-0.0
+    c.from_residual-in_err-count_less.ensures.1
 
 pub returns-in_err-count_less-clause-breaks : goal.returns-in_err-count_less-clause-breaks
-returns-in_err-count_less-clause-breaks g c _ _ _ _ = space_has _ tt tt c.from_residual-in_err-count_less.result c.in_err-count_less.field-0.0 c.from_residual-in_err-count_less.ensures.1
+returns-in_err-count_less-clause-breaks g c _ _ _ _ = space_has _ tt tt c.from_residual-in_err-count_less.result c.in_err-count_less.field-0.0
+    c.from_residual-in_err-count_less.ensures.1
 
 pub returns-in_err-count_less-clause-sound : goal.returns-in_err-count_less-clause-sound
-returns-in_err-count_less-clause-sound g c _ _ _ _ _ = space_has _ tt tt c.from_residual-in_err-count_less.result c.in_err-count_less.field-0.0 c.from_residual-in_err-count_less.ensures.1
+returns-in_err-count_less-clause-sound g c _ _ _ _ _ = space_has _ tt tt c.from_residual-in_err-count_less.result c.in_err-count_less.field-0.0
+    c.from_residual-in_err-count_less.ensures.1
 
 pub returns-in_err-count_less-clause-shape : goal.returns-in_err-count_less-clause-shape
-returns-in_err-count_less-clause-shape g c _ = g.met.S.Reads.onward_shape _ _ (g.met.S.Reads.further_onward _ _ _ c.in_ok-unlink_named.ensures.onward c.in_err-count_less.ensures.onward)
+returns-in_err-count_less-clause-shape g c _ = g.met.S.Reads.onward_shape _ _
+    (g.met.S.Reads.further_onward _ _ _ c.in_ok-unlink_named.ensures.onward c.in_err-count_less.ensures.onward)
 
 pub returns-in_err-count_less-clause-onward : goal.returns-in_err-count_less-clause-onward
 returns-in_err-count_less-clause-onward g c =

@@ -48,26 +48,34 @@ loop-init g c =
     let same = same_twice s l v (only_loads_node s l c.args.node c.load.ensures.state) c.in_ok-test_chain.ensures.state in
     let moved = c.new-moved.ensures in
     record {
-      left = λ tells most empty can. left_all s v t c.args.node c.in-Some.row most empty c.new-moved.result.relationships.items c.new-moved.result.groups.items same (sym c.in-Some.is ∙ c.in_ok-row.ensures.found tells) (c.in_ok-clear.ensures.ok tells)
+      left = λ tells most empty can. left_all s v t c.args.node c.in-Some.row most empty c.new-moved.result.relationships.items c.new-moved.result.groups.items
+          same (sym c.in-Some.is ∙ c.in_ok-row.ensures.found tells) (c.in_ok-clear.ensures.ok tells)
           moved.relationships moved.groups can;
-      part = λ tells members free can. part_all s v t c.args.node c.in-Some.row members free c.new-moved.result.relationships.items c.new-moved.result.groups.items same (sym c.in-Some.is ∙ c.in_ok-row.ensures.found tells) (c.in_ok-clear.ensures.ok tells)
+      part = λ tells members free can. part_all s v t c.args.node c.in-Some.row members free c.new-moved.result.relationships.items
+          c.new-moved.result.groups.items same (sym c.in-Some.is ∙ c.in_ok-row.ensures.found tells) (c.in_ok-clear.ensures.ok tells)
           moved.relationships moved.groups can;
-      leads = λ tells. subst (λ (q : State). LeadsAmong q.records c.args.node c.new-moved.result.relationships.items c.new-moved.result.groups.items) (sym (c.in_ok-clear.ensures.ok tells))
+      leads = λ tells. subst (λ (q : State). LeadsAmong q.records c.args.node c.new-moved.result.relationships.items c.new-moved.result.groups.items)
+          (sym (c.in_ok-clear.ensures.ok tells))
           (subst (λ xs. LeadsAmong (cleared v c.args.node).records c.args.node xs c.new-moved.result.groups.items) (sym moved.relationships)
           (subst (λ gs. LeadsAmong (cleared v c.args.node).records c.args.node (nil ∷ []) gs) (sym moved.groups) (leads_cleared v c.args.node)));
-      rest = λ tells. rest_all s l v t c.args.node c.in-Some.row.first c.in-Some.row.degree (only_loads_node s l c.args.node c.load.ensures.state) same (c.in_ok-clear.ensures.ok tells)
+      rest = λ tells. rest_all s l v t c.args.node c.in-Some.row.first c.in-Some.row.degree (only_loads_node s l c.args.node c.load.ensures.state) same
+          (c.in_ok-clear.ensures.ok tells)
           (row_degree s c.args.node c.in-Some.row (sym c.in-Some.is ∙ c.in_ok-row.ensures.found tells)) (c.in_ok-test_chain.ensures.chain tells);
       dense = λ tells.
           let used = (node_row s.records c.args.node c.in-Some.row (sym (sym c.in-Some.is ∙ c.in_ok-row.ensures.found tells))).0 in
           subst (λ (q : State). IsDense q.records c.args.node) (sym (c.in_ok-clear.ensures.ok tells))
           (dense_cleared v c.args.node (subst (λ (q : State). kind_at q.records nodes_file c.args.node ≢ 0) (sym same) used));
-      beside = λ tells. beside_then s.records v.records t.records c.args.node (beside_read s v c.args.node same) (beside_cleared v t c.args.node (c.in_ok-clear.ensures.ok tells));
+      beside = λ tells. beside_then s.records v.records t.records c.args.node (beside_read s v c.args.node same)
+          (beside_cleared v t c.args.node (c.in_ok-clear.ensures.ok tells));
       heads = λ tells h n ne o. heads_cleared v t c.args.node (c.in_ok-clear.ensures.ok tells) h n ne (heads_same s v same h n o);
       writes = come_none s v t c.args.node c.new-moved.result.relationships.items c.new-moved.result.groups.items same c.in_ok-clear.ensures.writes;
       rels = ap length moved.relationships;
       groups = ap length moved.groups;
-      onward = g.met.S.Reads.further_onward c.args.space.now c.test_chain.new.space c.clear.new.space (g.met.S.Reads.further_onward c.args.space.now c.load.new.space c.test_chain.new.space c.load.ensures.onward c.in_ok-test_chain.ensures.onward) c.in_ok-clear.ensures.onward;
-      later = let first = c.load.ensures.cause in let next = c.in_ok-test_chain.ensures.cause in let then = c.in_ok-clear.ensures.cause in omega (arith, first.later, next.later, then.later);
+      onward = g.met.S.Reads.further_onward c.args.space.now c.test_chain.new.space c.clear.new.space
+          (g.met.S.Reads.further_onward c.args.space.now c.load.new.space c.test_chain.new.space c.load.ensures.onward c.in_ok-test_chain.ensures.onward)
+          c.in_ok-clear.ensures.onward;
+      later = let first = c.load.ensures.cause in let next = c.in_ok-test_chain.ensures.cause in let then = c.in_ok-clear.ensures.cause in
+          omega (arith, first.later, next.later, then.later);
     }
 
 pub loop-preserved : goal.loop-preserved
@@ -82,16 +90,19 @@ loop-preserved g c =
     let turn = c.in_ok-turn.turn in
     let was = c.loop.invariant in
     record {
-      left = λ tells most empty can. left_next s now end c.args.node c.loop.at c.loop.counter most empty came groups turn c.if-at.false (c.in_ok-turn.ensures.own tells) (was.left tells most empty can) xs ys
+      left = λ tells most empty can. left_next s now end c.args.node c.loop.at c.loop.counter most empty came groups turn c.if-at.false
+          (c.in_ok-turn.ensures.own tells) (was.left tells most empty can) xs ys
           c.note.ensures.relationships c.note.ensures.groups (c.in_ok-turn.ensures.moved tells);
-      part = λ tells members free can. part_next s now c.args.node c.loop.at c.loop.counter members came groups c.if-at.false (was.part tells members free can) end turn xs ys c.note.ensures.relationships c.note.ensures.groups (c.in_ok-turn.ensures.local tells);
+      part = λ tells members free can. part_next s now c.args.node c.loop.at c.loop.counter members came groups c.if-at.false (was.part tells members free can)
+          end turn xs ys c.note.ensures.relationships c.note.ensures.groups (c.in_ok-turn.ensures.local tells);
       leads = λ tells. subst (λ zs. LeadsAmong end.records c.args.node zs ys) (sym c.note.ensures.relationships)
           (subst (λ zs. LeadsAmong end.records c.args.node (came ++ c.loop.at ∷ []) zs) (sym c.note.ensures.groups) (c.in_ok-turn.ensures.leads tells came groups (was.leads tells)).0);
       rest = λ tells. rest_next s now c.args.node c.loop.at c.loop.counter c.if-at.false (was.rest tells) end turn.next (c.in_ok-turn.ensures.walk tells);
       dense = λ tells. c.in_ok-turn.ensures.dense tells (was.dense tells);
       beside = λ tells. beside_then s.records now.records end.records c.args.node (was.beside tells) (c.in_ok-turn.ensures.beside tells);
       heads = λ tells. others_then s now end c.args.node (was.heads tells) (c.in_ok-turn.ensures.heads tells);
-      writes = come_next s now end c.args.node c.loop.at turn came groups xs ys was.writes c.in_ok-turn.ensures.wrote (c.note.ensures.known.0 c.if-not-note.false) c.note.ensures.relationships c.note.ensures.groups;
+      writes = come_next s now end c.args.node c.loop.at turn came groups xs ys was.writes c.in_ok-turn.ensures.wrote
+          (c.note.ensures.known.0 c.if-not-note.false) c.note.ensures.relationships c.note.ensures.groups;
       rels = one_longer c.loop.at c.loop.counter came xs c.note.ensures.relationships was.rels;
       groups = one_longer turn.group c.loop.counter groups ys c.note.ensures.groups was.groups;
       onward = g.met.S.Reads.further_onward c.args.space.now c.loop.space c.move_one.new.space was.onward c.in_ok-turn.ensures.onward;
@@ -102,118 +113,151 @@ loop-preserved g c =
 
 pub returns-in_err-turn-clause-writes : goal.returns-in_err-turn-clause-writes
 returns-in_err-turn-clause-writes g c =
-    touches_beside (g.S.Reads.state c.args.space.now) (g.S.Reads.state c.move_one.new.space) c.args.node (c.loop.counter + 1 + 2) (c.loop.counter + 1 + 2) (2 * (c.args.threshold + 1) + 2) (omega (arith, c.loop-test.true, c.if-row-threshold.false))
+    touches_beside (g.S.Reads.state c.args.space.now) (g.S.Reads.state c.move_one.new.space) c.args.node (c.loop.counter + 1 + 2) (c.loop.counter + 1 + 2)
+    (2 * (c.args.threshold + 1) + 2) (omega (arith, c.loop-test.true, c.if-row-threshold.false))
     (touches_then (g.S.Reads.state c.args.space.now) (g.S.Reads.state c.loop.space) (g.S.Reads.state c.move_one.new.space) c.args.node (c.loop.counter + 1) (c.loop.counter + 1) 2 2 (come_touches (g.S.Reads.state c.args.space.now) (g.S.Reads.state c.loop.space) c.args.node c.loop.counter (c.loop.counter + 1) c.loop.moved.relationships.items c.loop.moved.groups.items c.loop.invariant.rels c.loop.invariant.groups (omega arith) c.loop.invariant.writes) c.in_err-turn.ensures.touches)
 
 pub returns-in_err-turn-clause-touches : goal.returns-in_err-turn-clause-touches
 returns-in_err-turn-clause-touches g c =
-    touches_more (g.S.Reads.state c.args.space.now) (g.S.Reads.state c.move_one.new.space) c.args.node (c.loop.counter + 1 + 2) (c.loop.counter + 1 + 2) (c.args.threshold + 2) (c.args.threshold + 2) (omega (arith, c.loop-test.true, c.if-row-threshold.false)) (omega (arith, c.loop-test.true, c.if-row-threshold.false))
+    touches_more (g.S.Reads.state c.args.space.now) (g.S.Reads.state c.move_one.new.space) c.args.node (c.loop.counter + 1 + 2) (c.loop.counter + 1 + 2)
+    (c.args.threshold + 2) (c.args.threshold + 2) (omega (arith, c.loop-test.true, c.if-row-threshold.false))
+    (omega (arith, c.loop-test.true, c.if-row-threshold.false))
     (touches_then (g.S.Reads.state c.args.space.now) (g.S.Reads.state c.loop.space) (g.S.Reads.state c.move_one.new.space) c.args.node (c.loop.counter + 1) (c.loop.counter + 1) 2 2 (come_touches (g.S.Reads.state c.args.space.now) (g.S.Reads.state c.loop.space) c.args.node c.loop.counter (c.loop.counter + 1) c.loop.moved.relationships.items c.loop.moved.groups.items c.loop.invariant.rels c.loop.invariant.groups (omega arith) c.loop.invariant.writes) c.in_err-turn.ensures.touches)
 
 pub returns-in_err-turn-clause-few : goal.returns-in_err-turn-clause-few
 returns-in_err-turn-clause-few g c = λ tells.
     let e = row_degree (g.S.Reads.state c.args.space.now) c.args.node c.in-Some.row (sym c.in-Some.is ∙ c.in_ok-row.ensures.found tells) in
     let most = degree (g.S.Reads.state c.args.space.now).records c.args.node + 2 in
-    touches_more (g.S.Reads.state c.args.space.now) (g.S.Reads.state c.move_one.new.space) c.args.node (c.loop.counter + 1 + 2) (c.loop.counter + 1 + 2) most most (omega (arith, c.loop-test.true, c.if-row-threshold.false, e)) (omega (arith, c.loop-test.true, c.if-row-threshold.false, e))
+    touches_more (g.S.Reads.state c.args.space.now) (g.S.Reads.state c.move_one.new.space) c.args.node (c.loop.counter + 1 + 2) (c.loop.counter + 1 + 2) most
+    most (omega (arith, c.loop-test.true, c.if-row-threshold.false, e)) (omega (arith, c.loop-test.true, c.if-row-threshold.false, e))
     (touches_then (g.S.Reads.state c.args.space.now) (g.S.Reads.state c.loop.space) (g.S.Reads.state c.move_one.new.space) c.args.node (c.loop.counter + 1) (c.loop.counter + 1) 2 2 (come_touches (g.S.Reads.state c.args.space.now) (g.S.Reads.state c.loop.space) c.args.node c.loop.counter (c.loop.counter + 1) c.loop.moved.relationships.items c.loop.moved.groups.items c.loop.invariant.rels c.loop.invariant.groups (omega arith) c.loop.invariant.writes) c.in_err-turn.ensures.touches)
 
 pub returns-then-not-note-clause-writes : goal.returns-then-not-note-clause-writes
 returns-then-not-note-clause-writes g c =
-    touches_beside (g.S.Reads.state c.args.space.now) (g.S.Reads.state c.move_one.new.space) c.args.node (c.loop.counter + 1 + 2) (c.loop.counter + 1 + 2) (2 * (c.args.threshold + 1) + 2) (omega (arith, c.loop-test.true, c.if-row-threshold.false))
+    touches_beside (g.S.Reads.state c.args.space.now) (g.S.Reads.state c.move_one.new.space) c.args.node (c.loop.counter + 1 + 2) (c.loop.counter + 1 + 2)
+    (2 * (c.args.threshold + 1) + 2) (omega (arith, c.loop-test.true, c.if-row-threshold.false))
     (touches_then (g.S.Reads.state c.args.space.now) (g.S.Reads.state c.loop.space) (g.S.Reads.state c.move_one.new.space) c.args.node (c.loop.counter + 1) (c.loop.counter + 1) 2 2 (come_touches (g.S.Reads.state c.args.space.now) (g.S.Reads.state c.loop.space) c.args.node c.loop.counter (c.loop.counter + 1) c.loop.moved.relationships.items c.loop.moved.groups.items c.loop.invariant.rels c.loop.invariant.groups (omega arith) c.loop.invariant.writes) c.in_ok-turn.ensures.touches)
 
 pub returns-then-not-note-clause-touches : goal.returns-then-not-note-clause-touches
 returns-then-not-note-clause-touches g c =
-    touches_more (g.S.Reads.state c.args.space.now) (g.S.Reads.state c.move_one.new.space) c.args.node (c.loop.counter + 1 + 2) (c.loop.counter + 1 + 2) (c.args.threshold + 2) (c.args.threshold + 2) (omega (arith, c.loop-test.true, c.if-row-threshold.false)) (omega (arith, c.loop-test.true, c.if-row-threshold.false))
+    touches_more (g.S.Reads.state c.args.space.now) (g.S.Reads.state c.move_one.new.space) c.args.node (c.loop.counter + 1 + 2) (c.loop.counter + 1 + 2)
+    (c.args.threshold + 2) (c.args.threshold + 2) (omega (arith, c.loop-test.true, c.if-row-threshold.false))
+    (omega (arith, c.loop-test.true, c.if-row-threshold.false))
     (touches_then (g.S.Reads.state c.args.space.now) (g.S.Reads.state c.loop.space) (g.S.Reads.state c.move_one.new.space) c.args.node (c.loop.counter + 1) (c.loop.counter + 1) 2 2 (come_touches (g.S.Reads.state c.args.space.now) (g.S.Reads.state c.loop.space) c.args.node c.loop.counter (c.loop.counter + 1) c.loop.moved.relationships.items c.loop.moved.groups.items c.loop.invariant.rels c.loop.invariant.groups (omega arith) c.loop.invariant.writes) c.in_ok-turn.ensures.touches)
 
 pub returns-then-not-note-clause-few : goal.returns-then-not-note-clause-few
 returns-then-not-note-clause-few g c = λ tells.
     let e = row_degree (g.S.Reads.state c.args.space.now) c.args.node c.in-Some.row (sym c.in-Some.is ∙ c.in_ok-row.ensures.found tells) in
     let most = degree (g.S.Reads.state c.args.space.now).records c.args.node + 2 in
-    touches_more (g.S.Reads.state c.args.space.now) (g.S.Reads.state c.move_one.new.space) c.args.node (c.loop.counter + 1 + 2) (c.loop.counter + 1 + 2) most most (omega (arith, c.loop-test.true, c.if-row-threshold.false, e)) (omega (arith, c.loop-test.true, c.if-row-threshold.false, e))
+    touches_more (g.S.Reads.state c.args.space.now) (g.S.Reads.state c.move_one.new.space) c.args.node (c.loop.counter + 1 + 2) (c.loop.counter + 1 + 2) most
+    most (omega (arith, c.loop-test.true, c.if-row-threshold.false, e)) (omega (arith, c.loop-test.true, c.if-row-threshold.false, e))
     (touches_then (g.S.Reads.state c.args.space.now) (g.S.Reads.state c.loop.space) (g.S.Reads.state c.move_one.new.space) c.args.node (c.loop.counter + 1) (c.loop.counter + 1) 2 2 (come_touches (g.S.Reads.state c.args.space.now) (g.S.Reads.state c.loop.space) c.args.node c.loop.counter (c.loop.counter + 1) c.loop.moved.relationships.items c.loop.moved.groups.items c.loop.invariant.rels c.loop.invariant.groups (omega arith) c.loop.invariant.writes) c.in_ok-turn.ensures.touches)
 
 pub returns-then-at-clause-wrote : goal.returns-then-at-clause-wrote
 returns-then-at-clause-wrote g c =
     let was = c.loop.invariant in
-    come_beside (g.S.Reads.state c.args.space.now) (g.S.Reads.state c.loop.space) c.args.node c.loop.counter _ _ _ was.rels was.groups (omega (arith, c.loop-test.true, c.if-row-threshold.false)) was.writes
+    come_beside (g.S.Reads.state c.args.space.now) (g.S.Reads.state c.loop.space) c.args.node c.loop.counter _ _ _ was.rels was.groups
+    (omega (arith, c.loop-test.true, c.if-row-threshold.false)) was.writes
 
 pub returns-then-at-clause-writes : goal.returns-then-at-clause-writes
 returns-then-at-clause-writes g c =
     let was = c.loop.invariant in
-    come_beside (g.S.Reads.state c.args.space.now) (g.S.Reads.state c.loop.space) c.args.node c.loop.counter _ _ _ was.rels was.groups (omega (arith, c.loop-test.true, c.if-row-threshold.false)) was.writes
+    come_beside (g.S.Reads.state c.args.space.now) (g.S.Reads.state c.loop.space) c.args.node c.loop.counter _ _ _ was.rels was.groups
+    (omega (arith, c.loop-test.true, c.if-row-threshold.false)) was.writes
 
 pub returns-then-at-clause-touches : goal.returns-then-at-clause-touches
-returns-then-at-clause-touches g c = come_touches (g.S.Reads.state c.args.space.now) (g.S.Reads.state c.loop.space) c.args.node c.loop.counter (c.args.threshold + 2) c.loop.moved.relationships.items c.loop.moved.groups.items c.loop.invariant.rels c.loop.invariant.groups (omega (arith, c.loop-test.true, c.if-row-threshold.false)) c.loop.invariant.writes
+returns-then-at-clause-touches g c = come_touches (g.S.Reads.state c.args.space.now) (g.S.Reads.state c.loop.space) c.args.node c.loop.counter
+    (c.args.threshold + 2) c.loop.moved.relationships.items c.loop.moved.groups.items c.loop.invariant.rels c.loop.invariant.groups
+    (omega (arith, c.loop-test.true, c.if-row-threshold.false)) c.loop.invariant.writes
 
 pub returns-then-at-clause-few : goal.returns-then-at-clause-few
 returns-then-at-clause-few g c = λ tells.
     let e = row_degree (g.S.Reads.state c.args.space.now) c.args.node c.in-Some.row (sym c.in-Some.is ∙ c.in_ok-row.ensures.found tells) in
-    come_touches (g.S.Reads.state c.args.space.now) (g.S.Reads.state c.loop.space) c.args.node c.loop.counter (degree (g.S.Reads.state c.args.space.now).records c.args.node + 2) c.loop.moved.relationships.items c.loop.moved.groups.items c.loop.invariant.rels c.loop.invariant.groups (omega (arith, c.loop-test.true, c.if-row-threshold.false, e)) c.loop.invariant.writes
+    come_touches (g.S.Reads.state c.args.space.now) (g.S.Reads.state c.loop.space) c.args.node c.loop.counter
+    (degree (g.S.Reads.state c.args.space.now).records c.args.node + 2) c.loop.moved.relationships.items c.loop.moved.groups.items c.loop.invariant.rels
+    c.loop.invariant.groups (omega (arith, c.loop-test.true, c.if-row-threshold.false, e)) c.loop.invariant.writes
 
 pub returns-clause-wrote : goal.returns-clause-wrote
 returns-clause-wrote g c =
     let was = c.loop.invariant in
-    come_beside (g.S.Reads.state c.args.space.now) (g.S.Reads.state c.loop.space) c.args.node c.loop.counter _ _ _ was.rels was.groups (omega (arith, c.loop.auto.counter-end, c.if-row-threshold.false)) was.writes
+    come_beside (g.S.Reads.state c.args.space.now) (g.S.Reads.state c.loop.space) c.args.node c.loop.counter _ _ _ was.rels was.groups
+    (omega (arith, c.loop.auto.counter-end, c.if-row-threshold.false)) was.writes
 
 pub returns-clause-writes : goal.returns-clause-writes
 returns-clause-writes g c =
     let was = c.loop.invariant in
-    come_beside (g.S.Reads.state c.args.space.now) (g.S.Reads.state c.loop.space) c.args.node c.loop.counter _ _ _ was.rels was.groups (omega (arith, c.loop.auto.counter-end, c.if-row-threshold.false)) was.writes
+    come_beside (g.S.Reads.state c.args.space.now) (g.S.Reads.state c.loop.space) c.args.node c.loop.counter _ _ _ was.rels was.groups
+    (omega (arith, c.loop.auto.counter-end, c.if-row-threshold.false)) was.writes
 
 pub returns-clause-touches : goal.returns-clause-touches
-returns-clause-touches g c = come_touches (g.S.Reads.state c.args.space.now) (g.S.Reads.state c.loop.space) c.args.node c.loop.counter (c.args.threshold + 2) c.loop.moved.relationships.items c.loop.moved.groups.items c.loop.invariant.rels c.loop.invariant.groups (omega (arith, c.loop.auto.counter-end, c.if-row-threshold.false)) c.loop.invariant.writes
+returns-clause-touches g c = come_touches (g.S.Reads.state c.args.space.now) (g.S.Reads.state c.loop.space) c.args.node c.loop.counter (c.args.threshold + 2)
+    c.loop.moved.relationships.items c.loop.moved.groups.items c.loop.invariant.rels c.loop.invariant.groups
+    (omega (arith, c.loop.auto.counter-end, c.if-row-threshold.false)) c.loop.invariant.writes
 
 pub returns-clause-few : goal.returns-clause-few
 returns-clause-few g c = λ tells.
     let e = row_degree (g.S.Reads.state c.args.space.now) c.args.node c.in-Some.row (sym c.in-Some.is ∙ c.in_ok-row.ensures.found tells) in
-    come_touches (g.S.Reads.state c.args.space.now) (g.S.Reads.state c.loop.space) c.args.node c.loop.counter (degree (g.S.Reads.state c.args.space.now).records c.args.node + 2) c.loop.moved.relationships.items c.loop.moved.groups.items c.loop.invariant.rels c.loop.invariant.groups (omega (arith, c.loop.auto.counter-end, c.if-row-threshold.false, e)) c.loop.invariant.writes
+    come_touches (g.S.Reads.state c.args.space.now) (g.S.Reads.state c.loop.space) c.args.node c.loop.counter
+    (degree (g.S.Reads.state c.args.space.now).records c.args.node + 2) c.loop.moved.relationships.items c.loop.moved.groups.items c.loop.invariant.rels
+    c.loop.invariant.groups (omega (arith, c.loop.auto.counter-end, c.if-row-threshold.false, e)) c.loop.invariant.writes
 
 pub returns-then-at-2-clause-writes : goal.returns-then-at-2-clause-writes
 returns-then-at-2-clause-writes g c =
     let was = c.loop.invariant in
-    come_beside (g.S.Reads.state c.args.space.now) (g.S.Reads.state c.loop.space) c.args.node c.loop.counter _ _ _ was.rels was.groups (omega (arith, c.loop.auto.counter-end, c.if-row-threshold.false)) was.writes
+    come_beside (g.S.Reads.state c.args.space.now) (g.S.Reads.state c.loop.space) c.args.node c.loop.counter _ _ _ was.rels was.groups
+    (omega (arith, c.loop.auto.counter-end, c.if-row-threshold.false)) was.writes
 
 pub returns-then-at-2-clause-touches : goal.returns-then-at-2-clause-touches
-returns-then-at-2-clause-touches g c = come_touches (g.S.Reads.state c.args.space.now) (g.S.Reads.state c.loop.space) c.args.node c.loop.counter (c.args.threshold + 2) c.loop.moved.relationships.items c.loop.moved.groups.items c.loop.invariant.rels c.loop.invariant.groups (omega (arith, c.loop.auto.counter-end, c.if-row-threshold.false)) c.loop.invariant.writes
+returns-then-at-2-clause-touches g c = come_touches (g.S.Reads.state c.args.space.now) (g.S.Reads.state c.loop.space) c.args.node c.loop.counter
+    (c.args.threshold + 2) c.loop.moved.relationships.items c.loop.moved.groups.items c.loop.invariant.rels c.loop.invariant.groups
+    (omega (arith, c.loop.auto.counter-end, c.if-row-threshold.false)) c.loop.invariant.writes
 
 pub returns-then-at-2-clause-few : goal.returns-then-at-2-clause-few
 returns-then-at-2-clause-few g c = λ tells.
     let e = row_degree (g.S.Reads.state c.args.space.now) c.args.node c.in-Some.row (sym c.in-Some.is ∙ c.in_ok-row.ensures.found tells) in
-    come_touches (g.S.Reads.state c.args.space.now) (g.S.Reads.state c.loop.space) c.args.node c.loop.counter (degree (g.S.Reads.state c.args.space.now).records c.args.node + 2) c.loop.moved.relationships.items c.loop.moved.groups.items c.loop.invariant.rels c.loop.invariant.groups (omega (arith, c.loop.auto.counter-end, c.if-row-threshold.false, e)) c.loop.invariant.writes
+    come_touches (g.S.Reads.state c.args.space.now) (g.S.Reads.state c.loop.space) c.args.node c.loop.counter
+    (degree (g.S.Reads.state c.args.space.now).records c.args.node + 2) c.loop.moved.relationships.items c.loop.moved.groups.items c.loop.invariant.rels
+    c.loop.invariant.groups (omega (arith, c.loop.auto.counter-end, c.if-row-threshold.false, e)) c.loop.invariant.writes
 
 pub returns-in_err-row-clause-touches : goal.returns-in_err-row-clause-touches
-returns-in_err-row-clause-touches g c = touches_none (g.S.Reads.state c.args.space.now) (g.S.Reads.state c.load.new.space) c.args.node _ _ (only_loads_node (g.S.Reads.state c.args.space.now) (g.S.Reads.state c.load.new.space) c.args.node c.load.ensures.state)
+returns-in_err-row-clause-touches g c = touches_none (g.S.Reads.state c.args.space.now) (g.S.Reads.state c.load.new.space) c.args.node _ _
+    (only_loads_node (g.S.Reads.state c.args.space.now) (g.S.Reads.state c.load.new.space) c.args.node c.load.ensures.state)
 
 pub returns-in_err-row-clause-few : goal.returns-in_err-row-clause-few
-returns-in_err-row-clause-few g c = λ tells. touches_none (g.S.Reads.state c.args.space.now) (g.S.Reads.state c.load.new.space) c.args.node _ _ (only_loads_node (g.S.Reads.state c.args.space.now) (g.S.Reads.state c.load.new.space) c.args.node c.load.ensures.state)
+returns-in_err-row-clause-few g c = λ tells. touches_none (g.S.Reads.state c.args.space.now) (g.S.Reads.state c.load.new.space) c.args.node _ _
+    (only_loads_node (g.S.Reads.state c.args.space.now) (g.S.Reads.state c.load.new.space) c.args.node c.load.ensures.state)
 
 pub returns-in_default-clause-touches : goal.returns-in_default-clause-touches
-returns-in_default-clause-touches g c = touches_none (g.S.Reads.state c.args.space.now) (g.S.Reads.state c.load.new.space) c.args.node _ _ (only_loads_node (g.S.Reads.state c.args.space.now) (g.S.Reads.state c.load.new.space) c.args.node c.load.ensures.state)
+returns-in_default-clause-touches g c = touches_none (g.S.Reads.state c.args.space.now) (g.S.Reads.state c.load.new.space) c.args.node _ _
+    (only_loads_node (g.S.Reads.state c.args.space.now) (g.S.Reads.state c.load.new.space) c.args.node c.load.ensures.state)
 
 pub returns-in_default-clause-few : goal.returns-in_default-clause-few
-returns-in_default-clause-few g c = λ tells. touches_none (g.S.Reads.state c.args.space.now) (g.S.Reads.state c.load.new.space) c.args.node _ _ (only_loads_node (g.S.Reads.state c.args.space.now) (g.S.Reads.state c.load.new.space) c.args.node c.load.ensures.state)
+returns-in_default-clause-few g c = λ tells. touches_none (g.S.Reads.state c.args.space.now) (g.S.Reads.state c.load.new.space) c.args.node _ _
+    (only_loads_node (g.S.Reads.state c.args.space.now) (g.S.Reads.state c.load.new.space) c.args.node c.load.ensures.state)
 
 pub returns-then-row-clause-touches : goal.returns-then-row-clause-touches
-returns-then-row-clause-touches g c = touches_none (g.S.Reads.state c.args.space.now) (g.S.Reads.state c.load.new.space) c.args.node _ _ (only_loads_node (g.S.Reads.state c.args.space.now) (g.S.Reads.state c.load.new.space) c.args.node c.load.ensures.state)
+returns-then-row-clause-touches g c = touches_none (g.S.Reads.state c.args.space.now) (g.S.Reads.state c.load.new.space) c.args.node _ _
+    (only_loads_node (g.S.Reads.state c.args.space.now) (g.S.Reads.state c.load.new.space) c.args.node c.load.ensures.state)
 
 pub returns-then-row-clause-few : goal.returns-then-row-clause-few
-returns-then-row-clause-few g c = λ tells. touches_none (g.S.Reads.state c.args.space.now) (g.S.Reads.state c.load.new.space) c.args.node _ _ (only_loads_node (g.S.Reads.state c.args.space.now) (g.S.Reads.state c.load.new.space) c.args.node c.load.ensures.state)
+returns-then-row-clause-few g c = λ tells. touches_none (g.S.Reads.state c.args.space.now) (g.S.Reads.state c.load.new.space) c.args.node _ _
+    (only_loads_node (g.S.Reads.state c.args.space.now) (g.S.Reads.state c.load.new.space) c.args.node c.load.ensures.state)
 
 pub returns-in_err-clear-clause-touches : goal.returns-in_err-clear-clause-touches
 returns-in_err-clear-clause-touches g c =
     let s = g.S.Reads.state c.args.space.now in
     let l = g.S.Reads.state c.load.new.space in
     let v = g.S.Reads.state c.test_chain.new.space in
-    node_touched s v (g.S.Reads.state c.clear.new.space) c.args.node _ _ (same_twice s l v (only_loads_node s l c.args.node c.load.ensures.state) c.in_ok-test_chain.ensures.state) c.in_err-clear.ensures.writes
+    node_touched s v (g.S.Reads.state c.clear.new.space) c.args.node _ _
+    (same_twice s l v (only_loads_node s l c.args.node c.load.ensures.state) c.in_ok-test_chain.ensures.state) c.in_err-clear.ensures.writes
 
 pub returns-in_err-clear-clause-few : goal.returns-in_err-clear-clause-few
 returns-in_err-clear-clause-few g c = λ tells.
     let s = g.S.Reads.state c.args.space.now in
     let l = g.S.Reads.state c.load.new.space in
     let v = g.S.Reads.state c.test_chain.new.space in
-    node_touched s v (g.S.Reads.state c.clear.new.space) c.args.node _ _ (same_twice s l v (only_loads_node s l c.args.node c.load.ensures.state) c.in_ok-test_chain.ensures.state) c.in_err-clear.ensures.writes
+    node_touched s v (g.S.Reads.state c.clear.new.space) c.args.node _ _
+    (same_twice s l v (only_loads_node s l c.args.node c.load.ensures.state) c.in_ok-test_chain.ensures.state) c.in_err-clear.ensures.writes
 
 pub returns-in_err-test_chain-clause-touches : goal.returns-in_err-test_chain-clause-touches
 returns-in_err-test_chain-clause-touches g c =
@@ -230,20 +274,24 @@ returns-in_err-test_chain-clause-few g c = λ tells.
     touches_none s v c.args.node _ _ (same_twice s l v (only_loads_node s l c.args.node c.load.ensures.state) c.in_err-test_chain.ensures.state)
 
 pub returns-then-row-threshold-clause-touches : goal.returns-then-row-threshold-clause-touches
-returns-then-row-threshold-clause-touches g c = touches_none (g.S.Reads.state c.args.space.now) (g.S.Reads.state c.load.new.space) c.args.node _ _ (only_loads_node (g.S.Reads.state c.args.space.now) (g.S.Reads.state c.load.new.space) c.args.node c.load.ensures.state)
+returns-then-row-threshold-clause-touches g c = touches_none (g.S.Reads.state c.args.space.now) (g.S.Reads.state c.load.new.space) c.args.node _ _
+    (only_loads_node (g.S.Reads.state c.args.space.now) (g.S.Reads.state c.load.new.space) c.args.node c.load.ensures.state)
 
 pub returns-then-row-threshold-clause-few : goal.returns-then-row-threshold-clause-few
-returns-then-row-threshold-clause-few g c = λ tells. touches_none (g.S.Reads.state c.args.space.now) (g.S.Reads.state c.load.new.space) c.args.node _ _ (only_loads_node (g.S.Reads.state c.args.space.now) (g.S.Reads.state c.load.new.space) c.args.node c.load.ensures.state)
+returns-then-row-threshold-clause-few g c = λ tells. touches_none (g.S.Reads.state c.args.space.now) (g.S.Reads.state c.load.new.space) c.args.node _ _
+    (only_loads_node (g.S.Reads.state c.args.space.now) (g.S.Reads.state c.load.new.space) c.args.node c.load.ensures.state)
 
 -- ---- what it does
 
 pub returns-then-at-clause-made : goal.returns-then-at-clause-made
 returns-then-at-clause-made g c = λ tells most empty can.
-    left_none (g.S.Reads.state c.args.space.now) (g.S.Reads.state c.loop.space) c.args.node c.loop.at c.loop.counter most empty c.loop.moved.relationships.items c.loop.moved.groups.items c.if-at.true (c.loop.invariant.left tells most empty can)
+    left_none (g.S.Reads.state c.args.space.now) (g.S.Reads.state c.loop.space) c.args.node c.loop.at c.loop.counter most empty c.loop.moved.relationships.items
+    c.loop.moved.groups.items c.if-at.true (c.loop.invariant.left tells most empty can)
 
 pub returns-clause-made : goal.returns-clause-made
 returns-clause-made g c = λ tells most empty can.
-    left_none (g.S.Reads.state c.args.space.now) (g.S.Reads.state c.loop.space) c.args.node c.loop.at c.loop.counter most empty c.loop.moved.relationships.items c.loop.moved.groups.items c.if-at-2.false (c.loop.invariant.left tells most empty can)
+    left_none (g.S.Reads.state c.args.space.now) (g.S.Reads.state c.loop.space) c.args.node c.loop.at c.loop.counter most empty c.loop.moved.relationships.items
+    c.loop.moved.groups.items c.if-at-2.false (c.loop.invariant.left tells most empty can)
 
 pub returns-then-row-clause-sound : goal.returns-then-row-clause-sound
 returns-then-row-clause-sound g c = λ tells most empty can room.
@@ -268,7 +316,8 @@ returns-then-not-note-clause-sound g c = λ tells most empty can room.
 pub returns-then-at-2-clause-sound : goal.returns-then-at-2-clause-sound
 returns-then-at-2-clause-sound g c = λ tells most empty can room.
     let e = row_degree (g.S.Reads.state c.args.space.now) c.args.node c.in-Some.row (sym c.in-Some.is ∙ c.in_ok-row.ensures.found tells) in
-    none_over (g.S.Reads.state c.args.space.now) (g.S.Reads.state c.loop.space) c.args.node c.loop.at c.loop.counter most empty c.loop.moved.relationships.items c.loop.moved.groups.items c.if-at-2.true
+    none_over (g.S.Reads.state c.args.space.now) (g.S.Reads.state c.loop.space) c.args.node c.loop.at c.loop.counter most empty c.loop.moved.relationships.items
+    c.loop.moved.groups.items c.if-at-2.true
     (c.loop.invariant.left tells most empty can) (omega (arith, c.loop-test.false, c.if-row-threshold.false, e, room.few))
 
 pub returns-then-row-threshold-clause-sound : goal.returns-then-row-threshold-clause-sound
@@ -352,11 +401,13 @@ returns-then-at-2-clause-damaged g c = λ tells sparse le.
 
 pub returns-then-at-clause-spread : goal.returns-then-at-clause-spread
 returns-then-at-clause-spread g c = λ tells members free can.
-    part_none (g.S.Reads.state c.args.space.now) (g.S.Reads.state c.loop.space) c.args.node c.loop.at c.loop.counter members c.loop.moved.relationships.items c.loop.moved.groups.items c.if-at.true (c.loop.invariant.part tells members free can)
+    part_none (g.S.Reads.state c.args.space.now) (g.S.Reads.state c.loop.space) c.args.node c.loop.at c.loop.counter members c.loop.moved.relationships.items
+    c.loop.moved.groups.items c.if-at.true (c.loop.invariant.part tells members free can)
 
 pub returns-clause-spread : goal.returns-clause-spread
 returns-clause-spread g c = λ tells members free can.
-    part_none (g.S.Reads.state c.args.space.now) (g.S.Reads.state c.loop.space) c.args.node c.loop.at c.loop.counter members c.loop.moved.relationships.items c.loop.moved.groups.items c.if-at-2.false (c.loop.invariant.part tells members free can)
+    part_none (g.S.Reads.state c.args.space.now) (g.S.Reads.state c.loop.space) c.args.node c.loop.at c.loop.counter members c.loop.moved.relationships.items
+    c.loop.moved.groups.items c.if-at-2.false (c.loop.invariant.part tells members free can)
 
 pub returns-in_err-row-clause-never : goal.returns-in_err-row-clause-never
 returns-in_err-row-clause-never g c = λ tells members free can room.
@@ -366,7 +417,8 @@ returns-in_err-row-clause-never g c = λ tells members free can room.
 
 pub returns-in_default-clause-never : goal.returns-in_default-clause-never
 returns-in_default-clause-never g c = λ tells members free can room.
-    none_unused (g.S.Reads.state c.args.space.now) c.args.node (sym c.in_default.is ∙ c.in_ok-row.ensures.found tells) (λ e. let z = sym e ∙ can.sparse in omega arith)
+    none_unused (g.S.Reads.state c.args.space.now) c.args.node (sym c.in_default.is ∙ c.in_ok-row.ensures.found tells)
+    (λ e. let z = sym e ∙ can.sparse in omega arith)
 
 pub returns-then-row-clause-never : goal.returns-then-row-clause-never
 returns-then-row-clause-never g c = λ tells members free can room.
@@ -387,7 +439,8 @@ returns-in_err-test_chain-clause-never g c = λ tells members free can room.
     let e = row_degree s c.args.node c.in-Some.row found in
     let p = err_from_is_err_and c.from_residual-in_err-test_chain.result c.from_residual-in_err-test_chain.ensures.1 in
     rw (p.1, p.2) (handed Unit Unit c.in_err-test_chain.field-0.0 (c.in_err-test_chain.ensures.sound tells (subst (λ (q : State). c.in-Some.row.first ≡ first_link q.records c.args.node) (sym same) (first_is s.records c.args.node c.in-Some.row found))
-    members (subst (λ (q : State). IsHeadChain q.records (node_head c.args.node) c.args.node members) (sym same) can.chain) (readable_after s l members same (members_read s c.args.node c.args.threshold members room)) (omega (arith, e, room.exact))))
+    members (subst (λ (q : State). IsHeadChain q.records (node_head c.args.node) c.args.node members) (sym same) can.chain)
+    (readable_after s l members same (members_read s c.args.node c.args.threshold members room)) (omega (arith, e, room.exact))))
 
 pub returns-in_err-turn-clause-never : goal.returns-in_err-turn-clause-never
 returns-in_err-turn-clause-never g c = λ tells members free can room.
@@ -405,7 +458,8 @@ pub returns-then-at-2-clause-never : goal.returns-then-at-2-clause-never
 returns-then-at-2-clause-never g c = λ tells members free can room.
     let s = g.S.Reads.state c.args.space.now in
     let e = row_degree s c.args.node c.in-Some.row (sym c.in-Some.is ∙ c.in_ok-row.ensures.found tells) in
-    turn_over s (g.S.Reads.state c.loop.space) c.args.node c.loop.at c.loop.counter c.args.threshold members c.loop.moved.relationships.items c.loop.moved.groups.items c.if-at-2.true (c.loop.invariant.part tells members free can) room (omega (arith, c.loop-test.false, e))
+    turn_over s (g.S.Reads.state c.loop.space) c.args.node c.loop.at c.loop.counter c.args.threshold members c.loop.moved.relationships.items
+    c.loop.moved.groups.items c.if-at-2.true (c.loop.invariant.part tells members free can) room (omega (arith, c.loop-test.false, e))
 
 pub returns-then-at-clause-dense : goal.returns-then-at-clause-dense
 returns-then-at-clause-dense g c = λ tells. c.loop.invariant.dense tells
@@ -419,15 +473,18 @@ returns-in_err-row-clause-cause g c =
 
 pub returns-in_err-test_chain-clause-cause : goal.returns-in_err-test_chain-clause-cause
 returns-in_err-test_chain-clause-cause g c =
-    cause_passed _ _ _ c.from_residual-in_err-test_chain.result c.in_err-test_chain.field-0.0 c.in_ok-row.ensures.cause.later c.in_err-test_chain.ensures.cause c.from_residual-in_err-test_chain.ensures.1
+    cause_passed _ _ _ c.from_residual-in_err-test_chain.result c.in_err-test_chain.field-0.0 c.in_ok-row.ensures.cause.later c.in_err-test_chain.ensures.cause
+    c.from_residual-in_err-test_chain.ensures.1
 
 pub returns-in_err-clear-clause-cause : goal.returns-in_err-clear-clause-cause
 returns-in_err-clear-clause-cause g c =
-    space_cause_passed _ _ _ c.from_residual-in_err-clear.result c.in_err-clear.field-0.0 (later_on c.in_ok-row.ensures.cause.later c.in_ok-test_chain.ensures.cause.later) c.in_err-clear.ensures.cause c.from_residual-in_err-clear.ensures.1
+    space_cause_passed _ _ _ c.from_residual-in_err-clear.result c.in_err-clear.field-0.0
+    (later_on c.in_ok-row.ensures.cause.later c.in_ok-test_chain.ensures.cause.later) c.in_err-clear.ensures.cause c.from_residual-in_err-clear.ensures.1
 
 pub returns-in_err-turn-clause-cause : goal.returns-in_err-turn-clause-cause
 returns-in_err-turn-clause-cause g c =
-    cause_passed _ _ _ c.from_residual-in_err-turn.result c.in_err-turn.field-0.0 c.loop.invariant.later c.in_err-turn.ensures.cause c.from_residual-in_err-turn.ensures.1
+    cause_passed _ _ _ c.from_residual-in_err-turn.result c.in_err-turn.field-0.0 c.loop.invariant.later c.in_err-turn.ensures.cause
+    c.from_residual-in_err-turn.ensures.1
 
 -- ---- what is told by the space as it is then
 
@@ -457,7 +514,8 @@ returns-then-row-threshold-clause-told g c = λ tells thin le.
     let l = g.S.Reads.state c.load.new.space in
     let same = only_loads_node s l c.args.node c.load.ensures.state in
     let e = row_degree s c.args.node c.in-Some.row (sym c.in-Some.is ∙ c.in_ok-row.ensures.found tells) in
-    let sparse = sparse_known s c.args.node (c.in_ok-row.ensures.known tells) (node_row s.records c.args.node c.in-Some.row (sym (sym c.in-Some.is ∙ c.in_ok-row.ensures.found tells))).0 thin in
+    let sparse = sparse_known s c.args.node (c.in_ok-row.ensures.known tells)
+    (node_row s.records c.args.node c.in-Some.row (sym (sym c.in-Some.is ∙ c.in_ok-row.ensures.found tells))).0 thin in
     inl (inl (subst (λ (q : State). Breaks q.records q.shape c.degree_damage.result) (sym same)
     (subst (λ (d : Damage). Breaks s.records s.shape d) (sym c.degree_damage.ensures) (many_break s c.args.node sparse c.args.threshold le (omega (arith, c.if-row-threshold.true, e))))))
 
@@ -469,7 +527,8 @@ returns-in_err-test_chain-clause-told g c = λ tells thin le.
     let same = only_loads_node s l c.args.node c.load.ensures.state in
     let found = sym c.in-Some.is ∙ c.in_ok-row.ensures.found tells in
     let fault = c.in_err-test_chain.field-0.0 in
-    let sparse = sparse_known s c.args.node (c.in_ok-row.ensures.known tells) (node_row s.records c.args.node c.in-Some.row (sym (sym c.in-Some.is ∙ c.in_ok-row.ensures.found tells))).0 thin in
+    let sparse = sparse_known s c.args.node (c.in_ok-row.ensures.known tells)
+    (node_row s.records c.args.node c.in-Some.row (sym (sym c.in-Some.is ∙ c.in_ok-row.ensures.found tells))).0 thin in
     let p = err_from_is_err_and c.from_residual-in_err-test_chain.result c.from_residual-in_err-test_chain.ensures.1 in
     rw (p.1, p.2) (end_broken s v c.args.node fault (same_twice s l v same c.test_chain.ensures.state) (breaks_read s l same fault (sparse_breaks l c.args.node (subst (λ (q : State). kind_at q.records nodes_file c.args.node ≡ sparse_kind) (sym same) sparse) c.in-Some.row.degree
     (subst (λ (q : State). c.in-Some.row.degree ≡ degree q.records c.args.node) (sym same) (row_degree s c.args.node c.in-Some.row found)) fault
@@ -546,7 +605,8 @@ pub returns-then-not-note-clause-stays : goal.returns-then-not-note-clause-stays
 returns-then-not-note-clause-stays g c = λ tells.
     let s = g.S.Reads.state c.args.space.now in
     let now = g.S.Reads.state c.loop.space in
-    beside_then s.records now.records (g.S.Reads.state c.move_one.new.space).records c.args.node (c.loop.invariant.beside tells) (c.in_ok-turn.ensures.beside tells)
+    beside_then s.records now.records (g.S.Reads.state c.move_one.new.space).records c.args.node (c.loop.invariant.beside tells)
+    (c.in_ok-turn.ensures.beside tells)
 
 pub returns-then-at-2-clause-stays : goal.returns-then-at-2-clause-stays
 returns-then-at-2-clause-stays g c = λ tells. c.loop.invariant.beside tells
@@ -632,16 +692,20 @@ pub returns-in_err-turn-clause-wrote : goal.returns-in_err-turn-clause-wrote
 returns-in_err-turn-clause-wrote g c = never_ok c.from_residual-in_err-turn.result _ _ c.from_residual-in_err-turn.ensures.1
 
 pub returns-in_err-clear-clause-sound : goal.returns-in_err-clear-clause-sound
-returns-in_err-clear-clause-sound g c _ _ _ _ _ = space_has _ tt tt c.from_residual-in_err-clear.result c.in_err-clear.field-0.0 c.from_residual-in_err-clear.ensures.1
+returns-in_err-clear-clause-sound g c _ _ _ _ _ = space_has _ tt tt c.from_residual-in_err-clear.result c.in_err-clear.field-0.0
+    c.from_residual-in_err-clear.ensures.1
 
 pub returns-in_err-clear-clause-never : goal.returns-in_err-clear-clause-never
-returns-in_err-clear-clause-never g c _ _ _ _ _ = space_has _ tt tt c.from_residual-in_err-clear.result c.in_err-clear.field-0.0 c.from_residual-in_err-clear.ensures.1
+returns-in_err-clear-clause-never g c _ _ _ _ _ = space_has _ tt tt c.from_residual-in_err-clear.result c.in_err-clear.field-0.0
+    c.from_residual-in_err-clear.ensures.1
 
 pub returns-in_err-clear-clause-damaged : goal.returns-in_err-clear-clause-damaged
-returns-in_err-clear-clause-damaged g c _ _ _ = space_has _ tt tt c.from_residual-in_err-clear.result c.in_err-clear.field-0.0 c.from_residual-in_err-clear.ensures.1
+returns-in_err-clear-clause-damaged g c _ _ _ = space_has _ tt tt c.from_residual-in_err-clear.result c.in_err-clear.field-0.0
+    c.from_residual-in_err-clear.ensures.1
 
 pub returns-in_err-clear-clause-told : goal.returns-in_err-clear-clause-told
-returns-in_err-clear-clause-told g c _ _ _ = space_has _ tt tt c.from_residual-in_err-clear.result c.in_err-clear.field-0.0 c.from_residual-in_err-clear.ensures.1
+returns-in_err-clear-clause-told g c _ _ _ = space_has _ tt tt c.from_residual-in_err-clear.result c.in_err-clear.field-0.0
+    c.from_residual-in_err-clear.ensures.1
 
 pub returns-in_err-clear-clause-stays : goal.returns-in_err-clear-clause-stays
 returns-in_err-clear-clause-stays g c _ = space_has _ tt tt c.from_residual-in_err-clear.result c.in_err-clear.field-0.0 c.from_residual-in_err-clear.ensures.1
@@ -655,7 +719,8 @@ returns-in_err-test_chain-clause-onward g c =
 
 pub returns-in_err-clear-clause-onward : goal.returns-in_err-clear-clause-onward
 returns-in_err-clear-clause-onward g c =
-    g.met.S.Reads.further_onward _ _ _ (g.met.S.Reads.further_onward _ _ _ c.in_ok-row.ensures.onward c.in_ok-test_chain.ensures.onward) c.in_err-clear.ensures.onward
+    g.met.S.Reads.further_onward _ _ _ (g.met.S.Reads.further_onward _ _ _ c.in_ok-row.ensures.onward c.in_ok-test_chain.ensures.onward)
+    c.in_err-clear.ensures.onward
 
 pub returns-in_err-turn-clause-onward : goal.returns-in_err-turn-clause-onward
 returns-in_err-turn-clause-onward g c = g.met.S.Reads.further_onward _ _ _ c.loop.invariant.onward c.in_err-turn.ensures.onward

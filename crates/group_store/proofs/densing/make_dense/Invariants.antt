@@ -14,8 +14,10 @@ abbrev pub invariant-loop : goal.invariant-loop
 invariant-loop g l =
     let s = g.S.Reads.state l.fn.space in
     record {
-      left : g.S.Reads.tells → (most : ℕ) (empty : List ℕ) → CanBecomeDense s l.fn.node most empty → HasLeft s (g.S.Reads.state l.space) l.fn.node l.at l.counter most empty l.moved.relationships.items l.moved.groups.items;
-      part : g.S.Reads.tells → (members free : List ℕ) → CanSpread s l.fn.node members free → HasPart s (g.S.Reads.state l.space) l.fn.node l.at l.counter members l.moved.relationships.items l.moved.groups.items;
+      left : g.S.Reads.tells → (most : ℕ) (empty : List ℕ) → CanBecomeDense s l.fn.node most empty
+          → HasLeft s (g.S.Reads.state l.space) l.fn.node l.at l.counter most empty l.moved.relationships.items l.moved.groups.items;
+      part : g.S.Reads.tells → (members free : List ℕ) → CanSpread s l.fn.node members free
+          → HasPart s (g.S.Reads.state l.space) l.fn.node l.at l.counter members l.moved.relationships.items l.moved.groups.items;
       leads : g.S.Reads.tells → LeadsAmong (g.S.Reads.state l.space).records l.fn.node l.moved.relationships.items l.moved.groups.items;
       rest : g.S.Reads.tells → HasRest s (g.S.Reads.state l.space) l.fn.node l.at l.counter;
       dense : g.S.Reads.tells → IsDense (g.S.Reads.state l.space).records l.fn.node;

@@ -61,7 +61,8 @@ returns-in_err-own-clause-touches g c =
     let s = g.S.Reads.state c.args.space.now in
     let l = g.S.Reads.state c.load.new.space in
     let made = c.in_err-own.ensures.writes in
-    touches_more s (g.S.Reads.state c.own_group.new.space) c.args.node 0 2 2 2 (omega arith) (omega arith) (made_touched s (g.S.Reads.state c.own_group.new.space) c.args.node made.1 made.0 (writes_after s l (g.S.Reads.state c.own_group.new.space) _ (only_loads s l c.args.rel c.load.ensures.state) made.2))
+    touches_more s (g.S.Reads.state c.own_group.new.space) c.args.node 0 2 2 2 (omega arith) (omega arith)
+    (made_touched s (g.S.Reads.state c.own_group.new.space) c.args.node made.1 made.0 (writes_after s l (g.S.Reads.state c.own_group.new.space) _ (only_loads s l c.args.rel c.load.ensures.state) made.2))
 
 pub returns-in_err-free_previous-clause-touches : goal.returns-in_err-free_previous-clause-touches
 returns-in_err-free_previous-clause-touches g c =
@@ -71,7 +72,8 @@ returns-in_err-free_previous-clause-touches g c =
     let own = c.in_ok-own.own in
     four_touched s t c.args.node c.args.rel 0 own.row.id own.first
     (writes_freed s l (g.S.Reads.state c.own_group.new.space) t t (only_loads s l c.args.rel c.load.ensures.state)
-    (rel_key c.args.rel) (rel_key 0) (group_key own.row.id) (group_key own.first) (node_key c.args.node) (meta_key_of groups_file) c.in_ok-own.ensures.wrote c.in_err-free_previous.ensures.writes)
+    (rel_key c.args.rel) (rel_key 0) (group_key own.row.id) (group_key own.first) (node_key c.args.node) (meta_key_of groups_file) c.in_ok-own.ensures.wrote
+    c.in_err-free_previous.ensures.writes)
 
 pub returns-in_err-first-clause-touches : goal.returns-in_err-first-clause-touches
 returns-in_err-first-clause-touches g c =
@@ -84,7 +86,8 @@ returns-in_err-first-clause-touches g c =
     let key : c.group_head-head.result.key ≡ group_key own.row.id = ap (λ (h : Head). h.key) c.group_head-head.ensures.is in
     four_touched s end c.args.node c.args.rel push.0 own.row.id own.first
     (writes_pushed s l (g.S.Reads.state c.own_group.new.space) t end (only_loads s l c.args.rel c.load.ensures.state)
-    (rel_key c.args.rel) (rel_key push.0) (group_key own.row.id) (group_key own.first) (node_key c.args.node) (meta_key_of groups_file) c.in_ok-own.ensures.wrote c.in_ok-free_previous.ensures.writes
+    (rel_key c.args.rel) (rel_key push.0) (group_key own.row.id) (group_key own.first) (node_key c.args.node) (meta_key_of groups_file)
+    c.in_ok-own.ensures.wrote c.in_ok-free_previous.ensures.writes
     (subst (λ k. WritesOnly t end (rel_key push.0 ∷ rel_key c.args.rel ∷ k ∷ [])) key push.1))
 
 pub returns-clause-wrote : goal.returns-clause-wrote
@@ -97,7 +100,8 @@ returns-clause-wrote g c =
     let first = c.in_ok-first.first in
     let key : c.group_head-head.result.key ≡ group_key own.row.id = ap (λ (h : Head). h.key) c.group_head-head.ensures.is in
     writes_pushed s l (g.S.Reads.state c.own_group.new.space) t end (only_loads s l c.args.rel c.load.ensures.state)
-    (rel_key c.args.rel) (rel_key first) (group_key own.row.id) (group_key own.first) (node_key c.args.node) (meta_key_of groups_file) c.in_ok-own.ensures.wrote c.in_ok-free_previous.ensures.writes
+    (rel_key c.args.rel) (rel_key first) (group_key own.row.id) (group_key own.first) (node_key c.args.node) (meta_key_of groups_file) c.in_ok-own.ensures.wrote
+    c.in_ok-free_previous.ensures.writes
     (subst (λ k. WritesOnly t end (rel_key first ∷ rel_key c.args.rel ∷ k ∷ [])) key c.in_ok-first.ensures.wrote)
 
 pub returns-clause-touches : goal.returns-clause-touches
@@ -111,15 +115,18 @@ returns-clause-touches g c =
     let key : c.group_head-head.result.key ≡ group_key own.row.id = ap (λ (h : Head). h.key) c.group_head-head.ensures.is in
     four_touched s end c.args.node c.args.rel first own.row.id own.first
     (writes_pushed s l (g.S.Reads.state c.own_group.new.space) t end (only_loads s l c.args.rel c.load.ensures.state)
-    (rel_key c.args.rel) (rel_key first) (group_key own.row.id) (group_key own.first) (node_key c.args.node) (meta_key_of groups_file) c.in_ok-own.ensures.wrote c.in_ok-free_previous.ensures.writes
+    (rel_key c.args.rel) (rel_key first) (group_key own.row.id) (group_key own.first) (node_key c.args.node) (meta_key_of groups_file) c.in_ok-own.ensures.wrote
+    c.in_ok-free_previous.ensures.writes
     (subst (λ k. WritesOnly t end (rel_key first ∷ rel_key c.args.rel ∷ k ∷ [])) key c.in_ok-first.ensures.wrote))
 
 pub returns-clause-moved : goal.returns-clause-moved
 returns-clause-moved g c = λ tells rest most empty spread.
     let s = g.S.Reads.state c.args.space.now in
     let l = g.S.Reads.state c.load.new.space in
-    moved s l (g.S.Reads.state c.own_group.new.space) c.args.node c.args.rel c.in-Some.row c.in_ok-own.own.row.id (only_loads s l c.args.rel c.load.ensures.state) (sym c.in-Some.is ∙ c.in_ok-row.ensures.found tells)
-    (c.in_ok-own.ensures.opened tells) rest most empty spread (g.S.Reads.state c.free_previous.new.space) (g.S.Reads.state c.push_counted.new.space) c.end_links-next.result.1
+    moved s l (g.S.Reads.state c.own_group.new.space) c.args.node c.args.rel c.in-Some.row c.in_ok-own.own.row.id
+    (only_loads s l c.args.rel c.load.ensures.state) (sym c.in-Some.is ∙ c.in_ok-row.ensures.found tells)
+    (c.in_ok-own.ensures.opened tells) rest most empty spread (g.S.Reads.state c.free_previous.new.space) (g.S.Reads.state c.push_counted.new.space)
+    c.end_links-next.result.1
     (head_of c.group_head-head.result) (c.in_ok-free_previous.ensures.ok tells)
     (c.group_head-head.ensures.is ∙ ap (λ (side : Side). group_head c.in_ok-own.own.row.id side) c.at.ensures) (c.in_ok-first.ensures.ok tells)
     (λ rec is. ap (λ (p : ℕ × ℕ). p.1) (c.end_links-next.ensures.of_record rec is))
@@ -128,20 +135,26 @@ pub returns-clause-own : goal.returns-clause-own
 returns-clause-own g c = λ tells rest most empty spread.
     let s = g.S.Reads.state c.args.space.now in
     let l = g.S.Reads.state c.load.new.space in
-    own_turn s l (g.S.Reads.state c.own_group.new.space) c.args.node c.args.rel c.in-Some.row c.in_ok-own.own.row.id (only_loads s l c.args.rel c.load.ensures.state) (sym c.in-Some.is ∙ c.in_ok-row.ensures.found tells)
-    (c.in_ok-own.ensures.opened tells) rest most empty spread c.in_ok-own.own.first (c.in_ok-own.ensures.grows tells) (g.S.Reads.state c.free_previous.new.space) (g.S.Reads.state c.push_counted.new.space)
+    own_turn s l (g.S.Reads.state c.own_group.new.space) c.args.node c.args.rel c.in-Some.row c.in_ok-own.own.row.id
+    (only_loads s l c.args.rel c.load.ensures.state) (sym c.in-Some.is ∙ c.in_ok-row.ensures.found tells)
+    (c.in_ok-own.ensures.opened tells) rest most empty spread c.in_ok-own.own.first (c.in_ok-own.ensures.grows tells)
+    (g.S.Reads.state c.free_previous.new.space) (g.S.Reads.state c.push_counted.new.space)
     (head_of c.group_head-head.result) c.in_ok-first.first c.end_links-next.result.1 (c.in_ok-free_previous.ensures.ok tells)
-    (c.group_head-head.ensures.is ∙ ap (λ (side : Side). group_head c.in_ok-own.own.row.id side) c.at.ensures) (c.in_ok-first.ensures.ok tells) (c.in_ok-first.ensures.first tells)
+    (c.group_head-head.ensures.is ∙ ap (λ (side : Side). group_head c.in_ok-own.own.row.id side) c.at.ensures) (c.in_ok-first.ensures.ok tells)
+    (c.in_ok-first.ensures.first tells)
 
 pub returns-clause-local : goal.returns-clause-local
 returns-clause-local g c = λ tells came rest groups free spreading.
     let s = g.S.Reads.state c.args.space.now in
     let l = g.S.Reads.state c.load.new.space in
     let key = subst (λ (o : Option RelRow). IfSome o (λ _. IsKey (rel_key c.args.rel))) c.in-Some.is c.in_ok-row.ensures.key in
-    comes_in s l (g.S.Reads.state c.own_group.new.space) c.args.node c.args.rel c.in-Some.row c.in_ok-own.own (only_loads s l c.args.rel c.load.ensures.state) (sym c.in-Some.is ∙ c.in_ok-row.ensures.found tells)
+    comes_in s l (g.S.Reads.state c.own_group.new.space) c.args.node c.args.rel c.in-Some.row c.in_ok-own.own (only_loads s l c.args.rel c.load.ensures.state)
+    (sym c.in-Some.is ∙ c.in_ok-row.ensures.found tells)
     (c.in_ok-own.ensures.local tells) (c.in_ok-own.ensures.dense tells) key.id came rest groups free spreading
-    (g.S.Reads.state c.free_previous.new.space) (g.S.Reads.state c.push_counted.new.space) (head_of c.group_head-head.result) c.in_ok-first.first c.end_links-next.result.1 (c.in_ok-free_previous.ensures.ok tells)
-    (c.group_head-head.ensures.is ∙ ap (λ (side : Side). group_head c.in_ok-own.own.row.id side) c.at.ensures) (c.in_ok-first.ensures.ok tells) (c.in_ok-first.ensures.first tells)
+    (g.S.Reads.state c.free_previous.new.space) (g.S.Reads.state c.push_counted.new.space) (head_of c.group_head-head.result) c.in_ok-first.first
+    c.end_links-next.result.1 (c.in_ok-free_previous.ensures.ok tells)
+    (c.group_head-head.ensures.is ∙ ap (λ (side : Side). group_head c.in_ok-own.own.row.id side) c.at.ensures) (c.in_ok-first.ensures.ok tells)
+    (c.in_ok-first.ensures.first tells)
     (λ rec is. ap (λ (p : ℕ × ℕ). p.1) (c.end_links-next.ensures.of_record rec is))
 
 pub returns-clause-leads : goal.returns-clause-leads
@@ -149,26 +162,32 @@ returns-clause-leads g c = λ tells.
     let s = g.S.Reads.state c.args.space.now in
     let l = g.S.Reads.state c.load.new.space in
     let key = subst (λ (o : Option RelRow). IfSome o (λ _. IsKey (rel_key c.args.rel))) c.in-Some.is c.in_ok-row.ensures.key in
-    leads_turn s l (g.S.Reads.state c.own_group.new.space) (g.S.Reads.state c.free_previous.new.space) (g.S.Reads.state c.push_counted.new.space) c.args.node c.args.rel c.at.result (head_of c.group_head-head.result) c.in_ok-own.own c.in_ok-first.first
-    (only_loads s l c.args.rel c.load.ensures.state) (c.in_ok-own.ensures.leads tells) c.in_ok-own.ensures.key.id key.id (c.in_ok-free_previous.ensures.ok tells) c.group_head-head.ensures.is (c.in_ok-first.ensures.ok tells) (c.in_ok-first.ensures.first tells)
+    leads_turn s l (g.S.Reads.state c.own_group.new.space) (g.S.Reads.state c.free_previous.new.space) (g.S.Reads.state c.push_counted.new.space) c.args.node
+    c.args.rel c.at.result (head_of c.group_head-head.result) c.in_ok-own.own c.in_ok-first.first
+    (only_loads s l c.args.rel c.load.ensures.state) (c.in_ok-own.ensures.leads tells) c.in_ok-own.ensures.key.id key.id
+    (c.in_ok-free_previous.ensures.ok tells) c.group_head-head.ensures.is (c.in_ok-first.ensures.ok tells) (c.in_ok-first.ensures.first tells)
 
 pub returns-clause-walk : goal.returns-clause-walk
 returns-clause-walk g c = λ tells.
     let s = g.S.Reads.state c.args.space.now in
     let l = g.S.Reads.state c.load.new.space in
     let key = subst (λ (o : Option RelRow). IfSome o (λ _. IsKey (rel_key c.args.rel))) c.in-Some.is c.in_ok-row.ensures.key in
-    walk_turn s l (g.S.Reads.state c.own_group.new.space) (g.S.Reads.state c.free_previous.new.space) (g.S.Reads.state c.push_counted.new.space) c.args.node c.args.rel c.at.result (head_of c.group_head-head.result) c.in_ok-own.own.row.id c.end_links-next.result.1
-    (only_loads s l c.args.rel c.load.ensures.state) (c.in_ok-own.ensures.rels tells) key.id (c.in_ok-free_previous.ensures.ok tells) c.group_head-head.ensures.is (c.in_ok-first.ensures.ok tells)
+    walk_turn s l (g.S.Reads.state c.own_group.new.space) (g.S.Reads.state c.free_previous.new.space) (g.S.Reads.state c.push_counted.new.space) c.args.node
+    c.args.rel c.at.result (head_of c.group_head-head.result) c.in_ok-own.own.row.id c.end_links-next.result.1
+    (only_loads s l c.args.rel c.load.ensures.state) (c.in_ok-own.ensures.rels tells) key.id (c.in_ok-free_previous.ensures.ok tells)
+    c.group_head-head.ensures.is (c.in_ok-first.ensures.ok tells)
     (links_are s.records c.args.node c.args.rel c.in-Some.row c.end_links-next.result (sym c.in-Some.is ∙ c.in_ok-row.ensures.found tells) c.end_links-next.ensures.of_record).1
 
 pub returns-in_err-row-clause-never : goal.returns-in_err-row-clause-never
 returns-in_err-row-clause-never g c = λ tells came rest groups free spreading node readable full.
     let p = err_from_is_err_and c.from_residual.result c.from_residual.ensures.1 in
-    not_damaged_at c.from_residual.result p.0 (of_row c.in_err-row.field-0.0) p.1 p.2 (row_sound c.in_err-row.field-0.0 (c.in_err-row.ensures.sound tells readable))
+    not_damaged_at c.from_residual.result p.0 (of_row c.in_err-row.field-0.0) p.1 p.2
+    (row_sound c.in_err-row.field-0.0 (c.in_err-row.ensures.sound tells readable))
 
 pub returns-in_default-clause-never : goal.returns-in_default-clause-never
 returns-in_default-clause-never g c = λ tells came rest groups free spreading node readable full.
-    left_there (g.S.Reads.state c.args.space.now) c.args.node c.args.rel came rest groups free spreading (sym (c.in_ok-row.ensures.found tells) ∙ c.in_default.is)
+    left_there (g.S.Reads.state c.args.space.now) c.args.node c.args.rel came rest groups free spreading
+    (sym (c.in_ok-row.ensures.found tells) ∙ c.in_default.is)
 
 pub returns-in_err-own-clause-never : goal.returns-in_err-own-clause-never
 returns-in_err-own-clause-never g c = λ tells came rest groups free spreading node readable full.
@@ -177,7 +196,8 @@ returns-in_err-own-clause-never g c = λ tells came rest groups free spreading n
     let same = only_loads s l c.args.rel c.load.ensures.state in
     let p = err_from_is_err_and c.from_residual-in_err-own.result c.from_residual-in_err-own.ensures.1 in
     rw (p.1, p.2) (handed OwnGroup Turn c.in_err-own.field-0.0 (c.in_err-own.ensures.never tells groups free (subst (λ (q : State). IsDense q.records c.args.node) (sym same) spreading.spread.dense)
-    (subst (λ (q : State). IsGroupChain q.records c.args.node groups) (sym same) spreading.spread.chain) (take_after s l free same spreading.take) (node_read s l c.args.node same node)
+    (subst (λ (q : State). IsGroupChain q.records c.args.node groups) (sym same) spreading.spread.chain) (take_after s l free same spreading.take)
+    (node_read s l c.args.node same node)
     (subst (λ (q : State). (meta_of q groups_file).live ≢ room q groups_file) (sym same) full)))
 
 pub returns-in_err-first-clause-never : goal.returns-in_err-first-clause-never
@@ -189,14 +209,16 @@ returns-in_err-first-clause-never g c = λ tells came rest groups free spreading
     let p = err_from_is_err_and c.from_residual-in_err-first.result c.from_residual-in_err-first.ensures.1 in
     rw (p.1, p.2) (handed ℕ Turn c.in_err-first.field-0.0 (c.in_err-first.ensures.sound tells
     (push_finds s l (g.S.Reads.state c.own_group.new.space) c.args.node c.args.rel c.in-Some.row c.in_ok-own.own (only_loads s l c.args.rel c.load.ensures.state) (sym c.in-Some.is ∙ c.in_ok-row.ensures.found tells)
-    (c.in_ok-own.ensures.local tells) (c.in_ok-own.ensures.dense tells) key.id came rest groups free spreading t (head_of c.group_head-head.result) (c.in_ok-free_previous.ensures.ok tells)
+    (c.in_ok-own.ensures.local tells) (c.in_ok-own.ensures.dense tells) key.id came rest groups free spreading t (head_of c.group_head-head.result)
+    (c.in_ok-free_previous.ensures.ok tells)
     (c.group_head-head.ensures.is ∙ ap (λ (side : Side). group_head c.in_ok-own.own.row.id side) c.at.ensures) readable.mark)))
 
 pub returns-in_err-row-clause-sound : goal.returns-in_err-row-clause-sound
 returns-in_err-row-clause-sound g c = λ tells rest most empty spread room.
     let s = g.S.Reads.state c.args.space.now in
     let p = err_from_is_err_and c.from_residual.result c.from_residual.ensures.1 in
-    not_damaged_at c.from_residual.result p.0 (of_row c.in_err-row.field-0.0) p.1 p.2 (row_sound c.in_err-row.field-0.0 (c.in_err-row.ensures.sound tells (IsReadable-AreInRange s c.args.rel spread.keeps.others.ranges)))
+    not_damaged_at c.from_residual.result p.0 (of_row c.in_err-row.field-0.0) p.1 p.2
+    (row_sound c.in_err-row.field-0.0 (c.in_err-row.ensures.sound tells (IsReadable-AreInRange s c.args.rel spread.keeps.others.ranges)))
 
 pub returns-in_default-clause-sound : goal.returns-in_default-clause-sound
 returns-in_default-clause-sound g c = λ tells rest most empty spread room.
@@ -245,7 +267,8 @@ returns-in_err-own-clause-damaged g c = λ tells dense.
     rw (p.1, p.2) (no_own s l (g.S.Reads.state c.own_group.new.space) c.args.node c.args.rel c.in_err-own.field-0.0 (c.in_err-own.ensures.damaged tells dense_l) c.in_err-own.ensures.unwritten)
 
 -- the head of the node that the relationship was to come to
-own_heads : (g : Over) (c : After-push_counted g) → g.S.Reads.tells → IsDense (g.S.Reads.state c.args.space.now).records c.args.node → IsHeadOf (g.S.Reads.state c.free_previous.new.space).records (head_of c.group_head-head.result) c.args.node
+own_heads : (g : Over) (c : After-push_counted g) → g.S.Reads.tells → IsDense (g.S.Reads.state c.args.space.now).records c.args.node
+    → IsHeadOf (g.S.Reads.state c.free_previous.new.space).records (head_of c.group_head-head.result) c.args.node
 own_heads g c tells dense =
     let s = g.S.Reads.state c.args.space.now in
     let l = g.S.Reads.state c.load.new.space in
@@ -270,8 +293,10 @@ returns-clause-dense g c = λ tells dense.
     let s = g.S.Reads.state c.args.space.now in
     let l = g.S.Reads.state c.load.new.space in
     let dense_l = subst (λ (q : State). IsDense q.records c.args.node) (sym (only_loads s l c.args.rel c.load.ensures.state)) dense in
-    dense_moved (g.S.Reads.state c.own_group.new.space) (g.S.Reads.state c.free_previous.new.space) (g.S.Reads.state c.push_counted.new.space) c.args.node c.args.rel (head_of c.group_head-head.result)
-    (ap (λ (h : Head). h.key.file) c.group_head-head.ensures.is) (c.in_ok-free_previous.ensures.ok tells) (c.in_ok-first.ensures.ok tells) (c.in_ok-own.ensures.dense tells dense_l)
+    dense_moved (g.S.Reads.state c.own_group.new.space) (g.S.Reads.state c.free_previous.new.space) (g.S.Reads.state c.push_counted.new.space) c.args.node
+    c.args.rel (head_of c.group_head-head.result)
+    (ap (λ (h : Head). h.key.file) c.group_head-head.ensures.is) (c.in_ok-free_previous.ensures.ok tells) (c.in_ok-first.ensures.ok tells)
+    (c.in_ok-own.ensures.dense tells dense_l)
 
 pub returns-in_err-row-clause-cause : goal.returns-in_err-row-clause-cause
 returns-in_err-row-clause-cause g c =
@@ -279,15 +304,20 @@ returns-in_err-row-clause-cause g c =
 
 pub returns-in_err-own-clause-cause : goal.returns-in_err-own-clause-cause
 returns-in_err-own-clause-cause g c =
-    cause_passed _ _ _ c.from_residual-in_err-own.result c.in_err-own.field-0.0 c.in_ok-row.ensures.cause.later c.in_err-own.ensures.cause c.from_residual-in_err-own.ensures.1
+    cause_passed _ _ _ c.from_residual-in_err-own.result c.in_err-own.field-0.0 c.in_ok-row.ensures.cause.later c.in_err-own.ensures.cause
+    c.from_residual-in_err-own.ensures.1
 
 pub returns-in_err-free_previous-clause-cause : goal.returns-in_err-free_previous-clause-cause
 returns-in_err-free_previous-clause-cause g c =
-    space_cause_passed _ _ _ c.from_residual-in_err-free_previous.result c.in_err-free_previous.field-0.0 (later_on c.in_ok-row.ensures.cause.later c.in_ok-own.ensures.cause.later) c.in_err-free_previous.ensures.cause c.from_residual-in_err-free_previous.ensures.1
+    space_cause_passed _ _ _ c.from_residual-in_err-free_previous.result c.in_err-free_previous.field-0.0
+    (later_on c.in_ok-row.ensures.cause.later c.in_ok-own.ensures.cause.later) c.in_err-free_previous.ensures.cause
+    c.from_residual-in_err-free_previous.ensures.1
 
 pub returns-in_err-first-clause-cause : goal.returns-in_err-first-clause-cause
 returns-in_err-first-clause-cause g c =
-    cause_passed _ _ _ c.from_residual-in_err-first.result c.in_err-first.field-0.0 (later_on (later_on c.in_ok-row.ensures.cause.later c.in_ok-own.ensures.cause.later) c.in_ok-free_previous.ensures.cause.later) c.in_err-first.ensures.cause c.from_residual-in_err-first.ensures.1
+    cause_passed _ _ _ c.from_residual-in_err-first.result c.in_err-first.field-0.0
+    (later_on (later_on c.in_ok-row.ensures.cause.later c.in_ok-own.ensures.cause.later) c.in_ok-free_previous.ensures.cause.later)
+    c.in_err-first.ensures.cause c.from_residual-in_err-first.ensures.1
 
 -- ---- what is left of other records
 
@@ -465,23 +495,28 @@ pub returns-in_err-first-clause-wrote : goal.returns-in_err-first-clause-wrote
 returns-in_err-first-clause-wrote g c = never_ok c.from_residual-in_err-first.result _ _ c.from_residual-in_err-first.ensures.1
 
 pub returns-in_err-free_previous-clause-sound : goal.returns-in_err-free_previous-clause-sound
-returns-in_err-free_previous-clause-sound g c _ _ _ _ _ _ = space_has _ tt tt c.from_residual-in_err-free_previous.result c.in_err-free_previous.field-0.0 c.from_residual-in_err-free_previous.ensures.1
+returns-in_err-free_previous-clause-sound g c _ _ _ _ _ _ = space_has _ tt tt c.from_residual-in_err-free_previous.result c.in_err-free_previous.field-0.0
+    c.from_residual-in_err-free_previous.ensures.1
 
 pub returns-in_err-free_previous-clause-never : goal.returns-in_err-free_previous-clause-never
-returns-in_err-free_previous-clause-never g c _ _ _ _ _ _ _ _ _ = space_has _ tt tt c.from_residual-in_err-free_previous.result c.in_err-free_previous.field-0.0 c.from_residual-in_err-free_previous.ensures.1
+returns-in_err-free_previous-clause-never g c _ _ _ _ _ _ _ _ _ = space_has _ tt tt c.from_residual-in_err-free_previous.result c.in_err-free_previous.field-0.0
+    c.from_residual-in_err-free_previous.ensures.1
 
 pub returns-in_err-free_previous-clause-damaged : goal.returns-in_err-free_previous-clause-damaged
-returns-in_err-free_previous-clause-damaged g c _ _ = space_has _ tt tt c.from_residual-in_err-free_previous.result c.in_err-free_previous.field-0.0 c.from_residual-in_err-free_previous.ensures.1
+returns-in_err-free_previous-clause-damaged g c _ _ = space_has _ tt tt c.from_residual-in_err-free_previous.result c.in_err-free_previous.field-0.0
+    c.from_residual-in_err-free_previous.ensures.1
 
 pub returns-in_err-free_previous-clause-stays : goal.returns-in_err-free_previous-clause-stays
-returns-in_err-free_previous-clause-stays g c _ = space_has _ tt tt c.from_residual-in_err-free_previous.result c.in_err-free_previous.field-0.0 c.from_residual-in_err-free_previous.ensures.1
+returns-in_err-free_previous-clause-stays g c _ = space_has _ tt tt c.from_residual-in_err-free_previous.result c.in_err-free_previous.field-0.0
+    c.from_residual-in_err-free_previous.ensures.1
 
 pub returns-in_err-own-clause-onward : goal.returns-in_err-own-clause-onward
 returns-in_err-own-clause-onward g c = g.met.S.Reads.further_onward _ _ _ c.in_ok-row.ensures.onward c.in_err-own.ensures.onward
 
 pub returns-in_err-free_previous-clause-onward : goal.returns-in_err-free_previous-clause-onward
 returns-in_err-free_previous-clause-onward g c =
-    g.met.S.Reads.further_onward _ _ _ (g.met.S.Reads.further_onward _ _ _ c.in_ok-row.ensures.onward c.in_ok-own.ensures.onward) c.in_err-free_previous.ensures.onward
+    g.met.S.Reads.further_onward _ _ _ (g.met.S.Reads.further_onward _ _ _ c.in_ok-row.ensures.onward c.in_ok-own.ensures.onward)
+    c.in_err-free_previous.ensures.onward
 
 pub returns-in_err-first-clause-onward : goal.returns-in_err-first-clause-onward
 returns-in_err-first-clause-onward g c =

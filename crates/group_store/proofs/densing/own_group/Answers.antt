@@ -76,7 +76,8 @@ returns-in-None-clause-opened g c = λ tells.
     if_ok c.make_own.result _
     (λ (own : OwnGroup). (rest : List ℕ) (most : ℕ) (empty : List ℕ) → KeepsBut s.records s.shape node rest most empty → IsDense s.records node → KeepsBut end.records end.shape node rest most (own.row.id ∷ empty) × HasOpened s end node label own.row.id rest)
     (λ own made rest most empty keeps dense.
-    let lacks = none_found s node label rest most empty keeps dense c.in_ok-row.field-0 c.in-None.is (λ xs chain. c.in_ok-row.ensures.none tells dense xs chain) in
+    let lacks = none_found s node label rest most empty keeps dense c.in_ok-row.field-0 c.in-None.is
+    (λ xs chain. c.in_ok-row.ensures.none tells dense xs chain) in
     opened_made s now end node label own.row.id rest most empty same
     (made rest most empty (keeps_then s now node rest most empty same keeps) (subst (λ (t : State). IsDense t.records node) (sym same) dense) (subst (λ (t : State). LacksGroup t.records node label) (sym same) lacks)))
     (c.make_own.ensures.rules tells)
@@ -119,11 +120,14 @@ returns-in-None-clause-sound g c = λ tells rest most empty keeps dense full.
     let now = g.S.Reads.state c.find_group.new.space in
     let same = same_read _ s now c.find_group.ensures.at_most in
     let node = c.args.node in
-    let lacks = none_found s node c.args.label rest most empty keeps dense c.in_ok-row.field-0 c.in-None.is (λ xs chain. c.in_ok-row.ensures.none tells dense xs chain) in
+    let lacks = none_found s node c.args.label rest most empty keeps dense c.in_ok-row.field-0 c.in-None.is
+    (λ xs chain. c.in_ok-row.ensures.none tells dense xs chain) in
     let keeps_now = keeps_then s now node rest most empty same keeps in
     let dense_now = subst (λ (t : State). IsDense t.records node) (sym same) dense in
-    c.make_own.ensures.sound tells (node_known now node rest most empty keeps_now dense_now) (free_ids now node rest most empty keeps_now dense_now) (chain_ids now node rest most empty keeps_now dense_now)
-    (can_make now node rest most empty keeps_now dense_now c.args.label (subst (λ (t : State). LacksGroup t.records node c.args.label) (sym same) lacks)) dense_now
+    c.make_own.ensures.sound tells (node_known now node rest most empty keeps_now dense_now) (free_ids now node rest most empty keeps_now dense_now)
+    (chain_ids now node rest most empty keeps_now dense_now)
+    (can_make now node rest most empty keeps_now dense_now c.args.label (subst (λ (t : State). LacksGroup t.records node c.args.label) (sym same) lacks))
+    dense_now
     (subst (λ (t : State). (meta_of t groups_file).live ≢ room t groups_file) (sym same) full)
 
 -- ---- by what the node has alone
@@ -160,7 +164,8 @@ returns-in-None-clause-never g c = λ tells groups free dense chain can readable
     let same = same_read _ s now c.find_group.ensures.at_most in
     let node = c.args.node in
     let lacks = (c.in_ok-row.ensures.none tells dense groups chain).0 c.in-None.is in
-    c.make_own.ensures.sound tells (node_read s now node same readable) free groups (make_read s now node c.args.label groups free same chain (λ k i. lacks k (chain.only k i)) can)
+    c.make_own.ensures.sound tells (node_read s now node same readable) free groups
+    (make_read s now node c.args.label groups free same chain (λ k i. lacks k (chain.only k i)) can)
     (subst (λ (t : State). IsDense t.records node) (sym same) dense) (subst (λ (t : State). (meta_of t groups_file).live ≢ room t groups_file) (sym same) full)
 
 -- ---- the row
@@ -183,7 +188,8 @@ returns-in-None-clause-row g c = λ tells.
     if_ok c.make_own.result _
     (λ (own : OwnGroup). (rest : List ℕ) (most : ℕ) (empty : List ℕ) → KeepsBut s.records s.shape node rest most empty → IsDense s.records node → own.row ≡ group_row_at end.records own.row.id)
     (λ own made rest most empty keeps dense.
-    let lacks = none_found s node label rest most empty keeps dense c.in_ok-row.field-0 c.in-None.is (λ xs chain. c.in_ok-row.ensures.none tells dense xs chain) in
+    let lacks = none_found s node label rest most empty keeps dense c.in_ok-row.field-0 c.in-None.is
+    (λ xs chain. c.in_ok-row.ensures.none tells dense xs chain) in
     let keeps_now = keeps_then s now node rest most empty same keeps in
     let dense_now = subst (λ (t : State). IsDense t.records node) (sym same) dense in
     sym (made (free_ids now node rest most empty keeps_now dense_now) (chain_ids now node rest most empty keeps_now dense_now)
@@ -203,7 +209,8 @@ returns-in-Some-clause-group g c = λ tells dense.
     let s = g.S.Reads.state c.args.space.now in
     let now = g.S.Reads.state c.find_group.new.space in
     let same = same_read _ s now c.find_group.ensures.at_most in
-    let found = subst (λ (t : State). IsFound t.records c.args.node c.args.label (Some c.in-Some.row)) (sym same) (subst (IsFound s.records c.args.node c.args.label) c.in-Some.is (c.in_ok-row.ensures.found tells)) in
+    let found = subst (λ (t : State). IsFound t.records c.args.node c.args.label (Some c.in-Some.row)) (sym same)
+    (subst (IsFound s.records c.args.node c.args.label) c.in-Some.is (c.in_ok-row.ensures.found tells)) in
     inr (record { dense = found.0; member = found.1.member; on = found.1.on refl found.0; is = found.1.is }, same)
 
 pub returns-in-None-clause-damaged : goal.returns-in-None-clause-damaged
@@ -212,7 +219,8 @@ returns-in-None-clause-damaged g c = λ tells dense.
     let now = g.S.Reads.state c.find_group.new.space in
     let same = same_read _ s now c.find_group.ensures.at_most in
     let dense_now = subst (λ (t : State). IsDense t.records c.args.node) (sym same) dense in
-    if_err c.make_own.result (IsMakeFault now c.args.node) (IsOpenFault s) (λ e told. open_read s now same e (make_breaks now c.args.node dense_now e told)) (c.make_own.ensures.damaged tells)
+    if_err c.make_own.result (IsMakeFault now c.args.node) (IsOpenFault s) (λ e told. open_read s now same e (make_breaks now c.args.node dense_now e told))
+    (c.make_own.ensures.damaged tells)
 
 -- ---- the node stays dense
 
@@ -244,7 +252,8 @@ returns-in-None-clause-unwritten g c =
     let s = g.S.Reads.state c.args.space.now in
     let now = g.S.Reads.state c.find_group.new.space in
     let end = g.S.Reads.state c.make_own.new.space in
-    if_damage c.make_own.result (SameButReads now end) (SameButReads s end) (λ k. same_then s now end (same_read _ s now c.find_group.ensures.at_most) k) c.make_own.ensures.unwritten
+    if_damage c.make_own.result (SameButReads now end) (SameButReads s end) (λ k. same_then s now end (same_read _ s now c.find_group.ensures.at_most) k)
+    c.make_own.ensures.unwritten
 
 pub returns-in_err-row-clause-cause : goal.returns-in_err-row-clause-cause
 returns-in_err-row-clause-cause g c =
@@ -280,7 +289,8 @@ pub returns-in-None-clause-leads : goal.returns-in-None-clause-leads
 returns-in-None-clause-leads g c = λ tells.
     let s = g.S.Reads.state c.args.space.now in
     let now = g.S.Reads.state c.find_group.new.space in
-    leads_own c.make_own.result s now (g.S.Reads.state c.make_own.new.space) c.args.node (same_read _ s now c.find_group.ensures.at_most) (c.make_own.ensures.leads tells) (c.make_own.ensures.first tells)
+    leads_own c.make_own.result s now (g.S.Reads.state c.make_own.new.space) c.args.node (same_read _ s now c.find_group.ensures.at_most)
+    (c.make_own.ensures.leads tells) (c.make_own.ensures.first tells)
 
 pub returns-in-Some-clause-rels : goal.returns-in-Some-clause-rels
 returns-in-Some-clause-rels g c = λ tells x.
@@ -292,7 +302,8 @@ returns-in-None-clause-rels g c = λ tells.
     let s = g.S.Reads.state c.args.space.now in
     let now = g.S.Reads.state c.find_group.new.space in
     let end = g.S.Reads.state c.make_own.new.space in
-    if_done c.make_own.result (end ≡ made now c.args.node c.args.label) ((x : ℕ) → rec_at end.records relationships_file x ≡ rec_at s.records relationships_file x)
+    if_done c.make_own.result (end ≡ made now c.args.node c.args.label)
+    ((x : ℕ) → rec_at end.records relationships_file x ≡ rec_at s.records relationships_file x)
     (λ is x. ap (λ (t : State). rec_at t.records relationships_file x) is ∙ rels_made now c.args.node c.args.label x ∙ ap (λ (t : State). rec_at t.records relationships_file x) (same_read _ s now c.find_group.ensures.at_most)) (c.make_own.ensures.ok tells)
 
 -- ---- the group is the node's, and each node has the heads that it had
@@ -301,7 +312,9 @@ pub returns-in-Some-clause-owns : goal.returns-in-Some-clause-owns
 returns-in-Some-clause-owns g c = λ tells.
     let s = g.S.Reads.state c.args.space.now in
     let found = subst (IsFound s.records c.args.node c.args.label) c.in-Some.is (c.in_ok-row.ensures.found tells) in
-    subst (λ (t : State). IsOwnedBy t.records c.args.node c.in-Some.row.id) (sym (same_read _ s (g.S.Reads.state c.find_group.new.space) c.find_group.ensures.at_most)) (group_owned s.records c.args.node c.in-Some.row.id found.1.member)
+    subst (λ (t : State). IsOwnedBy t.records c.args.node c.in-Some.row.id)
+    (sym (same_read _ s (g.S.Reads.state c.find_group.new.space) c.find_group.ensures.at_most))
+    (group_owned s.records c.args.node c.in-Some.row.id found.1.member)
 
 pub returns-in-Some-clause-heads : goal.returns-in-Some-clause-heads
 returns-in-Some-clause-heads g c = λ tells.

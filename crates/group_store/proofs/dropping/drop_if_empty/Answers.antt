@@ -12,8 +12,10 @@ use Rattle.group_store.specs.GroupChain.{next_group, previous_group}
 use Rattle.group_store.specs.GroupRecord.{group_key, range_damage}
 use Rattle.rec_bytes.specs.declared.fault.Fault.TheVariants.{Damaged}
 use Rattle.group_store.proofs.BrokenGroups.{drop_breaks}
-use Rattle.group_store.proofs.DropSteps.{is_undamaged, right_next, right_previous, dropped_has, dropped_is, filled_is, link_read, low_links, member_told, number_read, same_one}
-use Rattle.group_store.proofs.DropTests.{all_writes, behind_loose, follows_is, lead_loose, lead_writes, linked_is, loose_told, loose_undamaged, same_three, seen_records}
+use Rattle.group_store.proofs.DropSteps.{is_undamaged, right_next, right_previous, dropped_has, dropped_is, filled_is}
+use Rattle.group_store.proofs.DropSteps.{link_read, low_links, member_told, number_read, same_one}
+use Rattle.group_store.proofs.DropTests.{all_writes, behind_loose, follows_is, lead_loose, lead_writes, linked_is}
+use Rattle.group_store.proofs.DropTests.{loose_told, loose_undamaged, same_three, seen_records}
 use Rattle.group_store.proofs.GroupWalks.{not_damaged_at}
 use Rattle.group_store.proofs.MakeSteps.{on_damage, same_read, same_then, same_writes}
 use Rattle.group_store.proofs.Causes.{cause_passed, damage_cause, later_on, space_cause_passed}
@@ -57,7 +59,8 @@ pub returns-in_err-test_link-clause-damaged : goal.returns-in_err-test_link-clau
 returns-in_err-test_link-clause-damaged g c = λ tells.
     let s = g.S.Reads.state c.args.space.now in
     let p = err_from_is_err_and c.from_residual-in_err-test_link.result c.from_residual-in_err-test_link.ensures.1 in
-    let before = number_read s.records c.args.group group_previous c.number-before.result c.in_ok-rec.rec (c.in_ok-rec.ensures.got tells) c.number-before.ensures in
+    let before = number_read s.records c.args.group group_previous c.number-before.result c.in_ok-rec.rec (c.in_ok-rec.ensures.got tells)
+    c.number-before.ensures in
     rw (p.1, p.2) (BadPrevious c.in_err-test_link.field-0.0 (link_read s (g.S.Reads.state c.read_member.new.space) c.number-before.result (previous_group s.records c.args.group) (range_damage c.args.group) c.in_err-test_link.field-0.0
     c.in_ok-rec.ensures.read before c.in_err-test_link.ensures.damaged))
 
@@ -95,12 +98,14 @@ returns-clause-is g c = λ tells.
 pub returns-in_err-rec-clause-sound : goal.returns-in_err-rec-clause-sound
 returns-in_err-rec-clause-sound g c = λ tells xs on.
     let p = err_from_is_err_and c.from_residual.result c.from_residual.ensures.1 in
-    not_damaged_at c.from_residual.result p.0 c.in_err-rec.field-0.0 p.1 p.2 (is_undamaged (g.S.Reads.state c.args.space.now) c.args.node c.args.group xs c.in_err-rec.field-0.0 on (c.in_err-rec.ensures.damaged tells))
+    not_damaged_at c.from_residual.result p.0 c.in_err-rec.field-0.0 p.1 p.2
+    (is_undamaged (g.S.Reads.state c.args.space.now) c.args.node c.args.group xs c.in_err-rec.field-0.0 on (c.in_err-rec.ensures.damaged tells))
 
 pub returns-in_err-test_link-clause-sound : goal.returns-in_err-test_link-clause-sound
 returns-in_err-test_link-clause-sound g c = λ tells xs on.
     let s = g.S.Reads.state c.args.space.now in
-    let before = number_read s.records c.args.group group_previous c.number-before.result c.in_ok-rec.rec (c.in_ok-rec.ensures.got tells) c.number-before.ensures in
+    let before = number_read s.records c.args.group group_previous c.number-before.result c.in_ok-rec.rec (c.in_ok-rec.ensures.got tells)
+    c.number-before.ensures in
     let is_ok = c.in_err-test_link.ensures.sound (right_previous s (g.S.Reads.state c.read_member.new.space) c.args.node c.args.group c.number-before.result xs c.in_ok-rec.ensures.read before on) in
     absurd (false≢true is_ok)
 
@@ -123,7 +128,8 @@ pub returns-in_err-test_link-clause-breaks : goal.returns-in_err-test_link-claus
 returns-in_err-test_link-clause-breaks g c = λ tells row is owner.
     let s = g.S.Reads.state c.args.space.now in
     let p = err_from_is_err_and c.from_residual-in_err-test_link.result c.from_residual-in_err-test_link.ensures.1 in
-    let before = number_read s.records c.args.group group_previous c.number-before.result c.in_ok-rec.rec (c.in_ok-rec.ensures.got tells) c.number-before.ensures in
+    let before = number_read s.records c.args.group group_previous c.number-before.result c.in_ok-rec.rec (c.in_ok-rec.ensures.got tells)
+    c.number-before.ensures in
     rw (p.1, p.2) (drop_breaks s c.args.node c.args.group row is owner (Damaged c.in_err-test_link.field-0.0) (BadPrevious c.in_err-test_link.field-0.0
     (link_read s (g.S.Reads.state c.read_member.new.space) c.number-before.result (previous_group s.records c.args.group) (range_damage c.args.group) c.in_err-test_link.field-0.0
     c.in_ok-rec.ensures.read before c.in_err-test_link.ensures.damaged)))
@@ -143,11 +149,13 @@ returns-in_err-rec-clause-cause g c =
 
 pub returns-in_err-test_link-clause-cause : goal.returns-in_err-test_link-clause-cause
 returns-in_err-test_link-clause-cause g c =
-    damage_cause _ _ c.from_residual-in_err-test_link.result c.in_err-test_link.field-0.0 c.in_ok-rec.ensures.cause.later c.from_residual-in_err-test_link.ensures.1
+    damage_cause _ _ c.from_residual-in_err-test_link.result c.in_err-test_link.field-0.0 c.in_ok-rec.ensures.cause.later
+    c.from_residual-in_err-test_link.ensures.1
 
 pub returns-in_err-test_link-2-clause-cause : goal.returns-in_err-test_link-2-clause-cause
 returns-in_err-test_link-2-clause-cause g c =
-    damage_cause _ _ c.from_residual-in_err-test_link-2.result c.in_err-test_link-2.field-0.0 c.in_ok-rec.ensures.cause.later c.from_residual-in_err-test_link-2.ensures.1
+    damage_cause _ _ c.from_residual-in_err-test_link-2.result c.in_err-test_link-2.field-0.0 c.in_ok-rec.ensures.cause.later
+    c.from_residual-in_err-test_link-2.ensures.1
 
 -- ---- what is beside the group doesn't lead to it
 
@@ -155,7 +163,8 @@ pub returns-in_err-behind-clause-damaged : goal.returns-in_err-behind-clause-dam
 returns-in_err-behind-clause-damaged g c = λ tells.
     let s = g.S.Reads.state c.args.space.now in
     let s1 = g.S.Reads.state c.read_member.new.space in
-    let before = number_read s.records c.args.group group_previous c.number-before.result c.in_ok-rec.rec (c.in_ok-rec.ensures.got tells) c.number-before.ensures in
+    let before = number_read s.records c.args.group group_previous c.number-before.result c.in_ok-rec.rec (c.in_ok-rec.ensures.got tells)
+    c.number-before.ensures in
     let after = number_read s.records c.args.group group_next c.number-after.result c.in_ok-rec.rec (c.in_ok-rec.ensures.got tells) c.number-after.ensures in
     let p = err_from_is_err_and c.from_residual-in_err-behind.result c.from_residual-in_err-behind.ensures.1 in
     rw (p.1, p.2) (loose_told s c.args.node c.args.group c.in_err-behind.field-0.0 (behind_loose s s1 c.args.node c.args.group c.number-before.result c.number-after.result c.in_err-behind.field-0.0 c.in_ok-rec.ensures.read before after (c.in_err-behind.ensures.damaged tells)))
@@ -164,7 +173,8 @@ pub returns-in_err-behind-clause-breaks : goal.returns-in_err-behind-clause-brea
 returns-in_err-behind-clause-breaks g c = λ tells row is owner.
     let s = g.S.Reads.state c.args.space.now in
     let s1 = g.S.Reads.state c.read_member.new.space in
-    let before = number_read s.records c.args.group group_previous c.number-before.result c.in_ok-rec.rec (c.in_ok-rec.ensures.got tells) c.number-before.ensures in
+    let before = number_read s.records c.args.group group_previous c.number-before.result c.in_ok-rec.rec (c.in_ok-rec.ensures.got tells)
+    c.number-before.ensures in
     let after = number_read s.records c.args.group group_next c.number-after.result c.in_ok-rec.rec (c.in_ok-rec.ensures.got tells) c.number-after.ensures in
     let p = err_from_is_err_and c.from_residual-in_err-behind.result c.from_residual-in_err-behind.ensures.1 in
     rw (p.1, p.2) (drop_breaks s c.args.node c.args.group row is owner c.in_err-behind.field-0.0 (loose_told s c.args.node c.args.group c.in_err-behind.field-0.0 (behind_loose s s1 c.args.node c.args.group c.number-before.result c.number-after.result c.in_err-behind.field-0.0 c.in_ok-rec.ensures.read before after (c.in_err-behind.ensures.damaged tells))))
@@ -173,18 +183,22 @@ pub returns-in_err-behind-clause-sound : goal.returns-in_err-behind-clause-sound
 returns-in_err-behind-clause-sound g c = λ tells xs on.
     let s = g.S.Reads.state c.args.space.now in
     let s1 = g.S.Reads.state c.read_member.new.space in
-    let before = number_read s.records c.args.group group_previous c.number-before.result c.in_ok-rec.rec (c.in_ok-rec.ensures.got tells) c.number-before.ensures in
+    let before = number_read s.records c.args.group group_previous c.number-before.result c.in_ok-rec.rec (c.in_ok-rec.ensures.got tells)
+    c.number-before.ensures in
     let after = number_read s.records c.args.group group_next c.number-after.result c.in_ok-rec.rec (c.in_ok-rec.ensures.got tells) c.number-after.ensures in
     let p = err_from_is_err_and c.from_residual-in_err-behind.result c.from_residual-in_err-behind.ensures.1 in
-    not_damaged_at c.from_residual-in_err-behind.result p.0 c.in_err-behind.field-0.0 p.1 p.2 (loose_undamaged s c.args.node c.args.group xs c.in_err-behind.field-0.0 on (behind_loose s s1 c.args.node c.args.group c.number-before.result c.number-after.result c.in_err-behind.field-0.0 c.in_ok-rec.ensures.read before after (c.in_err-behind.ensures.damaged tells)))
+    not_damaged_at c.from_residual-in_err-behind.result p.0 c.in_err-behind.field-0.0 p.1 p.2
+    (loose_undamaged s c.args.node c.args.group xs c.in_err-behind.field-0.0 on (behind_loose s s1 c.args.node c.args.group c.number-before.result c.number-after.result c.in_err-behind.field-0.0 c.in_ok-rec.ensures.read before after (c.in_err-behind.ensures.damaged tells)))
 
 pub returns-in_err-lead-clause-damaged : goal.returns-in_err-lead-clause-damaged
 returns-in_err-lead-clause-damaged g c = λ tells.
     let s = g.S.Reads.state c.args.space.now in
     let s1 = g.S.Reads.state c.read_member.new.space in
     let s2 = g.S.Reads.state c.read_behind.new.space in
-    let same = ap (λ (z : State). z.records) c.in_ok-behind.ensures.state ∙ seen_records s1 c.number-after.result ∙ ap (λ (z : State). z.records) c.in_ok-rec.ensures.read in
-    let before = number_read s.records c.args.group group_previous c.number-before.result c.in_ok-rec.rec (c.in_ok-rec.ensures.got tells) c.number-before.ensures in
+    let same = ap (λ (z : State). z.records) c.in_ok-behind.ensures.state ∙ seen_records s1 c.number-after.result
+    ∙ ap (λ (z : State). z.records) c.in_ok-rec.ensures.read in
+    let before = number_read s.records c.args.group group_previous c.number-before.result c.in_ok-rec.rec (c.in_ok-rec.ensures.got tells)
+    c.number-before.ensures in
     let p = err_from_is_err_and c.from_residual-in_err-lead.result c.from_residual-in_err-lead.ensures.1 in
     rw (p.1, p.2) (loose_told s c.args.node c.args.group c.in_err-lead.field-0.0 (lead_loose s s2 c.args.node c.args.group c.number-before.result c.in_err-lead.field-0.0 same before (c.in_err-lead.ensures.damaged tells)))
 
@@ -193,8 +207,10 @@ returns-in_err-lead-clause-breaks g c = λ tells row is owner.
     let s = g.S.Reads.state c.args.space.now in
     let s1 = g.S.Reads.state c.read_member.new.space in
     let s2 = g.S.Reads.state c.read_behind.new.space in
-    let same = ap (λ (z : State). z.records) c.in_ok-behind.ensures.state ∙ seen_records s1 c.number-after.result ∙ ap (λ (z : State). z.records) c.in_ok-rec.ensures.read in
-    let before = number_read s.records c.args.group group_previous c.number-before.result c.in_ok-rec.rec (c.in_ok-rec.ensures.got tells) c.number-before.ensures in
+    let same = ap (λ (z : State). z.records) c.in_ok-behind.ensures.state ∙ seen_records s1 c.number-after.result
+    ∙ ap (λ (z : State). z.records) c.in_ok-rec.ensures.read in
+    let before = number_read s.records c.args.group group_previous c.number-before.result c.in_ok-rec.rec (c.in_ok-rec.ensures.got tells)
+    c.number-before.ensures in
     let p = err_from_is_err_and c.from_residual-in_err-lead.result c.from_residual-in_err-lead.ensures.1 in
     rw (p.1, p.2) (drop_breaks s c.args.node c.args.group row is owner c.in_err-lead.field-0.0 (loose_told s c.args.node c.args.group c.in_err-lead.field-0.0 (lead_loose s s2 c.args.node c.args.group c.number-before.result c.in_err-lead.field-0.0 same before (c.in_err-lead.ensures.damaged tells))))
 
@@ -203,10 +219,13 @@ returns-in_err-lead-clause-sound g c = λ tells xs on.
     let s = g.S.Reads.state c.args.space.now in
     let s1 = g.S.Reads.state c.read_member.new.space in
     let s2 = g.S.Reads.state c.read_behind.new.space in
-    let same = ap (λ (z : State). z.records) c.in_ok-behind.ensures.state ∙ seen_records s1 c.number-after.result ∙ ap (λ (z : State). z.records) c.in_ok-rec.ensures.read in
-    let before = number_read s.records c.args.group group_previous c.number-before.result c.in_ok-rec.rec (c.in_ok-rec.ensures.got tells) c.number-before.ensures in
+    let same = ap (λ (z : State). z.records) c.in_ok-behind.ensures.state ∙ seen_records s1 c.number-after.result
+    ∙ ap (λ (z : State). z.records) c.in_ok-rec.ensures.read in
+    let before = number_read s.records c.args.group group_previous c.number-before.result c.in_ok-rec.rec (c.in_ok-rec.ensures.got tells)
+    c.number-before.ensures in
     let p = err_from_is_err_and c.from_residual-in_err-lead.result c.from_residual-in_err-lead.ensures.1 in
-    not_damaged_at c.from_residual-in_err-lead.result p.0 c.in_err-lead.field-0.0 p.1 p.2 (loose_undamaged s c.args.node c.args.group xs c.in_err-lead.field-0.0 on (lead_loose s s2 c.args.node c.args.group c.number-before.result c.in_err-lead.field-0.0 same before (c.in_err-lead.ensures.damaged tells)))
+    not_damaged_at c.from_residual-in_err-lead.result p.0 c.in_err-lead.field-0.0 p.1 p.2
+    (loose_undamaged s c.args.node c.args.group xs c.in_err-lead.field-0.0 on (lead_loose s s2 c.args.node c.args.group c.number-before.result c.in_err-lead.field-0.0 same before (c.in_err-lead.ensures.damaged tells)))
 
 pub returns-in_err-behind-clause-unwritten : goal.returns-in_err-behind-clause-unwritten
 returns-in_err-behind-clause-unwritten g c =
@@ -292,7 +311,8 @@ returns-clause-ok g c = λ tells _.
     let s4 = g.S.Reads.state c.write_behind.new.space in
     let s5 = g.S.Reads.state c.write_lead.new.space in
     let s6 = g.S.Reads.state c.give.new.space in
-    let before = number_read s.records c.args.group group_previous c.number-before.result c.in_ok-rec.rec (c.in_ok-rec.ensures.got tells) c.number-before.ensures in
+    let before = number_read s.records c.args.group group_previous c.number-before.result c.in_ok-rec.rec (c.in_ok-rec.ensures.got tells)
+    c.number-before.ensures in
     let after = number_read s.records c.args.group group_next c.number-after.result c.in_ok-rec.rec (c.in_ok-rec.ensures.got tells) c.number-after.ensures in
     let follows = follows_is s1 s2 s3 s4 s5 c.args.node c.args.group c.number-before.result c.number-after.result c.in_ok-behind.behind c.in_ok-lead.lead
     c.in_ok-behind.ensures.state c.in_ok-lead.ensures.state c.in_ok-write_behind.ensures.ok c.in_ok-write_lead.ensures.ok
@@ -309,63 +329,77 @@ returns-clause-dropped g c = λ tells free xs can empty.
     let s4 = g.S.Reads.state c.write_behind.new.space in
     let s5 = g.S.Reads.state c.write_lead.new.space in
     let s6 = g.S.Reads.state c.give.new.space in
-    let before = number_read s.records c.args.group group_previous c.number-before.result c.in_ok-rec.rec (c.in_ok-rec.ensures.got tells) c.number-before.ensures in
+    let before = number_read s.records c.args.group group_previous c.number-before.result c.in_ok-rec.rec (c.in_ok-rec.ensures.got tells)
+    c.number-before.ensures in
     let after = number_read s.records c.args.group group_next c.number-after.result c.in_ok-rec.rec (c.in_ok-rec.ensures.got tells) c.number-after.ensures in
     let follows = follows_is s1 s2 s3 s4 s5 c.args.node c.args.group c.number-before.result c.number-after.result c.in_ok-behind.behind c.in_ok-lead.lead
     c.in_ok-behind.ensures.state c.in_ok-lead.ensures.state c.in_ok-write_behind.ensures.ok c.in_ok-write_lead.ensures.ok
     (c.in_ok-behind.ensures.got tells) (c.in_ok-lead.ensures.got_node tells) (c.in_ok-lead.ensures.got_before tells) (c.in_ok-behind.ensures.linked tells) in
-    dropped_has s s1 (backed s1 c.number-after.result c.number-before.result) s5 s6 c.args.node c.number-before.result c.number-after.result c.args.group free xs
+    dropped_has s s1 (backed s1 c.number-after.result c.number-before.result) s5 s6 c.args.node c.number-before.result c.number-after.result c.args.group free
+    xs
     c.in_ok-rec.ensures.read refl follows before after (c.in_ok-give.ensures.given tells free) can
 
 pub returns-clause-low : goal.returns-clause-low
 returns-clause-low g c = λ tells _.
     let s = g.S.Reads.state c.args.space.now in
     let s1 = g.S.Reads.state c.read_member.new.space in
-    let before = number_read s.records c.args.group group_previous c.number-before.result c.in_ok-rec.rec (c.in_ok-rec.ensures.got tells) c.number-before.ensures in
+    let before = number_read s.records c.args.group group_previous c.number-before.result c.in_ok-rec.rec (c.in_ok-rec.ensures.got tells)
+    c.number-before.ensures in
     let after = number_read s.records c.args.group group_next c.number-after.result c.in_ok-rec.rec (c.in_ok-rec.ensures.got tells) c.number-after.ensures in
-    low_links s s1 c.args.group c.number-before.result c.number-after.result c.in_ok-rec.ensures.read before after c.in_ok-test_link.ensures.low c.in_ok-test_link-2.ensures.low
+    low_links s s1 c.args.group c.number-before.result c.number-after.result c.in_ok-rec.ensures.read before after c.in_ok-test_link.ensures.low
+    c.in_ok-test_link-2.ensures.low
 
 pub returns-clause-linked : goal.returns-clause-linked
 returns-clause-linked g c = λ tells _.
     let s = g.S.Reads.state c.args.space.now in
     let s1 = g.S.Reads.state c.read_member.new.space in
     let s2 = g.S.Reads.state c.read_behind.new.space in
-    let before = number_read s.records c.args.group group_previous c.number-before.result c.in_ok-rec.rec (c.in_ok-rec.ensures.got tells) c.number-before.ensures in
+    let before = number_read s.records c.args.group group_previous c.number-before.result c.in_ok-rec.rec (c.in_ok-rec.ensures.got tells)
+    c.number-before.ensures in
     let after = number_read s.records c.args.group group_next c.number-after.result c.in_ok-rec.rec (c.in_ok-rec.ensures.got tells) c.number-after.ensures in
     linked_is s s1 s2 c.args.node c.args.group c.number-before.result c.number-after.result c.in_ok-rec.ensures.read c.in_ok-behind.ensures.state before after
     (c.in_ok-behind.ensures.linked tells) (c.in_ok-lead.ensures.linked tells)
 
 pub returns-in_err-behind-clause-cause : goal.returns-in_err-behind-clause-cause
 returns-in_err-behind-clause-cause g c =
-    cause_passed _ _ _ c.from_residual-in_err-behind.result c.in_err-behind.field-0.0 c.in_ok-rec.ensures.cause.later c.in_err-behind.ensures.cause c.from_residual-in_err-behind.ensures.1
+    cause_passed _ _ _ c.from_residual-in_err-behind.result c.in_err-behind.field-0.0 c.in_ok-rec.ensures.cause.later c.in_err-behind.ensures.cause
+    c.from_residual-in_err-behind.ensures.1
 
 pub returns-in_err-lead-clause-cause : goal.returns-in_err-lead-clause-cause
 returns-in_err-lead-clause-cause g c =
-    cause_passed _ _ _ c.from_residual-in_err-lead.result c.in_err-lead.field-0.0 (later_on c.in_ok-rec.ensures.cause.later c.in_ok-behind.ensures.cause.later) c.in_err-lead.ensures.cause c.from_residual-in_err-lead.ensures.1
+    cause_passed _ _ _ c.from_residual-in_err-lead.result c.in_err-lead.field-0.0 (later_on c.in_ok-rec.ensures.cause.later c.in_ok-behind.ensures.cause.later)
+    c.in_err-lead.ensures.cause c.from_residual-in_err-lead.ensures.1
 
 pub returns-in_err-write_behind-clause-cause : goal.returns-in_err-write_behind-clause-cause
 returns-in_err-write_behind-clause-cause g c =
-    space_cause_passed _ _ _ c.from_residual-in_err-write_behind.result c.in_err-write_behind.field-0.0 (later_on (later_on c.in_ok-rec.ensures.cause.later c.in_ok-behind.ensures.cause.later) c.in_ok-lead.ensures.cause.later) c.in_err-write_behind.ensures.cause c.from_residual-in_err-write_behind.ensures.1
+    space_cause_passed _ _ _ c.from_residual-in_err-write_behind.result c.in_err-write_behind.field-0.0
+    (later_on (later_on c.in_ok-rec.ensures.cause.later c.in_ok-behind.ensures.cause.later) c.in_ok-lead.ensures.cause.later)
+    c.in_err-write_behind.ensures.cause c.from_residual-in_err-write_behind.ensures.1
 
 pub returns-in_err-write_lead-clause-cause : goal.returns-in_err-write_lead-clause-cause
 returns-in_err-write_lead-clause-cause g c =
-    space_cause_passed _ _ _ c.from_residual-in_err-write_lead.result c.in_err-write_lead.field-0.0 (later_on (later_on (later_on c.in_ok-rec.ensures.cause.later c.in_ok-behind.ensures.cause.later) c.in_ok-lead.ensures.cause.later) c.in_ok-write_behind.ensures.cause.later) c.in_err-write_lead.ensures.cause c.from_residual-in_err-write_lead.ensures.1
+    space_cause_passed _ _ _ c.from_residual-in_err-write_lead.result c.in_err-write_lead.field-0.0
+    (later_on (later_on (later_on c.in_ok-rec.ensures.cause.later c.in_ok-behind.ensures.cause.later) c.in_ok-lead.ensures.cause.later) c.in_ok-write_behind.ensures.cause.later) c.in_err-write_lead.ensures.cause c.from_residual-in_err-write_lead.ensures.1
 
 pub returns-in_err-give-clause-cause : goal.returns-in_err-give-clause-cause
 returns-in_err-give-clause-cause g c =
-    space_cause_passed _ _ _ c.from_residual-in_err-give.result c.in_err-give.field-0.0 (later_on (later_on (later_on (later_on c.in_ok-rec.ensures.cause.later c.in_ok-behind.ensures.cause.later) c.in_ok-lead.ensures.cause.later) c.in_ok-write_behind.ensures.cause.later) c.in_ok-write_lead.ensures.cause.later) c.in_err-give.ensures.cause c.from_residual-in_err-give.ensures.1
+    space_cause_passed _ _ _ c.from_residual-in_err-give.result c.in_err-give.field-0.0
+    (later_on (later_on (later_on (later_on c.in_ok-rec.ensures.cause.later c.in_ok-behind.ensures.cause.later) c.in_ok-lead.ensures.cause.later) c.in_ok-write_behind.ensures.cause.later) c.in_ok-write_lead.ensures.cause.later) c.in_err-give.ensures.cause c.from_residual-in_err-give.ensures.1
 
 pub returns-in_err-write_lead-clause-onward : goal.returns-in_err-write_lead-clause-onward
 returns-in_err-write_lead-clause-onward g c =
-    g.met.S.Reads.further_onward c.args.space.now c.write_behind.new.space c.write_lead.new.space (g.met.S.Reads.further_onward c.args.space.now c.read_lead.new.space c.write_behind.new.space (g.met.S.Reads.further_onward c.args.space.now c.read_behind.new.space c.read_lead.new.space (g.met.S.Reads.further_onward c.args.space.now c.read_member.new.space c.read_behind.new.space c.in_ok-rec.ensures.onward c.in_ok-behind.ensures.onward) c.in_ok-lead.ensures.onward) c.in_ok-write_behind.ensures.onward) c.in_err-write_lead.ensures.onward
+    g.met.S.Reads.further_onward c.args.space.now c.write_behind.new.space c.write_lead.new.space
+    (g.met.S.Reads.further_onward c.args.space.now c.read_lead.new.space c.write_behind.new.space (g.met.S.Reads.further_onward c.args.space.now c.read_behind.new.space c.read_lead.new.space (g.met.S.Reads.further_onward c.args.space.now c.read_member.new.space c.read_behind.new.space c.in_ok-rec.ensures.onward c.in_ok-behind.ensures.onward) c.in_ok-lead.ensures.onward) c.in_ok-write_behind.ensures.onward) c.in_err-write_lead.ensures.onward
 
 pub returns-in_err-give-clause-onward : goal.returns-in_err-give-clause-onward
 returns-in_err-give-clause-onward g c =
-    g.met.S.Reads.further_onward c.args.space.now c.write_lead.new.space c.give.new.space (g.met.S.Reads.further_onward c.args.space.now c.write_behind.new.space c.write_lead.new.space (g.met.S.Reads.further_onward c.args.space.now c.read_lead.new.space c.write_behind.new.space (g.met.S.Reads.further_onward c.args.space.now c.read_behind.new.space c.read_lead.new.space (g.met.S.Reads.further_onward c.args.space.now c.read_member.new.space c.read_behind.new.space c.in_ok-rec.ensures.onward c.in_ok-behind.ensures.onward) c.in_ok-lead.ensures.onward) c.in_ok-write_behind.ensures.onward) c.in_ok-write_lead.ensures.onward) c.in_err-give.ensures.onward
+    g.met.S.Reads.further_onward c.args.space.now c.write_lead.new.space c.give.new.space
+    (g.met.S.Reads.further_onward c.args.space.now c.write_behind.new.space c.write_lead.new.space (g.met.S.Reads.further_onward c.args.space.now c.read_lead.new.space c.write_behind.new.space (g.met.S.Reads.further_onward c.args.space.now c.read_behind.new.space c.read_lead.new.space (g.met.S.Reads.further_onward c.args.space.now c.read_member.new.space c.read_behind.new.space c.in_ok-rec.ensures.onward c.in_ok-behind.ensures.onward) c.in_ok-lead.ensures.onward) c.in_ok-write_behind.ensures.onward) c.in_ok-write_lead.ensures.onward) c.in_err-give.ensures.onward
 
 pub returns-clause-onward : goal.returns-clause-onward
 returns-clause-onward g c =
-    g.met.S.Reads.further_onward c.args.space.now c.write_lead.new.space c.give.new.space (g.met.S.Reads.further_onward c.args.space.now c.write_behind.new.space c.write_lead.new.space (g.met.S.Reads.further_onward c.args.space.now c.read_lead.new.space c.write_behind.new.space (g.met.S.Reads.further_onward c.args.space.now c.read_behind.new.space c.read_lead.new.space (g.met.S.Reads.further_onward c.args.space.now c.read_member.new.space c.read_behind.new.space c.in_ok-rec.ensures.onward c.in_ok-behind.ensures.onward) c.in_ok-lead.ensures.onward) c.in_ok-write_behind.ensures.onward) c.in_ok-write_lead.ensures.onward) c.in_ok-give.ensures.onward
+    g.met.S.Reads.further_onward c.args.space.now c.write_lead.new.space c.give.new.space
+    (g.met.S.Reads.further_onward c.args.space.now c.write_behind.new.space c.write_lead.new.space (g.met.S.Reads.further_onward c.args.space.now c.read_lead.new.space c.write_behind.new.space (g.met.S.Reads.further_onward c.args.space.now c.read_behind.new.space c.read_lead.new.space (g.met.S.Reads.further_onward c.args.space.now c.read_member.new.space c.read_behind.new.space c.in_ok-rec.ensures.onward c.in_ok-behind.ensures.onward) c.in_ok-lead.ensures.onward) c.in_ok-write_behind.ensures.onward) c.in_ok-write_lead.ensures.onward) c.in_ok-give.ensures.onward
 
 pub returns-in_err-rec-clause-dropped : goal.returns-in_err-rec-clause-dropped
 returns-in_err-rec-clause-dropped g c _ = never_ok c.from_residual.result _ _ c.from_residual.ensures.1
@@ -515,34 +549,43 @@ pub returns-in_err-give-clause-low : goal.returns-in_err-give-clause-low
 returns-in_err-give-clause-low g c _ = never_ok c.from_residual-in_err-give.result _ _ c.from_residual-in_err-give.ensures.1
 
 pub returns-in_err-write_behind-clause-damaged : goal.returns-in_err-write_behind-clause-damaged
-returns-in_err-write_behind-clause-damaged g c _ = space_has _ tt tt c.from_residual-in_err-write_behind.result c.in_err-write_behind.field-0.0 c.from_residual-in_err-write_behind.ensures.1
+returns-in_err-write_behind-clause-damaged g c _ = space_has _ tt tt c.from_residual-in_err-write_behind.result c.in_err-write_behind.field-0.0
+    c.from_residual-in_err-write_behind.ensures.1
 
 pub returns-in_err-write_behind-clause-breaks : goal.returns-in_err-write_behind-clause-breaks
-returns-in_err-write_behind-clause-breaks g c _ _ _ _ = space_has _ tt tt c.from_residual-in_err-write_behind.result c.in_err-write_behind.field-0.0 c.from_residual-in_err-write_behind.ensures.1
+returns-in_err-write_behind-clause-breaks g c _ _ _ _ = space_has _ tt tt c.from_residual-in_err-write_behind.result c.in_err-write_behind.field-0.0
+    c.from_residual-in_err-write_behind.ensures.1
 
 pub returns-in_err-write_behind-clause-sound : goal.returns-in_err-write_behind-clause-sound
-returns-in_err-write_behind-clause-sound g c _ _ _ = space_has _ tt tt c.from_residual-in_err-write_behind.result c.in_err-write_behind.field-0.0 c.from_residual-in_err-write_behind.ensures.1
+returns-in_err-write_behind-clause-sound g c _ _ _ = space_has _ tt tt c.from_residual-in_err-write_behind.result c.in_err-write_behind.field-0.0
+    c.from_residual-in_err-write_behind.ensures.1
 
 pub returns-in_err-write_behind-clause-unwritten : goal.returns-in_err-write_behind-clause-unwritten
-returns-in_err-write_behind-clause-unwritten g c = space_has _ tt tt c.from_residual-in_err-write_behind.result c.in_err-write_behind.field-0.0 c.from_residual-in_err-write_behind.ensures.1
+returns-in_err-write_behind-clause-unwritten g c = space_has _ tt tt c.from_residual-in_err-write_behind.result c.in_err-write_behind.field-0.0
+    c.from_residual-in_err-write_behind.ensures.1
 
 pub returns-in_err-write_lead-clause-damaged : goal.returns-in_err-write_lead-clause-damaged
-returns-in_err-write_lead-clause-damaged g c _ = space_has _ tt tt c.from_residual-in_err-write_lead.result c.in_err-write_lead.field-0.0 c.from_residual-in_err-write_lead.ensures.1
+returns-in_err-write_lead-clause-damaged g c _ = space_has _ tt tt c.from_residual-in_err-write_lead.result c.in_err-write_lead.field-0.0
+    c.from_residual-in_err-write_lead.ensures.1
 
 pub returns-in_err-write_lead-clause-breaks : goal.returns-in_err-write_lead-clause-breaks
-returns-in_err-write_lead-clause-breaks g c _ _ _ _ = space_has _ tt tt c.from_residual-in_err-write_lead.result c.in_err-write_lead.field-0.0 c.from_residual-in_err-write_lead.ensures.1
+returns-in_err-write_lead-clause-breaks g c _ _ _ _ = space_has _ tt tt c.from_residual-in_err-write_lead.result c.in_err-write_lead.field-0.0
+    c.from_residual-in_err-write_lead.ensures.1
 
 pub returns-in_err-write_lead-clause-sound : goal.returns-in_err-write_lead-clause-sound
-returns-in_err-write_lead-clause-sound g c _ _ _ = space_has _ tt tt c.from_residual-in_err-write_lead.result c.in_err-write_lead.field-0.0 c.from_residual-in_err-write_lead.ensures.1
+returns-in_err-write_lead-clause-sound g c _ _ _ = space_has _ tt tt c.from_residual-in_err-write_lead.result c.in_err-write_lead.field-0.0
+    c.from_residual-in_err-write_lead.ensures.1
 
 pub returns-in_err-write_lead-clause-unwritten : goal.returns-in_err-write_lead-clause-unwritten
-returns-in_err-write_lead-clause-unwritten g c = space_has _ tt tt c.from_residual-in_err-write_lead.result c.in_err-write_lead.field-0.0 c.from_residual-in_err-write_lead.ensures.1
+returns-in_err-write_lead-clause-unwritten g c = space_has _ tt tt c.from_residual-in_err-write_lead.result c.in_err-write_lead.field-0.0
+    c.from_residual-in_err-write_lead.ensures.1
 
 pub returns-in_err-give-clause-damaged : goal.returns-in_err-give-clause-damaged
 returns-in_err-give-clause-damaged g c _ = space_has _ tt tt c.from_residual-in_err-give.result c.in_err-give.field-0.0 c.from_residual-in_err-give.ensures.1
 
 pub returns-in_err-give-clause-breaks : goal.returns-in_err-give-clause-breaks
-returns-in_err-give-clause-breaks g c _ _ _ _ = space_has _ tt tt c.from_residual-in_err-give.result c.in_err-give.field-0.0 c.from_residual-in_err-give.ensures.1
+returns-in_err-give-clause-breaks g c _ _ _ _ = space_has _ tt tt c.from_residual-in_err-give.result c.in_err-give.field-0.0
+    c.from_residual-in_err-give.ensures.1
 
 pub returns-in_err-give-clause-sound : goal.returns-in_err-give-clause-sound
 returns-in_err-give-clause-sound g c _ _ _ = space_has _ tt tt c.from_residual-in_err-give.result c.in_err-give.field-0.0 c.from_residual-in_err-give.ensures.1
@@ -562,7 +605,8 @@ returns-in_err-behind-clause-onward g c =
 
 pub returns-in_err-lead-clause-onward : goal.returns-in_err-lead-clause-onward
 returns-in_err-lead-clause-onward g c =
-    g.met.S.Reads.further_onward _ _ _ (g.met.S.Reads.further_onward _ _ _ c.in_ok-rec.ensures.onward c.in_ok-behind.ensures.onward) c.in_err-lead.ensures.onward
+    g.met.S.Reads.further_onward _ _ _ (g.met.S.Reads.further_onward _ _ _ c.in_ok-rec.ensures.onward c.in_ok-behind.ensures.onward)
+    c.in_err-lead.ensures.onward
 
 pub returns-in_err-write_behind-clause-onward : goal.returns-in_err-write_behind-clause-onward
 returns-in_err-write_behind-clause-onward g c =

@@ -22,13 +22,15 @@ returns-in-Some-clause-reads g c = λ tells xs can.
 
 pub returns-in-Some-clause-at_most : goal.returns-in-Some-clause-at_most
 returns-in-Some-clause-at_most g c =
-    all_reads_then (g.R.Reads.state c.args.space.now) (g.R.Reads.state c.first_group.new.space) (g.R.Reads.state c.seek.new.space) c.in_ok-first.ensures.at_most c.seek.ensures.at_most
+    all_reads_then (g.R.Reads.state c.args.space.now) (g.R.Reads.state c.first_group.new.space) (g.R.Reads.state c.seek.new.space) c.in_ok-first.ensures.at_most
+    c.seek.ensures.at_most
 
 pub returns-in-Some-clause-damaged : goal.returns-in-Some-clause-damaged
 returns-in-Some-clause-damaged g c = λ tells.
     let s = g.R.Reads.state c.args.space.now in
     let first = subst (IsFirst s.records c.args.node) c.in-Some.is (c.in_ok-first.ensures.first tells) in
-    fault_then s (g.R.Reads.state c.first_group.new.space) c.args.node c.in-Some.first c.seek.result c.in_ok-first.ensures.at_most first.1 (c.seek.ensures.damaged tells)
+    fault_then s (g.R.Reads.state c.first_group.new.space) c.args.node c.in-Some.first c.seek.result c.in_ok-first.ensures.at_most first.1
+    (c.seek.ensures.damaged tells)
 
 pub returns-in_err-first-clause-cause : goal.returns-in_err-first-clause-cause
 returns-in_err-first-clause-cause g c =
@@ -38,7 +40,8 @@ pub returns-in-Some-clause-reached : goal.returns-in-Some-clause-reached
 returns-in-Some-clause-reached g c = λ tells.
     let s = g.R.Reads.state c.args.space.now in
     let first = subst (IsFirst s.records c.args.node) c.in-Some.is (c.in_ok-first.ensures.first tells) in
-    reached_then s (g.R.Reads.state c.first_group.new.space) c.args.node c.in-Some.first c.seek.result c.in_ok-first.ensures.at_most first.1 (c.seek.ensures.reached tells)
+    reached_then s (g.R.Reads.state c.first_group.new.space) c.args.node c.in-Some.first c.seek.result c.in_ok-first.ensures.at_most first.1
+    (c.seek.ensures.reached tells)
 
 pub returns-in_err-first-clause-found : goal.returns-in_err-first-clause-found
 returns-in_err-first-clause-found g c _ = never_ok c.from_residual.result _ _ c.from_residual.ensures.1

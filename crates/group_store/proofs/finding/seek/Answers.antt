@@ -12,7 +12,9 @@ use Rattle.group_store.specs.GroupChain.{up_to_type}
 use Rattle.group_store.specs.Loading.{group_mark}
 use Rattle.group_store.specs.Walking.{IsWalkDamage}
 use Rattle.group_store.specs.Walking.IsWalkDamage.{NoList}
-use Rattle.group_store.proofs.GroupWalks.{few_groups, few_owned, left_more, left_none, link_then, member_then, not_damaged_at, passed_all, passed_more, passed_none, read_next, reads_more, reads_so_far, rec_then, undamaged, walk_fault}
+use Rattle.group_store.proofs.GroupWalks.{few_groups, few_owned, left_more, left_none, link_then, member_then}
+use Rattle.group_store.proofs.GroupWalks.{not_damaged_at, passed_all, passed_more, passed_none, read_next, reads_more}
+use Rattle.group_store.proofs.GroupWalks.{reads_so_far, rec_then, undamaged, walk_fault}
 use Rattle.group_store.proofs.Seeks.{group_found, lacks_more, lacks_none, passed_few, passed_fewer, type_then}
 use Rattle.group_store.proofs.Causes.{cause_passed}
 use Rattle.rec_bytes.proofs.Causes.{never_ok}
@@ -43,7 +45,8 @@ loop-preserved g c =
           let met = c.loop.invariant.met tells in
           let member = member_then s now c.loop.counter c.args.node c.loop.at c.loop.invariant.read (c.in_ok-rec.ensures.member tells) in
           let got = rec_then s now c.loop.counter c.loop.at c.in_ok-rec.rec c.loop.invariant.read (c.in_ok-rec.ensures.got tells) in
-          let link = link_then s now c.loop.counter c.loop.at c.number-at.result c.in_ok-rec.rec c.loop.invariant.read (c.in_ok-rec.ensures.got tells) c.number-at.ensures in
+          let link = link_then s now c.loop.counter c.loop.at c.number-at.result c.in_ok-rec.rec c.loop.invariant.read (c.in_ok-rec.ensures.got tells)
+          c.number-at.ensures in
           let typed = type_then s now c.loop.counter c.loop.at c.args.label c.in_ok-rec.rec c.number.result got c.number.ensures in (
             met.0 ++ c.loop.at ∷ [],
             passed_more s.records c.args.node c.args.first c.loop.at c.number-at.result met.0 some member link met.1,
@@ -51,14 +54,18 @@ loop-preserved g c =
             length_push met.0 c.loop.at ∙ ap (λ n. n + 1) met.3,
           );
       left = λ tells xs walk few.
-          let link = link_then s now c.loop.counter c.loop.at c.number-at.result c.in_ok-rec.rec c.loop.invariant.read (c.in_ok-rec.ensures.got tells) c.number-at.ensures in
-          left_more s.records (c.meta-budget.result.high - c.loop.counter) (c.meta-budget.result.high - (c.loop.counter + 1)) c.loop.at c.number-at.result xs less some link (c.loop.invariant.left tells xs walk few);
+          let link = link_then s now c.loop.counter c.loop.at c.number-at.result c.in_ok-rec.rec c.loop.invariant.read (c.in_ok-rec.ensures.got tells)
+          c.number-at.ensures in
+          left_more s.records (c.meta-budget.result.high - c.loop.counter) (c.meta-budget.result.high - (c.loop.counter + 1)) c.loop.at c.number-at.result xs
+          less some link (c.loop.invariant.left tells xs walk few);
       on = λ tells is dense own.
-          let link = link_then s now c.loop.counter c.loop.at c.number-at.result c.in_ok-rec.rec c.loop.invariant.read (c.in_ok-rec.ensures.got tells) c.number-at.ensures in
+          let link = link_then s now c.loop.counter c.loop.at c.number-at.result c.in_ok-rec.rec c.loop.invariant.read (c.in_ok-rec.ensures.got tells)
+          c.number-at.ensures in
           let member = member_then s now c.loop.counter c.args.node c.loop.at c.loop.invariant.read (c.in_ok-rec.ensures.member tells) in
           Next c.loop.at c.number-at.result (c.loop.invariant.on tells is dense (group_owned s.records c.args.node c.loop.at member)) (sym link) own;
       reached = λ tells groups first next.
-          let link = link_then s now c.loop.counter c.loop.at c.number-at.result c.in_ok-rec.rec c.loop.invariant.read (c.in_ok-rec.ensures.got tells) c.number-at.ensures in
+          let link = link_then s now c.loop.counter c.loop.at c.number-at.result c.in_ok-rec.rec c.loop.invariant.read (c.in_ok-rec.ensures.got tells)
+          c.number-at.ensures in
           subst (λ z. In z groups) (sym link) (next c.loop.at (c.loop.invariant.reached tells groups first next) some);
       read = read_next s now (g.R.Reads.state c.read_member.new.space) c.loop.counter (c.loop.counter + 1) refl c.loop.invariant.read c.in_ok-rec.ensures.read;
       onward = g.met.R.Reads.further_onward c.args.space.now c.loop.space c.read_member.new.space c.loop.invariant.onward c.in_ok-rec.ensures.onward;
@@ -81,43 +88,53 @@ pub returns-then-at-clause-reads : goal.returns-then-at-clause-reads
 returns-then-at-clause-reads g c = λ tells xs can.
     let s = g.R.Reads.state c.args.space.now in
     let met = c.loop.invariant.met tells in
-    let few = passed_few s.records c.args.node c.args.first c.loop.at c.args.label _ met.0 xs met.1 met.2 can.list (c.loop.invariant.left tells xs can.list.walk (few_groups s.records c.args.node c.args.first xs can.list)) in
-    reads_so_far s (g.R.Reads.state c.loop.space) c.loop.counter (length (up_to_type s.records c.args.label xs)) (omega (arith, few, met.3)) c.loop.invariant.read
+    let few = passed_few s.records c.args.node c.args.first c.loop.at c.args.label _ met.0 xs met.1 met.2 can.list
+    (c.loop.invariant.left tells xs can.list.walk (few_groups s.records c.args.node c.args.first xs can.list)) in
+    reads_so_far s (g.R.Reads.state c.loop.space) c.loop.counter (length (up_to_type s.records c.args.label xs)) (omega (arith, few, met.3))
+    c.loop.invariant.read
 
 pub returns-clause-reads : goal.returns-clause-reads
 returns-clause-reads g c = λ tells xs can.
     let s = g.R.Reads.state c.args.space.now in
     let met = c.loop.invariant.met tells in
-    let few = passed_few s.records c.args.node c.args.first c.loop.at c.args.label _ met.0 xs met.1 met.2 can.list (c.loop.invariant.left tells xs can.list.walk (few_groups s.records c.args.node c.args.first xs can.list)) in
-    reads_so_far s (g.R.Reads.state c.loop.space) c.loop.counter (length (up_to_type s.records c.args.label xs)) (omega (arith, few, met.3)) c.loop.invariant.read
+    let few = passed_few s.records c.args.node c.args.first c.loop.at c.args.label _ met.0 xs met.1 met.2 can.list
+    (c.loop.invariant.left tells xs can.list.walk (few_groups s.records c.args.node c.args.first xs can.list)) in
+    reads_so_far s (g.R.Reads.state c.loop.space) c.loop.counter (length (up_to_type s.records c.args.label xs)) (omega (arith, few, met.3))
+    c.loop.invariant.read
 
 pub returns-in_err-rec-clause-reads : goal.returns-in_err-rec-clause-reads
 returns-in_err-rec-clause-reads g c = λ tells xs can.
     let s = g.R.Reads.state c.args.space.now in
     let met = c.loop.invariant.met tells in
-    let few = passed_fewer s.records c.args.node c.args.first c.loop.at c.args.label _ met.0 xs c.if-at.false met.1 met.2 can.list (c.loop.invariant.left tells xs can.list.walk (few_groups s.records c.args.node c.args.first xs can.list)) in
-    reads_more s (g.R.Reads.state c.loop.space) (g.R.Reads.state c.read_member.new.space) c.loop.counter 1 (length (up_to_type s.records c.args.label xs)) (omega (arith, few, met.3)) c.loop.invariant.read c.in_err-rec.ensures.at_most
+    let few = passed_fewer s.records c.args.node c.args.first c.loop.at c.args.label _ met.0 xs c.if-at.false met.1 met.2 can.list
+    (c.loop.invariant.left tells xs can.list.walk (few_groups s.records c.args.node c.args.first xs can.list)) in
+    reads_more s (g.R.Reads.state c.loop.space) (g.R.Reads.state c.read_member.new.space) c.loop.counter 1 (length (up_to_type s.records c.args.label xs))
+    (omega (arith, few, met.3)) c.loop.invariant.read c.in_err-rec.ensures.at_most
 
 pub returns-then-number-label-clause-reads : goal.returns-then-number-label-clause-reads
 returns-then-number-label-clause-reads g c = λ tells xs can.
     let s = g.R.Reads.state c.args.space.now in
     let met = c.loop.invariant.met tells in
-    let few = passed_fewer s.records c.args.node c.args.first c.loop.at c.args.label _ met.0 xs c.if-at.false met.1 met.2 can.list (c.loop.invariant.left tells xs can.list.walk (few_groups s.records c.args.node c.args.first xs can.list)) in
-    reads_more s (g.R.Reads.state c.loop.space) (g.R.Reads.state c.read_member.new.space) c.loop.counter 1 (length (up_to_type s.records c.args.label xs)) (omega (arith, few, met.3)) c.loop.invariant.read c.in_ok-rec.ensures.at_most
+    let few = passed_fewer s.records c.args.node c.args.first c.loop.at c.args.label _ met.0 xs c.if-at.false met.1 met.2 can.list
+    (c.loop.invariant.left tells xs can.list.walk (few_groups s.records c.args.node c.args.first xs can.list)) in
+    reads_more s (g.R.Reads.state c.loop.space) (g.R.Reads.state c.read_member.new.space) c.loop.counter 1 (length (up_to_type s.records c.args.label xs))
+    (omega (arith, few, met.3)) c.loop.invariant.read c.in_ok-rec.ensures.at_most
 
 pub returns-in_err-rec-clause-at_most : goal.returns-in_err-rec-clause-at_most
 returns-in_err-rec-clause-at_most g c =
     let s = g.R.Reads.state c.args.space.now in
     let mark : c.meta-budget.result.high ≡ group_mark s = ap (λ (m : Meta). m.high) c.meta-budget.ensures in
     let lt = c.loop-test.true in
-    reads_more s (g.R.Reads.state c.loop.space) (g.R.Reads.state c.read_member.new.space) c.loop.counter 1 (group_mark s) (omega arith) c.loop.invariant.read c.in_err-rec.ensures.at_most
+    reads_more s (g.R.Reads.state c.loop.space) (g.R.Reads.state c.read_member.new.space) c.loop.counter 1 (group_mark s) (omega arith) c.loop.invariant.read
+    c.in_err-rec.ensures.at_most
 
 pub returns-then-number-label-clause-at_most : goal.returns-then-number-label-clause-at_most
 returns-then-number-label-clause-at_most g c =
     let s = g.R.Reads.state c.args.space.now in
     let mark : c.meta-budget.result.high ≡ group_mark s = ap (λ (m : Meta). m.high) c.meta-budget.ensures in
     let lt = c.loop-test.true in
-    reads_more s (g.R.Reads.state c.loop.space) (g.R.Reads.state c.read_member.new.space) c.loop.counter 1 (group_mark s) (omega arith) c.loop.invariant.read c.in_ok-rec.ensures.at_most
+    reads_more s (g.R.Reads.state c.loop.space) (g.R.Reads.state c.read_member.new.space) c.loop.counter 1 (group_mark s) (omega arith) c.loop.invariant.read
+    c.in_ok-rec.ensures.at_most
 
 pub returns-in_err-rec-clause-damaged : goal.returns-in_err-rec-clause-damaged
 returns-in_err-rec-clause-damaged g c = λ tells.
@@ -141,12 +158,14 @@ returns-then-number-label-clause-found g c = λ tells.
     let member = member_then s now c.loop.counter c.args.node c.loop.at c.loop.invariant.read (c.in_ok-rec.ensures.member tells) in
     let got = rec_then s now c.loop.counter c.loop.at c.in_ok-rec.rec c.loop.invariant.read (c.in_ok-rec.ensures.got tells) in
     let typed = type_then s now c.loop.counter c.loop.at c.args.label c.in_ok-rec.rec c.number.result got c.number.ensures in
-    group_found s.records c.args.node c.args.first c.args.label c.loop.at c.in_ok-rec.rec c.row_of.result got c.row_of.ensures member (sym typed ∙ c.if-number-label.true)
+    group_found s.records c.args.node c.args.first c.args.label c.loop.at c.in_ok-rec.rec c.row_of.result got c.row_of.ensures member
+    (sym typed ∙ c.if-number-label.true)
     (λ is dense. c.loop.invariant.on tells is dense (group_owned s.records c.args.node c.loop.at member))
 
 pub returns-then-number-label-clause-reached : goal.returns-then-number-label-clause-reached
 returns-then-number-label-clause-reached g c = λ tells.
-    subst (IsReached (g.R.Reads.state c.args.space.now).records c.args.first) (sym (ap (λ (r : GroupRow). r.id) c.row_of.ensures)) (c.loop.invariant.reached tells)
+    subst (IsReached (g.R.Reads.state c.args.space.now).records c.args.first) (sym (ap (λ (r : GroupRow). r.id) c.row_of.ensures))
+    (c.loop.invariant.reached tells)
 
 pub returns-then-at-2-clause-damaged : goal.returns-then-at-2-clause-damaged
 returns-then-at-2-clause-damaged g c = λ tells.

@@ -15,8 +15,10 @@ invariant-loop g l =
     let s = g.R.Reads.state l.fn.space in
     record {
       met : g.R.Reads.tells → (ms : List ℕ) × HasPassed s.records l.node l.fn.first l.at ms × LacksType s.records l.label ms × (length ms ≡ l.counter);
-      left : g.R.Reads.tells → (xs : List ℕ) → IsWalk (next_group s.records) l.fn.first xs → length xs ≤ group_mark s → IsLeft s.records xs (l.budget - l.counter) l.at;
-      on : g.R.Reads.tells → l.fn.first ≡ first_link s.records l.node → IsDense s.records l.node → IsOwnedBy s.records l.node l.at → IsOnChain s.records l.node l.at;
+      left : g.R.Reads.tells → (xs : List ℕ) → IsWalk (next_group s.records) l.fn.first xs → length xs ≤ group_mark s
+          → IsLeft s.records xs (l.budget - l.counter) l.at;
+      on : g.R.Reads.tells → l.fn.first ≡ first_link s.records l.node → IsDense s.records l.node → IsOwnedBy s.records l.node l.at
+          → IsOnChain s.records l.node l.at;
       reached : g.R.Reads.tells → IsReached s.records l.fn.first l.at;
       read : g.R.Reads.state l.space ≡ after_gets l.counter s;
       onward : g.R.Reads.onward l.fn.space l.space;

@@ -9,11 +9,14 @@ returns-in_err-put-clause-cause g c =
 
 pub returns-in_err-back-clause-cause : goal.returns-in_err-back-clause-cause
 returns-in_err-back-clause-cause g c =
-    space_cause _ _ _ c.from_residual-in_err-back.result c.in_err-back.field-0.0 c.in_ok-put.ensures.cause.later c.in_err-back.ensures.cause c.from_residual-in_err-back.ensures.1
+    space_cause _ _ _ c.from_residual-in_err-back.result c.in_err-back.field-0.0 c.in_ok-put.ensures.cause.later c.in_err-back.ensures.cause
+    c.from_residual-in_err-back.ensures.1
 
 pub returns-in_err-set_number-clause-cause : goal.returns-in_err-set_number-clause-cause
 returns-in_err-set_number-clause-cause g c =
-    space_cause _ _ _ c.from_residual-in_err-set_number.result c.in_err-set_number.field-0.0 (later_on c.in_ok-put.ensures.cause.later c.in_ok-back.ensures.cause.later) c.in_err-set_number.ensures.cause c.from_residual-in_err-set_number.ensures.1
+    space_cause _ _ _ c.from_residual-in_err-set_number.result c.in_err-set_number.field-0.0
+    (later_on c.in_ok-put.ensures.cause.later c.in_ok-back.ensures.cause.later) c.in_err-set_number.ensures.cause
+    c.from_residual-in_err-set_number.ensures.1
 
 pub returns-in_err-put-clause-ok : goal.returns-in_err-put-clause-ok
 returns-in_err-put-clause-ok g c _ = never_ok c.from_residual.result _ _ c.from_residual.ensures.1

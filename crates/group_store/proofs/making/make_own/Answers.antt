@@ -17,7 +17,8 @@ use Rattle.group_store.specs.Spreading.{LeadsAmong}
 use Rattle.group_store.proofs.Leadings.{leads_made}
 use Rattle.group_store.proofs.MadeHeads.{heads_made, owned_made}
 use Rattle.rec_bytes.proofs.Numbers.{field-lt}
-use Rattle.group_store.proofs.MakeSteps.{all_writes, link_told, made_has, made_is, node_told, on_damage, right_first, same_read, same_then, same_writes, take_told}
+use Rattle.group_store.proofs.MakeSteps.{all_writes, link_told, made_has, made_is, node_told, on_damage, right_first}
+use Rattle.group_store.proofs.MakeSteps.{same_read, same_then, same_writes, take_told}
 use Rattle.group_store.proofs.MadeRules.{rules_made}
 use Rattle.id_freelist.specs.Taking.{room}
 use Rattle.rec_bytes.specs.Space.{State, WritesOnly, after_get, meta_of}
@@ -104,7 +105,8 @@ returns-in_err-lead-clause-writes g c =
     let now = g.S.Reads.state c.first_group.new.space in (
       c.in-Ok.id,
       c.in-Some.first,
-      all_writes s now (g.S.Reads.state c.take.new.space) (g.S.Reads.state c.lead.new.space) (group_key c.in-Ok.id) (group_key c.in-Some.first) (node_key c.args.node) (meta_key_of groups_file)
+      all_writes s now (g.S.Reads.state c.take.new.space) (g.S.Reads.state c.lead.new.space) (group_key c.in-Ok.id) (group_key c.in-Some.first)
+          (node_key c.args.node) (meta_key_of groups_file)
           (same_read 1 s now c.in_ok-first.ensures.at_most) c.in-Ok.ensures.writes c.in_err-lead.ensures.writes,
     )
 
@@ -114,7 +116,8 @@ returns-clause-writes g c =
     let now = g.S.Reads.state c.first_group.new.space in (
       c.in-Ok.id,
       c.in-Some.first,
-      all_writes s now (g.S.Reads.state c.take.new.space) (g.S.Reads.state c.lead.new.space) (group_key c.in-Ok.id) (group_key c.in-Some.first) (node_key c.args.node) (meta_key_of groups_file)
+      all_writes s now (g.S.Reads.state c.take.new.space) (g.S.Reads.state c.lead.new.space) (group_key c.in-Ok.id) (group_key c.in-Some.first)
+          (node_key c.args.node) (meta_key_of groups_file)
           (same_read 1 s now c.in_ok-first.ensures.at_most) c.in-Ok.ensures.writes c.in_ok-lead.ensures.writes,
     )
 
@@ -133,7 +136,8 @@ returns-clause-made g c = λ tells free xs can.
     let now = g.S.Reads.state c.first_group.new.space in
     let read : now ≡ after_get s = subst (λ (first : Option ℕ). IfSome first (λ _. now ≡ after_get s)) c.in-Some.is (c.in_ok-first.ensures.read tells) in
     let first = subst (IsFirst s.records c.args.node) c.in-Some.is (c.in_ok-first.ensures.first tells) in
-    made_has s now (g.S.Reads.state c.take.new.space) (g.S.Reads.state c.lead.new.space) c.args.node c.args.label c.in-Some.first c.in-Ok.id c.empty_group.result c.empty_row.result free xs
+    made_has s now (g.S.Reads.state c.take.new.space) (g.S.Reads.state c.lead.new.space) c.args.node c.args.label c.in-Some.first c.in-Ok.id
+    c.empty_group.result c.empty_row.result free xs
     read (c.in-Ok.ensures.taken tells free) (c.in-Ok.ensures.fresh tells) first.1 c.empty_group.ensures (c.in_ok-lead.ensures.ok tells) c.empty_row.ensures
     (omega (arith, c.in-Ok.ensures.key.id)) (omega (arith, c.ranges.node.fits)) (omega (arith, c.ranges.label.fits)) can
 
@@ -147,7 +151,8 @@ returns-clause-leads g c = λ tells came groups leads.
     let id : c.in-Ok.id ≡ c.empty_row.result.id = sym (ap (λ (r : GroupRow). r.id) c.empty_row.ensures) in
     subst (λ k. LeadsAmong end.records c.args.node came (groups ++ k ∷ [])) id
     (leads_made s now (g.S.Reads.state c.take.new.space) end c.args.node c.args.label c.in-Some.first c.in-Ok.id c.empty_group.result
-    read (c.in-Ok.ensures.ok tells) c.in-Ok.ensures.is (c.in-Ok.ensures.undamaged tells) (c.in-Ok.ensures.fresh tells) first.1 c.empty_group.ensures (c.in_ok-lead.ensures.ok tells)
+    read (c.in-Ok.ensures.ok tells) c.in-Ok.ensures.is (c.in-Ok.ensures.undamaged tells) (c.in-Ok.ensures.fresh tells) first.1 c.empty_group.ensures
+    (c.in_ok-lead.ensures.ok tells)
     (omega (arith, c.in-Ok.ensures.key.id)) (omega (arith, c.ranges.node.fits)) (omega (arith, c.ranges.label.fits)) came groups leads)
 
 pub returns-clause-wrote : goal.returns-clause-wrote
@@ -155,7 +160,8 @@ returns-clause-wrote g c =
     let s = g.S.Reads.state c.args.space.now in
     let now = g.S.Reads.state c.first_group.new.space in
     let id : c.in-Ok.id ≡ c.empty_row.result.id = sym (ap (λ (r : GroupRow). r.id) c.empty_row.ensures) in
-    subst (λ k. WritesOnly s (g.S.Reads.state c.lead.new.space) (group_key k ∷ group_key c.in-Some.first ∷ node_key c.args.node ∷ meta_key_of groups_file ∷ [])) id
+    subst (λ k. WritesOnly s (g.S.Reads.state c.lead.new.space) (group_key k ∷ group_key c.in-Some.first ∷ node_key c.args.node ∷ meta_key_of groups_file ∷ []))
+    id
     (all_writes s now (g.S.Reads.state c.take.new.space) (g.S.Reads.state c.lead.new.space) (group_key c.in-Ok.id) (group_key c.in-Some.first) (node_key c.args.node) (meta_key_of groups_file)
     (same_read 1 s now c.in_ok-first.ensures.at_most) c.in-Ok.ensures.writes c.in_ok-lead.ensures.writes)
 
@@ -170,8 +176,10 @@ returns-clause-rules g c = λ tells rest most empty keeps dense lacks.
     let now = g.S.Reads.state c.first_group.new.space in
     let read : now ≡ after_get s = subst (λ (first : Option ℕ). IfSome first (λ _. now ≡ after_get s)) c.in-Some.is (c.in_ok-first.ensures.read tells) in
     let first = subst (IsFirst s.records c.args.node) c.in-Some.is (c.in_ok-first.ensures.first tells) in
-    rules_made s now (g.S.Reads.state c.take.new.space) (g.S.Reads.state c.lead.new.space) c.args.node c.args.label c.in-Some.first c.in-Ok.id c.empty_group.result c.empty_row.result
-    read (λ free. c.in-Ok.ensures.taken tells free) (c.in-Ok.ensures.fresh tells) c.in-Ok.ensures.small (c.in-Ok.ensures.ok tells) first.1 c.empty_group.ensures (c.in_ok-lead.ensures.ok tells) c.empty_row.ensures
+    rules_made s now (g.S.Reads.state c.take.new.space) (g.S.Reads.state c.lead.new.space) c.args.node c.args.label c.in-Some.first c.in-Ok.id
+    c.empty_group.result c.empty_row.result
+    read (λ free. c.in-Ok.ensures.taken tells free) (c.in-Ok.ensures.fresh tells) c.in-Ok.ensures.small (c.in-Ok.ensures.ok tells) first.1 c.empty_group.ensures
+    (c.in_ok-lead.ensures.ok tells) c.empty_row.ensures
     (omega (arith, c.ranges.node.fits)) (omega (arith, c.ranges.label.fits)) rest most empty keeps dense lacks
 
 -- ---- a full file
@@ -190,7 +198,8 @@ returns-in_err-first-clause-cause g c =
 
 pub returns-in_err-test_link-clause-cause : goal.returns-in_err-test_link-clause-cause
 returns-in_err-test_link-clause-cause g c =
-    damage_cause _ _ c.from_residual-in_err-test_link.result c.in_err-test_link.field-0.0 c.in_ok-first.ensures.cause.later c.from_residual-in_err-test_link.ensures.1
+    damage_cause _ _ c.from_residual-in_err-test_link.result c.in_err-test_link.field-0.0 c.in_ok-first.ensures.cause.later
+    c.from_residual-in_err-test_link.ensures.1
 
 -- ---- the group is the node's, and each node has the heads that it had
 
@@ -205,7 +214,8 @@ returns-clause-owns g c = λ tells.
     subst (λ k. IsOwnedBy (g.S.Reads.state c.lead.new.space).records c.args.node k) id
     (owned_made now (g.S.Reads.state c.take.new.space) c.args.node c.args.label c.in-Some.first c.in-Ok.id c.empty_group.result
     (c.in-Ok.ensures.ok tells) c.in-Ok.ensures.is (c.in-Ok.ensures.undamaged tells) (c.in-Ok.ensures.fresh tells) c.empty_group.ensures
-    (omega (arith, c.in-Ok.ensures.key.id)) (omega (arith, c.ranges.node.fits)) (omega (arith, c.ranges.label.fits)) (omega (arith, first.1, fits)) s (g.S.Reads.state c.lead.new.space) read (c.in_ok-lead.ensures.ok tells))
+    (omega (arith, c.in-Ok.ensures.key.id)) (omega (arith, c.ranges.node.fits)) (omega (arith, c.ranges.label.fits)) (omega (arith, first.1, fits)) s
+    (g.S.Reads.state c.lead.new.space) read (c.in_ok-lead.ensures.ok tells))
 
 pub returns-clause-heads : goal.returns-clause-heads
 returns-clause-heads g c = λ tells.
@@ -216,7 +226,8 @@ returns-clause-heads g c = λ tells.
     let fits = field-lt 4 (rec_at s.records nodes_file c.args.node) node_first_link in
     heads_made now (g.S.Reads.state c.take.new.space) c.args.node c.args.label c.in-Some.first c.in-Ok.id c.empty_group.result
     (c.in-Ok.ensures.ok tells) c.in-Ok.ensures.is (c.in-Ok.ensures.undamaged tells) (c.in-Ok.ensures.fresh tells) c.empty_group.ensures
-    (omega (arith, c.in-Ok.ensures.key.id)) (omega (arith, c.ranges.node.fits)) (omega (arith, c.ranges.label.fits)) (omega (arith, first.1, fits)) s (g.S.Reads.state c.lead.new.space) read (c.in_ok-lead.ensures.ok tells)
+    (omega (arith, c.in-Ok.ensures.key.id)) (omega (arith, c.ranges.node.fits)) (omega (arith, c.ranges.label.fits)) (omega (arith, first.1, fits)) s
+    (g.S.Reads.state c.lead.new.space) read (c.in_ok-lead.ensures.ok tells)
 
 pub returns-in_err-first-clause-made : goal.returns-in_err-first-clause-made
 returns-in_err-first-clause-made g c _ = never_ok c.from_residual.result _ _ c.from_residual.ensures.1
@@ -315,7 +326,8 @@ pub returns-in_err-lead-clause-damaged : goal.returns-in_err-lead-clause-damaged
 returns-in_err-lead-clause-damaged g c _ = space_has _ tt tt c.from_residual-in_err-lead.result c.in_err-lead.field-0.0 c.from_residual-in_err-lead.ensures.1
 
 pub returns-in_err-lead-clause-sound : goal.returns-in_err-lead-clause-sound
-returns-in_err-lead-clause-sound g c _ _ _ _ _ _ _ = space_has _ tt tt c.from_residual-in_err-lead.result c.in_err-lead.field-0.0 c.from_residual-in_err-lead.ensures.1
+returns-in_err-lead-clause-sound g c _ _ _ _ _ _ _ = space_has _ tt tt c.from_residual-in_err-lead.result c.in_err-lead.field-0.0
+    c.from_residual-in_err-lead.ensures.1
 
 pub returns-in_err-lead-clause-unwritten : goal.returns-in_err-lead-clause-unwritten
 returns-in_err-lead-clause-unwritten g c = space_has _ tt tt c.from_residual-in_err-lead.result c.in_err-lead.field-0.0 c.from_residual-in_err-lead.ensures.1

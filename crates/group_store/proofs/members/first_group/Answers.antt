@@ -21,7 +21,8 @@ returns-in-Some-clause-read g c = λ tells.
     let s = g.R.Reads.state c.args.space.now in
     let now = g.R.Reads.state c.load.new.space in
     let found : Some c.in-Some.row ≡ row_at s.records c.args.node = sym c.in-Some.is ∙ c.in_ok-row.ensures.found tells in
-    subst (λ (first : Option ℕ). IfSome first (λ _. now ≡ after_get s)) (sym c.first_of.ensures) (was_read s now c.args.node c.in-Some.row found (c.in_ok-row.ensures.known tells) c.in_ok-row.ensures.state)
+    subst (λ (first : Option ℕ). IfSome first (λ _. now ≡ after_get s)) (sym c.first_of.ensures)
+    (was_read s now c.args.node c.in-Some.row found (c.in_ok-row.ensures.known tells) c.in_ok-row.ensures.state)
 
 pub returns-in-Some-clause-at_most : goal.returns-in-Some-clause-at_most
 returns-in-Some-clause-at_most g c = load_reads (g.R.Reads.state c.args.space.now) (g.R.Reads.state c.load.new.space) c.args.node c.in_ok-row.ensures.state

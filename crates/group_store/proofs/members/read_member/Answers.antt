@@ -35,7 +35,8 @@ pub returns-in_err-get_into-clause-at_most : goal.returns-in_err-get_into-clause
 returns-in_err-get_into-clause-at_most g c = reads_one (g.R.Reads.state c.args.space.now) (g.R.Reads.state c.get_into.new.self) c.in_err-get_into.ensures.state
 
 pub returns-then-not-is_group_of-clause-at_most : goal.returns-then-not-is_group_of-clause-at_most
-returns-then-not-is_group_of-clause-at_most g c = reads_one (g.R.Reads.state c.args.space.now) (g.R.Reads.state c.get_into.new.self) c.in_ok-get_into.ensures.state
+returns-then-not-is_group_of-clause-at_most g c = reads_one (g.R.Reads.state c.args.space.now) (g.R.Reads.state c.get_into.new.self)
+    c.in_ok-get_into.ensures.state
 
 pub returns-then-not-is_group_of-clause-damaged : goal.returns-then-not-is_group_of-clause-damaged
 returns-then-not-is_group_of-clause-damaged g c = λ tells.
@@ -48,7 +49,8 @@ pub returns-clause-member : goal.returns-clause-member
 returns-clause-member g c = λ tells.
     let s = g.R.Reads.state c.args.space.now in
     let mark : c.meta.result.high ≡ group_mark s = ap (λ (m : Meta). m.high) c.meta.ensures in
-    group_is s.records c.args.node c.args.id c.get_into.new.rec (omega arith) (c.in_ok-get_into.ensures.got tells) (sym c.is_group_of.ensures ∙ c.if-not-is_group_of.false)
+    group_is s.records c.args.node c.args.id c.get_into.new.rec (omega arith) (c.in_ok-get_into.ensures.got tells)
+    (sym c.is_group_of.ensures ∙ c.if-not-is_group_of.false)
 
 pub returns-clause-at_most : goal.returns-clause-at_most
 returns-clause-at_most g c = reads_one (g.R.Reads.state c.args.space.now) (g.R.Reads.state c.get_into.new.self) c.in_ok-get_into.ensures.state

@@ -15,7 +15,9 @@ use Rattle.group_store.proofs.ChainHeads.{same_twice}
 use Rattle.group_store.proofs.Openings.{handed}
 use Rattle.group_store.proofs.OwnGroups.{if_ok}
 use Rattle.group_store.proofs.GroupWrites.{opened_more, opened_none}
-use Rattle.group_store.proofs.Opens.{dense_beside, dense_can, dense_group_can, dense_group_room, dense_opened, dense_opens, dense_room, failed_beside, group_can, group_opened, opens_node, room_same, then_opens}
+use Rattle.group_store.proofs.Opens.{dense_beside, dense_can, dense_group_can, dense_group_room, dense_opened}
+use Rattle.group_store.proofs.Opens.{dense_opens, dense_room, failed_beside, group_can, group_opened, opens_node}
+use Rattle.group_store.proofs.Opens.{room_same, then_opens}
 use Rattle.group_store.specs.Densing.{IsSparse}
 use Rattle.group_store.proofs.DenseFaults.{broken_then, end_broken, end_opened, not_opened}
 use Rattle.group_store.proofs.Causes.{cause_passed}
@@ -38,7 +40,8 @@ returns-then-branch-clause-opened g c = λ tells.
     let dense = (c.in_ok-is_dense.ensures.is tells).0 c.if-branch.true in
     if_ok c.open_group.result _ (λ (head : ChainHead). (row : RelRow) (empty : List ℕ) → CanOpen s c.args.node c.args.degree c.args.threshold c.args.label c.args.side row empty → OpensChain s t (head_of head) c.args.node row empty)
     (λ head f row empty can. then_opens s z same c.args.node c.args.degree c.args.threshold c.args.label c.args.side row empty can t (head_of head)
-    (f row empty (group_can s z same c.args.node c.args.degree c.args.threshold c.args.label c.args.side row empty can dense))) (c.open_group.ensures.opened tells)
+    (f row empty (group_can s z same c.args.node c.args.degree c.args.threshold c.args.label c.args.side row empty can dense))) (c.open_group.ensures.opened
+    tells)
 
 pub returns-then-branch-clause-sound : goal.returns-then-branch-clause-sound
 returns-then-branch-clause-sound g c = λ tells row empty can room.
@@ -46,7 +49,8 @@ returns-then-branch-clause-sound g c = λ tells row empty can room.
     let z = g.S.Reads.state c.is_dense.new.space in
     let same = c.in_ok-is_dense.ensures.state in
     let dense = (c.in_ok-is_dense.ensures.is tells).0 c.if-branch.true in
-    c.open_group.ensures.sound tells row empty (group_can s z same c.args.node c.args.degree c.args.threshold c.args.label c.args.side row empty can dense) (room_same s z same c.args.node c.args.degree c.args.threshold c.args.label c.args.side row empty can room)
+    c.open_group.ensures.sound tells row empty (group_can s z same c.args.node c.args.degree c.args.threshold c.args.label c.args.side row empty can dense)
+    (room_same s z same c.args.node c.args.degree c.args.threshold c.args.label c.args.side row empty can room)
 
 pub returns-then-degree-threshold-clause-opened : goal.returns-then-degree-threshold-clause-opened
 returns-then-degree-threshold-clause-opened g c = λ tells row empty can.
@@ -65,7 +69,8 @@ returns-in_err-make_dense-clause-sound g c = λ tells row empty can room.
     let thin : ¬ IsDense s.records c.args.node = λ d. false≢true (sym c.if-branch.false ∙ (c.in_ok-is_dense.ensures.is tells).1 d) in
     let p = err_from_is_err_and c.from_residual-in_err-make_dense.result c.from_residual-in_err-make_dense.ensures.1 in
     rw (p.1, p.2) (handed Unit ChainHead c.in_err-make_dense.field-0.0 (c.in_err-make_dense.ensures.sound tells s.shape.threshold empty
-    (dense_can s z same c.args.node c.args.degree c.args.threshold c.args.label c.args.side row empty can thin) (dense_room s z same c.args.node c.args.degree c.args.threshold c.args.label c.args.side row empty can thin room)))
+    (dense_can s z same c.args.node c.args.degree c.args.threshold c.args.label c.args.side row empty can thin)
+    (dense_room s z same c.args.node c.args.degree c.args.threshold c.args.label c.args.side row empty can thin room)))
 
 pub returns-in_err-make_dense-clause-writes : goal.returns-in_err-make_dense-clause-writes
 returns-in_err-make_dense-clause-writes g c =
@@ -84,7 +89,8 @@ returns-clause-opened g c = λ tells.
     let thin : ¬ IsDense s.records c.args.node = λ d. false≢true (sym c.if-branch.false ∙ (c.in_ok-is_dense.ensures.is tells).1 d) in
     if_ok c.open_group-2.result _ (λ (head : ChainHead). (row : RelRow) (empty : List ℕ) → CanOpen s c.args.node c.args.degree c.args.threshold c.args.label c.args.side row empty → OpensChain s t (head_of head) c.args.node row empty)
     (λ head f row empty can.
-    let becomes = c.in_ok-make_dense.ensures.made tells s.shape.threshold empty (dense_can s z same c.args.node c.args.degree c.args.threshold c.args.label c.args.side row empty can thin) in
+    let becomes = c.in_ok-make_dense.ensures.made tells s.shape.threshold empty
+    (dense_can s z same c.args.node c.args.degree c.args.threshold c.args.label c.args.side row empty can thin) in
     dense_opens s z same c.args.node c.args.degree c.args.threshold c.args.label c.args.side row empty can u becomes t (head_of head)
     (f row empty (dense_group_can s z same c.args.node c.args.degree c.args.threshold c.args.label c.args.side row empty can u becomes))) (c.open_group-2.ensures.opened tells)
 
@@ -95,7 +101,8 @@ returns-clause-sound g c = λ tells row empty can room.
     let u = g.S.Reads.state c.make_dense.new.space in
     let same = c.in_ok-is_dense.ensures.state in
     let thin : ¬ IsDense s.records c.args.node = λ d. false≢true (sym c.if-branch.false ∙ (c.in_ok-is_dense.ensures.is tells).1 d) in
-    let becomes = c.in_ok-make_dense.ensures.made tells s.shape.threshold empty (dense_can s z same c.args.node c.args.degree c.args.threshold c.args.label c.args.side row empty can thin) in
+    let becomes = c.in_ok-make_dense.ensures.made tells s.shape.threshold empty
+    (dense_can s z same c.args.node c.args.degree c.args.threshold c.args.label c.args.side row empty can thin) in
     c.open_group-2.ensures.sound tells row empty (dense_group_can s z same c.args.node c.args.degree c.args.threshold c.args.label c.args.side row empty can u becomes)
     (dense_group_room s z same c.args.node c.args.degree c.args.threshold c.args.label c.args.side row empty can u becomes room)
 
@@ -104,7 +111,8 @@ returns-clause-writes g c =
     let s = g.S.Reads.state c.args.space.now in
     let z = g.S.Reads.state c.is_dense.new.space in
     let u = g.S.Reads.state c.make_dense.new.space in
-    dense_beside s z (g.S.Reads.state c.open_group-2.new.space) c.args.node c.args.threshold c.args.degree c.in_ok-is_dense.ensures.state u c.if-degree-threshold.false c.in_ok-make_dense.ensures.wrote c.open_group-2.ensures.writes
+    dense_beside s z (g.S.Reads.state c.open_group-2.new.space) c.args.node c.args.threshold c.args.degree c.in_ok-is_dense.ensures.state u
+    c.if-degree-threshold.false c.in_ok-make_dense.ensures.wrote c.open_group-2.ensures.writes
 
 -- ---- what is written, by the head's own record
 pub returns-then-branch-clause-wrote : goal.returns-then-branch-clause-wrote
@@ -163,8 +171,10 @@ returns-then-branch-clause-unwritten g c = λ tells way.
     let s = g.S.Reads.state c.args.space.now in
     let z = g.S.Reads.state c.is_dense.new.space in
     let t = g.S.Reads.state c.open_group.new.space in
-    let dense = subst (λ (q : State). IsDense q.records c.args.node) (sym c.in_ok-is_dense.ensures.state) ((c.in_ok-is_dense.ensures.is tells).0 c.if-branch.true) in
-    if_damage c.open_group.result (SameButReads z t) (SameButReads s t) (λ k. same_twice s z t c.in_ok-is_dense.ensures.state k) (c.open_group.ensures.unwritten tells dense)
+    let dense = subst (λ (q : State). IsDense q.records c.args.node) (sym c.in_ok-is_dense.ensures.state)
+    ((c.in_ok-is_dense.ensures.is tells).0 c.if-branch.true) in
+    if_damage c.open_group.result (SameButReads z t) (SameButReads s t) (λ k. same_twice s z t c.in_ok-is_dense.ensures.state k)
+    (c.open_group.ensures.unwritten tells dense)
 
 pub returns-in_err-make_dense-clause-unwritten : goal.returns-in_err-make_dense-clause-unwritten
 returns-in_err-make_dense-clause-unwritten g c = λ tells way.
@@ -185,8 +195,10 @@ returns-in_err-is_dense-clause-blames g c = λ tells way le.
 pub returns-then-branch-clause-blames : goal.returns-then-branch-clause-blames
 returns-then-branch-clause-blames g c = λ tells way le.
     let z = g.S.Reads.state c.is_dense.new.space in
-    let dense = subst (λ (q : State). IsDense q.records c.args.node) (sym c.in_ok-is_dense.ensures.state) ((c.in_ok-is_dense.ensures.is tells).0 c.if-branch.true) in
-    not_opened z (g.S.Reads.state c.open_group.new.space) c.open_group.result (c.open_group.ensures.damaged tells dense) (c.open_group.ensures.unwritten tells dense)
+    let dense = subst (λ (q : State). IsDense q.records c.args.node) (sym c.in_ok-is_dense.ensures.state)
+    ((c.in_ok-is_dense.ensures.is tells).0 c.if-branch.true) in
+    not_opened z (g.S.Reads.state c.open_group.new.space) c.open_group.result (c.open_group.ensures.damaged tells dense)
+    (c.open_group.ensures.unwritten tells dense)
 
 pub returns-in_err-make_dense-clause-blames : goal.returns-in_err-make_dense-clause-blames
 returns-in_err-make_dense-clause-blames g c = λ tells way le.
@@ -200,7 +212,8 @@ pub returns-clause-blames : goal.returns-clause-blames
 returns-clause-blames g c = λ tells way le.
     let u = g.S.Reads.state c.make_dense.new.space in
     let dense = c.in_ok-make_dense.ensures.dense tells in
-    not_opened u (g.S.Reads.state c.open_group-2.new.space) c.open_group-2.result (c.open_group-2.ensures.damaged tells dense) (c.open_group-2.ensures.unwritten tells dense)
+    not_opened u (g.S.Reads.state c.open_group-2.new.space) c.open_group-2.result (c.open_group-2.ensures.damaged tells dense)
+    (c.open_group-2.ensures.unwritten tells dense)
 
 pub returns-in_err-is_dense-clause-cause : goal.returns-in_err-is_dense-clause-cause
 returns-in_err-is_dense-clause-cause g c =
@@ -208,7 +221,8 @@ returns-in_err-is_dense-clause-cause g c =
 
 pub returns-in_err-make_dense-clause-cause : goal.returns-in_err-make_dense-clause-cause
 returns-in_err-make_dense-clause-cause g c =
-    cause_passed _ _ _ c.from_residual-in_err-make_dense.result c.in_err-make_dense.field-0.0 c.in_ok-is_dense.ensures.cause.later c.in_err-make_dense.ensures.cause c.from_residual-in_err-make_dense.ensures.1
+    cause_passed _ _ _ c.from_residual-in_err-make_dense.result c.in_err-make_dense.field-0.0 c.in_ok-is_dense.ensures.cause.later
+    c.in_err-make_dense.ensures.cause c.from_residual-in_err-make_dense.ensures.1
 
 -- ---- what is told by the space as it is then, and where the head is
 
@@ -223,8 +237,10 @@ returns-in_err-is_dense-clause-told g c = λ tells le.
 pub returns-then-branch-clause-told : goal.returns-then-branch-clause-told
 returns-then-branch-clause-told g c = λ tells le.
     let z = g.S.Reads.state c.is_dense.new.space in
-    let dense = subst (λ (q : State). IsDense q.records c.args.node) (sym c.in_ok-is_dense.ensures.state) ((c.in_ok-is_dense.ensures.is tells).0 c.if-branch.true) in
-    end_opened z (g.S.Reads.state c.open_group.new.space) c.args.node c.open_group.result (c.open_group.ensures.damaged tells dense) (c.open_group.ensures.unwritten tells dense)
+    let dense = subst (λ (q : State). IsDense q.records c.args.node) (sym c.in_ok-is_dense.ensures.state)
+    ((c.in_ok-is_dense.ensures.is tells).0 c.if-branch.true) in
+    end_opened z (g.S.Reads.state c.open_group.new.space) c.args.node c.open_group.result (c.open_group.ensures.damaged tells dense)
+    (c.open_group.ensures.unwritten tells dense)
 
 pub returns-in_err-make_dense-clause-told : goal.returns-in_err-make_dense-clause-told
 returns-in_err-make_dense-clause-told g c = λ tells le.
@@ -237,21 +253,25 @@ returns-in_err-make_dense-clause-told g c = λ tells le.
 pub returns-clause-told : goal.returns-clause-told
 returns-clause-told g c = λ tells le.
     let dense = c.in_ok-make_dense.ensures.dense tells in
-    end_opened (g.S.Reads.state c.make_dense.new.space) (g.S.Reads.state c.open_group-2.new.space) c.args.node c.open_group-2.result (c.open_group-2.ensures.damaged tells dense) (c.open_group-2.ensures.unwritten tells dense)
+    end_opened (g.S.Reads.state c.make_dense.new.space) (g.S.Reads.state c.open_group-2.new.space) c.args.node c.open_group-2.result
+    (c.open_group-2.ensures.damaged tells dense) (c.open_group-2.ensures.unwritten tells dense)
 
 pub returns-then-branch-clause-at : goal.returns-then-branch-clause-at
-returns-then-branch-clause-at g c = if_ok c.open_group.result _ (λ (head : ChainHead). (head.key ≡ node_key c.args.node) ⊎ (head.key.file ≡ groups_file)) (λ head is. inr is) c.open_group.ensures.at
+returns-then-branch-clause-at g c = if_ok c.open_group.result _ (λ (head : ChainHead). (head.key ≡ node_key c.args.node) ⊎ (head.key.file ≡ groups_file))
+    (λ head is. inr is) c.open_group.ensures.at
 
 pub returns-then-degree-threshold-clause-at : goal.returns-then-degree-threshold-clause-at
 returns-then-degree-threshold-clause-at g c = inl (ap (λ (h : Head). h.key) c.node_head.ensures.is)
 
 pub returns-clause-at : goal.returns-clause-at
-returns-clause-at g c = if_ok c.open_group-2.result _ (λ (head : ChainHead). (head.key ≡ node_key c.args.node) ⊎ (head.key.file ≡ groups_file)) (λ head is. inr is) c.open_group-2.ensures.at
+returns-clause-at g c = if_ok c.open_group-2.result _ (λ (head : ChainHead). (head.key ≡ node_key c.args.node) ⊎ (head.key.file ≡ groups_file))
+    (λ head is. inr is) c.open_group-2.ensures.at
 
 -- ---- what is left of other records
 
 pub returns-in_err-is_dense-clause-stays : goal.returns-in_err-is_dense-clause-stays
-returns-in_err-is_dense-clause-stays g c = λ tells. on_damage c.from_residual.result _ (beside_read (g.S.Reads.state c.args.space.now) (g.S.Reads.state c.is_dense.new.space) c.args.node c.is_dense.ensures.state)
+returns-in_err-is_dense-clause-stays g c = λ tells. on_damage c.from_residual.result _
+    (beside_read (g.S.Reads.state c.args.space.now) (g.S.Reads.state c.is_dense.new.space) c.args.node c.is_dense.ensures.state)
 
 pub returns-then-branch-clause-beside : goal.returns-then-branch-clause-beside
 returns-then-branch-clause-beside g c = λ tells.
@@ -259,19 +279,23 @@ returns-then-branch-clause-beside g c = λ tells.
     let z = g.S.Reads.state c.is_dense.new.space in
     let t = g.S.Reads.state c.open_group.new.space in
     if_done c.open_group.result (LeavesBeside z.records t.records c.args.node) (LeavesBeside s.records t.records c.args.node)
-    (λ k. beside_then s.records z.records t.records c.args.node (beside_read s z c.args.node c.in_ok-is_dense.ensures.state) k) (c.open_group.ensures.beside tells)
+    (λ k. beside_then s.records z.records t.records c.args.node (beside_read s z c.args.node c.in_ok-is_dense.ensures.state) k)
+    (c.open_group.ensures.beside tells)
 
 pub returns-then-branch-clause-stays : goal.returns-then-branch-clause-stays
 returns-then-branch-clause-stays g c = λ tells.
     let s = g.S.Reads.state c.args.space.now in
     let z = g.S.Reads.state c.is_dense.new.space in
     let t = g.S.Reads.state c.open_group.new.space in
-    let dense = subst (λ (q : State). IsDense q.records c.args.node) (sym c.in_ok-is_dense.ensures.state) ((c.in_ok-is_dense.ensures.is tells).0 c.if-branch.true) in
+    let dense = subst (λ (q : State). IsDense q.records c.args.node) (sym c.in_ok-is_dense.ensures.state)
+    ((c.in_ok-is_dense.ensures.is tells).0 c.if-branch.true) in
     if_damage c.open_group.result (SameButReads z t) (LeavesBeside s.records t.records c.args.node)
-    (λ k. beside_then s.records z.records t.records c.args.node (beside_read s z c.args.node c.in_ok-is_dense.ensures.state) (beside_read z t c.args.node k)) (c.open_group.ensures.unwritten tells dense)
+    (λ k. beside_then s.records z.records t.records c.args.node (beside_read s z c.args.node c.in_ok-is_dense.ensures.state) (beside_read z t c.args.node k))
+    (c.open_group.ensures.unwritten tells dense)
 
 pub returns-then-degree-threshold-clause-beside : goal.returns-then-degree-threshold-clause-beside
-returns-then-degree-threshold-clause-beside g c = λ tells. beside_read (g.S.Reads.state c.args.space.now) (g.S.Reads.state c.is_dense.new.space) c.args.node c.in_ok-is_dense.ensures.state
+returns-then-degree-threshold-clause-beside g c = λ tells. beside_read (g.S.Reads.state c.args.space.now) (g.S.Reads.state c.is_dense.new.space) c.args.node
+    c.in_ok-is_dense.ensures.state
 
 pub returns-in_err-make_dense-clause-stays : goal.returns-in_err-make_dense-clause-stays
 returns-in_err-make_dense-clause-stays g c = λ tells.
@@ -286,7 +310,8 @@ returns-clause-beside g c = λ tells.
     let z = g.S.Reads.state c.is_dense.new.space in
     let u = g.S.Reads.state c.make_dense.new.space in
     let t = g.S.Reads.state c.open_group-2.new.space in
-    let first = beside_then s.records z.records u.records c.args.node (beside_read s z c.args.node c.in_ok-is_dense.ensures.state) (c.in_ok-make_dense.ensures.beside tells) in
+    let first = beside_then s.records z.records u.records c.args.node (beside_read s z c.args.node c.in_ok-is_dense.ensures.state)
+    (c.in_ok-make_dense.ensures.beside tells) in
     if_done c.open_group-2.result (LeavesBeside u.records t.records c.args.node) (LeavesBeside s.records t.records c.args.node)
     (λ k. beside_then s.records u.records t.records c.args.node first k) (c.open_group-2.ensures.beside tells)
 
@@ -296,9 +321,11 @@ returns-clause-stays g c = λ tells.
     let z = g.S.Reads.state c.is_dense.new.space in
     let u = g.S.Reads.state c.make_dense.new.space in
     let t = g.S.Reads.state c.open_group-2.new.space in
-    let first = beside_then s.records z.records u.records c.args.node (beside_read s z c.args.node c.in_ok-is_dense.ensures.state) (c.in_ok-make_dense.ensures.beside tells) in
+    let first = beside_then s.records z.records u.records c.args.node (beside_read s z c.args.node c.in_ok-is_dense.ensures.state)
+    (c.in_ok-make_dense.ensures.beside tells) in
     if_damage c.open_group-2.result (SameButReads u t) (LeavesBeside s.records t.records c.args.node)
-    (λ k. beside_then s.records u.records t.records c.args.node first (beside_read u t c.args.node k)) (c.open_group-2.ensures.unwritten tells (c.in_ok-make_dense.ensures.dense tells))
+    (λ k. beside_then s.records u.records t.records c.args.node first (beside_read u t c.args.node k))
+    (c.open_group-2.ensures.unwritten tells (c.in_ok-make_dense.ensures.dense tells))
 
 -- ---- the head is the node's, and other nodes have their heads still
 
@@ -337,7 +364,8 @@ returns-clause-heads g c = λ tells.
     let u = g.S.Reads.state c.make_dense.new.space in
     let t = g.S.Reads.state c.open_group-2.new.space in
     if_done c.open_group-2.result (KeepsHeads u t) (KeepsOtherHeads s t c.args.node)
-    (λ k. others_then s u t c.args.node (λ h n ne o. c.in_ok-make_dense.ensures.heads tells h n ne (heads_same s z c.in_ok-is_dense.ensures.state h n o)) k) (c.open_group-2.ensures.heads tells)
+    (λ k. others_then s u t c.args.node (λ h n ne o. c.in_ok-make_dense.ensures.heads tells h n ne (heads_same s z c.in_ok-is_dense.ensures.state h n o)) k)
+    (c.open_group-2.ensures.heads tells)
 
 pub returns-in_err-is_dense-clause-opened : goal.returns-in_err-is_dense-clause-opened
 returns-in_err-is_dense-clause-opened g c _ = never_ok c.from_residual.result _ _ c.from_residual.ensures.1

@@ -60,7 +60,8 @@ returns-clause-opened g c = λ tells row empty can.
     let is = c.in_ok-own.ensures.row tells [] s.shape.threshold empty keeps can.dense in
     let raised = c.in_ok-count_group.ensures.raised tells s.shape.threshold (c.in_ok-own.own.row.id ∷ empty)
     (can_raise s m c.args.node c.args.label c.in_ok-own.own.row c.args.side row empty can o.0 o.1 is) in
-    subst (λ (h : Head). OpensChain s t h c.args.node row empty) (sym c.group_head.ensures.is) (opens_group s m c.args.node c.args.label c.in_ok-own.own.row c.args.side row empty can o.0 o.1 t raised)
+    subst (λ (h : Head). OpensChain s t h c.args.node row empty) (sym c.group_head.ensures.is)
+    (opens_group s m c.args.node c.args.label c.in_ok-own.own.row c.args.side row empty can o.0 o.1 t raised)
 
 pub returns-clause-writes : goal.returns-clause-writes
 returns-clause-writes g c =
@@ -107,7 +108,8 @@ returns-in_err-count_group-clause-unwritten g c = λ tells dense.
     let fault = c.in_err-count_group.field-0.0 in
     let p = err_from_is_err_and c.from_residual-in_err-count_group.result c.from_residual-in_err-count_group.ensures.1 in
     rw (p.1, p.2) (⊎_elim (λ counted. absurd (false≢true (c.in_err-count_group.ensures.counted counted)))
-    (λ k. then_unwritten s m (g.S.Reads.state c.count_group.new.space) k.1 fault c.in_err-count_group.ensures.unwritten) (c.in_ok-own.ensures.group tells dense))
+    (λ k. then_unwritten s m (g.S.Reads.state c.count_group.new.space) k.1 fault c.in_err-count_group.ensures.unwritten)
+    (c.in_ok-own.ensures.group tells dense))
 
 pub returns-in_err-own-clause-cause : goal.returns-in_err-own-clause-cause
 returns-in_err-own-clause-cause g c =
@@ -115,7 +117,8 @@ returns-in_err-own-clause-cause g c =
 
 pub returns-in_err-count_group-clause-cause : goal.returns-in_err-count_group-clause-cause
 returns-in_err-count_group-clause-cause g c =
-    cause_passed _ _ _ c.from_residual-in_err-count_group.result c.in_err-count_group.field-0.0 c.in_ok-own.ensures.cause.later c.in_err-count_group.ensures.cause c.from_residual-in_err-count_group.ensures.1
+    cause_passed _ _ _ c.from_residual-in_err-count_group.result c.in_err-count_group.field-0.0 c.in_ok-own.ensures.cause.later
+    c.in_err-count_group.ensures.cause c.from_residual-in_err-count_group.ensures.1
 
 pub returns-clause-at : goal.returns-clause-at
 returns-clause-at g c = ap (λ (h : Head). h.key.file) c.group_head.ensures.is
@@ -135,7 +138,8 @@ returns-clause-owns g c = λ tells dense.
 
 pub returns-clause-heads : goal.returns-clause-heads
 returns-clause-heads g c = λ tells.
-    heads_then (g.S.Reads.state c.args.space.now) (g.S.Reads.state c.own_group.new.space) (g.S.Reads.state c.count_group.new.space) (c.in_ok-own.ensures.heads tells) (c.in_ok-count_group.ensures.heads tells)
+    heads_then (g.S.Reads.state c.args.space.now) (g.S.Reads.state c.own_group.new.space) (g.S.Reads.state c.count_group.new.space)
+    (c.in_ok-own.ensures.heads tells) (c.in_ok-count_group.ensures.heads tells)
 
 pub returns-in_err-own-clause-opened : goal.returns-in_err-own-clause-opened
 returns-in_err-own-clause-opened g c _ = never_ok c.from_residual.result _ _ c.from_residual.ensures.1

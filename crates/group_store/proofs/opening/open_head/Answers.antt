@@ -34,7 +34,8 @@ returns-then-not-branch-clause-found g c = λ tells most empty x row end.
     let s = g.S.Reads.state c.args.space.now in
     let z = g.S.Reads.state c.is_dense.new.space in
     let thin : ¬ IsDense s.records c.args.node = λ d. false≢true (sym c.if-not-branch.true ∙ (c.in_ok-is_dense.ensures.is tells).1 d) in
-    subst (λ (h : Head). FindsChain s z h c.args.node row most empty) (sym c.node_head.ensures.is) (finds_node s z c.in_ok-is_dense.ensures.state c.args.node c.args.label c.args.side most empty x row end thin)
+    subst (λ (h : Head). FindsChain s z h c.args.node row most empty) (sym c.node_head.ensures.is)
+    (finds_node s z c.in_ok-is_dense.ensures.state c.args.node c.args.label c.args.side most empty x row end thin)
 
 pub returns-in_err-group-clause-sound : goal.returns-in_err-group-clause-sound
 returns-in_err-group-clause-sound g c = λ tells most empty x row end.
@@ -144,7 +145,8 @@ returns-clause-wrote g c =
     let y = g.S.Reads.state c.find_group.new.space in
     let t = g.S.Reads.state c.count_group.new.space in
     let same = same_twice s z y c.in_ok-is_dense.ensures.state (only_read z y (1 + group_mark z) c.in_ok-group.ensures.at_most) in
-    subst (λ (k : Key). WritesOnly s t (k ∷ [])) (sym (ap (λ (h : Head). h.key) c.group_head.ensures.is)) (writes_after s y t (group_key c.in-Some.group.id ∷ []) same c.in_ok-count_group.ensures.writes)
+    subst (λ (k : Key). WritesOnly s t (k ∷ [])) (sym (ap (λ (h : Head). h.key) c.group_head.ensures.is))
+    (writes_after s y t (group_key c.in-Some.group.id ∷ []) same c.in_ok-count_group.ensures.writes)
 
 -- ---- damage
 
@@ -217,16 +219,20 @@ returns-in_err-is_dense-clause-cause g c =
 
 pub returns-in_err-group-clause-cause : goal.returns-in_err-group-clause-cause
 returns-in_err-group-clause-cause g c =
-    cause_passed _ _ _ c.from_residual-in_err-group.result c.in_err-group.field-0.0 c.in_ok-is_dense.ensures.cause.later c.in_err-group.ensures.cause c.from_residual-in_err-group.ensures.1
+    cause_passed _ _ _ c.from_residual-in_err-group.result c.in_err-group.field-0.0 c.in_ok-is_dense.ensures.cause.later c.in_err-group.ensures.cause
+    c.from_residual-in_err-group.ensures.1
 
 pub returns-in_err-count_group-clause-cause : goal.returns-in_err-count_group-clause-cause
 returns-in_err-count_group-clause-cause g c =
-    cause_passed _ _ _ c.from_residual-in_err-count_group.result c.in_err-count_group.field-0.0 (later_on c.in_ok-is_dense.ensures.cause.later c.in_ok-group.ensures.cause.later) c.in_err-count_group.ensures.cause c.from_residual-in_err-count_group.ensures.1
+    cause_passed _ _ _ c.from_residual-in_err-count_group.result c.in_err-count_group.field-0.0
+    (later_on c.in_ok-is_dense.ensures.cause.later c.in_ok-group.ensures.cause.later) c.in_err-count_group.ensures.cause
+    c.from_residual-in_err-count_group.ensures.1
 
 -- ---- heads
 
 pub returns-then-not-branch-clause-heads : goal.returns-then-not-branch-clause-heads
-returns-then-not-branch-clause-heads g c = λ tells. heads_same (g.S.Reads.state c.args.space.now) (g.S.Reads.state c.is_dense.new.space) c.in_ok-is_dense.ensures.state
+returns-then-not-branch-clause-heads g c = λ tells. heads_same (g.S.Reads.state c.args.space.now) (g.S.Reads.state c.is_dense.new.space)
+    c.in_ok-is_dense.ensures.state
 
 pub returns-then-not-branch-clause-owns : goal.returns-then-not-branch-clause-owns
 returns-then-not-branch-clause-owns g c = λ tells which.
@@ -261,7 +267,8 @@ returns-clause-owns g c = λ tells which.
 -- ---- what is left of other records
 
 pub returns-then-not-branch-clause-counts : goal.returns-then-not-branch-clause-counts
-returns-then-not-branch-clause-counts g c = λ tells. counted_read (g.S.Reads.state c.args.space.now) (g.S.Reads.state c.is_dense.new.space) c.in_ok-is_dense.ensures.state
+returns-then-not-branch-clause-counts g c = λ tells. counted_read (g.S.Reads.state c.args.space.now) (g.S.Reads.state c.is_dense.new.space)
+    c.in_ok-is_dense.ensures.state
 
 pub returns-clause-counts : goal.returns-clause-counts
 returns-clause-counts g c = λ tells.
@@ -272,7 +279,8 @@ returns-clause-counts g c = λ tells.
     let found = subst (IsFound z.records c.args.node c.args.label) c.in-Some.is (c.in_ok-group.ensures.found tells) in
     let same = only_read z y (1 + group_mark z) c.in_ok-group.ensures.at_most in
     let at = found_at s z y c.in_ok-is_dense.ensures.state same c.args.node c.args.label c.in-Some.group found in
-    counted_then s.records y.records t.records (counted_read s y (same_twice s z y c.in_ok-is_dense.ensures.state same)) (c.in_ok-count_group.ensures.counts tells at)
+    counted_then s.records y.records t.records (counted_read s y (same_twice s z y c.in_ok-is_dense.ensures.state same))
+    (c.in_ok-count_group.ensures.counts tells at)
 
 -- ---- where the relationship stands
 
@@ -379,4 +387,5 @@ returns-in_err-group-clause-onward g c =
 
 pub returns-in_err-count_group-clause-onward : goal.returns-in_err-count_group-clause-onward
 returns-in_err-count_group-clause-onward g c =
-    g.met.S.Reads.further_onward _ _ _ (g.met.S.Reads.further_onward _ _ _ c.in_ok-is_dense.ensures.onward c.in_ok-group.ensures.onward) c.in_err-count_group.ensures.onward
+    g.met.S.Reads.further_onward _ _ _ (g.met.S.Reads.further_onward _ _ _ c.in_ok-is_dense.ensures.onward c.in_ok-group.ensures.onward)
+    c.in_err-count_group.ensures.onward

@@ -84,8 +84,10 @@ returns-clause-counts g c = λ tells.
     let b = c.in_ok-into.into in
     let d = c.in_ok-loops.loops in
     let few : d < limit - a - b = omega (arith, c.if-limit-out.false, c.in_ok-loops.ensures.few) in
-    let into = counted_read s y (first_in row Into) node (members_of row.label Into) (limit - a) b c.in_ok-out.ensures.state (c.in_ok-into.ensures.counted tells) in
-    let loops = counted_read s z (first_in row Loop) node (members_of row.label Loop) (limit - a - b) d (same_twice s y z c.in_ok-out.ensures.state c.in_ok-into.ensures.state) (c.in_ok-loops.ensures.counted tells) in
+    let into = counted_read s y (first_in row Into) node (members_of row.label Into) (limit - a) b c.in_ok-out.ensures.state
+    (c.in_ok-into.ensures.counted tells) in
+    let loops = counted_read s z (first_in row Loop) node (members_of row.label Loop) (limit - a - b) d
+    (same_twice s y z c.in_ok-out.ensures.state c.in_ok-into.ensures.state) (c.in_ok-loops.ensures.counted tells) in
     record {
       out = (c.in_ok-out.ensures.counted tells).whole (omega arith);
       into = into.whole (omega arith);
@@ -98,11 +100,13 @@ returns-in_err-out-clause-cause g c =
 
 pub returns-in_err-into-clause-cause : goal.returns-in_err-into-clause-cause
 returns-in_err-into-clause-cause g c =
-    cause_passed _ _ _ c.from_residual-in_err-into.result c.in_err-into.field-0.0 c.in_ok-out.ensures.cause.later c.in_err-into.ensures.cause c.from_residual-in_err-into.ensures.1
+    cause_passed _ _ _ c.from_residual-in_err-into.result c.in_err-into.field-0.0 c.in_ok-out.ensures.cause.later c.in_err-into.ensures.cause
+    c.from_residual-in_err-into.ensures.1
 
 pub returns-in_err-loops-clause-cause : goal.returns-in_err-loops-clause-cause
 returns-in_err-loops-clause-cause g c =
-    cause_passed _ _ _ c.from_residual-in_err-loops.result c.in_err-loops.field-0.0 (later_on c.in_ok-out.ensures.cause.later c.in_ok-into.ensures.cause.later) c.in_err-loops.ensures.cause c.from_residual-in_err-loops.ensures.1
+    cause_passed _ _ _ c.from_residual-in_err-loops.result c.in_err-loops.field-0.0 (later_on c.in_ok-out.ensures.cause.later c.in_ok-into.ensures.cause.later)
+    c.in_err-loops.ensures.cause c.from_residual-in_err-loops.ensures.1
 
 pub returns-in_err-out-clause-counts : goal.returns-in_err-out-clause-counts
 returns-in_err-out-clause-counts g c _ = never_ok c.from_residual.result _ _ c.from_residual.ensures.1
@@ -123,10 +127,12 @@ pub returns-in_err-out-clause-names : goal.returns-in_err-out-clause-names
 returns-in_err-out-clause-names g c tells = same_has _ c.from_residual.result _ c.from_residual.ensures.1 (c.in_err-out.ensures.names tells)
 
 pub returns-in_err-into-clause-names : goal.returns-in_err-into-clause-names
-returns-in_err-into-clause-names g c tells = same_has _ c.from_residual-in_err-into.result _ c.from_residual-in_err-into.ensures.1 (c.in_err-into.ensures.names tells)
+returns-in_err-into-clause-names g c tells = same_has _ c.from_residual-in_err-into.result _ c.from_residual-in_err-into.ensures.1
+    (c.in_err-into.ensures.names tells)
 
 pub returns-in_err-loops-clause-names : goal.returns-in_err-loops-clause-names
-returns-in_err-loops-clause-names g c tells = same_has _ c.from_residual-in_err-loops.result _ c.from_residual-in_err-loops.ensures.1 (c.in_err-loops.ensures.names tells)
+returns-in_err-loops-clause-names g c tells = same_has _ c.from_residual-in_err-loops.result _ c.from_residual-in_err-loops.ensures.1
+    (c.in_err-loops.ensures.names tells)
 
 pub returns-in_err-out-clause-state : goal.returns-in_err-out-clause-state
 returns-in_err-out-clause-state g c = c.in_err-out.ensures.state

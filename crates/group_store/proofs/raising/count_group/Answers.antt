@@ -11,7 +11,8 @@ use Rattle.chain_edit.proofs.Causes.{same_has, space_has}
 use Rattle.group_store.proofs.raising.count_group.Goals as goal
 
 pub returns-then-row-clause-raised : goal.returns-then-row-clause-raised
-returns-then-row-clause-raised g c = λ tells most empty can. raises_none (g.S.Reads.state c.args.space.now) c.args.node c.args.row.now most empty can c.if-row.true
+returns-then-row-clause-raised g c = λ tells most empty can. raises_none (g.S.Reads.state c.args.space.now) c.args.node c.args.row.now most empty can
+    c.if-row.true
 
 pub returns-clause-raised : goal.returns-clause-raised
 returns-clause-raised g c = λ tells most empty can.
@@ -32,11 +33,14 @@ returns-in_err-rec-clause-cause g c =
 
 pub returns-in_err-counts-clause-cause : goal.returns-in_err-counts-clause-cause
 returns-in_err-counts-clause-cause g c =
-    cause_passed _ _ _ c.from_residual-in_err-counts.result c.in_err-counts.field-0.0 c.in_ok-rec.ensures.cause.later c.in_err-counts.ensures.cause c.from_residual-in_err-counts.ensures.1
+    cause_passed _ _ _ c.from_residual-in_err-counts.result c.in_err-counts.field-0.0 c.in_ok-rec.ensures.cause.later c.in_err-counts.ensures.cause
+    c.from_residual-in_err-counts.ensures.1
 
 pub returns-in_err-set_counts-clause-cause : goal.returns-in_err-set_counts-clause-cause
 returns-in_err-set_counts-clause-cause g c =
-    space_cause_passed _ _ _ c.from_residual-in_err-set_counts.result c.in_err-set_counts.field-0.0 (later_on c.in_ok-rec.ensures.cause.later c.in_ok-counts.ensures.cause.later) c.in_err-set_counts.ensures.cause c.from_residual-in_err-set_counts.ensures.1
+    space_cause_passed _ _ _ c.from_residual-in_err-set_counts.result c.in_err-set_counts.field-0.0
+    (later_on c.in_ok-rec.ensures.cause.later c.in_ok-counts.ensures.cause.later) c.in_err-set_counts.ensures.cause
+    c.from_residual-in_err-set_counts.ensures.1
 
 -- ---- heads
 pub returns-then-row-clause-heads : goal.returns-then-row-clause-heads
@@ -48,7 +52,8 @@ returns-clause-heads g c = λ tells.
     let y = g.S.Reads.state c.get.new.self in
     let z = g.S.Reads.state c.count_chains.new.space in
     let t = g.S.Reads.state c.set_counts.new.space in
-    heads_raised s z t c.args.row.now.id c.in_ok-counts.counts (same_twice s y z (got_same s y c.in_ok-rec.ensures.state) c.in_ok-counts.ensures.state) (c.in_ok-set_counts.ensures.ok tells)
+    heads_raised s z t c.args.row.now.id c.in_ok-counts.counts (same_twice s y z (got_same s y c.in_ok-rec.ensures.state) c.in_ok-counts.ensures.state)
+    (c.in_ok-set_counts.ensures.ok tells)
 
 -- ---- what is left of other records
 
@@ -60,7 +65,8 @@ returns-clause-beside g c = λ tells.
     let s = g.S.Reads.state c.args.space.now in
     let y = g.S.Reads.state c.get.new.self in
     let z = g.S.Reads.state c.count_chains.new.space in
-    beside_raised s z (g.S.Reads.state c.set_counts.new.space) c.args.node c.args.row.now.id c.in_ok-counts.counts (same_twice s y z (got_same s y c.in_ok-rec.ensures.state) c.in_ok-counts.ensures.state) (c.in_ok-set_counts.ensures.ok tells)
+    beside_raised s z (g.S.Reads.state c.set_counts.new.space) c.args.node c.args.row.now.id c.in_ok-counts.counts
+    (same_twice s y z (got_same s y c.in_ok-rec.ensures.state) c.in_ok-counts.ensures.state) (c.in_ok-set_counts.ensures.ok tells)
 
 pub returns-then-row-clause-counts : goal.returns-then-row-clause-counts
 returns-then-row-clause-counts g c = λ tells at. counted_none (g.S.Reads.state c.args.space.now).records
@@ -70,7 +76,8 @@ returns-clause-counts g c = λ tells at.
     let s = g.S.Reads.state c.args.space.now in
     let y = g.S.Reads.state c.get.new.self in
     let z = g.S.Reads.state c.count_chains.new.space in
-    counted_raised s z (g.S.Reads.state c.set_counts.new.space) c.args.node c.args.row.now.id c.in_ok-counts.counts at.member (same_twice s y z (got_same s y c.in_ok-rec.ensures.state) c.in_ok-counts.ensures.state) (c.in_ok-set_counts.ensures.ok tells)
+    counted_raised s z (g.S.Reads.state c.set_counts.new.space) c.args.node c.args.row.now.id c.in_ok-counts.counts at.member
+    (same_twice s y z (got_same s y c.in_ok-rec.ensures.state) c.in_ok-counts.ensures.state) (c.in_ok-set_counts.ensures.ok tells)
 
 pub returns-in_err-rec-clause-raised : goal.returns-in_err-rec-clause-raised
 returns-in_err-rec-clause-raised g c _ = never_ok c.from_residual.result _ _ c.from_residual.ensures.1
@@ -124,19 +131,24 @@ pub returns-in_err-rec-clause-unwritten : goal.returns-in_err-rec-clause-unwritt
 returns-in_err-rec-clause-unwritten g c = space_has _ tt tt c.from_residual.result c.in_err-rec.field-0.0 c.from_residual.ensures.1
 
 pub returns-in_err-set_counts-clause-sound : goal.returns-in_err-set_counts-clause-sound
-returns-in_err-set_counts-clause-sound g c _ _ _ _ = space_has _ tt tt c.from_residual-in_err-set_counts.result c.in_err-set_counts.field-0.0 c.from_residual-in_err-set_counts.ensures.1
+returns-in_err-set_counts-clause-sound g c _ _ _ _ = space_has _ tt tt c.from_residual-in_err-set_counts.result c.in_err-set_counts.field-0.0
+    c.from_residual-in_err-set_counts.ensures.1
 
 pub returns-in_err-set_counts-clause-breaks : goal.returns-in_err-set_counts-clause-breaks
-returns-in_err-set_counts-clause-breaks g c _ _ = space_has _ tt tt c.from_residual-in_err-set_counts.result c.in_err-set_counts.field-0.0 c.from_residual-in_err-set_counts.ensures.1
+returns-in_err-set_counts-clause-breaks g c _ _ = space_has _ tt tt c.from_residual-in_err-set_counts.result c.in_err-set_counts.field-0.0
+    c.from_residual-in_err-set_counts.ensures.1
 
 pub returns-in_err-set_counts-clause-names : goal.returns-in_err-set_counts-clause-names
-returns-in_err-set_counts-clause-names g c _ = space_has _ tt tt c.from_residual-in_err-set_counts.result c.in_err-set_counts.field-0.0 c.from_residual-in_err-set_counts.ensures.1
+returns-in_err-set_counts-clause-names g c _ = space_has _ tt tt c.from_residual-in_err-set_counts.result c.in_err-set_counts.field-0.0
+    c.from_residual-in_err-set_counts.ensures.1
 
 pub returns-in_err-set_counts-clause-unwritten : goal.returns-in_err-set_counts-clause-unwritten
-returns-in_err-set_counts-clause-unwritten g c = space_has _ tt tt c.from_residual-in_err-set_counts.result c.in_err-set_counts.field-0.0 c.from_residual-in_err-set_counts.ensures.1
+returns-in_err-set_counts-clause-unwritten g c = space_has _ tt tt c.from_residual-in_err-set_counts.result c.in_err-set_counts.field-0.0
+    c.from_residual-in_err-set_counts.ensures.1
 
 pub returns-in_err-counts-clause-names : goal.returns-in_err-counts-clause-names
-returns-in_err-counts-clause-names g c tells = same_has _ c.from_residual-in_err-counts.result _ c.from_residual-in_err-counts.ensures.1 (c.in_err-counts.ensures.names tells)
+returns-in_err-counts-clause-names g c tells = same_has _ c.from_residual-in_err-counts.result _ c.from_residual-in_err-counts.ensures.1
+    (c.in_err-counts.ensures.names tells)
 
 pub returns-in_err-counts-clause-onward : goal.returns-in_err-counts-clause-onward
 returns-in_err-counts-clause-onward g c =
@@ -144,4 +156,5 @@ returns-in_err-counts-clause-onward g c =
 
 pub returns-in_err-set_counts-clause-onward : goal.returns-in_err-set_counts-clause-onward
 returns-in_err-set_counts-clause-onward g c =
-    g.met.S.Reads.further_onward _ _ _ (g.met.S.Reads.further_onward _ _ _ c.in_ok-rec.ensures.onward c.in_ok-counts.ensures.onward) c.in_err-set_counts.ensures.onward
+    g.met.S.Reads.further_onward _ _ _ (g.met.S.Reads.further_onward _ _ _ c.in_ok-rec.ensures.onward c.in_ok-counts.ensures.onward)
+    c.in_err-set_counts.ensures.onward

@@ -25,7 +25,8 @@ pub returns-in_default-clause-damaged : goal.returns-in_default-clause-damaged
 returns-in_default-clause-damaged g c = λ tells.
     let s = g.R.Reads.state c.args.space.now in
     let none = rel_at-None s.records c.args.at (sym (c.in_ok-row.ensures.found tells) ∙ c.in_default.is) in
-    subst (λ (d : Damage). IsStepDamage s c.args.node c.args.before c.args.at d) (sym c.rels_damage.ensures) (NotMet (λ m. false≢true (sym (ap (stands_in c.args.node) none) ∙ m.stands)))
+    subst (λ (d : Damage). IsStepDamage s c.args.node c.args.before c.args.at d) (sym c.rels_damage.ensures)
+    (NotMet (λ m. false≢true (sym (ap (stands_in c.args.node) none) ∙ m.stands)))
 
 pub returns-in_default-clause-state : goal.returns-in_default-clause-state
 returns-in_default-clause-state g c = only_loads (g.R.Reads.state c.args.space.now) (g.R.Reads.state c.load.new.space) c.args.at c.load.ensures.state
@@ -34,7 +35,8 @@ pub returns-then-not-is_at-clause-damaged : goal.returns-then-not-is_at-clause-d
 returns-then-not-is_at-clause-damaged g c = λ tells.
     let s = g.R.Reads.state c.args.space.now in
     let stands = row_stands s.records c.args.node c.args.at c.in-Some.row (sym c.in-Some.is ∙ c.in_ok-row.ensures.found tells) in
-    subst (λ (d : Damage). IsStepDamage s c.args.node c.args.before c.args.at d) (sym c.rels_damage-then-not-is_at.ensures) (NotMet (λ m. false≢true (sym (stands ∙ sym c.is_at.ensures ∙ c.if-not-is_at.true) ∙ m.stands)))
+    subst (λ (d : Damage). IsStepDamage s c.args.node c.args.before c.args.at d) (sym c.rels_damage-then-not-is_at.ensures)
+    (NotMet (λ m. false≢true (sym (stands ∙ sym c.is_at.ensures ∙ c.if-not-is_at.true) ∙ m.stands)))
 
 pub returns-then-not-is_at-clause-state : goal.returns-then-not-is_at-clause-state
 returns-then-not-is_at-clause-state g c = only_loads (g.R.Reads.state c.args.space.now) (g.R.Reads.state c.load.new.space) c.args.at c.load.ensures.state
@@ -42,8 +44,10 @@ returns-then-not-is_at-clause-state g c = only_loads (g.R.Reads.state c.args.spa
 pub returns-then-links-before-clause-damaged : goal.returns-then-links-before-clause-damaged
 returns-then-links-before-clause-damaged g c = λ tells.
     let s = g.R.Reads.state c.args.space.now in
-    let links = links_are s.records c.args.node c.args.at c.in-Some.row c.end_links-links.result (sym c.in-Some.is ∙ c.in_ok-row.ensures.found tells) c.end_links-links.ensures.of_record in
-    subst (λ (d : Damage). IsStepDamage s c.args.node c.args.before c.args.at d) (sym c.rels_damage-then-links-before.ensures) (NotMet (λ m. c.if-links-before.true (links.0 ∙ m.back)))
+    let links = links_are s.records c.args.node c.args.at c.in-Some.row c.end_links-links.result (sym c.in-Some.is ∙ c.in_ok-row.ensures.found tells)
+    c.end_links-links.ensures.of_record in
+    subst (λ (d : Damage). IsStepDamage s c.args.node c.args.before c.args.at d) (sym c.rels_damage-then-links-before.ensures)
+    (NotMet (λ m. c.if-links-before.true (links.0 ∙ m.back)))
 
 pub returns-then-links-before-clause-state : goal.returns-then-links-before-clause-state
 returns-then-links-before-clause-state g c = only_loads (g.R.Reads.state c.args.space.now) (g.R.Reads.state c.load.new.space) c.args.at c.load.ensures.state

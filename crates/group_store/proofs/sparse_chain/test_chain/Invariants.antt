@@ -12,7 +12,8 @@ invariant-loop g l =
     let s = g.R.Reads.state l.fn.space in
     record {
       same : SameButReads s (g.R.Reads.state l.space);
-      tail : g.R.Reads.tells → l.fn.first ≡ first_link s.records l.fn.node → (xs : List ℕ) → IsHeadChain s.records (node_head l.fn.node) l.fn.node xs → HasTail s l.fn.node l.before l.at l.counter xs;
+      tail : g.R.Reads.tells → l.fn.first ≡ first_link s.records l.fn.node → (xs : List ℕ) → IsHeadChain s.records (node_head l.fn.node) l.fn.node xs
+          → HasTail s l.fn.node l.before l.at l.counter xs;
       met : g.R.Reads.tells → HasMet s l.fn.node l.before l.counter;
       crossed : g.R.Reads.tells → HasCrossed s l.fn.node l.fn.first l.at l.counter;
       onward : g.R.Reads.onward l.fn.space l.space;

@@ -26,13 +26,15 @@ pub returns-in_err-first-clause-at_most : goal.returns-in_err-first-clause-at_mo
 returns-in_err-first-clause-at_most g c =
     let s = g.R.Reads.state c.args.space.now in
     let u = g.R.Reads.state c.get.new.self in
-    reads_then s u (g.R.Reads.state c.first_group.new.space) 1 1 (2 + group_mark s) (omega arith) (reads_one s u c.get.ensures.state) c.in_err-first.ensures.at_most
+    reads_then s u (g.R.Reads.state c.first_group.new.space) 1 1 (2 + group_mark s) (omega arith) (reads_one s u c.get.ensures.state)
+    c.in_err-first.ensures.at_most
 
 pub returns-in-None-clause-at_most : goal.returns-in-None-clause-at_most
 returns-in-None-clause-at_most g c =
     let s = g.R.Reads.state c.args.space.now in
     let u = g.R.Reads.state c.get.new.self in
-    reads_then s u (g.R.Reads.state c.first_group.new.space) 1 1 (2 + group_mark s) (omega arith) (reads_one s u c.get.ensures.state) c.in_ok-first.ensures.at_most
+    reads_then s u (g.R.Reads.state c.first_group.new.space) 1 1 (2 + group_mark s) (omega arith) (reads_one s u c.get.ensures.state)
+    c.in_ok-first.ensures.at_most
 
 pub returns-in-Some-clause-at_most : goal.returns-in-Some-clause-at_most
 returns-in-Some-clause-at_most g c =
@@ -40,7 +42,8 @@ returns-in-Some-clause-at_most g c =
     let u = g.R.Reads.state c.get.new.self in
     let v = g.R.Reads.state c.first_group.new.space in
     let w = g.R.Reads.state c.seek_twin.new.space in
-    reads_more_groups s v w 2 0 (2 + group_mark s) (reads_then s u v 1 1 2 (omega arith) (reads_one s u c.get.ensures.state) c.in_ok-first.ensures.at_most) (omega arith)
+    reads_more_groups s v w 2 0 (2 + group_mark s) (reads_then s u v 1 1 2 (omega arith) (reads_one s u c.get.ensures.state) c.in_ok-first.ensures.at_most)
+    (omega arith)
     (reads_fewer v w (group_mark v) (0 + group_mark v) (omega arith) c.seek_twin.ensures.at_most)
 
 -- ---- what is found
@@ -53,9 +56,12 @@ returns-in-Some-clause-found g c = λ tells.
     let one = reads_one s u c.get.ensures.state in
     let same = same_records s u (only_read s u 1 one) in
     let first : IsDense s.records c.args.node × (c.in-Some.first ≡ first_link s.records c.args.node)
-    = subst (λ (r : Records). IsDense r c.args.node × (c.in-Some.first ≡ first_link r c.args.node)) same (subst (IsFirst u.records c.args.node) c.in-Some.is (c.in_ok-first.ensures.first tells)) in
-    let typed : type_of s.records c.args.group ≡ c.number-label.result = sym (c.number-label.ensures ∙ ap (λ (r : Rec). field 4 r format.group_type) (c.in_ok-rec.ensures.got tells)) in
-    met_then s v c.args.node c.in-Some.first c.args.group c.number-label.result c.seek_twin.result (only_read s v 2 (reads_then s u v 1 1 2 (omega arith) one c.in_ok-first.ensures.at_most))
+    = subst (λ (r : Records). IsDense r c.args.node × (c.in-Some.first ≡ first_link r c.args.node)) same
+    (subst (IsFirst u.records c.args.node) c.in-Some.is (c.in_ok-first.ensures.first tells)) in
+    let typed : type_of s.records c.args.group ≡ c.number-label.result =
+    sym (c.number-label.ensures ∙ ap (λ (r : Rec). field 4 r format.group_type) (c.in_ok-rec.ensures.got tells)) in
+    met_then s v c.args.node c.in-Some.first c.args.group c.number-label.result c.seek_twin.result
+    (only_read s v 2 (reads_then s u v 1 1 2 (omega arith) one c.in_ok-first.ensures.at_most))
     first.0 first.1 typed (c.seek_twin.ensures.met tells)
 
 pub returns-in-None-clause-found : goal.returns-in-None-clause-found
@@ -82,8 +88,10 @@ returns-in-Some-clause-damaged g c = λ tells.
     let one = reads_one s u c.get.ensures.state in
     let same = same_records s u (only_read s u 1 one) in
     let first : IsDense s.records c.args.node × (c.in-Some.first ≡ first_link s.records c.args.node)
-    = subst (λ (r : Records). IsDense r c.args.node × (c.in-Some.first ≡ first_link r c.args.node)) same (subst (IsFirst u.records c.args.node) c.in-Some.is (c.in_ok-first.ensures.first tells)) in
-    walk_then s v c.args.node c.in-Some.first c.seek_twin.result (only_read s v 2 (reads_then s u v 1 1 2 (omega arith) one c.in_ok-first.ensures.at_most)) first.0 first.1 (c.seek_twin.ensures.damaged tells)
+    = subst (λ (r : Records). IsDense r c.args.node × (c.in-Some.first ≡ first_link r c.args.node)) same
+    (subst (IsFirst u.records c.args.node) c.in-Some.is (c.in_ok-first.ensures.first tells)) in
+    walk_then s v c.args.node c.in-Some.first c.seek_twin.result (only_read s v 2 (reads_then s u v 1 1 2 (omega arith) one c.in_ok-first.ensures.at_most))
+    first.0 first.1 (c.seek_twin.ensures.damaged tells)
 
 pub returns-in_err-rec-clause-found : goal.returns-in_err-rec-clause-found
 returns-in_err-rec-clause-found g c _ = never_ok c.from_residual.result _ _ c.from_residual.ensures.1

@@ -10,7 +10,8 @@ use Rattle.group_store.proofs.GroupRules.{group_owned}
 use Rattle.group_store.specs.Loading.{group_mark}
 use Rattle.group_store.specs.Walking.{IsWalkDamage}
 use Rattle.group_store.specs.Walking.IsWalkDamage.{NoList}
-use Rattle.group_store.proofs.GroupWalks.{few_owned, left_more, left_none, link_then, member_then, passed_all, passed_more, passed_none, read_next, reads_more, rec_then, walk_fault}
+use Rattle.group_store.proofs.GroupWalks.{few_owned, left_more, left_none, link_then, member_then, passed_all}
+use Rattle.group_store.proofs.GroupWalks.{passed_more, passed_none, read_next, reads_more, rec_then, walk_fault}
 use Rattle.group_store.proofs.TwinLaws.{lone_more, lone_none, no_twin, twin_is}
 use Rattle.rec_bytes.proofs.Causes.{never_ok}
 use Rattle.group_store.proofs.twins.seek_twin.Goals as goal
@@ -39,17 +40,21 @@ loop-preserved g c =
           let met = c.loop.invariant.met tells in
           let member = member_then s now c.loop.counter c.args.node c.loop.at c.loop.invariant.read (c.in_ok-rec.ensures.member tells) in
           let got = rec_then s now c.loop.counter c.loop.at c.in_ok-rec.rec c.loop.invariant.read (c.in_ok-rec.ensures.got tells) in
-          let link = link_then s now c.loop.counter c.loop.at c.number-at.result c.in_ok-rec.rec c.loop.invariant.read (c.in_ok-rec.ensures.got tells) c.number-at.ensures in (
+          let link = link_then s now c.loop.counter c.loop.at c.number-at.result c.in_ok-rec.rec c.loop.invariant.read (c.in_ok-rec.ensures.got tells)
+          c.number-at.ensures in (
             met.0 ++ c.loop.at ∷ [],
             passed_more s.records c.args.node c.args.first c.loop.at c.number-at.result met.0 some member link met.1,
             lone_more s.records c.args.group c.args.label c.loop.at met.0
                 (λ e. no_twin c.in_ok-rec.rec c.loop.at c.args.group c.args.label (sym c.is_twin.ensures ∙ c.if-is_twin.false) (ap (λ (r : Rec). field 4 r format.group_type) got ∙ e)) met.2,
           );
       left = λ tells xs walk few.
-          let link = link_then s now c.loop.counter c.loop.at c.number-at.result c.in_ok-rec.rec c.loop.invariant.read (c.in_ok-rec.ensures.got tells) c.number-at.ensures in
-          left_more s.records (c.meta-budget.result.high - c.loop.counter) (c.meta-budget.result.high - (c.loop.counter + 1)) c.loop.at c.number-at.result xs less some link (c.loop.invariant.left tells xs walk few);
+          let link = link_then s now c.loop.counter c.loop.at c.number-at.result c.in_ok-rec.rec c.loop.invariant.read (c.in_ok-rec.ensures.got tells)
+          c.number-at.ensures in
+          left_more s.records (c.meta-budget.result.high - c.loop.counter) (c.meta-budget.result.high - (c.loop.counter + 1)) c.loop.at c.number-at.result xs
+          less some link (c.loop.invariant.left tells xs walk few);
       on = λ tells is dense own.
-          let link = link_then s now c.loop.counter c.loop.at c.number-at.result c.in_ok-rec.rec c.loop.invariant.read (c.in_ok-rec.ensures.got tells) c.number-at.ensures in
+          let link = link_then s now c.loop.counter c.loop.at c.number-at.result c.in_ok-rec.rec c.loop.invariant.read (c.in_ok-rec.ensures.got tells)
+          c.number-at.ensures in
           let member = member_then s now c.loop.counter c.args.node c.loop.at c.loop.invariant.read (c.in_ok-rec.ensures.member tells) in
           Next c.loop.at c.number-at.result (c.loop.invariant.on tells is dense (group_owned s.records c.args.node c.loop.at member)) (sym link) own;
       read = read_next s now (g.R.Reads.state c.read_member.new.space) c.loop.counter (c.loop.counter + 1) refl c.loop.invariant.read c.in_ok-rec.ensures.read;
@@ -88,14 +93,16 @@ returns-in_err-rec-clause-at_most g c =
     let s = g.R.Reads.state c.args.space.now in
     let mark : c.meta-budget.result.high ≡ group_mark s = ap (λ (m : Meta). m.high) c.meta-budget.ensures in
     let lt = c.loop-test.true in
-    reads_more s (g.R.Reads.state c.loop.space) (g.R.Reads.state c.read_member.new.space) c.loop.counter 1 (group_mark s) (omega arith) c.loop.invariant.read c.in_err-rec.ensures.at_most
+    reads_more s (g.R.Reads.state c.loop.space) (g.R.Reads.state c.read_member.new.space) c.loop.counter 1 (group_mark s) (omega arith) c.loop.invariant.read
+    c.in_err-rec.ensures.at_most
 
 pub returns-then-is_twin-clause-at_most : goal.returns-then-is_twin-clause-at_most
 returns-then-is_twin-clause-at_most g c =
     let s = g.R.Reads.state c.args.space.now in
     let mark : c.meta-budget.result.high ≡ group_mark s = ap (λ (m : Meta). m.high) c.meta-budget.ensures in
     let lt = c.loop-test.true in
-    reads_more s (g.R.Reads.state c.loop.space) (g.R.Reads.state c.read_member.new.space) c.loop.counter 1 (group_mark s) (omega arith) c.loop.invariant.read c.in_ok-rec.ensures.at_most
+    reads_more s (g.R.Reads.state c.loop.space) (g.R.Reads.state c.read_member.new.space) c.loop.counter 1 (group_mark s) (omega arith) c.loop.invariant.read
+    c.in_ok-rec.ensures.at_most
 
 pub returns-in_err-rec-clause-damaged : goal.returns-in_err-rec-clause-damaged
 returns-in_err-rec-clause-damaged g c = λ tells.

@@ -14,8 +14,10 @@ invariant-loop g l =
     let s = g.R.Reads.state l.fn.space in
     record {
       met : g.R.Reads.tells → (ms : List ℕ) × HasPassed s.records l.node l.fn.first l.at ms × ((k : ℕ) → In k ms → type_of s.records k ≡ l.label → k ≡ l.group);
-      left : g.R.Reads.tells → (xs : List ℕ) → IsWalk (next_group s.records) l.fn.first xs → length xs ≤ group_mark s → IsLeft s.records xs (l.budget - l.counter) l.at;
-      on : g.R.Reads.tells → l.fn.first ≡ first_link s.records l.node → IsDense s.records l.node → IsOwnedBy s.records l.node l.at → IsOnChain s.records l.node l.at;
+      left : g.R.Reads.tells → (xs : List ℕ) → IsWalk (next_group s.records) l.fn.first xs → length xs ≤ group_mark s
+          → IsLeft s.records xs (l.budget - l.counter) l.at;
+      on : g.R.Reads.tells → l.fn.first ≡ first_link s.records l.node → IsDense s.records l.node → IsOwnedBy s.records l.node l.at
+          → IsOnChain s.records l.node l.at;
       read : g.R.Reads.state l.space ≡ after_gets l.counter s;
       onward : g.R.Reads.onward l.fn.space l.space;
       later : g.R.Reads.faults l.fn.space ≤ g.R.Reads.faults l.space;

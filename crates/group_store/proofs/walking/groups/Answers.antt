@@ -7,7 +7,9 @@ use Rattle.group_store.specs.GroupRecord.{row_of}
 use Rattle.group_store.specs.Loading.{group_mark}
 use Rattle.group_store.specs.Walking.{IsWalkDamage, group_row_at}
 use Rattle.group_store.specs.Walking.IsWalkDamage.{NoList}
-use Rattle.group_store.proofs.GroupWalks.{few_groups, few_owned, few_next, few_then, left_more, left_none, link_then, member_then, passed_all, passed_more, passed_none, read_next, reads_more, reads_so_far, rec_then, rows_more, not_damaged_at, undamaged, walk_fault}
+use Rattle.group_store.proofs.GroupWalks.{few_groups, few_owned, few_next, few_then, left_more, left_none, link_then}
+use Rattle.group_store.proofs.GroupWalks.{member_then, passed_all, passed_more, passed_none, read_next, reads_more}
+use Rattle.group_store.proofs.GroupWalks.{reads_so_far, rec_then, rows_more, not_damaged_at, undamaged, walk_fault}
 use Rattle.group_store.proofs.Causes.{cause_passed, later_on, memory_cause}
 use Rattle.rec_bytes.proofs.Causes.{never_ok}
 use Rattle.chain_edit.proofs.Causes.{same_has}
@@ -40,16 +42,20 @@ loop-preserved g c =
           let met = c.loop.invariant.met tells in
           let member = member_then s now (length rows) c.args.row.now.id c.loop.at c.loop.invariant.read (c.in_ok-rec.ensures.member tells) in
           let got = rec_then s now (length rows) c.loop.at c.in_ok-rec.rec c.loop.invariant.read (c.in_ok-rec.ensures.got tells) in
-          let link = link_then s now (length rows) c.loop.at c.number-at.result c.in_ok-rec.rec c.loop.invariant.read (c.in_ok-rec.ensures.got tells) c.number-at.ensures in (
+          let link = link_then s now (length rows) c.loop.at c.number-at.result c.in_ok-rec.rec c.loop.invariant.read (c.in_ok-rec.ensures.got tells)
+          c.number-at.ensures in (
             met.0 ++ c.loop.at ∷ [],
             passed_more s.records c.args.row.now.id c.args.row.now.first c.loop.at c.number-at.result met.0 some member link met.1,
             c.in_ok-push.ensures.items ∙ rows_more s.records met.0 rows c.row_of.result c.loop.at (c.row_of.ensures ∙ ap (λ r. row_of r c.loop.at) got) met.2,
           );
       left = λ tells xs walk few.
-          let link = link_then s now (length rows) c.loop.at c.number-at.result c.in_ok-rec.rec c.loop.invariant.read (c.in_ok-rec.ensures.got tells) c.number-at.ensures in
-          left_more s.records (c.meta-budget.result.high - c.loop.counter) (c.meta-budget.result.high - (c.loop.counter + 1)) c.loop.at c.number-at.result xs less some link (c.loop.invariant.left tells xs walk few);
+          let link = link_then s now (length rows) c.loop.at c.number-at.result c.in_ok-rec.rec c.loop.invariant.read (c.in_ok-rec.ensures.got tells)
+          c.number-at.ensures in
+          left_more s.records (c.meta-budget.result.high - c.loop.counter) (c.meta-budget.result.high - (c.loop.counter + 1)) c.loop.at c.number-at.result xs
+          less some link (c.loop.invariant.left tells xs walk few);
       count = one_more ∙ ap (λ n. n + 1) c.loop.invariant.count;
-      read = read_next s now (g.R.Reads.state c.read_member.new.space) (length rows) (length c.push.new.self.items) one_more c.loop.invariant.read c.in_ok-rec.ensures.read;
+      read = read_next s now (g.R.Reads.state c.read_member.new.space) (length rows) (length c.push.new.self.items) one_more c.loop.invariant.read
+          c.in_ok-rec.ensures.read;
       onward = g.met.R.Reads.further_onward c.args.space.now c.loop.space c.read_member.new.space c.loop.invariant.onward c.in_ok-rec.ensures.onward;
       later = let cause = c.in_ok-rec.ensures.cause in omega (arith, c.loop.invariant.later, cause.later);
     }
@@ -72,7 +78,8 @@ returns-in_err-rec-clause-at_most g c =
     let mark : c.meta-budget.result.high ≡ group_mark s = ap (λ (m : Meta). m.high) c.meta-budget.ensures in
     let lt = c.loop-test.true in
     let count = c.loop.invariant.count in
-    reads_more s (g.R.Reads.state c.loop.space) (g.R.Reads.state c.read_member.new.space) (length c.loop.rows.items) 1 (group_mark s) (omega arith) c.loop.invariant.read c.in_err-rec.ensures.at_most
+    reads_more s (g.R.Reads.state c.loop.space) (g.R.Reads.state c.read_member.new.space) (length c.loop.rows.items) 1 (group_mark s) (omega arith)
+    c.loop.invariant.read c.in_err-rec.ensures.at_most
 
 pub returns-in_err-push-clause-at_most : goal.returns-in_err-push-clause-at_most
 returns-in_err-push-clause-at_most g c =
@@ -80,7 +87,8 @@ returns-in_err-push-clause-at_most g c =
     let mark : c.meta-budget.result.high ≡ group_mark s = ap (λ (m : Meta). m.high) c.meta-budget.ensures in
     let lt = c.loop-test.true in
     let count = c.loop.invariant.count in
-    reads_more s (g.R.Reads.state c.loop.space) (g.R.Reads.state c.read_member.new.space) (length c.loop.rows.items) 1 (group_mark s) (omega arith) c.loop.invariant.read c.in_ok-rec.ensures.at_most
+    reads_more s (g.R.Reads.state c.loop.space) (g.R.Reads.state c.read_member.new.space) (length c.loop.rows.items) 1 (group_mark s) (omega arith)
+    c.loop.invariant.read c.in_ok-rec.ensures.at_most
 
 pub returns-in_err-rec-clause-damaged : goal.returns-in_err-rec-clause-damaged
 returns-in_err-rec-clause-damaged g c = λ tells.
@@ -108,7 +116,8 @@ pub returns-then-at-clause-few_reads : goal.returns-then-at-clause-few_reads
 returns-then-at-clause-few_reads g c = λ tells xs can.
     let s = g.R.Reads.state c.args.space.now in
     let met = c.loop.invariant.met tells in
-    let few = few_then s.records c.args.row.now.id c.args.row.now.first c.loop.at (c.meta-budget.result.high - c.loop.counter) met.0 xs met.1 (c.loop.invariant.left tells xs can.list.walk (few_groups s.records c.args.row.now.id c.args.row.now.first xs can.list)) can.list.walk in
+    let few = few_then s.records c.args.row.now.id c.args.row.now.first c.loop.at (c.meta-budget.result.high - c.loop.counter) met.0 xs met.1
+    (c.loop.invariant.left tells xs can.list.walk (few_groups s.records c.args.row.now.id c.args.row.now.first xs can.list)) can.list.walk in
     let long = ap length met.2 ∙ length-map met.0 (group_row_at s.records) in
     reads_so_far s (g.R.Reads.state c.loop.space) (length c.loop.rows.items) (length xs) (omega arith) c.loop.invariant.read
 
@@ -116,7 +125,8 @@ pub returns-then-at-2-clause-few_reads : goal.returns-then-at-2-clause-few_reads
 returns-then-at-2-clause-few_reads g c = λ tells xs can.
     let s = g.R.Reads.state c.args.space.now in
     let met = c.loop.invariant.met tells in
-    let few = few_then s.records c.args.row.now.id c.args.row.now.first c.loop.at (c.meta-budget.result.high - c.loop.counter) met.0 xs met.1 (c.loop.invariant.left tells xs can.list.walk (few_groups s.records c.args.row.now.id c.args.row.now.first xs can.list)) can.list.walk in
+    let few = few_then s.records c.args.row.now.id c.args.row.now.first c.loop.at (c.meta-budget.result.high - c.loop.counter) met.0 xs met.1
+    (c.loop.invariant.left tells xs can.list.walk (few_groups s.records c.args.row.now.id c.args.row.now.first xs can.list)) can.list.walk in
     let long = ap length met.2 ∙ length-map met.0 (group_row_at s.records) in
     reads_so_far s (g.R.Reads.state c.loop.space) (length c.loop.rows.items) (length xs) (omega arith) c.loop.invariant.read
 
@@ -124,7 +134,8 @@ pub returns-clause-few_reads : goal.returns-clause-few_reads
 returns-clause-few_reads g c = λ tells xs can.
     let s = g.R.Reads.state c.args.space.now in
     let met = c.loop.invariant.met tells in
-    let few = few_then s.records c.args.row.now.id c.args.row.now.first c.loop.at (c.meta-budget.result.high - c.loop.counter) met.0 xs met.1 (c.loop.invariant.left tells xs can.list.walk (few_groups s.records c.args.row.now.id c.args.row.now.first xs can.list)) can.list.walk in
+    let few = few_then s.records c.args.row.now.id c.args.row.now.first c.loop.at (c.meta-budget.result.high - c.loop.counter) met.0 xs met.1
+    (c.loop.invariant.left tells xs can.list.walk (few_groups s.records c.args.row.now.id c.args.row.now.first xs can.list)) can.list.walk in
     let long = ap length met.2 ∙ length-map met.0 (group_row_at s.records) in
     reads_so_far s (g.R.Reads.state c.loop.space) (length c.loop.rows.items) (length xs) (omega arith) c.loop.invariant.read
 
@@ -132,17 +143,21 @@ pub returns-in_err-rec-clause-few_reads : goal.returns-in_err-rec-clause-few_rea
 returns-in_err-rec-clause-few_reads g c = λ tells xs can.
     let s = g.R.Reads.state c.args.space.now in
     let met = c.loop.invariant.met tells in
-    let few = few_next s.records c.args.row.now.id c.args.row.now.first c.loop.at (c.meta-budget.result.high - c.loop.counter) met.0 xs c.if-at.false met.1 (c.loop.invariant.left tells xs can.list.walk (few_groups s.records c.args.row.now.id c.args.row.now.first xs can.list)) can.list.walk in
+    let few = few_next s.records c.args.row.now.id c.args.row.now.first c.loop.at (c.meta-budget.result.high - c.loop.counter) met.0 xs c.if-at.false met.1
+    (c.loop.invariant.left tells xs can.list.walk (few_groups s.records c.args.row.now.id c.args.row.now.first xs can.list)) can.list.walk in
     let long = ap length met.2 ∙ length-map met.0 (group_row_at s.records) in
-    reads_more s (g.R.Reads.state c.loop.space) (g.R.Reads.state c.read_member.new.space) (length c.loop.rows.items) 1 (length xs) (omega arith) c.loop.invariant.read c.in_err-rec.ensures.at_most
+    reads_more s (g.R.Reads.state c.loop.space) (g.R.Reads.state c.read_member.new.space) (length c.loop.rows.items) 1 (length xs) (omega arith)
+    c.loop.invariant.read c.in_err-rec.ensures.at_most
 
 pub returns-in_err-push-clause-few_reads : goal.returns-in_err-push-clause-few_reads
 returns-in_err-push-clause-few_reads g c = λ tells xs can.
     let s = g.R.Reads.state c.args.space.now in
     let met = c.loop.invariant.met tells in
-    let few = few_next s.records c.args.row.now.id c.args.row.now.first c.loop.at (c.meta-budget.result.high - c.loop.counter) met.0 xs c.if-at.false met.1 (c.loop.invariant.left tells xs can.list.walk (few_groups s.records c.args.row.now.id c.args.row.now.first xs can.list)) can.list.walk in
+    let few = few_next s.records c.args.row.now.id c.args.row.now.first c.loop.at (c.meta-budget.result.high - c.loop.counter) met.0 xs c.if-at.false met.1
+    (c.loop.invariant.left tells xs can.list.walk (few_groups s.records c.args.row.now.id c.args.row.now.first xs can.list)) can.list.walk in
     let long = ap length met.2 ∙ length-map met.0 (group_row_at s.records) in
-    reads_more s (g.R.Reads.state c.loop.space) (g.R.Reads.state c.read_member.new.space) (length c.loop.rows.items) 1 (length xs) (omega arith) c.loop.invariant.read c.in_ok-rec.ensures.at_most
+    reads_more s (g.R.Reads.state c.loop.space) (g.R.Reads.state c.read_member.new.space) (length c.loop.rows.items) 1 (length xs) (omega arith)
+    c.loop.invariant.read c.in_ok-rec.ensures.at_most
 
 pub returns-then-at-2-clause-sound : goal.returns-then-at-2-clause-sound
 returns-then-at-2-clause-sound g c = λ tells xs can.

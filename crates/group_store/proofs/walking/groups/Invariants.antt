@@ -13,7 +13,8 @@ invariant-loop g l =
     let s = g.R.Reads.state l.fn.space in
     record {
       met : g.R.Reads.tells → (ms : List ℕ) × HasPassed s.records l.node l.fn.row.first l.at ms × (l.rows.items ≡ map (group_row_at s.records) ms);
-      left : g.R.Reads.tells → (xs : List ℕ) → IsWalk (next_group s.records) l.fn.row.first xs → length xs ≤ group_mark s → IsLeft s.records xs (l.budget - l.counter) l.at;
+      left : g.R.Reads.tells → (xs : List ℕ) → IsWalk (next_group s.records) l.fn.row.first xs → length xs ≤ group_mark s
+          → IsLeft s.records xs (l.budget - l.counter) l.at;
       count : length l.rows.items ≡ l.counter;
       read : g.R.Reads.state l.space ≡ after_gets (length l.rows.items) s;
       onward : g.R.Reads.onward l.fn.space l.space;

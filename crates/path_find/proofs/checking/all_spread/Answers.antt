@@ -25,12 +25,14 @@ returns-then-not-spreads-clause-no g c = λ tells store. λ all.
     let read = c.loop-row.invariant.read in
     let same = same-read g.R.Reads g.met.R.Reads.onward_shape c.args.reads.now c.loop-row.reads read in
     let there = store-read g.R.Reads g.met.R.Reads.onward_shape c.args.reads.now c.loop-row.reads read store in
-    let mid = subst (λ (s : State). IsSpreadAt (neighbours_at s c.args.direction c.args.labels.now) levels c.args.edges row) (sym same) (all row (Contains-get_or levels index (level_of 0 0) c.loop-row-test.true)) in
+    let mid = subst (λ (s : State). IsSpreadAt (neighbours_at s c.args.direction c.args.labels.now) levels c.args.edges row) (sym same)
+    (all row (Contains-get_or levels index (level_of 0 0) c.loop-row-test.true)) in
     OnFalse_at c.if-not-spreads.true (c.in_ok-spreads.ensures.no tells there) mid
 
 pub loop-row-preserved : goal.loop-row-preserved
 loop-row-preserved g c = record {
-  read = is_read-on g.R.Reads g.met.R.Reads.further_onward c.args.reads.now c.loop-row.reads c.is_spread.new.reads c.loop-row.invariant.read c.is_spread.ensures.read;
+  read = is_read-on g.R.Reads g.met.R.Reads.further_onward c.args.reads.now c.loop-row.reads c.is_spread.new.reads c.loop-row.invariant.read
+      c.is_spread.ensures.read;
   spread = λ tells store k d lt. elim (cases_lt k c.loop-row.row-index) [
     | inl less ↦ c.loop-row.invariant.spread tells store k d less
     | inr ge ↦
@@ -40,7 +42,8 @@ loop-row-preserved g c = record {
         let read = c.loop-row.invariant.read in
         let same = same-read g.R.Reads g.met.R.Reads.onward_shape c.args.reads.now c.loop-row.reads read in
         let there = store-read g.R.Reads g.met.R.Reads.onward_shape c.args.reads.now c.loop-row.reads read store in
-        let mid : IsSpreadAt (neighbours_at (g.R.Reads.state c.loop-row.reads) c.args.direction c.args.labels.now) levels c.args.edges row = OnTrue_at c.if-not-spreads.false (c.in_ok-spreads.ensures.yes tells there) in
+        let mid : IsSpreadAt (neighbours_at (g.R.Reads.state c.loop-row.reads) c.args.direction c.args.labels.now) levels c.args.edges row =
+        OnTrue_at c.if-not-spreads.false (c.in_ok-spreads.ensures.yes tells there) in
         let old = g.R.Reads.state c.args.reads.now in
         let at_old = subst (λ (s : State). IsSpreadAt (neighbours_at s c.args.direction c.args.labels.now) levels c.args.edges row) same mid in
         let here : index ≡ k = omega arith in
@@ -56,7 +59,8 @@ returns-clause-yes g c = λ tells store row has.
     let at = at_from_Contains levels row has in
     let test = c.loop-row-test.false in
     let low = at.1 in
-    subst (IsSpreadAt (neighbours_at old c.args.direction c.args.labels.now) levels c.args.edges) (at.2 row) (c.loop-row.invariant.spread tells store at.0 row (omega (arith, test, low)))
+    subst (IsSpreadAt (neighbours_at old c.args.direction c.args.labels.now) levels c.args.edges) (at.2 row)
+    (c.loop-row.invariant.spread tells store at.0 row (omega (arith, test, low)))
 
 pub returns-in_err-spreads-clause-read : goal.returns-in_err-spreads-clause-read
 returns-in_err-spreads-clause-read g c =

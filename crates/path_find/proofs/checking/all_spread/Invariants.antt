@@ -11,5 +11,6 @@ invariant-loop-row g l =
     let old = g.R.Reads.state l.fn.reads in
     record {
       read : IsRead g.R.Reads l.fn.reads l.reads;
-      spread : g.R.Reads.tells → IsStore old → (k : ℕ) (d : NodeLevel) → k < l.row-index → IsSpreadAt (neighbours_at old l.direction l.labels) l.levels l.edges (get_or l.levels k d);
+      spread : g.R.Reads.tells → IsStore old → (k : ℕ) (d : NodeLevel) → k < l.row-index
+          → IsSpreadAt (neighbours_at old l.direction l.labels) l.levels l.edges (get_or l.levels k d);
     }

@@ -24,7 +24,8 @@ returns-then-not-leads-clause-decides g c = λ tells store types stand.
     let L = c.args.answer.now.levels in
     let near = neighbours_at s c.args.direction c.args.labels.now in
     let astray : ¬ IsWalkOrNone near c.args.from c.args.to c.as_slice-walk.result.now = OnFalse_at c.if-not-leads.true (c.in_ok-leads.ensures.no tells store) in
-    subst (λ (adjacency : Adjacency). IsTrue false ↔ IsCertified adjacency c.args.from c.args.to W L) (neighbours_are s store c.args.direction c.args.labels.now types stand)
+    subst (λ (adjacency : Adjacency). IsTrue false ↔ IsCertified adjacency c.args.from c.args.to W L)
+    (neighbours_are s store c.args.direction c.args.labels.now types stand)
     (not_certified near L c.args.from c.args.to W (λ is. astray (subst (IsWalkOrNone near c.args.from c.args.to) (sym c.as_slice-walk.ensures) is.leads)))
 
 pub returns-clause-decides : goal.returns-clause-decides
@@ -41,7 +42,8 @@ returns-clause-decides g c = λ tells store types stand.
     let distinct = subst AreDistinct c.as_slice-levels.ensures (rw c.in-Some.is at c.in_ok-found.ensures.distinct) in
     let Ends : Option ℕ → List NodeLevel → Type 0 = λ e l. HaveEnds l c.args.from c.args.to e in
     let fit : Ends c.edges_of-edges.result c.as_slice-levels.result.now = OnTrue_at c.if-not-have_ends.false c.have_ends.ensures.yes in
-    let ends = subst (λ (l : List NodeLevel). Ends (edges_of W) l) c.as_slice-levels.ensures (subst (λ (e : Option ℕ). Ends e c.as_slice-levels.result.now) edges fit) in
+    let ends = subst (λ (l : List NodeLevel). Ends (edges_of W) l) c.as_slice-levels.ensures
+    (subst (λ (e : Option ℕ). Ends e c.as_slice-levels.result.now) edges fit) in
     let steps : IsWalkOrNone near c.args.from c.args.to c.as_slice-walk.result.now = OnTrue_at c.if-not-leads.false (c.in_ok-leads.ensures.yes tells store) in
     let leads = subst (IsWalkOrNone near c.args.from c.args.to) c.as_slice-walk.ensures steps in
     let Spread : State → Option ℕ → List NodeLevel → Type 0 = λ t e l. AllSpread (neighbours_at t c.args.direction c.args.labels.now) l e in
@@ -51,12 +53,14 @@ returns-clause-decides g c = λ tells store types stand.
     let fails = subst (λ (l : List NodeLevel). OnFalse all (¬ Spread s (edges_of W) l)) c.as_slice-levels.ensures
     (subst (λ (e : Option ℕ). OnFalse all (¬ Spread s e c.as_slice-levels.result.now)) edges
     (subst (λ (t : State). OnFalse all (¬ Spread t c.edges_of-edges.result c.as_slice-levels.result.now)) same (c.in_ok-all.ensures.no tells there))) in
-    subst (λ (adjacency : Adjacency). IsTrue all ↔ IsCertified adjacency c.args.from c.args.to W L) (neighbours_are s store c.args.direction c.args.labels.now types stand)
+    subst (λ (adjacency : Adjacency). IsTrue all ↔ IsCertified adjacency c.args.from c.args.to W L)
+    (neighbours_are s store c.args.direction c.args.labels.now types stand)
     (is_certified near L c.args.from c.args.to W all distinct ends leads spreads fails)
 
 pub returns-clause-proves : goal.returns-clause-proves
 returns-clause-proves g c = λ tells store types stand.
-    proves_shortest (adjacency_of (g.R.Reads.state c.args.reads.now) c.args.direction types) c.args.answer.now.levels c.args.from c.args.to c.args.answer.now.walk c.in_ok-all.all (returns-clause-decides g c tells store types stand)
+    proves_shortest (adjacency_of (g.R.Reads.state c.args.reads.now) c.args.direction types) c.args.answer.now.levels c.args.from c.args.to
+    c.args.answer.now.walk c.in_ok-all.all (returns-clause-decides g c tells store types stand)
 
 pub returns-in_err-all-clause-damaged : goal.returns-in_err-all-clause-damaged
 returns-in_err-all-clause-damaged g c = λ tells.
@@ -150,4 +154,5 @@ returns-in_err-leads-clause-read g c = c.is_walk.ensures.read
 
 pub returns-in_err-leads-clause-cause : goal.returns-in_err-leads-clause-cause
 returns-in_err-leads-clause-cause g c =
-    cause_passed _ _ _ c.from_residual-in_err-leads.result c.in_err-leads.field-0.0 (omega arith) c.in_err-leads.ensures.cause c.from_residual-in_err-leads.ensures.1
+    cause_passed _ _ _ c.from_residual-in_err-leads.result c.in_err-leads.field-0.0 (omega arith) c.in_err-leads.ensures.cause
+    c.from_residual-in_err-leads.ensures.1

@@ -12,17 +12,20 @@ use Rattle.path_find.proofs.checking.is_spread.Goals as goal
 
 pub returns-then-is_past-clause-no : goal.returns-then-is_past-clause-no
 returns-then-is_past-clause-no g c = λ tells store.
-    past_fails (neighbours_at (g.R.Reads.state c.args.reads.now) c.args.direction c.args.labels.now) c.args.levels.now c.args.row c.args.edges (sym c.is_past.ensures ∙ c.if-is_past.true)
+    past_fails (neighbours_at (g.R.Reads.state c.args.reads.now) c.args.direction c.args.labels.now) c.args.levels.now c.args.row c.args.edges
+    (sym c.is_past.ensures ∙ c.if-is_past.true)
 
 pub returns-then-is_last-clause-yes : goal.returns-then-is_last-clause-yes
 returns-then-is_last-clause-yes g c = λ tells store.
     let near = neighbours_at (g.R.Reads.state c.args.reads.now) c.args.direction c.args.labels.now in
-    OnTrue_from c.in_ok-there.there (IsSpreadAt near c.args.levels.now c.args.edges c.args.row) (λ e. last_spreads near c.args.levels.now c.args.row c.args.edges (sym c.is_past.ensures ∙ c.if-is_past.false) (sym c.is_last.ensures ∙ c.if-is_last.true) (sym (c.in_ok-there.ensures.is tells store) ∙ e))
+    OnTrue_from c.in_ok-there.there (IsSpreadAt near c.args.levels.now c.args.edges c.args.row)
+    (λ e. last_spreads near c.args.levels.now c.args.row c.args.edges (sym c.is_past.ensures ∙ c.if-is_past.false) (sym c.is_last.ensures ∙ c.if-is_last.true) (sym (c.in_ok-there.ensures.is tells store) ∙ e))
 
 pub returns-then-is_last-clause-no : goal.returns-then-is_last-clause-no
 returns-then-is_last-clause-no g c = λ tells store.
     let near = neighbours_at (g.R.Reads.state c.args.reads.now) c.args.direction c.args.labels.now in
-    OnFalse_from c.in_ok-there.there (¬ IsSpreadAt near c.args.levels.now c.args.edges c.args.row) (λ e. λ spread. false≢true (sym e ∙ c.in_ok-there.ensures.is tells store ∙ spread.node))
+    OnFalse_from c.in_ok-there.there (¬ IsSpreadAt near c.args.levels.now c.args.edges c.args.row)
+    (λ e. λ spread. false≢true (sym e ∙ c.in_ok-there.ensures.is tells store ∙ spread.node))
 
 pub returns-in_err-there-clause-damaged : goal.returns-in_err-there-clause-damaged
 returns-in_err-there-clause-damaged g c = λ tells.
@@ -34,14 +37,16 @@ returns-in-Some-clause-yes g c = λ tells store.
     let near = neighbours_at (g.R.Reads.state c.args.reads.now) c.args.direction c.args.labels.now in
     let are = rw c.in-Some.is at c.in_ok-found.ensures.some tells store in
     let there = rw c.in-Some.is at c.in_ok-found.ensures.there tells store in
-    OnTrue_from c.are_held.result (IsSpreadAt near c.args.levels.now c.args.edges c.args.row) (λ e. inner_spreads near c.args.levels.now c.args.row c.in-Some.ends.items are c.args.edges (sym c.is_past.ensures ∙ c.if-is_past.false) there
+    OnTrue_from c.are_held.result (IsSpreadAt near c.args.levels.now c.args.edges c.args.row)
+    (λ e. inner_spreads near c.args.levels.now c.args.row c.in-Some.ends.items are c.args.edges (sym c.is_past.ensures ∙ c.if-is_past.false) there
     (subst (λ (ends : List ℕ). AreIn c.args.levels.now c.args.edges c.args.row ends) c.deref.ensures.value (OnTrue_at e c.are_held.ensures.yes)))
 
 pub returns-in-Some-clause-no : goal.returns-in-Some-clause-no
 returns-in-Some-clause-no g c = λ tells store.
     let near = neighbours_at (g.R.Reads.state c.args.reads.now) c.args.direction c.args.labels.now in
     let are = rw c.in-Some.is at c.in_ok-found.ensures.some tells store in
-    OnFalse_from c.are_held.result (¬ IsSpreadAt near c.args.levels.now c.args.edges c.args.row) (λ e. inner_fails near c.args.levels.now c.args.row c.in-Some.ends.items are c.args.edges
+    OnFalse_from c.are_held.result (¬ IsSpreadAt near c.args.levels.now c.args.edges c.args.row)
+    (λ e. inner_fails near c.args.levels.now c.args.row c.in-Some.ends.items are c.args.edges
     (λ held. OnFalse_at e c.are_held.ensures.no (subst (λ (ends : List ℕ). AreIn c.args.levels.now c.args.edges c.args.row ends) (sym c.deref.ensures.value) held)))
 
 pub returns-in-None-clause-no : goal.returns-in-None-clause-no
@@ -70,7 +75,8 @@ returns-in_err-found-clause-read g c = c.neighbours.ensures.read
 
 pub returns-in_err-found-clause-cause : goal.returns-in_err-found-clause-cause
 returns-in_err-found-clause-cause g c =
-    cause_passed _ _ _ c.from_residual-in_err-found.result c.in_err-found.field-0.0 (omega arith) c.in_err-found.ensures.cause c.from_residual-in_err-found.ensures.1
+    cause_passed _ _ _ c.from_residual-in_err-found.result c.in_err-found.field-0.0 (omega arith) c.in_err-found.ensures.cause
+    c.from_residual-in_err-found.ensures.1
 
 pub returns-in_err-there-clause-read : goal.returns-in_err-there-clause-read
 returns-in_err-there-clause-read g c = c.is_node.ensures.read

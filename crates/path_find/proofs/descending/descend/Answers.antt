@@ -61,7 +61,8 @@ pub returns-clause-descends : goal.returns-clause-descends
 returns-clause-descends g c = λ tells store can.
     let near = neighbours_at (g.R.Reads.state c.args.space.now) c.args.direction c.args.labels.now in
     let test = c.loop-level-test.false in
-    subst (IsDescent near c.args.tree.now c.args.row) (append-nil c.loop-level.way.items) (c.loop-level.invariant.descends tells store can [] (omega (arith, test)) tt)
+    subst (IsDescent near c.args.tree.now c.args.row) (append-nil c.loop-level.way.items)
+    (c.loop-level.invariant.descends tells store can [] (omega (arith, test)) tt)
 
 pub returns-clause-long : goal.returns-clause-long
 returns-clause-long g c = λ tells store can.

@@ -8,7 +8,8 @@ loop-end-preserved c = λ k lt other. elim (cases_lt k c.loop-end.end-index) [
   | inl less ↦ c.loop-end.invariant k less other
   | inr ge ↦
       let here : c.loop-end.end-index ≡ k = omega arith in
-      let none : (row : ℕ) → ¬ IsAtLevel c.args.tree.now c.args.level (slice_index c.args.ends.now c.loop-end.end-index) row = rw c.in_default.is at c.row_at_level.ensures.none in
+      let none : (row : ℕ) → ¬ IsAtLevel c.args.tree.now c.args.level (slice_index c.args.ends.now c.loop-end.end-index) row =
+      rw c.in_default.is at c.row_at_level.ensures.none in
       subst (λ j. ¬ IsAtLevel c.args.tree.now c.args.level (slice_index c.args.ends.now j) other) here (none other)
 ]
 

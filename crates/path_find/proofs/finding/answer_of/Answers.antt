@@ -19,4 +19,5 @@ returns c = λ near from has.
           subst (λ list. IsAnswer near from to list levels) (sym (ap (λ (v : Vec ℕ Global). v.items) w.walk-is ∙ w.new-walk.ensures.items))
           (no_answer near rows from to has.searched has.spans w.in-None.ensures.none levels are)
     ] in
-    subst (λ list. IsAnswer near from to list c.new-2.result) (sym c.new.ensures) (subst (IsAnswer near from to c.match-find.walk.items) (sym c.new-2.ensures) walk)
+    subst (λ list. IsAnswer near from to list c.new-2.result) (sym c.new.ensures)
+    (subst (IsAnswer near from to c.match-find.walk.items) (sym c.new-2.ensures) walk)

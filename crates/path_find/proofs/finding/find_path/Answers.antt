@@ -44,7 +44,8 @@ returns-then-not-to_there-clause-damaged g c = λ tells.
 pub returns-in_err-tree-clause-damaged : goal.returns-in_err-tree-clause-damaged
 returns-in_err-tree-clause-damaged g c = λ tells.
     let p = err_from_is_err_and c.from_residual-in_err-tree.result c.from_residual-in_err-tree.ensures.1 in
-    let both = is_read-on g.R.Reads g.met.R.Reads.further_onward c.args.reads.now c.is_node.new.reads c.is_node-2.new.reads c.is_node.ensures.read c.is_node-2.ensures.read in
+    let both = is_read-on g.R.Reads g.met.R.Reads.further_onward c.args.reads.now c.is_node.new.reads c.is_node-2.new.reads c.is_node.ensures.read
+    c.is_node-2.ensures.read in
     let same = same-read g.R.Reads g.met.R.Reads.onward_shape c.args.reads.now c.is_node-2.new.reads both in
     let fault = c.in_err-tree.field-0.0 in
     rw (p.1, p.2) (search_fault (g.R.Reads.state c.args.reads.now) c.args.from c.args.to fault
@@ -90,10 +91,12 @@ returns-clause-read g c =
 
 pub returns-clause-found : goal.returns-clause-found
 returns-clause-found g c = λ tells store types stand.
-    let both = is_read-on g.R.Reads g.met.R.Reads.further_onward c.args.reads.now c.is_node.new.reads c.is_node-2.new.reads c.is_node.ensures.read c.is_node-2.ensures.read in
+    let both = is_read-on g.R.Reads g.met.R.Reads.further_onward c.args.reads.now c.is_node.new.reads c.is_node-2.new.reads c.is_node.ensures.read
+    c.is_node-2.ensures.read in
     let same = same-read g.R.Reads g.met.R.Reads.onward_shape c.args.reads.now c.is_node-2.new.reads both in
     let there = sym (c.in_ok-from_there.ensures.is tells store) ∙ c.if-not-from_there.false in
-    answered (g.R.Reads.state c.args.reads.now) store c.args.direction c.args.labels.now types stand (g.R.Reads.state c.is_node-2.new.reads) same c.args.from c.args.to there
+    answered (g.R.Reads.state c.args.reads.now) store c.args.direction c.args.labels.now types stand (g.R.Reads.state c.is_node-2.new.reads) same c.args.from
+    c.args.to there
     c.in_ok-tree.tree c.in_ok-answer.answer.walk c.in_ok-answer.answer.levels (c.in_ok-tree.ensures.spans tells) c.in_ok-answer.ensures
 
 -- the two clauses after it follow from it
@@ -107,15 +110,18 @@ returns-clause-certified g c = λ tells store types stand.
     let s = g.R.Reads.state c.args.reads.now in
     let near = adjacency_of s c.args.direction types in
     let there = sym (c.in_ok-from_there.ensures.is tells store) ∙ c.if-not-from_there.false in
-    certified_answer near (closed_graph s store c.args.direction c.args.labels.now types stand) c.args.from c.args.to there c.in_ok-answer.answer.walk c.in_ok-answer.answer.levels (returns-clause-found g c tells store types stand)
+    certified_answer near (closed_graph s store c.args.direction c.args.labels.now types stand) c.args.from c.args.to there c.in_ok-answer.answer.walk
+    c.in_ok-answer.answer.levels (returns-clause-found g c tells store types stand)
 
 pub returns-in_err-to_there-clause-cause : goal.returns-in_err-to_there-clause-cause
 returns-in_err-to_there-clause-cause g c =
-    row_cause_passed _ _ _ c.from_residual-in_err-to_there.result c.in_err-to_there.field-0.0 c.in_ok-from_there.ensures.cause.later c.in_err-to_there.ensures.cause c.from_residual-in_err-to_there.ensures.1
+    row_cause_passed _ _ _ c.from_residual-in_err-to_there.result c.in_err-to_there.field-0.0 c.in_ok-from_there.ensures.cause.later
+    c.in_err-to_there.ensures.cause c.from_residual-in_err-to_there.ensures.1
 
 pub returns-in_err-tree-clause-cause : goal.returns-in_err-tree-clause-cause
 returns-in_err-tree-clause-cause g c =
-    expand_cause_passed _ _ _ c.from_residual-in_err-tree.result c.in_err-tree.field-0.0 (later_on c.in_ok-from_there.ensures.cause.later c.in_ok-to_there.ensures.cause.later) c.in_err-tree.ensures.cause c.from_residual-in_err-tree.ensures.1
+    expand_cause_passed _ _ _ c.from_residual-in_err-tree.result c.in_err-tree.field-0.0
+    (later_on c.in_ok-from_there.ensures.cause.later c.in_ok-to_there.ensures.cause.later) c.in_err-tree.ensures.cause c.from_residual-in_err-tree.ensures.1
 
 pub returns-in_err-answer-clause-cause : goal.returns-in_err-answer-clause-cause
 returns-in_err-answer-clause-cause g c =

@@ -35,7 +35,8 @@ loop-end-preserved c =
       grows = made.grows;
       extends = extends-on c.args.tree.now rows c.add.new.self row old.extends made.extends;
       level = old.level ∙ ap (λ n. n + 1) (sym (made.extends.levels row old.grows.low));
-      spans = λ near spans are. made.spans near (subst (λ n. AreNeighbours near n ends) (sym (old.extends.nodes row c.requires.low)) are) (old.spans near spans are);
+      spans = λ near spans are. made.spans near (subst (λ n. AreNeighbours near n ends) (sym (old.extends.nodes row c.requires.low)) are)
+          (old.spans near spans are);
     }
 
 pub returns-clause-spans : goal.returns-clause-spans

@@ -17,7 +17,8 @@ loop-end-preserved c = λ k lt. elim (cases_lt k c.loop-end.end-index) [
 pub returns-then-level-most-clause-no : goal.returns-then-level-most-clause-no
 returns-then-level-most-clause-no c = λ all.
     let other = all (get_or c.args.ends.now c.loop-end.end-index 0) (Contains-get_or c.args.ends.now c.loop-end.end-index 0 c.loop-end-test.true) in
-    let same = one_level c.args.levels.now c.requires.distinct (get_or c.args.ends.now c.loop-end.end-index 0) c.in-Some.level other.0 c.in-Some.ensures.some other.1 in
+    let same = one_level c.args.levels.now c.requires.distinct (get_or c.args.ends.now c.loop-end.end-index 0) c.in-Some.level other.0 c.in-Some.ensures.some
+    other.1 in
     let near = other.2 in
     let far = c.if-level-most.true in
     absurd (omega (arith, same, near, far))

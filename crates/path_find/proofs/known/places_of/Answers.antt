@@ -20,7 +20,8 @@ returns-then-not-is_new-clause-none c =
     let index = c.loop-level.level-index in
     let row = get_or levels index (level_of 0 0) in
     let known = not_false (list_any (nat_eq row.node) c.loop-level.places) (sym c.in_ok-is_new.ensures.is_new ∙ c.if-not-is_new.true) in
-    places_twice levels c.loop-level.places index c.loop-level.invariant c.loop-level-test.true row (λ d. get_or_default levels index d (level_of 0 0) c.loop-level-test.true) known
+    places_twice levels c.loop-level.places index c.loop-level.invariant c.loop-level-test.true row
+    (λ d. get_or_default levels index d (level_of 0 0) c.loop-level-test.true) known
 
 pub loop-level-preserved : goal.loop-level-preserved
 loop-level-preserved c =

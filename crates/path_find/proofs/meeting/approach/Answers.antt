@@ -24,7 +24,8 @@ returns-in_ok-grow-clause-closer g c = λ ahead_depth behind_depth ahead_layers 
     record {
       ahead_depth = ahead_depth + 1;
       behind_depth = behind_depth;
-      ahead_layers = subst (λ n. AreLayers new n (ahead_depth + 1)) (sym met.done) (layers_on old new c.args.ahead.now.done ahead_depth ahead_layers met.tree met.grows);
+      ahead_layers = subst (λ n. AreLayers new n (ahead_depth + 1)) (sym met.done)
+          (layers_on old new c.args.ahead.now.done ahead_depth ahead_layers met.tree met.grows);
       behind_layers = behind_layers;
       deep = omega arith;
       from = met.grows.nodes 0 ahead_layers.tree.some;
@@ -57,7 +58,8 @@ returns-in_ok-grow-2-clause-closer g c = λ ahead_depth behind_depth ahead_layer
       ahead_depth = ahead_depth;
       behind_depth = behind_depth + 1;
       ahead_layers = ahead_layers;
-      behind_layers = subst (λ n. AreLayers new n (behind_depth + 1)) (sym met.done) (layers_on old new c.args.behind.now.done behind_depth behind_layers met.tree met.grows);
+      behind_layers = subst (λ n. AreLayers new n (behind_depth + 1)) (sym met.done)
+          (layers_on old new c.args.behind.now.done behind_depth behind_layers met.tree met.grows);
       deep = omega arith;
       from = refl;
       to = met.grows.nodes 0 behind_layers.tree.some;

@@ -136,7 +136,8 @@ returns-clause-found g c = λ tells store there to_there.
     let longer = inv.longer tells store there to_there in
     let longer_first = subst (λ n. AreLonger near n c.args.to (inv.ahead.depth + inv.behind.depth)) (sym inv.first) longer in
     let longer_both = subst (λ n. AreLonger near (node_at ahead.tree 0) n (inv.ahead.depth + inv.behind.depth)) (sym inv.last) longer_first in
-    let least = least_walk near back one other ahead.tree ahead.done inv.ahead.depth inv.ahead.layers ahead_spans behind.tree behind.done inv.behind.depth inv.behind.layers behind_spans longer_both walk joined in
+    let least = least_walk near back one other ahead.tree ahead.done inv.ahead.depth inv.ahead.layers ahead_spans behind.tree behind.done inv.behind.depth
+    inv.behind.layers behind_spans longer_both walk joined in
     let from_first = subst (λ n. IsLeastOrNone near n (node_at behind.tree 0) walk) inv.first least in
     subst (λ n. IsLeastOrNone near c.args.from n walk) inv.last from_first
 
@@ -151,13 +152,16 @@ returns-in_err-walk-clause-damaged g c = λ tells.
     rw (p.1, p.2) (broken-read g.R.Reads g.met.R.Reads.onward_shape c.args.space.now c.loop-has_met.space c.loop-has_met.invariant.read c.in_err-walk.field-0.0 (c.in_err-walk.ensures.damaged tells))
 
 pub returns-in_err-met-clause-read : goal.returns-in_err-met-clause-read
-returns-in_err-met-clause-read g c = is_read-on g.R.Reads g.met.R.Reads.further_onward c.args.space.now c.loop-has_met.space c.approach.new.space c.loop-has_met.invariant.read c.approach.ensures.read
+returns-in_err-met-clause-read g c = is_read-on g.R.Reads g.met.R.Reads.further_onward c.args.space.now c.loop-has_met.space c.approach.new.space
+    c.loop-has_met.invariant.read c.approach.ensures.read
 
 pub returns-in_err-walk-clause-read : goal.returns-in_err-walk-clause-read
-returns-in_err-walk-clause-read g c = is_read-on g.R.Reads g.met.R.Reads.further_onward c.args.space.now c.loop-has_met.space c.join.new.space c.loop-has_met.invariant.read c.join.ensures.read
+returns-in_err-walk-clause-read g c = is_read-on g.R.Reads g.met.R.Reads.further_onward c.args.space.now c.loop-has_met.space c.join.new.space
+    c.loop-has_met.invariant.read c.join.ensures.read
 
 pub returns-clause-read : goal.returns-clause-read
-returns-clause-read g c = is_read-on g.R.Reads g.met.R.Reads.further_onward c.args.space.now c.loop-has_met.space c.join.new.space c.loop-has_met.invariant.read c.join.ensures.read
+returns-clause-read g c = is_read-on g.R.Reads g.met.R.Reads.further_onward c.args.space.now c.loop-has_met.space c.join.new.space c.loop-has_met.invariant.read
+    c.join.ensures.read
 
 pub returns-in_err-met-clause-cause : goal.returns-in_err-met-clause-cause
 returns-in_err-met-clause-cause g c =
@@ -207,4 +211,5 @@ returns-in_err-walk-clause-found g c _ _ _ _ = never_ok c.from_residual-in_err-w
 
 pub returns-in_err-walk-clause-cause : goal.returns-in_err-walk-clause-cause
 returns-in_err-walk-clause-cause g c =
-    cause_passed _ _ _ c.from_residual-in_err-walk.result c.in_err-walk.field-0.0 c.loop-has_met.invariant.read.later c.in_err-walk.ensures.cause c.from_residual-in_err-walk.ensures.1
+    cause_passed _ _ _ c.from_residual-in_err-walk.result c.in_err-walk.field-0.0 c.loop-has_met.invariant.read.later c.in_err-walk.ensures.cause
+    c.from_residual-in_err-walk.ensures.1

@@ -32,7 +32,8 @@ returns-then-reaches-clause-spans g c = λ tells store there.
     let test = c.loop-row-test.true in
     let len = c.len.ensures.is in
     record {
-      searched = searched_near c.loop-row.tree c.loop-row.row c.args.from c.args.to inv.tree inv.first inv.narrow (omega (arith, test, len)) c.if-reaches.ensures.yes;
+      searched = searched_near c.loop-row.tree c.loop-row.row c.args.from c.args.to inv.tree inv.first inv.narrow (omega (arith, test, len))
+          c.if-reaches.ensures.yes;
       spans = inv.spans tells store there;
     }
 
@@ -107,11 +108,13 @@ loop-row-preserved g c =
 
 pub returns-in_err-found-clause-cause : goal.returns-in_err-found-clause-cause
 returns-in_err-found-clause-cause g c =
-    cause_passed _ _ _ c.from_residual-in_err-found.result c.in_err-found.field-0.0 c.loop-row.invariant.read.later c.in_err-found.ensures.cause c.from_residual-in_err-found.ensures.1
+    cause_passed _ _ _ c.from_residual-in_err-found.result c.in_err-found.field-0.0 c.loop-row.invariant.read.later c.in_err-found.ensures.cause
+    c.from_residual-in_err-found.ensures.1
 
 pub returns-in_err-spread-clause-cause : goal.returns-in_err-spread-clause-cause
 returns-in_err-spread-clause-cause g c =
-    memory_cause _ _ c.from_residual-in_err-spread.result (later_on c.loop-row.invariant.read.later c.in_ok-found.ensures.cause.later) c.from_residual-in_err-spread.ensures.1
+    memory_cause _ _ c.from_residual-in_err-spread.result (later_on c.loop-row.invariant.read.later c.in_ok-found.ensures.cause.later)
+    c.from_residual-in_err-spread.ensures.1
 
 pub returns-in_err-found-clause-read : goal.returns-in_err-found-clause-read
 returns-in_err-found-clause-read g c =

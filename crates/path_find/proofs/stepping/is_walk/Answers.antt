@@ -31,7 +31,8 @@ returns-then-not-steps-clause-no g c = λ tells store. λ is.
     let same = same-read g.R.Reads g.met.R.Reads.onward_shape c.args.reads.now c.loop-row.reads read in
     let there = store-read g.R.Reads g.met.R.Reads.onward_shape c.args.reads.now c.loop-row.reads read store in
     let near = neighbours_at (g.R.Reads.state c.args.reads.now) c.args.direction c.args.labels.now in
-    let mid = subst (λ (s : State). IsStep (neighbours_at s c.args.direction c.args.labels.now) (get_or walk row 0) (get_or walk (row + 1) 0)) (sym same) (step-from_walk near c.args.from c.args.to walk is row c.loop-row-test.true) in
+    let mid = subst (λ (s : State). IsStep (neighbours_at s c.args.direction c.args.labels.now) (get_or walk row 0) (get_or walk (row + 1) 0)) (sym same)
+    (step-from_walk near c.args.from c.args.to walk is row c.loop-row-test.true) in
     let fails : ¬ IsStep (neighbours_at (g.R.Reads.state c.loop-row.reads) c.args.direction c.args.labels.now) (get_or walk row 0) (get_or walk (row + 1) 0) =
     OnFalse_at c.if-not-steps.true (c.in_ok-steps.ensures.no tells there) in
     fails mid
@@ -49,9 +50,11 @@ loop-row-preserved g c =
         | inl less ↦ c.loop-row.invariant.steps tells store k less
         | inr ge ↦
             let there = store-read g.R.Reads g.met.R.Reads.onward_shape c.args.reads.now c.loop-row.reads read store in
-            let mid : IsStep (neighbours_at (g.R.Reads.state c.loop-row.reads) c.args.direction c.args.labels.now) (get_or walk row 0) (get_or walk (row + 1) 0) =
+            let mid : IsStep (neighbours_at (g.R.Reads.state c.loop-row.reads) c.args.direction c.args.labels.now) (get_or walk row 0)
+            (get_or walk (row + 1) 0) =
             OnTrue_at c.if-not-steps.false (c.in_ok-steps.ensures.yes tells there) in
-            let at_old = subst (λ (s : State). IsStep (neighbours_at s c.args.direction c.args.labels.now) (get_or walk row 0) (get_or walk (row + 1) 0)) same mid in
+            let at_old = subst (λ (s : State). IsStep (neighbours_at s c.args.direction c.args.labels.now) (get_or walk row 0) (get_or walk (row + 1) 0)) same
+            mid in
             let here : row ≡ k = omega arith in
             subst (λ i. IsStep near (get_or walk i 0) (get_or walk (i + 1) 0)) here at_old
       ];
@@ -76,8 +79,10 @@ returns-clause-yes g c = λ tells store.
     let test = c.loop-row-test.false in
     OnTrue_from c.in_ok-there.there (IsWalkOrNone near c.args.from c.args.to walk)
     (λ e.
-    let there : has_node (graph_in s) c.args.to ≡ true = subst (λ (t : State). has_node (graph_in t) c.args.to ≡ true) same (sym (c.in_ok-there.ensures.is tells mid) ∙ e) in
-    walk-from_steps near c.args.from c.args.to walk c.if-walk-from.false c.if-walk-last.false (λ k lt. c.loop-row.invariant.steps tells store k (omega (arith, test, lt))) there)
+    let there : has_node (graph_in s) c.args.to ≡ true = subst (λ (t : State). has_node (graph_in t) c.args.to ≡ true) same
+    (sym (c.in_ok-there.ensures.is tells mid) ∙ e) in
+    walk-from_steps near c.args.from c.args.to walk c.if-walk-from.false c.if-walk-last.false
+    (λ k lt. c.loop-row.invariant.steps tells store k (omega (arith, test, lt))) there)
 
 pub returns-clause-no : goal.returns-clause-no
 returns-clause-no g c = λ tells store.
@@ -88,8 +93,10 @@ returns-clause-no g c = λ tells store.
     let mid = store-read g.R.Reads g.met.R.Reads.onward_shape c.args.reads.now c.loop-row.reads read store in
     OnFalse_from c.in_ok-there.there (¬ IsWalkOrNone near c.args.from c.args.to c.args.walk.now)
     (λ e. λ is.
-    let last = last-from_walk near c.args.from c.args.to c.args.walk.now (some_in (length c.args.walk.now) c.is_empty.result c.is_empty.ensures c.if-is_empty.false) is in
-    let there : has_node (graph_in (g.R.Reads.state c.loop-row.reads)) c.args.to ≡ true = subst (λ (t : State). has_node (graph_in t) c.args.to ≡ true) (sym same) last.1 in
+    let last = last-from_walk near c.args.from c.args.to c.args.walk.now
+    (some_in (length c.args.walk.now) c.is_empty.result c.is_empty.ensures c.if-is_empty.false) is in
+    let there : has_node (graph_in (g.R.Reads.state c.loop-row.reads)) c.args.to ≡ true =
+    subst (λ (t : State). has_node (graph_in t) c.args.to ≡ true) (sym same) last.1 in
     false≢true (sym e ∙ c.in_ok-there.ensures.is tells mid ∙ there))
 
 pub loop-row-init : goal.loop-row-init
@@ -138,4 +145,5 @@ returns-in_err-there-clause-no g c _ _ = never_ok c.from_residual-in_err-there.r
 
 pub returns-in_err-there-clause-cause : goal.returns-in_err-there-clause-cause
 returns-in_err-there-clause-cause g c =
-    row_passed _ _ _ c.from_residual-in_err-there.result c.in_err-there.field-0.0 c.loop-row.invariant.read.later c.in_err-there.ensures.cause c.from_residual-in_err-there.ensures.1
+    row_passed _ _ _ c.from_residual-in_err-there.result c.in_err-there.field-0.0 c.loop-row.invariant.read.later c.in_err-there.ensures.cause
+    c.from_residual-in_err-there.ensures.1

@@ -10,5 +10,6 @@ invariant-loop-row g l =
     let old = g.R.Reads.state l.fn.reads in
     record {
       read : IsRead g.R.Reads l.fn.reads l.reads;
-      steps : g.R.Reads.tells → IsStore old → (k : ℕ) → k < l.row → IsStep (neighbours_at old l.direction l.labels) (get_or l.walk k 0) (get_or l.walk (k + 1) 0);
+      steps : g.R.Reads.tells → IsStore old → (k : ℕ) → k < l.row → IsStep (neighbours_at old l.direction l.labels) (get_or l.walk k 0)
+          (get_or l.walk (k + 1) 0);
     }

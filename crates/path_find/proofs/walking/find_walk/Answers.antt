@@ -42,7 +42,8 @@ returns-then-not-to_there-clause-damaged g c = λ tells.
 pub returns-in_err-walk-clause-damaged : goal.returns-in_err-walk-clause-damaged
 returns-in_err-walk-clause-damaged g c = λ tells.
     let p = err_from_is_err_and c.from_residual-in_err-walk.result c.from_residual-in_err-walk.ensures.1 in
-    let both = is_read-on g.R.Reads g.met.R.Reads.further_onward c.args.reads.now c.is_node.new.reads c.is_node-2.new.reads c.is_node.ensures.read c.is_node-2.ensures.read in
+    let both = is_read-on g.R.Reads g.met.R.Reads.further_onward c.args.reads.now c.is_node.new.reads c.is_node-2.new.reads c.is_node.ensures.read
+    c.is_node-2.ensures.read in
     let same = same-read g.R.Reads g.met.R.Reads.onward_shape c.args.reads.now c.is_node-2.new.reads both in
     let fault = c.in_err-walk.field-0.0 in
     rw (p.1, p.2) (search_fault (g.R.Reads.state c.args.reads.now) c.args.from c.args.to fault
@@ -75,7 +76,8 @@ pub returns-clause-found : goal.returns-clause-found
 returns-clause-found g c = λ tells store types stand.
     let s = g.R.Reads.state c.args.reads.now in
     let first = same-read g.R.Reads g.met.R.Reads.onward_shape c.args.reads.now c.is_node.new.reads c.is_node.ensures.read in
-    let both = is_read-on g.R.Reads g.met.R.Reads.further_onward c.args.reads.now c.is_node.new.reads c.is_node-2.new.reads c.is_node.ensures.read c.is_node-2.ensures.read in
+    let both = is_read-on g.R.Reads g.met.R.Reads.further_onward c.args.reads.now c.is_node.new.reads c.is_node-2.new.reads c.is_node.ensures.read
+    c.is_node-2.ensures.read in
     let same = same-read g.R.Reads g.met.R.Reads.onward_shape c.args.reads.now c.is_node-2.new.reads both in
     let there = ends_there s (g.R.Reads.state c.is_node.new.reads) first store c.args.from c.args.to c.in_ok-from_there.from_there c.in_ok-to_there.to_there
     (c.in_ok-from_there.ensures.is tells store) c.if-not-from_there.false (c.in_ok-to_there.ensures.is tells) c.if-not-to_there.false in
@@ -98,11 +100,13 @@ returns-in_err-from_there-clause-cause g c =
 
 pub returns-in_err-to_there-clause-cause : goal.returns-in_err-to_there-clause-cause
 returns-in_err-to_there-clause-cause g c =
-    row_cause_passed _ _ _ c.from_residual-in_err-to_there.result c.in_err-to_there.field-0.0 c.in_ok-from_there.ensures.cause.later c.in_err-to_there.ensures.cause c.from_residual-in_err-to_there.ensures.1
+    row_cause_passed _ _ _ c.from_residual-in_err-to_there.result c.in_err-to_there.field-0.0 c.in_ok-from_there.ensures.cause.later
+    c.in_err-to_there.ensures.cause c.from_residual-in_err-to_there.ensures.1
 
 pub returns-in_err-walk-clause-cause : goal.returns-in_err-walk-clause-cause
 returns-in_err-walk-clause-cause g c =
-    expand_cause_passed _ _ _ c.from_residual-in_err-walk.result c.in_err-walk.field-0.0 (later_on c.in_ok-from_there.ensures.cause.later c.in_ok-to_there.ensures.cause.later) c.in_err-walk.ensures.cause c.from_residual-in_err-walk.ensures.1
+    expand_cause_passed _ _ _ c.from_residual-in_err-walk.result c.in_err-walk.field-0.0
+    (later_on c.in_ok-from_there.ensures.cause.later c.in_ok-to_there.ensures.cause.later) c.in_err-walk.ensures.cause c.from_residual-in_err-walk.ensures.1
 
 pub returns-in_err-from_there-clause-read : goal.returns-in_err-from_there-clause-read
 returns-in_err-from_there-clause-read g c = c.is_node.ensures.read

@@ -32,13 +32,15 @@ returns-in_default-2-clause-found g c = λ tells store key has.
     sym (ap (λ properties. maps.get properties key) none ∙ get-empty order key)
 
 pub read_key_from-requires-clause-owner : goal.read_key_from-requires-clause-owner
-read_key_from-requires-clause-owner g c = subst (λ (o : Option Owned). IfSome o (λ (found : Owned). IsOwner found.owner)) c.in-Some-2.is c.in_ok-owned.ensures.owner
+read_key_from-requires-clause-owner g c = subst (λ (o : Option Owned). IfSome o (λ (found : Owned). IsOwner found.owner)) c.in-Some-2.is
+    c.in_ok-owned.ensures.owner
 
 pub read_key_from-requires-clause-first : goal.read_key_from-requires-clause-first
 read_key_from-requires-clause-first g c = λ tells.
     let s = g.R.Reads.state c.args.space.now in
     let z = g.R.Reads.state c.owner_of.new.space in
-    first_in s z c.args.item.now c.in-Some-2.owned c.in_ok-owned.ensures.read.same (subst (IsOwnerOf s c.args.item.now) c.in-Some-2.is (c.in_ok-owned.ensures.found tells))
+    first_in s z c.args.item.now c.in-Some-2.owned c.in_ok-owned.ensures.read.same
+    (subst (IsOwnerOf s c.args.item.now) c.in-Some-2.is (c.in_ok-owned.ensures.found tells))
 
 pub returns-clause-found : goal.returns-clause-found
 returns-clause-found g c = λ tells store key has.
@@ -55,8 +57,10 @@ returns-clause-found g c = λ tells store key has.
 
 pub returns-clause-read : goal.returns-clause-read
 returns-clause-read g c = record {
-  same = then_read (g.R.Reads.state c.args.space.now) (g.R.Reads.state c.owner_of.new.space) (g.R.Reads.state c.read_key_from.new.space) 54 c.in_ok-owned.ensures.read.same c.read_key_from.ensures.at_most;
-  onward = g.met.R.Reads.further_onward c.args.space.now c.owner_of.new.space c.read_key_from.new.space c.in_ok-owned.ensures.read.onward c.read_key_from.ensures.onward;
+  same = then_read (g.R.Reads.state c.args.space.now) (g.R.Reads.state c.owner_of.new.space) (g.R.Reads.state c.read_key_from.new.space) 54
+      c.in_ok-owned.ensures.read.same c.read_key_from.ensures.at_most;
+  onward = g.met.R.Reads.further_onward c.args.space.now c.owner_of.new.space c.read_key_from.new.space c.in_ok-owned.ensures.read.onward
+      c.read_key_from.ensures.onward;
   later = omega arith;
 }
 

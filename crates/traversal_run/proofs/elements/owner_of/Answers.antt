@@ -16,7 +16,8 @@ use Rattle.traversal_run.proofs.elements.owner_of.Goals as goal
 pub returns-in-None-clause-found : goal.returns-in-None-clause-found
 returns-in-None-clause-found g c = λ tells.
     let s = g.R.Reads.state c.args.space.now in
-    subst (λ (item : Item). IsOwnerOf s item None) (sym c.in-Vertex.is) (node_unowned s c.in-Vertex.id (sym c.in-None.is ∙ c.in_ok-row-in-Vertex.ensures.found tells))
+    subst (λ (item : Item). IsOwnerOf s item None) (sym c.in-Vertex.is)
+    (node_unowned s c.in-Vertex.id (sym c.in-None.is ∙ c.in_ok-row-in-Vertex.ensures.found tells))
 
 pub returns-in-None-2-clause-found : goal.returns-in-None-2-clause-found
 returns-in-None-2-clause-found g c = λ tells.
@@ -26,7 +27,8 @@ returns-in-None-2-clause-found g c = λ tells.
 pub returns-in-Some-clause-found : goal.returns-in-Some-clause-found
 returns-in-Some-clause-found g c = λ tells.
     let s = g.R.Reads.state c.args.space.now in
-    subst (λ (item : Item). IsOwnerOf s item (Some (node_owner c.in-Vertex.id c.in-Some.row))) (sym c.in-Vertex.is) (node_owned s c.in-Vertex.id c.in-Some.row (sym c.in-Some.is ∙ c.in_ok-row-in-Vertex.ensures.found tells))
+    subst (λ (item : Item). IsOwnerOf s item (Some (node_owner c.in-Vertex.id c.in-Some.row))) (sym c.in-Vertex.is)
+    (node_owned s c.in-Vertex.id c.in-Some.row (sym c.in-Some.is ∙ c.in_ok-row-in-Vertex.ensures.found tells))
 
 pub returns-in-Some-2-clause-found : goal.returns-in-Some-2-clause-found
 returns-in-Some-2-clause-found g c = λ tells.
@@ -52,14 +54,16 @@ returns-in_err-row-in-Vertex-clause-cause g c =
 
 pub returns-in_err-row-in-Edge-clause-cause : goal.returns-in_err-row-in-Edge-clause-cause
 returns-in_err-row-in-Edge-clause-cause g c =
-    row_cause_passed _ _ _ c.from_residual-in_err-row-in-Edge.result c.in_err-row-in-Edge.field-0.0 (omega arith) c.in_err-row-in-Edge.ensures.cause c.from_residual-in_err-row-in-Edge.ensures.1
+    row_cause_passed _ _ _ c.from_residual-in_err-row-in-Edge.result c.in_err-row-in-Edge.field-0.0 (omega arith) c.in_err-row-in-Edge.ensures.cause
+    c.from_residual-in_err-row-in-Edge.ensures.1
 
 pub returns-in_err-row-in-Edge-clause-reads : goal.returns-in_err-row-in-Edge-clause-reads
 returns-in_err-row-in-Edge-clause-reads g c =
     let s = g.R.Reads.state c.args.space.now in
     let t = g.R.Reads.state c.load.new.space in
     let e = c.in-Edge in
-    let one = edge_reads g.R.Reads.tells s.records e.id e.label e.from e.to c.args.row.now (subst (λ (item : Item). IsRowOf g.R.Reads.tells s.records item c.args.row.now) e.is c.requires.row) in
+    let one = edge_reads g.R.Reads.tells s.records e.id e.label e.from e.to c.args.row.now
+    (subst (λ (item : Item). IsRowOf g.R.Reads.tells s.records item c.args.row.now) e.is c.requires.row) in
     subst (λ (n : ℕ). ReadsAtMost n s t) (sym one) (load_reads relationships_file s t e.id c.load.ensures.state)
 
 pub returns-in-Some-2-clause-reads : goal.returns-in-Some-2-clause-reads
@@ -67,7 +71,8 @@ returns-in-Some-2-clause-reads g c =
     let s = g.R.Reads.state c.args.space.now in
     let t = g.R.Reads.state c.load.new.space in
     let e = c.in-Edge in
-    let one = edge_reads g.R.Reads.tells s.records e.id e.label e.from e.to c.args.row.now (subst (λ (item : Item). IsRowOf g.R.Reads.tells s.records item c.args.row.now) e.is c.requires.row) in
+    let one = edge_reads g.R.Reads.tells s.records e.id e.label e.from e.to c.args.row.now
+    (subst (λ (item : Item). IsRowOf g.R.Reads.tells s.records item c.args.row.now) e.is c.requires.row) in
     subst (λ (n : ℕ). ReadsAtMost n s t) (sym one) (load_reads relationships_file s t e.id c.load.ensures.state)
 
 pub returns-in-None-2-clause-reads : goal.returns-in-None-2-clause-reads
@@ -75,7 +80,8 @@ returns-in-None-2-clause-reads g c =
     let s = g.R.Reads.state c.args.space.now in
     let t = g.R.Reads.state c.load.new.space in
     let e = c.in-Edge in
-    let one = edge_reads g.R.Reads.tells s.records e.id e.label e.from e.to c.args.row.now (subst (λ (item : Item). IsRowOf g.R.Reads.tells s.records item c.args.row.now) e.is c.requires.row) in
+    let one = edge_reads g.R.Reads.tells s.records e.id e.label e.from e.to c.args.row.now
+    (subst (λ (item : Item). IsRowOf g.R.Reads.tells s.records item c.args.row.now) e.is c.requires.row) in
     subst (λ (n : ℕ). ReadsAtMost n s t) (sym one) (load_reads relationships_file s t e.id c.load.ensures.state)
 
 pub returns-in-Value-clause-reads : goal.returns-in-Value-clause-reads

@@ -12,7 +12,8 @@ pub returns-in-Some-clause-found : goal.returns-in-Some-clause-found
 returns-in-Some-clause-found g c = λ tells store.
     let s = g.R.Reads.state c.args.space.now in
     let below = subst (λ (number : Option ℕ). IfSome number (λ found. found < name_count s.records)) c.in-Some.is c.in_ok-number.ensures.below in
-    let found = subst (λ (number : Option ℕ). option_map (name_at s.records) number ≡ label_of (graph_of s.records) (items.Vertex c.args.id)) c.in-Some.is (c.in_ok-number.ensures.found tells) in
+    let found = subst (λ (number : Option ℕ). option_map (name_at s.records) number ≡ label_of (graph_of s.records) (items.Vertex c.args.id)) c.in-Some.is
+    (c.in_ok-number.ensures.found tells) in
     ap Some (c.text_of.ensures.is s.records s.shape store below) ∙ found
 
 pub returns-in_err-number-clause-cause : goal.returns-in_err-number-clause-cause

@@ -26,11 +26,14 @@ returns-then-not-add-clause-counts g c = λ tells store numbered.
     let rest : Source = record { edges = now.edges; left = c.take_first.new.self } in
     let p = passes_numbered graph c.args.filters.now in
     let same = inv.read.same in
-    let is = c.in_ok-passed.ensures.found tells (subst (λ (t : State). IsWellFormed t.records t.shape) (sym same) store) (subst (λ (t : State). All (IsNumbered t.records) c.args.filters.now) (sym same) numbered)
+    let is = c.in_ok-passed.ensures.found tells (subst (λ (t : State). IsWellFormed t.records t.shape) (sym same) store)
+    (subst (λ (t : State). All (IsNumbered t.records) c.args.filters.now) (sym same) numbered)
     ∙ ap (λ (t : State). is_some_and (element_at t.records false c.in-Some.id) (passes_numbered (graph_of t.records) c.args.filters.now)) same
     ∙ ap (λ e. is_some_and (element_at s.records e c.in-Some.id) p) (sym (inv.edges ∙ c.requires)) in
-    count_over p (left_of graph c.args.source.now) (left_of graph now) (left_of graph rest) (element_at s.records now.edges c.in-Some.id) c.in_ok-passed.passed c.args.so_far.now c.loop-id.so_far c.from.result
-    (inv.counted tells store numbered) (left-takes s.records now.edges now.left c.take_first.new.self c.in-Some.id c.in-Some.ensures.some) is c.from.ensures (c.if-not-add.ensures.past refl)
+    count_over p (left_of graph c.args.source.now) (left_of graph now) (left_of graph rest) (element_at s.records now.edges c.in-Some.id) c.in_ok-passed.passed
+    c.args.so_far.now c.loop-id.so_far c.from.result
+    (inv.counted tells store numbered) (left-takes s.records now.edges now.left c.take_first.new.self c.in-Some.id c.in-Some.ensures.some) is c.from.ensures
+    (c.if-not-add.ensures.past refl)
 
 pub loop-id-preserved : goal.loop-id-preserved
 loop-id-preserved g c =
@@ -43,11 +46,14 @@ loop-id-preserved g c =
     let same = inv.read.same in
     record {
       counted = λ tells store numbered.
-          let is = c.in_ok-passed.ensures.found tells (subst (λ (t : State). IsWellFormed t.records t.shape) (sym same) store) (subst (λ (t : State). All (IsNumbered t.records) c.args.filters.now) (sym same) numbered)
+          let is = c.in_ok-passed.ensures.found tells (subst (λ (t : State). IsWellFormed t.records t.shape) (sym same) store)
+          (subst (λ (t : State). All (IsNumbered t.records) c.args.filters.now) (sym same) numbered)
           ∙ ap (λ (t : State). is_some_and (element_at t.records false c.in-Some.id) (passes_numbered (graph_of t.records) c.args.filters.now)) same
           ∙ ap (λ e. is_some_and (element_at s.records e c.in-Some.id) p) (sym (inv.edges ∙ c.requires)) in
-          count_on p (left_of graph c.args.source.now) (left_of graph now) (left_of graph rest) (element_at s.records now.edges c.in-Some.id) c.in_ok-passed.passed c.args.so_far.now c.loop-id.so_far c.from.result
-          (inv.counted tells store numbered) (left-takes s.records now.edges now.left c.take_first.new.self c.in-Some.id c.in-Some.ensures.some) is c.from.ensures c.add.new.self (c.add.ensures.counted c.if-not-add.false);
+          count_on p (left_of graph c.args.source.now) (left_of graph now) (left_of graph rest) (element_at s.records now.edges c.in-Some.id)
+          c.in_ok-passed.passed c.args.so_far.now c.loop-id.so_far c.from.result
+          (inv.counted tells store numbered) (left-takes s.records now.edges now.left c.take_first.new.self c.in-Some.id c.in-Some.ensures.some) is
+          c.from.ensures c.add.new.self (c.add.ensures.counted c.if-not-add.false);
       edges = inv.edges;
       mark = inv.mark;
       read = is_read-on g.R.Reads g.met.R.Reads.further_onward c.args.space.now c.loop-id.space c.vertex_passes.new.space inv.read c.in_ok-passed.ensures.read;
@@ -60,7 +66,8 @@ returns-clause-counts g c = λ tells store numbered.
     let inv = c.loop-id.invariant in
     let now = c.loop-id.source in
     let mark = inv.mark ∙ ap (element_mark s.records) (sym inv.edges) in
-    count_end (passes_numbered graph c.args.filters.now) (left_of graph c.args.source.now) (left_of graph now) c.args.so_far.now c.loop-id.so_far (inv.counted tells store numbered)
+    count_end (passes_numbered graph c.args.filters.now) (left_of graph c.args.source.now) (left_of graph now) c.args.so_far.now c.loop-id.so_far
+    (inv.counted tells store numbered)
     (left-none s.records now.edges now.left (subst (λ n. HasNoneBelow n now.left) mark c.in_default.ensures.none.0))
 
 pub returns-clause-over : goal.returns-clause-over

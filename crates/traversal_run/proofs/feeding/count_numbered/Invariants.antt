@@ -14,7 +14,8 @@ invariant-loop-id g l =
     let graph = graph_of old.records in
     let passes = passes_numbered graph l.filters in
     record {
-      counted : g.R.Reads.tells → IsWellFormed old.records old.shape → All (IsNumbered old.records) l.filters → l.so_far + length (filter passes (left_of graph l.source)) ≡ l.fn.so_far + length (filter passes (left_of graph l.fn.source));
+      counted : g.R.Reads.tells → IsWellFormed old.records old.shape → All (IsNumbered old.records) l.filters
+          → l.so_far + length (filter passes (left_of graph l.source)) ≡ l.fn.so_far + length (filter passes (left_of graph l.fn.source));
       edges : l.source.edges ≡ l.fn.source.edges;
       mark : l.mark ≡ element_mark old.records l.fn.source.edges;
       read : IsRead g.R.Reads l.fn.space l.space;

@@ -17,7 +17,8 @@ returns-clause-counts g c = λ tells store.
     let list = left_of graph c.args.source.now in
     let filters = c.deref.ensures.value in
     let numbered = subst (λ (xs : List NumberedFilter). All (IsNumbered s.records) xs) (sym filters) (c.in_ok-filters.ensures.numbered store) in
-    let same : passes_numbered graph c.deref.result.now ≡ passes_rows graph c.args.rows.now = ap (passes_numbered graph) filters ∙ (λ i item. c.in_ok-filters.ensures.same graph item i) in
+    let same : passes_numbered graph c.deref.result.now ≡ passes_rows graph c.args.rows.now = ap (passes_numbered graph) filters
+    ∙ (λ i item. c.in_ok-filters.ensures.same graph item i) in
     subst (λ (p : Item → Bool). IfOk c.count_numbered.result (λ fits. IsCountOf (filter p list) c.args.so_far.now fits c.count_numbered.new.so_far)) same
     (c.count_numbered.ensures.counts tells store.store numbered)
 

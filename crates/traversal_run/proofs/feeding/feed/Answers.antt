@@ -15,9 +15,11 @@ returns g c =
     let graph = graph_of (g.R.Reads.state c.args.space.now).records in
     let fed = c.in_ok-outs-3.ensures in
     let outs = c.in_ok-outs-3.outs in
-    let stays : c.match-stage-2.stage ≡ c.args.stage.now = elim c.match-stage-2.branch [ in-Mapped+in-Neighbours-1 w ↦ search rules | in-Dedup-1 w ↦ w.stage-is ] in
+    let stays : c.match-stage-2.stage ≡ c.args.stage.now = elim c.match-stage-2.branch
+    [ in-Mapped+in-Neighbours-1 w ↦ search rules | in-Dedup-1 w ↦ w.stage-is ] in
     record {
-      feeds = λ tells store. subst (λ (stage : Stage). Feeds graph c.args.source.now stage outs c.feed_vertices.new.source c.feed_vertices.new.stage) stays (fed.feeds tells store);
+      feeds = λ tells store. subst (λ (stage : Stage). Feeds graph c.args.source.now stage outs c.feed_vertices.new.source c.feed_vertices.new.stage) stays
+          (fed.feeds tells store);
       stops = λ tells store. tt;
       damaged = λ tells. tt;
       limits = fed.limits ∙ ap limit_left stays;
@@ -94,11 +96,13 @@ returns-in_err-outs-clause-read g c = c.in_err-outs.ensures.read
 
 pub returns-in_err-outs-clause-cause : goal.returns-in_err-outs-clause-cause
 returns-in_err-outs-clause-cause g c =
-    fault_stop_cause _ _ _ c.from_residual-in_err-outs.result c.in_err-outs.field-0.0 (omega arith) c.in_err-outs.ensures.cause c.from_residual-in_err-outs.ensures.1
+    fault_stop_cause _ _ _ c.from_residual-in_err-outs.result c.in_err-outs.field-0.0 (omega arith) c.in_err-outs.ensures.cause
+    c.from_residual-in_err-outs.ensures.1
 
 pub returns-in_err-outs-2-clause-damaged : goal.returns-in_err-outs-2-clause-damaged
 returns-in_err-outs-2-clause-damaged g c tells =
-    fault_stops _ _ c.from_residual-in_err-outs-2.result c.in_err-outs-2.field-0.0 c.from_residual-in_err-outs-2.ensures.1 (c.in_err-outs-2.ensures.damaged tells)
+    fault_stops _ _ c.from_residual-in_err-outs-2.result c.in_err-outs-2.field-0.0 c.from_residual-in_err-outs-2.ensures.1
+    (c.in_err-outs-2.ensures.damaged tells)
 
 pub returns-in_err-outs-2-clause-stops : goal.returns-in_err-outs-2-clause-stops
 returns-in_err-outs-2-clause-stops g c _ _ =
@@ -109,11 +113,13 @@ returns-in_err-outs-2-clause-read g c = c.in_err-outs-2.ensures.read
 
 pub returns-in_err-outs-2-clause-cause : goal.returns-in_err-outs-2-clause-cause
 returns-in_err-outs-2-clause-cause g c =
-    fault_stop_cause _ _ _ c.from_residual-in_err-outs-2.result c.in_err-outs-2.field-0.0 (omega arith) c.in_err-outs-2.ensures.cause c.from_residual-in_err-outs-2.ensures.1
+    fault_stop_cause _ _ _ c.from_residual-in_err-outs-2.result c.in_err-outs-2.field-0.0 (omega arith) c.in_err-outs-2.ensures.cause
+    c.from_residual-in_err-outs-2.ensures.1
 
 pub returns-in_err-outs-3-clause-damaged : goal.returns-in_err-outs-3-clause-damaged
 returns-in_err-outs-3-clause-damaged g c tells =
-    fault_stops _ _ c.from_residual-in_err-outs-3.result c.in_err-outs-3.field-0.0 c.from_residual-in_err-outs-3.ensures.1 (c.in_err-outs-3.ensures.damaged tells)
+    fault_stops _ _ c.from_residual-in_err-outs-3.result c.in_err-outs-3.field-0.0 c.from_residual-in_err-outs-3.ensures.1
+    (c.in_err-outs-3.ensures.damaged tells)
 
 pub returns-in_err-outs-3-clause-stops : goal.returns-in_err-outs-3-clause-stops
 returns-in_err-outs-3-clause-stops g c _ _ =
@@ -124,9 +130,11 @@ returns-in_err-outs-3-clause-read g c = c.in_err-outs-3.ensures.read
 
 pub returns-in_err-outs-3-clause-cause : goal.returns-in_err-outs-3-clause-cause
 returns-in_err-outs-3-clause-cause g c =
-    fault_stop_cause _ _ _ c.from_residual-in_err-outs-3.result c.in_err-outs-3.field-0.0 (omega arith) c.in_err-outs-3.ensures.cause c.from_residual-in_err-outs-3.ensures.1
+    fault_stop_cause _ _ _ c.from_residual-in_err-outs-3.result c.in_err-outs-3.field-0.0 (omega arith) c.in_err-outs-3.ensures.cause
+    c.from_residual-in_err-outs-3.ensures.1
 
 pub returns-in_err-outs-3-clause-hop : goal.returns-in_err-outs-3-clause-hop
 returns-in_err-outs-3-clause-hop g c = λ vertices hop.
-    let stays : c.match-stage-2.stage ≡ c.args.stage.now = elim c.match-stage-2.branch [ in-Mapped+in-Neighbours-1 w ↦ search rules | in-Dedup-1 w ↦ w.stage-is ] in
+    let stays : c.match-stage-2.stage ≡ c.args.stage.now = elim c.match-stage-2.branch
+    [ in-Mapped+in-Neighbours-1 w ↦ search rules | in-Dedup-1 w ↦ w.stage-is ] in
     subst (λ (stage : Stage). FeedsHop g.R.Reads c.args.names.now.names stage c.args.space.now c.feed_vertices.new.space c.args.source.now c.feed_vertices.new.source) stays c.in_err-outs-3.ensures.hop

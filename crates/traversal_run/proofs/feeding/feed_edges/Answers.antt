@@ -28,7 +28,8 @@ returns-in_default-clause-feeds g c = λ tells store.
     let first = subst (λ (t : State). GivesFirst (graph_of t.records) c.loop.source c.in_ok-item.field-0 c.next.new.self) inv.read.same
     (c.in_ok-item.ensures.first tells (named-read space c.args.space.now c.loop.space c.args.names.now.names inv.read store)) in
     let none = none_left graph c.loop.source c.next.new.self c.end.new.self c.in_ok-item.field-0 c.in_default.is first c.end.ensures in
-    feeds_end graph c.args.source.now c.loop.source c.end.new.self c.args.stage.now c.loop.stage c.new.result c.new.ensures (inv.feeds tells store) none.0 none.1
+    feeds_end graph c.args.source.now c.loop.source c.end.new.self c.args.stage.now c.loop.stage c.new.result c.new.ensures (inv.feeds tells store) none.0
+    none.1
 
 pub returns-then-not-is_empty-clause-feeds : goal.returns-then-not-is_empty-clause-feeds
 returns-then-not-is_empty-clause-feeds g c = λ tells store.
@@ -42,7 +43,8 @@ returns-then-not-is_empty-clause-feeds g c = λ tells store.
     = subst (λ (o : Option Item). GivesFirst graph c.loop.source o c.next.new.self) c.in-Some.is first in
     let takes = subst (λ (t : State). Takes (graph_of t.records) c.loop.stage c.in-Some.item c.in_ok-outs.outs c.take.new.self) read.same
     (c.in_ok-outs.ensures.takes tells (named-read space c.args.space.now c.next.new.space c.args.names.now.names read store)) in
-    feeds_more graph c.args.source.now c.loop.source c.next.new.self c.args.stage.now c.loop.stage c.take.new.self c.in-Some.item c.in_ok-outs.outs (inv.feeds tells store) gives takes
+    feeds_more graph c.args.source.now c.loop.source c.next.new.self c.args.stage.now c.loop.stage c.take.new.self c.in-Some.item c.in_ok-outs.outs
+    (inv.feeds tells store) gives takes
 
 pub loop-preserved : goal.loop-preserved
 loop-preserved g c =

@@ -30,7 +30,9 @@ returns-then-not-is_empty-clause-feeds g c = λ tells store.
     let read = is_read-on space g.met.R.Reads.further_onward c.args.space.now c.loop-id.space c.vertex_row.new.space inv.read c.in_ok-row.ensures.read in
     let takes = subst (λ (t : State). Takes (graph_of t.records) c.loop-id.stage c.vertex.result c.in_ok-outs.outs c.take.new.self) read.same
     (c.in_ok-outs.ensures.takes tells (named-read space c.args.space.now c.vertex_row.new.space c.args.names.now.names read store)) in
-    let gives = gives_vertex s.records now c.take_first.new.self c.in-Some.id c.in_ok-row.row (inv.edges ∙ c.requires.vertices) c.in-Some.ensures.some (sym (ap (λ (t : State). element_at t.records false c.in-Some.id) inv.read.same) ∙ c.in_ok-row.ensures.is tells) (sym c.is_some.ensures ∙ c.if-is_some.true) in
+    let gives = gives_vertex s.records now c.take_first.new.self c.in-Some.id c.in_ok-row.row (inv.edges ∙ c.requires.vertices) c.in-Some.ensures.some
+    (sym (ap (λ (t : State). element_at t.records false c.in-Some.id) inv.read.same) ∙ c.in_ok-row.ensures.is tells)
+    (sym c.is_some.ensures ∙ c.if-is_some.true) in
     feeds_more graph c.args.source.now now rest c.args.stage.now c.loop-id.stage c.take.new.self c.vertex.result c.in_ok-outs.outs (inv.feeds tells store)
     (gives ∙ ap (λ (item : Item). item ∷ left_of graph rest) (sym c.vertex.ensures)) takes
 
@@ -61,7 +63,9 @@ loop-id-preserved-then-is_some g c =
       feeds = λ tells store.
           let takes = subst (λ (t : State). Takes (graph_of t.records) c.loop-id.stage c.vertex.result c.in_ok-outs.outs c.take.new.self) read.same
           (c.in_ok-outs.ensures.takes tells (named-read space c.args.space.now c.vertex_row.new.space c.args.names.now.names read store)) in
-          let gives = gives_vertex s.records now c.take_first.new.self c.in-Some.id c.in_ok-row.row (inv.edges ∙ c.requires.vertices) c.in-Some.ensures.some (sym (ap (λ (t : State). element_at t.records false c.in-Some.id) inv.read.same) ∙ c.in_ok-row.ensures.is tells) (sym c.is_some.ensures ∙ c.if-is_some.true) in
+          let gives = gives_vertex s.records now c.take_first.new.self c.in-Some.id c.in_ok-row.row (inv.edges ∙ c.requires.vertices) c.in-Some.ensures.some
+          (sym (ap (λ (t : State). element_at t.records false c.in-Some.id) inv.read.same) ∙ c.in_ok-row.ensures.is tells)
+          (sym c.is_some.ensures ∙ c.if-is_some.true) in
           feeds_on graph c.args.source.now rest c.args.stage.now c.take.new.self c.in_ok-outs.outs nothing
           (feeds_more graph c.args.source.now now rest c.args.stage.now c.loop-id.stage c.take.new.self c.vertex.result c.in_ok-outs.outs (inv.feeds tells store)
           (gives ∙ ap (λ (item : Item). item ∷ left_of graph rest) (sym c.vertex.ensures)) takes);
@@ -71,7 +75,8 @@ loop-id-preserved-then-is_some g c =
       plain = c.take.ensures.plain ∙ inv.plain;
       edges = inv.edges;
       mark = inv.mark;
-      hop = fed_took space c.args.names.now.names c.args.stage.now c.args.space.now c.args.source.now.left c.take.new.self c.take.new.space c.take_first.new.self
+      hop = fed_took space c.args.names.now.names c.args.stage.now c.args.space.now c.args.source.now.left c.take.new.self c.take.new.space
+          c.take_first.new.self
           (took_step space c.args.names.now.names c.args.stage.now c.args.space.now c.args.source.now.left c.loop-id.stage c.loop-id.space c.vertex_row.new.space c.take.new.space now.left c.take_first.new.self c.in-Some.id inv.hop c.in-Some.ensures.some c.in_ok-row.ensures.gets read
           (λ tells store. subst (λ (item : Item). StageReads c.loop-id.stage item (space.state c.vertex_row.new.space) (space.state c.take.new.space)) c.vertex.ensures (c.take.ensures.reads tells store)));
       read = is_read-on space g.met.R.Reads.further_onward c.args.space.now c.vertex_row.new.space c.take.new.space read c.in_ok-outs.ensures.read;
@@ -87,14 +92,16 @@ loop-id-preserved g c =
     let rest : Source = record { edges = now.edges; left = c.take_first.new.self } in
     let read = is_read-on space g.met.R.Reads.further_onward c.args.space.now c.loop-id.space c.vertex_row.new.space inv.read c.in_ok-row.ensures.read in
     record {
-      feeds = λ tells store. feeds_past graph c.args.source.now now rest c.args.stage.now c.loop-id.stage (gives_none s.records now c.take_first.new.self c.in-Some.id c.in_ok-row.row (inv.edges ∙ c.requires.vertices) c.in-Some.ensures.some (sym (ap (λ (t : State). element_at t.records false c.in-Some.id) inv.read.same) ∙ c.in_ok-row.ensures.is tells) (sym c.is_some.ensures ∙ c.if-is_some.false)) (inv.feeds tells store);
+      feeds = λ tells store. feeds_past graph c.args.source.now now rest c.args.stage.now c.loop-id.stage
+          (gives_none s.records now c.take_first.new.self c.in-Some.id c.in_ok-row.row (inv.edges ∙ c.requires.vertices) c.in-Some.ensures.some (sym (ap (λ (t : State). element_at t.records false c.in-Some.id) inv.read.same) ∙ c.in_ok-row.ensures.is tells) (sym c.is_some.ensures ∙ c.if-is_some.false)) (inv.feeds tells store);
       limits = inv.limits;
       counts = inv.counts;
       hops = inv.hops;
       plain = inv.plain;
       edges = inv.edges;
       mark = inv.mark;
-      hop = fed_took space c.args.names.now.names c.args.stage.now c.args.space.now c.args.source.now.left c.loop-id.stage c.vertex_row.new.space c.take_first.new.self
+      hop = fed_took space c.args.names.now.names c.args.stage.now c.args.space.now c.args.source.now.left c.loop-id.stage c.vertex_row.new.space
+          c.take_first.new.self
           (took_row space c.args.names.now.names c.args.stage.now c.args.space.now c.args.source.now.left c.loop-id.stage c.loop-id.space c.vertex_row.new.space now.left c.take_first.new.self c.in-Some.id inv.hop c.in-Some.ensures.some c.in_ok-row.ensures.gets);
       read = read;
     }
@@ -107,7 +114,8 @@ returns-clause-feeds g c = λ tells store.
     let now = c.loop-id.source in
     let mark = inv.mark ∙ ap (element_mark s.records) (sym inv.edges) in
     let none = left-none s.records now.edges now.left (subst (λ n. HasNoneBelow n now.left) mark c.in_default.ensures.none.0) in
-    feeds_end graph c.args.source.now now c.end.new.self c.args.stage.now c.loop-id.stage c.new.result c.new.ensures (inv.feeds tells store) none (ended graph now c.end.new.self c.end.ensures)
+    feeds_end graph c.args.source.now now c.end.new.self c.args.stage.now c.loop-id.stage c.new.result c.new.ensures (inv.feeds tells store) none
+    (ended graph now c.end.new.self c.end.ensures)
 
 pub returns-in_err-row-clause-read : goal.returns-in_err-row-clause-read
 returns-in_err-row-clause-read g c =
@@ -203,5 +211,6 @@ returns-clause-hop g c =
     let space = g.R.Reads in
     let inv = c.loop-id.invariant in
     let now = c.loop-id.source in
-    feeds_over space c.args.names.now.names c.args.stage.now c.args.space.now c.args.source.now c.loop-id.stage c.loop-id.space now.left c.end.new.self (ap (λ (source : Source). source.edges) c.end.ensures ∙ inv.edges)
+    feeds_over space c.args.names.now.names c.args.stage.now c.args.space.now c.args.source.now c.loop-id.stage c.loop-id.space now.left c.end.new.self
+    (ap (λ (source : Source). source.edges) c.end.ensures ∙ inv.edges)
     (ended_none now c.end.new.self c.end.ensures) inv.hop

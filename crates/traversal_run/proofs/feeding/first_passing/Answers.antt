@@ -30,7 +30,9 @@ returns-then-passed-clause-feeds g c = λ tells store.
     let item = items.Vertex c.in-Some.id in
     let is = c.in_ok-passed.ensures.found tells (named-read space c.args.space.now c.vertex_row.new.space c.args.names.now.names read store)
     ∙ ap (λ (t : State). passes (graph_of t.records) f item) read.same in
-    let gives = gives_vertex s.records now c.take_first.new.self c.in-Some.id c.in_ok-row.row (inv.edges ∙ c.requires) c.in-Some.ensures.some (sym (ap (λ (t : State). element_at t.records false c.in-Some.id) inv.read.same) ∙ c.in_ok-row.ensures.is tells) (sym c.is_some.ensures ∙ c.if-is_some.true) in
+    let gives = gives_vertex s.records now c.take_first.new.self c.in-Some.id c.in_ok-row.row (inv.edges ∙ c.requires) c.in-Some.ensures.some
+    (sym (ap (λ (t : State). element_at t.records false c.in-Some.id) inv.read.same) ∙ c.in_ok-row.ensures.is tells)
+    (sym c.is_some.ensures ∙ c.if-is_some.true) in
     feeds_more graph c.args.source.now now rest (filter_stage f) (filter_stage f) (filter_stage f) item c.one.result (inv.feeds tells store) gives
     (filter_takes graph f item c.one.result c.in_ok-passed.passed is (c.one.ensures ∙ ap (λ (i : Item). i ∷ []) c.vertex.ensures ∙ ap (λ b. cond b (item ∷ []) []) (sym c.if-passed.true)))
 
@@ -49,7 +51,9 @@ loop-id-preserved-else-passed g c =
           let item = items.Vertex c.in-Some.id in
           let is = c.in_ok-passed.ensures.found tells (named-read space c.args.space.now c.vertex_row.new.space c.args.names.now.names read store)
           ∙ ap (λ (t : State). passes (graph_of t.records) f item) read.same in
-          let gives = gives_vertex s.records now c.take_first.new.self c.in-Some.id c.in_ok-row.row (inv.edges ∙ c.requires) c.in-Some.ensures.some (sym (ap (λ (t : State). element_at t.records false c.in-Some.id) inv.read.same) ∙ c.in_ok-row.ensures.is tells) (sym c.is_some.ensures ∙ c.if-is_some.true) in
+          let gives = gives_vertex s.records now c.take_first.new.self c.in-Some.id c.in_ok-row.row (inv.edges ∙ c.requires) c.in-Some.ensures.some
+          (sym (ap (λ (t : State). element_at t.records false c.in-Some.id) inv.read.same) ∙ c.in_ok-row.ensures.is tells)
+          (sym c.is_some.ensures ∙ c.if-is_some.true) in
           feeds_more graph c.args.source.now now rest (filter_stage f) (filter_stage f) (filter_stage f) item [] (inv.feeds tells store) gives
           (filter_takes graph f item [] c.in_ok-passed.passed is (ap (λ b. cond b (item ∷ []) []) (sym c.if-passed.false)));
       edges = inv.edges;
@@ -69,7 +73,8 @@ loop-id-preserved g c =
     record {
       feeds = λ tells store.
           let f = c.args.filter.now in
-          feeds_past graph c.args.source.now now rest (filter_stage f) (filter_stage f) (gives_none s.records now c.take_first.new.self c.in-Some.id c.in_ok-row.row (inv.edges ∙ c.requires) c.in-Some.ensures.some (sym (ap (λ (t : State). element_at t.records false c.in-Some.id) inv.read.same) ∙ c.in_ok-row.ensures.is tells) (sym c.is_some.ensures ∙ c.if-is_some.false)) (inv.feeds tells store);
+          feeds_past graph c.args.source.now now rest (filter_stage f) (filter_stage f)
+          (gives_none s.records now c.take_first.new.self c.in-Some.id c.in_ok-row.row (inv.edges ∙ c.requires) c.in-Some.ensures.some (sym (ap (λ (t : State). element_at t.records false c.in-Some.id) inv.read.same) ∙ c.in_ok-row.ensures.is tells) (sym c.is_some.ensures ∙ c.if-is_some.false)) (inv.feeds tells store);
       edges = inv.edges;
       mark = inv.mark;
       read = read;
@@ -83,7 +88,8 @@ returns-clause-feeds g c = λ tells store.
     let now = c.loop-id.source in
     let mark = inv.mark ∙ ap (element_mark s.records) (sym inv.edges) in
     let none = left-none s.records now.edges now.left (subst (λ n. HasNoneBelow n now.left) mark c.in_default.ensures.none.0) in
-    feeds_end graph c.args.source.now now c.end.new.self (filter_stage c.args.filter.now) (filter_stage c.args.filter.now) c.new.result c.new.ensures (inv.feeds tells store) none (ended graph now c.end.new.self c.end.ensures)
+    feeds_end graph c.args.source.now now c.end.new.self (filter_stage c.args.filter.now) (filter_stage c.args.filter.now) c.new.result c.new.ensures
+    (inv.feeds tells store) none (ended graph now c.end.new.self c.end.ensures)
 
 pub returns-in_err-row-clause-read : goal.returns-in_err-row-clause-read
 returns-in_err-row-clause-read g c =

@@ -10,7 +10,8 @@ abbrev pub invariant-loop-id : goal.invariant-loop-id
 invariant-loop-id g l =
     let old = g.R.Reads.state l.fn.space in
     record {
-      feeds : g.R.Reads.tells → IsNamedStore old.records old.shape l.names.names → Feeds (graph_of old.records) l.fn.source (filter_stage l.filter) [] l.source (filter_stage l.filter);
+      feeds : g.R.Reads.tells → IsNamedStore old.records old.shape l.names.names
+          → Feeds (graph_of old.records) l.fn.source (filter_stage l.filter) [] l.source (filter_stage l.filter);
       edges : l.source.edges ≡ l.fn.source.edges;
       mark : l.mark ≡ element_mark old.records l.fn.source.edges;
       read : IsRead g.R.Reads l.fn.space l.space;

@@ -17,7 +17,8 @@ pub returns-clause-is : goal.returns-clause-is
 returns-clause-is g c = λ tells store.
     let s = g.R.Reads.state c.args.space.now in
     let low = subst (λ (row : Option RelRow). IfSome row (λ (edge : RelRow). edge.label < name_count s.records)) c.in-Some.is c.in_ok-row.ensures.typed in
-    ap (λ (item : Item). Some item) (c.in_ok-item.ensures s.records s.shape store low) ∙ sym (element-typed s.records c.args.id c.in-Some.row (sym (c.in_ok-row.ensures.found tells) ∙ c.in-Some.is))
+    ap (λ (item : Item). Some item) (c.in_ok-item.ensures s.records s.shape store low)
+    ∙ sym (element-typed s.records c.args.id c.in-Some.row (sym (c.in_ok-row.ensures.found tells) ∙ c.in-Some.is))
 
 pub returns-in_err-row-clause-cause : goal.returns-in_err-row-clause-cause
 returns-in_err-row-clause-cause g c =

@@ -29,13 +29,16 @@ pub returns-clause-gets : goal.returns-clause-gets
 returns-clause-gets g c = load_reads relationships_file (g.R.Reads.state c.args.space.now) (g.R.Reads.state c.load.new.space) c.args.id c.load.ensures.state
 
 pub returns-in_err-row-clause-gets : goal.returns-in_err-row-clause-gets
-returns-in_err-row-clause-gets g c = load_reads relationships_file (g.R.Reads.state c.args.space.now) (g.R.Reads.state c.load.new.space) c.args.id c.load.ensures.state
+returns-in_err-row-clause-gets g c = load_reads relationships_file (g.R.Reads.state c.args.space.now) (g.R.Reads.state c.load.new.space) c.args.id
+    c.load.ensures.state
 
 pub returns-in_default-clause-gets : goal.returns-in_default-clause-gets
-returns-in_default-clause-gets g c = load_reads relationships_file (g.R.Reads.state c.args.space.now) (g.R.Reads.state c.load.new.space) c.args.id c.load.ensures.state
+returns-in_default-clause-gets g c = load_reads relationships_file (g.R.Reads.state c.args.space.now) (g.R.Reads.state c.load.new.space) c.args.id
+    c.load.ensures.state
 
 pub returns-then-row-mark-clause-gets : goal.returns-then-row-mark-clause-gets
-returns-then-row-mark-clause-gets g c = load_reads relationships_file (g.R.Reads.state c.args.space.now) (g.R.Reads.state c.load.new.space) c.args.id c.load.ensures.state
+returns-then-row-mark-clause-gets g c = load_reads relationships_file (g.R.Reads.state c.args.space.now) (g.R.Reads.state c.load.new.space) c.args.id
+    c.load.ensures.state
 
 pub returns-in_err-row-clause-found : goal.returns-in_err-row-clause-found
 returns-in_err-row-clause-found g c _ = never_ok c.from_residual.result _ _ c.from_residual.ensures.1

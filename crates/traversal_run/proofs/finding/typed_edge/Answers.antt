@@ -7,4 +7,5 @@ use Rattle.traversal_run.proofs.finding.typed_edge.Goals as goal
 pub returns : goal.returns
 returns c = λ records shape store low.
     let row = c.args.row.now in
-    subst (λ (name : List ℕ). IfOk c.edge_item.result (λ (item : Item). item ≡ items.Edge row.id name row.from row.to)) (c.text_of.ensures.is records shape store low) c.edge_item.ensures
+    subst (λ (name : List ℕ). IfOk c.edge_item.result (λ (item : Item). item ≡ items.Edge row.id name row.from row.to))
+    (c.text_of.ensures.is records shape store low) c.edge_item.ensures

@@ -6,7 +6,8 @@ use Rattle.prop_index.specs.Looking.{ReadsForLookup, nodes_in}
 use Rattle.prop_index.specs.declared.lookup_fault.LookupFault.{LookupFault}
 use Rattle.traversal_run.specs.FoundNodes.ReadsForFind.{ByIndex, NoName}
 use Rattle.traversal_run.specs.Reading.{IsNamedStore}
-use Rattle.traversal_run.proofs.AskedIndexes.{err-then, found-index, found-meaning, found-text, looked-reads, no-key, no-label, ok-anyway, ok-then, refused-index}
+use Rattle.traversal_run.proofs.AskedIndexes.{err-then, found-index, found-meaning, found-text, looked-reads, no-key}
+use Rattle.traversal_run.proofs.AskedIndexes.{no-label, ok-anyway, ok-then, refused-index}
 use Rattle.traversal_run.proofs.OnlyReads.{is_read-none}
 use Rattle.traversal_run.proofs.found_nodes.find_nodes.Goals as goal
 
@@ -37,7 +38,8 @@ returns-clause-found g c = λ tells store.
     let has = indexed s c.args.names.now.names store in
     ok-then c.lookup.result
     (λ (nodes : Vec ℕ Global) (is : nodes.items ≡ nodes_in s.records l k c.args.value.now).
-    found-meaning s.records s.shape has c.args.label.now c.args.key.now l k (c.in-Some.ensures.finds store) (c.in-Some-text_number.ensures.finds store) c.in-Some.ensures.below c.in-Some-text_number.ensures.below c.args.value.now nodes.items is)
+    found-meaning s.records s.shape has c.args.label.now c.args.key.now l k (c.in-Some.ensures.finds store) (c.in-Some-text_number.ensures.finds store)
+    c.in-Some.ensures.below c.in-Some-text_number.ensures.below c.args.value.now nodes.items is)
     (c.lookup.ensures.graph tells has (record { label_low = c.in-Some.ensures.below; key_low = c.in-Some-text_number.ensures.below }))
 
 pub returns-clause-there : goal.returns-clause-there
@@ -48,7 +50,8 @@ returns-clause-there g c = λ tells store.
     let has = indexed s c.args.names.now.names store in
     ok-anyway c.lookup.result
     (λ (reads : ReadsForLookup l k c.args.value.now s (g.R.Reads.state c.lookup.new.space)).
-    found-index s.records s.shape has c.args.label.now c.args.key.now l k (c.in-Some.ensures.finds store) (c.in-Some-text_number.ensures.finds store) c.in-Some.ensures.below c.in-Some-text_number.ensures.below reads.definitions reads.walk reads.definition reads.listed reads.pair)
+    found-index s.records s.shape has c.args.label.now c.args.key.now l k (c.in-Some.ensures.finds store) (c.in-Some-text_number.ensures.finds store)
+    c.in-Some.ensures.below c.in-Some-text_number.ensures.below reads.definitions reads.walk reads.definition reads.listed reads.pair)
     (c.lookup.ensures.cost tells has)
 
 pub returns-clause-refused : goal.returns-clause-refused

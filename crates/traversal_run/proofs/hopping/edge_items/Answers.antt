@@ -17,7 +17,8 @@ names_then : (s m : State) → SameButReads s m → (n : ℕ) → n < name_count
 names_then s m same n low = subst (λ (t : State). n < name_count t.records) (sym same) low
 
 -- one more edge
-more_edges : (s m : State) → SameButReads s m → (rows : List EdgeRow) (at : ℕ) (d : EdgeRow) (old new : List Item) → at < length rows → old ≡ map (row_item s.records) (take at rows)
+more_edges : (s m : State) → SameButReads s m → (rows : List EdgeRow) (at : ℕ) (d : EdgeRow) (old new : List Item) → at < length rows
+    → old ≡ map (row_item s.records) (take at rows)
     → new ≡ old ++ row_item m.records (get_or rows at d) ∷ [] → new ≡ map (row_item s.records) (take (at + 1) rows)
 more_edges s m same rows at d old new lt are more =
     subst (λ (t : State). new ≡ old ++ row_item t.records (get_or rows at d) ∷ []) same more
@@ -32,7 +33,8 @@ returns-in_err-push_edge-clause-damaged g c = λ tells.
     rw (p.1, p.2) (blamed_before (space.state c.args.space.now) (space.state c.loop-row.space) c.loop-row.invariant.read.same c.in_err-push_edge.field-0.0 (c.in_err-push_edge.ensures.damaged tells))
 
 pub returns-in_err-push_edge-clause-read : goal.returns-in_err-push_edge-clause-read
-returns-in_err-push_edge-clause-read g c = is_read-on g.R.Reads g.met.R.Reads.further_onward c.args.space.now c.loop-row.space c.push_edge.new.space c.loop-row.invariant.read c.push_edge.ensures.read
+returns-in_err-push_edge-clause-read g c = is_read-on g.R.Reads g.met.R.Reads.further_onward c.args.space.now c.loop-row.space c.push_edge.new.space
+    c.loop-row.invariant.read c.push_edge.ensures.read
 
 pub loop-row-preserved : goal.loop-row-preserved
 loop-row-preserved g c =
@@ -41,7 +43,8 @@ loop-row-preserved g c =
     let read = c.loop-row.invariant.read in
     record {
       are = λ tells store typed.
-          more_edges (space.state c.args.space.now) (space.state c.loop-row.space) read.same c.args.rows.now at _ c.loop-row.items c.push_edge.new.items (omega arith) (c.loop-row.invariant.are tells store typed)
+          more_edges (space.state c.args.space.now) (space.state c.loop-row.space) read.same c.args.rows.now at _ c.loop-row.items c.push_edge.new.items
+          (omega arith) (c.loop-row.invariant.are tells store typed)
           (c.in_ok-push_edge.ensures.is tells (named-read space c.args.space.now c.loop-row.space c.args.names.now.names read store)
           (names_then (space.state c.args.space.now) (space.state c.loop-row.space) read.same _ (typed at _ (omega arith))));
       no_read = λ tells store typed.
@@ -58,7 +61,8 @@ returns-clause-are g c = λ tells store typed.
 
 pub returns-in_err-push_edge-clause-cause : goal.returns-in_err-push_edge-clause-cause
 returns-in_err-push_edge-clause-cause g c =
-    cause_passed _ _ _ c.from_residual.result c.in_err-push_edge.field-0.0 c.loop-row.invariant.read.later c.in_err-push_edge.ensures.cause c.from_residual.ensures.1
+    cause_passed _ _ _ c.from_residual.result c.in_err-push_edge.field-0.0 c.loop-row.invariant.read.later c.in_err-push_edge.ensures.cause
+    c.from_residual.ensures.1
 
 pub returns-in_err-push_edge-clause-are : goal.returns-in_err-push_edge-clause-are
 returns-in_err-push_edge-clause-are g c _ _ _ = never_ok c.from_residual.result _ _ c.from_residual.ensures.1

@@ -32,10 +32,12 @@ returns-clause-found g c = λ tells store.
     (subst (λ (t : State). IfOk c.edge_items.result (λ (value : List Item). value ≡ map (row_item t.records) c.deref.result.now)) read.same got)
 
 pub returns-clause-damaged : goal.returns-clause-damaged
-returns-clause-damaged g c = λ tells. subst (λ (t : State). IfErr c.edge_items.result (BlamesBroken t.records t.shape)) c.in_ok-rows.ensures.read.same (c.edge_items.ensures.damaged tells)
+returns-clause-damaged g c = λ tells. subst (λ (t : State). IfErr c.edge_items.result (BlamesBroken t.records t.shape)) c.in_ok-rows.ensures.read.same
+    (c.edge_items.ensures.damaged tells)
 
 pub returns-clause-read : goal.returns-clause-read
-returns-clause-read g c = is_read-on g.R.Reads g.met.R.Reads.further_onward c.args.space.now c.rows_of.new.space c.edge_items.new.space c.in_ok-rows.ensures.read c.edge_items.ensures.read
+returns-clause-read g c = is_read-on g.R.Reads g.met.R.Reads.further_onward c.args.space.now c.rows_of.new.space c.edge_items.new.space
+    c.in_ok-rows.ensures.read c.edge_items.ensures.read
 
 pub returns-in_err-rows-clause-found : goal.returns-in_err-rows-clause-found
 returns-in_err-rows-clause-found g c _ _ = never_ok c.from_residual.result _ _ c.from_residual.ensures.1
@@ -48,7 +50,8 @@ returns-in_default-clause-reads g c = λ tells store.
 pub returns-in_err-rows-clause-reads : goal.returns-in_err-rows-clause-reads
 returns-in_err-rows-clause-reads g c = λ tells store.
     let s = g.R.Reads.state c.args.space.now in
-    subst (λ (item : Item). ReadsAtMost (hop_reads s.records c.args.hop.now item) s (g.R.Reads.state c.rows_of.new.space)) (sym c.in-Vertex.is) (c.in_err-rows.ensures.reads tells store)
+    subst (λ (item : Item). ReadsAtMost (hop_reads s.records c.args.hop.now item) s (g.R.Reads.state c.rows_of.new.space)) (sym c.in-Vertex.is)
+    (c.in_err-rows.ensures.reads tells store)
 
 pub returns-clause-reads : goal.returns-clause-reads
 returns-clause-reads g c = λ tells store.

@@ -44,14 +44,17 @@ returns-in_default-clause-reads g c = λ tells store.
 pub returns-in_err-rows-clause-reads : goal.returns-in_err-rows-clause-reads
 returns-in_err-rows-clause-reads g c = λ tells store.
     let s = g.R.Reads.state c.args.space.now in
-    subst (λ (item : Item). ReadsAtMost (hop_reads s.records c.args.hop.now item) s (g.R.Reads.state c.rows_of.new.space)) (sym c.in-Vertex.is) (c.in_err-rows.ensures.reads tells store)
+    subst (λ (item : Item). ReadsAtMost (hop_reads s.records c.args.hop.now item) s (g.R.Reads.state c.rows_of.new.space)) (sym c.in-Vertex.is)
+    (c.in_err-rows.ensures.reads tells store)
 
 pub returns-in_err-items-clause-reads : goal.returns-in_err-items-clause-reads
 returns-in_err-items-clause-reads g c = λ tells store.
     let s = g.R.Reads.state c.args.space.now in
-    subst (λ (item : Item). ReadsAtMost (hop_reads s.records c.args.hop.now item) s (g.R.Reads.state c.rows_of.new.space)) (sym c.in-Vertex.is) (c.in_ok-rows.ensures.reads tells store)
+    subst (λ (item : Item). ReadsAtMost (hop_reads s.records c.args.hop.now item) s (g.R.Reads.state c.rows_of.new.space)) (sym c.in-Vertex.is)
+    (c.in_ok-rows.ensures.reads tells store)
 
 pub returns-clause-reads : goal.returns-clause-reads
 returns-clause-reads g c = λ tells store.
     let s = g.R.Reads.state c.args.space.now in
-    subst (λ (item : Item). ReadsAtMost (hop_reads s.records c.args.hop.now item) s (g.R.Reads.state c.rows_of.new.space)) (sym c.in-Vertex.is) (c.in_ok-rows.ensures.reads tells store)
+    subst (λ (item : Item). ReadsAtMost (hop_reads s.records c.args.hop.now item) s (g.R.Reads.state c.rows_of.new.space)) (sym c.in-Vertex.is)
+    (c.in_ok-rows.ensures.reads tells store)

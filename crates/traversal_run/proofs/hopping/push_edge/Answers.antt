@@ -10,7 +10,8 @@ returns-then-row-mark-clause-is g c = λ tells store typed.
     let s = g.R.Reads.state c.args.space.now in
     let row = c.args.row.now in
     let name = c.text_of.ensures.is s.records s.shape store typed in
-    c.in_ok-push.ensures ∙ ap (λ (item : Item). c.args.items.now ++ item ∷ []) (c.in_ok-item.ensures ∙ ap (λ (label : List ℕ). items.Edge row.id label row.from row.to) name)
+    c.in_ok-push.ensures ∙ ap (λ (item : Item). c.args.items.now ++ item ∷ [])
+    (c.in_ok-item.ensures ∙ ap (λ (label : List ℕ). items.Edge row.id label row.from row.to) name)
 
 pub returns-in_ok-push-2-clause-is : goal.returns-in_ok-push-2-clause-is
 returns-in_ok-push-2-clause-is g c = λ tells store typed.
@@ -32,7 +33,8 @@ returns-in_err-push-clause-cause g c =
 
 pub returns-in_err-item-2-clause-cause : goal.returns-in_err-item-2-clause-cause
 returns-in_err-item-2-clause-cause g c =
-    cause_passed _ _ _ c.from_residual-in_err-item-2.result c.in_err-item-2.field-0.0 (omega arith) c.in_err-item-2.ensures.cause c.from_residual-in_err-item-2.ensures.1
+    cause_passed _ _ _ c.from_residual-in_err-item-2.result c.in_err-item-2.field-0.0 (omega arith) c.in_err-item-2.ensures.cause
+    c.from_residual-in_err-item-2.ensures.1
 
 pub returns-in_err-push-2-clause-cause : goal.returns-in_err-push-2-clause-cause
 returns-in_err-push-2-clause-cause g c =

@@ -19,7 +19,8 @@ returns-in-Ok-clause-found g c = λ tells store types.
     (rows_at_are s.records s.shape store numbers hop.labels (stand_for s.records numbers hop.labels types.finds types.below types.none) c.args.id hop.direction)
 
 pub returns-in-Ok-clause-read : goal.returns-in-Ok-clause-read
-returns-in-Ok-clause-read g c = is_read-gets g.R.Reads c.in-Ok.ensures.at_most.count c.args.space.now c.expand.new.space c.in-Ok.ensures.at_most.is c.in-Ok.ensures.onward c.in-Ok.ensures.cause.later
+returns-in-Ok-clause-read g c = is_read-gets g.R.Reads c.in-Ok.ensures.at_most.count c.args.space.now c.expand.new.space c.in-Ok.ensures.at_most.is
+    c.in-Ok.ensures.onward c.in-Ok.ensures.cause.later
 
 pub returns-in-Err-NoNode-clause-found : goal.returns-in-Err-NoNode-clause-found
 returns-in-Err-NoNode-clause-found g c = λ tells store types.
@@ -30,16 +31,20 @@ returns-in-Err-NoNode-clause-found g c = λ tells store types.
     (edges_at-no_node s.records s.shape store hop.labels c.args.id hop.direction missing.1)
 
 pub returns-in-Err-NoNode-clause-read : goal.returns-in-Err-NoNode-clause-read
-returns-in-Err-NoNode-clause-read g c = is_read-gets g.R.Reads c.expand.ensures.at_most.count c.args.space.now c.expand.new.space c.expand.ensures.at_most.is c.expand.ensures.onward c.expand.ensures.cause.later
+returns-in-Err-NoNode-clause-read g c = is_read-gets g.R.Reads c.expand.ensures.at_most.count c.args.space.now c.expand.new.space c.expand.ensures.at_most.is
+    c.expand.ensures.onward c.expand.ensures.cause.later
 
 pub returns-in-Err-Memory-clause-read : goal.returns-in-Err-Memory-clause-read
-returns-in-Err-Memory-clause-read g c = is_read-gets g.R.Reads c.expand.ensures.at_most.count c.args.space.now c.expand.new.space c.expand.ensures.at_most.is c.expand.ensures.onward c.expand.ensures.cause.later
+returns-in-Err-Memory-clause-read g c = is_read-gets g.R.Reads c.expand.ensures.at_most.count c.args.space.now c.expand.new.space c.expand.ensures.at_most.is
+    c.expand.ensures.onward c.expand.ensures.cause.later
 
 pub returns-in-Err-Disk-clause-read : goal.returns-in-Err-Disk-clause-read
-returns-in-Err-Disk-clause-read g c = is_read-gets g.R.Reads c.expand.ensures.at_most.count c.args.space.now c.expand.new.space c.expand.ensures.at_most.is c.expand.ensures.onward c.expand.ensures.cause.later
+returns-in-Err-Disk-clause-read g c = is_read-gets g.R.Reads c.expand.ensures.at_most.count c.args.space.now c.expand.new.space c.expand.ensures.at_most.is
+    c.expand.ensures.onward c.expand.ensures.cause.later
 
 pub returns-in-Err-Damaged-clause-read : goal.returns-in-Err-Damaged-clause-read
-returns-in-Err-Damaged-clause-read g c = is_read-gets g.R.Reads c.expand.ensures.at_most.count c.args.space.now c.expand.new.space c.expand.ensures.at_most.is c.expand.ensures.onward c.expand.ensures.cause.later
+returns-in-Err-Damaged-clause-read g c = is_read-gets g.R.Reads c.expand.ensures.at_most.count c.args.space.now c.expand.new.space c.expand.ensures.at_most.is
+    c.expand.ensures.onward c.expand.ensures.cause.later
 
 pub returns-in-Ok-clause-reads : goal.returns-in-Ok-clause-reads
 returns-in-Ok-clause-reads g c = λ tells store.

@@ -63,7 +63,8 @@ returns-clause-reads g c = λ tells store.
       below = c.in_ok-numbers.ensures.below;
       none = none;
     } in
-    hop_costs s (g.R.Reads.state c.rows_by.new.space) store.store hop c.deref.result.now c.args.id (subst (λ (list : List ℕ). AreTypeNumbers s.records list hop.labels) (sym c.deref.ensures.value) types)
+    hop_costs s (g.R.Reads.state c.rows_by.new.space) store.store hop c.deref.result.now c.args.id
+    (subst (λ (list : List ℕ). AreTypeNumbers s.records list hop.labels) (sym c.deref.ensures.value) types)
     (c.rows_by.ensures.reads tells store.store)
 
 pub returns-then-not-is_empty-clause-reads : goal.returns-then-not-is_empty-clause-reads

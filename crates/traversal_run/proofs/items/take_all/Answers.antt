@@ -11,14 +11,16 @@ pub loop-init : goal.loop-init
 loop-init g c =
     let names = c.args.names.now.names in
     let space = c.args.space.now in
-    subst (λ (found : List Item). IsTaking g.R.Reads names c.args.run.now space space found c.args.run.now) (sym c.new-items.ensures.items) (taking-first g.R.Reads names g.met.R.Reads.stays_onward space c.args.run.now c.requires)
+    subst (λ (found : List Item). IsTaking g.R.Reads names c.args.run.now space space found c.args.run.now) (sym c.new-items.ensures.items)
+    (taking-first g.R.Reads names g.met.R.Reads.stays_onward space c.args.run.now c.requires)
 
 pub loop-preserved : goal.loop-preserved
 loop-preserved g c =
     let names = c.args.names.now.names in
     let found = c.loop.items.items in
     let next = c.in-Item.ensures in
-    subst (λ (list : List Item). IsTaking g.R.Reads names c.args.run.now c.args.space.now c.next.new.space list c.next.new.self) (sym c.in_ok-push-in-Item.ensures.items)
+    subst (λ (list : List Item). IsTaking g.R.Reads names c.args.run.now c.args.space.now c.next.new.space list c.next.new.self)
+    (sym c.in_ok-push-in-Item.ensures.items)
     (taking-on g.R.Reads names c.args.run.now g.met.R.Reads.further_onward c.args.space.now c.loop.space found c.loop.run c.loop.invariant c.next.new.space c.next.ensures.read c.next.new.self c.in-Item.item next.item next.shown next.stops)
 
 pub returns-in-End-clause-items : goal.returns-in-End-clause-items

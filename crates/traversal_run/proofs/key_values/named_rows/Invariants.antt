@@ -8,4 +8,5 @@ use Rattle.traversal_run.specs.Reading.{IsNamedStore}
 use Rattle.traversal_run.proofs.key_values.named_rows.Given as goal
 
 abbrev pub invariant-loop-prop : goal.invariant-loop-prop
-invariant-loop-prop l = (records : Records) (shape : Shape) → IsNamedStore records shape l.names.names → All (λ (prop : PropRow). prop.key < name_count records) l.fn.props.items → map entry_of l.rows.items ≡ map (named_entry records) l.yielded
+invariant-loop-prop l = (records : Records) (shape : Shape) → IsNamedStore records shape l.names.names
+    → All (λ (prop : PropRow). prop.key < name_count records) l.fn.props.items → map entry_of l.rows.items ≡ map (named_entry records) l.yielded

@@ -23,17 +23,21 @@ use Rattle.traversal_run.proofs.key_values.read_properties.Goals as goal
 pub returns-in_default-clause-found : goal.returns-in_default-clause-found
 returns-in_default-clause-found g c = λ tells store.
     let s = g.R.Reads.state c.args.space.now in
-    none_read s.records c.args.item.now c.new.result.items c.new.ensures.items (subst (IsOwnerOf s c.args.item.now) c.in_default.is (c.in_ok-owned.ensures.found tells))
+    none_read s.records c.args.item.now c.new.result.items c.new.ensures.items
+    (subst (IsOwnerOf s c.args.item.now) c.in_default.is (c.in_ok-owned.ensures.found tells))
 
 pub returns-in_default-clause-reads : goal.returns-in_default-clause-reads
 returns-in_default-clause-reads g c =
-    reads_more (owner_reads c.args.row.now) (owner_reads c.args.row.now + length c.new.result.items + block_total c.new.result.items) (g.R.Reads.state c.args.space.now) (g.R.Reads.state c.owner_of.new.space) (omega arith) c.in_ok-owned.ensures.reads
+    reads_more (owner_reads c.args.row.now) (owner_reads c.args.row.now + length c.new.result.items + block_total c.new.result.items)
+    (g.R.Reads.state c.args.space.now) (g.R.Reads.state c.owner_of.new.space) (omega arith) c.in_ok-owned.ensures.reads
 
 pub returns-in_default-clause-at_most : goal.returns-in_default-clause-at_most
-returns-in_default-clause-at_most g c = reads_more (owner_reads c.args.row.now) (owner_reads c.args.row.now + 736) (g.R.Reads.state c.args.space.now) (g.R.Reads.state c.owner_of.new.space) (omega arith) c.in_ok-owned.ensures.reads
+returns-in_default-clause-at_most g c = reads_more (owner_reads c.args.row.now) (owner_reads c.args.row.now + 736) (g.R.Reads.state c.args.space.now)
+    (g.R.Reads.state c.owner_of.new.space) (omega arith) c.in_ok-owned.ensures.reads
 
 pub returns-in_err-owned-clause-at_most : goal.returns-in_err-owned-clause-at_most
-returns-in_err-owned-clause-at_most g c = reads_more (owner_reads c.args.row.now) (owner_reads c.args.row.now + 736) (g.R.Reads.state c.args.space.now) (g.R.Reads.state c.owner_of.new.space) (omega arith) c.in_err-owned.ensures.reads
+returns-in_err-owned-clause-at_most g c = reads_more (owner_reads c.args.row.now) (owner_reads c.args.row.now + 736) (g.R.Reads.state c.args.space.now)
+    (g.R.Reads.state c.owner_of.new.space) (omega arith) c.in_err-owned.ensures.reads
 
 pub returns-in_err-owned-clause-cause : goal.returns-in_err-owned-clause-cause
 returns-in_err-owned-clause-cause g c =
@@ -54,29 +58,35 @@ returns-clause-found g c = λ tells store.
     let s = g.R.Reads.state c.args.space.now in
     let same = c.in_ok-owned.ensures.read.same in
     let item = c.args.item.now in
-    let owns = owns_read s (g.R.Reads.state c.owner_of.new.space) item c.in-Some.owned same (subst (IsOwnerOf s item) c.in-Some.is (c.in_ok-owned.ensures.found tells)) in
+    let owns = owns_read s (g.R.Reads.state c.owner_of.new.space) item c.in-Some.owned same
+    (subst (IsOwnerOf s item) c.in-Some.is (c.in_ok-owned.ensures.found tells)) in
     subst (λ (w : State). AreRead w.records c.in_ok-props.props.items (properties_of (graph_of w.records) item)) same
     (c.in_ok-props.ensures.found tells (subst (λ (w : State). IsWellFormed w.records w.shape) (sym same) store.store) item owns)
 
 pub returns-clause-reads : goal.returns-clause-reads
 returns-clause-reads g c =
     let props = c.in_ok-props.props.items in
-    reads_then (owner_reads c.args.row.now) (length props + block_total props) (owner_reads c.args.row.now + length props + block_total props) (g.R.Reads.state c.args.space.now) (g.R.Reads.state c.owner_of.new.space) (g.R.Reads.state c.read_owned.new.space) (omega arith)
+    reads_then (owner_reads c.args.row.now) (length props + block_total props) (owner_reads c.args.row.now + length props + block_total props)
+    (g.R.Reads.state c.args.space.now) (g.R.Reads.state c.owner_of.new.space) (g.R.Reads.state c.read_owned.new.space) (omega arith)
     c.in_ok-owned.ensures.reads c.in_ok-props.ensures.reads
 
 pub returns-clause-at_most : goal.returns-clause-at_most
 returns-clause-at_most g c =
-    reads_then (owner_reads c.args.row.now) 736 (owner_reads c.args.row.now + 736) (g.R.Reads.state c.args.space.now) (g.R.Reads.state c.owner_of.new.space) (g.R.Reads.state c.read_owned.new.space) (omega arith) c.in_ok-owned.ensures.reads c.in_ok-props.ensures.at_most
+    reads_then (owner_reads c.args.row.now) 736 (owner_reads c.args.row.now + 736) (g.R.Reads.state c.args.space.now) (g.R.Reads.state c.owner_of.new.space)
+    (g.R.Reads.state c.read_owned.new.space) (omega arith) c.in_ok-owned.ensures.reads c.in_ok-props.ensures.at_most
 
 pub returns-clause-read : goal.returns-clause-read
-returns-clause-read g c = is_read-on g.R.Reads g.met.R.Reads.further_onward c.args.space.now c.owner_of.new.space c.read_owned.new.space c.in_ok-owned.ensures.read c.in_ok-props.ensures.read
+returns-clause-read g c = is_read-on g.R.Reads g.met.R.Reads.further_onward c.args.space.now c.owner_of.new.space c.read_owned.new.space
+    c.in_ok-owned.ensures.read c.in_ok-props.ensures.read
 
 pub returns-in_err-props-clause-at_most : goal.returns-in_err-props-clause-at_most
 returns-in_err-props-clause-at_most g c =
-    reads_then (owner_reads c.args.row.now) 736 (owner_reads c.args.row.now + 736) (g.R.Reads.state c.args.space.now) (g.R.Reads.state c.owner_of.new.space) (g.R.Reads.state c.read_owned.new.space) (omega arith) c.in_ok-owned.ensures.reads c.in_err-props.ensures.at_most
+    reads_then (owner_reads c.args.row.now) 736 (owner_reads c.args.row.now + 736) (g.R.Reads.state c.args.space.now) (g.R.Reads.state c.owner_of.new.space)
+    (g.R.Reads.state c.read_owned.new.space) (omega arith) c.in_ok-owned.ensures.reads c.in_err-props.ensures.at_most
 
 pub returns-in_err-props-clause-read : goal.returns-in_err-props-clause-read
-returns-in_err-props-clause-read g c = is_read-on g.R.Reads g.met.R.Reads.further_onward c.args.space.now c.owner_of.new.space c.read_owned.new.space c.in_ok-owned.ensures.read c.in_err-props.ensures.read
+returns-in_err-props-clause-read g c = is_read-on g.R.Reads g.met.R.Reads.further_onward c.args.space.now c.owner_of.new.space c.read_owned.new.space
+    c.in_ok-owned.ensures.read c.in_err-props.ensures.read
 
 pub returns-in_err-props-clause-damaged : goal.returns-in_err-props-clause-damaged
 returns-in_err-props-clause-damaged g c = λ tells.
@@ -87,7 +97,8 @@ returns-in_err-props-clause-damaged g c = λ tells.
 
 pub returns-in_err-props-clause-cause : goal.returns-in_err-props-clause-cause
 returns-in_err-props-clause-cause g c =
-    cause_passed _ _ _ c.from_residual-in_err-props.result c.in_err-props.field-0.0 c.in_ok-owned.ensures.cause.later c.in_err-props.ensures.cause c.from_residual-in_err-props.ensures.1
+    cause_passed _ _ _ c.from_residual-in_err-props.result c.in_err-props.field-0.0 c.in_ok-owned.ensures.cause.later c.in_err-props.ensures.cause
+    c.from_residual-in_err-props.ensures.1
 
 pub returns-in_err-owned-clause-found : goal.returns-in_err-owned-clause-found
 returns-in_err-owned-clause-found g c _ _ = never_ok c.from_residual.result _ _ c.from_residual.ensures.1

@@ -6,5 +6,6 @@ use Rattle.traversal_run.specs.Reading.{IsNamedStore}
 use Rattle.traversal_run.proofs.key_values.rows_among.Given as goal
 
 abbrev pub invariant-loop-key : goal.invariant-loop-key
-invariant-loop-key g l = IsNamedStore (g.R.Reads.state l.space).records (g.R.Reads.state l.space).shape l.names.names → (properties : Properties) → AreRead (g.R.Reads.state l.space).records l.props properties
+invariant-loop-key g l = IsNamedStore (g.R.Reads.state l.space).records (g.R.Reads.state l.space).shape l.names.names → (properties : Properties)
+    → AreRead (g.R.Reads.state l.space).records l.props properties
     → map entry_of l.rows.items ≡ filter_map (entry_at properties) (take l.key-index l.keys)

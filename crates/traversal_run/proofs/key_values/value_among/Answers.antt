@@ -14,7 +14,9 @@ returns-in_default-clause-found g c = λ store properties read.
 pub returns-clause-found : goal.returns-clause-found
 returns-clause-found g c = λ store properties read.
     let s = g.R.Reads.state c.args.space.now in
-    let is = ap (λ (props : List PropRow). option_map (λ (prop : PropRow). prop.value) (find (λ (prop : PropRow). nat_eq prop.key c.in-Some.number) props)) read.read
+    let is = ap (λ (props : List PropRow). option_map (λ (prop : PropRow). prop.value) (find (λ (prop : PropRow). nat_eq prop.key c.in-Some.number) props))
+    read.read
     ∙ find-read c.in-Some.number read.es
-    ∙ value_is s.records s.shape store.store properties read.es read.known read.are c.args.key.now c.in-Some.number c.in-Some.ensures.below (c.in-Some.ensures.finds store) in
+    ∙ value_is s.records s.shape store.store properties read.es read.known read.are c.args.key.now c.in-Some.number c.in-Some.ensures.below
+    (c.in-Some.ensures.finds store) in
     subst (λ (it : Option Value). IfOk c.numbered_value.result (λ value. value ≡ it)) is c.numbered_value.ensures.found

@@ -7,7 +7,8 @@ use Rattle.traversal_run.proofs.naming.number_of.Goals as goal
 pub returns-in_err-number-clause-finds : goal.returns-in_err-number-clause-finds
 returns-in_err-number-clause-finds g c = λ store.
     let s = g.R.Reads.state c.args.space.now in
-    subst (λ (found : Option ℕ). FindsName s.records found c.args.text.now) (sym c.from_residual.ensures) (finds_unknown s.records s.shape c.args.names.now.names store c.args.text.now c.in_err-number.ensures.none)
+    subst (λ (found : Option ℕ). FindsName s.records found c.args.text.now) (sym c.from_residual.ensures)
+    (finds_unknown s.records s.shape c.args.names.now.names store c.args.text.now c.in_err-number.ensures.none)
 
 pub returns-then-number-min-clause-finds : goal.returns-then-number-min-clause-finds
 returns-then-number-min-clause-finds g c = λ store.
@@ -21,5 +22,7 @@ returns-else-number-min-clause-finds g c = λ store.
     let s = g.R.Reads.state c.args.space.now in
     let mark : c.meta.result.high ≡ name_count s.records = ap (λ (m : Meta). m.high) c.meta.ensures in
     let enough = names_enough s.records s.shape c.args.names.now.names store in
-    let high : name_count s.records ≤ c.in_ok-number.number = let least = c.min.ensures in let count = c.count.ensures.value in omega (arith, c.if-number-min.false) in
-    finds_later s.records s.shape c.args.names.now.names store c.args.text.now c.in_ok-number.number c.count.ensures.are_names.distinct c.in_ok-number.ensures.some high
+    let high : name_count s.records ≤ c.in_ok-number.number = let least = c.min.ensures in let count = c.count.ensures.value in
+    omega (arith, c.if-number-min.false) in
+    finds_later s.records s.shape c.args.names.now.names store c.args.text.now c.in_ok-number.number c.count.ensures.are_names.distinct
+    c.in_ok-number.ensures.some high

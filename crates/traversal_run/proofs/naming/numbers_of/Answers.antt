@@ -22,15 +22,18 @@ loop-text-preserved g c =
     let old = c.loop-text.numbers.items in
     let found = c.text_number.result in
     let items : c.match-text_number.numbers.items ≡ old ++ cons_option found [] = elim c.match-text_number.branch [
-      | in-Some+in_ok-push w ↦ ap (λ (list : Vec ℕ Global). list.items) w.numbers-is ∙ w.in_ok-push.ensures.items ∙ ap (λ (o : Option ℕ). old ++ cons_option o []) (sym w.in-Some.is)
-      | in_default w ↦ ap (λ (list : Vec ℕ Global). list.items) w.numbers-is ∙ sym (append-nil old) ∙ ap (λ (o : Option ℕ). old ++ cons_option o []) (sym w.in_default.is)
+      | in-Some+in_ok-push w ↦ ap (λ (list : Vec ℕ Global). list.items) w.numbers-is ∙ w.in_ok-push.ensures.items
+          ∙ ap (λ (o : Option ℕ). old ++ cons_option o []) (sym w.in-Some.is)
+      | in_default w ↦ ap (λ (list : Vec ℕ Global). list.items) w.numbers-is ∙ sym (append-nil old)
+          ∙ ap (λ (o : Option ℕ). old ++ cons_option o []) (sym w.in_default.is)
     ] in
     record {
       finds = λ store.
           subst (λ (list : List ℕ). FindsNames s.records list (take (i + 1) c.args.texts.now)) (sym items)
           (numbers_more s.records old c.args.texts.now i c.text-item.result found c.loop-text-test.true c.text-item.is
           (c.text_number.ensures.finds store) (c.loop-text.invariant.finds store));
-      below = subst (All (λ number. number < name_count s.records)) (sym items) (all_found (λ number. number < name_count s.records) old found c.loop-text.invariant.below c.text_number.ensures.below);
+      below = subst (All (λ number. number < name_count s.records)) (sym items)
+          (all_found (λ number. number < name_count s.records) old found c.loop-text.invariant.below c.text_number.ensures.below);
     }
 
 pub returns-in_err-push-clause-finds : goal.returns-in_err-push-clause-finds

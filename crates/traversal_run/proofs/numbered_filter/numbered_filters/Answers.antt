@@ -16,11 +16,13 @@ loop-row-preserved g c =
     let inv = c.loop-row.invariant in
     elim c.match-as_filter.branch [
       | in-Some+in_ok-numbered+in_ok-push w ↦
-          let items : c.match-as_filter.filters.items ≡ old ++ w.in_ok-numbered.numbered ∷ [] = ap (λ (list : Vec NumberedFilter Global). list.items) w.filters-is ∙ w.in_ok-push.ensures.items in
+          let items : c.match-as_filter.filters.items ≡ old ++ w.in_ok-numbered.numbered ∷ [] =
+          ap (λ (list : Vec NumberedFilter Global). list.items) w.filters-is ∙ w.in_ok-push.ensures.items in
           record {
             same = λ graph item.
                 ap (λ (list : List NumberedFilter). passes_numbered graph list item) items
-                ∙ numbered_more graph item old rows i row c.loop-row-test.true c.row-item.is (inv.same graph item) w.in_ok-numbered.numbered w.in-Some.filter.now w.in-Some.ensures.some w.in_ok-numbered.ensures.filter;
+                ∙ numbered_more graph item old rows i row c.loop-row-test.true c.row-item.is (inv.same graph item) w.in_ok-numbered.numbered
+                w.in-Some.filter.now w.in-Some.ensures.some w.in_ok-numbered.ensures.filter;
             numbered = λ store.
                 subst (All (IsNumbered s.records)) (sym items) (All-push (IsNumbered s.records) old w.in_ok-numbered.numbered (inv.numbered store) (w.in_ok-numbered.ensures.numbered store));
           }

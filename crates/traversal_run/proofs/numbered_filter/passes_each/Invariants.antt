@@ -10,6 +10,7 @@ abbrev pub invariant-loop-filter : goal.invariant-loop-filter
 invariant-loop-filter g l =
     let old = g.R.Reads.state l.fn.space in
     record {
-      passed : g.R.Reads.tells → IsWellFormed old.records old.shape → All (IsNumbered old.records) l.filters → passes_numbered (graph_of old.records) (take l.filter-index l.filters) (items.Vertex l.id) ≡ true;
+      passed : g.R.Reads.tells → IsWellFormed old.records old.shape → All (IsNumbered old.records) l.filters
+          → passes_numbered (graph_of old.records) (take l.filter-index l.filters) (items.Vertex l.id) ≡ true;
       read : IsRead g.R.Reads l.fn.space l.space;
     }

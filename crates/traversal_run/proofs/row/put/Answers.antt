@@ -6,4 +6,5 @@ use Rattle.traversal_run.proofs.row.put.Goals as goal
 pub returns-then-at-rows-clause-stages : goal.returns-then-at-rows-clause-stages
 returns-then-at-rows-clause-stages c =
     let any = c.index-rows-at.result in
-    map-set_same (λ (row : Row). row.stage) c.args.rows.now c.args.at (record { stage = (get_or c.args.rows.now c.args.at any).stage; waiting = c.args.outs }) any refl
+    map-set_same (λ (row : Row). row.stage) c.args.rows.now c.args.at (record { stage = (get_or c.args.rows.now c.args.at any).stage; waiting = c.args.outs })
+    any refl

@@ -28,12 +28,15 @@ pub returns-clause-same : goal.returns-clause-same
 returns-clause-same g c = λ tells store coming.
     let graph = graph_of (g.R.Reads.state c.args.space.now).records in
     let any = c.index-rows-at.result in
-    advanced graph c.args.rows.now c.put.new.rows c.put.new.ready c.args.at (get_or c.args.rows.now c.args.at any) c.advance.new.self any c.in_ok-outs.outs coming c.requires.within refl (c.in_ok-outs.ensures.advances tells store (through graph (take c.args.at c.args.rows.now) coming).items) c.put.ensures.earlier (λ more. c.put.ensures.later graph more)
+    advanced graph c.args.rows.now c.put.new.rows c.put.new.ready c.args.at (get_or c.args.rows.now c.args.at any) c.advance.new.self any c.in_ok-outs.outs
+    coming c.requires.within refl (c.in_ok-outs.ensures.advances tells store (through graph (take c.args.at c.args.rows.now) coming).items)
+    c.put.ensures.earlier (λ more. c.put.ensures.later graph more)
 
 pub returns-clause-allowed : goal.returns-clause-allowed
 returns-clause-allowed g c = λ over.
     let any = c.index-rows-at.result in
-    allowed-row c.args.rows.now c.put.new.rows c.args.at (get_or c.args.rows.now c.args.at any) c.advance.new.self any c.in_ok-outs.outs c.put.new.ready c.requires.within refl c.in_ok-outs.ensures.limits c.in_ok-outs.ensures.counts c.put.ensures.stages c.put.ensures.passed c.put.ensures.given over
+    allowed-row c.args.rows.now c.put.new.rows c.args.at (get_or c.args.rows.now c.args.at any) c.advance.new.self any c.in_ok-outs.outs c.put.new.ready
+    c.requires.within refl c.in_ok-outs.ensures.limits c.in_ok-outs.ensures.counts c.put.ensures.stages c.put.ensures.passed c.put.ensures.given over
 
 pub returns-clause-near : goal.returns-clause-near
 returns-clause-near g c = λ tells store d most degrees near.
@@ -42,7 +45,8 @@ returns-clause-near g c = λ tells store d most degrees near.
     let out = c.in_ok-outs.ensures in
     let row = get_or rows c.args.at any in
     let plain : is_plain row.stage ≡ true = plain_at rows c.args.at any c.requires.within near.plain in
-    near-advanced d most rows c.put.new.rows c.args.at row c.advance.new.self any c.in_ok-outs.outs c.put.new.ready c.requires.within refl out.hops out.plain (out.rest ∙ ap (λ b. cond b [] (drop 1 row.waiting)) (plain_uncounted row.stage plain)) out.idle
+    near-advanced d most rows c.put.new.rows c.args.at row c.advance.new.self any c.in_ok-outs.outs c.put.new.ready c.requires.within refl out.hops out.plain
+    (out.rest ∙ ap (λ b. cond b [] (drop 1 row.waiting)) (plain_uncounted row.stage plain)) out.idle
     (out.few tells store d degrees plain) c.requires.idle c.put.ensures.passed c.put.ensures.given c.put.ensures.rows
     (subst (λ (ready : List Item). IsNear d most rows ready) c.requires.none near)
 
@@ -50,7 +54,8 @@ pub returns-clause-limit : goal.returns-clause-limit
 returns-clause-limit g c = λ most item only.
     let rows = c.args.rows.now in
     let any = c.index-rows-at.result in
-    limit_advanced _ rows c.put.new.rows c.args.at (get_or rows c.args.at any) c.advance.new.self any c.in_ok-outs.outs c.put.new.ready most item c.requires.within refl only (c.in_ok-outs.ensures.limit most item) c.put.ensures.rows c.put.ensures.given
+    limit_advanced _ rows c.put.new.rows c.args.at (get_or rows c.args.at any) c.advance.new.self any c.in_ok-outs.outs c.put.new.ready most item
+    c.requires.within refl only (c.in_ok-outs.ensures.limit most item) c.put.ensures.rows c.put.ensures.given
 
 pub returns-in_err-outs-clause-same : goal.returns-in_err-outs-clause-same
 returns-in_err-outs-clause-same g c _ _ = never_ok c.from_residual.result _ _ c.from_residual.ensures.1

@@ -27,7 +27,8 @@ returns-clause-near g c = λ tells store d most degrees near.
 pub returns-clause-allowed : goal.returns-clause-allowed
 returns-clause-allowed g c =
     on_ok_weaker c.feed_count.result (λ counts before after.
-    none_allowed c.feed_count.new.rows after (length c.args.ready.now) counts.1 ∙ sym (none_allowed c.args.rows.now before 0 counts.0)) c.feed_count.ensures.counts
+    none_allowed c.feed_count.new.rows after (length c.args.ready.now) counts.1
+    ∙ sym (none_allowed c.args.rows.now before 0 counts.0)) c.feed_count.ensures.counts
 
 pub returns-clause-hop : goal.returns-clause-hop
 returns-clause-hop g c = λ alone vertices.

@@ -23,7 +23,8 @@ returns-clause-same g c = λ tells store.
     let graph = graph_of (g.R.Reads.state c.args.space.now).records in
     let rows = c.args.rows.now in
     let any = c.index-rows-0.result in
-    fed graph c.args.source.now c.feed.new.source rows c.put.new.rows c.put.new.ready (get_or rows 0 any) any c.in_ok-outs.outs c.feed.new.stage c.requires.some refl c.requires.idle
+    fed graph c.args.source.now c.feed.new.source rows c.put.new.rows c.put.new.ready (get_or rows 0 any) any c.in_ok-outs.outs c.feed.new.stage c.requires.some
+    refl c.requires.idle
     (c.in_ok-outs.ensures.feeds tells store) c.put.ensures.earlier (λ more. c.put.ensures.later graph more)
 
 pub returns-clause-allowed : goal.returns-clause-allowed
@@ -34,7 +35,8 @@ returns-clause-allowed g c = λ before after.
     let new : Row = record row { stage = c.feed.new.stage } in
     let long = length-map rows (λ (r : Row). r.stage) in
     let some = c.requires.some in
-    allowed-row rows c.put.new.rows 0 row new any c.in_ok-outs.outs c.put.new.ready c.requires.some refl c.in_ok-outs.ensures.limits c.feed.ensures.counts c.put.ensures.stages c.put.ensures.passed c.put.ensures.given after
+    allowed-row rows c.put.new.rows 0 row new any c.in_ok-outs.outs c.put.new.ready c.requires.some refl c.in_ok-outs.ensures.limits c.feed.ensures.counts
+    c.put.ensures.stages c.put.ensures.passed c.put.ensures.given after
     ∙ allowed_any (stages_of rows) 0 after before (omega arith)
 
 pub returns-clause-near : goal.returns-clause-near
@@ -44,7 +46,8 @@ returns-clause-near g c = λ tells store d most degrees near.
     let row = get_or rows 0 any in
     let new : Row = record row { stage = c.feed.new.stage } in
     near-fed d most rows c.put.new.rows row new any c.in_ok-outs.outs c.put.new.ready c.requires.some refl refl c.feed.ensures.hops c.feed.ensures.plain
-    (c.in_ok-outs.ensures.few tells store d degrees (plain_at rows 0 any c.requires.some near.plain)) c.requires.idle c.put.ensures.passed c.put.ensures.given c.put.ensures.rows
+    (c.in_ok-outs.ensures.few tells store d degrees (plain_at rows 0 any c.requires.some near.plain)) c.requires.idle c.put.ensures.passed c.put.ensures.given
+    c.put.ensures.rows
     (subst (λ (ready : List Item). IsNear d most rows ready) c.requires.none near)
 
 pub returns-in_err-outs-clause-stops : goal.returns-in_err-outs-clause-stops
@@ -82,7 +85,8 @@ pub returns-clause-hop : goal.returns-clause-hop
 returns-clause-hop g c = λ alone vertices.
     let any = c.index-rows-0.result in
     let first : get_or c.args.rows.now 0 any ≡ alone.row = ap (λ (rs : List Row). get_or rs 0 any) alone.is in
-    let fed = subst (λ (row : Row). FeedsHop g.R.Reads c.args.names.now.names row.stage c.args.space.now c.feed.new.space c.args.source.now c.feed.new.source) first
+    let fed = subst (λ (row : Row). FeedsHop g.R.Reads c.args.names.now.names row.stage c.args.space.now c.feed.new.space c.args.source.now c.feed.new.source)
+    first
     (c.feed.ensures.hop vertices (ap (λ (row : Row). is_hop row.stage) first ∙ alone.hop)) in
     (fed, alone_fed c.args.rows.now c.put.new.rows any c.feed.new.stage c.in_ok-outs.outs alone c.feed.ensures.hops c.put.ensures.rows)
 
@@ -90,6 +94,7 @@ pub returns-in_err-outs-clause-hop : goal.returns-in_err-outs-clause-hop
 returns-in_err-outs-clause-hop g c = λ alone vertices.
     let any = c.index-rows-0.result in
     let first : get_or c.args.rows.now 0 any ≡ alone.row = ap (λ (rs : List Row). get_or rs 0 any) alone.is in
-    let fed = subst (λ (row : Row). FeedsHop g.R.Reads c.args.names.now.names row.stage c.args.space.now c.feed.new.space c.args.source.now c.feed.new.source) first
+    let fed = subst (λ (row : Row). FeedsHop g.R.Reads c.args.names.now.names row.stage c.args.space.now c.feed.new.space c.args.source.now c.feed.new.source)
+    first
     (c.feed.ensures.hop vertices (ap (λ (row : Row). is_hop row.stage) first ∙ alone.hop)) in
     (fed, never_ok c.from_residual.result _ _ c.from_residual.ensures.1)

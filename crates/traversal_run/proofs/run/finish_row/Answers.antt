@@ -21,7 +21,8 @@ returns-clause-allowed c = λ over.
     let any = c.index-rows-at.result in
     let row = get_or rows c.args.at any in
     let new : Row = record { stage = c.finish.new.self; waiting = row.waiting } in
-    allowed-row rows c.put.new.rows c.args.at row new any c.in_ok-outs.outs c.put.new.ready c.requires.within refl c.in_ok-outs.ensures.limits c.in_ok-outs.ensures.counts c.put.ensures.stages c.put.ensures.passed c.put.ensures.given over
+    allowed-row rows c.put.new.rows c.args.at row new any c.in_ok-outs.outs c.put.new.ready c.requires.within refl c.in_ok-outs.ensures.limits
+    c.in_ok-outs.ensures.counts c.put.ensures.stages c.put.ensures.passed c.put.ensures.given over
 
 pub returns-in_err-outs-clause-same : goal.returns-in_err-outs-clause-same
 returns-in_err-outs-clause-same c = never_ok c.from_residual.result _ _ c.from_residual.ensures.1

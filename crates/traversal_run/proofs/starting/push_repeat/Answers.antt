@@ -8,7 +8,8 @@ pub loop-preserved : goal.loop-preserved
 loop-preserved c =
     let body = map body_row c.args.body.now in
     let old = c.args.rows.now.items in
-    c.in_ok-push_body.ensures ∙ ap (λ rows. rows ++ body) c.loop.invariant ∙ append_assoc old (repeat_rows c.loop.counter body) body ∙ ap (λ rows. old ++ rows) (repeat_more c.loop.counter body)
+    c.in_ok-push_body.ensures ∙ ap (λ rows. rows ++ body) c.loop.invariant ∙ append_assoc old (repeat_rows c.loop.counter body) body
+    ∙ ap (λ rows. old ++ rows) (repeat_more c.loop.counter body)
 
 pub returns-in_err-push_body : goal.returns-in_err-push_body
 returns-in_err-push_body c = never_ok c.from_residual.result _ _ c.from_residual.ensures.1

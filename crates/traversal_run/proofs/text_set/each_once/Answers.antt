@@ -22,10 +22,13 @@ loop-text-preserved c =
     let now : c.if-branch.distinct.items ≡ taken ++ cond is_new (text ∷ []) [] =
     elim c.if-branch.branch [
       | then-branch+in_ok-copy+in_ok-push w ↦
-          ap (λ (v : Vec Text Global). v.items) w.distinct-is ∙ w.in_ok-push.ensures.items ∙ ap (λ t. taken ++ t ∷ []) w.in_ok-copy.ensures ∙ ap (λ b. taken ++ cond b (text ∷ []) []) (sym w.if-branch.true)
-      | else-branch w ↦ ap (λ (v : Vec Text Global). v.items) w.distinct-is ∙ sym (append-nil taken) ∙ ap (λ b. taken ++ cond b (text ∷ []) []) (sym w.if-branch.false)
+          ap (λ (v : Vec Text Global). v.items) w.distinct-is ∙ w.in_ok-push.ensures.items ∙ ap (λ t. taken ++ t ∷ []) w.in_ok-copy.ensures
+          ∙ ap (λ b. taken ++ cond b (text ∷ []) []) (sym w.if-branch.true)
+      | else-branch w ↦ ap (λ (v : Vec Text Global). v.items) w.distinct-is ∙ sym (append-nil taken)
+          ∙ ap (λ b. taken ++ cond b (text ∷ []) []) (sym w.if-branch.false)
     ] in
-    texts_once-step taken c.if-branch.distinct.items set c.add.new.self c.args.texts.now (texts_once [] c.args.texts.now) c.loop-text.text-index text text is_new c.loop-text-test.true c.text-item.is is kept now c.loop-text.invariant
+    texts_once-step taken c.if-branch.distinct.items set c.add.new.self c.args.texts.now (texts_once [] c.args.texts.now) c.loop-text.text-index text text
+    is_new c.loop-text-test.true c.text-item.is is kept now c.loop-text.invariant
 
 pub returns-in_err-bytes : goal.returns-in_err-bytes
 returns-in_err-bytes c = never_ok c.from_residual.result _ _ c.from_residual.ensures.1

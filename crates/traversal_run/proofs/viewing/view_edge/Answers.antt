@@ -156,7 +156,8 @@ returns-in_err-props-clause-read g c =
 
 pub returns-in_err-props-clause-cause : goal.returns-in_err-props-clause-cause
 returns-in_err-props-clause-cause g c =
-    cause_passed _ _ _ c.from_residual-in_err-props.result c.in_err-props.field-0.0 c.in_ok-row.ensures.cause.later c.in_err-props.ensures.cause c.from_residual-in_err-props.ensures.1
+    cause_passed _ _ _ c.from_residual-in_err-props.result c.in_err-props.field-0.0 c.in_ok-row.ensures.cause.later c.in_err-props.ensures.cause
+    c.from_residual-in_err-props.ensures.1
 
 pub returns-in_err-map-clause-damaged : goal.returns-in_err-map-clause-damaged
 returns-in_err-map-clause-damaged g c _ = same_has _ c.from_residual-in_err-map.result _ c.from_residual-in_err-map.ensures.1 tt
@@ -167,7 +168,8 @@ returns-in_err-map-clause-read g c =
 
 pub returns-in_err-map-clause-cause : goal.returns-in_err-map-clause-cause
 returns-in_err-map-clause-cause g c =
-    memory_cause _ _ c.from_residual-in_err-map.result (later_on c.in_ok-row.ensures.cause.later c.in_ok-props.ensures.cause.later) c.from_residual-in_err-map.ensures.1
+    memory_cause _ _ c.from_residual-in_err-map.result (later_on c.in_ok-row.ensures.cause.later c.in_ok-props.ensures.cause.later)
+    c.from_residual-in_err-map.ensures.1
 
 pub returns-clause-read : goal.returns-clause-read
 returns-clause-read g c =

@@ -96,7 +96,8 @@ returns-in_err-map-clause-read g c =
 
 pub returns-in_err-map-clause-cause : goal.returns-in_err-map-clause-cause
 returns-in_err-map-clause-cause g c =
-    cause_passed _ _ _ c.from_residual-in_err-map.result c.in_err-map.field-0.0 c.in_ok-row.ensures.cause.later c.in_err-map.ensures.cause c.from_residual-in_err-map.ensures.1
+    cause_passed _ _ _ c.from_residual-in_err-map.result c.in_err-map.field-0.0 c.in_ok-row.ensures.cause.later c.in_err-map.ensures.cause
+    c.from_residual-in_err-map.ensures.1
 
 pub returns-clause-read : goal.returns-clause-read
 returns-clause-read g c =

@@ -10,14 +10,17 @@ use Rattle.traversal_run.proofs.asked_ids.AskedIds.new.Goals as goal
 pub invariant_of-result : goal.invariant_of-result
 invariant_of-result c =
     let sorted = c.sort.new.self.items in
-    let kept : reverse c.reverse.new.self.items ≡ dedup nat_eq sorted = ap reverse c.reverse.ensures.items ∙ reverse-reverse c.dedup.new.self.items ∙ dedup_is nat_eq sorted c.dedup.new.self.items c.dedup.ensures.filtered in
+    let kept : reverse c.reverse.new.self.items ≡ dedup nat_eq sorted = ap reverse c.reverse.ensures.items ∙ reverse-reverse c.dedup.new.self.items
+    ∙ dedup_is nat_eq sorted c.dedup.new.self.items c.dedup.ensures.filtered in
     subst Ascends (sym kept) (ascends-dedup sorted c.in_ok-sort.ensures.sorted)
 
 pub returns : goal.returns
 returns c = λ id.
     let sorted = c.sort.new.self.items in
-    let kept : reverse c.reverse.new.self.items ≡ dedup nat_eq sorted = ap reverse c.reverse.ensures.items ∙ reverse-reverse c.dedup.new.self.items ∙ dedup_is nat_eq sorted c.dedup.new.self.items c.dedup.ensures.filtered in
-    ap (list_any (nat_eq id)) kept ∙ asked-dedup c.in_ok-ids.ids.items sorted c.in_ok-sort.ensures.permutation id ∙ ap (list_any (nat_eq id)) c.in_ok-ids.ensures.items
+    let kept : reverse c.reverse.new.self.items ≡ dedup nat_eq sorted = ap reverse c.reverse.ensures.items ∙ reverse-reverse c.dedup.new.self.items
+    ∙ dedup_is nat_eq sorted c.dedup.new.self.items c.dedup.ensures.filtered in
+    ap (list_any (nat_eq id)) kept ∙ asked-dedup c.in_ok-ids.ids.items sorted c.in_ok-sort.ensures.permutation id
+    ∙ ap (list_any (nat_eq id)) c.in_ok-ids.ensures.items
 
 pub returns-in_err-ids : goal.returns-in_err-ids
 returns-in_err-ids c = never_ok c.from_residual.result _ _ c.from_residual.ensures.1

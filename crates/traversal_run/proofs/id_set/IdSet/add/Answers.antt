@@ -4,7 +4,8 @@ use Rattle.indexmap.specs.IndexSet.{insert_key}
 use Rattle.rec_bytes.proofs.Causes.{never_ok}
 use Rattle.traversal_run.proofs.id_set.IdSet.add.Goals as goal
 
-kept : (ids : List ℕ) (id : ℕ) (known is_new : Bool) → is_new ≡ not known → list_any (nat_eq id) ids ≡ known → insert_key nat_eq ids id ≡ cond is_new (ids ++ id ∷ []) ids
+kept : (ids : List ℕ) (id : ℕ) (known is_new : Bool) → is_new ≡ not known → list_any (nat_eq id) ids ≡ known
+    → insert_key nat_eq ids id ≡ cond is_new (ids ++ id ∷ []) ids
 kept ids id true false is e = ap (λ b. cond b ids (ids ++ id ∷ [])) e
 kept ids id false true is e = ap (λ b. cond b ids (ids ++ id ∷ [])) e
 kept ids id true true is e = absurd cc

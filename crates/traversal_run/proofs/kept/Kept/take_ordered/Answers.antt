@@ -12,7 +12,8 @@ pub returns : goal.returns
 returns c =
     let rows = c.self.inside.items.items in
     let ordered : map place_of c.replace-ordered.result.items ≡ sorted (meaning.ranks_below c.args.descending) c.args.self.now
-    = ap (λ (v : Vec Ranked Global). map place_of v.items) c.replace-ordered.ensures.value ∙ ap (map place_of) c.in_ok-sort.ensures ∙ places_sorted c.args.descending rows ∙ ap (sorted (meaning.ranks_below c.args.descending)) c.self.view_is in
+    = ap (λ (v : Vec Ranked Global). map place_of v.items) c.replace-ordered.ensures.value ∙ ap (map place_of) c.in_ok-sort.ensures
+    ∙ places_sorted c.args.descending rows ∙ ap (sorted (meaning.ranks_below c.args.descending)) c.self.view_is in
     subst (λ (places : List meaning.Ranked). IfOk c.items_of.result (λ items. items ≡ map (λ (r : meaning.Ranked). r.item) places)) ordered c.items_of.ensures
 
 pub returns-in_err-sort : goal.returns-in_err-sort

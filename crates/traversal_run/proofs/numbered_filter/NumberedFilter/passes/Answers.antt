@@ -16,7 +16,8 @@ returns-in-Has-clause-found g c = λ tells store numbered.
     let self = c.args.self.now in
     let key = c.in-Has.field-0 in
     let has = subst (λ (f : Filter). HasNumbers s.records f self.key self.labels.items) c.in-Has.is numbered in
-    let found = c.in_ok-value-in-Has.ensures.found tells store key has ∙ ap (λ (item : Item). maps.get (properties_of graph item) key) (c.as_item.ensures.is ∙ c.vertex-vertex.ensures) in
+    let found = c.in_ok-value-in-Has.ensures.found tells store key has ∙ ap (λ (item : Item). maps.get (properties_of graph item) key)
+    (c.as_item.ensures.is ∙ c.vertex-vertex.ensures) in
     c.is_some.ensures ∙ has_passes graph self.filter.now key (items.Vertex c.args.id) c.in_ok-value-in-Has.value c.in-Has.is found
 
 pub returns-in-Some-clause-found : goal.returns-in-Some-clause-found
@@ -26,8 +27,10 @@ returns-in-Some-clause-found g c = λ tells store numbered.
     let self = c.args.self.now in
     let key = c.in-HasValue.key in
     let has = subst (λ (f : Filter). HasNumbers s.records f self.key self.labels.items) c.in-HasValue.is numbered in
-    let found = c.in_ok-own-in-HasValue.ensures.found tells store key has ∙ ap (λ (item : Item). maps.get (properties_of graph item) key) (c.as_item-in-HasValue.ensures.is ∙ c.vertex-vertex.ensures) in
-    c.is_related.ensures ∙ value_passes graph self.filter.now key c.in-HasValue.relation c.in-HasValue.value (items.Vertex c.args.id) (Some c.in-Some.own) c.in-HasValue.is (sym c.in-Some.is ∙ found)
+    let found = c.in_ok-own-in-HasValue.ensures.found tells store key has
+    ∙ ap (λ (item : Item). maps.get (properties_of graph item) key) (c.as_item-in-HasValue.ensures.is ∙ c.vertex-vertex.ensures) in
+    c.is_related.ensures ∙ value_passes graph self.filter.now key c.in-HasValue.relation c.in-HasValue.value (items.Vertex c.args.id) (Some c.in-Some.own)
+    c.in-HasValue.is (sym c.in-Some.is ∙ found)
 
 pub returns-in-HasValue-clause-found : goal.returns-in-HasValue-clause-found
 returns-in-HasValue-clause-found g c = λ tells store numbered.
@@ -36,5 +39,6 @@ returns-in-HasValue-clause-found g c = λ tells store numbered.
     let self = c.args.self.now in
     let key = c.in-HasValue.key in
     let has = subst (λ (f : Filter). HasNumbers s.records f self.key self.labels.items) c.in-HasValue.is numbered in
-    let found = c.in_ok-own-in-HasValue.ensures.found tells store key has ∙ ap (λ (item : Item). maps.get (properties_of graph item) key) (c.as_item-in-HasValue.ensures.is ∙ c.vertex-vertex.ensures) in
+    let found = c.in_ok-own-in-HasValue.ensures.found tells store key has
+    ∙ ap (λ (item : Item). maps.get (properties_of graph item) key) (c.as_item-in-HasValue.ensures.is ∙ c.vertex-vertex.ensures) in
     value_passes graph self.filter.now key c.in-HasValue.relation c.in-HasValue.value (items.Vertex c.args.id) None c.in-HasValue.is (sym c.in-None.is ∙ found)

@@ -17,21 +17,25 @@ pub returns-in_ok-outs-in-Some-clause-few : goal.returns-in_ok-outs-in-Some-clau
 returns-in_ok-outs-in-Some-clause-few g c = λ tells store d degrees plain.
     let s = g.R.Reads.state c.args.space.now in
     let out = c.in_ok-outs-in-Some in
-    takes_batch (graph_of s.records) d (few_at s.records s.shape store.store d degrees) c.args.self.now.stage c.take.new.self c.in-Some.item out.outs plain c.take.ensures.plain (out.ensures.takes tells store)
+    takes_batch (graph_of s.records) d (few_at s.records s.shape store.store d degrees) c.args.self.now.stage c.take.new.self c.in-Some.item out.outs plain
+    c.take.ensures.plain (out.ensures.takes tells store)
 
 pub returns-in_ok-outs-in-Some-clause-limit : goal.returns-in_ok-outs-in-Some-clause-limit
 returns-in_ok-outs-in-Some-clause-limit g c = λ most item is.
-    limit_taken _ c.args.self.now c.take.new.self c.take_first.new.self c.in_ok-outs-in-Some.outs c.in-Some.item item most is c.in-Some.ensures.some (c.in_ok-outs-in-Some.ensures.limit most)
+    limit_taken _ c.args.self.now c.take.new.self c.take_first.new.self c.in_ok-outs-in-Some.outs c.in-Some.item item most is c.in-Some.ensures.some
+    (c.in_ok-outs-in-Some.ensures.limit most)
 
 pub returns-then-count_all-clause-advances : goal.returns-then-count_all-clause-advances
 returns-then-count_all-clause-advances g c = λ tells store coming.
-    counts_row (graph_of (g.R.Reads.state c.args.space.now).records) c.args.self.now.stage c.in-Count.told c.in-Count.so_far c.count_all.new.so_far c.args.self.now.waiting c.count_all.new.waiting coming c.new.result
+    counts_row (graph_of (g.R.Reads.state c.args.space.now).records) c.args.self.now.stage c.in-Count.told c.in-Count.so_far c.count_all.new.so_far
+    c.args.self.now.waiting c.count_all.new.waiting coming c.new.result
     c.in-Count.is c.new.ensures (c.count_all.ensures.counted c.if-count_all.true) c.count_all.ensures.none
 
 pub returns-else-count_all-clause-stops : goal.returns-else-count_all-clause-stops
 returns-else-count_all-clause-stops g c = λ tells store coming.
     let past = c.count_all.ensures.past c.if-count_all.false in
-    ap (λ (stage : Stage). counts_past stage (c.args.self.now.waiting ++ coming)) c.in-Count.is ∙ passes_all c.in-Count.so_far c.in-Count.told c.args.self.now.waiting past.0 past.1 coming
+    ap (λ (stage : Stage). counts_past stage (c.args.self.now.waiting ++ coming)) c.in-Count.is
+    ∙ passes_all c.in-Count.so_far c.in-Count.told c.args.self.now.waiting past.0 past.1 coming
 
 pub returns-in_ok-outs-in-Some-clause-advances : goal.returns-in_ok-outs-in-Some-clause-advances
 returns-in_ok-outs-in-Some-clause-advances g c = λ tells store coming.

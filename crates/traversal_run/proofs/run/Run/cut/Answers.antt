@@ -16,7 +16,9 @@ returns-then-have_no_count-clause-same c = λ graph.
     let run = c.args.self.now in
     let rows = run.rows.items in
     let row = c.index.result.now in
-    let none : list_all (λ (r : Row). not (is_count r.stage)) (take c.args.at rows) ≡ true = sym (ap (λ rs. list_all (λ (r : Row). not (is_count r.stage)) (take c.args.at rs)) c.deref.ensures.value) ∙ sym c.have_no_count.ensures ∙ c.if-have_no_count.true in
+    let none : list_all (λ (r : Row). not (is_count r.stage)) (take c.args.at rows) ≡ true =
+    sym (ap (λ rs. list_all (λ (r : Row). not (is_count r.stage)) (take c.args.at rs)) c.deref.ensures.value) ∙ sym c.have_no_count.ensures
+    ∙ c.if-have_no_count.true in
     let nothing = ap (left_of graph) c.end.ensures ∙ left_of-over graph run.source.edges in
     (λ i. with_first run.ready (through graph (c.drop_rows.ensures i) (stream (nothing i))))
     ∙ ap (with_first run.ready) (through-cut graph rows c.args.at row row (left_of graph run.source) (omega (arith, c.requires, run.rows.ok.0)) c.index.ensures (sym c.is_spent.ensures ∙ c.if-is_spent.true) none)
@@ -26,12 +28,16 @@ returns-then-have_no_count-clause-allowed c =
     let run = c.args.self.now in
     let rows = run.rows.items in
     let row = c.index.result.now in
-    let none : list_all (λ (r : Row). not (is_count r.stage)) (take c.args.at rows) ≡ true = sym (ap (λ rs. list_all (λ (r : Row). not (is_count r.stage)) (take c.args.at rs)) c.deref.ensures.value) ∙ sym c.have_no_count.ensures ∙ c.if-have_no_count.true in
+    let none : list_all (λ (r : Row). not (is_count r.stage)) (take c.args.at rows) ≡ true =
+    sym (ap (λ rs. list_all (λ (r : Row). not (is_count r.stage)) (take c.args.at rs)) c.deref.ensures.value) ∙ sym c.have_no_count.ensures
+    ∙ c.if-have_no_count.true in
     (λ i. allowed_by (is_over (ap (λ (s : Source). s.left) c.end.ensures i)) (stages_of (c.drop_rows.ensures i)) (length run.ready))
-    ∙ allowed-cut (is_over run.source.left) rows c.args.at row row (length run.ready) (omega (arith, c.requires, run.rows.ok.0)) c.index.ensures (sym c.is_spent.ensures ∙ c.if-is_spent.true) none
+    ∙ allowed-cut (is_over run.source.left) rows c.args.at row row (length run.ready) (omega (arith, c.requires, run.rows.ok.0)) c.index.ensures
+    (sym c.is_spent.ensures ∙ c.if-is_spent.true) none
 
 pub returns-then-have_no_count-clause-near : goal.returns-then-have_no_count-clause-near
 returns-then-have_no_count-clause-near c = λ d most near.
     let run = c.args.self.now in
     let row = c.index.result.now in
-    near-cut d most run.rows.items _ run.ready c.args.at row row (omega (arith, c.requires, run.rows.ok.0)) c.index.ensures (sym c.is_spent.ensures ∙ c.if-is_spent.true) c.drop_rows.ensures near
+    near-cut d most run.rows.items _ run.ready c.args.at row row (omega (arith, c.requires, run.rows.ok.0)) c.index.ensures
+    (sym c.is_spent.ensures ∙ c.if-is_spent.true) c.drop_rows.ensures near

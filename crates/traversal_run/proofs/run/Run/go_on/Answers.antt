@@ -22,7 +22,8 @@ use Rattle.traversal_run.proofs.run.Run.go_on.Goals as goal
 pub returns-then-is_spent-clause-stops : goal.returns-then-is_spent-clause-stops
 returns-then-is_spent-clause-stops g c = λ tells store.
     let run = c.args.self.now in
-    spent-to_come (graph_of (g.R.Reads.state c.args.space.now).records) run.ready run.rows.items run.source.edges run.source.left (c.is_spent.ensures.0 c.if-is_spent.true)
+    spent-to_come (graph_of (g.R.Reads.state c.args.space.now).records) run.ready run.rows.items run.source.edges run.source.left
+    (c.is_spent.ensures.0 c.if-is_spent.true)
 
 clash : (b : Bool) → b ≡ true → b ≡ false → ⊥
 clash b on off = cc
@@ -34,7 +35,8 @@ loop-init g c =
       same = λ tells store. refl;
       allowed = refl;
       near = λ tells store d most degrees within. near_begins d most run within;
-      scan = λ at scan. scan_starts run at scan (λ none. clash c.is_spent.result (c.is_spent.ensures.1 none) c.if-is_spent.false) (g.R.Reads.state c.args.space.now).reads;
+      scan = λ at scan. scan_starts run at scan (λ none. clash c.is_spent.result (c.is_spent.ensures.1 none) c.if-is_spent.false)
+          (g.R.Reads.state c.args.space.now).reads;
       hop = hop_first g.R.Reads c.args.names.now.names c.args.space.now run;
       stopped = refl;
       read = record { same = refl; onward = g.met.R.Reads.stays_onward c.args.space.now; later = omega arith };
@@ -66,7 +68,8 @@ loop-preserved g c =
           scan_turns at (space.state first).reads (space.state now).reads (space.state c.turn.new.space).reads old c.turn.new.self none.1 turn.scan
           (λ from most item w. let l = turn.limit from most item w in (ap (λ (s : g.row.R.Denot). (space.state s).reads) l.0, l.1))
           (subst (λ (ready : List Item). ScanState at (space.state first).reads (space.state now).reads (record run { ready = ready })) same_ready (inv.scan at scan));
-      hop = turn_on space c.args.names.now.names first now c.args.self.now run inv.hop c.turn.new.space c.turn.new.self (λ alone vertices. (turn.hop alone vertices).0) c.turn.ensures.stopped inv.read (λ alone vertices. (turn.hop alone vertices).1);
+      hop = turn_on space c.args.names.now.names first now c.args.self.now run inv.hop c.turn.new.space c.turn.new.self
+          (λ alone vertices. (turn.hop alone vertices).0) c.turn.ensures.stopped inv.read (λ alone vertices. (turn.hop alone vertices).1);
       stopped = c.turn.ensures.stopped ∙ inv.stopped;
       read = is_read-on space g.met.R.Reads.further_onward first now c.turn.new.space inv.read c.turn.ensures.read;
     }
@@ -74,14 +77,17 @@ loop-preserved g c =
 pub returns-in-Some-clause-within : goal.returns-in-Some-clause-within
 returns-in-Some-clause-within g c = λ tells store d most degrees within.
     let run : Run = c.loop.self in
-    within-taken d most (record run { ready = c.take_first.new.self }) c.in-Some.item run.ready c.in-Some.ensures.some (c.loop.invariant.near tells store d most degrees within)
+    within-taken d most (record run { ready = c.take_first.new.self }) c.in-Some.item run.ready c.in-Some.ensures.some
+    (c.loop.invariant.near tells store d most degrees within)
 
 pub returns-in-Some-clause-scan : goal.returns-in-Some-clause-scan
 returns-in-Some-clause-scan g c = λ at scan.
     let space = g.R.Reads in
     let run : Run = c.loop.self in
-    let takes : run.ready ≡ c.into_item.result ∷ c.take_first.new.self = c.in-Some.ensures.some ∙ ap (λ (item : Item). item ∷ c.take_first.new.self) (sym c.into_item.ensures.is) in
-    scan_gives at (space.state c.args.space.now).reads (space.state c.loop.space).reads run (record run { ready = c.take_first.new.self }) c.into_item.result takes refl refl
+    let takes : run.ready ≡ c.into_item.result ∷ c.take_first.new.self = c.in-Some.ensures.some
+    ∙ ap (λ (item : Item). item ∷ c.take_first.new.self) (sym c.into_item.ensures.is) in
+    scan_gives at (space.state c.args.space.now).reads (space.state c.loop.space).reads run (record run { ready = c.take_first.new.self }) c.into_item.result
+    takes refl refl
     (c.loop.invariant.stopped ∙ scan.going) (c.loop.invariant.scan at scan)
 
 pub returns-in_err-turn-clause-damaged : goal.returns-in_err-turn-clause-damaged
@@ -137,26 +143,32 @@ pub returns-in-Some-clause-hop : goal.returns-in-Some-clause-hop
 returns-in-Some-clause-hop g c =
     let space = g.R.Reads in
     let run : Run = c.loop.self in
-    let takes : run.ready ≡ c.into_item.result ∷ c.take_first.new.self = c.in-Some.ensures.some ∙ ap (λ (item : Item). item ∷ c.take_first.new.self) (sym c.into_item.ensures.is) in
-    let gives = hop_gives space c.args.names.now.names c.args.space.now c.loop.space c.args.self.now run (record run { ready = c.take_first.new.self }) c.into_item.result c.take_first.new.self takes refl refl refl c.loop.invariant.hop in
+    let takes : run.ready ≡ c.into_item.result ∷ c.take_first.new.self = c.in-Some.ensures.some
+    ∙ ap (λ (item : Item). item ∷ c.take_first.new.self) (sym c.into_item.ensures.is) in
+    let gives = hop_gives space c.args.names.now.names c.args.space.now c.loop.space c.args.self.now run (record run { ready = c.take_first.new.self })
+    c.into_item.result c.take_first.new.self takes refl refl refl c.loop.invariant.hop in
     gives.0
 
 pub returns-in-Some-clause-ready : goal.returns-in-Some-clause-ready
 returns-in-Some-clause-ready g c =
     let space = g.R.Reads in
     let run : Run = c.loop.self in
-    let takes : run.ready ≡ c.into_item.result ∷ c.take_first.new.self = c.in-Some.ensures.some ∙ ap (λ (item : Item). item ∷ c.take_first.new.self) (sym c.into_item.ensures.is) in
-    let gives = hop_gives space c.args.names.now.names c.args.space.now c.loop.space c.args.self.now run (record run { ready = c.take_first.new.self }) c.into_item.result c.take_first.new.self takes refl refl refl c.loop.invariant.hop in
+    let takes : run.ready ≡ c.into_item.result ∷ c.take_first.new.self = c.in-Some.ensures.some
+    ∙ ap (λ (item : Item). item ∷ c.take_first.new.self) (sym c.into_item.ensures.is) in
+    let gives = hop_gives space c.args.names.now.names c.args.space.now c.loop.space c.args.self.now run (record run { ready = c.take_first.new.self })
+    c.into_item.result c.take_first.new.self takes refl refl refl c.loop.invariant.hop in
     gives.1
 
 pub returns-in_err-turn-clause-hop : goal.returns-in_err-turn-clause-hop
 returns-in_err-turn-clause-hop g c =
-    let stops = turn_stops g.R.Reads c.args.names.now.names c.args.space.now c.loop.space c.args.self.now c.loop.self c.loop.invariant.hop c.turn.new.space c.turn.new.self (λ alone vertices. (c.turn.ensures.hop alone vertices).0) c.turn.ensures.stopped c.loop.invariant.read in
+    let stops = turn_stops g.R.Reads c.args.names.now.names c.args.space.now c.loop.space c.args.self.now c.loop.self c.loop.invariant.hop c.turn.new.space
+    c.turn.new.self (λ alone vertices. (c.turn.ensures.hop alone vertices).0) c.turn.ensures.stopped c.loop.invariant.read in
     λ id hop is. (stops.one id hop is, never_ok c.from_residual.result _ _ c.from_residual.ensures.1)
 
 pub returns-in_err-turn-clause-ready : goal.returns-in_err-turn-clause-ready
 returns-in_err-turn-clause-ready g c =
-    let stops = turn_stops g.R.Reads c.args.names.now.names c.args.space.now c.loop.space c.args.self.now c.loop.self c.loop.invariant.hop c.turn.new.space c.turn.new.self (λ alone vertices. (c.turn.ensures.hop alone vertices).0) c.turn.ensures.stopped c.loop.invariant.read in
+    let stops = turn_stops g.R.Reads c.args.names.now.names c.args.space.now c.loop.space c.args.self.now c.loop.self c.loop.invariant.hop c.turn.new.space
+    c.turn.new.self (λ alone vertices. (c.turn.ensures.hop alone vertices).0) c.turn.ensures.stopped c.loop.invariant.read in
     λ is. (stops.ready is, never_ok c.from_residual.result _ _ c.from_residual.ensures.1)
 
 pub returns-clause-hop : goal.returns-clause-hop

@@ -12,7 +12,8 @@ abbrev pub invariant-loop : goal.invariant-loop
 invariant-loop g l =
     let old = g.R.Reads.state l.fn.space in
     record {
-      same : g.R.Reads.tells → IsNamedStore old.records old.shape l.names.names → to_come (graph_of old.records) l.self ≡ to_come (graph_of old.records) l.fn.self;
+      same : g.R.Reads.tells → IsNamedStore old.records old.shape l.names.names
+          → to_come (graph_of old.records) l.self ≡ to_come (graph_of old.records) l.fn.self;
       allowed : still_allowed l.self ≡ still_allowed l.fn.self;
       near : g.R.Reads.tells → IsNamedStore old.records old.shape l.names.names → (d most : ℕ) → HasDegreesUpTo (graph_of old.records) d
           → IsWithin d most l.fn.self → IsNear d most l.self.rows.items l.self.ready;

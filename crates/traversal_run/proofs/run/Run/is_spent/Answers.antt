@@ -19,7 +19,8 @@ pub returns-then-is_spent : goal.returns-then-is_spent
 returns-then-is_spent c =
     let run = c.args.self.now in
     let last = c.in-Some.ensures.value ∙ ap (λ rows. slice_get rows (length rows - 1)) c.deref.ensures.value in
-    spent-yes (is_over run.source.left) run.rows.items c.in-Some.row.now run.ready (c.is_empty.ensures.yes c.if-not-is_empty.false) last (sym c.is_spent.ensures ∙ c.if-is_spent.true)
+    spent-yes (is_over run.source.left) run.rows.items c.in-Some.row.now run.ready (c.is_empty.ensures.yes c.if-not-is_empty.false) last
+    (sym c.is_spent.ensures ∙ c.if-is_spent.true)
     c.have_no_count.result (c.have_no_count.ensures ∙ ap (λ rows. list_all (λ (r : Row). not (is_count r.stage)) rows) c.deref-then-is_spent.ensures.value)
 
 pub returns-else-is_spent : goal.returns-else-is_spent
@@ -28,5 +29,6 @@ returns-else-is_spent c = (
   λ none.
       let run = c.args.self.now in
       let last = c.in-Some.ensures.value ∙ ap (λ rows. slice_get rows (length rows - 1)) c.deref.ensures.value in
-      spent-no (is_over run.source.left) run.rows.items c.in-Some.row.now run.ready (c.is_empty.ensures.yes c.if-not-is_empty.false) last c.is_spent.result c.is_spent.ensures none,
+      spent-no (is_over run.source.left) run.rows.items c.in-Some.row.now run.ready (c.is_empty.ensures.yes c.if-not-is_empty.false) last c.is_spent.result
+      c.is_spent.ensures none,
 )

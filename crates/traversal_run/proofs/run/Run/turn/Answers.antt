@@ -63,7 +63,8 @@ returns-in-Some-2-clause-near g c = λ tells store d most degrees near.
     let rows : old ≡ run.rows.items = c.deref_mut-in-Some-2.ensures.value in
     let back = written_back c.put.new.rows run.rows.items run.rows.len (omega (arith, c.put.auto.rows, ap length rows)) run.rows.ok.0 in
     let idle : AreIdle old = subst AreIdle (c.deref.ensures.value ∙ sym rows) c.in_default.ensures.none in
-    let before : IsNear d most old [] = subst (λ (rs : List Row). IsNear d most rs []) (sym rows) (subst (λ (ready : List Item). IsNear d most run.rows.items ready) c.requires near) in
+    let before : IsNear d most old [] = subst (λ (rs : List Row). IsNear d most rs []) (sym rows)
+    (subst (λ (ready : List Item). IsNear d most run.rows.items ready) c.requires near) in
     subst (λ (rs : List Row). IsNear d most rs c.put.new.ready) (sym back)
     (near-sourced d most old c.put.new.rows c.in-Some-2.item c.one-outs.result c.put.new.ready c.one-outs.ensures idle c.put.ensures.passed c.put.ensures.given c.put.ensures.rows before)
 
@@ -101,7 +102,8 @@ returns-in_err-advance_row-clause-cause g c =
 
 pub returns-in_err-item-clause-cause : goal.returns-in_err-item-clause-cause
 returns-in_err-item-clause-cause g c =
-    fault_stop_cause _ _ _ c.from_residual-in_err-item.result c.in_err-item.field-0.0 (omega arith) c.in_err-item.ensures.cause c.from_residual-in_err-item.ensures.1
+    fault_stop_cause _ _ _ c.from_residual-in_err-item.result c.in_err-item.field-0.0 (omega arith) c.in_err-item.ensures.cause
+    c.from_residual-in_err-item.ensures.1
 
 pub returns-in_err-finish_row-clause-cause : goal.returns-in_err-finish_row-clause-cause
 returns-in_err-finish_row-clause-cause g c =
@@ -226,7 +228,8 @@ returns-in_err-feed_rows-clause-read g c = c.in_err-feed_rows.ensures.read
 
 pub returns-in_err-feed_rows-clause-cause : goal.returns-in_err-feed_rows-clause-cause
 returns-in_err-feed_rows-clause-cause g c =
-    stop_cause_passed _ _ _ c.from_residual-in_err-feed_rows.result c.in_err-feed_rows.field-0.0 (omega arith) c.in_err-feed_rows.ensures.cause c.from_residual-in_err-feed_rows.ensures.1
+    stop_cause_passed _ _ _ c.from_residual-in_err-feed_rows.result c.in_err-feed_rows.field-0.0 (omega arith) c.in_err-feed_rows.ensures.cause
+    c.from_residual-in_err-feed_rows.ensures.1
 
 pub returns-in_err-item-clause-damaged : goal.returns-in_err-item-clause-damaged
 returns-in_err-item-clause-damaged g c tells =

@@ -26,7 +26,8 @@ returns c = λ later.
     let codes = old.codes in
     let value = c.args.value.now in
     let code = c.in_ok-code.ensures.is in
-    let is : c.in_ok-is_new.is_new ≡ not (list_any (pointwise nat_eq (code_of value)) codes) = c.in_ok-is_new.ensures.is_new ∙ ap (λ (t : List ℕ). not (list_any (pointwise nat_eq t) codes)) code in
+    let is : c.in_ok-is_new.is_new ≡ not (list_any (pointwise nat_eq (code_of value)) codes) = c.in_ok-is_new.ensures.is_new
+    ∙ ap (λ (t : List ℕ). not (list_any (pointwise nat_eq t) codes)) code in
     let kept : c.add.new.self ≡ cond c.in_ok-is_new.is_new (codes ++ code_of value ∷ []) codes
     = c.in_ok-is_new.ensures.added ∙ ap (λ (t : List ℕ). cond c.in_ok-is_new.is_new (codes ++ t ∷ []) codes) code in
     ap (λ (seen : List Item). unseen seen (items.Value value ∷ later)) (sym c.self.view_is)

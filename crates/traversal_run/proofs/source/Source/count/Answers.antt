@@ -17,8 +17,10 @@ returns-then-not-add-clause-counts g c = λ tells.
     let now = c.loop-id.self in
     let new : Source = record { edges = now.edges; left = c.take_first.new.self } in
     let used = c.in_ok-used.ensures.is tells ∙ ap (λ (t : State). is_some (element_at t.records now.edges c.in-Some.id)) c.loop-id.invariant.read.same in
-    counts_passes (graph_of s.records) c.args.self.now now new (element_at s.records now.edges c.in-Some.id) c.in_ok-used.used c.args.so_far.now c.loop-id.so_far c.from.result
-    (c.loop-id.invariant.counted tells) (left-takes s.records now.edges now.left c.take_first.new.self c.in-Some.id c.in-Some.ensures.some) used c.from.ensures (c.if-not-add.ensures.past refl)
+    counts_passes (graph_of s.records) c.args.self.now now new (element_at s.records now.edges c.in-Some.id) c.in_ok-used.used c.args.so_far.now
+    c.loop-id.so_far c.from.result
+    (c.loop-id.invariant.counted tells) (left-takes s.records now.edges now.left c.take_first.new.self c.in-Some.id c.in-Some.ensures.some) used c.from.ensures
+    (c.if-not-add.ensures.past refl)
 
 pub loop-id-preserved : goal.loop-id-preserved
 loop-id-preserved g c =
@@ -29,11 +31,14 @@ loop-id-preserved g c =
     record {
       counted = λ tells.
           let used = c.in_ok-used.ensures.is tells ∙ ap (λ (t : State). is_some (element_at t.records now.edges c.in-Some.id)) c.loop-id.invariant.read.same in
-          counts_on (graph_of s.records) c.args.self.now now new (element_at s.records now.edges c.in-Some.id) c.in_ok-used.used c.args.so_far.now c.loop-id.so_far c.from.result c.add.new.self
-          (c.loop-id.invariant.counted tells) (left-takes s.records now.edges now.left c.take_first.new.self c.in-Some.id c.in-Some.ensures.some) used c.from.ensures (c.add.ensures.counted c.if-not-add.false);
+          counts_on (graph_of s.records) c.args.self.now now new (element_at s.records now.edges c.in-Some.id) c.in_ok-used.used c.args.so_far.now
+          c.loop-id.so_far c.from.result c.add.new.self
+          (c.loop-id.invariant.counted tells) (left-takes s.records now.edges now.left c.take_first.new.self c.in-Some.id c.in-Some.ensures.some) used
+          c.from.ensures (c.add.ensures.counted c.if-not-add.false);
       edges = c.loop-id.invariant.edges;
       mark = c.loop-id.invariant.mark;
-      read = is_read-on space g.met.R.Reads.further_onward c.args.space.now c.loop-id.space c.is_in_use.new.space c.loop-id.invariant.read c.is_in_use.ensures.read;
+      read = is_read-on space g.met.R.Reads.further_onward c.args.space.now c.loop-id.space c.is_in_use.new.space c.loop-id.invariant.read
+          c.is_in_use.ensures.read;
     }
 
 pub returns-clause-counts : goal.returns-clause-counts
@@ -42,7 +47,8 @@ returns-clause-counts g c = λ tells.
     let now = c.loop-id.self in
     let mark = c.loop-id.invariant.mark ∙ ap (element_mark s.records) (sym c.loop-id.invariant.edges) in
     let none = left-none s.records now.edges now.left (subst (λ n. HasNoneBelow n now.left) mark c.in_default.ensures.none.0) in
-    counts_end (graph_of s.records) c.args.self.now now c.end.new.self c.args.so_far.now c.loop-id.so_far (c.loop-id.invariant.counted tells) none (c.end.ensures ∙ (λ i. record { edges = now.edges; left = Nothing }))
+    counts_end (graph_of s.records) c.args.self.now now c.end.new.self c.args.so_far.now c.loop-id.so_far (c.loop-id.invariant.counted tells) none
+    (c.end.ensures ∙ (λ i. record { edges = now.edges; left = Nothing }))
 
 pub returns-in_err-used-clause-counts : goal.returns-in_err-used-clause-counts
 returns-in_err-used-clause-counts g c _ = never_ok c.from_residual.result _ _ c.from_residual.ensures.1

@@ -13,15 +13,18 @@ use Rattle.traversal_run.proofs.source.Source.new.Goals as goal
 
 pub returns-in_err-nodes-in-Found-clause-cost : goal.returns-in_err-nodes-in-Found-clause-cost
 returns-in_err-nodes-in-Found-clause-cost g c = λ tells store.
-    subst (λ (asked : Asked). ReadsToBegin asked (g.R.Reads.state c.args.space.now) (g.R.Reads.state c.find_nodes.new.space)) (sym c.in-Found.is) (c.find_nodes.ensures.cost tells store)
+    subst (λ (asked : Asked). ReadsToBegin asked (g.R.Reads.state c.args.space.now) (g.R.Reads.state c.find_nodes.new.space)) (sym c.in-Found.is)
+    (c.find_nodes.ensures.cost tells store)
 
 pub returns-in_err-left-in-Found-clause-cost : goal.returns-in_err-left-in-Found-clause-cost
 returns-in_err-left-in-Found-clause-cost g c = λ tells store.
-    subst (λ (asked : Asked). ReadsToBegin asked (g.R.Reads.state c.args.space.now) (g.R.Reads.state c.find_nodes.new.space)) (sym c.in-Found.is) (c.find_nodes.ensures.cost tells store)
+    subst (λ (asked : Asked). ReadsToBegin asked (g.R.Reads.state c.args.space.now) (g.R.Reads.state c.find_nodes.new.space)) (sym c.in-Found.is)
+    (c.find_nodes.ensures.cost tells store)
 
 pub returns-in_ok-left-in-Found-clause-cost : goal.returns-in_ok-left-in-Found-clause-cost
 returns-in_ok-left-in-Found-clause-cost g c = λ tells store.
-    subst (λ (asked : Asked). ReadsToBegin asked (g.R.Reads.state c.args.space.now) (g.R.Reads.state c.find_nodes.new.space)) (sym c.in-Found.is) (c.find_nodes.ensures.cost tells store)
+    subst (λ (asked : Asked). ReadsToBegin asked (g.R.Reads.state c.args.space.now) (g.R.Reads.state c.find_nodes.new.space)) (sym c.in-Found.is)
+    (c.find_nodes.ensures.cost tells store)
 
 pub returns-in_ok-left-in-Found-clause-found : goal.returns-in_ok-left-in-Found-clause-found
 returns-in_ok-left-in-Found-clause-found g c = λ tells store.

@@ -23,7 +23,8 @@ returns-then-is_some-clause-vertex g c = λ at is.
     let edges : c.loop-id.self.edges ≡ false = c.loop-id.invariant.edges ∙ ap (λ (s : Source). s.edges) is in
     let new : Source = record { edges = c.loop-id.self.edges; left = c.take_first.new.self } in
     let source : new ≡ vertices_from (v.0 + 1) = λ i. record { edges = edges i; left = take.1 i } in
-    scan_found at v.0 (space.state c.args.space.now).reads (space.state c.loop-id.space).reads (space.state c.element_at.new.space).reads c.in-Some.id c.in_ok-item.item new
+    scan_found at v.0 (space.state c.args.space.now).reads (space.state c.loop-id.space).reads (space.state c.element_at.new.space).reads c.in-Some.id
+    c.in_ok-item.item new
     v.1 v.3 c.element_at.ensures.reads take.0 source (c.in_ok-item.ensures.vertex edges)
 
 pub returns-then-is_some-clause-first : goal.returns-then-is_some-clause-first
@@ -51,7 +52,8 @@ loop-id-preserved g c =
           let item = c.in_ok-item.ensures.is tells (named-read space c.args.space.now c.loop-id.space c.args.names.now.names read store)
           ∙ ap (λ (t : State). element_at t.records now.edges c.in-Some.id) read.same in
           let takes = left-takes s.records now.edges now.left c.take_first.new.self c.in-Some.id c.in-Some.ensures.some in
-          gives-later (graph_of s.records) c.args.self.now now new c.in_ok-item.item (sym c.is_some.ensures ∙ c.if-is_some.false) (c.loop-id.invariant.same tells store)
+          gives-later (graph_of s.records) c.args.self.now now new c.in_ok-item.item (sym c.is_some.ensures ∙ c.if-is_some.false)
+          (c.loop-id.invariant.same tells store)
           (takes ∙ ap (λ found. option_list found ++ left_of (graph_of s.records) new) (sym item));
       edges = c.loop-id.invariant.edges;
       over = c.take_first.ensures.over ∙ c.loop-id.invariant.over;

@@ -10,11 +10,13 @@ abbrev pub invariant-loop-id : goal.invariant-loop-id
 invariant-loop-id g l =
     let old = g.R.Reads.state l.fn.space in
     record {
-      same : g.R.Reads.tells → IsNamedStore old.records old.shape l.names.names → left_of (graph_of old.records) l.self ≡ left_of (graph_of old.records) l.fn.self;
+      same : g.R.Reads.tells → IsNamedStore old.records old.shape l.names.names
+          → left_of (graph_of old.records) l.self ≡ left_of (graph_of old.records) l.fn.self;
       edges : l.self.edges ≡ l.fn.self.edges;
       over : is_over l.self.left ≡ is_over l.fn.self.left;
       unread : is_over l.fn.self.left ≡ true → l.space ≡ l.fn.space;
-      vertex : (at : ℕ) → l.fn.self ≡ vertices_from at → (next : ℕ) × (at ≤ next) × (l.self.left ≡ From next) × ((g.R.Reads.state l.space).reads ≤ old.reads + (next - at));
+      vertex : (at : ℕ) → l.fn.self ≡ vertices_from at → (next : ℕ) × (at ≤ next) × (l.self.left ≡ From next)
+          × ((g.R.Reads.state l.space).reads ≤ old.reads + (next - at));
       read : IsRead g.R.Reads l.fn.space l.space;
     }
 

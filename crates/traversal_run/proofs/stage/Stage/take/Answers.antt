@@ -10,7 +10,8 @@ returns-in_err-outs-in-Dedup-clause-cause g c = memory_cause _ _ c.from_residual
 
 pub returns-in_err-keep-in-Order-clause-cause : goal.returns-in_err-keep-in-Order-clause-cause
 returns-in_err-keep-in-Order-clause-cause g c =
-    cause_passed _ _ _ c.from_residual-in_err-keep-in-Order.result c.in_err-keep-in-Order.field-0.0 (omega arith) c.in_err-keep-in-Order.ensures.cause c.from_residual-in_err-keep-in-Order.ensures.1
+    cause_passed _ _ _ c.from_residual-in_err-keep-in-Order.result c.in_err-keep-in-Order.field-0.0 (omega arith) c.in_err-keep-in-Order.ensures.cause
+    c.from_residual-in_err-keep-in-Order.ensures.1
 
 pub returns-in_err-outs-in-Dedup-clause-takes : goal.returns-in_err-outs-in-Dedup-clause-takes
 returns-in_err-outs-in-Dedup-clause-takes g c _ _ = never_ok c.from_residual.result _ _ c.from_residual.ensures.1
