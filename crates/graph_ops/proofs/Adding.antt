@@ -41,7 +41,9 @@ use Rattle.graph_ops.specs.Owners.{owner_of}
 use Rattle.graph_ops.specs.Preparing.{IsLineCause}
 use Rattle.graph_ops.specs.Rooms.{LacksRoom}
 use Rattle.graph_ops.specs.declared.change_fault.ChangeFault.{ChangeFault}
-use Rattle.graph_ops.specs.declared.change_fault.ChangeFault.TheVariants.{NoNode, NoEdge, HasRelationships, IndexThere, TooManyIndexes, IndexTooLarge, Full, NamesFull, PropsFull, Memory, Disk, Damaged}
+use Rattle.graph_ops.specs.declared.change_fault.ChangeFault.TheVariants.{NoNode, NoEdge, HasRelationships, IndexThere}
+use Rattle.graph_ops.specs.declared.change_fault.ChangeFault.TheVariants.{TooManyIndexes, IndexTooLarge, Full}
+use Rattle.graph_ops.specs.declared.change_fault.ChangeFault.TheVariants.{NamesFull, PropsFull, Memory, Disk, Damaged}
 
 -- ---- names
 
@@ -56,14 +58,16 @@ named_beside s id text q other no_meta =
     ∙ put_other s.records (name_key id) (name_record text) q (λ e. other (ap (λ (k : Key). k.file) e))
 
 pub interned_beside : (s t : State) (names : List (List ℕ)) (text : List ℕ) → t ≡ interned s names text → IsSameBeside format.names_file s.records t.records
-interned_beside s t names text is = subst (λ (z : State). IsSameBeside format.names_file s.records z.records) (sym is) (by (list_any (pointwise nat_eq text) names))
+interned_beside s t names text is = subst (λ (z : State). IsSameBeside format.names_file s.records z.records) (sym is)
+    (by (list_any (pointwise nat_eq text) names))
   where
     by : (b : Bool) → IsSameBeside format.names_file s.records (cond b s (named s (length names) text)).records
     by true = λ q other no_meta. refl
     by false = named_beside s (length names) text
 
 -- the records of an element lead through the same properties
-pub met_beside : (s t : Records) (target : Target) → IsSameBeside format.names_file s t → properties_met t (owner_of target) ≡ properties_met s (owner_of target)
+pub met_beside : (s t : Records) (target : Target) → IsSameBeside format.names_file s t
+    → properties_met t (owner_of target) ≡ properties_met s (owner_of target)
 met_beside s t target same =
     let met = λ (p strings : ℕ → Rec) (first : ℕ). map (property_at (record { properties = p; strings = strings })) (property_ids p first) in
     ap (λ p. met p (rec_at t format.strings_file) (first_of t (owner_of target))) (file format.properties_file (λ e. omega arith) (λ e. omega arith))
@@ -74,11 +78,14 @@ met_beside s t target same =
     file f other no_meta = fun_ext (λ id. same (key_in f id) other (λ e. no_meta (ap (λ (k : Key). k.file) e)))
 
     first : (target : Target) → first_of t (owner_of target) ≡ first_of s (owner_of target)
-    first (targets.Node id) = ap (λ (r : Rec). field 4 r format.node_first_property) (same (key_in format.nodes_file id) (λ e. omega arith) (λ e. let f = ap (λ (k : Key). k.file) e in omega arith))
-    first (targets.Edge id) = ap (λ (r : Rec). field 4 r format.relationship_first_property) (same (key_in format.relationships_file id) (λ e. omega arith) (λ e. let f = ap (λ (k : Key). k.file) e in omega arith))
+    first (targets.Node id) = ap (λ (r : Rec). field 4 r format.node_first_property)
+        (same (key_in format.nodes_file id) (λ e. omega arith) (λ e. let f = ap (λ (k : Key). k.file) e in omega arith))
+    first (targets.Edge id) = ap (λ (r : Rec). field 4 r format.relationship_first_property)
+        (same (key_in format.relationships_file id) (λ e. omega arith) (λ e. let f = ap (λ (k : Key). k.file) e in omega arith))
 
 -- a key of a line gets its number, or is only counted
-pub key_beside : (few : Bool) (s t : State) (names : List (List ℕ)) (text : List ℕ) → (few ≡ true → t ≡ interned s names text) → (few ≡ false → t ≡ s) → KeepsButNames s t
+pub key_beside : (few : Bool) (s t : State) (names : List (List ℕ)) (text : List ℕ) → (few ≡ true → t ≡ interned s names text) → (few ≡ false → t ≡ s)
+    → KeepsButNames s t
 key_beside true s t names text ok held = interned_beside s t names text (ok refl)
 key_beside false s t names text ok held = subst (KeepsButNames s) (sym (held refl)) (λ q other no_meta. refl)
 
@@ -91,7 +98,8 @@ names_then s t u h k q other no_meta = k q other no_meta ∙ h q other no_meta
 module _ (s t : State) (changed : ℕ) (shape : t.shape ≡ s.shape) (keeps : IsSameBeside changed s.records t.records) where
   list_stays : (file : ℕ) → file ≢ changed → file ≢ format.meta_file → changed ≢ format.meta_file → HarmsNoList s t file
   list_stays file other own known = beside_harms_none s t file shape
-      (keeps (meta_key_of file) (λ e. known (sym e)) (λ e. other (ap (λ (k : Key). k.id) e))) (λ x. keeps (key_in file x) other (λ e. own (ap (λ (k : Key). k.file) e)))
+      (keeps (meta_key_of file) (λ e. known (sym e)) (λ e. other (ap (λ (k : Key). k.id) e)))
+      (λ x. keeps (key_in file x) other (λ e. own (ap (λ (k : Key). k.file) e)))
 
 pub names_harm_no_lists : (s t : State) → t.shape ≡ s.shape → KeepsButNames s t → HarmsNoLists s t
 names_harm_no_lists s t shape keeps = record {
@@ -146,7 +154,8 @@ pub room_blamed : (told : Damage → Type 0) (s : State) (file count : ℕ) (fau
 room_blamed told s file count fault why = subst (IfBlames told) (sym why.is) tt
 
 -- nor where a line is refused
-pub line_blamed : (told : Damage → Type 0) (s : State) (names : List (List ℕ)) (label : List ℕ) (pairs : List Pair) (fault : ChangeFault) → IsLineCause s names label pairs fault → IfBlames told fault
+pub line_blamed : (told : Damage → Type 0) (s : State) (names : List (List ℕ)) (label : List ℕ) (pairs : List Pair) (fault : ChangeFault)
+    → IsLineCause s names label pairs fault → IfBlames told fault
 line_blamed told s names label pairs (NoNode id) why = tt
 line_blamed told s names label pairs (NoEdge id) why = tt
 line_blamed told s names label pairs (HasRelationships id degree) why = tt

@@ -2,7 +2,8 @@
 use Rattle.std.specs.FinMap as maps
 use Rattle.std.specs.List.{All, sum_by}
 use Rattle.std.specs.Prelude.{Contains, slice_get}
-use Rattle.std.proofs.Common.{◌≡◌, ◌≢◌, ℕ, zero, suc, ◌+◌, ◌-◌, ◌<◌, ◌≤◌, nat_eq, nat_le, Bool, true, false, cond, Some, List, [], ◌∷◌, ◌++◌, length, map, take, get_or, sym, ap, ◌∙◌, subst, arith, refl}
+use Rattle.std.proofs.Common.{◌≡◌, ◌≢◌, ℕ, zero, suc, ◌+◌, ◌-◌, ◌<◌, ◌≤◌, nat_eq, nat_le, Bool, true, false, cond, Some}
+use Rattle.std.proofs.Common.{List, [], ◌∷◌, ◌++◌, length, map, take, get_or, sym, ap, ◌∙◌, subst, arith, refl}
 use Rattle.std.proofs.lemmas.Bool.Decides.{nat_tests}
 use Rattle.std.proofs.lemmas.List.{get_or_append_left, length-append, length-map, length-take, take_all, take_more}
 use Rattle.std.proofs.lemmas.List.Elements.{All-head, All-nil, All-tail, All-weaker}
@@ -36,13 +37,15 @@ use Rattle.graph_ops.proofs.NewNames.{name_one, named_once, placed_grows}
 use Rattle.store_rules.proofs.WriteLaws.{more_written, then_written}
 
 -- ---- the form of a pair
-pub pair_form : (pairs : List Pair) (i : ℕ) (d : Pair) → ArePairs pairs → i < length pairs → IsShortName (get_or pairs i d).key × IsKept (get_or pairs i d).value
+pub pair_form : (pairs : List Pair) (i : ℕ) (d : Pair) → ArePairs pairs → i < length pairs → IsShortName (get_or pairs i d).key
+    × IsKept (get_or pairs i d).value
 pair_form [] i d are lt = absurd (omega arith)
 pair_form (p ∷ ps) zero d are lt = (are.0, are.1)
 pair_form (p ∷ ps) (suc i) d are lt = pair_form ps i d are.2 (omega arith)
 
 -- ---- pairs by more names
-pub pairs_stay : (names rest : List (List ℕ)) (pairs : List Pair) (xs : List Assignment) → All (λ a. a.key < length names) xs → pairs_of (names ++ rest) pairs xs ≡ pairs_of names pairs xs
+pub pairs_stay : (names rest : List (List ℕ)) (pairs : List Pair) (xs : List Assignment) → All (λ a. a.key < length names) xs
+    → pairs_of (names ++ rest) pairs xs ≡ pairs_of names pairs xs
 pairs_stay names rest pairs [] known = refl
 pairs_stay names rest pairs (x ∷ xs) known =
     λ i. record { key = get_or_append_left names rest [] x.key (All-head (λ a. a.key < length names) x xs known) i; value = (pair_at pairs x.pair).value }
@@ -61,7 +64,8 @@ cut_placed (suc n) (x ∷ xs) key place = by (nat_eq x.key key) (cut_placed n xs
     again m ys = take_all m (take m ys) (omega (arith, length-take m ys))
 
     by : (b : Bool) → take n (with_place (take n xs) key place) ≡ take n (with_place xs key place)
-        → take (suc n) (cond b (record { key = key; pair = place } ∷ take n xs) (x ∷ with_place (take n xs) key place)) ≡ take (suc n) (cond b (record { key = key; pair = place } ∷ xs) (x ∷ with_place xs key place))
+        → take (suc n) (cond b (record { key = key; pair = place } ∷ take n xs) (x ∷ with_place (take n xs) key place)) ≡ take (suc n)
+        (cond b (record { key = key; pair = place } ∷ xs) (x ∷ with_place xs key place))
     by true rest = ap (λ l. record { key = key; pair = place } ∷ l) (again n xs)
     by false rest = ap (λ l. x ∷ l) rest
 
@@ -91,7 +95,8 @@ none_so_far names pairs held = record {
 }
 
 -- fewer than 33 items are all assignments
-pub items_all : (old names : List (List ℕ)) (pairs : List Pair) (n : ℕ) (items : List Assignment) (so_far : IsSoFar old names pairs n items) → length items ≤ 32 → items ≡ so_far.all
+pub items_all : (old names : List (List ℕ)) (pairs : List Pair) (n : ℕ) (items : List Assignment) (so_far : IsSoFar old names pairs n items) → length items ≤ 32
+    → items ≡ so_far.all
 items_all old names pairs n items so_far few =
     let short : length so_far.all ≤ 33 = let e = ap length so_far.items_is in omega (arith, length-take 33 so_far.all) in
     so_far.items_is ∙ take_all 33 so_far.all short
@@ -100,7 +105,8 @@ pub items_most : (old names : List (List ℕ)) (pairs : List Pair) (n : ℕ) (it
 items_most old names pairs n items so_far = let e = ap length so_far.items_is in omega (arith, length-take 33 so_far.all)
 
 -- while there are fewer, a new name makes one item more
-pub named_more : (old names new : List (List ℕ)) (pairs : List Pair) (n number : ℕ) (items now : List Assignment) (x : List ℕ) → IsSoFar old names pairs n items → UsesName names x new → slice_get new number ≡ Some x
+pub named_more : (old names new : List (List ℕ)) (pairs : List Pair) (n number : ℕ) (items now : List Assignment) (x : List ℕ) → IsSoFar old names pairs n items
+    → UsesName names x new → slice_get new number ≡ Some x
     → now ≡ take 33 (with_place items number n) → length items ≤ 32 → length new + length items ≤ length names + length now
 named_more old names new pairs n number items now x so_far uses at placed few =
     let all = items_all old names pairs n items so_far few in
@@ -110,9 +116,12 @@ named_more old names new pairs n number items now x so_far uses at placed few =
     omega (arith, length-take 33 (with_place items number n))
 
 -- what is written stays few: a record for each item
-pub few_then : (s t u : State) (old names new : List (List ℕ)) (pairs : List Pair) (n number : ℕ) (items now : List Assignment) (x : List ℕ) → IsSoFar old names pairs n items → UsesName names x new → slice_get new number ≡ Some x
-    → now ≡ take 33 (with_place items number n) → WritesAtMost (length items) s t → WritesAtMost (length new - length names) t u → (32 < length items → u ≡ t) → WritesAtMost (length now) s u
-few_then s t u old names new pairs n number items now x so_far uses at placed before one held = by (nat_le (length items) 32) (λ e. grind (arith, nat_tests)) (λ e. grind (arith, nat_tests))
+pub few_then : (s t u : State) (old names new : List (List ℕ)) (pairs : List Pair) (n number : ℕ) (items now : List Assignment) (x : List ℕ)
+    → IsSoFar old names pairs n items → UsesName names x new → slice_get new number ≡ Some x
+    → now ≡ take 33 (with_place items number n) → WritesAtMost (length items) s t → WritesAtMost (length new - length names) t u → (32 < length items → u ≡ t)
+    → WritesAtMost (length now) s u
+few_then s t u old names new pairs n number items now x so_far uses at placed before one held =
+    by (nat_le (length items) 32) (λ e. grind (arith, nat_tests)) (λ e. grind (arith, nat_tests))
   where
     by : (b : Bool) → (b ≡ true → length items ≤ 32) → (b ≡ false → 32 < length items) → WritesAtMost (length now) s u
     by true few many =
@@ -124,15 +133,18 @@ few_then s t u old names new pairs n number items now x so_far uses at placed be
         more_written grows (subst (WritesAtMost (length items) s) (sym (held (many refl))) before)
 
 -- so it does where the next key gets no number
-pub few_after : (s t u : State) (items : List Assignment) → length items ≤ 33 → WritesAtMost (length items) s t → WritesAtMost 1 t u → (32 < length items → u ≡ t) → WritesAtMost 33 s u
+pub few_after : (s t u : State) (items : List Assignment) → length items ≤ 33 → WritesAtMost (length items) s t → WritesAtMost 1 t u
+    → (32 < length items → u ≡ t) → WritesAtMost 33 s u
 few_after s t u items most before one held = by (nat_le (length items) 32) (λ e. grind (arith, nat_tests)) (λ e. grind (arith, nat_tests))
   where
     by : (b : Bool) → (b ≡ true → length items ≤ 32) → (b ≡ false → 32 < length items) → WritesAtMost 33 s u
     by true few many = let le = few refl in more_written (omega arith) (then_written before one)
     by false few many = more_written most (subst (WritesAtMost (length items) s) (sym (held (many refl))) before)
 
-one_more_at : (old names new : List (List ℕ)) (pairs : List Pair) (n number : ℕ) (items now : List Assignment) → IsSoFar old names pairs n items → n < length pairs → IsShortName (pair_at pairs n).key
-    → UsesName names (pair_at pairs n).key new → slice_get new number ≡ Some (pair_at pairs n).key → (¬ Contains names (pair_at pairs n).key → length names ≢ most_names)
+one_more_at : (old names new : List (List ℕ)) (pairs : List Pair) (n number : ℕ) (items now : List Assignment) → IsSoFar old names pairs n items
+    → n < length pairs → IsShortName (pair_at pairs n).key
+    → UsesName names (pair_at pairs n).key new → slice_get new number ≡ Some (pair_at pairs n).key
+    → (¬ Contains names (pair_at pairs n).key → length names ≢ most_names)
     → now ≡ take 33 (with_place items number n) → IsSoFar old new pairs (n + 1) now
 one_more_at old names new pairs n number items now so_far lt short uses at room placed =
     let key = (pair_at pairs n).key in
@@ -141,14 +153,17 @@ one_more_at old names new pairs n number items now so_far lt short uses at room 
     let held = held_name names key new so_far.held uses short room in
     let low = slice_get_within new number key at in
     let longer : length names ≤ length new = let e = ap length more.1 in omega (arith, length-append names more.0) in
-    let known : All (λ (a : Assignment). a.key < length new) so_far.all = All-weaker (λ (a : Assignment). a.key < length names) (λ (a : Assignment). a.key < length new) (λ a k. omega arith) so_far.all so_far.known in
-    let stay : pairs_of new pairs so_far.all ≡ pairs_of names pairs so_far.all = ap (λ l. pairs_of l pairs so_far.all) more.1 ∙ pairs_stay names more.0 pairs so_far.all so_far.known in
+    let known : All (λ (a : Assignment). a.key < length new) so_far.all =
+    All-weaker (λ (a : Assignment). a.key < length names) (λ (a : Assignment). a.key < length new) (λ a k. omega arith) so_far.all so_far.known in
+    let stay : pairs_of new pairs so_far.all ≡ pairs_of names pairs so_far.all = ap (λ l. pairs_of l pairs so_far.all) more.1
+    ∙ pairs_stay names more.0 pairs so_far.all so_far.known in
     record {
       uses = uses_more old pairs n names new lt so_far.uses uses;
       held = held;
       all = with_place so_far.all number n;
       known = all_placed (λ a. a.key < length new) so_far.all number n low known;
-      placed = all_placed (λ a. a.pair < n + 1) so_far.all number n (omega arith) (All-weaker (λ (a : Assignment). a.pair < n) (λ (a : Assignment). a.pair < n + 1) (λ a k. omega arith) so_far.all so_far.placed);
+      placed = all_placed (λ a. a.pair < n + 1) so_far.all number n (omega arith)
+          (All-weaker (λ (a : Assignment). a.pair < n) (λ (a : Assignment). a.pair < n + 1) (λ a k. omega arith) so_far.all so_far.placed);
       once = once_placed so_far.all number n so_far.once;
       same = with_pairs-placed new pairs held.distinct no_properties so_far.all number n low known so_far.once
           ∙ ap (λ l. maps.insert (with_pairs no_properties l) (get_or new number []) value) stay
@@ -160,15 +175,20 @@ one_more_at old names new pairs n number items now so_far lt short uses at room 
     }
 
 -- the same by the text that got its number
-pub one_more : (old names new : List (List ℕ)) (pairs : List Pair) (n number : ℕ) (items now : List Assignment) (x : List ℕ) → x ≡ (pair_at pairs n).key → IsSoFar old names pairs n items → n < length pairs → IsShortName x
-    → UsesName names x new → slice_get new number ≡ Some x → (¬ Contains names x → length names ≢ most_names) → now ≡ take 33 (with_place items number n) → IsSoFar old new pairs (n + 1) now
+pub one_more : (old names new : List (List ℕ)) (pairs : List Pair) (n number : ℕ) (items now : List Assignment) (x : List ℕ) → x ≡ (pair_at pairs n).key
+    → IsSoFar old names pairs n items → n < length pairs → IsShortName x
+    → UsesName names x new → slice_get new number ≡ Some x → (¬ Contains names x → length names ≢ most_names) → now ≡ take 33 (with_place items number n)
+    → IsSoFar old new pairs (n + 1) now
 one_more old names new pairs n number items now x is so_far lt short uses at room placed =
-    one_more_at old names new pairs n number items now so_far lt (subst IsShortName is short) (subst (λ k. UsesName names k new) is uses) (at ∙ ap Some is) (λ lacks. room (λ h. lacks (subst (Contains names) is h))) placed
+    one_more_at old names new pairs n number items now so_far lt (subst IsShortName is short) (subst (λ k. UsesName names k new) is uses) (at ∙ ap Some is)
+    (λ lacks. room (λ h. lacks (subst (Contains names) is h))) placed
 
 -- a key that gets no number is too many a name
-pub assign_refused : (old names : List (List ℕ)) (pairs : List Pair) (n : ℕ) (items : List Assignment) (x : List ℕ) → x ≡ (pair_at pairs n).key → IsSoFar old names pairs n items → n < length pairs
+pub assign_refused : (old names : List (List ℕ)) (pairs : List Pair) (n : ℕ) (items : List Assignment) (x : List ℕ) → x ≡ (pair_at pairs n).key
+    → IsSoFar old names pairs n items → n < length pairs
     → (fault : InternFault) → IsFullFault names x fault → IsAssignFault old pairs (of_intern fault)
-assign_refused old names pairs n items x is so_far lt (intern.NamesFull count) why = key_lacks old pairs n names lt so_far.uses why.all (λ h. why.new (subst (Contains names) (sym is) h))
+assign_refused old names pairs n items x is so_far lt (intern.NamesFull count) why =
+    key_lacks old pairs n names lt so_far.uses why.all (λ h. why.new (subst (Contains names) (sym is) h))
 assign_refused old names pairs n items x is so_far lt intern.Memory why = tt
 assign_refused old names pairs n items x is so_far lt intern.Disk why = tt
 
@@ -220,7 +240,8 @@ module _ (old names : List (List ℕ)) (pairs : List Pair) (items : List Assignm
   too_many many = let e = ap length so_far.items_is in let n = length-assigned names pairs so_far.all every in omega (arith, length-take 33 so_far.all)
 
 -- ---- the loop's invariant
-pub record IsAssigning (tells onward : Type 0) (s t : State) (before now : ℕ) (old names : List (List ℕ)) (pairs : List Pair) (n : ℕ) (items : List Assignment) : Type 0 where
+pub record IsAssigning (tells onward : Type 0) (s t : State) (before now : ℕ) (old names : List (List ℕ)) (pairs : List Pair) (n : ℕ)
+    (items : List Assignment) : Type 0 where
   pub so_far : IsSoFar old names pairs n items
   pub stays : tells → KeepsButNames s t
   pub kept : tells → length items ≤ 32 → IsMidway s old → KeepsElements s t names

@@ -36,7 +36,9 @@ use Rattle.group_store.proofs.ChainHeads.{only_read}
 use Rattle.prop_index.specs.Blaming as indexes
 use Rattle.graph_ops.specs.ChangeFault.{IsFailure, of_fault, of_intern, of_row, of_set}
 use Rattle.graph_ops.specs.declared.change_fault.ChangeFault.{ChangeFault}
-use Rattle.graph_ops.specs.declared.change_fault.ChangeFault.TheVariants.{NoNode, NoEdge, HasRelationships, IndexThere, TooManyIndexes, IndexTooLarge, Full, NamesFull, PropsFull, Memory, Disk, Damaged}
+use Rattle.graph_ops.specs.declared.change_fault.ChangeFault.TheVariants.{NoNode, NoEdge, HasRelationships, IndexThere}
+use Rattle.graph_ops.specs.declared.change_fault.ChangeFault.TheVariants.{TooManyIndexes, IndexTooLarge, Full}
+use Rattle.graph_ops.specs.declared.change_fault.ChangeFault.TheVariants.{NamesFull, PropsFull, Memory, Disk, Damaged}
 use Rattle.graph_ops.specs.Damage.{BlamesBroken, BlamesEntry, BlamesGiven, IfBlames, IsAsFound, IsBroken, IsEntryDamage, IsOfIndex}
 use Rattle.graph_ops.specs.Entries.{HasIndexes}
 use Rattle.graph_ops.specs.NodeDeleting.{IsDeleteCause}
@@ -67,10 +69,12 @@ row_misses (row.Damaged damage) = tt
 
 -- ---- elements that are loaded are in use
 
-pub node_in_use : (s : State) (target : Target) (id : ℕ) (node : NodeRow) → target ≡ targets.Node id → Some node ≡ nodes.row_at s.records id → IsInUse s.records (owner_of target)
+pub node_in_use : (s : State) (target : Target) (id : ℕ) (node : NodeRow) → target ≡ targets.Node id → Some node ≡ nodes.row_at s.records id
+    → IsInUse s.records (owner_of target)
 node_in_use s target id node is found = subst (λ t. IsInUse s.records (owner_of t)) (sym is) (used_of s id node found).0
 
-pub rel_in_use : (s : State) (target : Target) (id : ℕ) (rel : RelRow) → target ≡ targets.Edge id → Some rel ≡ rels.row_at s.records id → IsInUse s.records (owner_of target)
+pub rel_in_use : (s : State) (target : Target) (id : ℕ) (rel : RelRow) → target ≡ targets.Edge id → Some rel ≡ rels.row_at s.records id
+    → IsInUse s.records (owner_of target)
 rel_in_use s target id rel is found = subst (λ t. IsInUse s.records (owner_of t)) (sym is) (rel_rows.kind-row_at-Some s.records id rel (sym found)).0
 
 -- ---- properties
@@ -96,7 +100,8 @@ pub node_cause : (s t : State) (id : ℕ) (fault : RowFault) → nodes.IsNodeFau
 node_cause s t id row.Disk told = tt
 node_cause s t id (row.Damaged damage) told = inl (inl (node_breaks s id damage told))
 
-pub drop_cause : (s m t : State) (id : ℕ) → SameButReads s m → (fault : Fault) → props.BlamesBroken m.records m.shape fault → IsDeleteCause s t id (of_fault fault)
+pub drop_cause : (s m t : State) (id : ℕ) → SameButReads s m → (fault : Fault) → props.BlamesBroken m.records m.shape fault
+    → IsDeleteCause s t id (of_fault fault)
 drop_cause s m t id same faults.Memory told = tt
 drop_cause s m t id same faults.Disk told = tt
 drop_cause s m t id same (faults.Damaged damage) told = inl (inl (subst (λ (z : State). Breaks z.records z.shape damage) same told))
@@ -117,7 +122,8 @@ held_cause s t id Disk fails told = tt
 held_cause s t id (Damaged damage) fails told = inl told
 
 -- and their entries leave last
-pub entry_cause : (s t : State) (id : ℕ) (fault : ChangeFault) → IsFailure fault → IfBlames (λ damage. IsEntryDamage t damage × (IsAsFound s t damage ⊎ HasIndexes s.records)) fault → IsDeleteCause s t id fault
+pub entry_cause : (s t : State) (id : ℕ) (fault : ChangeFault) → IsFailure fault
+    → IfBlames (λ damage. IsEntryDamage t damage × (IsAsFound s t damage ⊎ HasIndexes s.records)) fault → IsDeleteCause s t id fault
 entry_cause s t id (NoNode missing) fails told = absurd fails
 entry_cause s t id (NoEdge missing) fails told = absurd fails
 entry_cause s t id (HasRelationships of degree) fails told = absurd fails
@@ -134,7 +140,8 @@ entry_cause s t id (Damaged damage) fails told = inr told
 -- ---- values that are given
 
 -- what follows of a record that is blamed
-pub blames_more : (told more : Damage → Type 0) → ((damage : Damage) → told damage → more damage) → (fault : ChangeFault) → IfBlames told fault → IfBlames more fault
+pub blames_more : (told more : Damage → Type 0) → ((damage : Damage) → told damage → more damage) → (fault : ChangeFault) → IfBlames told fault
+    → IfBlames more fault
 blames_more told more then (NoNode id) blames = tt
 blames_more told more then (NoEdge id) blames = tt
 blames_more told more then (HasRelationships id degree) blames = tt
@@ -149,7 +156,8 @@ blames_more told more then Disk blames = tt
 blames_more told more then (Damaged damage) blames = then damage blames
 
 -- what is so of it in two ways
-pub blames_both : (one other : Damage → Type 0) (fault : ChangeFault) → IfBlames one fault → IfBlames other fault → IfBlames (λ damage. one damage × other damage) fault
+pub blames_both : (one other : Damage → Type 0) (fault : ChangeFault) → IfBlames one fault → IfBlames other fault
+    → IfBlames (λ damage. one damage × other damage) fault
 blames_both one other (NoNode id) a b = tt
 blames_both one other (NoEdge id) a b = tt
 blames_both one other (HasRelationships id degree) a b = tt
@@ -171,14 +179,17 @@ key_blamed s named t had interns.Disk = tt
 -- reads before a key becomes a name are counted after it
 pub interned_read : (s m : State) (names : List (List ℕ)) (key : List ℕ) → SameButReads s m → SameButReads (interned s names key) (interned m names key)
 unfolding named
-interned_read s m names key same = subst (λ (z : State). SameButReads (interned s names key) (interned z names key)) (sym same) (by (list_any (pointwise nat_eq key) names))
+interned_read s m names key same = subst (λ (z : State). SameButReads (interned s names key) (interned z names key)) (sym same)
+    (by (list_any (pointwise nat_eq key) names))
   where
-    by : (b : Bool) → SameButReads (cond b s (named s (length names) key)) (cond b (record s { reads = m.reads }) (named (record s { reads = m.reads }) (length names) key))
+    by : (b : Bool) → SameButReads (cond b s (named s (length names) key))
+        (cond b (record s { reads = m.reads }) (named (record s { reads = m.reads }) (length names) key))
     by true = refl
     by false = refl
 
 -- an element in use is so once a key is a name
-pub interned_in_use : (s : State) (names : List (List ℕ)) (key : List ℕ) (target : Target) → IsInUse s.records (owner_of target) → IsInUse (interned s names key).records (owner_of target)
+pub interned_in_use : (s : State) (names : List (List ℕ)) (key : List ℕ) (target : Target) → IsInUse s.records (owner_of target)
+    → IsInUse (interned s names key).records (owner_of target)
 unfolding named
 interned_in_use s names key (targets.Node id) used = by (list_any (pointwise nat_eq key) names)
   where
@@ -191,7 +202,8 @@ interned_in_use s names key (targets.Edge id) used = by (list_any (pointwise nat
     by true = used
     by false = used
 
-pub value_blamed : (s named t last : State) (had : Type 0) → SameButReads named t → (fault : SetFault) → SetBlamesBroken t fault → BlamesGiven s named last had (of_set fault)
+pub value_blamed : (s named t last : State) (had : Type 0) → SameButReads named t → (fault : SetFault) → SetBlamesBroken t fault
+    → BlamesGiven s named last had (of_set fault)
 value_blamed s named t last had same (sets.PropsFull count) told = tt
 value_blamed s named t last had same (sets.Full file live) told = tt
 value_blamed s named t last had same sets.Memory told = tt
@@ -201,7 +213,8 @@ value_blamed s named t last had same (sets.Damaged damage) told = inr (inl (inl 
 -- ---- in the space as a call left it
 
 -- where nothing was written before
-pub unwritten_left : (s t : State) (fault : Fault) → props.BlamesBroken s.records s.shape fault → IfSome (damage_of fault) (λ _. SameButReads s t) → BlamesBroken t (of_fault fault)
+pub unwritten_left : (s t : State) (fault : Fault) → props.BlamesBroken s.records s.shape fault → IfSome (damage_of fault) (λ _. SameButReads s t)
+    → BlamesBroken t (of_fault fault)
 unwritten_left s t faults.Memory told same = tt
 unwritten_left s t faults.Disk told same = tt
 unwritten_left s t (faults.Damaged damage) told same = inl (subst (λ (z : State). Breaks z.records z.shape damage) (sym same) told)

@@ -43,7 +43,9 @@ use Rattle.graph_ops.specs.Owners.{IsAbsent, owner_of}
 use Rattle.graph_ops.specs.Preparing.{IsLineCause, NeedForPairs}
 use Rattle.graph_ops.specs.Rooms.{HasRoom, KeepsElementMetas, LacksRoom}
 use Rattle.graph_ops.specs.declared.change_fault.ChangeFault.{ChangeFault}
-use Rattle.graph_ops.specs.declared.change_fault.ChangeFault.TheVariants.{NoNode, NoEdge, HasRelationships, IndexThere, TooManyIndexes, IndexTooLarge, Full, NamesFull, PropsFull, Memory, Disk, Damaged}
+use Rattle.graph_ops.specs.declared.change_fault.ChangeFault.TheVariants.{NoNode, NoEdge, HasRelationships, IndexThere}
+use Rattle.graph_ops.specs.declared.change_fault.ChangeFault.TheVariants.{TooManyIndexes, IndexTooLarge, Full}
+use Rattle.graph_ops.specs.declared.change_fault.ChangeFault.TheVariants.{NamesFull, PropsFull, Memory, Disk, Damaged}
 use Rattle.graph_ops.proofs.Broken.{blames_more, node_broken, rel_broken}
 use Rattle.graph_ops.proofs.LineNames.{first_lacks}
 
@@ -58,7 +60,8 @@ edge_absent s target id row.Disk told = tt
 edge_absent s target id (row.Damaged damage) told = rel_broken s id (row.Damaged damage) told
 
 module _ (command : Command) (s t : State) (names now : List (List ℕ)) where
-  pub absent_caused : (target : Target) → ((id : ℕ) → target ≡ targets.Node id → AsksNode command id) → ((id : ℕ) → target ≡ targets.Edge id → AsksEdge command id) → (fault : ChangeFault) → IsAbsent s target fault → IsCaused command s t names now fault
+  pub absent_caused : (target : Target) → ((id : ℕ) → target ≡ targets.Node id → AsksNode command id)
+      → ((id : ℕ) → target ≡ targets.Edge id → AsksEdge command id) → (fault : ChangeFault) → IsAbsent s target fault → IsCaused command s t names now fault
   absent_caused target asks_node asks_edge (NoNode id) why = (asks_node id why.0, why.1)
   absent_caused target asks_node asks_edge (NoEdge id) why = (asks_edge id why.0, why.1)
   absent_caused target asks_node asks_edge (HasRelationships id degree) why = absurd why
@@ -90,13 +93,15 @@ module _ (command : Command) (s t : State) (names now : List (List ℕ)) where
 
   -- ---- rooms
 
-  pub room_caused : (file count : ℕ) → AsksRoom command s.records now file count → (fault : ChangeFault) → LacksRoom s file count fault → IsCaused command s t names now fault
+  pub room_caused : (file count : ℕ) → AsksRoom command s.records now file count → (fault : ChangeFault) → LacksRoom s file count fault
+      → IsCaused command s t names now fault
   room_caused file count asks fault why = subst (IsCaused command s t names now) (sym why.is) (inl (count, asks, record { is = refl; lacks = why.lacks }))
 
   -- ---- values
 
   -- that a new element is given
-  pub put_caused : (pairs : List Pair) (count blocks : ℕ) → NeedForPairs pairs format.properties_file count → NeedForPairs pairs format.strings_file blocks → ((file : ℕ) → NeedsAny pairs file → AsksRecord command s.records now file)
+  pub put_caused : (pairs : List Pair) (count blocks : ℕ) → NeedForPairs pairs format.properties_file count → NeedForPairs pairs format.strings_file blocks
+      → ((file : ℕ) → NeedsAny pairs file → AsksRecord command s.records now file)
       → (fault : ChangeFault) → IsPutCause t count blocks fault → IsCaused command s t names now fault
   put_caused pairs count blocks all sum asks (NoNode id) why = absurd why
   put_caused pairs count blocks all sum asks (NoEdge id) why = absurd why
@@ -124,7 +129,8 @@ live_told (Full file live) = live
 live_told other = 0
 
 -- the file of the indexes is full, by the space as it is left
-pub entry_caused : (command : Command) (s t : State) (names now : List (List ℕ)) → AsksRecord command s.records now format.index_file → (fault : ChangeFault) → IsEntryFault t fault → IsCaused command s t names now fault
+pub entry_caused : (command : Command) (s t : State) (names now : List (List ℕ)) → AsksRecord command s.records now format.index_file → (fault : ChangeFault)
+    → IsEntryFault t fault → IsCaused command s t names now fault
 entry_caused command s t names now asks (NoNode id) why = absurd why
 entry_caused command s t names now asks (NoEdge id) why = absurd why
 entry_caused command s t names now asks (HasRelationships id degree) why = absurd why
@@ -141,12 +147,14 @@ entry_caused command s t names now asks (Damaged damage) why = tt
 
 -- ---- the names and the properties of a new element
 
-pub label_caused : (s : State) (names : List (List ℕ)) (label : List ℕ) (pairs : List Pair) (fault : InternFault) → IsFullFault names label fault → IsLineCause s names label pairs (of_intern fault)
+pub label_caused : (s : State) (names : List (List ℕ)) (label : List ℕ) (pairs : List Pair) (fault : InternFault) → IsFullFault names label fault
+    → IsLineCause s names label pairs (of_intern fault)
 label_caused s names label pairs (intern.NamesFull count) why = (first_lacks names label (keys_in pairs) why.all why.new, why.is ∙ why.all)
 label_caused s names label pairs intern.Memory why = tt
 label_caused s names label pairs intern.Disk why = tt
 
-pub assign_caused : (s : State) (a b : List (List ℕ)) (label : List ℕ) (pairs : List Pair) → UsesName a label b → (fault : ChangeFault) → IsAssignFault b pairs fault → IsAssignCount fault → IsLineCause s a label pairs fault
+pub assign_caused : (s : State) (a b : List (List ℕ)) (label : List ℕ) (pairs : List Pair) → UsesName a label b → (fault : ChangeFault)
+    → IsAssignFault b pairs fault → IsAssignCount fault → IsLineCause s a label pairs fault
 assign_caused s a b label pairs uses (NoNode id) why counts = absurd why
 assign_caused s a b label pairs uses (NoEdge id) why counts = absurd why
 assign_caused s a b label pairs uses (HasRelationships id degree) why counts = absurd why
@@ -161,13 +169,16 @@ assign_caused s a b label pairs uses Disk why counts = tt
 assign_caused s a b label pairs uses (Damaged damage) why counts = absurd why
 
 module _ (s u : State) (names : List (List ℕ)) (label : List ℕ) (pairs : List Pair) (shape : u.shape ≡ s.shape) where
-  file_caused : (file count : ℕ) → NeedForPairs pairs file count → meta_of u file ≡ meta_of s file → (fault : ChangeFault) → LacksRoom u file count fault → IsLineCause s names label pairs fault
+  file_caused : (file count : ℕ) → NeedForPairs pairs file count → meta_of u file ≡ meta_of s file → (fault : ChangeFault) → LacksRoom u file count fault
+      → IsLineCause s names label pairs fault
   file_caused file count need same fault why =
       let live = ap (λ (m : Meta). m.live) same in
       let room = ap (λ (h : Shape). room_of h file) shape in
-      subst (IsLineCause s names label pairs) (sym (why.is ∙ ap (λ n. Full file n) live)) (count, need, record { is = refl; lacks = let lt = why.lacks in omega arith })
+      subst (IsLineCause s names label pairs) (sym (why.is ∙ ap (λ n. Full file n) live))
+      (count, need, record { is = refl; lacks = let lt = why.lacks in omega arith })
 
-  pub reserve_caused : (count blocks : ℕ) → count ≡ maps.len (with_pairs no_properties pairs) → blocks ≡ blocks_in (with_pairs no_properties pairs) → KeepsElementMetas s u
+  pub reserve_caused : (count blocks : ℕ) → count ≡ maps.len (with_pairs no_properties pairs) → blocks ≡ blocks_in (with_pairs no_properties pairs)
+      → KeepsElementMetas s u
       → (fault : ChangeFault) → IsReserveFault u count blocks fault → IsLineCause s names label pairs fault
   reserve_caused count blocks all sum metas fault why = ⊎_elim
       (λ (k : LacksRoom u format.properties_file count fault). file_caused format.properties_file count (inl (refl, all)) metas.properties fault k)
@@ -204,7 +215,8 @@ module _ (s t : State) (names now : List (List ℕ)) (label : List ℕ) (pairs :
   line_edge from to (Damaged damage) why = tt
 
 -- one of the values is put
-pub add_caused : (new : Type 0) (t : State) (count blocks needed : ℕ) → 0 < count → needed ≤ blocks → (fault : SetFault) → IsSetCause ⊥ new needed t fault → IsPutCause t count blocks (of_set fault)
+pub add_caused : (new : Type 0) (t : State) (count blocks needed : ℕ) → 0 < count → needed ≤ blocks → (fault : SetFault) → IsSetCause ⊥ new needed t fault
+    → IsPutCause t count blocks (of_set fault)
 add_caused new t count blocks needed some le (sets.PropsFull n) why = absurd why.1
 add_caused new t count blocks needed some le (sets.Full file live) why =
     (why.0, ⊎_elim (λ (k : (file ≡ format.properties_file) × new). inl (k.0, some)) (λ (k : (file ≡ format.strings_file) × (0 < needed)). inr (k.0, omega (arith, k.1))) why.1)
@@ -212,9 +224,11 @@ add_caused new t count blocks needed some le sets.Memory why = tt
 add_caused new t count blocks needed some le sets.Disk why = tt
 add_caused new t count blocks needed some le (sets.Damaged damage) why = tt
 
-pub set_cause_map : (crowded new crowd then : Type 0) → (crowded → crowd) → (new → then) → (blocks : ℕ) (t : State) (fault : SetFault) → IsSetCause crowded new blocks t fault → IsSetCause crowd then blocks t fault
+pub set_cause_map : (crowded new crowd then : Type 0) → (crowded → crowd) → (new → then) → (blocks : ℕ) (t : State) (fault : SetFault)
+    → IsSetCause crowded new blocks t fault → IsSetCause crowd then blocks t fault
 set_cause_map crowded new crowd then f h blocks t (sets.PropsFull n) why = (why.0, f why.1)
-set_cause_map crowded new crowd then f h blocks t (sets.Full file live) why = (why.0, ⊎_elim (λ (k : (file ≡ format.properties_file) × new). inl (k.0, h k.1)) (λ (k : (file ≡ format.strings_file) × (0 < blocks)). inr k) why.1)
+set_cause_map crowded new crowd then f h blocks t (sets.Full file live) why =
+    (why.0, ⊎_elim (λ (k : (file ≡ format.properties_file) × new). inl (k.0, h k.1)) (λ (k : (file ≡ format.strings_file) × (0 < blocks)). inr k) why.1)
 set_cause_map crowded new crowd then f h blocks t sets.Memory why = tt
 set_cause_map crowded new crowd then f h blocks t sets.Disk why = tt
 set_cause_map crowded new crowd then f h blocks t (sets.Damaged damage) why = tt
@@ -228,8 +242,10 @@ module _ (s t : State) (names now : List (List ℕ)) (target : Target) (key : Li
   key_caused intern.Disk why = tt
 
   -- after the key got its number
-  pub set_caused : (number : ℕ) → slice_get now number ≡ Some key → (r : Records) → properties_met r (owner_of target) ≡ properties_met s.records (owner_of target) → (fault : SetFault)
-      → IsSetCause (IsCrowded r (owner_of target) number) (LacksMet r (owner_of target) number) (blocks_of value) t fault → IsCaused (commands.Set target key value) s t names now (of_set fault)
+  pub set_caused : (number : ℕ) → slice_get now number ≡ Some key → (r : Records)
+      → properties_met r (owner_of target) ≡ properties_met s.records (owner_of target) → (fault : SetFault)
+      → IsSetCause (IsCrowded r (owner_of target) number) (LacksMet r (owner_of target) number) (blocks_of value) t fault
+      → IsCaused (commands.Set target key value) s t names now (of_set fault)
   set_caused number named r same (sets.PropsFull n) why =
       (record { number = number; named = named; crowded = (sym (ap (λ es. property_of es number) same) ∙ why.1.0, sym (ap (λ (es : List Property). length es) same) ∙ why.1.1) }, why.0)
   set_caused number named r same (sets.Full file live) why = inr (
@@ -243,10 +259,12 @@ module _ (s t : State) (names now : List (List ℕ)) (target : Target) (key : Li
   set_caused number named r same (sets.Damaged damage) why = tt
 
 -- ---- after reads
-pub caused_read : (command : Command) (s m t : State) (names now : List (List ℕ)) → SameButReads s m → (fault : ChangeFault) → IsCaused command m t names now fault → IsCaused command s t names now fault
+pub caused_read : (command : Command) (s m t : State) (names now : List (List ℕ)) → SameButReads s m → (fault : ChangeFault)
+    → IsCaused command m t names now fault → IsCaused command s t names now fault
 caused_read command s m t names now same (NoNode id) why = subst (λ (z : State). IsCaused command z t names now (NoNode id)) same why
 caused_read command s m t names now same (NoEdge id) why = subst (λ (z : State). IsCaused command z t names now (NoEdge id)) same why
-caused_read command s m t names now same (HasRelationships id degree) why = subst (λ (z : State). IsCaused command z t names now (HasRelationships id degree)) same why
+caused_read command s m t names now same (HasRelationships id degree) why =
+    subst (λ (z : State). IsCaused command z t names now (HasRelationships id degree)) same why
 caused_read command s m t names now same IndexThere why = subst (λ (z : State). IsCaused command z t names now IndexThere) same why
 caused_read command s m t names now same TooManyIndexes why = subst (λ (z : State). IsCaused command z t names now TooManyIndexes) same why
 caused_read command s m t names now same (IndexTooLarge count) why = subst (λ (z : State). IsCaused command z t names now (IndexTooLarge count)) same why
@@ -277,7 +295,8 @@ absent_read s m target same Disk why = tt
 absent_read s m target same (Damaged damage) why = subst (λ (z : State). IsAbsent z target (Damaged damage)) same why
 
 -- from the space before the reads
-pub caused_left : (command : Command) (s m t : State) (names now : List (List ℕ)) → SameButReads s m → (fault : ChangeFault) → IsCaused command s t names now fault → IsCaused command m t names now fault
+pub caused_left : (command : Command) (s m t : State) (names now : List (List ℕ)) → SameButReads s m → (fault : ChangeFault)
+    → IsCaused command s t names now fault → IsCaused command m t names now fault
 caused_left command s m t names now same fault why = caused_read command m s t names now (ap (λ (z : State). record z { reads = s.reads }) (sym same)) fault why
 
 -- ---- what is blamed
@@ -316,7 +335,8 @@ take_blamed_still s t (take.Damaged damage) why same = subst (λ (z : State). Is
 
 -- after reads
 pub broken_left : (s t : State) → SameButReads s t → (fault : ChangeFault) → BlamesBroken s fault → BlamesBroken t fault
-broken_left s t same fault why = subst (λ (z : State). BlamesBroken z fault) (sym same) (blames_more (IsBroken s) (IsBroken (record s { reads = t.reads })) (λ damage broken. broken) fault why)
+broken_left s t same fault why = subst (λ (z : State). BlamesBroken z fault) (sym same)
+    (blames_more (IsBroken s) (IsBroken (record s { reads = t.reads })) (λ damage broken. broken) fault why)
 
 -- ---- targets
 pub node_of : {a b : ℕ} → targets.Node a ≡ targets.Node b → a ≡ b

@@ -54,10 +54,12 @@ edge_lacked limit graph id lacks = inr (λ o z. z, inr (λ o z. z, inr (λ o z. 
 clash : true ≡ false → ⊥
 clash e = cc
 
-pub node_joined : (limit : ℕ) (graph : Graph) (id d : ℕ) → has_node graph id ≡ true → degree_in graph id ≢ 0 → IsRefusal limit graph (commands.Delete (targets.Node id)) (HasRelationships id d)
+pub node_joined : (limit : ℕ) (graph : Graph) (id d : ℕ) → has_node graph id ≡ true → degree_in graph id ≢ 0
+    → IsRefusal limit graph (commands.Delete (targets.Node id)) (HasRelationships id d)
 node_joined limit graph id d there some = inr (λ o z. z, inr (λ o z. z, inr (λ o z. z, inr (λ o z. z, inr (λ o z. clash (sym there ∙ z.0), inr (λ o z. z, inl (some, refl)))))))
 
-node_free : (limit : ℕ) (graph : Graph) (id : ℕ) → has_node graph id ≡ true → degree_in graph id ≡ 0 → NoReason change_reasons limit graph (commands.Delete (targets.Node id))
+node_free : (limit : ℕ) (graph : Graph) (id : ℕ) → has_node graph id ≡ true → degree_in graph id ≡ 0
+    → NoReason change_reasons limit graph (commands.Delete (targets.Node id))
 node_free limit graph id there lone =
     (λ o z. z, (λ o z. z, (λ o z. z, (λ o z. z, (λ o z. clash (sym there ∙ z.0), (λ o z. z, (λ o z. z.0 lone, (λ o z. z, (λ o z. z, (λ o z. z, (λ o z. z, (λ o z. z, (λ o z. z, (λ o z. z, (λ o z. z, (λ o z. z, tt))))))))))))))))
 
@@ -66,11 +68,14 @@ edge_free limit graph id there =
     (λ o z. z, (λ o z. z, (λ o z. z, (λ o z. z, (λ o z. z, (λ o z. clash (sym there ∙ z.0), (λ o z. z, (λ o z. z, (λ o z. z, (λ o z. z, (λ o z. z, (λ o z. z, (λ o z. z, (λ o z. z, (λ o z. z, (λ o z. z, tt))))))))))))))))
 
 -- ---- rows without the one that was changed are those without it
-without_changed : {E : Type 0} (of : E → ℕ) (id : ℕ) (change : E → E) → ((e : E) → of (change e) ≡ of e) → (rows : List E) → without_row of id (with_change of id change rows) ≡ without_row of id rows
+without_changed : {E : Type 0} (of : E → ℕ) (id : ℕ) (change : E → E) → ((e : E) → of (change e) ≡ of e) → (rows : List E)
+    → without_row of id (with_change of id change rows) ≡ without_row of id rows
 without_changed of id change same [] = refl
-without_changed {E} of id change same (e ∷ rows) = by (nat_eq (of e) id) refl (without_row of id (with_change of id change rows)) (without_row of id rows) (without_changed of id change same rows)
+without_changed {E} of id change same (e ∷ rows) = by (nat_eq (of e) id) refl (without_row of id (with_change of id change rows)) (without_row of id rows)
+    (without_changed of id change same rows)
   where
-    by : (b : Bool) → nat_eq (of e) id ≡ b → (now old : List E) → now ≡ old → cond (not (nat_eq (of (cond b (change e) e)) id)) (cond b (change e) e ∷ now) now ≡ cond (not b) (e ∷ old) old
+    by : (b : Bool) → nat_eq (of e) id ≡ b → (now old : List E) → now ≡ old
+        → cond (not (nat_eq (of (cond b (change e) e)) id)) (cond b (change e) e ∷ now) now ≡ cond (not b) (e ∷ old) old
     by true is now old rest = ap (λ c. cond (not c) (change e ∷ now) now) (ap (λ n. nat_eq n id) (same e) ∙ is) ∙ rest
     by false is now old rest = ap (λ c. cond (not c) (e ∷ now) now) is ∙ ap (λ l. e ∷ l) rest
 
@@ -81,7 +86,8 @@ module _ (s u : State) (names : List (List ℕ)) (dropped : Dropped) (store : Is
     node_store : IsMidway u names
     node_store = record { store = h.changes.store; names = store.names ∙ sym (ap (λ (z : Graph). z.names) h.graph) }
 
-    module _ (t : State) (used : kind_at s.records format.nodes_file id ≢ format.free_kind) (lone : degree s.records id ≡ 0) (before : u.shape ≡ s.shape) (after : t.shape ≡ u.shape)
+    module _ (t : State) (used : kind_at s.records format.nodes_file id ≢ format.free_kind) (lone : degree s.records id ≡ 0) (before : u.shape ≡ s.shape)
+        (after : t.shape ≡ u.shape)
         (given : (free : List ℕ) → CanGive u format.nodes_file id free → HasGiven u.records t.records format.nodes_file id free) where
       used_still : kind_at u.records format.nodes_file id ≢ format.free_kind
       used_still = fr.used_now s.records u.records s.shape format.nodes_file id h.changes.before h.changes.after h.changes.changes
@@ -106,7 +112,8 @@ module _ (s u : State) (names : List (List ℕ)) (dropped : Dropped) (store : Is
       }
 
       -- its entries leave the indexes then
-      pub node_deleted : (v : State) (entries : ℕ) → IsStore v names → graph_in v ≡ graph_in t → element_weight (graph_in s) (targets.Node id) (λ key. true) no_properties ≡ entries
+      pub node_deleted : (v : State) (entries : ℕ) → IsStore v names → graph_in v ≡ graph_in t
+          → element_weight (graph_in s) (targets.Node id) (λ key. true) no_properties ≡ entries
           → MakesChange (commands.Delete (targets.Node id)) Done (1 + dropped.properties + dropped.blocks + entries) s v names
       node_deleted v entries whole last w =
           let there = node_there s.records id used in
@@ -118,11 +125,13 @@ module _ (s u : State) (names : List (List ℕ)) (dropped : Dropped) (store : Is
               record {
                 there = there;
                 lone = alone;
-                nodes = ap (λ (z : Graph). z.nodes) last ∙ node_removed u.records t.records u.shape id node_gone bare node_store.store ∙ ap (λ (z : Graph). without_row node_number id z.nodes) h.graph
+                nodes = ap (λ (z : Graph). z.nodes) last ∙ node_removed u.records t.records u.shape id node_gone bare node_store.store
+                    ∙ ap (λ (z : Graph). without_row node_number id z.nodes) h.graph
                     ∙ without_changed node_number id (change_node (λ _. no_properties)) (λ e. refl) (graph_in s).nodes;
                 edges = ap (λ (z : Graph). z.edges) last ∙ edges_stay u.records t.records id node_gone.change ∙ ap (λ (z : Graph). z.edges) h.graph;
                 names = ap (λ (z : Graph). z.names) last ∙ names_stay u.records t.records id node_gone.change ∙ ap (λ (z : Graph). z.names) h.graph;
-                indexes = ap (λ (z : Graph). z.indexes) last ∙ node_graph_indexes u.records t.records id node_gone.change ∙ ap (λ (z : Graph). z.indexes) h.graph;
+                indexes = ap (λ (z : Graph). z.indexes) last ∙ node_graph_indexes u.records t.records id node_gone.change
+                    ∙ ap (λ (z : Graph). z.indexes) h.graph;
               },
             );
             weighs = let p = h.properties in let b = h.blocks in omega arith;
@@ -134,8 +143,10 @@ module _ (s u : State) (names : List (List ℕ)) (dropped : Dropped) (store : Is
     edge_store : IsMidway u names
     edge_store = record { store = h.changes.store; names = store.names ∙ sym (ap (λ (z : Graph). z.names) h.graph) }
 
-    rel_number : (at : ℕ) → at + 4 ≤ 32 → field 4 (rec_at u.records format.relationships_file id) at ≡ field 4 (rec_at s.records format.relationships_file id) at
-    rel_number at low = fr.rel_field s.records u.records s.shape format.relationships_file id h.changes.before h.changes.after h.changes.changes id at (inl low) (omega arith)
+    rel_number : (at : ℕ) → at + 4 ≤ 32 → field 4 (rec_at u.records format.relationships_file id) at ≡ field 4 (rec_at s.records format.relationships_file id)
+        at
+    rel_number at low = fr.rel_field s.records u.records s.shape format.relationships_file id h.changes.before h.changes.after h.changes.changes id at (inl low)
+        (omega arith)
 
     bare_row : (r : views.RelRow) → rel_at s.records id ≡ Some r → rel_at u.records id ≡ Some (record r { property = format.nil })
     bare_row r is =
@@ -152,12 +163,14 @@ module _ (s u : State) (names : List (List ℕ)) (dropped : Dropped) (store : Is
         })) ∙ ap (λ z. Some z) number
 
     edge_bare : HasBareRow u.records id rel
-    edge_bare = bare_row (rel_rows.rule_row rel) (rel_rows.rel_at-Some s.records id rel (sym found)) ∙ (λ i. Some (record { id = numbered i; label = rel.label; from = rel.from; to = rel.to; property = format.nil }))
+    edge_bare = bare_row (rel_rows.rule_row rel) (rel_rows.rel_at-Some s.records id rel (sym found))
+        ∙ (λ i. Some (record { id = numbered i; label = rel.label; from = rel.from; to = rel.to; property = format.nil }))
       where
         numbered : rel.id ≡ id
         numbered = sym (ap (λ (r : RelRow). r.id) (rel_rows.kind-row_at-Some s.records id rel (sym found)).1)
 
-    edge_deleted : (t : State) → AreIndexed s.records (wanted_in s.records) → TakesEdge u t names id → MakesChange (commands.Delete (targets.Edge id)) Done (13 + dropped.properties + dropped.blocks) s t names
+    edge_deleted : (t : State) → AreIndexed s.records (wanted_in s.records) → TakesEdge u t names id
+        → MakesChange (commands.Delete (targets.Edge id)) Done (13 + dropped.properties + dropped.blocks) s t names
     edge_deleted t are takes =
         let there = edge_there s.records id (rel_rows.kind-row_at-Some s.records id rel (sym found)).0 in
         record {
@@ -178,7 +191,8 @@ module _ (s u : State) (names : List (List ℕ)) (dropped : Dropped) (store : Is
         }
 
 -- ---- the edge, after it was read
-module _ (s v : State) (names : List (List ℕ)) (id : ℕ) (rel : RelRow) (store : IsMidway s names) (found : Some rel ≡ rels.row_at s.records id) (same : SameButReads s v) where
+module _ (s v : State) (names : List (List ℕ)) (id : ℕ) (rel : RelRow) (store : IsMidway s names) (found : Some rel ≡ rels.row_at s.records id)
+    (same : SameButReads s v) where
   store_then : IsMidway v names
   store_then = store_read s v names same store
 
@@ -189,15 +203,18 @@ module _ (s v : State) (names : List (List ℕ)) (id : ℕ) (rel : RelRow) (stor
   edge_element = has_owner v names (targets.Edge id) store_then (edge_loaded v id rel found_then)
 
   -- its properties are taken away, and then it is taken out of the chains of its ends
-  module _ (u : State) (owner : Owner) (is : owner ≡ owner_of (targets.Edge id)) (dropped : Dropped) (drops : HasElement v owner → DropsAll v u owner dropped) where
-    gone_properties : DropsAll v u (owner_of (targets.Edge id)) dropped
-    gone_properties = subst (λ o. HasElement v o → DropsAll v u o dropped) is drops edge_element
+  module _ (u : State) (owner : Owner) (is : owner ≡ owner_of (targets.Edge id)) (dropped : Dropped) (drops : HasElement v owner → DropsAll v u owner dropped)
+    where
+      gone_properties : DropsAll v u (owner_of (targets.Edge id)) dropped
+      gone_properties = subst (λ o. HasElement v o → DropsAll v u o dropped) is drops edge_element
 
-    pub left_store : IsMidway u names
-    left_store = edge_store v u names dropped store_then id gone_properties rel found_then
+      pub left_store : IsMidway u names
+      left_store = edge_store v u names dropped store_then id gone_properties rel found_then
 
-    pub left_bare : HasBareRow u.records id rel
-    left_bare = edge_bare v u names dropped store_then id gone_properties rel found_then
+      pub left_bare : HasBareRow u.records id rel
+      left_bare = edge_bare v u names dropped store_then id gone_properties rel found_then
 
-    pub edge_made : (t : State) → AreIndexed s.records (wanted_in s.records) → TakesEdge u t names id → MakesChange (commands.Delete (targets.Edge id)) Done (13 + dropped.properties + dropped.blocks) s t names
-    edge_made t are takes = made_read s v t names (commands.Delete (targets.Edge id)) Done (13 + dropped.properties + dropped.blocks) same (edge_deleted v u names dropped store_then id gone_properties rel found_then t (subst (λ (z : State). AreIndexed z.records (wanted_in z.records)) (sym same) are) takes)
+      pub edge_made : (t : State) → AreIndexed s.records (wanted_in s.records) → TakesEdge u t names id
+          → MakesChange (commands.Delete (targets.Edge id)) Done (13 + dropped.properties + dropped.blocks) s t names
+      edge_made t are takes = made_read s v t names (commands.Delete (targets.Edge id)) Done (13 + dropped.properties + dropped.blocks) same
+          (edge_deleted v u names dropped store_then id gone_properties rel found_then t (subst (λ (z : State). AreIndexed z.records (wanted_in z.records)) (sym same) are) takes)

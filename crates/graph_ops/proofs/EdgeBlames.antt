@@ -42,11 +42,13 @@ use Rattle.graph_ops.proofs.EdgeSteps.{number_pushed, number_unlinked, record_jo
 
 -- ---- an end that is looked for
 
-pub head_blamed : (s m : State) (id node label : ℕ) → SameButReads s m → (fault : Fault) → IsHeadFault m node id label fault → BlamesEnd s id node label (of_fault fault)
+pub head_blamed : (s m : State) (id node label : ℕ) → SameButReads s m → (fault : Fault) → IsHeadFault m node id label fault
+    → BlamesEnd s id node label (of_fault fault)
 head_blamed s m id node label same faults.Memory told = tt
 head_blamed s m id node label same faults.Disk told = tt
 head_blamed s m id node label same (faults.Damaged damage) told =
-    ⊎_elim (λ k. inl (subst (λ (z : State). IsBroken z damage) same (inl k.0), search_read s m node damage same k.1)) (λ k. inr (k.0, inr (subst (λ (z : State). LacksGroupOn z.records node label) same k.1))) told
+    ⊎_elim (λ k. inl (subst (λ (z : State). IsBroken z damage) same (inl k.0), search_read s m node damage same k.1))
+    (λ k. inr (k.0, inr (subst (λ (z : State). LacksGroupOn z.records node label) same k.1))) told
 
 -- a node that can't be read
 pub load_blamed : (s : State) (id node label : ℕ) (fault : RowFault) → nodes.IsNodeFault s node fault → BlamesEnd s id node label (of_row fault)
@@ -54,7 +56,8 @@ load_blamed s id node label rows.Disk told = tt
 load_blamed s id node label (rows.Damaged damage) told = inl (inl (node_breaks s node damage told), BadNode damage told)
 
 -- what is so of a record that is blamed, for what follows from it
-pub if_blames : {T : Type 0} (r : Result T ChangeFault) (P Q : Damage → Type 0) → ((damage : Damage) → P damage → Q damage) → IfErr r (IfBlames P) → IfErr r (IfBlames Q)
+pub if_blames : {T : Type 0} (r : Result T ChangeFault) (P Q : Damage → Type 0) → ((damage : Damage) → P damage → Q damage) → IfErr r (IfBlames P)
+    → IfErr r (IfBlames Q)
 if_blames (Ok x) P Q then h = tt
 if_blames (Err fault) P Q then h = blames_more P Q then fault h
 
@@ -81,21 +84,25 @@ module _ (s : State) (head : Head) (n : ℕ) (owns : IsHeadOf s.records head n) 
     where
       by : IsHeadOf s.records head n → 1 ≤ head.field
       by (inl o) = let a = ap (λ (h : Head). h.field) o.is in omega arith
-      by (inr o) = ⊎_elim (λ (e : head.field ≡ format.group_first_out). omega arith) (λ k. ⊎_elim (λ (e : head.field ≡ format.group_first_in). omega arith) (λ (e : head.field ≡ format.group_first_loop). omega arith) k) o.field
+      by (inr o) = ⊎_elim (λ (e : head.field ≡ format.group_first_out). omega arith)
+          (λ k. ⊎_elim (λ (e : head.field ≡ format.group_first_in). omega arith) (λ (e : head.field ≡ format.group_first_loop). omega arith) k) o.field
 
   behind_chain : head.key.file ≡ format.groups_file → format.group_first_out ≤ head.field
   behind_chain group = by owns
     where
       by : IsHeadOf s.records head n → format.group_first_out ≤ head.field
       by (inl o) = absurd (let f = ap (λ (h : Head). h.key.file) o.is in omega arith)
-      by (inr o) = ⊎_elim (λ (e : head.field ≡ format.group_first_out). omega arith) (λ k. ⊎_elim (λ (e : head.field ≡ format.group_first_in). omega arith) (λ (e : head.field ≡ format.group_first_loop). omega arith) k) o.field
+      by (inr o) = ⊎_elim (λ (e : head.field ≡ format.group_first_out). omega arith)
+          (λ k. ⊎_elim (λ (e : head.field ≡ format.group_first_in). omega arith) (λ (e : head.field ≡ format.group_first_loop). omega arith) k) o.field
 
   module _ (rel d : ℕ) where
-    number_parted : (key : Key) (m at : ℕ) → key.file ≢ format.relationships_file → at + m ≤ 32 → (key.file ≡ format.nodes_file → at + m ≤ 12) → (key ≡ head.key → at + m ≤ head.field)
+    number_parted : (key : Key) (m at : ℕ) → key.file ≢ format.relationships_file → at + m ≤ 32 → (key.file ≡ format.nodes_file → at + m ≤ 12)
+        → (key ≡ head.key → at + m ≤ head.field)
         → field m ((parted s head n rel d).records key) at ≡ field m (s.records key) at
     unfolding parted
     number_parted key m at no_link within below aside =
-        field-set_other (tallied one_less (unlinked s head n rel) head).records (record { key = key_in format.nodes_file n; field = format.node_degree }) d key m at (omega arith)
+        field-set_other (tallied one_less (unlinked s head n rel) head).records (record { key = key_in format.nodes_file n; field = format.node_degree }) d key
+        m at (omega arith)
         (λ e. inl (let b = below (ap (λ (k : Key). k.file) e) in omega arith))
         ∙ field-tallied one_less (unlinked s head n rel) head key m at (omega arith)
         ∙ number_unlinked s head n rel key m at no_link (omega arith) (λ e. inl (aside e))
@@ -110,9 +117,11 @@ module _ (s : State) (head : Head) (n : ℕ) (owns : IsHeadOf s.records head n) 
         (λ g m at within. number_parted (key_in format.groups_file g) m at (λ e. omega arith) (omega arith) (λ e. omega arith) (λ e. let b = behind_chain (sym (ap (λ (k : Key). k.file) e)) in omega arith)))
 
     -- in two steps
-    pub heads_parted_by : (u t : State) → u ≡ tallied one_less (unlinked s head n rel) head → t ≡ after_set u (key_in format.nodes_file n) 4 format.node_degree d → KeepsHeads s t
+    pub heads_parted_by : (u t : State) → u ≡ tallied one_less (unlinked s head n rel) head
+        → t ≡ after_set u (key_in format.nodes_file n) 4 format.node_degree d → KeepsHeads s t
     unfolding parted
-    heads_parted_by u t out set = subst (KeepsHeads s) (sym (set ∙ ap (λ (z : State). after_set z (key_in format.nodes_file n) 4 format.node_degree d) out)) heads_parted
+    heads_parted_by u t out set = subst (KeepsHeads s) (sym (set ∙ ap (λ (z : State). after_set z (key_in format.nodes_file n) 4 format.node_degree d) out))
+        heads_parted
 
     -- the groups of dense nodes are linked as they were
     groups_parted : KeepsGroups s (parted s head n rel d)
@@ -121,9 +130,11 @@ module _ (s : State) (head : Head) (n : ℕ) (owns : IsHeadOf s.records head n) 
       kinds = λ x. ap (λ m. kind_in m (rec_at (parted s head n rel d).records format.nodes_file x) x) (mark format.nodes_file)
           ∙ kind_by (high s.records format.nodes_file) (rec_at (parted s head n rel d).records format.nodes_file x) (rec_at s.records format.nodes_file x) x
           (number_parted (key_in format.nodes_file x) 1 format.kind (λ e. omega arith) (omega arith) (λ e. omega arith) (λ e. let b = behind_kind in omega arith));
-      first = λ x dense. number_parted (key_in format.nodes_file x) 4 format.node_first_link (λ e. omega arith) (omega arith) (λ e. omega arith) (λ e. absurd (no_dense x dense e));
+      first = λ x dense. number_parted (key_in format.nodes_file x) 4 format.node_first_link (λ e. omega arith) (omega arith) (λ e. omega arith)
+          (λ e. absurd (no_dense x dense e));
       mark = mark format.groups_file;
-      numbers = λ g m at inside. number_parted (key_in format.groups_file g) m at (λ e. let z : 3 ≡ 2 = e in omega arith) (omega arith) (λ e. absurd (let z : 3 ≡ 1 = e in omega arith))
+      numbers = λ g m at inside. number_parted (key_in format.groups_file g) m at (λ e. let z : 3 ≡ 2 = e in omega arith) (omega arith)
+          (λ e. absurd (let z : 3 ≡ 1 = e in omega arith))
           (λ e. let b = behind_chain (sym (ap (λ (k : Key). k.file) e)) in omega arith);
     }
       where
@@ -139,9 +150,11 @@ module _ (s : State) (head : Head) (n : ℕ) (owns : IsHeadOf s.records head n) 
             by (inr o) = let f = ap (λ (k : Key). k.file) (e ∙ o.key) in omega arith
 
     -- in two steps
-    pub groups_parted_by : (u t : State) → u ≡ tallied one_less (unlinked s head n rel) head → t ≡ after_set u (key_in format.nodes_file n) 4 format.node_degree d → KeepsGroups s t
+    pub groups_parted_by : (u t : State) → u ≡ tallied one_less (unlinked s head n rel) head
+        → t ≡ after_set u (key_in format.nodes_file n) 4 format.node_degree d → KeepsGroups s t
     unfolding parted
-    groups_parted_by u t out set = subst (KeepsGroups s) (sym (set ∙ ap (λ (z : State). after_set z (key_in format.nodes_file n) 4 format.node_degree d) out)) groups_parted
+    groups_parted_by u t out set = subst (KeepsGroups s) (sym (set ∙ ap (λ (z : State). after_set z (key_in format.nodes_file n) 4 format.node_degree d) out))
+        groups_parted
 
     -- what another node's groups tell
     pub alike_parted : (b : ℕ) → n ≢ b → AreAlike s (parted s head n rel d) b
@@ -156,22 +169,27 @@ module _ (s : State) (head : Head) (n : ℕ) (owns : IsHeadOf s.records head n) 
       live = λ g. ap (λ k. not (nat_eq k 0)) (kind g);
     }
       where
-        number : (g m at : ℕ) → at + m ≤ format.group_first_out → field m (rec_at (parted s head n rel d).records format.groups_file g) at ≡ field m (rec_at s.records format.groups_file g) at
-        number g m at inside = number_parted (key_in format.groups_file g) m at (λ e. let z : 3 ≡ 2 = e in omega arith) (omega arith) (λ e. absurd (let z : 3 ≡ 1 = e in omega arith))
+        number : (g m at : ℕ) → at + m ≤ format.group_first_out → field m (rec_at (parted s head n rel d).records format.groups_file g) at ≡ field m
+            (rec_at s.records format.groups_file g) at
+        number g m at inside = number_parted (key_in format.groups_file g) m at (λ e. let z : 3 ≡ 2 = e in omega arith) (omega arith)
+            (λ e. absurd (let z : 3 ≡ 1 = e in omega arith))
             (λ e. let b = behind_chain (sym (ap (λ (k : Key). k.file) e)) in omega arith)
 
         kind : (g : ℕ) → kind_at (parted s head n rel d).records format.groups_file g ≡ kind_at s.records format.groups_file g
         kind g = ap (λ m. kind_in m (rec_at (parted s head n rel d).records format.groups_file g) g) (mark format.groups_file)
-            ∙ kind_by (high s.records format.groups_file) (rec_at (parted s head n rel d).records format.groups_file g) (rec_at s.records format.groups_file g) g (number g 1 format.kind (omega arith))
+            ∙ kind_by (high s.records format.groups_file) (rec_at (parted s head n rel d).records format.groups_file g) (rec_at s.records format.groups_file g)
+            g (number g 1 format.kind (omega arith))
 
 -- ---- heads where a relationship joins a chain
 
 module _ (s : State) (head : Head) (n : ℕ) (owns : IsHeadOf s.records head n) (rel d : ℕ) where
-  number_joined : (key : Key) (m at : ℕ) → key.file ≢ format.relationships_file → at + m ≤ 32 → (key.file ≡ format.nodes_file → at + m ≤ 12) → (key ≡ head.key → at + m ≤ head.field)
+  number_joined : (key : Key) (m at : ℕ) → key.file ≢ format.relationships_file → at + m ≤ 32 → (key.file ≡ format.nodes_file → at + m ≤ 12)
+      → (key ≡ head.key → at + m ≤ head.field)
       → field m ((joined s head n rel d).records key) at ≡ field m (s.records key) at
   unfolding joined
   number_joined key m at no_link within below aside =
-      field-set_other (tallied one_more (pushed s head n rel) head).records (record { key = key_in format.nodes_file n; field = format.node_degree }) d key m at (omega arith)
+      field-set_other (tallied one_more (pushed s head n rel) head).records (record { key = key_in format.nodes_file n; field = format.node_degree }) d key m at
+      (omega arith)
       (λ e. inl (let b = below (ap (λ (k : Key). k.file) e) in omega arith))
       ∙ field-tallied one_more (pushed s head n rel) head key m at (omega arith)
       ∙ number_pushed s head n rel key m at no_link (omega arith) (λ e. inl (aside e))
@@ -186,9 +204,11 @@ module _ (s : State) (head : Head) (n : ℕ) (owns : IsHeadOf s.records head n) 
       (λ g m at within. number_joined (key_in format.groups_file g) m at (λ e. omega arith) (omega arith) (λ e. omega arith) (λ e. let b = behind_chain s head n owns (sym (ap (λ (k : Key). k.file) e)) in omega arith)))
 
   -- in two steps
-  pub heads_joined_by : (u t : State) → u ≡ tallied one_more (pushed s head n rel) head → t ≡ after_set u (key_in format.nodes_file n) 4 format.node_degree d → KeepsHeads s t
+  pub heads_joined_by : (u t : State) → u ≡ tallied one_more (pushed s head n rel) head → t ≡ after_set u (key_in format.nodes_file n) 4 format.node_degree d
+      → KeepsHeads s t
   unfolding joined
-  heads_joined_by u t put set = subst (KeepsHeads s) (sym (set ∙ ap (λ (z : State). after_set z (key_in format.nodes_file n) 4 format.node_degree d) put)) heads_joined
+  heads_joined_by u t put set = subst (KeepsHeads s) (sym (set ∙ ap (λ (z : State). after_set z (key_in format.nodes_file n) 4 format.node_degree d) put))
+      heads_joined
 
 -- a relationship is written, and an identifier taken or given back
 pub heads_given : (s t : State) (id : ℕ) → ChangesOnly s t (key_in format.relationships_file id ∷ meta_key_of format.relationships_file ∷ []) → KeepsHeads s t
@@ -203,10 +223,12 @@ heads_given s t id changes = heads_alike s.records t.records (alike_by s.records
     mark f ne = ap (λ r. (metas.meta_of r).high) (same (meta_key_of f) (λ e. let k = ap (λ (q : Key). q.file) e in omega arith) (λ e. ne (ap (λ (q : Key). q.id) e)))
 
 -- the groups of dense nodes then
-pub groups_given : (s t : State) (id : ℕ) → t.shape ≡ s.shape → ChangesOnly s t (key_in format.relationships_file id ∷ meta_key_of format.relationships_file ∷ []) → KeepsGroups s t
+pub groups_given : (s t : State) (id : ℕ) → t.shape ≡ s.shape → ChangesOnly s t
+    (key_in format.relationships_file id ∷ meta_key_of format.relationships_file ∷ []) → KeepsGroups s t
 groups_given s t id shape changes = record {
   shape = shape;
-  kinds = λ n. ap (λ m. kind_in m (rec_at t.records format.nodes_file n) n) (mark format.nodes_file (λ e. omega arith)) ∙ ap (λ (r : Rec). kind_in (high s.records format.nodes_file) r n) (node n);
+  kinds = λ n. ap (λ m. kind_in m (rec_at t.records format.nodes_file n) n) (mark format.nodes_file (λ e. omega arith))
+      ∙ ap (λ (r : Rec). kind_in (high s.records format.nodes_file) r n) (node n);
   first = λ n dense. ap (λ (r : Rec). field 4 r format.node_first_link) (node n);
   mark = mark format.groups_file (λ e. omega arith);
   numbers = λ g n at inside. ap (λ (r : Rec). field n r at) (same (key_in format.groups_file g) (λ e. let f = ap (λ (k : Key). k.file) e in omega arith) (λ e. let f = ap (λ (k : Key). k.file) e in omega arith));

@@ -39,8 +39,10 @@ module _ (s u : State) (names : List (List ℕ)) (id : ℕ) (ends : Ends EdgeEnd
   abbrev rest : List ℕ
   rest = rest_of ends
 
-  owns_still : (h : rules.Head) (n : ℕ) → Owns (kind_at s.records format.nodes_file) (group_at s.records) h n → Owns (kind_at u.records format.nodes_file) (group_at u.records) h n
-  owns_still h n o = subst (λ k. Owns k (group_at u.records) h n) (λ i m. sym (parts.kinds m) i) (subst (λ g. Owns (kind_at s.records format.nodes_file) g h n) (λ i g. sym (parts.groups g) i) o)
+  owns_still : (h : rules.Head) (n : ℕ) → Owns (kind_at s.records format.nodes_file) (group_at s.records) h n
+      → Owns (kind_at u.records format.nodes_file) (group_at u.records) h n
+  owns_still h n o = subst (λ k. Owns k (group_at u.records) h n) (λ i m. sym (parts.kinds m) i)
+      (subst (λ g. Owns (kind_at s.records format.nodes_file) g h n) (λ i g. sym (parts.groups g) i) o)
 
   -- the source's head may be closed
   pub source_closes : CanClose u (head_of source.head) source.node u.shape.threshold rest
@@ -50,7 +52,8 @@ module _ (s u : State) (names : List (List ℕ)) (id : ℕ) (ends : Ends EdgeEnd
   }
 
   -- what is left keeps the rules, and the graph
-  taken : (t : State) → KeepsRules t.records t.shape u.shape.threshold [] → t.shape ≡ u.shape → graph_of t.records ≡ graph_of u.records → KeepsIndexes u t → KeepsKinds u t → TakesEdge s t names id
+  taken : (t : State) → KeepsRules t.records t.shape u.shape.threshold [] → t.shape ≡ u.shape → graph_of t.records ≡ graph_of u.records → KeepsIndexes u t
+      → KeepsKinds u t → TakesEdge s t names id
   taken t keeps shape graph indexes kinds = record {
     store = record {
       store = subst (λ m. KeepsRules t.records t.shape m []) (sym (ap (λ z. z.threshold) shape)) keeps;
@@ -69,10 +72,12 @@ module _ (s u : State) (names : List (List ℕ)) (id : ℕ) (ends : Ends EdgeEnd
 
   module _ (v : State) (closed : HasClosed u v source.node u.shape.threshold rest) where
     pub loop_taken : rest ≡ [] → TakesEdge s v names id
-    loop_taken none = taken v (subst (KeepsRules v.records v.shape u.shape.threshold) none closed.keeps) closed.regroups.shape closed.regroups.graph (regroups_keep u v source.node closed.regroups) (closed_kinds u v source.node u.shape.threshold rest closed)
+    loop_taken none = taken v (subst (KeepsRules v.records v.shape u.shape.threshold) none closed.keeps) closed.regroups.shape closed.regroups.graph
+        (regroups_keep u v source.node closed.regroups) (closed_kinds u v source.node u.shape.threshold rest closed)
 
     -- the other end's head is still the other's
-    owns_then : (h : rules.Head) (n : ℕ) → n ≢ source.node → Owns (kind_at u.records format.nodes_file) (group_at u.records) h n → Owns (kind_at v.records format.nodes_file) (group_at v.records) h n
+    owns_then : (h : rules.Head) (n : ℕ) → n ≢ source.node → Owns (kind_at u.records format.nodes_file) (group_at u.records) h n
+        → Owns (kind_at v.records format.nodes_file) (group_at v.records) h n
     owns_then h n ne (inl o) = inl (record { sparse = closed.regroups.kinds n ne ∙ o.sparse; is = o.is })
     owns_then h n ne (inr o) = inr (record {
       dense = closed.regroups.kinds n ne ∙ o.dense;
@@ -83,10 +88,12 @@ module _ (s u : State) (names : List (List ℕ)) (id : ℕ) (ends : Ends EdgeEnd
       field = o.field;
     })
 
-    pub target_closes : source.node ≢ target.node → rest ≡ group_of_head (head_of target.head) ++ [] → CanClose v (head_of target.head) target.node u.shape.threshold []
+    pub target_closes : source.node ≢ target.node → rest ≡ group_of_head (head_of target.head) ++ []
+        → CanClose v (head_of target.head) target.node u.shape.threshold []
     target_closes differ other = record {
       keeps = subst (KeepsRules v.records v.shape u.shape.threshold) other closed.keeps;
-      owns = owns_then (head_of target.head) target.node (λ e. differ (sym e)) (owns_still (head_of target.head) target.node (at_target (StandsAtEnd s.records id) ends bare.stands).owns);
+      owns = owns_then (head_of target.head) target.node (λ e. differ (sym e))
+          (owns_still (head_of target.head) target.node (at_target (StandsAtEnd s.records id) ends bare.stands).owns);
     }
 
     pub pair_taken : (w : State) → HasClosed v w target.node u.shape.threshold [] → TakesEdge s w names id

@@ -40,13 +40,15 @@ use Rattle.graph_ops.proofs.EdgeBlames.{alike_parted}
 use Rattle.graph_ops.proofs.EdgeFrames.{HasEndsIn, link_before, row_still}
 use Rattle.graph_ops.proofs.EdgeSteps.{record_parted}
 
-pub cut_blamed : (s : State) (head : Head) (node id : ℕ) (fault : Fault) → IsPartFault s head node id fault → IfBlames (IsCutDamage s head node id) (of_fault fault)
+pub cut_blamed : (s : State) (head : Head) (node id : ℕ) (fault : Fault) → IsPartFault s head node id fault
+    → IfBlames (IsCutDamage s head node id) (of_fault fault)
 cut_blamed s head node id faults.Memory told = tt
 cut_blamed s head node id faults.Disk told = tt
 cut_blamed s head node id (faults.Damaged damage) told = told
 
 -- an edge that isn't in the chain of its one head at a node is in no right chain of the node
-out_of_chain : (s u : State) (head : Head) (n id : ℕ) (row : RelRow) (damage : Damage) → rel_at s.records id ≡ Some row → IsPlaced s.records head n row → IsLoneAt s.records head n
+out_of_chain : (s u : State) (head : Head) (n id : ℕ) (row : RelRow) (damage : Damage) → rel_at s.records id ≡ Some row → IsPlaced s.records head n row
+    → IsLoneAt s.records head n
     → ((ys : List ℕ) → IsHeadChain s.records head n ys → IsChainAt u.records head n ys) → IsAstray u.records head n id damage → ¬ IsInChain s.records n id
 out_of_chain s u head n id row damage live placed alone kept astray = λ here.
     let lone = lone_head s.records head n id row live placed alone in
@@ -54,7 +56,8 @@ out_of_chain s u head n id row damage live placed alone kept astray = λ here.
     astray.out here.members (kept here.members (subst (λ (h : Head). IsHeadChain s.records h n here.members) same here.chain)) here.member
 
 -- what is told of an end in a space, of the space as it was
-pub cut_told : (s u : State) (head : Head) (n id from to : ℕ) (row : RelRow) (damage : Damage) → (n ≡ from) ⊎ (n ≡ to) → HasChains s.records from → HasChains s.records to
+pub cut_told : (s u : State) (head : Head) (n id from to : ℕ) (row : RelRow) (damage : Damage) → (n ≡ from) ⊎ (n ≡ to) → HasChains s.records from
+    → HasChains s.records to
     → rel_at s.records id ≡ Some row → IsPlaced s.records head n row → AreAlike s u n → (IsEdgeLink u id n damage → IsEdgeLink s id n damage)
     → (IsInChain s.records from id → IsInChain s.records to id → (ys : List ℕ) → IsHeadChain s.records head n ys → IsChainAt u.records head n ys)
     → IsCutDamage u head n id damage → IsPartedDamage s id from to damage
@@ -88,7 +91,8 @@ pub alike_same : (s : State) (n : ℕ) → AreAlike s s n
 alike_same s n = record { shape = refl; node = refl; node_mark = refl; group_mark = refl; numbers = λ g m at one inside. refl; used = λ g. refl; live = λ g. refl }
 
 -- at the first end nothing is written yet
-pub first_cut : (s : State) (head : Head) (n id from to : ℕ) (row : RelRow) (damage : Damage) → (n ≡ from) ⊎ (n ≡ to) → HasChains s.records from → HasChains s.records to
+pub first_cut : (s : State) (head : Head) (n id from to : ℕ) (row : RelRow) (damage : Damage) → (n ≡ from) ⊎ (n ≡ to) → HasChains s.records from
+    → HasChains s.records to
     → rel_at s.records id ≡ Some row → IsPlaced s.records head n row → IsCutDamage s head n id damage → IsPartedDamage s id from to damage
 first_cut s head n id from to row damage which source target live placed told =
     cut_told s s head n id from to row damage which source target live placed (alike_same s n) (λ l. l) (λ a b ys chain. chain.chain) told
@@ -125,7 +129,8 @@ module _ (s : State) (head : Head) (n rel d m : ℕ) (ne : n ≢ m) (owns : IsHe
     no_head e = by own owns
       where
         by : IsHeadOf s.records k m → IsHeadOf s.records head n → ⊥
-        by (inl a) o = other_record (kind_at s.records format.nodes_file) (group_at s.records) head n m o (λ q. ne (sym q)) (sym (ap (λ (h : Head). h.key) a.is) ∙ e)
+        by (inl a) o = other_record (kind_at s.records format.nodes_file) (group_at s.records) head n m o (λ q. ne (sym q))
+            (sym (ap (λ (h : Head). h.key) a.is) ∙ e)
         by (inr a) (inl b) = let f = ap (λ (h : Head). h.key.file) b.is in let g = ap (λ (q : Key). q.file) (sym a.key ∙ e) in omega arith
         by (inr a) (inr b) =
             let group : a.row.id ≡ b.row.id = ap (λ (q : Key). q.id) (sym a.key ∙ e ∙ b.key) in
@@ -146,14 +151,16 @@ module _ (s : State) (head : Head) (n rel d m : ℕ) (ne : n ≢ m) (owns : IsHe
     unfolding parted
     rel_same x =
         let t = tallied one_less (unlinked s head n rel) head in
-        put_other t.records (key_in format.nodes_file n) (with_field 4 (t.records (key_in format.nodes_file n)) format.node_degree d) (key_in format.relationships_file x) (λ e. let f = ap (λ (q : Key). q.file) e in omega arith)
+        put_other t.records (key_in format.nodes_file n) (with_field 4 (t.records (key_in format.nodes_file n)) format.node_degree d)
+        (key_in format.relationships_file x) (λ e. let f = ap (λ (q : Key). q.file) e in omega arith)
         ∙ file-tallied one_less (unlinked s head n rel) head (key_in format.relationships_file x) (λ e. let z : 2 ≡ 3 = e in omega arith)
 
     pub chain_parted : (ys : List ℕ) → IsHeadChain s.records k m ys → IsChainAt (parted s head n rel d).records k m ys
     chain_parted ys chain =
         let u = parted s head n rel d in
         let v = unlinked s head n rel in
-        let out = nil_out (next_of s.records m) (first_of s.records k) ys (walk_of_chain (next_of s.records m) (prev_of s.records m) format.nil (first_of s.records k) ys chain.chain) in
+        let out = nil_out (next_of s.records m) (first_of s.records k) ys
+        (walk_of_chain (next_of s.records m) (prev_of s.records m) format.nil (first_of s.records k) ys chain.chain) in
         let differ : (x : ℕ) → In x ys → (x ≡ rel) ⊎ ((x ≡ prev_of s.records n rel) ⊎ (x ≡ next_of s.records n rel)) → Differ s.records n m x
         = λ x i e.
         let a = at_node x (beside x (λ none. out (subst (λ z. In z ys) none i)) e) in
@@ -186,16 +193,21 @@ placed_heads records row (Two a b) places = (chain_head records (head_of a.head)
 
 module _ (s : State) (id : ℕ) (row : RelRow) (ends : Ends EdgeEnd) (edge : IsPlacedEdge s.records id row ends) where
   source_has : HasChains s.records row.from
-  source_has = let p = place_source s.records row ends edge.places in subst (HasChains s.records) edge.source (has_chains s.records (head_of (source_of ends).head) (source_of ends).node p.owns)
+  source_has = let p = place_source s.records row ends edge.places in subst (HasChains s.records) edge.source
+      (has_chains s.records (head_of (source_of ends).head) (source_of ends).node p.owns)
 
   target_has : HasChains s.records row.to
-  target_has = let p = place_target s.records row ends edge.places in subst (HasChains s.records) edge.target (has_chains s.records (head_of (target_of ends).head) (target_of ends).node p.owns)
+  target_has = let p = place_target s.records row ends edge.places in subst (HasChains s.records) edge.target
+      (has_chains s.records (head_of (target_of ends).head) (target_of ends).node p.owns)
 
-  pub source_cut : (damage : Damage) → IsCutDamage s (head_of (source_of ends).head) (source_of ends).node id damage → IsPartedDamage s id row.from row.to damage
+  pub source_cut : (damage : Damage) → IsCutDamage s (head_of (source_of ends).head) (source_of ends).node id damage
+      → IsPartedDamage s id row.from row.to damage
   source_cut damage told =
-      first_cut s (head_of (source_of ends).head) (source_of ends).node id row.from row.to row damage (inl edge.source) source_has target_has edge.live (place_source s.records row ends edge.places) told
+      first_cut s (head_of (source_of ends).head) (source_of ends).node id row.from row.to row damage (inl edge.source) source_has target_has edge.live
+      (place_source s.records row ends edge.places) told
 
-pub target_cut : (s u : State) (id : ℕ) (row : RelRow) (a b : EdgeEnd) → IsPlacedEdge s.records id row (Two a b) → a.node ≢ b.node → u ≡ end_parted s a id → (damage : Damage)
+pub target_cut : (s u : State) (id : ℕ) (row : RelRow) (a b : EdgeEnd) → IsPlacedEdge s.records id row (Two a b) → a.node ≢ b.node → u ≡ end_parted s a id
+    → (damage : Damage)
     → IsCutDamage u (head_of b.head) b.node id damage → IsPartedDamage s id row.from row.to damage
 target_cut s u id row a b edge ne is damage told =
     let h = head_of a.head in
@@ -204,7 +216,8 @@ target_cut s u id row a b edge ne is damage told =
     let is_row = (some_row (kind_at s.records format.relationships_file id) (rel_in (rec_at s.records format.relationships_file id) id) row edge.live).1 in
     let ends : HasEndsIn s.records id a.node b.node
     = record { source = ap (λ (r : RelRow). r.from) is_row ∙ sym edge.source; target = ap (λ (r : RelRow). r.to) is_row ∙ sym edge.target } in
-    cut_told s u k b.node id row.from row.to row damage (inr edge.target) (source_has s id row (Two a b) edge) (target_has s id row (Two a b) edge) edge.live edge.places.1
+    cut_told s u k b.node id row.from row.to row damage (inr edge.target) (source_has s id row (Two a b) edge) (target_has s id row (Two a b) edge) edge.live
+    edge.places.1
     (subst (λ (z : State). AreAlike s z b.node) (sym is) (alike_parted s h a.node owns id (a.degree - 1) b.node ne))
     (link_before s u h a.node id (a.degree - 1) b.node ne ends owns is damage)
     (λ from _ ys chain. subst (λ (z : State). IsChainAt z.records k b.node ys) (sym is)
@@ -212,7 +225,8 @@ target_cut s u id row a b edge ne is damage told =
     told
 
 -- an edge that was taken out at one end stands at the other
-pub place_later : (s u : State) (id : ℕ) (row : RelRow) (a b : EdgeEnd) → IsPlacedEdge s.records id row (Two a b) → a.node ≢ b.node → u ≡ end_parted s a id → (rel_at u.records id ≡ Some row) × HasPlace u.records row b
+pub place_later : (s u : State) (id : ℕ) (row : RelRow) (a b : EdgeEnd) → IsPlacedEdge s.records id row (Two a b) → a.node ≢ b.node → u ≡ end_parted s a id
+    → (rel_at u.records id ≡ Some row) × HasPlace u.records row b
 place_later s u id row a b edge ne is =
     let h = head_of a.head in
     let owns = chain_head s.records h a.node edge.places.0.owns in (

@@ -38,7 +38,8 @@ use Rattle.graph_ops.specs.EdgeDeleting.IsUndropped.{Astray, BadLink, HighMark, 
 
 -- ---- the group of a head
 
-pub head_group : (records : Records) (head : Head) (node : ℕ) → head.key.file ≡ format.groups_file → IsHeadOf records head node → HasGroup records node head.key.id
+pub head_group : (records : Records) (head : Head) (node : ℕ) → head.key.file ≡ format.groups_file → IsHeadOf records head node
+    → HasGroup records node head.key.id
 head_group records head node file (inl o) = absurd (let f = ap (λ (h : Head). h.key.file) o.is in omega arith)
 head_group records head node file (inr o) = record { dense = o.dense; row = o.row; group = ap (λ (k : Key). group_at records k.id) o.key ∙ o.group; owner = o.owner }
 
@@ -51,15 +52,18 @@ module _ (records : Records) (node g : ℕ) (has : HasGroup records node g) wher
 
 -- ---- what is met is so of the space before
 
-link_on : (s t : State) (l k : ℕ) (named damage : Damage) → l ≡ k → group_mark t ≡ group_mark s → t.shape ≡ s.shape → IsLinkDamage t l named damage → IsLinkDamage s k named damage
+link_on : (s t : State) (l k : ℕ) (named damage : Damage) → l ≡ k → group_mark t ≡ group_mark s → t.shape ≡ s.shape → IsLinkDamage t l named damage
+    → IsLinkDamage s k named damage
 link_on s t l k named damage is mark shape (LeadsNowhere some above) = LeadsNowhere (λ e. some (is ∙ e)) (let m = mark in omega (arith, above, is, m))
 link_on s t l k named damage is mark shape (HighLink above) = HighLink (let m = mark in let r : group_room t ≡ group_room s = ap (λ (h : Shape). room_of h format.groups_file) shape in omega (arith, above, m, r))
 
 -- a link that another group's removal left
-link_left : (s t : State) (l k : ℕ) (named damage : Damage) → IsSameOrLow t l k → group_mark t ≡ group_mark s → t.shape ≡ s.shape → IsLinkDamage t l named damage → IsLinkDamage s k named damage
+link_left : (s t : State) (l k : ℕ) (named damage : Damage) → IsSameOrLow t l k → group_mark t ≡ group_mark s → t.shape ≡ s.shape
+    → IsLinkDamage t l named damage → IsLinkDamage s k named damage
 link_left s t l k named damage (inl is) mark shape told = link_on s t l k named damage is mark shape told
 link_left s t l k named damage (inr low) mark shape (LeadsNowhere some above) = absurd (⊎_elim some (λ (b : l < group_mark t). omega (arith, b, above)) low)
-link_left s t l k named damage (inr low) mark shape (HighLink above) = HighLink (let m = mark in let r : group_room t ≡ group_room s = ap (λ (h : Shape). room_of h format.groups_file) shape in omega (arith, above, m, r))
+link_left s t l k named damage (inr low) mark shape (HighLink above) = HighLink
+    (let m = mark in let r : group_room t ≡ group_room s = ap (λ (h : Shape). room_of h format.groups_file) shape in omega (arith, above, m, r))
 
 -- a kind that there isn't is told by the kind alone
 no_kind : (r q : Rec) → field 1 r format.kind ≡ field 1 q format.kind → layout_of format.groups_file r ≡ None → layout_of format.groups_file q ≡ None
@@ -75,7 +79,8 @@ met_here s n g has d (BadNext _ bad) = BadLink (next_group s.records g) (inr ref
 met_here s n g has d (Loose out) = Astray (λ xs own. out xs own.chain)
 
 -- where one of another node may have been
-pub met_later : (s t : State) (node n g : ℕ) → KeepsOtherChains s t node → n ≢ node → HasGroup s.records n g → HasGroup t.records n g → (d : Damage) → IsDropDamage t n g d → IsUndropped s n g d
+pub met_later : (s t : State) (node n g : ℕ) → KeepsOtherChains s t node → n ≢ node → HasGroup s.records n g → HasGroup t.records n g → (d : Damage)
+    → IsDropDamage t n g d → IsUndropped s n g d
 met_later s t node n g kept ne was has d (BadMember _ (NoMember none)) = absurd (none (group_owned t.records n g has))
 met_later s t node n g kept ne was has d (BadMember _ (UnknownMember low none)) =
     NoKind (subst (λ m. g < m) kept.mark low) (no_kind (rec_at t.records format.groups_file g) (rec_at s.records format.groups_file g) (kept.kinds n g ne (group_owned s.records n g was)) none)
@@ -108,7 +113,8 @@ kept_undropped s t n g kept has d (Astray out) = Astray (λ xs own. out xs (reco
   where
     kind : (h : ℕ) → kind_at t.records format.groups_file h ≡ kind_at s.records format.groups_file h
     kind h = ap (λ m. kind_in m (rec_at t.records format.groups_file h) h) kept.mark
-        ∙ kind_by (high s.records format.groups_file) (rec_at t.records format.groups_file h) (rec_at s.records format.groups_file h) h (kept.numbers h 1 format.kind (omega arith))
+        ∙ kind_by (high s.records format.groups_file) (rec_at t.records format.groups_file h) (rec_at s.records format.groups_file h) h
+        (kept.numbers h 1 format.kind (omega arith))
 
 -- ---- what broke the rule
 
@@ -122,9 +128,11 @@ module _ (s t : State) (n g : ℕ) (alike : AreAlike s t n) (has : HasGroup t.re
   -- a right chain of groups is there still
   chain_now : (xs : List ℕ) → breaking.IsGroupChain s.records n xs → IsOwnChain t.records n xs
   chain_now xs right = record {
-    chain = subst (λ z. IsChain (next_group t.records) (previous_group t.records) format.nil z xs) (sym (ap (λ (r : Rec). field 4 r format.node_first_link) alike.node))
+    chain = subst (λ z. IsChain (next_group t.records) (previous_group t.records) format.nil z xs)
+        (sym (ap (λ (r : Rec). field 4 r format.node_first_link) alike.node))
         (chain_stays (next_group s.records) (previous_group s.records) (next_group t.records) (previous_group t.records) format.nil (first_link s.records n) xs
-        (λ x i. alike.numbers x 4 format.group_next (omega arith) (omega arith)) (λ x i. alike.numbers x 4 format.group_previous (omega arith) (omega arith)) right.chain);
+        (λ x i. alike.numbers x 4 format.group_next (omega arith) (omega arith)) (λ x i. alike.numbers x 4 format.group_previous (omega arith) (omega arith))
+        right.chain);
     only = λ h i.
         let is = right.only h i in
         let row = some_row (kind_at s.records format.groups_file h) (group_in (rec_at s.records format.groups_file h) h) is.0 is.1 in
@@ -144,7 +152,8 @@ module _ (s t : State) (n g : ℕ) (alike : AreAlike s t n) (has : HasGroup t.re
 -- ---- a head that isn't closed
 
 -- the first one
-pub close_blamed : (s u : State) (head : Head) (node : ℕ) → KeepsGroups s u → IsHeadOf s.records head node → IsHeadOf u.records head node → head.key.file ≡ format.groups_file → (fault : Fault) → IsDropFault u node head.key.id fault
+pub close_blamed : (s u : State) (head : Head) (node : ℕ) → KeepsGroups s u → IsHeadOf s.records head node → IsHeadOf u.records head node
+    → head.key.file ≡ format.groups_file → (fault : Fault) → IsDropFault u node head.key.id fault
     → IfBlames (IsUndroppedDamage s) (of_fault fault)
 close_blamed s u head node kept was now file faults.Memory told = tt
 close_blamed s u head node kept was now file faults.Disk told = tt
@@ -153,7 +162,8 @@ close_blamed s u head node kept was now file (faults.Damaged damage) told =
     (node, head.key.id, has, kept_undropped s u node head.key.id kept has damage (met_here u node head.key.id (head_group u.records head node file now) damage told))
 
 -- the second one
-pub later_blamed : (s u v : State) (head : Head) (node n : ℕ) → KeepsGroups s u → KeepsOtherChains u v node → n ≢ node → IsHeadOf s.records head n → IsHeadOf u.records head n → IsHeadOf v.records head n
+pub later_blamed : (s u v : State) (head : Head) (node n : ℕ) → KeepsGroups s u → KeepsOtherChains u v node → n ≢ node → IsHeadOf s.records head n
+    → IsHeadOf u.records head n → IsHeadOf v.records head n
     → head.key.file ≡ format.groups_file → (fault : Fault) → IsDropFault v n head.key.id fault → IfBlames (IsUndroppedDamage s) (of_fault fault)
 later_blamed s u v head node n kept others ne was mid now file faults.Memory told = tt
 later_blamed s u v head node n kept others ne was mid now file faults.Disk told = tt

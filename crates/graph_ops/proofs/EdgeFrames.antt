@@ -83,25 +83,31 @@ edge_left s t id shape left = record {
 }
   where
     group : (g : ℕ) → rec_at t.records format.groups_file g ≡ rec_at s.records format.groups_file g
-    group g = left.others (key_in format.groups_file g) (λ e. omega arith) (λ e. omega arith) (λ e. let f = ap (λ (k : Key). k.file) e in omega arith) (λ e. let f = ap (λ (k : Key). k.file) e in omega arith) (λ e. let f = ap (λ (k : Key). k.file) e in omega arith)
+    group g = left.others (key_in format.groups_file g) (λ e. omega arith) (λ e. omega arith) (λ e. let f = ap (λ (k : Key). k.file) e in omega arith)
+        (λ e. let f = ap (λ (k : Key). k.file) e in omega arith) (λ e. let f = ap (λ (k : Key). k.file) e in omega arith)
 
     mark : t.records (meta_key_of format.groups_file) ≡ s.records (meta_key_of format.groups_file)
-    mark = left.others (meta_key_of format.groups_file) (λ e. omega arith) (λ e. omega arith) (λ e. let f = ap (λ (k : Key). k.id) e in omega arith) (λ e. let f = ap (λ (k : Key). k.id) e in omega arith) (λ e. let f = ap (λ (k : Key). k.file) e in omega arith)
+    mark = left.others (meta_key_of format.groups_file) (λ e. omega arith) (λ e. omega arith) (λ e. let f = ap (λ (k : Key). k.id) e in omega arith)
+        (λ e. let f = ap (λ (k : Key). k.id) e in omega arith) (λ e. let f = ap (λ (k : Key). k.file) e in omega arith)
 
     kind : (g : ℕ) → kind_at t.records format.groups_file g ≡ kind_at s.records format.groups_file g
-    kind g = ap (λ m. kind_in m (rec_at t.records format.groups_file g) g) (ap (λ r. (metas.meta_of r).high) mark) ∙ ap (λ r. kind_in (high s.records format.groups_file) r g) (group g)
+    kind g = ap (λ m. kind_in m (rec_at t.records format.groups_file g) g) (ap (λ r. (metas.meta_of r).high) mark)
+        ∙ ap (λ r. kind_in (high s.records format.groups_file) r g) (group g)
 
 -- ---- what was so before
 
 module _ (s t : State) (id : ℕ) (left : LeavesEdge s t id) where
   pub meta : (file : ℕ) → file ≢ format.properties_file → file ≢ format.strings_file → t.records (meta_key_of file) ≡ s.records (meta_key_of file)
-  meta file a b = left.others (meta_key_of file) (λ e. omega arith) (λ e. omega arith) (λ e. a (ap (λ (k : Key). k.id) e)) (λ e. b (ap (λ (k : Key). k.id) e)) (λ e. omega arith) (λ e. let f = ap (λ (k : Key). k.file) e in omega arith)
+  meta file a b = left.others (meta_key_of file) (λ e. omega arith) (λ e. omega arith) (λ e. a (ap (λ (k : Key). k.id) e)) (λ e. b (ap (λ (k : Key). k.id) e))
+      (λ e. omega arith) (λ e. let f = ap (λ (k : Key). k.file) e in omega arith)
 
   pub node_same : (n : ℕ) → rec_at t.records format.nodes_file n ≡ rec_at s.records format.nodes_file n
-  node_same n = left.others (key_in format.nodes_file n) (λ e. omega arith) (λ e. omega arith) (λ e. let f = ap (λ (k : Key). k.file) e in omega arith) (λ e. let f = ap (λ (k : Key). k.file) e in omega arith) (λ e. omega arith) (λ e. let f = ap (λ (k : Key). k.file) e in omega arith)
+  node_same n = left.others (key_in format.nodes_file n) (λ e. omega arith) (λ e. omega arith) (λ e. let f = ap (λ (k : Key). k.file) e in omega arith)
+      (λ e. let f = ap (λ (k : Key). k.file) e in omega arith) (λ e. omega arith) (λ e. let f = ap (λ (k : Key). k.file) e in omega arith)
 
   pub kind_same : (n : ℕ) → kind_at t.records format.nodes_file n ≡ kind_at s.records format.nodes_file n
-  kind_same n = ap (λ m. kind_in m (rec_at t.records format.nodes_file n) n) (ap (λ r. (metas.meta_of r).high) (meta format.nodes_file (λ e. omega arith) (λ e. omega arith)))
+  kind_same n = ap (λ m. kind_in m (rec_at t.records format.nodes_file n) n)
+      (ap (λ r. (metas.meta_of r).high) (meta format.nodes_file (λ e. omega arith) (λ e. omega arith)))
       ∙ ap (λ r. kind_in (high s.records format.nodes_file) r n) (node_same n)
 
   pub alike_edge : (n : ℕ) → AreAlike s t n
@@ -117,8 +123,10 @@ module _ (s t : State) (id : ℕ) (left : LeavesEdge s t id) where
 
 -- ---- links of the edge
 
-pub link_as : (s u : State) (l k : ℕ) (named damage : Damage) → l ≡ k → rel_mark u ≡ rel_mark s → rel_room u ≡ rel_room s → IsLinkDamage u l named damage → IsLinkDamage s k named damage
-link_as s u l k named damage is mark room (LeadsNowhere some above) = LeadsNowhere (λ e. some (is ∙ e)) (subst (λ z. z ≤ k) mark (subst (λ z. rel_mark u ≤ z) is above))
+pub link_as : (s u : State) (l k : ℕ) (named damage : Damage) → l ≡ k → rel_mark u ≡ rel_mark s → rel_room u ≡ rel_room s → IsLinkDamage u l named damage
+    → IsLinkDamage s k named damage
+link_as s u l k named damage is mark room (LeadsNowhere some above) = LeadsNowhere (λ e. some (is ∙ e))
+    (subst (λ z. z ≤ k) mark (subst (λ z. rel_mark u ≤ z) is above))
 link_as s u l k named damage is mark room (HighMark above) = HighMark (subst (λ z. z < rel_mark s) room (subst (λ z. rel_room u < z) mark above))
 
 -- one of the two places of pairs of links
@@ -161,10 +169,12 @@ edge_link_before s t id node damage left told = ⊎_elim
     room = ap (λ (h : Shape). room_of h format.relationships_file) left.shape
 
 pub end_link_before : (s t : State) (id from to : ℕ) (damage : Damage) → LeavesEdge s t id → IsEndLink t id from to damage → IsEndLink s id from to damage
-end_link_before s t id from to damage left told = ⊎_elim (λ k. inl (edge_link_before s t id from damage left k)) (λ k. inr (edge_link_before s t id to damage left k)) told
+end_link_before s t id from to damage left told = ⊎_elim (λ k. inl (edge_link_before s t id from damage left k))
+    (λ k. inr (edge_link_before s t id to damage left k)) told
 
 -- a link that leads nowhere breaks the first rule
-pub end_link_breaks : (s : State) (id : ℕ) (rel : RelRow) (damage : Damage) → row_at s.records id ≡ Some rel → IsEndLink s id rel.from rel.to damage → IsBroken s damage
+pub end_link_breaks : (s : State) (id : ℕ) (rel : RelRow) (damage : Damage) → row_at s.records id ≡ Some rel → IsEndLink s id rel.from rel.to damage
+    → IsBroken s damage
 end_link_breaks s id rel damage found told =
     let live = rel_rows.rel_at-Some s.records id rel found in
     inl (⊎_elim (λ k. ⊎_elim (λ l. prev_breaks s id rel.from _ damage live l) (λ l. next_breaks s id rel.from _ damage live l) k)
@@ -204,11 +214,15 @@ module _ (s : State) (head : Head) (n rel d m : ℕ) (elsewhere : head.key.file 
   low : (p : ℕ) → (p ≡ pn) ⊎ (p ≡ pn + 4) → 16 ≤ p
   low p b = ⊎_elim (λ e. omega (arith, bounds.0.0, e)) (λ e. omega (arith, bounds.0.0, e)) b
 
-  stays_set : (q : Records) (p : Head) (to : ℕ) → (key_in format.relationships_file rel ≡ p.key → (p.field ≡ pn) ⊎ (p.field ≡ pn + 4)) → PairStays q → PairStays (set_at q p to)
+  stays_set : (q : Records) (p : Head) (to : ℕ) → (key_in format.relationships_file rel ≡ p.key → (p.field ≡ pn) ⊎ (p.field ≡ pn + 4)) → PairStays q
+      → PairStays (set_at q p to)
   stays_set q p to here was = record {
-    ends = field-set_other q p to (key_in format.relationships_file rel) 4 8 (omega arith) (λ e. inl (let b = low p.field (here e) in omega (arith, b))) ∙ was.ends;
-    prev = field-set_other q p to (key_in format.relationships_file rel) 4 pm (omega (arith, bounds.1.1)) (λ e. aside pm p.field (inl refl) (here e)) ∙ was.prev;
-    next = field-set_other q p to (key_in format.relationships_file rel) 4 (pm + 4) (omega (arith, bounds.1.1)) (λ e. aside (pm + 4) p.field (inr refl) (here e)) ∙ was.next;
+    ends = field-set_other q p to (key_in format.relationships_file rel) 4 8 (omega arith) (λ e. inl (let b = low p.field (here e) in omega (arith, b)))
+        ∙ was.ends;
+    prev = field-set_other q p to (key_in format.relationships_file rel) 4 pm (omega (arith, bounds.1.1)) (λ e. aside pm p.field (inl refl) (here e))
+        ∙ was.prev;
+    next = field-set_other q p to (key_in format.relationships_file rel) 4 (pm + 4) (omega (arith, bounds.1.1))
+        (λ e. aside (pm + 4) p.field (inr refl) (here e)) ∙ was.next;
   }
 
   stays_same : (q t : Records) → rel_rec t rel ≡ rel_rec q rel → PairStays q → PairStays t
@@ -226,7 +240,8 @@ module _ (s : State) (head : Head) (n rel d m : ℕ) (elsewhere : head.key.file 
   stays_freed : PairStays freed.records
   stays_freed =
       let same = put_same s.records (key_in format.relationships_file rel) (alone r n) in
-      let by : (at : ℕ) → at + 4 ≤ 64 → (at + 4 ≤ pn) ⊎ (pn + 4 ≤ at) → (at + 4 ≤ pn + 4) ⊎ (pn + 4 + 4 ≤ at) → field 4 (rel_rec freed.records rel) at ≡ field 4 r at
+      let by : (at : ℕ) → at + 4 ≤ 64 → (at + 4 ≤ pn) ⊎ (pn + 4 ≤ at) → (at + 4 ≤ pn + 4) ⊎ (pn + 4 + 4 ≤ at)
+      → field 4 (rel_rec freed.records rel) at ≡ field 4 r at
       = λ at inside a b. ap (λ z. field 4 z at) same
       ∙ field-with_field_other 4 (with_field 4 r pn format.nil) (pn + 4) format.nil 4 at inside (⊎_elim (λ k. inr k) (λ k. inl k) b)
       ∙ field-with_field_other 4 r pn format.nil 4 at inside (⊎_elim (λ k. inr k) (λ k. inl k) a) in
@@ -267,7 +282,8 @@ module _ (s : State) (head : Head) (n rel d m : ℕ) (elsewhere : head.key.file 
   next_parted : next_of (parted s head n rel d).records m rel ≡ next_of s.records m rel
   next_parted = ap (λ p. field 4 (rel_rec (parted s head n rel d).records rel) (p + 4)) place_m ∙ stays_parted.next
 
-  pub link_parted : head.key.file ≢ format.meta_file → (u : State) → u ≡ parted s head n rel d → (damage : Damage) → IsEdgeLink u rel m damage → IsEdgeLink s rel m damage
+  pub link_parted : head.key.file ≢ format.meta_file → (u : State) → u ≡ parted s head n rel d → (damage : Damage) → IsEdgeLink u rel m damage
+      → IsEdgeLink s rel m damage
   link_parted no_meta u is damage told =
       let t = parted s head n rel d in
       let mark : rel_mark t ≡ rel_mark s
@@ -284,9 +300,11 @@ head_file records head n (inl o) = inl (ap (λ (h : Head). h.key.file) o.is)
 head_file records head n (inr o) = inr (ap (λ (k : Key). k.file) o.key)
 
 -- a link at the other end
-pub link_before : (s u : State) (head : Head) (n rel d m : ℕ) → n ≢ m → HasEndsIn s.records rel n m → IsHeadOf s.records head n → u ≡ parted s head n rel d → (damage : Damage) → IsEdgeLink u rel m damage → IsEdgeLink s rel m damage
+pub link_before : (s u : State) (head : Head) (n rel d m : ℕ) → n ≢ m → HasEndsIn s.records rel n m → IsHeadOf s.records head n → u ≡ parted s head n rel d
+    → (damage : Damage) → IsEdgeLink u rel m damage → IsEdgeLink s rel m damage
 link_before s u head n rel d m ne ends owns is damage told =
-    link_parted s head n rel d m (not_in format.relationships_file (omega arith) (omega arith)) (λ same. absurd (let a = sym here ∙ same ∙ there in omega (arith, a))) (not_in format.meta_file (omega arith) (omega arith)) u is damage told
+    link_parted s head n rel d m (not_in format.relationships_file (omega arith) (omega arith))
+    (λ same. absurd (let a = sym here ∙ same ∙ there in omega (arith, a))) (not_in format.meta_file (omega arith) (omega arith)) u is damage told
   where
     not_in : (file : ℕ) → file ≢ format.nodes_file → file ≢ format.groups_file → head.key.file ≢ file
     not_in file a b e = ⊎_elim (λ k. a (sym e ∙ k)) (λ k. b (sym e ∙ k)) (head_file s.records head n owns)
@@ -300,7 +318,8 @@ link_before s u head n rel d m ne ends owns is damage told =
 -- ---- which record is blamed
 
 -- an end that isn't found
-pub end_taken : (s m : State) (id : ℕ) (rel : RelRow) (node : ℕ) → (node ≡ rel.from) ⊎ (node ≡ rel.to) → LeavesEdge s m id → (damage : Damage) → IsSoughtDamage m id node rel.label damage → IsTakenDamage s id rel damage
+pub end_taken : (s m : State) (id : ℕ) (rel : RelRow) (node : ℕ) → (node ≡ rel.from) ⊎ (node ≡ rel.to) → LeavesEdge s m id → (damage : Damage)
+    → IsSoughtDamage m id node rel.label damage → IsTakenDamage s id rel damage
 end_taken s m id rel node which left damage told = Sought damage node m which left told
 
 -- seen from before
@@ -316,7 +335,8 @@ module _ (s : State) (head : Head) (n rel d : ℕ) (elsewhere : head.key.file �
     abbrev IsKept : Records → Type 0
     IsKept q = field m (rel_rec q x) at ≡ field m (rel_rec s.records x) at
 
-    kept_set : (q : Records) (p : Head) (to : ℕ) → (key_in format.relationships_file x ≡ p.key → (16 ≤ p.field) × (p.field ≤ 28)) → IsKept q → IsKept (set_at q p to)
+    kept_set : (q : Records) (p : Head) (to : ℕ) → (key_in format.relationships_file x ≡ p.key → (16 ≤ p.field) × (p.field ≤ 28)) → IsKept q
+        → IsKept (set_at q p to)
     kept_set q p to here was = field-set_other q p to (key_in format.relationships_file x) m at fits
         (λ e. let b = here e in ⊎_elim (λ (k : at + m ≤ 16). inl (omega (arith, k, b.0))) (λ (k : 32 ≤ at). inr (omega (arith, k, b.1))) out) ∙ was
 
@@ -375,11 +395,14 @@ module _ (s : State) (head : Head) (n rel d : ℕ) (elsewhere : head.key.file �
 
       kind : kind_at (parted s head n rel d).records format.relationships_file x ≡ kind_at s.records format.relationships_file x
       kind = ap (λ k. kind_in k (rel_rec (parted s head n rel d).records x) x) mark
-          ∙ kind_by (high s.records format.relationships_file) (rel_rec (parted s head n rel d).records x) (rel_rec s.records x) x (kept_parted 1 format.kind (omega arith) (inl (omega arith)))
+          ∙ kind_by (high s.records format.relationships_file) (rel_rec (parted s head n rel d).records x) (rel_rec s.records x) x
+          (kept_parted 1 format.kind (omega arith) (inl (omega arith)))
 
 -- of a head that the node owns
-pub row_still : (s u : State) (head : Head) (n rel d : ℕ) → IsHeadOf s.records head n → u ≡ parted s head n rel d → (x : ℕ) → rel_at u.records x ≡ rel_at s.records x
-row_still s u head n rel d owns is x = ap (λ (z : State). rel_at z.records x) is ∙ row_parted s head n rel d (not_in format.relationships_file (omega arith) (omega arith)) x (not_in format.meta_file (omega arith) (omega arith))
+pub row_still : (s u : State) (head : Head) (n rel d : ℕ) → IsHeadOf s.records head n → u ≡ parted s head n rel d → (x : ℕ)
+    → rel_at u.records x ≡ rel_at s.records x
+row_still s u head n rel d owns is x = ap (λ (z : State). rel_at z.records x) is
+    ∙ row_parted s head n rel d (not_in format.relationships_file (omega arith) (omega arith)) x (not_in format.meta_file (omega arith) (omega arith))
   where
     not_in : (file : ℕ) → file ≢ format.nodes_file → file ≢ format.groups_file → head.key.file ≢ file
     not_in file a b e = ⊎_elim (λ k. a (sym e ∙ k)) (λ k. b (sym e ∙ k)) (head_file s.records head n owns)

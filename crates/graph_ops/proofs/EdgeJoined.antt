@@ -38,14 +38,16 @@ use Rattle.store_rules.proofs.OneHead.{end_on, on_has_group, only_head}
 use Rattle.chain_edit.proofs.OwnedHeads.{end_in, ends_differ, heads_differ, in_head_group, other_record, owned_heads, owner_kind, owner_used}
 use Rattle.graph_ops.specs.EdgeEnds.{joined}
 use Rattle.graph_ops.proofs.EdgeLists.{first_used, joined_listed, prev_joined}
-use Rattle.graph_ops.proofs.EdgeSteps.{IsNode, number_pushed, degree_joined, differ_stays, first_joined, first_stays, links_joined, node_stays, record_joined, shape_joined, target_joined, used_low}
+use Rattle.graph_ops.proofs.EdgeSteps.{IsNode, number_pushed, degree_joined, differ_stays, first_joined, first_stays}
+use Rattle.graph_ops.proofs.EdgeSteps.{links_joined, node_stays, record_joined, shape_joined, target_joined, used_low}
 
 some_same : (a b : RelRow) → Some a ≡ Some b → a ≡ b
 some_same a b q = cc
 
 -- a relationship that was put into the chains of its ends, by their numbers
 abbrev pub both_joined : State → Head → Head → ℕ → ℕ → ℕ → ℕ → ℕ → State
-both_joined s h k from to rel from_degree to_degree = cond (nat_eq from to) (joined s h from rel from_degree) (joined (joined s h from rel from_degree) k to rel to_degree)
+both_joined s h k from to rel from_degree to_degree = cond (nat_eq from to) (joined s h from rel from_degree)
+    (joined (joined s h from rel from_degree) k to rel to_degree)
 
 -- What was made: a record of a relationship with no neighbour yet, which is to stand at these heads. Groups that may be empty are those of the
 -- heads, and a sparse end has less than the most.
@@ -63,7 +65,8 @@ pub record IsLoneEdge (s m : Records) (shape : Shape) (id : ℕ) (rec : Rec) (ro
   pub few : (n : ℕ) → IsEnd n row → kind_at s format.nodes_file n ≡ format.sparse → degree s n < most
   pub small : id < 2 ^ 25
 
-module _ (s : Records) (m : State) (shape : Shape) (id : ℕ) (rec : Rec) (row : RelRow) (h k : Head) {most : ℕ} {empty : List ℕ} (edge : IsLoneEdge s m.records shape id rec row h k most empty) (well : KeepsRules s shape most empty)
+module _ (s : Records) (m : State) (shape : Shape) (id : ℕ) (rec : Rec) (row : RelRow) (h k : Head) {most : ℕ} {empty : List ℕ}
+    (edge : IsLoneEdge s m.records shape id rec row h k most empty) (well : KeepsRules s shape most empty)
     (d e : ℕ) (d_is : d ≡ degree s row.from + 1) (e_is : e ≡ degree s row.to + 1) where
   abbrev Own : Head → ℕ → Type 0
   Own = Owns (kind_at s format.nodes_file) (group_at s)
@@ -89,7 +92,8 @@ module _ (s : Records) (m : State) (shape : Shape) (id : ℕ) (rec : Rec) (row :
   first_made : (a : Head) (n : ℕ) → Own a n → first_of m.records a ≡ first_of s a
   first_made a n (inl o) = ap (first_of m.records) o.is ∙ ap (λ r. field 4 r format.node_first_link) (node_made n) ∙ sym (ap (first_of s) o.is)
   first_made a n (inr o) = ap (λ (z : Key). field 4 (m.records z) a.field) o.key
-      ∙ ap (λ r. field 4 r a.field) (ec.rec_beside s m.records id edge.made.change format.groups_file o.row.id refl (λ q. omega arith)) ∙ sym (ap (λ (z : Key). field 4 (s z) a.field) o.key)
+      ∙ ap (λ r. field 4 r a.field) (ec.rec_beside s m.records id edge.made.change format.groups_file o.row.id refl (λ q. omega arith))
+      ∙ sym (ap (λ (z : Key). field 4 (s z) a.field) o.key)
 
   listed_made : AllListed m.records Own At
   listed_made = all_listed_stays s m.records Own At
@@ -105,7 +109,8 @@ module _ (s : Records) (m : State) (shape : Shape) (id : ℕ) (rec : Rec) (row :
       (λ end. end_in s x j p.row p.live end) (λ end. end_in s x n p.row p.live end))
 
   related_made : kind_at m.records format.relationships_file id ≡ format.related
-  related_made = kind_low (high m.records format.relationships_file) (rec_at m.records format.relationships_file id) id edge.made.below ∙ ap (λ r. field 1 r format.kind) edge.made.here ∙ edge.kind
+  related_made = kind_low (high m.records format.relationships_file) (rec_at m.records format.relationships_file id) id edge.made.below
+      ∙ ap (λ r. field 1 r format.kind) edge.made.here ∙ edge.kind
 
   related_old : (a : Head) (x : ℕ) → At a x → kind_at m.records format.relationships_file x ≡ format.related
   related_old a x p = ch.kind_other s m.records format.relationships_file id edge.made.change x (not_id x p.row p.live)
@@ -122,7 +127,8 @@ module _ (s : Records) (m : State) (shape : Shape) (id : ℕ) (rec : Rec) (row :
   first_link_of : (a : Head) (n : ℕ) → Own a n → IsFirstLink m.records a
   first_link_of a n o = ⊎_elim
       (λ z. inl (ec.kind_beside s m.records id edge.made.change format.nodes_file a.key.id refl (λ q. omega arith) ∙ z.0, z.1))
-      (λ z. inr (ap is_group_kind (ec.kind_beside s m.records id edge.made.change format.groups_file a.key.id refl (λ q. omega arith)) ∙ z.0, z.1, z.2)) (owned_link s shape well.ranges a n o)
+      (λ z. inr (ap is_group_kind (ec.kind_beside s m.records id edge.made.change format.groups_file a.key.id refl (λ q. omega arith)) ∙ z.0, z.1, z.2))
+      (owned_link s shape well.ranges a n o)
 
   used_of : (a : Head) (n : ℕ) → Own a n → kind_at s format.nodes_file n ≢ format.free_kind
   used_of = owner_used (kind_at s format.nodes_file) (group_at s)
@@ -157,17 +163,20 @@ module _ (s : Records) (m : State) (shape : Shape) (id : ℕ) (rec : Rec) (row :
 
   one_listed : AllListed one.records Own (with_one At h id)
   unfolding one
-  one_listed = joined_listed m (kind_at s format.nodes_file) (group_at s) At listed_made h row.from id d edge.source.owns edge.small (λ p. not_id id p.row p.live refl) (alone_made row.from)
+  one_listed = joined_listed m (kind_at s format.nodes_file) (group_at s) At listed_made h row.from id d edge.source.owns edge.small
+      (λ p. not_id id p.row p.live refl) (alone_made row.from)
       (λ a n x o ne p b. ⊎_elim (λ there. meet a h n row.from x o edge.source.owns ne p there) (λ q. absurd (not_id x p.row p.live q)) b)
 
   one_links : IsRelinked m.records one.records
   unfolding one
-  one_links = links_joined m h row.from id (first_link_of h row.from edge.source.owns) (heads.place h row.from edge.source.owns) (node_of h row.from edge.source.owns) related_made d d_small
+  one_links = links_joined m h row.from id (first_link_of h row.from edge.source.owns) (heads.place h row.from edge.source.owns)
+      (node_of h row.from edge.source.owns) related_made d d_small
       (first_used m (kind_at s format.nodes_file) (group_at s) At listed_made h row.from id d edge.source.owns (λ x p. related_old h x p))
 
   one_alone : (n : ℕ) → prev_of one.records n id ≡ format.nil
   unfolding one
-  one_alone n = prev_joined m (kind_at s format.nodes_file) (group_at s) At listed_made h row.from id d edge.source.owns edge.small (λ p. not_id id p.row p.live refl) n ∙ alone_made n
+  one_alone n = prev_joined m (kind_at s format.nodes_file) (group_at s) At listed_made h row.from id d edge.source.owns edge.small
+      (λ p. not_id id p.row p.live refl) n ∙ alone_made n
 
   -- ---- at the target
   two : State
@@ -177,7 +186,8 @@ module _ (s : Records) (m : State) (shape : Shape) (id : ℕ) (rec : Rec) (row :
   new_differ ne = rw edge.made.here (ends_differ rec row.to row.from (inr (ap (λ (r : RelRow). r.to) edge.is)) (inl (ap (λ (r : RelRow). r.from) edge.is)) (λ q. ne (sym q)))
 
   one_related : (x : ℕ) → with_one At h id k x → kind_at one.records format.relationships_file x ≡ format.related
-  one_related x p = re.kind_stays m.records one.records one_links format.relationships_file x ∙ ⊎_elim (λ z. related_old k x z) (λ z. ap (kind_at m.records format.relationships_file) z.1 ∙ related_made) p
+  one_related x p = re.kind_stays m.records one.records one_links format.relationships_file x
+      ∙ ⊎_elim (λ z. related_old k x z) (λ z. ap (kind_at m.records format.relationships_file) z.1 ∙ related_made) p
 
   -- the heads of two nodes are two
   heads_apart : row.from ≢ row.to → k ≢ h
@@ -198,7 +208,8 @@ module _ (s : Records) (m : State) (shape : Shape) (id : ℕ) (rec : Rec) (row :
   unfolding two
   two_links differ = relinked_both m.records one.records two.records one_links (links_joined one k row.to id
       (first_stays m.records one.records one_links k (first_link_of k row.to edge.target.owns)) (heads.place k row.to edge.target.owns)
-      (node_stays m.records one.records one_links row.to (node_of k row.to edge.target.owns)) (re.kind_stays m.records one.records one_links format.relationships_file id ∙ related_made) e e_small
+      (node_stays m.records one.records one_links row.to (node_of k row.to edge.target.owns))
+      (re.kind_stays m.records one.records one_links format.relationships_file id ∙ related_made) e e_small
       (first_used one (kind_at s format.nodes_file) (group_at s) (with_one At h id) one_listed k row.to id e edge.target.owns one_related))
 
   -- it stands at its two heads alone
@@ -219,7 +230,8 @@ module _ (s : Records) (m : State) (shape : Shape) (id : ℕ) (rec : Rec) (row :
 
   first_low : (a : Head) (n : ℕ) → Own a n → (8 ≤ a.field) × (a.field + 4 ≤ 32)
   first_low a n (inl o) = let q = ap (λ (z : Head). z.field) o.is in (omega arith, omega arith)
-  first_low a n (inr o) = ⊎_elim (λ (q : a.field ≡ 20). (omega arith, omega arith)) (λ z. ⊎_elim (λ (q : a.field ≡ 24). (omega arith, omega arith)) (λ (q : a.field ≡ 28). (omega arith, omega arith)) z) o.field
+  first_low a n (inr o) = ⊎_elim (λ (q : a.field ≡ 20). (omega arith, omega arith))
+      (λ z. ⊎_elim (λ (q : a.field ≡ 24). (omega arith, omega arith)) (λ (q : a.field ≡ 28). (omega arith, omega arith)) z) o.field
 
   module _ (g : ℕ) (group : GroupRow) (is : group_at s g ≡ Some group) (counted : kind_at s format.groups_file g ≡ format.counted) where
     group_made : rec_at m.records format.groups_file g ≡ rec_at s format.groups_file g
@@ -229,7 +241,8 @@ module _ (s : Records) (m : State) (shape : Shape) (id : ℕ) (rec : Rec) (row :
     byte_s = sym (kind_low (high s format.groups_file) (rec_at s format.groups_file g) g (kind_below (high s format.groups_file) (rec_at s format.groups_file g) g (λ q. let z = sym q ∙ counted in omega arith))) ∙ counted
 
     -- at one head, after a state in which the group is as it was
-    step : (p : State) (a : Head) (n : ℕ) → IsEndHead s a n row → rec_at p.records format.groups_file g ≡ rec_at s format.groups_file g → group.owner ≡ n → (f : ℕ)
+    step : (p : State) (a : Head) (n : ℕ) → IsEndHead s a n row → rec_at p.records format.groups_file g ≡ rec_at s format.groups_file g → group.owner ≡ n
+        → (f : ℕ)
         → HasOneMore (rec_at s format.groups_file g) (rec_at (joined p a n id f).records format.groups_file g) group row
     unfolding joined
     step p a n end same own f =
@@ -241,34 +254,40 @@ module _ (s : Records) (m : State) (shape : Shape) (id : ℕ) (rec : Rec) (row :
         (λ at w. number_pushed p a n id (key_in format.groups_file g) 4 at (λ q. let z : 3 ≡ 2 = q in omega arith) (let b = w.1 in omega arith) (λ _. inr (let b = w.0 in let c = low.1 in omega arith)) ∙ ap (λ r. field 4 r at) same)
         (number_pushed p a n id (key_in format.groups_file g) 1 format.kind (λ q. let z : 3 ≡ 2 = q in omega arith) (omega arith) (λ _. inl (let c = low.0 in omega arith)) ∙ ap (λ r. field 1 r format.kind) same ∙ byte_s) own)
 
-    away : (p : State) (a : Head) (n f : ℕ) → Own a n → group.owner ≢ n → rec_at (joined p a n id f).records format.groups_file g ≡ rec_at p.records format.groups_file g
-    away p a n f o ne = record_joined p a n id f (key_in format.groups_file g) (λ q. let z : 3 ≡ 2 = q in omega arith) (apart_key a n g group o is ne) (λ q. let w = ap (λ (z : Key). z.file) q in omega arith)
+    away : (p : State) (a : Head) (n f : ℕ) → Own a n → group.owner ≢ n
+        → rec_at (joined p a n id f).records format.groups_file g ≡ rec_at p.records format.groups_file g
+    away p a n f o ne = record_joined p a n id f (key_in format.groups_file g) (λ q. let z : 3 ≡ 2 = q in omega arith) (apart_key a n g group o is ne)
+        (λ q. let w = ap (λ (z : Key). z.file) q in omega arith)
 
     loop_counts : row.from ≡ row.to → HasOneMore (rec_at s format.groups_file g) (rec_at one.records format.groups_file g) group row
     unfolding one
     loop_counts loop = ⊎_elim (λ (own : group.owner ≡ row.from). step m h row.from edge.source group_made own d)
         (λ (ne : group.owner ≢ row.from).
         let same = away m h row.from d edge.source.owns ne ∙ group_made in
-        counts_away (rec_at s format.groups_file g) (rec_at (joined m h row.from id d).records format.groups_file g) group row (λ at w. ap (λ r. field 4 r at) same)
+        counts_away (rec_at s format.groups_file g) (rec_at (joined m h row.from id d).records format.groups_file g) group row
+        (λ at w. ap (λ r. field 4 r at) same)
         (λ end. ⊎_elim (λ q. ne (sym q)) (λ q. ne (sym q ∙ sym loop)) end)) (nat_cases group.owner row.from)
 
     pair_counts : row.from ≢ row.to → HasOneMore (rec_at s format.groups_file g) (rec_at two.records format.groups_file g) group row
     unfolding two one
     pair_counts differ = ⊎_elim
         (λ (own : group.owner ≡ row.from).
-        subst (λ (r : Rec). HasOneMore (rec_at s format.groups_file g) r group row) (sym (away (joined m h row.from id d) k row.to e edge.target.owns (λ q. differ (sym own ∙ q)))) (step m h row.from edge.source group_made own d))
+        subst (λ (r : Rec). HasOneMore (rec_at s format.groups_file g) r group row)
+        (sym (away (joined m h row.from id d) k row.to e edge.target.owns (λ q. differ (sym own ∙ q)))) (step m h row.from edge.source group_made own d))
         (λ (ne : group.owner ≢ row.from).
         let one_same = away m h row.from d edge.source.owns ne ∙ group_made in
         ⊎_elim (λ (own : group.owner ≡ row.to). step (joined m h row.from id d) k row.to edge.target one_same own e)
         (λ (no : group.owner ≢ row.to).
         let same = away (joined m h row.from id d) k row.to e edge.target.owns no ∙ one_same in
-        counts_away (rec_at s format.groups_file g) (rec_at (joined (joined m h row.from id d) k row.to id e).records format.groups_file g) group row (λ at w. ap (λ r. field 4 r at) same)
+        counts_away (rec_at s format.groups_file g) (rec_at (joined (joined m h row.from id d) k row.to id e).records format.groups_file g) group row
+        (λ at w. ap (λ r. field 4 r at) same)
         (λ end. ⊎_elim (λ q. ne (sym q)) (λ q. no (sym q)) end)) (nat_cases group.owner row.to)) (nat_cases group.owner row.from)
 
   -- ---- what stands at each head, in the words of the new store
   module _ (t : Records) (links : IsRelinked m.records t) where
     pub at_new : rel_at t id ≡ Some row
-    at_new = ec.rels_relinked m.records t links id ∙ made_row s m.records shape id rec edge.made (λ q. let z = edge.kind in omega arith) ∙ ap (λ r. Some r) edge.is
+    at_new = ec.rels_relinked m.records t links id ∙ made_row s m.records shape id rec edge.made (λ q. let z = edge.kind in omega arith)
+        ∙ ap (λ r. Some r) edge.is
 
     at_other : (x : ℕ) → x ≢ id → rel_at t x ≡ rel_at s x
     at_other x ne = ec.rels_relinked m.records t links x ∙ ec.rels_changed s m.records id edge.made.change x ne
@@ -350,7 +369,8 @@ module _ (s : Records) (m : State) (shape : Shape) (id : ℕ) (rec : Rec) (row :
   -- the relationship as the rules ask of one that was made
   pub edge_joined : IsEdgeMade s m.records (both_joined m h k row.from row.to id d e).records shape id rec row most empty
   unfolding one two
-  edge_joined = on_test (λ (u : State). IsEdgeMade s m.records u.records shape id rec row most empty) row.from row.to (joined m h row.from id d) (joined (joined m h row.from id d) k row.to id e) loop_made pair_made
+  edge_joined = on_test (λ (u : State). IsEdgeMade s m.records u.records shape id rec row most empty) row.from row.to (joined m h row.from id d)
+      (joined (joined m h row.from id d) k row.to id e) loop_made pair_made
 
   -- ---- what is first
   head_aside : (a : Head) (n : ℕ) → Own a n → a.key ≡ key_in format.nodes_file n → a.field + 4 ≤ format.node_degree
@@ -358,7 +378,8 @@ module _ (s : Records) (m : State) (shape : Shape) (id : ℕ) (rec : Rec) (row :
   head_aside a n (inr o) e = let f = ap (λ (z : Key). z.file) (sym o.key ∙ e) in absurd (omega arith)
 
   -- the record of a head of one node is none that a step at another node's head sets
-  head_apart : (a b : Head) (n j : ℕ) → Own a n → Own b j → n ≢ j → (a.key.file ≢ format.relationships_file) × (a.key ≢ b.key) × (a.key ≢ key_in format.nodes_file j)
+  head_apart : (a b : Head) (n j : ℕ) → Own a n → Own b j → n ≢ j → (a.key.file ≢ format.relationships_file) × (a.key ≢ b.key)
+      × (a.key ≢ key_in format.nodes_file j)
   head_apart a b n j (inl o) q ne =
       let is = ap (λ (z : Head). z.key) o.is in (
         (λ e. let f = sym (ap (λ (z : Key). z.file) is) ∙ e in absurd (omega arith)),
@@ -373,11 +394,13 @@ module _ (s : Records) (m : State) (shape : Shape) (id : ℕ) (rec : Rec) (row :
 
   one_first : first_of one.records h ≡ id
   unfolding one
-  one_first = let low = first_low h row.from edge.source.owns in first_joined m h row.from id d (omega arith) (head_aside h row.from edge.source.owns) (let b = edge.small in omega arith)
+  one_first = let low = first_low h row.from edge.source.owns in first_joined m h row.from id d (omega arith) (head_aside h row.from edge.source.owns)
+      (let b = edge.small in omega arith)
 
   two_first : first_of two.records k ≡ id
   unfolding two
-  two_first = let low = first_low k row.to edge.target.owns in first_joined one k row.to id e (omega arith) (head_aside k row.to edge.target.owns) (let b = edge.small in omega arith)
+  two_first = let low = first_low k row.to edge.target.owns in first_joined one k row.to id e (omega arith) (head_aside k row.to edge.target.owns)
+      (let b = edge.small in omega arith)
 
   -- the other end's head is left
   one_then : row.from ≢ row.to → first_of two.records h ≡ id
@@ -388,7 +411,8 @@ module _ (s : Records) (m : State) (shape : Shape) (id : ℕ) (rec : Rec) (row :
 
   pub first_source : first_of (both_joined m h k row.from row.to id d e).records h ≡ id
   unfolding one two
-  first_source = on_test (λ (u : State). first_of u.records h ≡ id) row.from row.to (joined m h row.from id d) (joined (joined m h row.from id d) k row.to id e) (λ _. one_first) one_then
+  first_source = on_test (λ (u : State). first_of u.records h ≡ id) row.from row.to (joined m h row.from id d) (joined (joined m h row.from id d) k row.to id e)
+      (λ _. one_first) one_then
 
   pub first_target : first_of (both_joined m h k row.from row.to id d e).records k ≡ id
   unfolding one two
@@ -396,11 +420,14 @@ module _ (s : Records) (m : State) (shape : Shape) (id : ℕ) (rec : Rec) (row :
       (λ loop. ap (first_of (joined m h row.from id d).records) (loop_head loop) ∙ one_first) (λ _. two_first)
 
   -- and of a loop the links of the target
-  pub loop_target : row.from ≡ row.to → (at : ℕ) → 24 ≤ at → at + 4 ≤ 64 → field 4 (rec_at (both_joined m h k row.from row.to id d e).records format.relationships_file id) at ≡ field 4 rec at
+  pub loop_target : row.from ≡ row.to → (at : ℕ) → 24 ≤ at → at + 4 ≤ 64
+      → field 4 (rec_at (both_joined m h k row.from row.to id d e).records format.relationships_file id) at ≡ field 4 rec at
   loop_target loop at high inside =
-      let source : field 4 (rec_at m.records format.relationships_file id) format.relationship_source ≡ row.from = ap (λ r. field 4 r format.relationship_source) edge.made.here ∙ ap (λ (r : RelRow). r.from) edge.is in
+      let source : field 4 (rec_at m.records format.relationships_file id) format.relationship_source ≡ row.from =
+      ap (λ r. field 4 r format.relationship_source) edge.made.here ∙ ap (λ (r : RelRow). r.from) edge.is in
       let file : h.key.file ≢ format.relationships_file = no_rel h row.from edge.source.owns in
-      on_test (λ (u : State). field 4 (rec_at u.records format.relationships_file id) at ≡ field 4 rec at) row.from row.to (joined m h row.from id d) (joined (joined m h row.from id d) k row.to id e)
+      on_test (λ (u : State). field 4 (rec_at u.records format.relationships_file id) at ≡ field 4 rec at) row.from row.to (joined m h row.from id d)
+      (joined (joined m h row.from id d) k row.to id e)
       (λ _. target_joined m h row.from id d at high inside file source ∙ ap (λ r. field 4 r at) edge.made.here) (λ differ. absurd (differ loop))
     where
       no_rel : (a : Head) (n : ℕ) → Own a n → a.key.file ≢ format.relationships_file
@@ -409,7 +436,8 @@ module _ (s : Records) (m : State) (shape : Shape) (id : ℕ) (rec : Rec) (row :
 
   -- ---- the links that are read
   made_range : AreInRange m.records shape
-  made_range = ch.in_range s m.records format.relationships_file id edge.made.change shape edge.made.meta (λ _. subst (Fits (high m.records) format.relationships_file) (sym edge.made.here) edge.fits) well.ranges
+  made_range = ch.in_range s m.records format.relationships_file id edge.made.change shape edge.made.meta
+      (λ _. subst (Fits (high m.records) format.relationships_file) (sym edge.made.here) edge.fits) well.ranges
 
   pub made_right : m.shape ≡ shape → IsRightLink m (first_of m.records h)
   made_right same = record {

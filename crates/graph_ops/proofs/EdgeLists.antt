@@ -26,7 +26,8 @@ use Rattle.group_store.proofs.Tallies.{field-tallied, file-tallied}
 use Rattle.graph_ops.proofs.EdgeSteps.{IsUsedLink}
 
 -- the number of a head's relationships is no link
-listed_tallied : (change : ℕ → ℕ) (one : State) (kind : ℕ → ℕ) (groups : ℕ → Option GroupRow) (head : Head) (at : Head → ℕ → Type 0) → AllListed one.records (Owns kind groups) at → AllListed (tallied change one head).records (Owns kind groups) at
+listed_tallied : (change : ℕ → ℕ) (one : State) (kind : ℕ → ℕ) (groups : ℕ → Option GroupRow) (head : Head) (at : Head → ℕ → Type 0)
+    → AllListed one.records (Owns kind groups) at → AllListed (tallied change one head).records (Owns kind groups) at
 listed_tallied change one kind groups head at all = all_listed_stays one.records (tallied change one head).records (Owns kind groups) at
     (λ h n x o a. ap (λ r. next_in r n) (rel x)) (λ h n x o a. ap (λ r. prev_in r n) (rel x))
     (λ h n o. field-tallied change one head h.key 4 h.field (low h n o)) all
@@ -47,7 +48,8 @@ module _ (one : Records) (kind : ℕ → ℕ) (groups : ℕ → Option GroupRow)
   after = put one (key_in format.nodes_file node) (with_field 4 (one (key_in format.nodes_file node)) format.node_degree d)
 
   degree_rel : (x : ℕ) → rec_at after format.relationships_file x ≡ rec_at one format.relationships_file x
-  degree_rel x = put_other one (key_in format.nodes_file node) (with_field 4 (one (key_in format.nodes_file node)) format.node_degree d) (key_in format.relationships_file x) (λ e. let f = ap (λ (k : Key). k.file) e in omega arith)
+  degree_rel x = put_other one (key_in format.nodes_file node) (with_field 4 (one (key_in format.nodes_file node)) format.node_degree d)
+      (key_in format.relationships_file x) (λ e. let f = ap (λ (k : Key). k.file) e in omega arith)
 
   degree_head : (h : Head) (n : ℕ) → Owns kind groups h n → first_of after h ≡ first_of one h
   degree_head h n o = let p = (owned_heads kind groups).place h n o in field-set_other one place d h.key 4 h.field p.fits (aside o)
@@ -57,7 +59,8 @@ module _ (one : Records) (kind : ℕ → ℕ) (groups : ℕ → Option GroupRow)
       aside (inr p) e = absurd (let q = ap (λ (k : Key). k.file) (sym p.key ∙ e) in omega arith)
 
   listed_degree : (at : Head → ℕ → Type 0) → AllListed one (Owns kind groups) at → AllListed after (Owns kind groups) at
-  listed_degree at all = all_listed_stays one after (Owns kind groups) at (λ h n x o a. ap (λ r. next_in r n) (degree_rel x)) (λ h n x o a. ap (λ r. prev_in r n) (degree_rel x)) degree_head all
+  listed_degree at all = all_listed_stays one after (Owns kind groups) at (λ h n x o a. ap (λ r. next_in r n) (degree_rel x))
+      (λ h n x o a. ap (λ r. prev_in r n) (degree_rel x)) degree_head all
 
 module _ (s : State) (kind : ℕ → ℕ) (groups : ℕ → Option GroupRow) (at : Head → ℕ → Type 0) (all : AllListed s.records (Owns kind groups) at)
     (head : Head) (node rel d : ℕ) (owned : Owns kind groups head node) where
@@ -69,11 +72,13 @@ module _ (s : State) (kind : ℕ → ℕ) (groups : ℕ → Option GroupRow) (at
   first_used used = ⊎_elim (λ e. inl e) (λ i. inr (used (first_of s.records head) (here.only (first_of s.records head) i)))
       (first_in (next_of s.records node) (first_of s.records head) here.members (walk_of_chain _ _ format.nil (first_of s.records head) here.members here.chain))
 
-  pub next_used : at head rel → ((x : ℕ) → at head x → kind_at s.records format.relationships_file x ≡ format.related) → IsUsedLink s.records (next_of s.records node rel)
+  pub next_used : at head rel → ((x : ℕ) → at head x → kind_at s.records format.relationships_file x ≡ format.related)
+      → IsUsedLink s.records (next_of s.records node rel)
   next_used member used = ⊎_elim (λ e. inl e) (λ i. inr (used (next_of s.records node rel) (here.only (next_of s.records node rel) i)))
       (after_in (next_of s.records node) (first_of s.records head) here.members rel (walk_of_chain _ _ format.nil (first_of s.records head) here.members here.chain) (here.all rel member))
 
-  pub prev_used : at head rel → ((x : ℕ) → at head x → kind_at s.records format.relationships_file x ≡ format.related) → IsUsedLink s.records (prev_of s.records node rel)
+  pub prev_used : at head rel → ((x : ℕ) → at head x → kind_at s.records format.relationships_file x ≡ format.related)
+      → IsUsedLink s.records (prev_of s.records node rel)
   prev_used member used = ⊎_elim
       (λ (e : first_of s.records head ≡ rel). inl (first_before (next_of s.records node) (prev_of s.records node) format.nil (first_of s.records head) here.members rel here.chain (here.all rel member) e))
       (λ i. inr (used (prev_of s.records node rel) (here.only (prev_of s.records node rel) i)))

@@ -33,7 +33,8 @@ module _ (s t : State) (m : ℕ) (change : Regroups s t m) (h : Head) (n : ℕ) 
     field = o.field;
   })
 
-  on_stays : (row : RelRow) → Owns (kind_at s.records format.nodes_file) (group_at s.records) h n → IsOn (group_at s.records) h row → IsOn (group_at t.records) h row
+  on_stays : (row : RelRow) → Owns (kind_at s.records format.nodes_file) (group_at s.records) h n → IsOn (group_at s.records) h row
+      → IsOn (group_at t.records) h row
   on_stays row o (inl b) = inl b
   on_stays row (inl o) (inr b) = absurd (let f = b.0 in let k = ap (λ (z : Head). z.key.file) o.is in omega arith)
   on_stays row (inr o) (inr b) =
@@ -67,7 +68,8 @@ pub graph_twice : (s t u : State) → KeepsGraph s t → KeepsGraph t u → Keep
 graph_twice s t u a b = record { shape = b.shape ∙ a.shape; graph = b.graph ∙ a.graph; indexes = λ are. b.indexes (a.indexes are); metas = λ file ne. b.metas file ne ∙ a.metas file ne }
 
 -- an edge that is put then was put into the store before
-pub puts_through : (s t u : State) (names : List (List ℕ)) (from : ℕ) (label : List ℕ) (to id : ℕ) → KeepsGraph s t → PutsEdge t u names from label to id → PutsEdge s u names from label to id
+pub puts_through : (s t u : State) (names : List (List ℕ)) (from : ℕ) (label : List ℕ) (to id : ℕ) → KeepsGraph s t → PutsEdge t u names from label to id
+    → PutsEdge s u names from label to id
 puts_through s t u names from label to id keeps puts = record {
   store = puts.store;
   keeps = λ are. puts.keeps (keeps.indexes are);
@@ -77,7 +79,8 @@ puts_through s t u names from label to id keeps puts = record {
   below = subst (λ (h : Shape). id < h.limit) keeps.shape puts.below;
   fresh = ap (λ g. has_edge g id) (sym keeps.graph) ∙ puts.fresh;
   nodes = puts.nodes ∙ ap (λ (g : Graph). g.nodes) keeps.graph;
-  edges = puts.edges ∙ ap (λ (g : Graph). with_row edge_number (record { id = id; label = label; from = from; to = to; properties = no_properties }) g.edges) keeps.graph;
+  edges = puts.edges ∙ ap (λ (g : Graph). with_row edge_number (record { id = id; label = label; from = from; to = to; properties = no_properties }) g.edges)
+      keeps.graph;
   first = puts.first;
   metas = λ file a b. puts.metas file a b ∙ keeps.metas file b;
 }
@@ -113,7 +116,8 @@ module _ (s : State) (names : List (List ℕ)) (label : ℕ) (source target : Ed
         record {
           head = end_stays t u target.node b (head_of source.head) source.node differ (row id) (first id).stands;
           degree = b.degrees source.node ∙ a.degrees source.node ∙ leaves;
-          few = λ sparse. subst (λ (h : Shape). source.degree < h.threshold) (sym b.shape) (subst (λ n. n < t.shape.threshold) (a.degrees source.node ∙ leaves) ((first id).few (sym (b.kinds source.node differ) ∙ sparse)));
+          few = λ sparse. subst (λ (h : Shape). source.degree < h.threshold) (sym b.shape)
+              (subst (λ n. n < t.shape.threshold) (a.degrees source.node ∙ leaves) ((first id).few (sym (b.kinds source.node differ) ∙ sparse)));
           counted = counted_stays t u target.node (second id).group_kinds (head_of source.head) source.node differ (first id).stands.owns (first id).counted;
         }
 

@@ -45,7 +45,8 @@ one_group h = by (nat_eq h.key.file format.groups_file)
 abbrev pub joint_of : Joint → Ends EndDegree → Joint
 joint_of joint ends = record { label = joint.label; threshold = joint.threshold; ends = ends }
 
-pub can_link : (s : State) (names : List (List ℕ)) (joint : Joint) (ends : Ends EndDegree) → joint.ends ≡ ends → CanLink s names joint → CanLink s names (joint_of joint ends)
+pub can_link : (s : State) (names : List (List ℕ)) (joint : Joint) (ends : Ends EndDegree) → joint.ends ≡ ends → CanLink s names joint
+    → CanLink s names (joint_of joint ends)
 can_link s names joint ends is can = record { limit = can.limit; store = can.store; named = can.named; degrees = subst (AtEach (HasEndDegree s.records)) is can.degrees }
 
 -- on which side of a node an edge is that leads to itself, or to another
@@ -134,8 +135,10 @@ module _ (s : State) (names : List (List ℕ)) (joint : Joint) (can : CanLink s 
           let one = one_group (head_of head) in
           omega (arith, room)
 
-      pub both_opened : (u : State) (other : ChainHead) → ((id : ℕ) → OpensChain t u (head_of other) to (row id) made) → OpensEnds s u names joint.label (Two (end_of from head from_degree) (end_of to other to_degree))
+      pub both_opened : (u : State) (other : ChainHead) → ((id : ℕ) → OpensChain t u (head_of other) to (row id) made)
+          → OpensEnds s u names joint.label (Two (end_of from head from_degree) (end_of to other to_degree))
       both_opened u other second = record {
         keeps = graph_twice s t u (keeps_graph s t from (first 0).regroups) (keeps_graph t u to (second 0).regroups);
-        can = opened_both s names joint.label (end_of from head from_degree) (end_of to other to_degree) can.store.names leaves_is enters_is t u differ first second;
+        can = opened_both s names joint.label (end_of from head from_degree) (end_of to other to_degree) can.store.names leaves_is enters_is t u differ first
+            second;
       }

@@ -1,5 +1,6 @@
 -- A relationship that left the chains of its ends, as the rules ask of one that goes.
-use Rattle.std.proofs.Common.{◌≡◌, ◌≢◌, ◌⊎◌, ℕ, ◌+◌, ◌-◌, ◌<◌, ◌^◌, nat_eq, true, not, ◌&&◌, cond, None, Some, List, [], ◌++◌, sym, ap, ◌∙◌, subst, inl, inr, ⊎_elim, arith, refl, ◌≤◌}
+use Rattle.std.proofs.Common.{◌≡◌, ◌≢◌, ◌⊎◌, ℕ, ◌+◌, ◌-◌, ◌<◌, ◌^◌, nat_eq, true, not, ◌&&◌, cond, None, Some, List, []}
+use Rattle.std.proofs.Common.{◌++◌, sym, ap, ◌∙◌, subst, inl, inr, ⊎_elim, arith, refl, ◌≤◌}
 use Rattle.rec_bytes.specs.declared.key.Key.{Key}
 use Rattle.rec_bytes.specs.declared.shape.Shape.{Shape}
 use Rattle.rec_bytes.specs.Format as format
@@ -49,7 +50,8 @@ some_same a b q = cc
 
 -- a relationship that was taken out of the chains of its ends, by their numbers
 abbrev pub both_parted : State → Head → Head → ℕ → ℕ → ℕ → ℕ → ℕ → State
-both_parted s h k from to rel from_degree to_degree = cond (nat_eq from to) (parted s h from rel from_degree) (parted (parted s h from rel from_degree) k to rel to_degree)
+both_parted s h k from to rel from_degree to_degree = cond (nat_eq from to) (parted s h from rel from_degree)
+    (parted (parted s h from rel from_degree) k to rel to_degree)
 
 -- and the groups of their heads
 abbrev pub both_groups : Head → Head → ℕ → ℕ → List ℕ
@@ -80,7 +82,8 @@ module _ (s : State) (shape : Shape) (id : ℕ) (row : RelRow) (h k : Head) (edg
 
   meet : (a b : Head) (n m x : ℕ) → Own a n → Own b m → a ≢ b → At a x → At b x → Differ s.records m n x
   meet a b n m x o q ne p there =
-      heads_differ s.records [] store.grouped b a m n p.row (rec_at s.records format.relationships_file x) q o (λ z. ne (sym z)) (on_same b x p.row p.live there) p.on
+      heads_differ s.records [] store.grouped b a m n p.row (rec_at s.records format.relationships_file x) q o (λ z. ne (sym z))
+      (on_same b x p.row p.live there) p.on
       (λ end. end_in s.records x m p.row p.live end) (λ end. end_in s.records x n p.row p.live end)
 
   row_is : (kind_at s.records format.relationships_file id ≢ 0) × (rel_in (rec_at s.records format.relationships_file id) id ≡ row)
@@ -133,7 +136,8 @@ module _ (s : State) (shape : Shape) (id : ℕ) (row : RelRow) (h k : Head) (edg
 
   one_links : IsRelinked s.records one.records
   unfolding one
-  one_links = links_parted s h row.from id (owned_link s.records shape store.ranges h row.from edge.source.owns) place_at_source node_at_source related d d_small
+  one_links = links_parted s h row.from id (owned_link s.records shape store.ranges h row.from edge.source.owns) place_at_source node_at_source related d
+      d_small
       (prev_used s (kind_at s.records format.nodes_file) (group_at s.records) At store.linked.listed h row.from id d edge.source.owns at_source (λ x p. related_at h x p))
       (next_used s (kind_at s.records format.nodes_file) (group_at s.records) At store.linked.listed h row.from id d edge.source.owns at_source (λ x p. related_at h x p))
 
@@ -149,14 +153,16 @@ module _ (s : State) (shape : Shape) (id : ℕ) (row : RelRow) (h k : Head) (edg
 
   two_listed : row.from ≢ row.to → AllListed two.records Own (without_one (without_one At h id) k id)
   unfolding two
-  two_listed differ = parted_listed one (kind_at s.records format.nodes_file) (group_at s.records) (without_one At h id) one_listed k row.to id e edge.target.owns (still differ)
+  two_listed differ = parted_listed one (kind_at s.records format.nodes_file) (group_at s.records) (without_one At h id) one_listed k row.to id e
+      edge.target.owns (still differ)
       (λ a n x o ne p there. differ_stays s.records one.records one_links row.to n x (meet a k n row.to x o edge.target.owns ne p.0 there.0))
 
   two_links : row.from ≢ row.to → IsRelinked s.records two.records
   unfolding two
   two_links differ = relinked_both s.records one.records two.records one_links (links_parted one k row.to id
       (first_stays s.records one.records one_links k (owned_link s.records shape store.ranges k row.to edge.target.owns)) place_at_target
-      (node_stays s.records one.records one_links row.to node_at_target) (re.kind_stays s.records one.records one_links format.relationships_file id ∙ related) e e_small
+      (node_stays s.records one.records one_links row.to node_at_target) (re.kind_stays s.records one.records one_links format.relationships_file id ∙ related)
+      e e_small
       (prev_used one (kind_at s.records format.nodes_file) (group_at s.records) (without_one At h id) one_listed k row.to id e edge.target.owns (still differ) one_related)
       (next_used one (kind_at s.records format.nodes_file) (group_at s.records) (without_one At h id) one_listed k row.to id e edge.target.owns (still differ) one_related))
 
@@ -168,7 +174,8 @@ module _ (s : State) (shape : Shape) (id : ℕ) (row : RelRow) (h k : Head) (edg
       (end_on (kind_at s.records format.nodes_file) (group_at s.records) a n row o on)
 
   loop_head : row.from ≡ row.to → k ≡ h
-  loop_head loop = only_head s.records [] store.grouped k h row.from row (subst (Own k) (sym loop) edge.target.owns) edge.source.owns edge.target.on edge.source.on
+  loop_head loop = only_head s.records [] store.grouped k h row.from row (subst (Own k) (sym loop) edge.target.owns) edge.source.owns edge.target.on
+      edge.source.on
 
   ends_of : (a : Head) (n x : ℕ) → Own a n → x ≡ id → At a x → (a ≡ h) ⊎ (a ≡ k)
   ends_of a n x o q p = heads_of a n o (on_same a x row (ap (rel_at s.records) q ∙ edge.live) p)
@@ -179,13 +186,16 @@ module _ (s : State) (shape : Shape) (id : ℕ) (row : RelRow) (h k : Head) (edg
 
   pair_listed : row.from ≢ row.to → AllListed two.records Own (But At id)
   pair_listed differ = all_listed_same two.records Own (without_one (without_one At h id) k id) Own (But At id) (λ a n o. o)
-      (λ a n x o p. (p.0.0, λ q. ⊎_elim (λ z. p.0.1 z q) (λ z. p.1 z q) (ends_of a n x o q p.0.0))) (λ a n x o p. ((p.0, λ _. p.1), λ _. p.1)) (two_listed differ)
+      (λ a n x o p. (p.0.0, λ q. ⊎_elim (λ z. p.0.1 z q) (λ z. p.1 z q) (ends_of a n x o q p.0.0))) (λ a n x o p. ((p.0, λ _. p.1), λ _. p.1))
+      (two_listed differ)
 
   -- ---- degrees
   some_degree : (n : ℕ) → IsNode s.records n → is_at n row ≡ true → (degree s.records n - 1) + 1 ≡ degree s.records n
   some_degree n used end =
-      let more = ids_with (λ x. not (nat_eq x id) && stands_in n (rel_at s.records x)) (λ x. stands_in n (rel_at s.records x)) (high s.records format.relationships_file) (high s.records format.relationships_file) id
-      (rw (eq_true id id refl) refl) (ap (stands_in n) edge.live ∙ end) (λ x ne. rw (eq_false x id ne) refl) (kind_below (high s.records format.relationships_file) (rec_at s.records format.relationships_file id) id row_is.0) (inl refl) in
+      let more = ids_with (λ x. not (nat_eq x id) && stands_in n (rel_at s.records x)) (λ x. stands_in n (rel_at s.records x))
+      (high s.records format.relationships_file) (high s.records format.relationships_file) id
+      (rw (eq_true id id refl) refl) (ap (stands_in n) edge.live ∙ end) (λ x ne. rw (eq_false x id ne) refl)
+      (kind_below (high s.records format.relationships_file) (rec_at s.records format.relationships_file id) id row_is.0) (inl refl) in
       let deg = store.degrees.each n (λ z. ⊎_elim (λ q. let w = sym z ∙ q in omega arith) (λ q. let w = sym z ∙ q in omega arith) used) in
       omega arith
 
@@ -218,13 +228,15 @@ module _ (s : State) (shape : Shape) (id : ℕ) (row : RelRow) (h k : Head) (edg
 
   first_low : (a : Head) (n : ℕ) → Own a n → (8 ≤ a.field) × (a.field + 4 ≤ 32)
   first_low a n (inl o) = let q = ap (λ (z : Head). z.field) o.is in (omega arith, omega arith)
-  first_low a n (inr o) = ⊎_elim (λ (q : a.field ≡ 20). (omega arith, omega arith)) (λ z. ⊎_elim (λ (q : a.field ≡ 24). (omega arith, omega arith)) (λ (q : a.field ≡ 28). (omega arith, omega arith)) z) o.field
+  first_low a n (inr o) = ⊎_elim (λ (q : a.field ≡ 20). (omega arith, omega arith))
+      (λ z. ⊎_elim (λ (q : a.field ≡ 24). (omega arith, omega arith)) (λ (q : a.field ≡ 28). (omega arith, omega arith)) z) o.field
 
   module _ (g : ℕ) (group : GroupRow) (is : group_at s.records g ≡ Some group) (counted : kind_at s.records format.groups_file g ≡ format.counted) where
     byte_s : field 1 (rec_at s.records format.groups_file g) format.kind ≡ format.counted
     byte_s = sym (kind_low (high s.records format.groups_file) (rec_at s.records format.groups_file g) g (kind_below (high s.records format.groups_file) (rec_at s.records format.groups_file g) g (λ q. let z = sym q ∙ counted in omega arith))) ∙ counted
 
-    step : (p : State) (a : Head) (n : ℕ) → IsEndHead s.records a n row → rec_at p.records format.groups_file g ≡ rec_at s.records format.groups_file g → group.owner ≡ n → (f : ℕ)
+    step : (p : State) (a : Head) (n : ℕ) → IsEndHead s.records a n row → rec_at p.records format.groups_file g ≡ rec_at s.records format.groups_file g
+        → group.owner ≡ n → (f : ℕ)
         → HasOneMore (rec_at (parted p a n id f).records format.groups_file g) (rec_at s.records format.groups_file g) group row
     unfolding parted
     step p a n end same own f =
@@ -236,28 +248,33 @@ module _ (s : State) (shape : Shape) (id : ℕ) (row : RelRow) (h k : Head) (edg
         (λ at w. number_unlinked p a n id (key_in format.groups_file g) 4 at (λ q. let z : 3 ≡ 2 = q in omega arith) (let b = w.1 in omega arith) (λ _. inr (let b = w.0 in let c = low.1 in omega arith)) ∙ ap (λ r. field 4 r at) same)
         (number_unlinked p a n id (key_in format.groups_file g) 1 format.kind (λ q. let z : 3 ≡ 2 = q in omega arith) (omega arith) (λ _. inl (let c = low.0 in omega arith)) ∙ ap (λ r. field 1 r format.kind) same ∙ byte_s) own id edge.live)
 
-    away : (p : State) (a : Head) (n f : ℕ) → Own a n → group.owner ≢ n → rec_at (parted p a n id f).records format.groups_file g ≡ rec_at p.records format.groups_file g
-    away p a n f o ne = record_parted p a n id f (key_in format.groups_file g) (λ q. let z : 3 ≡ 2 = q in omega arith) (apart_key a n g group o is ne) (λ q. let w = ap (λ (z : Key). z.file) q in omega arith)
+    away : (p : State) (a : Head) (n f : ℕ) → Own a n → group.owner ≢ n
+        → rec_at (parted p a n id f).records format.groups_file g ≡ rec_at p.records format.groups_file g
+    away p a n f o ne = record_parted p a n id f (key_in format.groups_file g) (λ q. let z : 3 ≡ 2 = q in omega arith) (apart_key a n g group o is ne)
+        (λ q. let w = ap (λ (z : Key). z.file) q in omega arith)
 
     loop_counts : row.from ≡ row.to → HasOneMore (rec_at one.records format.groups_file g) (rec_at s.records format.groups_file g) group row
     unfolding one
     loop_counts loop = ⊎_elim (λ (own : group.owner ≡ row.from). step s h row.from edge.source refl own d)
         (λ (ne : group.owner ≢ row.from).
         let same = away s h row.from d edge.source.owns ne in
-        counts_away (rec_at (parted s h row.from id d).records format.groups_file g) (rec_at s.records format.groups_file g) group row (λ at w. sym (ap (λ r. field 4 r at) same))
+        counts_away (rec_at (parted s h row.from id d).records format.groups_file g) (rec_at s.records format.groups_file g) group row
+        (λ at w. sym (ap (λ r. field 4 r at) same))
         (λ end. ⊎_elim (λ q. ne (sym q)) (λ q. ne (sym q ∙ sym loop)) end)) (nat_cases group.owner row.from)
 
     pair_counts : row.from ≢ row.to → HasOneMore (rec_at two.records format.groups_file g) (rec_at s.records format.groups_file g) group row
     unfolding two one
     pair_counts differ = ⊎_elim
         (λ (own : group.owner ≡ row.from).
-        subst (λ (r : Rec). HasOneMore r (rec_at s.records format.groups_file g) group row) (sym (away (parted s h row.from id d) k row.to e edge.target.owns (λ q. differ (sym own ∙ q)))) (step s h row.from edge.source refl own d))
+        subst (λ (r : Rec). HasOneMore r (rec_at s.records format.groups_file g) group row)
+        (sym (away (parted s h row.from id d) k row.to e edge.target.owns (λ q. differ (sym own ∙ q)))) (step s h row.from edge.source refl own d))
         (λ (ne : group.owner ≢ row.from).
         let one_same = away s h row.from d edge.source.owns ne in
         ⊎_elim (λ (own : group.owner ≡ row.to). step (parted s h row.from id d) k row.to edge.target one_same own e)
         (λ (no : group.owner ≢ row.to).
         let same = away (parted s h row.from id d) k row.to e edge.target.owns no ∙ one_same in
-        counts_away (rec_at (parted (parted s h row.from id d) k row.to id e).records format.groups_file g) (rec_at s.records format.groups_file g) group row (λ at w. sym (ap (λ r. field 4 r at) same))
+        counts_away (rec_at (parted (parted s h row.from id d) k row.to id e).records format.groups_file g) (rec_at s.records format.groups_file g) group row
+        (λ at w. sym (ap (λ r. field 4 r at) same))
         (λ end. ⊎_elim (λ q. ne (sym q)) (λ q. no (sym q)) end)) (nat_cases group.owner row.to)) (nat_cases group.owner row.from)
 
   -- ---- given back
@@ -266,7 +283,8 @@ module _ (s : State) (shape : Shape) (id : ℕ) (row : RelRow) (h k : Head) (edg
     pub listed : AllListed u Own (But At id)
     pub less : (n : ℕ) → IsEnd n row → degree u n + 1 ≡ degree s.records n
     pub as_before : (n : ℕ) → ¬ IsEnd n row → degree u n ≡ degree s.records n
-    pub counts : (g : ℕ) (group : GroupRow) → group_at s.records g ≡ Some group → kind_at s.records format.groups_file g ≡ format.counted → HasOneMore (rec_at u format.groups_file g) (rec_at s.records format.groups_file g) group row
+    pub counts : (g : ℕ) (group : GroupRow) → group_at s.records g ≡ Some group → kind_at s.records format.groups_file g ≡ format.counted
+        → HasOneMore (rec_at u format.groups_file g) (rec_at s.records format.groups_file g) group row
 
   loop_parted : row.from ≡ row.to → HasParted one.records
   loop_parted loop = record {
@@ -290,7 +308,8 @@ module _ (s : State) (shape : Shape) (id : ℕ) (row : RelRow) (h k : Head) (edg
 
   pub edge_parted : HasParted (both_parted s h k row.from row.to id d e).records
   unfolding one two
-  edge_parted = on_test (λ (u : State). HasParted u.records) row.from row.to (parted s h row.from id d) (parted (parted s h row.from id d) k row.to id e) loop_parted pair_parted
+  edge_parted = on_test (λ (u : State). HasParted u.records) row.from row.to (parted s h row.from id d) (parted (parted s h row.from id d) k row.to id e)
+      loop_parted pair_parted
 
   -- the groups that it stood in are those of its heads
   of_head : (g at : ℕ) (a : Head) → group_head g at ≡ a → In g (group_of_head a)
@@ -309,7 +328,8 @@ module _ (s : State) (shape : Shape) (id : ℕ) (row : RelRow) (h k : Head) (edg
       of_heads g at (heads_of (group_head g at) i.row.owner (inr o) (inr (refl, i)))
 
   -- the relationship as the rules ask of one that went
-  pub edge_left : (u t : Records) → HasParted u → IsGone u t shape format.relationships_file id → IsEdgeGone s.records u t shape id row [] (both_groups h k row.from row.to)
+  pub edge_left : (u t : Records) → HasParted u → IsGone u t shape format.relationships_file id
+      → IsEdgeGone s.records u t shape id row [] (both_groups h k row.from row.to)
   edge_left u t parts gone = record {
     links = parts.links;
     gone = gone;
@@ -323,7 +343,8 @@ module _ (s : State) (shape : Shape) (id : ℕ) (row : RelRow) (h k : Head) (edg
     still = λ g i. absurd i;
     less = λ n end. ap (λ r. field 4 r format.node_degree + 1) (node_same n) ∙ parts.less n end;
     as_before = λ n out. ap (λ r. field 4 r format.node_degree) (node_same n) ∙ parts.as_before n out;
-    counts = λ g group is counted. subst (λ (r : Rec). HasOneMore r (rec_at s.records format.groups_file g) group row) (sym (group_same g)) (parts.counts g group is counted);
+    counts = λ g group is counted. subst (λ (r : Rec). HasOneMore r (rec_at s.records format.groups_file g) group row) (sym (group_same g))
+        (parts.counts g group is counted);
   }
     where
       rel_other : (x : ℕ) → x ≢ id → rel_at t x ≡ rel_at s.records x
@@ -343,7 +364,8 @@ module _ (s : State) (shape : Shape) (id : ℕ) (row : RelRow) (h k : Head) (edg
 
       first_same : (a : Head) (n : ℕ) → Own a n → first_of t a ≡ first_of u a
       first_same a n (inl o) = ap (first_of t) o.is ∙ ap (λ r. field 4 r format.node_first_link) (node_same n) ∙ sym (ap (first_of u) o.is)
-      first_same a n (inr o) = ap (λ z. field 4 (t z) a.field) o.key ∙ ap (λ r. field 4 r a.field) (group_same o.row.id) ∙ sym (ap (λ z. field 4 (u z) a.field) o.key)
+      first_same a n (inr o) = ap (λ z. field 4 (t z) a.field) o.key ∙ ap (λ r. field 4 r a.field) (group_same o.row.id)
+          ∙ sym (ap (λ z. field 4 (u z) a.field) o.key)
 
   -- ---- the links that are read
   pub from_prev : s.shape ≡ shape → IsRightLink s (prev_of s.records row.from id)
@@ -361,7 +383,8 @@ module _ (s : State) (shape : Shape) (id : ℕ) (row : RelRow) (h k : Head) (edg
 
   one_ranges : s.shape ≡ shape → AreInRange one.records one.shape
   unfolding one
-  one_ranges same = subst (AreInRange one.records) (sym (shape_parted s h row.from id d ∙ same)) (re.range_stays s.records one.records one_links shape store.ranges)
+  one_ranges same = subst (AreInRange one.records) (sym (shape_parted s h row.from id d ∙ same))
+      (re.range_stays s.records one.records one_links shape store.ranges)
 
   one_live : kind_at one.records format.relationships_file id ≢ 0
   one_live z = row_is.0 (sym (re.kind_stays s.records one.records one_links format.relationships_file id) ∙ z)

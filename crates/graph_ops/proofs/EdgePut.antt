@@ -1,6 +1,7 @@
 -- A new relationship's record and its chains, over a store that has its type's name.
 use Rattle.std.specs.Prelude.{slice_get}
-use Rattle.std.proofs.Common.{◌≡◌, ◌≢◌, ◌⊎◌, ℕ, ◌+◌, ◌<◌, ◌^◌, nat_eq, nat_lt, Bool, true, false, ◌&&◌, ◌||◌, cond, Some, List, [], ◌∷◌, sym, ap, ◌∙◌, subst, ⊎_elim, arith, refl}
+use Rattle.std.proofs.Common.{◌≡◌, ◌≢◌, ◌⊎◌, ℕ, ◌+◌, ◌<◌, ◌^◌, nat_eq, nat_lt, Bool, true, false, ◌&&◌, ◌||◌, cond}
+use Rattle.std.proofs.Common.{Some, List, [], ◌∷◌, sym, ap, ◌∙◌, subst, ⊎_elim, arith, refl}
 use Rattle.plain_graph.specs.Graph.{edge_number, with_row}
 use Rattle.plain_graph.specs.Properties.{no_properties}
 use Rattle.rec_bytes.specs.declared.record.Rec.{Rec}
@@ -111,16 +112,19 @@ module _ (id label from to : ℕ) (label_small : label < 2 ^ 32) (from_small : f
       all_open false false = refl
 
 -- ---- numbers of a store
-small_label : (v : Records) (shape : Shape) (number : ℕ) {most : ℕ} {empty : List ℕ} → KeepsRules v shape most empty → number < high v format.names_file → number < 2 ^ 32
+small_label : (v : Records) (shape : Shape) (number : ℕ) {most : ℕ} {empty : List ℕ} → KeepsRules v shape most empty → number < high v format.names_file
+    → number < 2 ^ 32
 small_label v shape number well known = let h = (well.ranges.metas format.names_file refl).high in omega (arith, known, h)
 
-small_node : (v : Records) (shape : Shape) (a : Head) (n : ℕ) {most : ℕ} {empty : List ℕ} → KeepsRules v shape most empty → Owns (kind_at v format.nodes_file) (group_at v) a n → n < 2 ^ 32
+small_node : (v : Records) (shape : Shape) (a : Head) (n : ℕ) {most : ℕ} {empty : List ℕ} → KeepsRules v shape most empty
+    → Owns (kind_at v format.nodes_file) (group_at v) a n → n < 2 ^ 32
 small_node v shape a n well o =
     let low = kind_below (high v format.nodes_file) (rec_at v format.nodes_file n) n (owner_used (kind_at v format.nodes_file) (group_at v) a n o) in
     let r = high_most v shape format.nodes_file well.ranges refl in omega arith
 
 -- ---- over a store that has the type
-module _ (v m : Records) (t : State) (shape : Shape) (id number from to : ℕ) (h k : Head) (free : List ℕ) {most : ℕ} {empty : List ℕ} (well : KeepsRules v shape most empty) (split : IsSplit v format.relationships_file (is_live v format.relationships_file) free)
+module _ (v m : Records) (t : State) (shape : Shape) (id number from to : ℕ) (h k : Head) (free : List ℕ) {most : ℕ} {empty : List ℕ}
+    (well : KeepsRules v shape most empty) (split : IsSplit v format.relationships_file (is_live v format.relationships_file) free)
     (taken : HasTaken v m format.relationships_file id free) (small : id < shape.limit) (known : number < high v format.names_file)
     (put_is : t.records ≡ put m (key_in format.relationships_file id) (rel_record (new_row id number from to)))
     (source : IsEndHead v h from (edge_row id number from to)) (target : IsEndHead v k to (edge_row id number from to))
@@ -148,7 +152,8 @@ module _ (v m : Records) (t : State) (shape : Shape) (id number from to : ℕ) (
   made = is_made v m t.records shape format.relationships_file id free new refl split taken
       (ap (λ (r : Records). r (key_in format.relationships_file id)) put_is ∙ put_same m (key_in format.relationships_file id) new)
       (λ key ne. ap (λ (r : Records). r key) put_is ∙ put_other m (key_in format.relationships_file id) new key ne)
-      (λ e. let k = new_kind id number from to label_small (node_small from from_low) (node_small to to_low) in omega arith) small (room_small v shape format.relationships_file well.ranges) (well.ranges.metas format.relationships_file refl)
+      (λ e. let k = new_kind id number from to label_small (node_small from from_low) (node_small to to_low) in omega arith) small
+      (room_small v shape format.relationships_file well.ranges) (well.ranges.metas format.relationships_file refl)
 
   low_now : (n : ℕ) → n < high v format.nodes_file → n < high t.records format.nodes_file
   low_now n low = let b = ch.marks_le v t.records format.relationships_file id made.change format.nodes_file in omega arith
@@ -158,7 +163,8 @@ module _ (v m : Records) (t : State) (shape : Shape) (id number from to : ℕ) (
     made = made;
     is = new_is id number from to label_small (node_small from from_low) (node_small to to_low);
     kind = new_kind id number from to label_small (node_small from from_low) (node_small to to_low);
-    fits = new_fits id number from to label_small (node_small from from_low) (node_small to to_low) (high t.records) (low_now from from_low) (low_now to to_low);
+    fits = new_fits id number from to label_small (node_small from from_low) (node_small to to_low) (high t.records) (low_now from from_low)
+        (low_now to to_low);
     lone = new_lone id number from to label_small (node_small from from_low) (node_small to to_low);
     named = known;
     bare = refl;
@@ -174,11 +180,13 @@ module _ (v m : Records) (t : State) (shape : Shape) (id number from to : ℕ) (
 -- a loop is put into one chain
 each_joined : (s : State) (ends : Ends EdgeEnd) (id : ℕ) → AreApart (λ (end : EdgeEnd). end.node) ends
     → ends_joined s ends id
-    ≡ both_joined s (head_of (source_of ends).head) (head_of (target_of ends).head) (source_of ends).node (target_of ends).node id (one_more (source_of ends).degree) (one_more (target_of ends).degree)
+    ≡ both_joined s (head_of (source_of ends).head) (head_of (target_of ends).head) (source_of ends).node (target_of ends).node id
+    (one_more (source_of ends).degree) (one_more (target_of ends).degree)
 each_joined s (Loop end) id apart = rw (eq_true end.node end.node refl) refl
 each_joined s (Two source target) id apart = rw (eq_false source.node target.node apart) refl
 
-module _ (s t : State) (names : List (List ℕ)) (number : ℕ) (label : List ℕ) (ends : Ends EdgeEnd) (id : ℕ) (can : CanJoin s names number ends) (at : slice_get names number ≡ Some label)
+module _ (s t : State) (names : List (List ℕ)) (number : ℕ) (label : List ℕ) (ends : Ends EdgeEnd) (id : ℕ) (can : CanJoin s names number ends)
+    (at : slice_get names number ≡ Some label)
     (placed : HasPlaced s t number (source_of ends).node (target_of ends).node id) where
   abbrev source : EdgeEnd
   source = source_of ends
@@ -218,11 +226,13 @@ module _ (s t : State) (names : List (List ℕ)) (number : ℕ) (label : List �
   few n end sparse = ⊎_elim (λ (q : source.node ≡ n). at_end source leaves q) (λ (q : target.node ≡ n). at_end target enters q) end
     where
       at_end : (end : EdgeEnd) → MayStandAt s end row → end.node ≡ n → degree s.records n < s.shape.threshold
-      at_end end may q = subst (λ z. degree s.records z < s.shape.threshold) q (let few = may.few (ap (kind_at s.records format.nodes_file) q ∙ sparse) in let is = may.degree in omega arith)
+      at_end end may q = subst (λ z. degree s.records z < s.shape.threshold) q
+          (let few = may.few (ap (kind_at s.records format.nodes_file) q ∙ sparse) in let is = may.degree in omega arith)
 
   lone : IsLoneEdge s.records t.records s.shape id edge_rec row from_head to_head s.shape.threshold can.empty
   lone = let split = can.keeps.split format.relationships_file refl in
-      lone_edge s.records placed.took.records t s.shape id number source.node target.node from_head to_head split.0 can.keeps split.1 (placed.taken split.0 split.1.walk) placed.small known.0
+      lone_edge s.records placed.took.records t s.shape id number source.node target.node from_head to_head split.0 can.keeps split.1
+      (placed.taken split.0 split.1.walk) placed.small known.0
       (ap (λ (z : State). z.records) placed.saved) leaves.head enters.head can.into few
 
   same_shape : t.shape ≡ s.shape
@@ -232,13 +242,17 @@ module _ (s t : State) (names : List (List ℕ)) (number : ℕ) (label : List �
   last = both_joined t from_head to_head source.node target.node id (one_more source.degree) (one_more target.degree)
 
   edge : IsEdgeMade s.records t.records last.records s.shape id edge_rec row s.shape.threshold can.empty
-  edge = edge_joined s.records t s.shape id edge_rec row from_head to_head lone can.keeps (one_more source.degree) (one_more target.degree) (more_of source leaves) (more_of target enters)
+  edge = edge_joined s.records t s.shape id edge_rec row from_head to_head lone can.keeps (one_more source.degree) (one_more target.degree)
+      (more_of source leaves) (more_of target enters)
 
   first_right : IsRightLink t (first_of t.records from_head)
-  first_right = made_right s.records t s.shape id edge_rec row from_head to_head lone can.keeps (one_more source.degree) (one_more target.degree) (more_of source leaves) (more_of target enters) same_shape
+  first_right = made_right s.records t s.shape id edge_rec row from_head to_head lone can.keeps (one_more source.degree) (one_more target.degree)
+      (more_of source leaves) (more_of target enters) same_shape
 
-  second_right : IsRightLink (joined t from_head source.node id (one_more source.degree)) (first_of (joined t from_head source.node id (one_more source.degree)).records to_head)
-  second_right = one_right s.records t s.shape id edge_rec row from_head to_head lone can.keeps (one_more source.degree) (one_more target.degree) (more_of source leaves) (more_of target enters) same_shape
+  second_right : IsRightLink (joined t from_head source.node id (one_more source.degree))
+      (first_of (joined t from_head source.node id (one_more source.degree)).records to_head)
+  second_right = one_right s.records t s.shape id edge_rec row from_head to_head lone can.keeps (one_more source.degree) (one_more target.degree)
+      (more_of source leaves) (more_of target enters) same_shape
 
   change : ec.IsEdgeChange s.records last.records id
   change = ec.changed_relinked s.records t.records last.records id edge.made.change edge.links
@@ -246,7 +260,8 @@ module _ (s t : State) (names : List (List ℕ)) (number : ℕ) (label : List �
   -- it stands at the heads
   end_now : (a : Head) (n : ℕ) → IsEndHead s.records a n row → IsEndHead last.records a n row
   end_now a n end = record {
-    owns = subst (λ kinds. Owns kinds (group_at last.records) a n) (sym (ec.kinds_same s.records last.records id change)) (subst (λ groups. Owns (kind_at s.records format.nodes_file) groups a n) (sym (ec.groups_same s.records last.records id change)) end.owns);
+    owns = subst (λ kinds. Owns kinds (group_at last.records) a n) (sym (ec.kinds_same s.records last.records id change))
+        (subst (λ groups. Owns (kind_at s.records format.nodes_file) groups a n) (sym (ec.groups_same s.records last.records id change)) end.owns);
     on = subst (λ groups. IsOn groups a row) (sym (ec.groups_same s.records last.records id change)) end.on;
   }
 
@@ -270,8 +285,10 @@ module _ (s t : State) (names : List (List ℕ)) (number : ℕ) (label : List �
         to_is = refl;
         source = record { head = from_head; end = end_now from_head source.node leaves.head; first = first_source s.records t s.shape id edge_rec row from_head to_head lone can.keeps d e a b; counted = counted_now from_head leaves.counted };
         target = record { head = to_head; end = end_now to_head target.node enters.head; first = first_target s.records t s.shape id edge_rec row from_head to_head lone can.keeps d e a b; counted = counted_now to_head enters.counted };
-        previous = λ loop. loop_target s.records t s.shape id edge_rec row from_head to_head lone can.keeps d e a b loop format.relationship_target_previous (omega arith) (omega arith) ∙ (new_pair id number source.node target.node label_small from_small to_small).0;
-        next = λ loop. loop_target s.records t s.shape id edge_rec row from_head to_head lone can.keeps d e a b loop format.relationship_target_next (omega arith) (omega arith) ∙ (new_pair id number source.node target.node label_small from_small to_small).1;
+        previous = λ loop. loop_target s.records t s.shape id edge_rec row from_head to_head lone can.keeps d e a b loop format.relationship_target_previous
+            (omega arith) (omega arith) ∙ (new_pair id number source.node target.node label_small from_small to_small).0;
+        next = λ loop. loop_target s.records t s.shape id edge_rec row from_head to_head lone can.keeps d e a b loop format.relationship_target_next
+            (omega arith) (omega arith) ∙ (new_pair id number source.node target.node label_small from_small to_small).1;
       }
 
   puts : last.shape ≡ s.shape → PutsEdge s last names source.node label target.node id
@@ -288,7 +305,8 @@ module _ (s t : State) (names : List (List ℕ)) (number : ℕ) (label : List �
     fresh = made_fresh s.records t.records last.records s.shape id edge_rec row edge can.keeps;
     nodes = made_nodes s.records t.records last.records s.shape id edge_rec row edge can.keeps;
     edges = made_edges s.records t.records last.records s.shape id edge_rec row edge can.keeps
-        ∙ ap (λ l. with_row edge_number (record { id = id; label = l; from = source.node; to = target.node; properties = no_properties }) (graph_in s).edges) known.1;
+        ∙ ap (λ l. with_row edge_number (record { id = id; label = l; from = source.node; to = target.node; properties = no_properties }) (graph_in s).edges)
+        known.1;
     first = first;
     metas = λ file ne _. ap metas.meta_of (ec.meta_same s.records last.records id (ec.changed_relinked s.records t.records last.records id edge.made.change edge.links) file ne);
   }
@@ -303,7 +321,8 @@ module _ (s t : State) (names : List (List ℕ)) (number : ℕ) (label : List �
         subst (λ (e : Ends EdgeEnd). IsRightFirst (end_joined t (source_of e) id) (target_of e)) (sym is) second_right,
       )
 
-  pub puts_edge : (z : State) → AreApart (λ (end : EdgeEnd). end.node) ends → z ≡ ends_joined t ends id → z.shape ≡ s.shape → PutsEdge s z names source.node label target.node id
+  pub puts_edge : (z : State) → AreApart (λ (end : EdgeEnd). end.node) ends → z ≡ ends_joined t ends id → z.shape ≡ s.shape
+      → PutsEdge s z names source.node label target.node id
   puts_edge z apart joins shape =
       let is = joins ∙ each_joined t ends id apart in
       subst (λ (q : State). PutsEdge s q names source.node label target.node id) (sym is) (puts (ap (λ (q : State). q.shape) (sym is) ∙ shape))

@@ -14,8 +14,11 @@ use Rattle.rec_bytes.specs.Space.{SameButReads, State}
 use Rattle.rel_store.specs.Loading.{mark_damage, row_at}
 use Rattle.rel_store.specs.declared.rel_row.RelRow.{RelRow}
 use Rattle.rel_store.proofs.Rows as rel_rows
-use Rattle.store_rules.specs.Breaking.{Breaks, BreaksAny, DegreeKeeps, GroupKeeps, IsGroupHeadOf, IsHeadChain, IsHeadOf, IsInChain, IsMetaKept, IsOnOwnChain, group_head}
-use Rattle.store_rules.specs.Breaking.Breaks.{FreeList, GroupChains, GroupOwner, NameCount, NodeChain, OffFreeList, OwnRecord, OwnerGroups, RecordRange, RelEnds, WrongBlock, WrongDefinition, WrongDegree, WrongElement, WrongHolding, WrongMeta, WrongName, WrongText}
+use Rattle.store_rules.specs.Breaking.{Breaks, BreaksAny, DegreeKeeps, GroupKeeps, IsGroupHeadOf, IsHeadChain, IsHeadOf}
+use Rattle.store_rules.specs.Breaking.{IsInChain, IsMetaKept, IsOnOwnChain, group_head}
+use Rattle.store_rules.specs.Breaking.Breaks.{FreeList, GroupChains, GroupOwner, NameCount, NodeChain, OffFreeList}
+use Rattle.store_rules.specs.Breaking.Breaks.{OwnRecord, OwnerGroups, RecordRange, RelEnds, WrongBlock, WrongDefinition}
+use Rattle.store_rules.specs.Breaking.Breaks.{WrongDegree, WrongElement, WrongHolding, WrongMeta, WrongName, WrongText}
 use Rattle.store_rules.specs.Chains.{IsChain, next_in, place_of, prev_in}
 use Rattle.store_rules.specs.PropertyChange.{Apart}
 use Rattle.store_rules.specs.Rules.{Head, IsEnd, StandsAt, degree_of, first_of}
@@ -32,7 +35,8 @@ use Rattle.group_store.specs.Opening.{IsSearchDamage, LacksGroupOn, end_damage}
 use Rattle.group_store.specs.Opening.IsSearchDamage.{BadGroups, BadNode, Uncounted}
 use Rattle.group_store.specs.Raising.{IsCountDamage}
 use Rattle.group_store.proofs.BrokenGroups.{no_group_breaks, node_breaks, walk_breaks}
-use Rattle.group_store.proofs.AlikeGroups.{AreAlike, alike_back, chain_head_as, chains_as, dense_as, group_row, groups_as, groups_damage_as, lacks_as, node_as, on_as, twin_as, walk_as}
+use Rattle.group_store.proofs.AlikeGroups.{AreAlike, alike_back, chain_head_as, chains_as, dense_as, group_row}
+use Rattle.group_store.proofs.AlikeGroups.{groups_as, groups_damage_as, lacks_as, node_as, on_as, twin_as, walk_as}
 use Rattle.group_store.proofs.TwinLaws.{groups_break, twins_break}
 use Rattle.std.specs.Prelude.{IfSome}
 use Rattle.rec_bytes.specs.declared.fault.Fault.{Fault}
@@ -53,7 +57,8 @@ use Rattle.graph_ops.proofs.EdgeFrames.{alike_edge, edge_none, end_link_before, 
 -- ---- what breaks a rule of which one record is said
 
 -- the third rule of a group
-group_broken : (r : Records) (shape : Shape) (g : ℕ) (d : Damage) → d ≡ record { file = format.groups_file; id = g; rule = 3 } → BreaksAny r shape d → (g < high r format.groups_file) × IsOnOwnChain r g × (¬ GroupKeeps r g)
+group_broken : (r : Records) (shape : Shape) (g : ℕ) (d : Damage) → d ≡ record { file = format.groups_file; id = g; rule = 3 } → BreaksAny r shape d
+    → (g < high r format.groups_file) × IsOnOwnChain r g × (¬ GroupKeeps r g)
 group_broken r shape g d e (inl (OwnRecord k)) = absurd (let f = ap (λ (d : Damage). d.rule) e in omega arith)
 group_broken r shape g d e (inl (WrongMeta id lt k)) = absurd (let f = ap (λ (d : Damage). d.rule) e in omega arith)
 group_broken r shape g d e (inl (RecordRange file x m lt k)) = absurd (let f = ap (λ (d : Damage). d.rule) e in omega arith)
@@ -61,7 +66,8 @@ group_broken r shape g d e (inl (FreeList file m k)) = absurd (let f = ap (λ (d
 group_broken r shape g d e (inl (OffFreeList file x m lt dead k)) = absurd (let f = ap (λ (d : Damage). d.rule) e in omega arith)
 group_broken r shape g d e (inl (NameCount k)) = absurd (let f = ap (λ (d : Damage). d.rule) e in omega arith)
 group_broken r shape g d e (inl (NodeChain n lt k)) = absurd (let f = ap (λ (d : Damage). d.file) e in omega arith)
-group_broken r shape g d e (inl (GroupChains h lt on k)) = subst (λ z. (z < high r format.groups_file) × IsOnOwnChain r z × (¬ GroupKeeps r z)) (ap (λ (d : Damage). d.id) e) (lt, on, k)
+group_broken r shape g d e (inl (GroupChains h lt on k)) = subst (λ z. (z < high r format.groups_file) × IsOnOwnChain r z × (¬ GroupKeeps r z))
+    (ap (λ (d : Damage). d.id) e) (lt, on, k)
 group_broken r shape g d e (inl (RelEnds x lt k)) = absurd (let f = ap (λ (d : Damage). d.file) e in omega arith)
 group_broken r shape g d e (inl (OwnerGroups n lt k)) = absurd (let f = ap (λ (d : Damage). d.rule) e in omega arith)
 group_broken r shape g d e (inl (GroupOwner h k)) = absurd (let f = ap (λ (d : Damage). d.rule) e in omega arith)
@@ -75,7 +81,8 @@ group_broken r shape g d e (inl (WrongDegree n lt k)) = absurd (let f = ap (λ (
 group_broken r shape g d e (inr bad) = absurd (let f = ap (λ (d : Damage). d.rule) e in let k = index_rule r d bad in omega arith)
 
 -- the seventh rule of a node
-degree_broken : (r : Records) (shape : Shape) (n : ℕ) (d : Damage) → d ≡ record { file = format.nodes_file; id = n; rule = 7 } → BreaksAny r shape d → (n < high r format.nodes_file) × (¬ DegreeKeeps r shape.threshold n)
+degree_broken : (r : Records) (shape : Shape) (n : ℕ) (d : Damage) → d ≡ record { file = format.nodes_file; id = n; rule = 7 } → BreaksAny r shape d
+    → (n < high r format.nodes_file) × (¬ DegreeKeeps r shape.threshold n)
 degree_broken r shape n d e (inl (OwnRecord k)) = absurd (let f = ap (λ (d : Damage). d.rule) e in omega arith)
 degree_broken r shape n d e (inl (WrongMeta id lt k)) = absurd (let f = ap (λ (d : Damage). d.rule) e in omega arith)
 degree_broken r shape n d e (inl (RecordRange file x m lt k)) = absurd (let f = ap (λ (d : Damage). d.rule) e in omega arith)
@@ -93,7 +100,8 @@ degree_broken r shape n d e (inl (WrongText p lt k)) = absurd (let f = ap (λ (d
 degree_broken r shape n d e (inl (WrongBlock b k)) = absurd (let f = ap (λ (d : Damage). d.rule) e in omega arith)
 degree_broken r shape n d e (inl (WrongDefinition x lt k)) = absurd (let f = ap (λ (d : Damage). d.rule) e in omega arith)
 degree_broken r shape n d e (inl (WrongName x lt k)) = absurd (let f = ap (λ (d : Damage). d.rule) e in omega arith)
-degree_broken r shape n d e (inl (WrongDegree m lt k)) = subst (λ z. (z < high r format.nodes_file) × (¬ DegreeKeeps r shape.threshold z)) (ap (λ (d : Damage). d.id) e) (lt, k)
+degree_broken r shape n d e (inl (WrongDegree m lt k)) = subst (λ z. (z < high r format.nodes_file) × (¬ DegreeKeeps r shape.threshold z))
+    (ap (λ (d : Damage). d.id) e) (lt, k)
 degree_broken r shape n d e (inr bad) = absurd (let f = ap (λ (d : Damage). d.rule) e in let k = index_rule r d bad in omega arith)
 
 -- the first rule of the meta record of the relationships
@@ -146,7 +154,8 @@ module _ (s t : State) (id : ℕ) (left : LeavesEdge s t id) where
       kind_of : ℕ → ℕ → ℕ
       kind_of mark kind = cond (nat_lt x mark) kind 0
 
-  rel_row : (x : ℕ) → rel_in (rec_at t.records format.relationships_file x) x ≡ record (rel_in (rec_at s.records format.relationships_file x) x) { property = field 4 (rec_at t.records format.relationships_file x) format.relationship_first_property }
+  rel_row : (x : ℕ) → rel_in (rec_at t.records format.relationships_file x) x ≡ record (rel_in (rec_at s.records format.relationships_file x) x)
+      { property = field 4 (rec_at t.records format.relationships_file x) format.relationship_first_property }
   rel_row x = λ i. record {
     id = x;
     label = rel_number x 4 format.relationship_type (omega arith) (inl (omega arith)) i;
@@ -155,8 +164,10 @@ module _ (s t : State) (id : ℕ) (left : LeavesEdge s t id) where
     property = field 4 (rec_at t.records format.relationships_file x) format.relationship_first_property;
   }
 
-  rel_back : (x : ℕ) → rel_in (rec_at s.records format.relationships_file x) x ≡ record (rel_in (rec_at t.records format.relationships_file x) x) { property = field 4 (rec_at s.records format.relationships_file x) format.relationship_first_property }
-  rel_back x = ap (λ (r : views.RelRow). record r { property = field 4 (rec_at s.records format.relationships_file x) format.relationship_first_property }) (sym (rel_row x))
+  rel_back : (x : ℕ) → rel_in (rec_at s.records format.relationships_file x) x ≡ record (rel_in (rec_at t.records format.relationships_file x) x)
+      { property = field 4 (rec_at s.records format.relationships_file x) format.relationship_first_property }
+  rel_back x = ap (λ (r : views.RelRow). record r { property = field 4 (rec_at s.records format.relationships_file x) format.relationship_first_property })
+      (sym (rel_row x))
 
   there : HaveRels (rel_at s.records) (rel_at t.records)
   there = have_rels s.records t.records rel_kind rel_row
@@ -172,13 +183,15 @@ module _ (s t : State) (id : ℕ) (left : LeavesEdge s t id) where
   next_as x n =
       let r = rec_at s.records format.relationships_file x in
       let b = pair_low (place_of r n) (pair_is r n) in
-      ap (λ p. field 4 (rec_at t.records format.relationships_file x) (p + 4)) (link_place x n) ∙ rel_number x 4 (place_of r n + 4) (omega (arith, b.1)) (inl (omega (arith, b.1)))
+      ap (λ p. field 4 (rec_at t.records format.relationships_file x) (p + 4)) (link_place x n)
+      ∙ rel_number x 4 (place_of r n + 4) (omega (arith, b.1)) (inl (omega (arith, b.1)))
 
   prev_as : (x n : ℕ) → prev_in (rec_at t.records format.relationships_file x) n ≡ prev_in (rec_at s.records format.relationships_file x) n
   prev_as x n =
       let r = rec_at s.records format.relationships_file x in
       let b = pair_low (place_of r n) (pair_is r n) in
-      ap (λ p. field 4 (rec_at t.records format.relationships_file x) p) (link_place x n) ∙ rel_number x 4 (place_of r n) (omega (arith, b.1)) (inl (omega (arith, b.1)))
+      ap (λ p. field 4 (rec_at t.records format.relationships_file x) p) (link_place x n)
+      ∙ rel_number x 4 (place_of r n) (omega (arith, b.1)) (inl (omega (arith, b.1)))
 
   -- ---- groups
 
@@ -187,7 +200,8 @@ module _ (s t : State) (id : ℕ) (left : LeavesEdge s t id) where
 
   -- the chain at a head of a node is there still
   first_as : (head : Head) (n : ℕ) → IsHeadOf s.records head n → first_of t.records head ≡ first_of s.records head
-  first_as head n (inl o) = ap (first_of t.records) o.is ∙ ap (λ (r : Rec). field 4 r format.node_first_link) (node_same s t id left n) ∙ sym (ap (first_of s.records) o.is)
+  first_as head n (inl o) = ap (first_of t.records) o.is ∙ ap (λ (r : Rec). field 4 r format.node_first_link) (node_same s t id left n)
+      ∙ sym (ap (first_of s.records) o.is)
   first_as head n (inr o) = ap (λ (k : Key). field 4 (t.records k) head.field) o.key ∙ number ∙ sym (ap (λ (k : Key). field 4 (s.records k) head.field) o.key)
     where
       number : field 4 (rec_at t.records format.groups_file o.row.id) head.field ≡ field 4 (rec_at s.records format.groups_file o.row.id) head.field
@@ -196,7 +210,8 @@ module _ (s t : State) (id : ℕ) (left : LeavesEdge s t id) where
           (λ k. ⊎_elim (λ (e : head.field ≡ format.group_first_in). left.groups o.row.id 4 head.field (omega (arith, e)) (omega (arith, e)))
           (λ (e : head.field ≡ format.group_first_loop). left.groups o.row.id 4 head.field (omega (arith, e)) (omega (arith, e))) k) o.field
 
-  head_chain : (head : Head) (n : ℕ) (members : List ℕ) → IsHeadOf s.records head n → IsHeadChain s.records head n members → IsHeadChain t.records head n members
+  head_chain : (head : Head) (n : ℕ) (members : List ℕ) → IsHeadOf s.records head n → IsHeadChain s.records head n members
+      → IsHeadChain t.records head n members
   head_chain head n members owns was = record {
     chain = subst (λ f. IsChain (λ y. next_in (rec_at t.records format.relationships_file y) n) (λ y. prev_in (rec_at t.records format.relationships_file y) n) format.nil f members) (sym (first_as head n owns))
         (chain_stays (λ y. next_in (rec_at s.records format.relationships_file y) n) (λ y. prev_in (rec_at s.records format.relationships_file y) n) (λ y. next_in (rec_at t.records format.relationships_file y) n) (λ y. prev_in (rec_at t.records format.relationships_file y) n)
@@ -262,7 +277,8 @@ module _ (s t : State) (id : ℕ) (left : LeavesEdge s t id) where
   search_broke n d broken (Uncounted _ g names) = counted_broke n g d names broken
 
   -- of an edge that was there
-  pub sought_broke : (n label : ℕ) (row : views.RelRow) (d : Damage) → rel_at s.records id ≡ Some row → IsEnd n row → row.label ≡ label → IsSoughtDamage t id n label d → IsBroken s d
+  pub sought_broke : (n label : ℕ) (row : views.RelRow) (d : Damage) → rel_at s.records id ≡ Some row → IsEnd n row → row.label ≡ label
+      → IsSoughtDamage t id n label d → IsBroken s d
   sought_broke n label row d live end typed (inl told) = search_broke n d told.0 told.1
   sought_broke n label row d live end typed (inr told) = subst (IsBroken s) (sym told.0) (inl (⊎_elim
       (λ (free : kind_at t.records format.nodes_file n ≡ format.free_kind).
@@ -292,7 +308,8 @@ module _ (s t : State) (id : ℕ) (left : LeavesEdge s t id) where
 -- a record that is blamed where an edge that was found is taken out of its chains
 pub taken_told : (s : State) (id : ℕ) (rel : RelRow) → row_at s.records id ≡ Some rel → (damage : Damage) → IsTakenDamage s id rel damage → IsBroken s damage
 taken_told s id rel found damage (Sought _ node mid which left told) =
-    sought_broke s mid id left node rel.label _ damage (rel_rows.rel_at-Some s.records id rel found) (⊎_elim (λ e. inl (sym e)) (λ e. inr (sym e)) which) refl told
+    sought_broke s mid id left node rel.label _ damage (rel_rows.rel_at-Some s.records id rel found) (⊎_elim (λ e. inl (sym e)) (λ e. inr (sym e)) which) refl
+    told
 taken_told s id rel found damage (Parted _ mid left told) =
     let live = rel_rows.rel_at-Some s.records id rel found in
     ⊎_elim
@@ -305,18 +322,21 @@ taken_told s id rel found damage (Undropped _ mid left told) = inl (undropped_br
 pub row_found : (s : State) (id : ℕ) (rel : RelRow) → row_at s.records id ≡ Some rel → HasRow s.records id rel
 row_found s id rel found = (
   rel.property,
-  rel_rows.rel_at-Some s.records id rel found ∙ ap (λ i. Some (with_property i rel rel.property)) (sym (ap (λ (r : RelRow). r.id) (rel_rows.kind-row_at-Some s.records id rel found).1)),
+  rel_rows.rel_at-Some s.records id rel found ∙ ap (λ i. Some (with_property i rel rel.property))
+      (sym (ap (λ (r : RelRow). r.id) (rel_rows.kind-row_at-Some s.records id rel found).1)),
 )
 
 -- ---- an end that isn't found, in the space as it is left
 
 -- where no more than reads came before
-pub end_still : (s t : State) (id node : ℕ) (rel : RelRow) → HasRow s.records id rel → (node ≡ rel.from) ⊎ (node ≡ rel.to) → SameButReads s t → (fault : ChangeFault) → BlamesEnd s id node rel.label fault → BlamesBroken t fault
+pub end_still : (s t : State) (id node : ℕ) (rel : RelRow) → HasRow s.records id rel → (node ≡ rel.from) ⊎ (node ≡ rel.to) → SameButReads s t
+    → (fault : ChangeFault) → BlamesEnd s id node rel.label fault → BlamesBroken t fault
 end_still s t id node rel has which same fault told = broken_left s t same fault (blames_more (IsSoughtDamage s id node rel.label) (IsBroken s)
     (λ damage k. sought_broke s s id (edge_none s id) node rel.label (with_property id rel has.0) damage has.1 (⊎_elim (λ e. inl (sym e)) (λ e. inr (sym e)) which) refl k) fault told)
 
 -- and where a head is looked for
-pub head_still : (s m t : State) (id node : ℕ) (rel : RelRow) → HasRow s.records id rel → (node ≡ rel.from) ⊎ (node ≡ rel.to) → SameButReads s m → (fault : Fault) → IsHeadFault m node id rel.label fault → IfSome (damage_of fault) (λ _. SameButReads m t)
+pub head_still : (s m t : State) (id node : ℕ) (rel : RelRow) → HasRow s.records id rel → (node ≡ rel.from) ⊎ (node ≡ rel.to) → SameButReads s m
+    → (fault : Fault) → IsHeadFault m node id rel.label fault → IfSome (damage_of fault) (λ _. SameButReads m t)
     → BlamesBroken t (of_fault fault)
 head_still s m t id node rel has which same faults.Memory told later = tt
 head_still s m t id node rel has which same faults.Disk told later = tt

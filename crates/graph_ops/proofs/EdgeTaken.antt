@@ -28,7 +28,8 @@ use Rattle.graph_ops.specs.Store.{IsMidway}
 use Rattle.graph_ops.specs.declared.edge_end.EdgeEnd.{EdgeEnd}
 use Rattle.graph_ops.specs.declared.edge_end.Ends.{Ends}
 use Rattle.graph_ops.specs.declared.edge_end.Ends.TheVariants.{Loop, Two}
-use Rattle.graph_ops.proofs.EdgeParted.{HasParted, IsLiveEdge, both_groups, both_parted, edge_left, edge_parted, from_chain, from_next, from_prev, to_chain, to_next, to_prev}
+use Rattle.graph_ops.proofs.EdgeParted.{HasParted, IsLiveEdge, both_groups, both_parted, edge_left, edge_parted}
+use Rattle.graph_ops.proofs.EdgeParted.{from_chain, from_next, from_prev, to_chain, to_next, to_prev}
 use Rattle.graph_ops.proofs.Elements.{found_degree}
 use Rattle.graph_ops.proofs.EndLaws.{at_source, at_target}
 use Rattle.graph_ops.proofs.KeptIndexes.{edge_graph_indexes}
@@ -36,7 +37,8 @@ use Rattle.store_rules.proofs.IndexKept.{edge_indexed}
 
 -- a loop is taken out of one chain, and has one head
 each_parted : (s : State) (ends : Ends EdgeEnd) (id : ℕ) → AreApart (λ (end : EdgeEnd). end.node) ends
-    → ends_parted s ends id ≡ both_parted s (head_of (source_of ends).head) (head_of (target_of ends).head) (source_of ends).node (target_of ends).node id ((source_of ends).degree - 1) ((target_of ends).degree - 1)
+    → ends_parted s ends id ≡ both_parted s (head_of (source_of ends).head) (head_of (target_of ends).head) (source_of ends).node (target_of ends).node id
+    ((source_of ends).degree - 1) ((target_of ends).degree - 1)
 each_parted s (Loop end) id apart = rw (eq_true end.node end.node refl) refl
 each_parted s (Two source target) id apart = rw (eq_false source.node target.node apart) refl
 
@@ -119,7 +121,8 @@ module _ (s : State) (names : List (List ℕ)) (id : ℕ) (ends : Ends EdgeEnd) 
       by (Loop end) is differ = subst (λ (e : Ends EdgeEnd). HasRightLinks s (source_of e) id) (sym is) right_from
       by (Two a b) is differ = (
         subst (λ (e : Ends EdgeEnd). HasRightLinks s (source_of e) id) (sym is) right_from,
-        subst (λ (e : Ends EdgeEnd). HasRightLinks (end_parted s (source_of e) id) (target_of e) id) (sym is) (right_to (subst (λ (e : Ends EdgeEnd). (source_of e).node ≢ (target_of e).node) is (subst (AreApart (λ (end : EdgeEnd). end.node)) (sym is) differ))),
+        subst (λ (e : Ends EdgeEnd). HasRightLinks (end_parted s (source_of e) id) (target_of e) id) (sym is)
+            (right_to (subst (λ (e : Ends EdgeEnd). (source_of e).node ≢ (target_of e).node) is (subst (AreApart (λ (end : EdgeEnd). end.node)) (sym is) differ))),
       )
 
   module _ (u t : State) (apart : AreApart (λ (end : EdgeEnd). end.node) ends) (parts_are : u ≡ ends_parted s ends id) (shape : t.shape ≡ s.shape)
@@ -128,13 +131,15 @@ module _ (s : State) (names : List (List ℕ)) (id : ℕ) (ends : Ends EdgeEnd) 
     is = parts_are ∙ each_parted s ends id apart
 
     parts : HasParted s s.shape id row h k edge store.store d e d_now e_now u.records
-    parts = subst (λ (z : State). HasParted s s.shape id row h k edge store.store d e d_now e_now z.records) (sym is) (edge_parted s s.shape id row h k edge store.store d e d_now e_now)
+    parts = subst (λ (z : State). HasParted s s.shape id row h k edge store.store d e d_now e_now z.records) (sym is)
+        (edge_parted s s.shape id row h k edge store.store d e d_now e_now)
 
     split : (free : List ℕ) × IsSplit u.records format.relationships_file (is_live u.records format.relationships_file) free
     split = let p = store.store.split format.relationships_file refl in (p.0, re.split_stays s.records u.records parts.links format.relationships_file p.0 p.1)
 
     used : kind_at u.records format.relationships_file id ≢ format.free_kind
-    used z = (some_row (kind_at s.records format.relationships_file id) (rel_in (rec_at s.records format.relationships_file id) id) row bare.there).0 (sym (re.kind_stays s.records u.records parts.links format.relationships_file id) ∙ z)
+    used z = (some_row (kind_at s.records format.relationships_file id) (rel_in (rec_at s.records format.relationships_file id) id) row bare.there).0
+        (sym (re.kind_stays s.records u.records parts.links format.relationships_file id) ∙ z)
 
     gone : IsGone u.records t.records s.shape format.relationships_file id
     gone = is_gone u.records t.records s.shape format.relationships_file id split.0 refl split.1 used

@@ -15,7 +15,8 @@ use Rattle.graph_ops.specs.declared.change_fault.ChangeFault.{ChangeFault}
 use Rattle.graph_ops.specs.declared.change_fault.ChangeFault.TheVariants.{Full}
 
 -- ---- a file that holds as many elements as the limit, where each live record is one
-module _ (s : State) (names : List (List ℕ)) (store : IsMidway s names) (file count : ℕ) (reused : is_reused file ≡ true) (has_meta : is_meta_file file ≡ true) (room_is : room_of s.shape file ≡ s.shape.limit)
+module _ (s : State) (names : List (List ℕ)) (store : IsMidway s names) (file count : ℕ) (reused : is_reused file ≡ true) (has_meta : is_meta_file file ≡ true)
+    (room_is : room_of s.shape file ≡ s.shape.limit)
     (live : (meta_of s file).live ≡ count) where
   count-limit : count ≤ s.shape.limit
   count-limit =
@@ -34,18 +35,21 @@ module _ (s : State) (names : List (List ℕ)) (store : IsMidway s names) (file 
   lacks_full fault why = let n = live in let r = room_is in let le = count-limit in let lt = why.lacks in omega arith
 
 -- ---- room stays where the live records of the file do
-pub room_still : (s u : State) (file needed : ℕ) → (meta_of u file).live ≡ (meta_of s file).live → u.shape ≡ s.shape → HasRoom s file needed → HasRoom u file needed
+pub room_still : (s u : State) (file needed : ℕ) → (meta_of u file).live ≡ (meta_of s file).live → u.shape ≡ s.shape → HasRoom s file needed
+    → HasRoom u file needed
 room_still s u file needed live same room = let r = ap (λ (h : Shape). room_of h file) same in omega arith
 
 -- what it lacks it lacked before
-pub room_before : (s u : State) (file needed : ℕ) → meta_of u file ≡ meta_of s file → u.shape ≡ s.shape → (fault : ChangeFault) → LacksRoom u file needed fault → LacksRoom s file needed fault
+pub room_before : (s u : State) (file needed : ℕ) → meta_of u file ≡ meta_of s file → u.shape ≡ s.shape → (fault : ChangeFault) → LacksRoom u file needed fault
+    → LacksRoom s file needed fault
 room_before s u file needed meta same fault why = record {
   is = why.is ∙ ap (λ (m : Meta). Full file m.live) meta;
   lacks = let lt = why.lacks in let live = ap (λ (m : Meta). m.live) meta in let r = ap (λ (h : Shape). room_of h file) same in omega (arith, lt, live, r);
 }
 
 -- so does room for properties
-pub properties_still : (s u : State) (count blocks : ℕ) → meta_of u format.properties_file ≡ meta_of s format.properties_file → meta_of u format.strings_file ≡ meta_of s format.strings_file → u.shape ≡ s.shape
+pub properties_still : (s u : State) (count blocks : ℕ) → meta_of u format.properties_file ≡ meta_of s format.properties_file
+    → meta_of u format.strings_file ≡ meta_of s format.strings_file → u.shape ≡ s.shape
     → HasPropertyRoom s count blocks → HasPropertyRoom u count blocks
 properties_still s u count blocks properties strings same room =
     let a = room.properties in

@@ -37,7 +37,8 @@ same_both a b c h k = k ∙ ap (λ (z : State). record z { reads = c.reads }) h
 -- ---- nodes
 
 -- the identifier of a row is in use, and the row has the degree of its record
-pub used_of : (s : State) (id : ℕ) (node : NodeRow) → Some node ≡ nodes.row_at s.records id → (kind_at s.records format.nodes_file id ≢ format.free_kind) × (node.degree ≡ degree s.records id)
+pub used_of : (s : State) (id : ℕ) (node : NodeRow) → Some node ≡ nodes.row_at s.records id → (kind_at s.records format.nodes_file id ≢ format.free_kind)
+    × (node.degree ≡ degree s.records id)
 used_of s id node found = let k = node_rows.kind-row_at-Some s.records id node (sym found) in (k.0, ap (λ (n : NodeRow). n.degree) k.1)
 
 pub degree_found : (s : State) (id n : ℕ) → HasDegree s.records id n → n ≡ degree s.records id
@@ -61,7 +62,8 @@ edge_missing s id found = rows.no_edge s.records id (none_if (kind_at s.records 
     none_if kind h = ⊎_elim (λ (e : kind ≡ 0). e) (λ (ne : kind ≢ 0). absurd (let z = sym (row_some kind (row_of (rec_at s.records format.relationships_file id) id) ne) ∙ h in cc)) (nat_cases kind 0)
 
 -- ---- an element of the graph is in use
-pub element_used : (s : State) (target : Target) → has_element (graph_in s) target ≡ true → kind_at s.records (owner_of target).key.file (owner_of target).key.id ≢ format.free_kind
+pub element_used : (s : State) (target : Target) → has_element (graph_in s) target ≡ true
+    → kind_at s.records (owner_of target).key.file (owner_of target).key.id ≢ format.free_kind
 element_used s (targets.Node id) there free = clash (sym there ∙ rows.no_node s.records id free)
   where
     clash : true ≡ false → ⊥

@@ -124,7 +124,8 @@ module _ (s t : State) (rel : ℕ) (ends : Ends EdgeEnd) (w : WritesEnds s t rel
   R = rel_key w.before_source ∷ rel_key w.after_source ∷ key_in format.nodes_file source.node
       ∷ rel_key w.before_target ∷ rel_key w.after_target ∷ key_in format.nodes_file target.node ∷ []
 
-  apart : (q : Key) (more : List Key) → IsAmong q (rel_key rel ∷ (E ++ more) ++ meta_keys) → IsAmong q (rel_key rel ∷ source.head.key ∷ target.head.key ∷ (R ++ more) ++ meta_keys)
+  apart : (q : Key) (more : List Key) → IsAmong q (rel_key rel ∷ (E ++ more) ++ meta_keys)
+      → IsAmong q (rel_key rel ∷ source.head.key ∷ target.head.key ∷ (R ++ more) ++ meta_keys)
   apart q more (inl e) = inl e
   apart q more (inr (inl e)) = inr (inr (inr (inl e)))
   apart q more (inr (inr (inl e))) = inr (inr (inr (inr (inl e))))
@@ -136,7 +137,8 @@ module _ (s t : State) (rel : ℕ) (ends : Ends EdgeEnd) (w : WritesEnds s t rel
   apart q more (inr (inr (inr (inr (inr (inr (inr (inr (inl e))))))))) = inr (inr (inr (inr (inr (inr (inr (inr (inl e))))))))
   apart q more (inr (inr (inr (inr (inr (inr (inr (inr (inr i))))))))) = inr (inr (inr (inr (inr (inr (inr (inr (inr i))))))))
 
-  these_taken : (v : State) (more : List Key) → length more ≤ 4 → AreOwn more → WritesOnly s v (rel_key rel ∷ (E ++ more) ++ meta_keys) → WritesTaken s v rel ends
+  these_taken : (v : State) (more : List Key) → length more ≤ 4 → AreOwn more → WritesOnly s v (rel_key rel ∷ (E ++ more) ++ meta_keys)
+      → WritesTaken s v rel ends
   these_taken v more few own only = record {
     keys = R ++ more;
     few = omega arith;
@@ -176,7 +178,8 @@ module _ (s t : State) (rel : ℕ) (ends : Ends EdgeEnd) (w : WritesEnds s t rel
 
 -- ---- with the groups of the heads, which were counted before
 
-pub taken_after : (s t u : State) (rel : ℕ) (ends : Ends EdgeEnd) → WritesOnly s t ((source_of ends).head.key ∷ (target_of ends).head.key ∷ []) → WritesTaken t u rel ends → WritesTaken s u rel ends
+pub taken_after : (s t u : State) (rel : ℕ) (ends : Ends EdgeEnd) → WritesOnly s t ((source_of ends).head.key ∷ (target_of ends).head.key ∷ [])
+    → WritesTaken t u rel ends → WritesTaken s u rel ends
 taken_after s t u rel ends counted taken =
     let heads = (source_of ends).head.key ∷ (target_of ends).head.key ∷ [] in
     let all = rel_key rel ∷ (source_of ends).head.key ∷ (target_of ends).head.key ∷ taken.keys ++ meta_keys in
@@ -184,7 +187,8 @@ taken_after s t u rel ends counted taken =
       keys = taken.keys;
       few = taken.few;
       own = taken.own;
-      only = writes_more s u (heads ++ all) all (λ q i. ⊎_elim (λ e. inr (inl e)) (λ j. ⊎_elim (λ e. inr (inr (inl e))) (λ k. k) j) i) (writes_then s t u heads all counted taken.only);
+      only = writes_more s u (heads ++ all) all (λ q i. ⊎_elim (λ e. inr (inl e)) (λ j. ⊎_elim (λ e. inr (inr (inl e))) (λ k. k) j) i)
+          (writes_then s t u heads all counted taken.only);
     }
 
 pub taken_beside : (s u : State) (rel : ℕ) (ends : Ends EdgeEnd) → AtEach IsEdgeEnd ends → WritesTaken s u rel ends → WritesBeside (rel_key rel) 12 s u

@@ -41,12 +41,14 @@ has_degree records n used = record {
 }
 
 -- and keeps it where its kind and its degree are the same
-degree_stays : (s : State) (t : Records) (n d : ℕ) → kind_at t format.nodes_file n ≡ kind_at s.records format.nodes_file n → degree t n ≡ degree s.records n → HasDegree s.records n d → HasDegree t n d
+degree_stays : (s : State) (t : Records) (n d : ℕ) → kind_at t format.nodes_file n ≡ kind_at s.records format.nodes_file n → degree t n ≡ degree s.records n
+    → HasDegree s.records n d → HasDegree t n d
 degree_stays s t n d kind same has =
     subst (HasDegree t n) (same ∙ sym (degree_found s n d has)) (has_degree t n (λ free. (used_of s n has.row (sym has.found)).0 (sym kind ∙ free)))
 
 -- ---- one end
-module _ (s : State) (names : List (List ℕ)) (id : ℕ) (rel : RelRow) (store : IsMidway s names) (there : HasBareRow s.records id rel) (node : ℕ) (which : (node ≡ rel.from) ⊎ (node ≡ rel.to)) where
+module _ (s : State) (names : List (List ℕ)) (id : ℕ) (rel : RelRow) (store : IsMidway s names) (there : HasBareRow s.records id rel) (node : ℕ)
+    (which : (node ≡ rel.from) ⊎ (node ≡ rel.to)) where
   used : kind_at s.records format.nodes_file node ≢ format.free_kind
   used =
       let ends = store.store.linked.ends id (bare_of id rel) there in
@@ -57,22 +59,26 @@ module _ (s : State) (names : List (List ℕ)) (id : ℕ) (rel : RelRow) (store 
   pub end_readable : nodes.IsReadable s node × (nodes.row_at s.records node ≢ None)
   end_readable = (
     node_readable s names node store,
-    λ none. let e = sym (row_some (kind_at s.records format.nodes_file node) (node_records.row_of (rec_at s.records format.nodes_file node) node) used) ∙ none in absurd cc,
+    λ none. let e = sym (row_some (kind_at s.records format.nodes_file node) (node_records.row_of (rec_at s.records format.nodes_file node) node) used)
+        ∙ none in absurd cc,
   )
 
   -- the edge stands in a chain of it
-  pub end_of : (m : State) → SameButReads s m → (side : Side) → side ≡ side_at node rel.from rel.to → IsEndOf m node rel.label side m.shape.threshold [] id (bare_of id rel)
+  pub end_of : (m : State) → SameButReads s m → (side : Side) → side ≡ side_at node rel.from rel.to
+      → IsEndOf m node rel.label side m.shape.threshold [] id (bare_of id rel)
   end_of m same side is = record {
     keeps = (store_read s m names same store).store;
     live = subst (λ z. rel_at z.records id ≡ Some (bare_of id rel)) (sym same) there;
     at = record { end = ⊎_elim (λ e. inl (sym e)) (λ e. inr (sym e)) which; typed = refl; aside = is };
   }
 
-  pub end_found : (m t : State) → SameButReads s m → (head : ChainHead) (degree_is : ℕ) → FindsChain m t (head_of head) node (bare_of id rel) m.shape.threshold [] → HasDegree s.records node degree_is
+  pub end_found : (m t : State) → SameButReads s m → (head : ChainHead) (degree_is : ℕ)
+      → FindsChain m t (head_of head) node (bare_of id rel) m.shape.threshold [] → HasDegree s.records node degree_is
       → FindsEnd s t names id (record { node = node; head = head; degree = degree_is })
   end_found m t same head degree_is found has = by (subst (λ z. FindsChain z t (head_of head) node (bare_of id rel) z.shape.threshold []) same found)
     where
-      by : FindsChain (record s { reads = m.reads }) t (head_of head) node (bare_of id rel) s.shape.threshold [] → FindsEnd s t names id (record { node = node; head = head; degree = degree_is })
+      by : FindsChain (record s { reads = m.reads }) t (head_of head) node (bare_of id rel) s.shape.threshold []
+          → FindsEnd s t names id (record { node = node; head = head; degree = degree_is })
       by f =
           let r = f.regroups in
           record {
@@ -91,7 +97,8 @@ module _ (s : State) (names : List (List ℕ)) (id : ℕ) (rel : RelRow) (store 
           }
 
 -- ---- both
-module _ (s t : State) (names : List (List ℕ)) (id : ℕ) (rel : RelRow) (there : HasBareRow s.records id rel) (source : EdgeEnd) (from : source.node ≡ rel.from) (first : FindsEnd s t names id source) where
+module _ (s t : State) (names : List (List ℕ)) (id : ℕ) (rel : RelRow) (there : HasBareRow s.records id rel) (source : EdgeEnd) (from : source.node ≡ rel.from)
+    (first : FindsEnd s t names id source) where
   -- the edge is there after the first
   pub there_then : HasBareRow t.records id rel
   there_then = first.regroups.rels id ∙ there
@@ -109,7 +116,8 @@ module _ (s t : State) (names : List (List ℕ)) (id : ℕ) (rel : RelRow) (ther
     indexes = first.indexes;
   }
 
-  pub both_found : (u : State) (target : EdgeEnd) → target.node ≡ rel.to → rel.from ≢ rel.to → FindsEnd t u names id target → FindsEnds s u names id (Two source target)
+  pub both_found : (u : State) (target : EdgeEnd) → target.node ≡ rel.to → rel.from ≢ rel.to → FindsEnd t u names id target
+      → FindsEnds s u names id (Two source target)
   both_found u target to differ second = record {
     store = second.store;
     bare = record {
@@ -135,7 +143,8 @@ module _ (s t : State) (names : List (List ℕ)) (id : ℕ) (rel : RelRow) (ther
           }
 
 -- ---- and the edge is taken away then
-pub taken_then : (s t u : State) (names : List (List ℕ)) (id : ℕ) (ends : Ends EdgeEnd) → FindsEnds s t names id ends → TakesEdge t u names id → TakesEdge s u names id
+pub taken_then : (s t u : State) (names : List (List ℕ)) (id : ℕ) (ends : Ends EdgeEnd) → FindsEnds s t names id ends → TakesEdge t u names id
+    → TakesEdge s u names id
 taken_then s t u names id ends found taken = record {
   store = taken.store;
   indexes = λ are. taken.indexes (found.indexes are);

@@ -1,6 +1,7 @@
 -- What a fault of an entry's call says.
 use Rattle.std.specs.Prelude.{Err, IfSome, slice_get}
-use Rattle.std.proofs.Common.{◌≡◌, ◌≢◌, ◌⊎◌, ℕ, zero, suc, ◌<◌, ◌≤◌, Option, None, Some, List, [], ◌∷◌, ◌++◌, map, inl, inr, ⊎_elim, refl, sym, ap, ◌∙◌, subst, arith}
+use Rattle.std.proofs.Common.{◌≡◌, ◌≢◌, ◌⊎◌, ℕ, zero, suc, ◌<◌, ◌≤◌, Option, None, Some, List, [], ◌∷◌, ◌++◌, map, inl}
+use Rattle.std.proofs.Common.{inr, ⊎_elim, refl, sym, ap, ◌∙◌, subst, arith}
 use Rattle.plain_graph.specs.declared.command.Target.{Target}
 use Rattle.plain_graph.specs.declared.command.Target.TheVariants as targets
 use Rattle.plain_graph.specs.declared.value.Value.{Value}
@@ -34,14 +35,17 @@ use Rattle.graph_ops.specs.Entries.{HasMet, HasValue, IsEntryFault, IsEntryRefus
 use Rattle.graph_ops.specs.Rooms.{LacksRoom}
 use Rattle.graph_ops.specs.declared.entries.IndexedValue.{IndexedValue}
 use Rattle.graph_ops.specs.declared.change_fault.ChangeFault.{ChangeFault}
-use Rattle.graph_ops.specs.declared.change_fault.ChangeFault.TheVariants.{NoNode, NoEdge, HasRelationships, IndexThere, TooManyIndexes, IndexTooLarge, Full, NamesFull, PropsFull, Memory, Disk, Damaged}
+use Rattle.graph_ops.specs.declared.change_fault.ChangeFault.TheVariants.{NoNode, NoEdge, HasRelationships, IndexThere}
+use Rattle.graph_ops.specs.declared.change_fault.ChangeFault.TheVariants.{TooManyIndexes, IndexTooLarge, Full}
+use Rattle.graph_ops.specs.declared.change_fault.ChangeFault.TheVariants.{NamesFull, PropsFull, Memory, Disk, Damaged}
 
 pub row_outside : (T : Type 0) (fault : RowFault) → row_faults.NotDamaged {T = T} (Err fault) → IsOutside (of_row fault)
 row_outside T rows.Disk right = tt
 row_outside T (rows.Damaged damage) right = absurd right
 
 -- where there is room, no file is full
-pub take_outside : (T : Type 0) (s : State) (fault : TakeFault) → frees.NotDamaged {T = T} (Err fault) → IsIndexFull s fault → (meta_of s format.index_file).live < room_of s.shape format.index_file → IsOutside (of_take fault)
+pub take_outside : (T : Type 0) (s : State) (fault : TakeFault) → frees.NotDamaged {T = T} (Err fault) → IsIndexFull s fault
+    → (meta_of s format.index_file).live < room_of s.shape format.index_file → IsOutside (of_take fault)
 take_outside T s (takes.Full file live) right full room = absurd (let a = full.1 in let b = full.2 in omega (arith, a, b, room))
 take_outside T s takes.Memory right full room = tt
 take_outside T s takes.Disk right full room = tt
@@ -77,7 +81,8 @@ held_untouched s m t zero damage calm found = inl (found ∙ ap (λ (z : State).
 held_untouched s m t (suc weight) damage calm found = inr (omega arith)
 
 -- then the element had a value
-pub held_value : (s : State) (target : Target) (names : List (List ℕ)) (number : ℕ) (key : List ℕ) (held : Option IndexedValue) → slice_get names number ≡ Some key → IfSome held (HasMet s target number) → 0 < old_weight held → HasValue s target names key
+pub held_value : (s : State) (target : Target) (names : List (List ℕ)) (number : ℕ) (key : List ℕ) (held : Option IndexedValue)
+    → slice_get names number ≡ Some key → IfSome held (HasMet s target number) → 0 < old_weight held → HasValue s target names key
 held_value s target names number key None named met some = absurd (let z : 0 < 0 = some in omega arith)
 held_value s target names number key (Some held) named met some = by held.value refl
   where
@@ -93,36 +98,40 @@ among_others file (x ∷ ids) rest q ne (inl e) = absurd (ne (ap (λ (k : Key). 
 among_others file (x ∷ ids) rest q ne (inr i) = among_others file ids rest q ne i
 
 -- a record of the indexes, or their meta record, is none of these
-module _ (owner : Owner) (file : (owner.key.file ≡ format.nodes_file) ⊎ (owner.key.file ≡ format.relationships_file)) (damage : Damage) (of : IsOfIndex damage) where
-  other : (f : ℕ) → f ≢ format.index_file → f ≢ format.meta_file → damage.file ≢ f
-  other f a b e = ⊎_elim (λ (i : damage.file ≡ format.index_file). a (sym e ∙ i)) (λ k. b (sym e ∙ k.0)) of
+module _ (owner : Owner) (file : (owner.key.file ≡ format.nodes_file) ⊎ (owner.key.file ≡ format.relationships_file)) (damage : Damage) (of : IsOfIndex damage)
+  where
+    other : (f : ℕ) → f ≢ format.index_file → f ≢ format.meta_file → damage.file ≢ f
+    other f a b e = ⊎_elim (λ (i : damage.file ≡ format.index_file). a (sym e ∙ i)) (λ k. b (sym e ∙ k.0)) of
 
-  no_meta : (f : ℕ) → f ≢ format.index_file → key_in damage.file damage.id ≢ meta_key_of f
-  no_meta f a e =
-      let m : damage.file ≡ format.meta_file = ap (λ (k : Key). k.file) e in
-      let i : damage.id ≡ f = ap (λ (k : Key). k.id) e in
-      ⊎_elim (λ (x : damage.file ≡ format.index_file). let z = sym x ∙ m in omega arith) (λ k. a (sym i ∙ k.1)) of
+    no_meta : (f : ℕ) → f ≢ format.index_file → key_in damage.file damage.id ≢ meta_key_of f
+    no_meta f a e =
+        let m : damage.file ≡ format.meta_file = ap (λ (k : Key). k.file) e in
+        let i : damage.id ≡ f = ap (λ (k : Key). k.id) e in
+        ⊎_elim (λ (x : damage.file ≡ format.index_file). let z = sym x ∙ m in omega arith) (λ k. a (sym i ∙ k.1)) of
 
-  own : key_in damage.file damage.id ≢ owner.key
-  own e = ⊎_elim
-      (λ (n : owner.key.file ≡ format.nodes_file). other format.nodes_file (λ z. omega arith) (λ z. omega arith) (ap (λ (k : Key). k.file) e ∙ n))
-      (λ (r : owner.key.file ≡ format.relationships_file). other format.relationships_file (λ z. omega arith) (λ z. omega arith) (ap (λ (k : Key). k.file) e ∙ r)) file
+    own : key_in damage.file damage.id ≢ owner.key
+    own e = ⊎_elim
+        (λ (n : owner.key.file ≡ format.nodes_file). other format.nodes_file (λ z. omega arith) (λ z. omega arith) (ap (λ (k : Key). k.file) e ∙ n))
+        (λ (r : owner.key.file ≡ format.relationships_file). other format.relationships_file (λ z. omega arith) (λ z. omega arith) (ap (λ (k : Key). k.file) e ∙ r)) file
 
-  index_apart : (ids blocks : List ℕ) → ¬ IsAmong (key_in damage.file damage.id) (owner.key ∷ property_keys ids blocks)
-  index_apart ids blocks i = ⊎_elim own
-      (λ j. ⊎_elim (no_meta format.properties_file (λ z. omega arith)) (λ k. ⊎_elim (no_meta format.strings_file (λ z. omega arith)) (λ (f : ⊥). f) k)
-      (among_others format.strings_file blocks _ _ (other format.strings_file (λ z. omega arith) (λ z. omega arith))
-      (among_others format.properties_file ids _ _ (other format.properties_file (λ z. omega arith) (λ z. omega arith)) j))) i
+    index_apart : (ids blocks : List ℕ) → ¬ IsAmong (key_in damage.file damage.id) (owner.key ∷ property_keys ids blocks)
+    index_apart ids blocks i = ⊎_elim own
+        (λ j. ⊎_elim (no_meta format.properties_file (λ z. omega arith)) (λ k. ⊎_elim (no_meta format.strings_file (λ z. omega arith)) (λ (f : ⊥). f) k)
+        (among_others format.strings_file blocks _ _ (other format.strings_file (λ z. omega arith) (λ z. omega arith))
+        (among_others format.properties_file ids _ _ (other format.properties_file (λ z. omega arith) (λ z. omega arith)) j))) i
 
-pub owner_file : (owner : Owner) (target : Target) → owner ≡ owner_of target → (owner.key.file ≡ format.nodes_file) ⊎ (owner.key.file ≡ format.relationships_file)
+pub owner_file : (owner : Owner) (target : Target) → owner ≡ owner_of target → (owner.key.file ≡ format.nodes_file)
+    ⊎ (owner.key.file ≡ format.relationships_file)
 owner_file owner (targets.Node id) is = inl (ap (λ (o : Owner). o.key.file) is)
 owner_file owner (targets.Edge id) is = inr (ap (λ (o : Owner). o.key.file) is)
 
 -- a change of properties leaves it
-pub properties_leave : (tells : Type 0) (properties blocks : ℕ) (s t : State) (owner : Owner) → (owner.key.file ≡ format.nodes_file) ⊎ (owner.key.file ≡ format.relationships_file) → tells → TouchesProperties tells (owner.key ∷ []) properties blocks s t
+pub properties_leave : (tells : Type 0) (properties blocks : ℕ) (s t : State) (owner : Owner) → (owner.key.file ≡ format.nodes_file)
+    ⊎ (owner.key.file ≡ format.relationships_file) → tells → TouchesProperties tells (owner.key ∷ []) properties blocks s t
     → LeavesIndexes s t
 properties_leave tells properties blocks s t owner file does touches damage of =
-    ⊎_elim (λ e. e) (λ i. absurd (index_apart owner file damage of touches.ids touches.block_ids i)) ((touches.only.stays does).each (key_in damage.file damage.id))
+    ⊎_elim (λ e. e) (λ i. absurd (index_apart owner file damage of touches.ids touches.block_ids i))
+    ((touches.only.stays does).each (key_in damage.file damage.id))
 
 -- so does a record of another file that is made
 pub other_leaves : (s t : State) (file : ℕ) → file ≢ format.index_file → file ≢ format.meta_file → IsSameBeside file s.records t.records → LeavesIndexes s t
@@ -163,7 +172,8 @@ take_full s takes.Memory full = tt
 take_full s takes.Disk full = tt
 take_full s (takes.Damaged damage) full = tt
 
-pub take_undamaged : (T : Type 0) (s : State) (fault : TakeFault) → frees.NotDamaged {T = T} (Err fault) → IsIndexFull s fault → IsEntryUndamaged s (of_take fault)
+pub take_undamaged : (T : Type 0) (s : State) (fault : TakeFault) → frees.NotDamaged {T = T} (Err fault) → IsIndexFull s fault
+    → IsEntryUndamaged s (of_take fault)
 take_undamaged T s (takes.Full file live) right full = (full.0, full_lacks s file live full)
 take_undamaged T s takes.Memory right full = tt
 take_undamaged T s takes.Disk right full = tt
@@ -205,8 +215,10 @@ undamaged_outside s Disk right fails = tt
 undamaged_outside s (Damaged damage) right fails = right
 
 -- Where the file is full once the entry that was held has left, none was held.
-pub entry_refusal : (s m : State) (held : Option IndexedValue) → held ≢ None → (old_weight held ≡ 0 → m ≡ s) → (0 < old_weight held → (meta_of m format.index_file).live < (meta_of s format.index_file).live)
-    → (meta_of s format.index_file).live ≤ room_of s.shape format.index_file → m.shape ≡ s.shape → (fault : ChangeFault) → IsEntryUndamaged m fault → IsEntryRefusal s held fault
+pub entry_refusal : (s m : State) (held : Option IndexedValue) → held ≢ None → (old_weight held ≡ 0 → m ≡ s)
+    → (0 < old_weight held → (meta_of m format.index_file).live < (meta_of s format.index_file).live)
+    → (meta_of s format.index_file).live ≤ room_of s.shape format.index_file → m.shape ≡ s.shape → (fault : ChangeFault) → IsEntryUndamaged m fault
+    → IsEntryRefusal s held fault
 entry_refusal s m held some calm gone room shape (NoNode id) why = absurd why
 entry_refusal s m held some calm gone room shape (NoEdge id) why = absurd why
 entry_refusal s m held some calm gone room shape (HasRelationships id degree) why = absurd why

@@ -1,5 +1,6 @@
 -- The values that a node has, and the pairs that have an index.
-use Rattle.std.proofs.Common.{◌≡◌, ◌≢◌, ⊎_elim, inl, inr, ℕ, ◌<◌, nat_eq, Bool, true, false, ◌||◌, cond, Option, None, List, [], ◌∷◌, map, refl, ap, sym, ◌∙◌, arith}
+use Rattle.std.proofs.Common.{◌≡◌, ◌≢◌, ⊎_elim, inl, inr, ℕ, ◌<◌, nat_eq, Bool, true, false, ◌||◌, cond, Option, None}
+use Rattle.std.proofs.Common.{List, [], ◌∷◌, map, refl, ap, sym, ◌∙◌, arith}
 use Rattle.std.proofs.lemmas.Bool.{true≢false}
 use Rattle.plain_graph.specs.declared.command.Target.TheVariants as targets
 use Rattle.plain_graph.specs.declared.value.Value.{Value}
@@ -45,7 +46,8 @@ module _ (records : Records) (node : ℕ) where
   listed_here = listed_from (property_records records) (field 4 node_rec format.node_first_property)
 
   -- A node in use has the value that is met, for its own label.
-  pub own_met : (label key : ℕ) → kind_at records format.nodes_file node ≢ 0 → label ≡ field 4 node_rec format.node_label → node_value records label key node ≡ met key
+  pub own_met : (label key : ℕ) → kind_at records format.nodes_file node ≢ 0 → label ≡ field 4 node_rec format.node_label
+      → node_value records label key node ≡ met key
   own_met label key used is =
       ap (row_value (property_records records) label key) (row_some (kind_at records format.nodes_file node) (node_in node_rec node) used)
       ∙ ap (λ b. cond b (value_in listed_here key) None) (eq_true (field 4 node_rec format.node_label) label (sym is))
@@ -54,7 +56,8 @@ module _ (records : Records) (node : ℕ) where
 -- ---- pairs that are listed
 
 -- the pair of a definition is listed
-pub listed_in : (s : Records) (ds : List ℕ) (d label key : ℕ) → In d ds → label ≡ indexed_label s d → key ≡ indexed_key s d → is_listed (map (pair_of s) ds) label key ≡ true
+pub listed_in : (s : Records) (ds : List ℕ) (d label key : ℕ) → In d ds → label ≡ indexed_label s d → key ≡ indexed_key s d
+    → is_listed (map (pair_of s) ds) label key ≡ true
 listed_in s [] d label key i l k = elim i [ ]
 listed_in s (x ∷ ds) d label key (inl e) l k =
     let a = eq_true (indexed_label s x) label (ap (indexed_label s) (sym e) ∙ sym l) in
@@ -67,7 +70,8 @@ listed_in s (x ∷ ds) d label key (inr i) l k = rw (listed_in s ds d label key 
     or_true false = refl
 
 -- ---- a node in use can be read
-pub owner_known : (s : State) (node : ℕ) → KeepsStore s → kind_at s.records format.nodes_file node ≢ 0 → (es : List Property) × HasProperties s.records (owner_of (targets.Node node)) es
+pub owner_known : (s : State) (node : ℕ) → KeepsStore s → kind_at s.records format.nodes_file node ≢ 0 → (es : List Property)
+    × HasProperties s.records (owner_of (targets.Node node)) es
 owner_known s node store used =
     let low : node < high s.records format.nodes_file = kind_below (high s.records format.nodes_file) (rec_at s.records format.nodes_file node) node used in
     let most = high_most s.records s.shape format.nodes_file store.ranges refl in

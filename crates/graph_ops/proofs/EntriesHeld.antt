@@ -1,6 +1,8 @@
 -- The values that a node has in indexes, and what they are of entries.
 use Rattle.std.specs.Prelude.{is_some}
-use Rattle.std.proofs.Common.{◌≡◌, ◌≢◌, ℕ, zero, suc, ◌+◌, ◌-◌, ◌<◌, ◌≤◌, nat_eq, Bool, true, false, ◌||◌, cond, Option, None, Some, List, [], ◌∷◌, ◌++◌, length, map, take, get_or, inl, inr, refl, ap, sym, ◌∙◌, arith}
+use Rattle.std.proofs.Common.{◌≡◌, ◌≢◌, ℕ, zero, suc, ◌+◌, ◌-◌, ◌<◌, ◌≤◌, nat_eq, Bool, true, false, ◌||◌, cond, Option}
+use Rattle.std.proofs.Common.{None, Some, List, [], ◌∷◌, ◌++◌, length, map, take, get_or, inl, inr, refl, ap, sym, ◌∙◌}
+use Rattle.std.proofs.Common.{arith}
 use Rattle.std.proofs.lemmas.Bool.{true≢false}
 use Rattle.plain_graph.specs.declared.value.Value.{Value}
 use Rattle.prop_index.specs.declared.listing.IndexPair.{IndexPair}
@@ -39,7 +41,8 @@ held_if label key node (Some v) = Some (record { label = label; key = key; node 
 
 -- A node in use holds the value that is met of the pair's key.
 pub held_met : (records : Records) (label node : ℕ) (pair : IndexPair) → pair.label ≡ label → kind_at records format.nodes_file node ≢ 0
-    → label ≡ field 4 (rec_at records format.nodes_file node) format.node_label → (o : Option Value) → met records node pair.key ≡ o → held_at records label node pair ≡ held_if label pair.key node o
+    → label ≡ field 4 (rec_at records format.nodes_file node) format.node_label → (o : Option Value) → met records node pair.key ≡ o
+    → held_at records label node pair ≡ held_if label pair.key node o
 held_met records label node pair same used is o here =
     rw (eq_true pair.label label same) (ap (λ (v : Option Value). cond (is_some v) (held_as v) nothing) (own_met records node label pair.key used is ∙ here) ∙ by o)
   where
@@ -60,14 +63,16 @@ plus_one i = omega arith
 held_next : (records : Records) (label node : ℕ) (pairs : List IndexPair) (i : ℕ) (d : IndexPair) → i < length pairs
     → held_of records label node (take (suc i) pairs) ≡ held_of records label node (take i pairs) ++ option_list (held_at records label node (get_or pairs i d))
 held_next records label node [] i d lt = absurd (omega (arith, lt))
-held_next records label node (x ∷ xs) zero d lt = one (is_held records label node x) (record { label = label; key = x.key; node = node; value = node_value records label x.key node })
+held_next records label node (x ∷ xs) zero d lt = one (is_held records label node x)
+    (record { label = label; key = x.key; node = node; value = node_value records label x.key node })
   where
     one : (b : Bool) (h : IndexedValue) → cond b (h ∷ []) [] ≡ option_list (cond b (Some h) None)
     one true h = refl
     one false h = refl
 held_next records label node (x ∷ xs) (suc i) d lt =
     on (is_held records label node x) (record { label = label; key = x.key; node = node; value = node_value records label x.key node })
-    (held_of records label node (take (suc i) xs)) (held_of records label node (take i xs)) (option_list (held_at records label node (get_or xs i d))) (held_next records label node xs i d (omega (arith, lt)))
+    (held_of records label node (take (suc i) xs)) (held_of records label node (take i xs)) (option_list (held_at records label node (get_or xs i d)))
+    (held_next records label node xs i d (omega (arith, lt)))
   where
     on : (b : Bool) (h : IndexedValue) (all one more : List IndexedValue) → all ≡ one ++ more → cond b (h ∷ all) all ≡ cond b (h ∷ one) one ++ more
     on true h all one more e = ap (λ (zs : List IndexedValue). h ∷ zs) e
@@ -83,12 +88,14 @@ option_few (Some x) = omega arith
 
 -- ---- they leave one after another
 
-without_next : (wanted : Entries) (held : List IndexedValue) (i : ℕ) (d : IndexedValue) → i < length held → without_held wanted (take (suc i) held) ≡ without_old (without_held wanted (take i held)) (Some (get_or held i d))
+without_next : (wanted : Entries) (held : List IndexedValue) (i : ℕ) (d : IndexedValue) → i < length held
+    → without_held wanted (take (suc i) held) ≡ without_old (without_held wanted (take i held)) (Some (get_or held i d))
 without_next wanted [] i d lt = absurd (omega (arith, lt))
 without_next wanted (x ∷ xs) zero d lt = refl
 without_next wanted (x ∷ xs) (suc i) d lt = without_next (without_old wanted (Some x)) xs i d (omega (arith, lt))
 
-pub without_more : (wanted : Entries) (held : List IndexedValue) (i : ℕ) (d : IndexedValue) → i < length held → without_held wanted (take (i + 1) held) ≡ without_old (without_held wanted (take i held)) (Some (get_or held i d))
+pub without_more : (wanted : Entries) (held : List IndexedValue) (i : ℕ) (d : IndexedValue) → i < length held
+    → without_held wanted (take (i + 1) held) ≡ without_old (without_held wanted (take i held)) (Some (get_or held i d))
 without_more wanted held i d lt = ap (λ n. without_held wanted (take n held)) (plus_one i) ∙ without_next wanted held i d lt
 
 -- ---- how many records are live
@@ -116,7 +123,8 @@ pub no_definition : (s : Records) (ds : List ℕ) (label key : ℕ) → is_liste
 no_definition s ds label key none d i pair = true≢false (sym (listed_in s ds d label key i (sym pair.0) (sym pair.1)) ∙ none)
 
 -- where one is live, one less is less
-pub some_live : (s : State) (wanted : Entries) (ix : AreIndexed s.records wanted) → KeepsStore s → (d : ℕ) → In d ix.definitions → (now : ℕ) → now ≡ (meta_of s format.index_file).live - 1 → now < (meta_of s format.index_file).live
+pub some_live : (s : State) (wanted : Entries) (ix : AreIndexed s.records wanted) → KeepsStore s → (d : ℕ) → In d ix.definitions → (now : ℕ)
+    → now ≡ (meta_of s format.index_file).live - 1 → now < (meta_of s format.index_file).live
 some_live s wanted ix store d i now is =
     let free = free_list s store in
     let count = index_count s.records wanted ix free.0 free.1 in

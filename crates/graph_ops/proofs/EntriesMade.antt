@@ -1,5 +1,7 @@
 -- The entries of a new node come into the indexes, one after another.
-use Rattle.std.proofs.Common.{◌≡◌, ◌≢◌, ⊎_elim, inl, inr, ℕ, zero, suc, ◌+◌, ◌*◌, ◌<◌, ◌≤◌, nat_eq, Bool, true, false, ◌&&◌, ◌||◌, not, cond, List, [], ◌∷◌, ◌++◌, length, map, take, get_or, refl, ap, sym, ◌∙◌, subst, arith}
+use Rattle.std.proofs.Common.{◌≡◌, ◌≢◌, ⊎_elim, inl, inr, ℕ, zero, suc, ◌+◌, ◌*◌, ◌<◌, ◌≤◌, nat_eq, Bool, true, false}
+use Rattle.std.proofs.Common.{◌&&◌, ◌||◌, not, cond, List, [], ◌∷◌, ◌++◌, length, map, take, get_or, refl, ap, sym, ◌∙◌}
+use Rattle.std.proofs.Common.{subst, arith}
 use Rattle.std.specs.List.{filter, list_any}
 use Rattle.std.proofs.lemmas.List.Filters.{length-filter_more}
 use Rattle.std.proofs.lemmas.List.{take_all}
@@ -31,7 +33,8 @@ use Rattle.graph_ops.proofs.EntriesGone.{eq_of, listed_in}
 -- ---- tests of lists
 
 flip : (a b : ℕ) → nat_eq a b ≡ nat_eq b a
-flip a b = ⊎_elim (λ (p : a ≡ b). rw (eq_true a b p, eq_true b a (sym p)) refl) (λ (p : a ≢ b). rw (eq_false a b p, eq_false b a (λ q. p (sym q))) refl) (nat_cases a b)
+flip a b = ⊎_elim (λ (p : a ≡ b). rw (eq_true a b p, eq_true b a (sym p)) refl) (λ (p : a ≢ b). rw (eq_false a b p, eq_false b a (λ q. p (sym q))) refl)
+    (nat_cases a b)
 
 or_assoc : (a b c : Bool) → ((a || b) || c) ≡ (a || (b || c))
 or_assoc true b c = refl
@@ -48,7 +51,8 @@ any_parts p q [] = refl
 any_parts p q (x ∷ xs) = by (q x) (any_parts p q xs)
   where
     by : (b : Bool) → (list_any p (filter q xs) || list_any p (filter (λ x. not (q x)) xs)) ≡ list_any p xs
-        → (list_any p (cond b (x ∷ filter q xs) (filter q xs)) || list_any p (cond (not b) (x ∷ filter (λ x. not (q x)) xs) (filter (λ x. not (q x)) xs))) ≡ (p x || list_any p xs)
+        → (list_any p (cond b (x ∷ filter q xs) (filter q xs)) || list_any p (cond (not b) (x ∷ filter (λ x. not (q x)) xs) (filter (λ x. not (q x)) xs)))
+        ≡ (p x || list_any p xs)
     by true rest = or_assoc (p x) (list_any p (filter q xs)) (list_any p (filter (λ x. not (q x)) xs)) ∙ ap (λ b. p x || b) rest
     by false rest = or_between (list_any p (filter q xs)) (p x) (list_any p (filter (λ x. not (q x)) xs)) ∙ ap (λ b. p x || b) rest
 
@@ -65,7 +69,8 @@ fresh_key : (xs : List Assignment) (i : ℕ) (d : Assignment) → i < length xs 
 fresh_key [] i d lt once = absurd (omega (arith, lt))
 fresh_key (x ∷ xs) zero d lt once = refl
 fresh_key (x ∷ xs) (suc i) d lt once =
-    let ne : nat_eq x.key (get_or xs i d).key ≡ false = eq_false x.key (get_or xs i d).key (λ e. once.0 (subst (λ k. In k (map (λ (a : Assignment). a.key) xs)) (sym e) (key_in_keys xs i d (omega (arith, lt))))) in
+    let ne : nat_eq x.key (get_or xs i d).key ≡ false = eq_false x.key (get_or xs i d).key
+    (λ e. once.0 (subst (λ k. In k (map (λ (a : Assignment). a.key) xs)) (sym e) (key_in_keys xs i d (omega (arith, lt))))) in
     rw (ne, fresh_key xs i d (omega (arith, lt)) once.1) refl
 
 -- the first assignments that have an index with the label, and all that have none
@@ -89,7 +94,9 @@ module _ (listed : List IndexPair) (label node : ℕ) (pairs : List Pair) where
   gives_no [] p key hash none = refl
   gives_no (x ∷ xs) p key hash none = by (p x) (nat_eq x.key key) refl none (gives_no xs p key hash)
     where
-      by : (b k : Bool) → nat_eq x.key key ≡ k → (k || list_any (has_key key) xs) ≡ false → (list_any (has_key key) xs ≡ false → list_any (gives key hash) (filter p xs) ≡ false) → list_any (gives key hash) (cond b (x ∷ filter p xs) (filter p xs)) ≡ false
+      by : (b k : Bool) → nat_eq x.key key ≡ k → (k || list_any (has_key key) xs) ≡ false
+          → (list_any (has_key key) xs ≡ false → list_any (gives key hash) (filter p xs) ≡ false)
+          → list_any (gives key hash) (cond b (x ∷ filter p xs) (filter p xs)) ≡ false
       by b true is h rest = absurd (true≢false h)
       by true false is h rest = rw (is, rest h) refl
       by false false is h rest = rest h
@@ -111,7 +118,8 @@ module _ (listed : List IndexPair) (label node : ℕ) (pairs : List Pair) where
     abbrev entries_at : ℕ → Entries
     entries_at i = with_assigned wanted label node pairs (settled listed label assigned i)
 
-    given_at : (i key hash : ℕ) → gives_hash pairs (settled listed label assigned i) key hash ≡ (list_any (gives key hash) (indexed_of listed label (take i assigned)) || list_any (gives key hash) (others_of assigned))
+    given_at : (i key hash : ℕ) → gives_hash pairs (settled listed label assigned i) key
+        hash ≡ (list_any (gives key hash) (indexed_of listed label (take i assigned)) || list_any (gives key hash) (others_of assigned))
     given_at i key hash = list_any-append (gives key hash) (indexed_of listed label (take i assigned)) (others_of assigned)
 
     -- before any has come
@@ -122,8 +130,11 @@ module _ (listed : List IndexPair) (label node : ℕ) (pairs : List Pair) where
         and_none true w = refl
         and_none false w = refl
 
-        by : (e : Entry) (b : Bool) → nat_eq e.label label ≡ b → is_listed listed e.label e.key ≡ true → ((b && (nat_eq e.node node && gives_hash pairs (others_of assigned) e.key e.hash)) || wanted e) ≡ wanted e
-        by e true is there = ap (λ g. (nat_eq e.node node && g) || wanted e) (others_none assigned e.key e.hash (ap (λ l. is_listed listed l e.key) (sym (eq_of e.label label is)) ∙ there)) ∙ and_none (nat_eq e.node node) (wanted e)
+        by : (e : Entry) (b : Bool) → nat_eq e.label label ≡ b → is_listed listed e.label e.key ≡ true
+            → ((b && (nat_eq e.node node && gives_hash pairs (others_of assigned) e.key e.hash)) || wanted e) ≡ wanted e
+        by e true is there = ap (λ g. (nat_eq e.node node && g) || wanted e)
+            (others_none assigned e.key e.hash (ap (λ l. is_listed listed l e.key) (sym (eq_of e.label label is)) ∙ there))
+            ∙ and_none (nat_eq e.node node) (wanted e)
         by e false is there = refl
 
     module _ (i : ℕ) (d : Assignment) (lt : i < length assigned) where
@@ -131,7 +142,8 @@ module _ (listed : List IndexPair) (label node : ℕ) (pairs : List Pair) where
       this = get_or assigned i d
 
       -- the entry of the next one isn't there yet
-      pub entered_lacks : is_indexed this ≡ true → LacksEntries wanted node → AreKeysOnce assigned → (v : Value) → entries_at i (entry_of label this.key node v) ≡ false
+      pub entered_lacks : is_indexed this ≡ true → LacksEntries wanted node → AreKeysOnce assigned → (v : Value)
+          → entries_at i (entry_of label this.key node v) ≡ false
       entered_lacks there lacks once v =
           let none : gives_hash pairs (settled listed label assigned i) this.key (hash_of v) ≡ false
           = given_at i this.key (hash_of v) ∙ (λ k. gives_no (take i assigned) is_indexed this.key (hash_of v) (fresh_key assigned i d lt once) k || others_none assigned this.key (hash_of v) there k) in
@@ -149,7 +161,8 @@ module _ (listed : List IndexPair) (label node : ℕ) (pairs : List Pair) where
       more true false true h false u w = refl
 
       -- it came
-      pub entered_more : is_indexed this ≡ true → (v : Value) → v ≡ (pair_at pairs this.pair).value → (t : Records) → AreIndexed t (with_entry (entries_at i) (entry_of label this.key node v)) → AreIndexed t (entries_at (i + 1))
+      pub entered_more : is_indexed this ≡ true → (v : Value) → v ≡ (pair_at pairs this.pair).value → (t : Records)
+          → AreIndexed t (with_entry (entries_at i) (entry_of label this.key node v)) → AreIndexed t (entries_at (i + 1))
       entered_more there v is t ix = subst (AreIndexed t) (λ k e. same e k) ix
         where
           given : (key hash : ℕ) → gives key hash this ≡ (nat_eq key this.key && nat_eq hash (hash_of v))
@@ -159,17 +172,21 @@ module _ (listed : List IndexPair) (label node : ℕ) (pairs : List Pair) where
               ≡ ((list_any (gives key hash) (indexed_of listed label (take i assigned)) || ((nat_eq key this.key && nat_eq hash (hash_of v)) || false)) || list_any (gives key hash) (others_of assigned))
           now key hash = given_at (i + 1) key hash ∙ ap (λ (xs : List Assignment). list_any (gives key hash) xs || list_any (gives key hash) (others_of assigned))
               (filter_more is_indexed assigned i d lt ∙ ap (λ b. indexed_of listed label (take i assigned) ++ cond b (this ∷ []) []) there)
-              ∙ ap (λ b. b || list_any (gives key hash) (others_of assigned)) (list_any-append (gives key hash) (indexed_of listed label (take i assigned)) (this ∷ [])
+              ∙ ap (λ b. b || list_any (gives key hash) (others_of assigned))
+              (list_any-append (gives key hash) (indexed_of listed label (take i assigned)) (this ∷ [])
               ∙ ap (λ g. list_any (gives key hash) (indexed_of listed label (take i assigned)) || (g || false)) (given key hash))
 
           same : (e : Entry) → with_entry (entries_at i) (entry_of label this.key node v) e ≡ entries_at (i + 1) e
-          same e = ap (λ g. is_entry e (entry_of label this.key node v) || ((nat_eq e.label label && (nat_eq e.node node && g)) || wanted e)) (given_at i e.key e.hash)
-              ∙ more (nat_eq e.label label) (nat_eq e.key this.key) (nat_eq e.node node) (nat_eq e.hash (hash_of v)) (list_any (gives e.key e.hash) (indexed_of listed label (take i assigned))) (list_any (gives e.key e.hash) (others_of assigned)) (wanted e)
+          same e = ap (λ g. is_entry e (entry_of label this.key node v) || ((nat_eq e.label label && (nat_eq e.node node && g)) || wanted e))
+              (given_at i e.key e.hash)
+              ∙ more (nat_eq e.label label) (nat_eq e.key this.key) (nat_eq e.node node) (nat_eq e.hash (hash_of v))
+              (list_any (gives e.key e.hash) (indexed_of listed label (take i assigned))) (list_any (gives e.key e.hash) (others_of assigned)) (wanted e)
               ∙ ap (λ g. (nat_eq e.label label && (nat_eq e.node node && g)) || wanted e) (sym (now e.key e.hash))
 
       -- one that has no index is passed over
       pub settled_skip : is_indexed this ≡ false → settled listed label assigned (i + 1) ≡ settled listed label assigned i
-      settled_skip none = ap (λ (xs : List Assignment). xs ++ others_of assigned) (filter_more is_indexed assigned i d lt ∙ ap (λ b. indexed_of listed label (take i assigned) ++ cond b (this ∷ []) []) none ∙ append_nil (indexed_of listed label (take i assigned)))
+      settled_skip none = ap (λ (xs : List Assignment). xs ++ others_of assigned)
+          (filter_more is_indexed assigned i d lt ∙ ap (λ b. indexed_of listed label (take i assigned) ++ cond b (this ∷ []) []) none ∙ append_nil (indexed_of listed label (take i assigned)))
         where
           append_nil : (xs : List Assignment) → (xs ++ []) ≡ xs
           append_nil [] = refl
@@ -179,7 +196,8 @@ module _ (listed : List IndexPair) (label node : ℕ) (pairs : List Pair) where
       entered_skip none t ix = subst (λ (xs : List Assignment). AreIndexed t (with_assigned wanted label node pairs xs)) (sym (settled_skip none)) ix
 
     -- all have come
-    pub entered_all : (i : ℕ) → length assigned ≤ i → (t : Records) → AreIndexed t (entries_at i) → AreIndexed t (with_assigned wanted label node pairs assigned)
+    pub entered_all : (i : ℕ) → length assigned ≤ i → (t : Records) → AreIndexed t (entries_at i)
+        → AreIndexed t (with_assigned wanted label node pairs assigned)
     entered_all i le t ix = subst (AreIndexed t) (λ k e. ap (λ g. (nat_eq e.label label && (nat_eq e.node node && g)) || wanted e) (all e.key e.hash) k) ix
       where
         all : (key hash : ℕ) → gives_hash pairs (settled listed label assigned i) key hash ≡ gives_hash pairs assigned key hash
@@ -187,9 +205,12 @@ module _ (listed : List IndexPair) (label node : ℕ) (pairs : List Pair) where
             ∙ any_parts (gives key hash) is_indexed assigned
 
 -- the first assignments are in the indexes
-pub record IsEntering (tells onward : Type 0) (s t : State) (before now : ℕ) (listed : List IndexPair) (label node : ℕ) (assigned : List Assignment) (pairs : List Pair) (i : ℕ) : Type 0 where
-  pub entered : tells → (wanted : Entries) → ArePairsOf s wanted listed → node < high s.records format.nodes_file → LacksEntries wanted node → AreKeysOnce assigned
-      → AreIndexed t.records (with_assigned wanted label node pairs (settled listed label assigned i)) × KeepsStore t × (indexes_of t.records ≡ indexes_of s.records)
+pub record IsEntering (tells onward : Type 0) (s t : State) (before now : ℕ) (listed : List IndexPair) (label node : ℕ) (assigned : List Assignment)
+    (pairs : List Pair) (i : ℕ) : Type 0 where
+  pub entered : tells → (wanted : Entries) → ArePairsOf s wanted listed → node < high s.records format.nodes_file → LacksEntries wanted node
+      → AreKeysOnce assigned
+      → AreIndexed t.records (with_assigned wanted label node pairs (settled listed label assigned i)) × KeepsStore t
+      × (indexes_of t.records ≡ indexes_of s.records)
   pub counted : tells → (meta_of t format.index_file).live ≤ (meta_of s format.index_file).live + length (indexed_of listed label (take i assigned))
   pub touched : TouchesIndex tells (3 * length (indexed_of listed label (take i assigned))) s t
   -- nothing was written before the first one
@@ -198,9 +219,11 @@ pub record IsEntering (tells onward : Type 0) (s t : State) (before now : ℕ) (
   pub later : before ≤ now
 
 -- how many have come, one more
-pub count_more : (listed : List IndexPair) (label : ℕ) (assigned : List Assignment) (i : ℕ) (d : Assignment) → i < length assigned → (b : Bool) → is_listed listed label (get_or assigned i d).key ≡ b
+pub count_more : (listed : List IndexPair) (label : ℕ) (assigned : List Assignment) (i : ℕ) (d : Assignment) → i < length assigned → (b : Bool)
+    → is_listed listed label (get_or assigned i d).key ≡ b
     → length (indexed_of listed label (take (i + 1) assigned)) ≡ length (indexed_of listed label (take i assigned)) + cond b 1 0
-count_more listed label assigned i d lt b is = length-filter_more (λ (a : Assignment). is_listed listed label a.key) assigned i d lt ∙ ap (λ c. length (indexed_of listed label (take i assigned)) + cond c 1 0) is
+count_more listed label assigned i d lt b is = length-filter_more (λ (a : Assignment). is_listed listed label a.key) assigned i d lt
+    ∙ ap (λ c. length (indexed_of listed label (take i assigned)) + cond c 1 0) is
 
 -- they are no more than all
 filter_few : (p : Assignment → Bool) (xs : List Assignment) (i : ℕ) → length (filter p (take i xs)) ≤ length (filter p xs)
@@ -209,9 +232,11 @@ filter_few p [] (suc i) = omega arith
 filter_few p (x ∷ xs) zero = omega arith
 filter_few p (x ∷ xs) (suc i) = by (p x) (filter_few p xs i)
   where
-    by : (b : Bool) → length (filter p (take i xs)) ≤ length (filter p xs) → length (cond b (x ∷ filter p (take i xs)) (filter p (take i xs))) ≤ length (cond b (x ∷ filter p xs) (filter p xs))
+    by : (b : Bool) → length (filter p (take i xs)) ≤ length (filter p xs)
+        → length (cond b (x ∷ filter p (take i xs)) (filter p (take i xs))) ≤ length (cond b (x ∷ filter p xs) (filter p xs))
     by true le = omega (arith, le)
     by false le = le
 
-pub count_few : (listed : List IndexPair) (label : ℕ) (assigned : List Assignment) (i : ℕ) → length (indexed_of listed label (take i assigned)) ≤ length (indexed_of listed label assigned)
+pub count_few : (listed : List IndexPair) (label : ℕ) (assigned : List Assignment) (i : ℕ)
+    → length (indexed_of listed label (take i assigned)) ≤ length (indexed_of listed label assigned)
 count_few listed label assigned i = filter_few (λ (a : Assignment). is_listed listed label a.key) assigned i

@@ -6,7 +6,9 @@ use Rattle.std.proofs.lemmas.Result.{err_from_is_err_and}
 use Rattle.rec_bytes.specs.Format.{properties_file, strings_file}
 use Rattle.rec_bytes.specs.Space.{SameButReads, State}
 use Rattle.graph_ops.specs.declared.change_fault.ChangeFault.{ChangeFault}
-use Rattle.graph_ops.specs.declared.change_fault.ChangeFault.TheVariants.{NoNode, NoEdge, HasRelationships, IndexThere, TooManyIndexes, IndexTooLarge, Full, NamesFull, PropsFull, Memory, Disk, Damaged}
+use Rattle.graph_ops.specs.declared.change_fault.ChangeFault.TheVariants.{NoNode, NoEdge, HasRelationships, IndexThere}
+use Rattle.graph_ops.specs.declared.change_fault.ChangeFault.TheVariants.{TooManyIndexes, IndexTooLarge, Full}
+use Rattle.graph_ops.specs.declared.change_fault.ChangeFault.TheVariants.{NamesFull, PropsFull, Memory, Disk, Damaged}
 use Rattle.rec_bytes.specs.declared.space.SpaceFault.{SpaceFault}
 use Rattle.rec_bytes.specs.declared.space.SpaceFault.TheVariants as spaces
 use Rattle.prop_store.specs.SetFault.{IsSetCause}
@@ -20,7 +22,8 @@ use Rattle.rec_bytes.specs.declared.row_fault.RowFault.TheVariants as rows
 use Rattle.graph_ops.specs.ChangeFault.{IsFailure, IsOutside, LeavesSpace, MayComeLate, is_element_file, of_fault, of_row, of_set, of_space}
 
 -- what holds of a fault holds of the result that hands it on
-pub fault_exit : {T F : Type 0} (of : F → ChangeFault) (P : ChangeFault → Type 0) (fault : F) (out : Result T ChangeFault) → IsErrAnd out (λ y. y ≡ of fault) → P (of fault) → IfErr out P
+pub fault_exit : {T F : Type 0} (of : F → ChangeFault) (P : ChangeFault → Type 0) (fault : F) (out : Result T ChangeFault) → IsErrAnd out (λ y. y ≡ of fault)
+    → P (of fault) → IfErr out P
 fault_exit of P fault out gives h = let p = err_from_is_err_and out gives in subst (λ o. IfErr o P) (sym p.1) (subst P (sym p.2) h)
 
 -- what holds of a success, for what follows from it
@@ -113,7 +116,8 @@ fault_fails (faults.Damaged damage) = tt
 
 pub set_late : (crowded new : Type 0) (blocks : ℕ) (t : State) (fault : SetFault) → IsSetCause crowded new blocks t fault → MayComeLate (of_set fault)
 set_late crowded new blocks t (sets.PropsFull count) why = tt
-set_late crowded new blocks t (sets.Full file live) why = ⊎_elim (λ (k : (file ≡ properties_file) × new). ap is_element_file k.0) (λ (k : (file ≡ strings_file) × (0 < blocks)). ap is_element_file k.0) why.1
+set_late crowded new blocks t (sets.Full file live) why = ⊎_elim (λ (k : (file ≡ properties_file) × new). ap is_element_file k.0)
+    (λ (k : (file ≡ strings_file) × (0 < blocks)). ap is_element_file k.0) why.1
 set_late crowded new blocks t sets.Memory why = tt
 set_late crowded new blocks t sets.Disk why = tt
 set_late crowded new blocks t (sets.Damaged damage) why = tt

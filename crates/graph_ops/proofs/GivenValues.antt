@@ -1,5 +1,6 @@
 -- The values that a new node has, one after the other, and the entries that are wanted of them.
-use Rattle.std.proofs.Common.{◌≡◌, ◌≢◌, ◌⊎◌, inl, inr, ℕ, ◌+◌, ◌<◌, nat_eq, Bool, true, false, ◌&&◌, ◌||◌, None, Some, List, [], ◌∷◌, length, take, get_or, ap, sym, ◌∙◌, refl}
+use Rattle.std.proofs.Common.{◌≡◌, ◌≢◌, ◌⊎◌, inl, inr, ℕ, ◌+◌, ◌<◌, nat_eq, Bool, true, false, ◌&&◌, ◌||◌, None, Some}
+use Rattle.std.proofs.Common.{List, [], ◌∷◌, length, take, get_or, ap, sym, ◌∙◌, refl}
 use Rattle.std.specs.List.{list_any}
 use Rattle.std.proofs.lemmas.Bool.{false≢true}
 use Rattle.std.proofs.lemmas.List.{take_more}
@@ -40,7 +41,8 @@ one_given t u label key id value change e = by (nat_eq e.label label) refl (nat_
     other : (e.label ≢ label) ⊎ ((e.key ≢ key) ⊎ (e.node ≢ id)) → wanted_in u e ≡ wanted_in t e
     other apart = ap (has_hash e.hash) (change.others e.label e.key e.node apart)
 
-    by : (a : Bool) → nat_eq e.label label ≡ a → (b : Bool) → nat_eq e.node id ≡ b → (c : Bool) → nat_eq key e.key ≡ c → wanted_in u e ≡ ((a && (b && (c && nat_eq (hash_of value) e.hash))) || wanted_in t e)
+    by : (a : Bool) → nat_eq e.label label ≡ a → (b : Bool) → nat_eq e.node id ≡ b → (c : Bool) → nat_eq key e.key ≡ c
+        → wanted_in u e ≡ ((a && (b && (c && nat_eq (hash_of value) e.hash))) || wanted_in t e)
     by false p b q c r = other (inl (other_number e.label label p))
     by true p false q c r = other (inr (inr (other_number e.node id q)))
     by true p true q false r = other (inr (inl (λ z. other_number key e.key r (sym z))))
@@ -61,16 +63,20 @@ join true true false true w = refl
 join true true false false w = refl
 
 -- so one assignment more has its entry
-module _ (t u : Records) (wanted : Entries) (label id : ℕ) (pairs : List Pair) (assigned : List Assignment) (i : ℕ) (any : Assignment) (value : Value) (lt : i < length assigned) where
+module _ (t u : Records) (wanted : Entries) (label id : ℕ) (pairs : List Pair) (assigned : List Assignment) (i : ℕ) (any : Assignment) (value : Value)
+    (lt : i < length assigned) where
   abbrev a : Assignment
   a = get_or assigned i any
 
   abbrev gives : Entry → Assignment → Bool
   gives e x = nat_eq x.key e.key && nat_eq (hash_of (pair_at pairs x.pair).value) e.hash
 
-  pub more_given : value ≡ (pair_at pairs a.pair).value → ChangesValue t u label a.key id None (Some value) → ((e : Entry) → wanted_in t e ≡ with_assigned wanted label id pairs (take i assigned) e) → (e : Entry) → wanted_in u e ≡ with_assigned wanted label id pairs (take (i + 1) assigned) e
+  pub more_given : value ≡ (pair_at pairs a.pair).value → ChangesValue t u label a.key id None (Some value)
+      → ((e : Entry) → wanted_in t e ≡ with_assigned wanted label id pairs (take i assigned) e) → (e : Entry)
+      → wanted_in u e ≡ with_assigned wanted label id pairs (take (i + 1) assigned) e
   more_given is change before e =
       one_given t u label a.key id value change e
       ∙ (λ j. (nat_eq e.label label && (nat_eq e.node id && (nat_eq a.key e.key && nat_eq (hash_of (is j)) e.hash))) || before e j)
       ∙ join (nat_eq e.label label) (nat_eq e.node id) (list_any (gives e) (take i assigned)) (gives e a) (wanted e)
-      ∙ ap (λ g. (nat_eq e.label label && (nat_eq e.node id && g)) || wanted e) (sym (ap (list_any (gives e)) (take_more assigned i any lt) ∙ list_any-append (gives e) (take i assigned) (a ∷ []) ∙ ap (λ b. list_any (gives e) (take i assigned) || b) (or_false (gives e a))))
+      ∙ ap (λ g. (nat_eq e.label label && (nat_eq e.node id && g)) || wanted e)
+      (sym (ap (list_any (gives e)) (take_more assigned i any lt) ∙ list_any-append (gives e) (take i assigned) (a ∷ []) ∙ ap (λ b. list_any (gives e) (take i assigned) || b) (or_false (gives e a))))

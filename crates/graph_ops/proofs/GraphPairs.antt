@@ -1,5 +1,7 @@
 -- The indexes of the graph are those of the definitions, one for one.
-use Rattle.std.proofs.Common.{◌≡◌, ◌≢◌, ⊎_elim, inl, inr, ℕ, zero, suc, ◌+◌, ◌<◌, nat_eq, nat_lt, Bool, true, false, ◌&&◌, ◌||◌, if◌then◌else◌, cond, Option, None, Some, List, [], ◌∷◌, length, ap, sym, ◌∙◌, subst, arith, refl}
+use Rattle.std.proofs.Common.{◌≡◌, ◌≢◌, ⊎_elim, inl, inr, ℕ, zero, suc, ◌+◌, ◌<◌, nat_eq, nat_lt, Bool, true, false}
+use Rattle.std.proofs.Common.{◌&&◌, ◌||◌, if◌then◌else◌, cond, Option, None, Some, List, [], ◌∷◌, length, ap, sym, ◌∙◌}
+use Rattle.std.proofs.Common.{subst, arith, refl}
 use Rattle.std.specs.List.{flat_map, list_any, sum_by}
 use Rattle.std.proofs.lemmas.Bool.{false≢true}
 use Rattle.std.proofs.lemmas.List.Sums.{sum_by-append, sum_by-cons}
@@ -7,7 +9,8 @@ use Rattle.plain_graph.specs.Graph.{Index}
 use Rattle.rec_bytes.specs.Format as format
 use Rattle.store_rules.specs.Chains.{In}
 use Rattle.store_rules.specs.Graph.{index_from, indexes_of, is_definition_of}
-use Rattle.store_rules.specs.Indexes.{AreIndexed, Entries, IsDefinition, IsEntry, IsHeads, IsOfIndex, first_definition, indexed_key, indexed_label, next_definition}
+use Rattle.store_rules.specs.Indexes.{AreIndexed, Entries, IsDefinition, IsEntry, IsHeads, IsOfIndex, first_definition}
+use Rattle.store_rules.specs.Indexes.{indexed_key, indexed_label, next_definition}
 use Rattle.store_rules.specs.Properties.{AreOnce}
 use Rattle.rec_bytes.specs.Meta as metas
 use Rattle.store_rules.specs.RuleList.{IsSameFile}
@@ -51,7 +54,8 @@ pub any_in : (test : ℕ → Bool) (xs : List ℕ) → list_any test xs ≡ true
 any_in test [] e = absurd cc
 any_in test (x ∷ xs) e = by (test x) refl (λ rest. any_in test xs rest) e
   where
-    by : (b : Bool) → test x ≡ b → (list_any test xs ≡ true → (y : ℕ) × In y xs × (test y ≡ true)) → (b || list_any test xs) ≡ true → (y : ℕ) × In y (x ∷ xs) × (test y ≡ true)
+    by : (b : Bool) → test x ≡ b → (list_any test xs ≡ true → (y : ℕ) × In y xs × (test y ≡ true)) → (b || list_any test xs) ≡ true → (y : ℕ) × In y (x ∷ xs)
+        × (test y ≡ true)
     by true is later e = (x, inl refl, is)
     by false is later e = let found = later e in (found.0, inr found.1, found.2)
 
@@ -140,13 +144,15 @@ module _ (s : Records) where
     pub once : AreOnce ds
 
   pub pair_is : (l k d : ℕ) → has_pair l k d ≡ true → (indexed_label s d ≡ l) × (indexed_key s d ≡ k)
-  pair_is l k d e = let both = and_parts (nat_eq (indexed_label s d) l) (nat_eq (indexed_key s d) k) e in (same_number (indexed_label s d) l both.0, same_number (indexed_key s d) k both.1)
+  pair_is l k d e = let both = and_parts (nat_eq (indexed_label s d) l) (nat_eq (indexed_key s d) k) e in
+      (same_number (indexed_label s d) l both.0, same_number (indexed_key s d) k both.1)
 
   -- a sum over definitions is one over their pairs
   sum_among : (f : Index → ℕ) (ds : List ℕ) → AreApart ds → total (λ l. total (counted f (is_among ds) l) count) count ≡ sum_by (of_definition f) ds
   sum_among f [] apart = total_none (λ l. total (counted f (is_among []) l) count) count (λ l. total_none (counted f (is_among []) l) count (λ k. refl))
   sum_among f (d ∷ ds) apart =
-      total_both (λ l. total (counted f (λ l k. has_pair l k d) l) count) (λ l. total (counted f (is_among ds) l) count) (λ l. total (counted f (is_among (d ∷ ds)) l) count) count
+      total_both (λ l. total (counted f (λ l k. has_pair l k d) l) count) (λ l. total (counted f (is_among ds) l) count)
+      (λ l. total (counted f (is_among (d ∷ ds)) l) count) count
       (λ l. total_both (counted f (λ l k. has_pair l k d) l) (counted f (is_among ds) l) (counted f (is_among (d ∷ ds)) l) count (λ k. parts l k (has_pair l k d) (is_among ds l k) refl refl))
       ∙ (let first = sum_by-cons (of_definition f) d ds in let here = mine in let later = sum_among f ds rest in omega arith)
     where
@@ -154,7 +160,8 @@ module _ (s : Records) where
       rest = record { named = λ e i. apart.named e (inr i); distinct = λ e g i j. apart.distinct e g (inr i) (inr j); once = apart.once.1 }
 
       -- no other one has the pair
-      parts : (l k : ℕ) (a b : Bool) → has_pair l k d ≡ a → is_among ds l k ≡ b → cond (a || b) (f (index_at l k)) 0 ≡ cond a (f (index_at l k)) 0 + cond b (f (index_at l k)) 0
+      parts : (l k : ℕ) (a b : Bool) → has_pair l k d ≡ a → is_among ds l k ≡ b
+          → cond (a || b) (f (index_at l k)) 0 ≡ cond a (f (index_at l k)) 0 + cond b (f (index_at l k)) 0
       parts l k false b is other = omega arith
       parts l k true false is other = omega arith
       parts l k true true is other =
@@ -196,7 +203,8 @@ module _ (s : Records) where
         of_length (suc n) e q = omega arith
 
         of_test : (d : ℕ) → defines l k d ≡ true → (kind_at s format.index_file d ≡ format.definition) × (has_pair l k d ≡ true)
-        of_test d is = let both = and_parts (nat_eq (kind_at s format.index_file d) format.definition) (has_pair l k d) is in (same_number (kind_at s format.index_file d) format.definition both.0, both.1)
+        of_test d is = let both = and_parts (nat_eq (kind_at s format.index_file d) format.definition) (has_pair l k d) is in
+            (same_number (kind_at s format.index_file d) format.definition both.0, both.1)
 
         -- one of the definitions
         is_one : (d : ℕ) → defines l k d ≡ true → IsOfIndex s ix.definitions ix.lists d → In d ix.definitions

@@ -27,9 +27,11 @@ module _ (s u v : Records) (label key id : ℕ) (old new : Option Value) (change
 
   -- it has none
   pub unlisted_again : (ix : AreIndexed v (wanted_in s)) → is_among v ix.definitions label key ≡ false → AreIndexed v (wanted_in v)
-  unlisted_again ix none = indexed_same v (wanted_in s) (wanted_in v) ix (λ d e i l k. ap (has_hash e.hash) (change_now.others e.label e.key e.node (apart d e i l k)))
+  unlisted_again ix none = indexed_same v (wanted_in s) (wanted_in v) ix
+      (λ d e i l k. ap (has_hash e.hash) (change_now.others e.label e.key e.node (apart d e i l k)))
     where
-      apart : (d : ℕ) (e : Entry) → In d ix.definitions → e.label ≡ indexed_label v d → e.key ≡ indexed_key v d → (e.label ≢ label) ⊎ ((e.key ≢ key) ⊎ (e.node ≢ id))
+      apart : (d : ℕ) (e : Entry) → In d ix.definitions → e.label ≡ indexed_label v d → e.key ≡ indexed_key v d → (e.label ≢ label)
+          ⊎ ((e.key ≢ key) ⊎ (e.node ≢ id))
       apart d e i l k = ⊎_elim
           (λ (a : e.label ≡ label). ⊎_elim
           (λ (b : e.key ≡ key). absurd (true≢false (sym (in_any (has_pair v label key) d ix.definitions i (rw (eq_true (indexed_label v d) label (sym l ∙ a), eq_true (indexed_key v d) key (sym k ∙ b)) refl)) ∙ none)))
@@ -37,5 +39,6 @@ module _ (s u v : Records) (label key id : ℕ) (old new : Option Value) (change
           (λ (a : e.label ≢ label). inl a) (nat_cases e.label label)
 
 -- The pair has an index after that where it had one before, if the file of the indexes stays.
-pub among_same : (s v : Records) → IsSameFile s v format.index_file → (wanted now : Entries) (ix : AreIndexed s wanted) (iy : AreIndexed v now) (label key : ℕ) → is_among v iy.definitions label key ≡ is_among s ix.definitions label key
+pub among_same : (s v : Records) → IsSameFile s v format.index_file → (wanted now : Entries) (ix : AreIndexed s wanted) (iy : AreIndexed v now) (label key : ℕ)
+    → is_among v iy.definitions label key ≡ is_among s ix.definitions label key
 among_same s v same wanted now ix iy label key = sym (defined_among v now iy label key) ∙ defined_same s v same label key ∙ defined_among s wanted ix label key

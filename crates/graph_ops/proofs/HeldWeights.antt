@@ -1,7 +1,8 @@
 -- What the entries of one value weigh, and that the indexes are right with them.
 use Rattle.std.specs.FinMap as maps
 use Rattle.std.specs.Prelude.{is_some}
-use Rattle.std.proofs.Common.{◌≡◌, ◌≢◌, ℕ, ◌+◌, ◌<◌, nat_eq, Bool, true, false, ◌||◌, if◌then◌else◌, cond, Option, None, Some, List, [], ◌∷◌, map, ap, sym, ◌∙◌, subst, refl}
+use Rattle.std.proofs.Common.{◌≡◌, ◌≢◌, ℕ, ◌+◌, ◌<◌, nat_eq, Bool, true, false, ◌||◌, if◌then◌else◌, cond, Option, None}
+use Rattle.std.proofs.Common.{Some, List, [], ◌∷◌, map, ap, sym, ◌∙◌, subst, refl}
 use Rattle.plain_graph.specs.Graph.{properties_at}
 use Rattle.plain_graph.specs.Indexes.{element_weight, entry_weight}
 use Rattle.plain_graph.specs.Properties.{Properties}
@@ -40,14 +41,16 @@ module _ (s : State) (owner : Owner) (owned : IsOwner owner) (has : HasElement s
   value_there [] e is = absurd cc
   value_there (p ∷ ps) e is = by (nat_eq p.key key) (λ later. value_there ps e later) is
     where
-      by : (b : Bool) → (property_of ps key ≡ Some e → is_some (value_in ps key) ≡ true) → (if b then Some p else property_of ps key) ≡ Some e → is_some (cond b (Some p.value) (value_in ps key)) ≡ true
+      by : (b : Bool) → (property_of ps key ≡ Some e → is_some (value_in ps key) ≡ true) → (if b then Some p else property_of ps key) ≡ Some e
+          → is_some (cond b (Some p.value) (value_in ps key)) ≡ true
       by true later is = refl
       by false later is = later is
 
   pub value_known : is_some (maps.get (properties_of s owner) (text_at s key)) ≡ is_some (value_in es key)
   value_known = by (property_of es key) refl (maps.get (properties_of s owner) (text_at s key)) refl
     where
-      by : (o : Option Property) → property_of es key ≡ o → (v : Option Value) → maps.get (properties_of s owner) (text_at s key) ≡ v → is_some v ≡ is_some (value_in es key)
+      by : (o : Option Property) → property_of es key ≡ o → (v : Option Value) → maps.get (properties_of s owner) (text_at s key) ≡ v
+          → is_some v ≡ is_some (value_in es key)
       by None is v got = ap is_some (sym got ∙ absent_value s owner owned has key low is) ∙ sym (ap is_some (lacked_value es key is))
       by (Some e) is (Some v) got = sym (value_there es e is)
       by (Some e) is None got = absurd (clash e (sym is ∙ lacks_key s owner owned has key got))
@@ -72,13 +75,16 @@ pub old_held : (wanted : Entries) (held : Option IndexedValue) → without_old w
 old_held wanted None = refl
 old_held wanted (Some held) = refl
 
-pub new_held : (wanted : Entries) (held : Option IndexedValue) (value : Value) → with_new (without_old wanted held) held value ≡ with_held wanted held (Some value)
+pub new_held : (wanted : Entries) (held : Option IndexedValue) (value : Value)
+    → with_new (without_old wanted held) held value ≡ with_held wanted held (Some value)
 new_held wanted None value = refl
 new_held wanted (Some held) value = refl
 
-module _ (s u v : State) (id key : ℕ) (old new : Option Value) (ix : AreIndexed s.records (wanted_in s.records)) (change : ChangesValue s.records u.records (label_at s.records id) key id old new) (beside : KeepsBesideIndex u.records v.records) where
+module _ (s u v : State) (id key : ℕ) (old new : Option Value) (ix : AreIndexed s.records (wanted_in s.records))
+    (change : ChangesValue s.records u.records (label_at s.records id) key id old new) (beside : KeepsBesideIndex u.records v.records) where
   -- the indexes are right again
-  pub held_again : (held : Option IndexedValue) → IsIndexedValue s.records (map (pair_of s.records) ix.definitions) (targets.Node id) key held → (held ≡ None → IsSameFile s.records v.records format.index_file)
+  pub held_again : (held : Option IndexedValue) → IsIndexedValue s.records (map (pair_of s.records) ix.definitions) (targets.Node id) key held
+      → (held ≡ None → IsSameFile s.records v.records format.index_file)
       → AreIndexed v.records (with_held (wanted_in s.records) held new) → AreIndexed v.records (wanted_in v.records)
   held_again None is same iy =
       unlisted_again s.records u.records v.records (label_at s.records id) key id old new change beside iy
@@ -94,19 +100,24 @@ module _ (s u v : State) (id key : ℕ) (old new : Option Value) (ix : AreIndexe
       value_is = is.4 ∙ ap (λ l. node_value s.records l key id) label_is ∙ change.was
 
 -- what the entries weigh
-module _ (s : State) (id key : ℕ) (used : kind_at s.records format.nodes_file id ≢ format.free_kind) (store : IsIndexed s.records s.shape) (low : key < high s.records format.names_file)
+module _ (s : State) (id key : ℕ) (used : kind_at s.records format.nodes_file id ≢ format.free_kind) (store : IsIndexed s.records s.shape)
+    (low : key < high s.records format.names_file)
     (known : is_some (maps.get (properties_at (graph_of s.records) (targets.Node id)) (text s.records key)) ≡ is_some (node_value s.records (label_at s.records id) key id)) where
   abbrev before : Properties
   before = properties_at (graph_of s.records) (targets.Node id)
 
-  pub held_weighs : (after : Properties) (held : Option IndexedValue) → IsIndexedValue s.records (map (pair_of s.records) store.indexes.definitions) (targets.Node id) key held
-      → element_weight (graph_of s.records) (targets.Node id) (is_text (text s.records key)) after ≡ old_weight held + cond (is_some held) (entry_weight after (text s.records key)) 0
+  pub held_weighs : (after : Properties) (held : Option IndexedValue) → IsIndexedValue s.records (map (pair_of s.records) store.indexes.definitions)
+      (targets.Node id) key held
+      → element_weight (graph_of s.records) (targets.Node id) (is_text (text s.records key)) after ≡ old_weight held + cond (is_some held)
+      (entry_weight after (text s.records key)) 0
   held_weighs after None is =
       key_weighs s.records id used s.shape store.store (wanted_in s.records) store.indexes key low after
-      ∙ ap (λ b. cond b (entry_weight before (text s.records key) + entry_weight after (text s.records key)) 0) (sym (listed_among s.records store.indexes.definitions (label_at s.records id) key) ∙ is)
+      ∙ ap (λ b. cond b (entry_weight before (text s.records key) + entry_weight after (text s.records key)) 0)
+      (sym (listed_among s.records store.indexes.definitions (label_at s.records id) key) ∙ is)
   held_weighs after (Some held) is =
       key_weighs s.records id used s.shape store.store (wanted_in s.records) store.indexes key low after
-      ∙ ap (λ b. cond b (entry_weight before (text s.records key) + entry_weight after (text s.records key)) 0) (sym (listed_among s.records store.indexes.definitions (label_at s.records id) key) ∙ ap (λ l. is_listed (map (pair_of s.records) store.indexes.definitions) l key) (sym is.2) ∙ is.3)
+      ∙ ap (λ b. cond b (entry_weight before (text s.records key) + entry_weight after (text s.records key)) 0)
+      (sym (listed_among s.records store.indexes.definitions (label_at s.records id) key) ∙ ap (λ l. is_listed (map (pair_of s.records) store.indexes.definitions) l key) (sym is.2) ∙ is.3)
       ∙ ap (λ n. n + entry_weight after (text s.records key)) (ap (λ b. if b then 3 else 0) known ∙ by (node_value s.records (label_at s.records id) key id) ∙ ap value_weight (sym (is.4 ∙ ap (λ l. node_value s.records l key id) is.2)))
     where
       by : (o : Option Value) → (if is_some o then 3 else 0) ≡ value_weight o

@@ -41,10 +41,12 @@ module _ (s t : Records) (beside : KeepsBesideIndex s t) where
   kinds_beside file is other = λ i x. kind_in (mark_same file other i) (file_same file is other i x) x
 
   pub nodes_beside : node_at t ≡ node_at s
-  nodes_beside = λ i x. row_if (kinds_beside format.nodes_file refl (λ e. omega arith) i x) (node_in (file_same format.nodes_file refl (λ e. omega arith) i x) x)
+  nodes_beside = λ i x. row_if (kinds_beside format.nodes_file refl (λ e. omega arith) i x)
+      (node_in (file_same format.nodes_file refl (λ e. omega arith) i x) x)
 
   rels_same : rel_at t ≡ rel_at s
-  rels_same = λ i x. row_if (kinds_beside format.relationships_file refl (λ e. omega arith) i x) (rel_in (file_same format.relationships_file refl (λ e. omega arith) i x) x)
+  rels_same = λ i x. row_if (kinds_beside format.relationships_file refl (λ e. omega arith) i x)
+      (rel_in (file_same format.relationships_file refl (λ e. omega arith) i x) x)
 
   pub files_same : property_records t ≡ property_records s
   files_same = λ i. record { properties = file_same format.properties_file refl (λ e. omega arith) i; strings = file_same format.strings_file refl (λ e. omega arith) i }

@@ -17,7 +17,8 @@ use Rattle.prop_index.specs.Making.{count_of}
 use Rattle.prop_store.specs.FileChange.{IsSameBeside}
 use Rattle.graph_ops.proofs.IndexBeside.{KeepsBesideIndex, files_same, mark_same, nodes_beside}
 
-count_same : (s t : Records) → node_at t ≡ node_at s → property_records t ≡ property_records s → high t format.nodes_file ≡ high s format.nodes_file → (l k : ℕ) → count_of t l k ≡ count_of s l k
+count_same : (s t : Records) → node_at t ≡ node_at s → property_records t ≡ property_records s → high t format.nodes_file ≡ high s format.nodes_file → (l k : ℕ)
+    → count_of t l k ≡ count_of s l k
 count_same s t nodes files mark l k = λ i. length (collect (λ n. option_map (content_of n) (option_map hash_of (row_value (files i) l k (nodes i n)))) (mark i))
 
 -- records of indexes alone differ

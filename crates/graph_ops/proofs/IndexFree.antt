@@ -38,7 +38,8 @@ module _ (s m : Records) (file : IsSameFile s m format.index_file) where
   pairs_same : (old now : List IndexPair) → ArePairsMet s old → ArePairsMet m now → now ≡ old
   pairs_same old now was is =
       is.pairs_are
-      ∙ ap (λ (f : ℕ → Rec). map (λ d. record { label = field 4 (f d) format.definition_label; key = field 4 (f d) format.definition_key }) is.definitions) file.records
+      ∙ ap (λ (f : ℕ → Rec). map (λ d. record { label = field 4 (f d) format.definition_label; key = field 4 (f d) format.definition_key }) is.definitions)
+      file.records
       ∙ ap (map (pair_of s)) (walks_same was.definitions is.definitions was.walk is.walk)
       ∙ sym was.pairs_are
 

@@ -1,5 +1,6 @@
 -- The graph has the index that is made.
-use Rattle.std.proofs.Common.{◌≡◌, ◌≢◌, ◌⊎◌, ⊎_elim, ℕ, zero, suc, ◌<◌, nat_eq, nat_lt, Bool, true, false, ◌&&◌, ◌||◌, if◌then◌else◌, Option, None, Some, List, [], ◌∷◌, slice_get, ap, sym, ◌∙◌, arith, refl}
+use Rattle.std.proofs.Common.{◌≡◌, ◌≢◌, ◌⊎◌, ⊎_elim, ℕ, zero, suc, ◌<◌, nat_eq, nat_lt, Bool, true, false, ◌&&◌, ◌||◌}
+use Rattle.std.proofs.Common.{if◌then◌else◌, Option, None, Some, List, [], ◌∷◌, slice_get, ap, sym, ◌∙◌, arith, refl}
 use Rattle.std.specs.List.{flat_map}
 use Rattle.plain_graph.specs.Graph.{Index}
 use Rattle.plain_graph.specs.Indexes.{is_before, place_in, with_index}
@@ -21,7 +22,8 @@ use Rattle.graph_ops.proofs.IndexTested.{listed_among}
 use Rattle.graph_ops.proofs.PairWeights.{text_test}
 
 -- the place of a name among distinct ones is its number
-place_at : (names : List (List ℕ)) (i : ℕ) (name : List ℕ) → slice_get names i ≡ Some name → is_text name name ≡ true → ((j : ℕ) (other : List ℕ) → j < i → slice_get names j ≡ Some other → is_text other name ≡ false) → place_in names name ≡ i
+place_at : (names : List (List ℕ)) (i : ℕ) (name : List ℕ) → slice_get names i ≡ Some name → is_text name name ≡ true
+    → ((j : ℕ) (other : List ℕ) → j < i → slice_get names j ≡ Some other → is_text other name ≡ false) → place_in names name ≡ i
 place_at [] i name at own others = absurd cc
 place_at (x ∷ names) zero name at own others = ap (λ b. if b then 0 else suc (place_in names name)) (ap (λ y. is_text y name) (inner x name at) ∙ own)
   where
@@ -74,7 +76,8 @@ module _ (m t : State) (l k : ℕ) (was : IsIndexed m.records m.shape) (made : W
     one = index_at m.records l k
 
     before : (a b : ℕ) → a < mark → b < mark → is_before (names_of m.records) one (index_at m.records a b) ≡ (nat_lt l a || (nat_eq l a && nat_lt k b))
-    before a b al bl = λ i. nat_lt (places l l_low i) (places a al i) || (text_test (rec_at m.records format.names_file) mark was.store.names l a l_low al i && nat_lt (places k k_low i) (places b bl i))
+    before a b al bl = λ i. nat_lt (places l l_low i) (places a al i) ||
+        (text_test (rec_at m.records format.names_file) mark was.store.names l a l_low al i && nat_lt (places k k_low i) (places b bl i))
 
     some_index : (o : Bool) (a b : ℕ) (e : Index) → (if o then Some (index_at m.records a b) else None) ≡ Some e → index_at m.records a b ≡ e
     some_index true a b e is = cc

@@ -2,13 +2,16 @@
 use Rattle.std.specs.Option.{option_map}
 use Rattle.std.specs.Prelude.{Contains, is_some, slice_get}
 use Rattle.std.specs.List.{filter, list_any, sum_by}
-use Rattle.std.proofs.Common.{◌≡◌, ◌≢◌, ⊎_elim, inl, inr, ℕ, ◌+◌, ◌-◌, ◌<◌, ◌≤◌, Bool, true, false, ◌&&◌, Option, None, Some, List, [], ◌∷◌, length, ap, sym, ◌∙◌, subst, arith, refl}
+use Rattle.std.proofs.Common.{◌≡◌, ◌≢◌, ⊎_elim, inl, inr, ℕ, ◌+◌, ◌-◌, ◌<◌, ◌≤◌, Bool, true, false, ◌&&◌, Option, None}
+use Rattle.std.proofs.Common.{Some, List, [], ◌∷◌, length, ap, sym, ◌∙◌, subst, arith, refl}
 use Rattle.std.proofs.lemmas.Bool.{cases_lt, false≢true}
 use Rattle.plain_graph.specs.Changes.{Changes, Weighs}
 use Rattle.plain_graph.specs.Graph.{Index, Node, UsesName, UsesNames}
 use Rattle.plain_graph.specs.Indexes.{has_index, has_key, index_records, indexed_count, is_of, with_index}
 use Rattle.plain_graph.specs.Names.{IsShortName}
-use Rattle.plain_graph.specs.Refusals.{FirstReason, NoReason, Reason, change_reasons, index_full, index_too_large, lacks_names, most_names, names_full, no_index, properties_full, strings_full, too_many_properties}
+use Rattle.plain_graph.specs.Refusals.{FirstReason, NoReason, Reason, change_reasons, index_full, index_too_large}
+use Rattle.plain_graph.specs.Refusals.{lacks_names, most_names, names_full, no_index, properties_full, strings_full}
+use Rattle.plain_graph.specs.Refusals.{too_many_properties}
 use Rattle.plain_graph.specs.Reply.{Done}
 use Rattle.plain_graph.specs.Values.{is_text}
 use Rattle.plain_graph.specs.declared.command.Command.{Command}
@@ -66,8 +69,11 @@ abbrev rest_reasons : List Reason
 rest_reasons = names_full ∷ too_many_properties ∷ properties_full ∷ strings_full ∷ index_too_large ∷ index_full ∷ []
 
 -- why the test of the pair refuses is why the change is refused
-pub index_refused_pair : (s : State) (label key : List ℕ) (fault : ChangeFault) → IsRefusedBy pair_reasons s.shape.limit (graph_in s) (commands.Index label key) fault → IsRefusal s.shape.limit (graph_in s) (commands.Index label key) fault
-index_refused_pair s label key = refused_more pair_reasons change_reasons s.shape.limit (graph_in s) (commands.Index label key) (commands.Index label key) (λ why h.
+pub index_refused_pair : (s : State) (label key : List ℕ) (fault : ChangeFault)
+    → IsRefusedBy pair_reasons s.shape.limit (graph_in s) (commands.Index label key) fault
+    → IsRefusal s.shape.limit (graph_in s) (commands.Index label key) fault
+index_refused_pair s label key = refused_more pair_reasons change_reasons s.shape.limit (graph_in s) (commands.Index label key) (commands.Index label key)
+    (λ why h.
     inr (none_of, inr (none_of, inr (none_of, inr (none_of, inr (none_of, inr (none_of, inr (none_of, first_front pair_reasons (no_index ∷ rest_reasons) s.shape.limit (graph_in s) (commands.Index label key) why h))))))))
 
 module _ (s : State) (label key : List ℕ) (may : MayIndex s label key) where
@@ -81,7 +87,8 @@ module _ (s : State) (label key : List ℕ) (may : MayIndex s label key) where
       by true not = absurd (not refl)
       by false not = refl
 
-  rest_first : (why : Refusal) → FirstReason rest_reasons s.shape.limit (graph_in s) command why → FirstReason change_reasons s.shape.limit (graph_in s) command why
+  rest_first : (why : Refusal) → FirstReason rest_reasons s.shape.limit (graph_in s) command why
+      → FirstReason change_reasons s.shape.limit (graph_in s) command why
   rest_first why h = inr (none_of, inr (none_of, inr (none_of, inr (none_of, inr (none_of, inr (none_of, inr (none_of, inr (may.0, inr (may.1.0, inr (none_of, h))))))))))
 
   rest_free : NoReason rest_reasons s.shape.limit (graph_in s) command → NoReason change_reasons s.shape.limit (graph_in s) command
@@ -97,13 +104,15 @@ module _ (old : State) (names : List (List ℕ)) (label key : List ℕ) (store :
   lacking lacks = lacks_refused old label key may (subst (λ ns. LacksNames ns (label ∷ key ∷ [])) store.names lacks)
 
   -- The label is one more than there may be.
-  pub index_refused_label : (fault : InternFault) → IsFullFault names label fault → IsRefusal old.shape.limit (graph_in old) (commands.Index label key) (of_intern fault)
+  pub index_refused_label : (fault : InternFault) → IsFullFault names label fault
+      → IsRefusal old.shape.limit (graph_in old) (commands.Index label key) (of_intern fault)
   index_refused_label (intern.NamesFull count) why = lacking (first_lacks names label (key ∷ []) why.all why.new)
   index_refused_label intern.Memory why = tt
   index_refused_label intern.Disk why = tt
 
   -- So is the key, after the label.
-  pub index_refused_key : (first : List (List ℕ)) → UsesName names label first → (fault : InternFault) → IsFullFault first key fault → IsRefusal old.shape.limit (graph_in old) (commands.Index label key) (of_intern fault)
+  pub index_refused_key : (first : List (List ℕ)) → UsesName names label first → (fault : InternFault) → IsFullFault first key fault
+      → IsRefusal old.shape.limit (graph_in old) (commands.Index label key) (of_intern fault)
   index_refused_key first uses (intern.NamesFull count) why = lacking (second_lacks names first label key uses why.all why.new)
   index_refused_key first uses intern.Memory why = tt
   index_refused_key first uses intern.Disk why = tt
@@ -127,7 +136,8 @@ some_content : (n : ℕ) (o : Option Value) → is_some (option_map (content_of 
 some_content n None = refl
 some_content n (Some value) = refl
 
-module _ (old s a b : State) (names first last : List (List ℕ)) (label key : List ℕ) (l k : ℕ) (same : SameButReads old s) (store : IsStore old names) (given : AreNumbered s a b names first last label key l k) where
+module _ (old s a b : State) (names first last : List (List ℕ)) (label key : List ℕ) (l k : ℕ) (same : SameButReads old s) (store : IsStore old names)
+    (given : AreNumbered s a b names first last label key l k) where
   read : IsStore s names
   read = whole_read old s names same store
 
@@ -163,15 +173,18 @@ module _ (old s a b : State) (names first last : List (List ℕ)) (label key : L
     whole = record { store = was; names = kept.store.names }
 
     few_names : length last ≤ most_names
-    few_names = let long = ap length kept.store.names ∙ length-names_of b.records in let most = (was.store.ranges.metas format.names_file refl).high in omega arith
+    few_names = let long = ap length kept.store.names ∙ length-names_of b.records in let most = (was.store.ranges.metas format.names_file refl).high in
+        omega arith
 
     names_free : (other : Refusal) → ¬ lacks_names (graph_in s) (label ∷ key ∷ []) other
-    names_free other lacks = let n = ap length (uses_once (graph_in s).names (label ∷ key ∷ []) last lacks.0 graph_uses lacks.1) in let many = lacks.2 in let few = few_names in absurd (omega (arith, n, many, few))
+    names_free other lacks = let n = ap length (uses_once (graph_in s).names (label ∷ key ∷ []) last lacks.0 graph_uses lacks.1) in let many = lacks.2 in
+        let few = few_names in absurd (omega (arith, n, many, few))
 
     -- as many nodes as the graph has of the label with the key
     counted : count_of b.records l k ≡ indexed_count (graph_in s) label key
     counted =
-        length-collect _ (content_at b.records l k) (λ n. is_some (node_value b.records l k n)) (high b.records format.nodes_file) (λ n. some_content n (node_value b.records l k n))
+        length-collect _ (content_at b.records l k) (λ n. is_some (node_value b.records l k n)) (high b.records format.nodes_file)
+        (λ n. some_content n (node_value b.records l k n))
         ∙ sym (count_passes b was l k label_in.0 key_in.0)
         ∙ (λ i. length (filter (λ (node : Node). is_text (label_in.1 i) node.label && has_key node.properties (key_in.1 i)) (kept.nodes i)))
 
@@ -214,14 +227,18 @@ module _ (old s a b : State) (names first last : List (List ℕ)) (label key : L
           let few = why.1 in
           let taken = records in
           let room = limit_same in
-          let past = ⊎_elim (λ (lt : room_of b.shape format.index_file < (meta_of b format.index_file).live + (13 + count_of b.records l k)). lt) (λ (fits : (meta_of b format.index_file).live + (13 + count_of b.records l k) ≤ room_of b.shape format.index_file). absurd (why.3 fits)) (cases_lt (room_of b.shape format.index_file) ((meta_of b format.index_file).live + (13 + count_of b.records l k))) in
+          let past = ⊎_elim (λ (lt : room_of b.shape format.index_file < (meta_of b format.index_file).live + (13 + count_of b.records l k)). lt)
+          (λ (fits : (meta_of b format.index_file).live + (13 + count_of b.records l k) ≤ room_of b.shape format.index_file). absurd (why.3 fits))
+          (cases_lt (room_of b.shape format.index_file) ((meta_of b format.index_file).live + (13 + count_of b.records l k))) in
           rest_first s label key may refusals.FullIndex (inr (names_free, inr (none_of, inr (none_of, inr (none_of, inr ((λ other large. let lt = large.0 in absurd (omega (arith, n, few, lt))), inl (omega (arith, n, taken, room, past), refl)))))))
       refused_here makes.Memory why = tt
       refused_here makes.Disk why = tt
       refused_here (makes.Damaged damage) why = why
 
-      pub index_refused_make : (fault : MakeFault) → IsMakeRefusal b was l k fault → IsRefusal old.shape.limit (graph_in old) (commands.Index label key) (of_make fault)
-      index_refused_make fault why = subst (λ (z : State). IsRefusal z.shape.limit (graph_in z) (commands.Index label key) (of_make fault)) same (refused_here fault why)
+      pub index_refused_make : (fault : MakeFault) → IsMakeRefusal b was l k fault
+          → IsRefusal old.shape.limit (graph_in old) (commands.Index label key) (of_make fault)
+      index_refused_make fault why = subst (λ (z : State). IsRefusal z.shape.limit (graph_in z) (commands.Index label key) (of_make fault)) same
+          (refused_here fault why)
 
       -- ---- one is made
 

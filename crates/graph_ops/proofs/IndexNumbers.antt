@@ -1,7 +1,8 @@
 -- The numbers that a label and a key have, or get as they become names.
 use Rattle.std.specs.Prelude.{Contains, IfNone, IfSome, slice_get}
 use Rattle.std.specs.Option.{unwrap_or}
-use Rattle.std.proofs.Common.{◌≡◌, ◌≢◌, ◌⊎◌, ⊎_elim, inl, inr, ℕ, zero, suc, ◌+◌, ◌≤◌, Option, None, Some, List, [], ◌∷◌, ◌++◌, length, ap, sym, ◌∙◌, subst, arith, refl}
+use Rattle.std.proofs.Common.{◌≡◌, ◌≢◌, ◌⊎◌, ⊎_elim, inl, inr, ℕ, zero, suc, ◌+◌, ◌≤◌, Option, None, Some, List, []}
+use Rattle.std.proofs.Common.{◌∷◌, ◌++◌, length, ap, sym, ◌∙◌, subst, arith, refl}
 use Rattle.std.proofs.lemmas.List.{length-append}
 use Rattle.std.proofs.lemmas.List.Elements.{Contains-append_cases}
 use Rattle.std.proofs.lemmas.Option.{slice_get_within}
@@ -23,22 +24,26 @@ place_once (first ∷ texts) (suc x) (suc y) text distinct a b = ap suc (place_o
 -- ---- one name
 
 -- the number that is found, or the one after all
-pub found_number : (names : List (List ℕ)) (text : List ℕ) (found : Option ℕ) (count : ℕ) → IfSome found (λ id. slice_get names id ≡ Some text) → IfNone found (¬ Contains names text) → count ≡ length names → IsNumberOf names text (unwrap_or found count)
+pub found_number : (names : List (List ℕ)) (text : List ℕ) (found : Option ℕ) (count : ℕ) → IfSome found (λ id. slice_get names id ≡ Some text)
+    → IfNone found (¬ Contains names text) → count ≡ length names → IsNumberOf names text (unwrap_or found count)
 found_number names text None count some none is = inr (none, is)
 found_number names text (Some id) count some none is = inl some
 
-pub found_few : (names : List (List ℕ)) (text : List ℕ) (found : Option ℕ) (count most : ℕ) → IfSome found (λ id. slice_get names id ≡ Some text) → count ≡ length names → count ≤ most → unwrap_or found count ≤ most
+pub found_few : (names : List (List ℕ)) (text : List ℕ) (found : Option ℕ) (count most : ℕ) → IfSome found (λ id. slice_get names id ≡ Some text)
+    → count ≡ length names → count ≤ most → unwrap_or found count ≤ most
 found_few names text None count most some is few = few
 found_few names text (Some id) count most some is few = let lt = slice_get_within names id text some in omega (arith, lt, is, few)
 
 -- a name keeps its number
-pub number_stays : (names : List (List ℕ)) (text : List ℕ) (named : List (List ℕ)) (n : ℕ) (other : List ℕ) → slice_get names n ≡ Some other → UsesName names text named → slice_get named n ≡ Some other
+pub number_stays : (names : List (List ℕ)) (text : List ℕ) (named : List (List ℕ)) (n : ℕ) (other : List ℕ) → slice_get names n ≡ Some other
+    → UsesName names text named → slice_get named n ≡ Some other
 number_stays names text named n other at uses = ⊎_elim
     (λ (k : Contains names text × (named ≡ names)). ap (λ ns. slice_get ns n) k.1 ∙ at)
     (λ (k : (¬ Contains names text) × (named ≡ names ++ text ∷ [])). ap (λ ns. slice_get ns n) k.1 ∙ slice_get-push_old names text n (slice_get_within names n other at) ∙ at) uses
 
 -- a text has its number as soon as it is a name
-pub number_named : (names : List (List ℕ)) (text : List ℕ) (n : ℕ) (named : List (List ℕ)) → IsNumberOf names text n → UsesName names text named → slice_get named n ≡ Some text
+pub number_named : (names : List (List ℕ)) (text : List ℕ) (n : ℕ) (named : List (List ℕ)) → IsNumberOf names text n → UsesName names text named
+    → slice_get named n ≡ Some text
 number_named names text n named number uses = ⊎_elim
     (λ (at : slice_get names n ≡ Some text). number_stays names text named n text at uses)
     (λ (new : (¬ Contains names text) × (n ≡ length names)). ⊎_elim
@@ -93,7 +98,8 @@ module _ (names : List (List ℕ)) (label key : List ℕ) where
             )) uses;
       }
 
-  pub pair_apart : (l k : ℕ) → IsNumberOf names label l → IsNumberOf names key k → (l ≢ k) ⊎ (label ≡ key) → IsPairOf names label key (record { label = l; key = k })
+  pub pair_apart : (l k : ℕ) → IsNumberOf names label l → IsNumberOf names key k → (l ≢ k) ⊎ (label ≡ key)
+      → IsPairOf names label key (record { label = l; key = k })
   pair_apart l k label_is key_is apart = record {
     label_is = label_is;
     key_is = λ named uses. ⊎_elim
@@ -107,12 +113,14 @@ module _ (names : List (List ℕ)) (label key : List ℕ) where
 
   module _ (pair : IndexPair) (is : IsPairOf names label key pair) where
     -- both have their numbers as soon as they are names
-    pub pair_named : (used : List (List ℕ)) → UsesNames names (label ∷ key ∷ []) used → (slice_get used pair.label ≡ Some label) × (slice_get used pair.key ≡ Some key)
+    pub pair_named : (used : List (List ℕ)) → UsesNames names (label ∷ key ∷ []) used → (slice_get used pair.label ≡ Some label)
+        × (slice_get used pair.key ≡ Some key)
     pair_named used uses =
         let first = uses.0 in
         let last = uses.2.0 in
         let same : used ≡ last = uses.2.2 in (
-          ap (λ ns. slice_get ns pair.label) same ∙ number_stays first key last pair.label label (number_named names label pair.label first is.label_is uses.1) uses.2.1,
+          ap (λ ns. slice_get ns pair.label) same ∙ number_stays first key last pair.label label (number_named names label pair.label first is.label_is uses.1)
+              uses.2.1,
           ap (λ ns. slice_get ns pair.key) same ∙ number_named first key pair.key last (is.key_is first uses.1) uses.2.1,
         )
 
@@ -121,7 +129,8 @@ module _ (names : List (List ℕ)) (label key : List ℕ) where
     key_number at = is.key_is names (inl (contains_at names pair.label label at, refl))
 
     -- by the numbers that they got
-    pub pair_is_got : (first last : List (List ℕ)) (l k : ℕ) → AreDistinct first → AreDistinct last → UsesName names label first → UsesName first key last → slice_get first l ≡ Some label → slice_get last k ≡ Some key → (pair.label ≡ l) × (pair.key ≡ k)
+    pub pair_is_got : (first last : List (List ℕ)) (l k : ℕ) → AreDistinct first → AreDistinct last → UsesName names label first → UsesName first key last
+        → slice_get first l ≡ Some label → slice_get last k ≡ Some key → (pair.label ≡ l) × (pair.key ≡ k)
     pair_is_got first last l k once once_more label_uses key_uses label_at key_at = (
       place_once first pair.label l label once (number_named names label pair.label first is.label_is label_uses) label_at,
       place_once last pair.key k key once_more (number_named first key pair.key last (is.key_is first label_uses) key_uses) key_at,

@@ -1,5 +1,6 @@
 -- An index that is made has its place in the graph.
-use Rattle.std.proofs.Common.{◌≡◌, ◌≢◌, ◌⊎◌, ⊎_elim, inl, inr, ℕ, zero, suc, ◌<◌, ◌≤◌, Bool, true, false, cond, Option, None, Some, List, [], ◌∷◌, ◌++◌, ap, sym, ◌∙◌, subst, arith, refl}
+use Rattle.std.proofs.Common.{◌≡◌, ◌≢◌, ◌⊎◌, ⊎_elim, inl, inr, ℕ, zero, suc, ◌<◌, ◌≤◌, Bool, true, false, cond, Option}
+use Rattle.std.proofs.Common.{None, Some, List, [], ◌∷◌, ◌++◌, ap, sym, ◌∙◌, subst, arith, refl}
 use Rattle.std.specs.List.{flat_map}
 use Rattle.std.proofs.lemmas.Grind.{flat_map-append}
 use Rattle.plain_graph.specs.Graph.{Index}
@@ -31,13 +32,16 @@ module _ (names : List (List ℕ)) (one : Index) where
   front [] ys e = first ys e
   front (x ∷ xs) ys e = by (is_before names one x) (front xs ys e)
     where
-      by : (b : Bool) → with_index names one (xs ++ ys) ≡ with_index names one xs ++ ys → cond b (one ∷ x ∷ (xs ++ ys)) (x ∷ with_index names one (xs ++ ys)) ≡ cond b (one ∷ x ∷ xs) (x ∷ with_index names one xs) ++ ys
+      by : (b : Bool) → with_index names one (xs ++ ys) ≡ with_index names one xs ++ ys
+          → cond b (one ∷ x ∷ (xs ++ ys)) (x ∷ with_index names one (xs ++ ys)) ≡ cond b (one ∷ x ∷ xs) (x ∷ with_index names one xs) ++ ys
       by true rest = refl
       by false rest = ap (λ zs. x ∷ zs) rest
 
-  each_collect : (row : ℕ → Option Index) (b : Bool) (m : ℕ) → ((y : ℕ) (e : Index) → y < m → row y ≡ Some e → is_before names one e ≡ b) → each b (collect row m)
+  each_collect : (row : ℕ → Option Index) (b : Bool) (m : ℕ) → ((y : ℕ) (e : Index) → y < m → row y ≡ Some e → is_before names one e ≡ b)
+      → each b (collect row m)
   each_collect row b zero all = tt
-  each_collect row b (suc m) all = each_both b (collect row m) (option_list (row m)) (each_collect row b m (λ y e lt is. all y e (omega arith) is)) (last (row m) refl)
+  each_collect row b (suc m) all = each_both b (collect row m) (option_list (row m)) (each_collect row b m (λ y e lt is. all y e (omega arith) is))
+      (last (row m) refl)
     where
       last : (o : Option Index) → row m ≡ o → each b (option_list o)
       last None is = tt
@@ -60,7 +64,8 @@ module _ (names : List (List ℕ)) (one : Index) where
     placed_row : l < n → (m : ℕ) → k ≤ m → m < n → collect (now l) (suc m) ≡ with_index names one (collect (old l) (suc m))
     placed_row in_l zero le lt =
         let zero_k : k ≡ 0 = omega arith in
-        ap (λ j. option_list (now l j)) (sym zero_k) ∙ ap option_list made ∙ sym (ap (with_index names one) (ap (λ j. option_list (old l j)) (sym zero_k) ∙ ap option_list lacked))
+        ap (λ j. option_list (now l j)) (sym zero_k) ∙ ap option_list made
+        ∙ sym (ap (with_index names one) (ap (λ j. option_list (old l j)) (sym zero_k) ∙ ap option_list lacked))
     placed_row in_l (suc m) le lt = ⊎_elim
         (λ (e : k ≡ suc m).
         let gone : old l (suc m) ≡ None = ap (old l) (sym e) ∙ lacked in

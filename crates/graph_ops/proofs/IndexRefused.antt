@@ -24,7 +24,9 @@ use Rattle.graph_ops.specs.Change.{IsCounted}
 use Rattle.graph_ops.specs.ChangeFault.{LeavesSpace, of_intern, of_make}
 use Rattle.graph_ops.specs.Damage.{BlamesBroken}
 use Rattle.graph_ops.specs.declared.change_fault.ChangeFault.{ChangeFault}
-use Rattle.graph_ops.specs.declared.change_fault.ChangeFault.TheVariants.{NoNode, NoEdge, HasRelationships, IndexThere, TooManyIndexes, IndexTooLarge, Full, NamesFull, PropsFull, Memory, Disk, Damaged}
+use Rattle.graph_ops.specs.declared.change_fault.ChangeFault.TheVariants.{NoNode, NoEdge, HasRelationships, IndexThere}
+use Rattle.graph_ops.specs.declared.change_fault.ChangeFault.TheVariants.{TooManyIndexes, IndexTooLarge, Full}
+use Rattle.graph_ops.specs.declared.change_fault.ChangeFault.TheVariants.{NamesFull, PropsFull, Memory, Disk, Damaged}
 use Rattle.graph_ops.proofs.Adding.{index_beside, interned_beside, names_then}
 use Rattle.graph_ops.proofs.Interned.{shape_interned}
 use Rattle.prop_store.specs.FileChange.{IsSameBeside}
@@ -37,7 +39,8 @@ pub second_lacks : (a b : List (List ℕ)) (label key : List ℕ) → UsesName a
 second_lacks a b label key uses full lacks =
     (b ++ key ∷ [], (b, uses, (b ++ key ∷ [], inr (lacks, refl), refl)), omega (arith, full, length-append b (key ∷ [])))
 
-pub name_caused : (s t : State) (old now names : List (List ℕ)) (label key text : List ℕ) → (length names ≡ most_names → ¬ Contains names text → LacksNames old (label ∷ key ∷ [])) → (fault : InternFault) → IsFullFault names text fault
+pub name_caused : (s t : State) (old now names : List (List ℕ)) (label key text : List ℕ)
+    → (length names ≡ most_names → ¬ Contains names text → LacksNames old (label ∷ key ∷ [])) → (fault : InternFault) → IsFullFault names text fault
     → IsCaused (commands.Index label key) s t old now (of_intern fault)
 name_caused s t old now names label key text lacks (intern.NamesFull count) why = (lacks why.all why.new, why.is ∙ why.all)
 name_caused s t old now names label key text lacks intern.Memory why = tt
@@ -57,7 +60,8 @@ pub record IsNamedFor (s m : State) (now : List (List ℕ)) (label key : List �
 
 -- The space `m` is that with the new names.
 module _ (m : State) (old now : List (List ℕ)) (label key : List ℕ) (l k : ℕ) where
-  pub make_caused : (s t : State) → IsNamedFor s m now label key l k → (fault : MakeFault) → IsMakeCause m l k fault → IsCaused (commands.Index label key) s t old now (of_make fault)
+  pub make_caused : (s t : State) → IsNamedFor s m now label key l k → (fault : MakeFault) → IsMakeCause m l k fault
+      → IsCaused (commands.Index label key) s t old now (of_make fault)
   make_caused s t named makes.There why = absurd (named.free why)
   make_caused s t named makes.Many why = absurd (named.few why)
   make_caused s t named (makes.TooLarge count) why =
@@ -66,7 +70,8 @@ module _ (m : State) (old now : List (List ℕ)) (label key : List ℕ) (l k : �
       let taken = 13 + count_of m.records l k in
       let past = ⊎_elim
       (λ (lt : room_of m.shape format.index_file < (meta_of m format.index_file).live + taken). lt)
-      (λ (fits : (meta_of m format.index_file).live + taken ≤ room_of m.shape format.index_file). absurd (why.1 fits)) (cases_lt (room_of m.shape format.index_file) ((meta_of m format.index_file).live + taken)) in
+      (λ (fits : (meta_of m format.index_file).live + taken ≤ room_of m.shape format.index_file). absurd (why.1 fits))
+      (cases_lt (room_of m.shape format.index_file) ((meta_of m format.index_file).live + taken)) in
       let count_is = named.count in
       let live_is = ap (λ (r : Meta). r.live) named.meta in
       let room_is = ap (λ (h : Shape). room_of h format.index_file) named.shape in
@@ -80,14 +85,16 @@ module _ (m : State) (old now : List (List ℕ)) (label key : List ℕ) (l k : �
   make_caused s t named (makes.Damaged damage) why = tt
 
   -- so it is by the space as it is left
-  pub make_still : (s t : State) → IsNamedFor s m now label key l k → count_of t.records l k ≡ count_of m.records l k → (fault : MakeFault) → IsUnwrittenFull m t fault → IsMakeCause m l k fault → IsCaused (commands.Index label key) t t old now (of_make fault)
+  pub make_still : (s t : State) → IsNamedFor s m now label key l k → count_of t.records l k ≡ count_of m.records l k → (fault : MakeFault)
+      → IsUnwrittenFull m t fault → IsMakeCause m l k fault → IsCaused (commands.Index label key) t t old now (of_make fault)
   make_still s t named same makes.There left why = absurd (named.free why)
   make_still s t named same makes.Many left why = absurd (named.few why)
   make_still s t named same (makes.TooLarge count) left why =
       (why.1, record { label_number = l; key_number = k; label_named = named.label_at; key_named = named.key_at; count_is = why.0 ∙ sym same })
   make_still s t named same (makes.Full live) left why =
       make_caused t t (subst (λ (z : State). IsNamedFor z m now label key l k) (sym left)
-      (record { label_at = named.label_at; key_at = named.key_at; count = refl; meta = refl; shape = refl; free = named.free; few = named.few })) (makes.Full live) why
+      (record { label_at = named.label_at; key_at = named.key_at; count = refl; meta = refl; shape = refl; free = named.free; few = named.few })) (makes.Full
+      live) why
   make_still s t named same makes.Memory left why = tt
   make_still s t named same makes.Disk left why = tt
   make_still s t named same (makes.Damaged damage) left why = tt
@@ -120,23 +127,28 @@ name_leaves s t intern.Disk = tt
 -- ---- what follows of each
 
 -- names leave all other records
-pub records_named : (s p m t : State) (old now : List (List ℕ)) (label key : List ℕ) → SameButReads s p → m ≡ interned p old label → t ≡ interned m now key → IsSameBeside format.names_file s.records t.records
+pub records_named : (s p m t : State) (old now : List (List ℕ)) (label key : List ℕ) → SameButReads s p → m ≡ interned p old label → t ≡ interned m now key
+    → IsSameBeside format.names_file s.records t.records
 records_named s p m t old now label key read first second =
     subst (λ r. IsSameBeside format.names_file r t.records) (ap (λ (z : State). z.records) read)
     (beside_then format.names_file p.records m.records t.records (interned_beside p m old label first) (interned_beside m t now key second))
 
 -- and the shape
-pub shape_named : (s p m t : State) (old now : List (List ℕ)) (label key : List ℕ) → SameButReads s p → m ≡ interned p old label → t ≡ interned m now key → t.shape ≡ s.shape
+pub shape_named : (s p m t : State) (old now : List (List ℕ)) (label key : List ℕ) → SameButReads s p → m ≡ interned p old label → t ≡ interned m now key
+    → t.shape ≡ s.shape
 shape_named s p m t old now label key read first second =
     shape_interned m t now key second ∙ shape_interned p m old label first ∙ ap (λ (z : State). z.shape) read
 
 -- names leave what the meta record of the indexes says
-pub meta_named : (s p m t : State) (old now : List (List ℕ)) (label key : List ℕ) → SameButReads s p → m ≡ interned p old label → t ≡ interned m now key → meta_of t format.index_file ≡ meta_of s format.index_file
+pub meta_named : (s p m t : State) (old now : List (List ℕ)) (label key : List ℕ) → SameButReads s p → m ≡ interned p old label → t ≡ interned m now key
+    → meta_of t format.index_file ≡ meta_of s format.index_file
 meta_named s p m t old now label key read first second =
-    index_beside p t (names_then p m t (interned_beside p m old label first) (interned_beside m t now key second)) ∙ ap (λ (z : State). meta_of z format.index_file) read
+    index_beside p t (names_then p m t (interned_beside p m old label first) (interned_beside m t now key second))
+    ∙ ap (λ (z : State). meta_of z format.index_file) read
 
 -- the count that a refusal tells is so
-pub caused_counted : (s t : State) (old now : List (List ℕ)) (label key : List ℕ) (fault : ChangeFault) → IsCaused (commands.Index label key) s t old now fault → IsCounted s fault
+pub caused_counted : (s t : State) (old now : List (List ℕ)) (label key : List ℕ) (fault : ChangeFault) → IsCaused (commands.Index label key) s t old now fault
+    → IsCounted s fault
 caused_counted s t old now label key (NoNode id) why = tt
 caused_counted s t old now label key (NoEdge id) why = tt
 caused_counted s t old now label key (HasRelationships id degree) why = why.1

@@ -1,5 +1,6 @@
 -- What the test of a label and a key finds among the definitions.
-use Rattle.std.proofs.Common.{◌≡◌, ⊎_elim, inl, inr, ℕ, ◌+◌, ◌<◌, ◌≤◌, nat_eq, nat_lt, Bool, true, false, ◌&&◌, ◌||◌, cond, Some, List, [], ◌∷◌, length, map, slice_get, Contains, ap, sym, ◌∙◌, arith, refl}
+use Rattle.std.proofs.Common.{◌≡◌, ⊎_elim, inl, inr, ℕ, ◌+◌, ◌<◌, ◌≤◌, nat_eq, nat_lt, Bool, true, false, ◌&&◌, ◌||◌}
+use Rattle.std.proofs.Common.{cond, Some, List, [], ◌∷◌, length, map, slice_get, Contains, ap, sym, ◌∙◌, arith, refl}
 use Rattle.std.specs.List.{list_any, sum_by}
 use Rattle.std.proofs.lemmas.Bool.{false≢true}
 use Rattle.std.proofs.lemmas.List.Sums.{sum_by-cons}
@@ -38,7 +39,8 @@ listed_among s [] l k = refl
 listed_among s (d ∷ ds) l k = ap (λ b. is_pair l k (pair_of s d) || b) (listed_among s ds l k)
 
 -- a pair that is listed has a definition
-pub listed_has : (s : Records) (ds : List ℕ) (l k : ℕ) → is_listed (map (pair_of s) ds) l k ≡ true → (d : ℕ) × In d ds × (indexed_label s d ≡ l) × (indexed_key s d ≡ k)
+pub listed_has : (s : Records) (ds : List ℕ) (l k : ℕ) → is_listed (map (pair_of s) ds) l k ≡ true → (d : ℕ) × In d ds × (indexed_label s d ≡ l)
+    × (indexed_key s d ≡ k)
 listed_has s ds l k is =
     let found = any_in (λ d. nat_eq (indexed_label s d) l && nat_eq (indexed_key s d) k) ds (sym (listed_among s ds l k) ∙ is) in
     let both = and_parts (nat_eq (indexed_label s found.0) l) (nat_eq (indexed_key s found.0) k) found.2 in
@@ -46,7 +48,8 @@ listed_has s ds l k is =
 
 -- ---- over any records
 
-pub there_caused : (s : Records) (names : List (List ℕ)) (pairs : List IndexPair) (label key : List ℕ) (pair : IndexPair) → ArePairsMet s pairs → IsPairOf names label key pair → is_listed pairs pair.label pair.key ≡ true → HasIndexOf s names label key
+pub there_caused : (s : Records) (names : List (List ℕ)) (pairs : List IndexPair) (label key : List ℕ) (pair : IndexPair) → ArePairsMet s pairs
+    → IsPairOf names label key pair → is_listed pairs pair.label pair.key ≡ true → HasIndexOf s names label key
 there_caused s names pairs label key pair met numbers is =
     let used = some_names names (label ∷ key ∷ []) in
     let at = pair_named names label key pair numbers used.0 used.1 in
@@ -74,7 +77,8 @@ any_sum : {E : Type 0} (test : E → Bool) (xs : List E) → list_any test xs �
 any_sum test [] = refl
 any_sum test (x ∷ xs) = step (test x) (any_sum test xs) ∙ sym (ap (nat_lt 0) (sum_by-cons (λ x. cond (test x) 1 0) x xs))
   where
-    step : (b : Bool) → list_any test xs ≡ nat_lt 0 (sum_by (λ x. cond (test x) 1 0) xs) → (b || list_any test xs) ≡ nat_lt 0 (cond b 1 0 + sum_by (λ x. cond (test x) 1 0) xs)
+    step : (b : Bool) → list_any test xs ≡ nat_lt 0 (sum_by (λ x. cond (test x) 1 0) xs)
+        → (b || list_any test xs) ≡ nat_lt 0 (cond b 1 0 + sum_by (λ x. cond (test x) 1 0) xs)
     step true rest = sym (lt_true 0 (1 + sum_by (λ x. cond (test x) 1 0) xs) (omega arith))
     step false rest = rest ∙ ap (nat_lt 0) (plus (sum_by (λ x. cond (test x) 1 0) xs))
       where
@@ -155,9 +159,11 @@ module _ (s : State) (names : List (List ℕ)) (whole : IsStore s names) where
             let label_same = found.2 in
             let key_same = found.3 in
             let label_at : slice_get names pair.label ≡ Some label = ⊎_elim (λ (at : slice_get names pair.label ≡ Some label). at)
-            (λ (new : (¬ Contains names label) × (pair.label ≡ length names)). let e = new.1 in let lt = own.0 in absurd (omega (arith, n, e, lt, label_same))) numbers.label_is in
+            (λ (new : (¬ Contains names label) × (pair.label ≡ length names)). let e = new.1 in let lt = own.0 in absurd (omega (arith, n, e, lt, label_same)))
+            numbers.label_is in
             let key_at : slice_get names pair.key ≡ Some key = ⊎_elim (λ (at : slice_get names pair.key ≡ Some key). at)
-            (λ (new : (¬ Contains names key) × (pair.key ≡ length names)). let e = new.1 in let lt = own.1 in absurd (omega (arith, n, e, lt, key_same))) (key_number names label key pair numbers label_at) in
+            (λ (new : (¬ Contains names key) × (pair.key ≡ length names)). let e = new.1 in let lt = own.1 in absurd (omega (arith, n, e, lt, key_same)))
+            (key_number names label key pair numbers label_at) in
             known_index pair.label pair.key label_at key_at ∙ listed_is pair.label pair.key ∙ is
 
         pub unlisted_free : is_listed pairs pair.label pair.key ≡ false → has_index (graph_in s) label key ≡ false
@@ -178,8 +184,10 @@ module _ (s : State) (names : List (List ℕ)) (whole : IsStore s names) where
     pub may_index : has_index (graph_in s) label key ≡ false → length ds < 16 → MayIndex s label key
     may_index free few = (none_there free, ((λ other why. let n = index_count_is in let many = why.0 in absurd (omega (arith, n, many, few))), tt))
 
-    pub there_first : has_index (graph_in s) label key ≡ true → FirstReason pair_reasons s.shape.limit (graph_in s) (commands.Index label key) refusals.IndexThere
+    pub there_first : has_index (graph_in s) label key ≡ true → FirstReason pair_reasons s.shape.limit (graph_in s) (commands.Index label key)
+        refusals.IndexThere
     there_first has = inl (has, refl)
 
-    pub many_first : has_index (graph_in s) label key ≡ false → 16 ≤ length ds → FirstReason pair_reasons s.shape.limit (graph_in s) (commands.Index label key) refusals.TooManyIndexes
+    pub many_first : has_index (graph_in s) label key ≡ false → 16 ≤ length ds
+        → FirstReason pair_reasons s.shape.limit (graph_in s) (commands.Index label key) refusals.TooManyIndexes
     many_first free many = inr (none_there free, inl (let n = index_count_is in omega (arith, n, many), refl))

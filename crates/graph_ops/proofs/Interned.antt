@@ -2,7 +2,8 @@
 use Rattle.std.specs.Cmp.Lexicographic.{pointwise}
 use Rattle.std.specs.List.{list_any}
 use Rattle.std.specs.Prelude.{Contains}
-use Rattle.std.proofs.Common.{◌≡◌, ◌≢◌, ℕ, ◌-◌, nat_eq, Bool, true, false, cond, List, [], ◌∷◌, ◌++◌, length, sym, ap, ◌∙◌, subst, inl, inr, ⊎_elim, arith, refl}
+use Rattle.std.proofs.Common.{◌≡◌, ◌≢◌, ℕ, ◌-◌, nat_eq, Bool, true, false, cond, List, [], ◌∷◌, ◌++◌, length, sym, ap}
+use Rattle.std.proofs.Common.{◌∙◌, subst, inl, inr, ⊎_elim, arith, refl}
 use Rattle.std.proofs.lemmas.List.{length-append}
 use Rattle.plain_graph.specs.Graph.{UsesName}
 use Rattle.plain_graph.specs.Names.{IsShortName}
@@ -40,7 +41,8 @@ shape_interned s t names text is = ap (λ (z : State). z.shape) is ∙ by (list_
     by false = named-shape s (length names) text
 
 -- a name that is new goes to the end
-keeps_named : (s : State) (old : List (List ℕ)) (text : List ℕ) → IsMidway s old → IsShortName text → ¬ Contains old text → length old ≢ format.most_names → KeepsElements s (named s (length old) text) (old ++ text ∷ [])
+keeps_named : (s : State) (old : List (List ℕ)) (text : List ℕ) → IsMidway s old → IsShortName text → ¬ Contains old text → length old ≢ format.most_names
+    → KeepsElements s (named s (length old) text) (old ++ text ∷ [])
 keeps_named s old text store short lacks few =
     let count = high s.records format.names_file in
     let long : length old ≡ count = ap length store.names ∙ length-names_of s.records in
@@ -48,7 +50,8 @@ keeps_named s old text store short lacks few =
     let most = meta.high in
     let v : Records = (named s count text).records in
     let there : IsNamed s.records v s.shape (name_record text) text
-    = IsNamed-named s s.shape text meta (store.store.kept format.names_file refl refl) (omega (arith, few, long, most)) short (λ k. lacks (subst (λ xs. Contains xs text) (sym store.names) k)) in
+    = IsNamed-named s s.shape text meta (store.store.kept format.names_file refl refl) (omega (arith, few, long, most)) short
+    (λ k. lacks (subst (λ xs. Contains xs text) (sym store.names) k)) in
     subst (λ n. KeepsElements s (named s n text) (old ++ text ∷ [])) (sym long) (record {
       store = record {
         store = subst (IsWellFormed v) (sym (named-shape s count text)) (name_well s.records v s.shape (name_record text) text there store.store);
@@ -77,7 +80,8 @@ metas_interned s t old new text is uses = ⊎_elim
     (λ (k : Contains old text × (new ≡ old)). subst (KeepsElementMetas s) (sym (is ∙ interned-known s old text k.0)) (metas_same s))
     (λ (k : (¬ Contains old text) × (new ≡ old ++ text ∷ [])). subst (KeepsElementMetas s) (sym (is ∙ interned-new s old text k.0)) (metas_named s (length old) text)) uses
 
-pub keeps_interned : (s t : State) (old new : List (List ℕ)) (text : List ℕ) → t ≡ interned s old text → UsesName old text new → IsShortName text → (¬ Contains old text → length old ≢ format.most_names) → IsMidway s old → KeepsElements s t new
+pub keeps_interned : (s t : State) (old new : List (List ℕ)) (text : List ℕ) → t ≡ interned s old text → UsesName old text new → IsShortName text
+    → (¬ Contains old text → length old ≢ format.most_names) → IsMidway s old → KeepsElements s t new
 keeps_interned s t old new text is uses short few store = ⊎_elim
     (λ (k : Contains old text × (new ≡ old)). subst (λ z. KeepsElements s z new) (sym (is ∙ interned-known s old text k.0)) (subst (KeepsElements s s) (sym k.1) (keeps_same s old store)))
     (λ (k : (¬ Contains old text) × (new ≡ old ++ text ∷ [])). subst (λ z. KeepsElements s z new) (sym (is ∙ interned-new s old text k.0)) (subst (KeepsElements s (named s (length old) text)) (sym k.1) (keeps_named s old text store short k.0 (few k.0)))) uses
@@ -88,7 +92,8 @@ one_written s t number = some_written s t (name_key number ∷ []) (name_key num
     (λ q i. ⊎_elim (λ e. inl e) (λ j. inr (⊎_elim (λ e. among_metas format.names_file q refl e) (λ e. absurd e) j)) i)
 
 -- a name that is new has its record written
-pub name_written : (s t : State) (old new : List (List ℕ)) (text : List ℕ) → UsesName old text new → (Contains old text → t ≡ s) → WritesOnly s t (name_key (length old) ∷ meta_key_of format.names_file ∷ []) → WritesAtMost (length new - length old) s t
+pub name_written : (s t : State) (old new : List (List ℕ)) (text : List ℕ) → UsesName old text new → (Contains old text → t ≡ s)
+    → WritesOnly s t (name_key (length old) ∷ meta_key_of format.names_file ∷ []) → WritesAtMost (length new - length old) s t
 name_written s t old new text uses stays writes = ⊎_elim
     (λ (k : Contains old text × (new ≡ old)). more_written (omega arith) (none_written s t (subst (SameButReads s) (sym (stays k.0)) refl)))
     (λ (k : (¬ Contains old text) × (new ≡ old ++ text ∷ [])). more_written (let e = ap length k.1 in omega (arith, length-append old (text ∷ [])))

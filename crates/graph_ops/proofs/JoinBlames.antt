@@ -27,7 +27,9 @@ use Rattle.graph_ops.specs.Owners.{IsAbsent}
 use Rattle.graph_ops.specs.Rooms.{HasRoom}
 use Rattle.graph_ops.proofs.ElementRooms.{room_still}
 use Rattle.graph_ops.specs.declared.change_fault.ChangeFault.{ChangeFault}
-use Rattle.graph_ops.specs.declared.change_fault.ChangeFault.TheVariants.{NoNode, NoEdge, HasRelationships, IndexThere, TooManyIndexes, IndexTooLarge, Full, NamesFull, PropsFull, Memory, Disk, Damaged}
+use Rattle.graph_ops.specs.declared.change_fault.ChangeFault.TheVariants.{NoNode, NoEdge, HasRelationships, IndexThere}
+use Rattle.graph_ops.specs.declared.change_fault.ChangeFault.TheVariants.{TooManyIndexes, IndexTooLarge, Full}
+use Rattle.graph_ops.specs.declared.change_fault.ChangeFault.TheVariants.{NamesFull, PropsFull, Memory, Disk, Damaged}
 
 -- an element that isn't found
 pub absent_blamed : (s : State) (target : Target) (fault : ChangeFault) → IsAbsent s target fault → BlamesBroken s fault
@@ -85,7 +87,8 @@ room_beyond s t keeps shape room =
     room_still s t format.relationships_file 1 (ap (λ (r : Rec). (metas.meta_of r).live) meta) shape room
 
 -- the meta record of the relationships stays where a head was found or made
-pub meta_beside : (s t : State) (node : ℕ) → LeavesBeside s.records t.records node → t.records (meta_key_of format.relationships_file) ≡ s.records (meta_key_of format.relationships_file)
+pub meta_beside : (s t : State) (node : ℕ) → LeavesBeside s.records t.records node
+    → t.records (meta_key_of format.relationships_file) ≡ s.records (meta_key_of format.relationships_file)
 meta_beside s t node beside = beside.others (meta_key_of format.relationships_file) (λ e. omega arith) (λ e. omega arith)
     (λ e. let f = ap (λ (k : Key). k.id) e in omega arith) (λ e. let f = ap (λ (k : Key). k.file) e in omega arith)
 
@@ -98,7 +101,8 @@ push_blamed s t faults.Disk told same = tt
 push_blamed s t (faults.Damaged damage) told same = inl (subst (λ (z : State). Breaks z.records z.shape damage) (sym same) told)
 
 -- its record is written where an identifier was taken
-pub placed_only : (s t u : State) (id : ℕ) (rec : Rec) → ChangesOnly s t (meta_key_of format.relationships_file ∷ []) → u ≡ after_put t (key_in format.relationships_file id) rec
+pub placed_only : (s t u : State) (id : ℕ) (rec : Rec) → ChangesOnly s t (meta_key_of format.relationships_file ∷ [])
+    → u ≡ after_put t (key_in format.relationships_file id) rec
     → ChangesOnly s u (key_in format.relationships_file id ∷ meta_key_of format.relationships_file ∷ [])
 placed_only s t u id rec took put = record {
   each = λ q. ⊎_elim (λ e. inr (inl e))

@@ -28,7 +28,8 @@ head_written s t rel end w = (
       (λ q i. ⊎_elim (λ e. inr (inl e)) (λ j. ⊎_elim (λ e. inl e) (λ k. ⊎_elim (λ e. inr (inr (inl e))) (λ e. absurd e) k) j) i) w.1,
 )
 
-pub end_written : (s t u : State) (rel : ℕ) (end : EdgeEnd) → PushesEnd s t rel end → WritesOnly t u (key_in format.nodes_file end.node ∷ []) → JoinsEnd s u rel end
+pub end_written : (s t u : State) (rel : ℕ) (end : EdgeEnd) → PushesEnd s t rel end → WritesOnly t u (key_in format.nodes_file end.node ∷ [])
+    → JoinsEnd s u rel end
 end_written s t u rel end w node = let h = head_written s t rel end w in (
   h.0,
   writes_more s u ((rel_key rel ∷ joined_keys h.0 end) ++ (key_in format.nodes_file end.node ∷ [])) _

@@ -39,8 +39,10 @@ whole_read s m names same store = subst (λ z. IsStore z names) (sym same) (reco
 -- ---- the indexes of the graph
 
 -- they are those of their file, and of the names
-pub graph_indexes : (s t : Records) → IsSameFile s t format.index_file → rec_at t format.names_file ≡ rec_at s format.names_file → high t format.names_file ≡ high s format.names_file → indexes_of t ≡ indexes_of s
-graph_indexes s t same names mark = λ i. indexes_from (λ x. kind_in (metas.meta_of (same.meta i)).high (same.records i x) x) (same.records i) (metas.meta_of (same.meta i)).high (names i) (mark i)
+pub graph_indexes : (s t : Records) → IsSameFile s t format.index_file → rec_at t format.names_file ≡ rec_at s format.names_file
+    → high t format.names_file ≡ high s format.names_file → indexes_of t ≡ indexes_of s
+graph_indexes s t same names mark = λ i. indexes_from (λ x. kind_in (metas.meta_of (same.meta i)).high (same.records i x) x) (same.records i)
+    (metas.meta_of (same.meta i)).high (names i) (mark i)
 
 -- where a relationship came or went
 pub edge_graph_indexes : (s t : Records) (id : ℕ) → IsEdgeChange s t id → indexes_of t ≡ indexes_of s
@@ -48,27 +50,35 @@ edge_graph_indexes s t id change = graph_indexes s t (ec.index_same s t id chang
 
 -- where a node came or went
 pub node_graph_indexes : (s t : Records) (id : ℕ) → ch.IsChanged s t format.nodes_file id → indexes_of t ≡ indexes_of s
-node_graph_indexes s t id change = graph_indexes s t (changed_index s t format.nodes_file id change (λ e. omega arith)) (nc.name_file s t id change) (nc.name_mark s t id change)
+node_graph_indexes s t id change = graph_indexes s t (changed_index s t format.nodes_file id change (λ e. omega arith)) (nc.name_file s t id change)
+    (nc.name_mark s t id change)
 
 -- ---- what the nodes have
 
 -- groups that were made, given back or filled
 pub regroups_keep : (s t : State) (n : ℕ) → Regroups s t n → KeepsIndexes s t
-regroups_keep s t n change indexes = indexes_stay s.records t.records index (wanted_in t.records) (subst (AreIndexed s.records) (sym (wanted_same s.records t.records (λ i x. change.nodes x i) files)) indexes)
+regroups_keep s t n change indexes = indexes_stay s.records t.records index (wanted_in t.records)
+    (subst (AreIndexed s.records) (sym (wanted_same s.records t.records (λ i x. change.nodes x i) files)) indexes)
   where
     index : IsSameFile s.records t.records format.index_file
     index = record {
-      records = λ i x. change.others (key_in format.index_file x) (λ e. omega arith) (λ e. omega arith) (λ e. omega arith) (not_meta_key format.index_file x format.groups_file refl) i;
-      meta = change.others (meta_key_of format.index_file) (λ e. omega arith) (λ e. omega arith) (λ e. omega arith) (λ e. let f = ap (λ (k : Key). k.id) e in omega arith);
+      records = λ i x. change.others (key_in format.index_file x) (λ e. omega arith) (λ e. omega arith) (λ e. omega arith)
+          (not_meta_key format.index_file x format.groups_file refl) i;
+      meta = change.others (meta_key_of format.index_file) (λ e. omega arith) (λ e. omega arith) (λ e. omega arith)
+          (λ e. let f = ap (λ (k : Key). k.id) e in omega arith);
     }
 
     files : property_records t.records ≡ property_records s.records
     files = λ i. record {
-      properties = λ x. change.others (key_in format.properties_file x) (λ e. omega arith) (λ e. omega arith) (λ e. omega arith) (not_meta_key format.properties_file x format.groups_file refl) i;
-      strings = λ x. change.others (key_in format.strings_file x) (λ e. omega arith) (λ e. omega arith) (λ e. omega arith) (not_meta_key format.strings_file x format.groups_file refl) i;
+      properties = λ x. change.others (key_in format.properties_file x) (λ e. omega arith) (λ e. omega arith) (λ e. omega arith)
+          (not_meta_key format.properties_file x format.groups_file refl) i;
+      strings = λ x. change.others (key_in format.strings_file x) (λ e. omega arith) (λ e. omega arith) (λ e. omega arith)
+          (not_meta_key format.strings_file x format.groups_file refl) i;
     }
 
 -- properties of a relationship
-pub properties_keep : (s t : State) (shape : Shape) (file x : ℕ) (old new : List Property) → ChangesProperties s.records t.records shape file x old new → file ≡ format.relationships_file → {most : ℕ} {empty : List ℕ} → KeepsRules s.records shape most empty → KeepsIndexes s t
+pub properties_keep : (s t : State) (shape : Shape) (file x : ℕ) (old new : List Property) → ChangesProperties s.records t.records shape file x old new
+    → file ≡ format.relationships_file → {most : ℕ} {empty : List ℕ} → KeepsRules s.records shape most empty → KeepsIndexes s t
 properties_keep s t shape file x old new change is well indexes =
-    indexes_stay s.records t.records (properties_index s.records t.records shape file x old new change) (wanted_in t.records) (subst (AreIndexed s.records) (sym (wanted_stays s.records t.records shape file x old new change well is)) indexes)
+    indexes_stay s.records t.records (properties_index s.records t.records shape file x old new change) (wanted_in t.records)
+    (subst (AreIndexed s.records) (sym (wanted_stays s.records t.records shape file x old new change well is)) indexes)

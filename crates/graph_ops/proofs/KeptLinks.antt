@@ -27,11 +27,14 @@ pub record IsOther (file : ℕ) : Type 0 where
   pub no_strings : file ≢ format.strings_file
 
 -- ---- meta records
-pub meta_kept : (old new : Records) (target : Target) → KeepsLinks old new (owner_of target) → (file : ℕ) → IsOther file → new (meta_key_of file) ≡ old (meta_key_of file)
+pub meta_kept : (old new : Records) (target : Target) → KeepsLinks old new (owner_of target) → (file : ℕ) → IsOther file
+    → new (meta_key_of file) ≡ old (meta_key_of file)
 meta_kept old new (targets.Node id) keeps file other = keeps.others (meta_key_of file) (λ e. omega arith) (λ e. omega arith)
-    (λ e. other.no_properties (ap (λ (k : Key). k.id) e)) (λ e. other.no_strings (ap (λ (k : Key). k.id) e)) (λ e. let f = ap (λ (k : Key). k.file) e in omega arith)
+    (λ e. other.no_properties (ap (λ (k : Key). k.id) e)) (λ e. other.no_strings (ap (λ (k : Key). k.id) e))
+    (λ e. let f = ap (λ (k : Key). k.file) e in omega arith)
 meta_kept old new (targets.Edge id) keeps file other = keeps.others (meta_key_of file) (λ e. omega arith) (λ e. omega arith)
-    (λ e. other.no_properties (ap (λ (k : Key). k.id) e)) (λ e. other.no_strings (ap (λ (k : Key). k.id) e)) (λ e. let f = ap (λ (k : Key). k.file) e in omega arith)
+    (λ e. other.no_properties (ap (λ (k : Key). k.id) e)) (λ e. other.no_strings (ap (λ (k : Key). k.id) e))
+    (λ e. let f = ap (λ (k : Key). k.file) e in omega arith)
 
 -- ---- numbers, but for the first property of an element
 
@@ -41,7 +44,8 @@ pub record IsBeside (file n at : ℕ) : Type 0 where
   pub of_node : file ≡ format.nodes_file → Apart n at 4 format.node_first_property
   pub of_edge : file ≡ format.relationships_file → Apart n at 4 format.relationship_first_property
 
-pub number_kept : (old new : Records) (target : Target) → KeepsLinks old new (owner_of target) → (file x n at : ℕ) → IsOther file → file ≢ format.meta_file → IsBeside file n at → field n (rec_at new file x) at ≡ field n (rec_at old file x) at
+pub number_kept : (old new : Records) (target : Target) → KeepsLinks old new (owner_of target) → (file x n at : ℕ) → IsOther file → file ≢ format.meta_file
+    → IsBeside file n at → field n (rec_at new file x) at ≡ field n (rec_at old file x) at
 number_kept old new (targets.Node id) keeps file x n at other record_file beside = ⊎_elim
     (λ (e : key_in file x ≡ key_in format.nodes_file id).
     let f = ap (λ (k : Key). k.file) e in
@@ -60,7 +64,8 @@ number_kept old new (targets.Edge id) keeps file x n at other record_file beside
     (key_cases (key_in file x) (key_in format.relationships_file id))
 
 -- ---- kinds
-pub kind_kept : (old new : Records) (target : Target) → KeepsLinks old new (owner_of target) → (file : ℕ) → IsOther file → file ≢ format.meta_file → (x : ℕ) → kind_at new file x ≡ kind_at old file x
+pub kind_kept : (old new : Records) (target : Target) → KeepsLinks old new (owner_of target) → (file : ℕ) → IsOther file → file ≢ format.meta_file → (x : ℕ)
+    → kind_at new file x ≡ kind_at old file x
 unfolding kind_in
 kind_kept old new target keeps file other record_file x =
     (λ i. kind_by_mark (ap (λ r. (metas.meta_of r).high) (meta_kept old new target keeps file other) i)
@@ -91,16 +96,20 @@ module _ (old new : Records) (id : ℕ) (keeps : KeepsLinks old new (owner_of (t
   kinds_kept = λ i n. kind_kept old new (targets.Edge id) keeps format.nodes_file nodes_other (λ e. omega arith) n i
 
   groups_kept : group_at new ≡ group_at old
-  groups_kept = λ i g. row_if (kind_kept old new (targets.Edge id) keeps format.groups_file groups_other (λ e. omega arith) g i) (group_in (record_kept format.groups_file g groups_other (λ e. omega arith) (λ e. omega arith) i) g)
+  groups_kept = λ i g. row_if (kind_kept old new (targets.Edge id) keeps format.groups_file groups_other (λ e. omega arith) g i)
+      (group_in (record_kept format.groups_file g groups_other (λ e. omega arith) (λ e. omega arith) i) g)
 
   -- the edge has its type and its ends
   abbrev now_row : RelRow
   now_row = rel_in (rec_at new format.relationships_file id) id
 
-  number_is : (at : ℕ) → at + 4 ≤ format.relationship_first_property → field 4 (rec_at new format.relationships_file id) at ≡ field 4 (rec_at old format.relationships_file id) at
-  number_is at low = number_kept old new (targets.Edge id) keeps format.relationships_file id 4 at edges_other (λ e. omega arith) (record { inside = omega arith; of_node = λ e. absurd (omega arith); of_edge = λ e. inl low })
+  number_is : (at : ℕ) → at + 4 ≤ format.relationship_first_property → field 4 (rec_at new format.relationships_file id) at ≡ field 4
+      (rec_at old format.relationships_file id) at
+  number_is at low = number_kept old new (targets.Edge id) keeps format.relationships_file id 4 at edges_other (λ e. omega arith)
+      (record { inside = omega arith; of_node = λ e. absurd (omega arith); of_edge = λ e. inl low })
 
-  row_now : (row : RelRow) → rel_at old id ≡ Some row → (rel_at new id ≡ Some now_row) × (now_row.label ≡ row.label) × (now_row.from ≡ row.from) × (now_row.to ≡ row.to)
+  row_now : (row : RelRow) → rel_at old id ≡ Some row → (rel_at new id ≡ Some now_row) × (now_row.label ≡ row.label) × (now_row.from ≡ row.from)
+      × (now_row.to ≡ row.to)
   row_now row there =
       let was = some_row (kind_at old format.relationships_file id) (rel_in (rec_at old format.relationships_file id) id) row there in
       let kind = kind_kept old new (targets.Edge id) keeps format.relationships_file edges_other (λ e. omega arith) id in (
@@ -134,7 +143,8 @@ module _ (old new : Records) (id : ℕ) (keeps : KeepsLinks old new (owner_of (t
       record {
         head = h;
         end = record {
-          owns = subst (λ kinds. Owns kinds (group_at new) h node) (sym kinds_kept) (subst (λ groups. Owns (kind_at old format.nodes_file) groups h node) (sym groups_kept) is.end.owns);
+          owns = subst (λ kinds. Owns kinds (group_at new) h node) (sym kinds_kept)
+              (subst (λ groups. Owns (kind_at old format.nodes_file) groups h node) (sym groups_kept) is.end.owns);
           on = on_like (group_at new) h row now_row r.1 r.2 r.3 (subst (λ groups. IsOn groups h row) (sym groups_kept) is.end.on);
         };
         first = ap (λ (r : Rec). field 4 r h.field) (head_kept h is.end.owns) ∙ is.first;
@@ -142,7 +152,8 @@ module _ (old new : Records) (id : ℕ) (keeps : KeepsLinks old new (owner_of (t
       }
     where
       head_kept : (h : Head) → Owns (kind_at old format.nodes_file) (group_at old) h node → new h.key ≡ old h.key
-      head_kept h (inl o) = ap (λ (z : Head). new z.key) o.is ∙ record_kept format.nodes_file node nodes_other (λ e. omega arith) (λ e. omega arith) ∙ sym (ap (λ (z : Head). old z.key) o.is)
+      head_kept h (inl o) = ap (λ (z : Head). new z.key) o.is ∙ record_kept format.nodes_file node nodes_other (λ e. omega arith) (λ e. omega arith)
+          ∙ sym (ap (λ (z : Head). old z.key) o.is)
       head_kept h (inr o) = ap new o.key ∙ record_kept format.groups_file o.row.id groups_other (λ e. omega arith) (λ e. omega arith) ∙ sym (ap old o.key)
 
   pub first_kept : (from to : ℕ) → IsFirst old id from to → IsFirst new id from to
@@ -160,9 +171,13 @@ module _ (old new : Records) (id : ℕ) (keeps : KeepsLinks old new (owner_of (t
       }
 
 -- ---- an element whose properties are gone
-pub drop_kinds : (v u : State) (target : Target) (dropped : Dropped) → DropsAll v u (owner_of target) dropped → (n : ℕ) → kind_at u.records format.nodes_file n ≡ kind_at v.records format.nodes_file n
+pub drop_kinds : (v u : State) (target : Target) (dropped : Dropped) → DropsAll v u (owner_of target) dropped → (n : ℕ)
+    → kind_at u.records format.nodes_file n ≡ kind_at v.records format.nodes_file n
 drop_kinds v u target dropped all n =
-    kind_kept v.records u.records target (record { own = all.changes.changes.own; others = all.changes.changes.others }) format.nodes_file (record { no_properties = λ e. omega arith; no_strings = λ e. omega arith }) (λ e. omega arith) n
+    kind_kept v.records u.records target (record { own = all.changes.changes.own; others = all.changes.changes.others }) format.nodes_file
+    (record { no_properties = λ e. omega arith; no_strings = λ e. omega arith }) (λ e. omega arith) n
 
-pub dropped_kinds : (v u : State) (owner : Owner) (target : Target) (dropped : Dropped) → owner ≡ owner_of target → HasElement v (owner_of target) → (HasElement v owner → DropsAll v u owner dropped) → (n : ℕ) → kind_at u.records format.nodes_file n ≡ kind_at v.records format.nodes_file n
-dropped_kinds v u owner target dropped is element drops = drop_kinds v u target dropped (subst (λ (o : Owner). HasElement v o → DropsAll v u o dropped) is drops element)
+pub dropped_kinds : (v u : State) (owner : Owner) (target : Target) (dropped : Dropped) → owner ≡ owner_of target → HasElement v (owner_of target)
+    → (HasElement v owner → DropsAll v u owner dropped) → (n : ℕ) → kind_at u.records format.nodes_file n ≡ kind_at v.records format.nodes_file n
+dropped_kinds v u owner target dropped is element drops = drop_kinds v u target dropped
+    (subst (λ (o : Owner). HasElement v o → DropsAll v u o dropped) is drops element)

@@ -6,7 +6,8 @@ use Rattle.std.specs.Ordering.{eq_by_cmp}
 use Rattle.std.specs.Cmp.{eq_by_cmp_equiv}
 use Rattle.std.specs.Prelude.{is_some}
 use Rattle.std.specs.List.{filter, sum_by}
-use Rattle.std.proofs.Common.{◌≡◌, inl, inr, ℕ, ◌+◌, ◌<◌, ◌≤◌, nat_eq, Bool, true, false, ◌&&◌, if◌then◌else◌, cond, find, Option, None, Some, List, [], ◌∷◌, length, map, ap, sym, ◌∙◌, subst, arith, refl}
+use Rattle.std.proofs.Common.{◌≡◌, inl, inr, ℕ, ◌+◌, ◌<◌, ◌≤◌, nat_eq, Bool, true, false, ◌&&◌, if◌then◌else◌, cond}
+use Rattle.std.proofs.Common.{find, Option, None, Some, List, [], ◌∷◌, length, map, ap, sym, ◌∙◌, subst, arith, refl}
 use Rattle.std.proofs.lemmas.Bool.{false≢true, true≢false}
 use Rattle.std.proofs.lemmas.List.Sums.{sum_by-cons}
 use Rattle.plain_graph.specs.Graph.{Graph, Index, Node, change_node, node_number, node_properties, with_value}
@@ -70,30 +71,36 @@ module _ (pass : Node → Bool) (put : Node → Node) (keeps : (r : Node) → pa
   count_most [] = omega arith
   count_most (r ∷ rs) = by (pass r) (pass (put r)) (keeps r) (count_most rs)
     where
-      by : (a b : Bool) → (a ≡ true → b ≡ true) → length (filter pass rs) ≤ length (filter pass (map put rs)) → length (cond a (r ∷ filter pass rs) (filter pass rs)) ≤ length (cond b (put r ∷ filter pass (map put rs)) (filter pass (map put rs)))
+      by : (a b : Bool) → (a ≡ true → b ≡ true) → length (filter pass rs) ≤ length (filter pass (map put rs))
+          → length (cond a (r ∷ filter pass rs) (filter pass rs)) ≤ length (cond b (put r ∷ filter pass (map put rs)) (filter pass (map put rs)))
       by true true k rest = omega (arith, rest)
       by true false k rest = absurd (false≢true (k refl))
       by false true k rest = omega (arith, rest)
       by false false k rest = rest
 
-  count_less : (is : Node → Bool) (node : Node) → pass node ≡ false → pass (put node) ≡ true → (rs : List Node) → find is rs ≡ Some node → length (filter pass rs) < length (filter pass (map put rs))
+  count_less : (is : Node → Bool) (node : Node) → pass node ≡ false → pass (put node) ≡ true → (rs : List Node) → find is rs ≡ Some node
+      → length (filter pass rs) < length (filter pass (map put rs))
   count_less is node lacks has [] found = absurd cc
   count_less is node lacks has (r ∷ rs) found = by (is r) (λ later. count_less is node lacks has rs later) found
     where
-      here : (a b : Bool) → a ≡ false → b ≡ true → length (filter pass rs) ≤ length (filter pass (map put rs)) → length (cond a (r ∷ filter pass rs) (filter pass rs)) < length (cond b (put r ∷ filter pass (map put rs)) (filter pass (map put rs)))
+      here : (a b : Bool) → a ≡ false → b ≡ true → length (filter pass rs) ≤ length (filter pass (map put rs))
+          → length (cond a (r ∷ filter pass rs) (filter pass rs)) < length (cond b (put r ∷ filter pass (map put rs)) (filter pass (map put rs)))
       here true b p q rest = absurd (true≢false p)
       here false false p q rest = absurd (false≢true q)
       here false true p q rest = omega (arith, rest)
 
-      more : (a b : Bool) → (a ≡ true → b ≡ true) → length (filter pass rs) < length (filter pass (map put rs)) → length (cond a (r ∷ filter pass rs) (filter pass rs)) < length (cond b (put r ∷ filter pass (map put rs)) (filter pass (map put rs)))
+      more : (a b : Bool) → (a ≡ true → b ≡ true) → length (filter pass rs) < length (filter pass (map put rs))
+          → length (cond a (r ∷ filter pass rs) (filter pass rs)) < length (cond b (put r ∷ filter pass (map put rs)) (filter pass (map put rs)))
       more true true k rest = omega (arith, rest)
       more true false k rest = absurd (false≢true (k refl))
       more false true k rest = omega (arith, rest)
       more false false k rest = rest
 
       by : (b : Bool) → (find is rs ≡ Some node → length (filter pass rs) < length (filter pass (map put rs))) → (if b then Some r else find is rs) ≡ Some node
-          → length (cond (pass r) (r ∷ filter pass rs) (filter pass rs)) < length (cond (pass (put r)) (put r ∷ filter pass (map put rs)) (filter pass (map put rs)))
-      by true later found = let e : r ≡ node = ap (node_or node) found in here (pass r) (pass (put r)) (ap pass e ∙ lacks) (ap (λ z. pass (put z)) e ∙ has) (count_most rs)
+          → length (cond (pass r) (r ∷ filter pass rs) (filter pass rs)) < length
+          (cond (pass (put r)) (put r ∷ filter pass (map put rs)) (filter pass (map put rs)))
+      by true later found = let e : r ≡ node = ap (node_or node) found in
+          here (pass r) (pass (put r)) (ap pass e ∙ lacks) (ap (λ z. pass (put z)) e ∙ has) (count_most rs)
       by false later found = more (pass r) (pass (put r)) (keeps r) (later found)
 
 -- ---- a node with one more key
@@ -119,8 +126,10 @@ module _ (id : ℕ) (key : List ℕ) (value : Value) where
           ap (λ c. c && has_key (maps.insert r.properties key value) index.key) both.0
           ∙ ap is_some (get-insert nat_list_cmp_total r.properties key value index.key) ∙ or_there (eq_by_cmp order index.key key) both.1
 
-module _ (s : State) (id : ℕ) (store : IsIndexed s.records s.shape) (owned : IsOwner (owner_of (targets.Node id))) (has : HasElement s (owner_of (targets.Node id))) (number : ℕ) (low : number < high s.records format.names_file) (value : Value)
-    (lacks : node_value s.records (label_at s.records id) number id ≡ None) (listed : is_among s.records store.indexes.definitions (label_at s.records id) number ≡ true) where
+module _ (s : State) (id : ℕ) (store : IsIndexed s.records s.shape) (owned : IsOwner (owner_of (targets.Node id)))
+    (has : HasElement s (owner_of (targets.Node id))) (number : ℕ) (low : number < high s.records format.names_file) (value : Value)
+    (lacks : node_value s.records (label_at s.records id) number id ≡ None)
+    (listed : is_among s.records store.indexes.definitions (label_at s.records id) number ≡ true) where
   abbrev g : Graph
   g = graph_of s.records
 
@@ -147,7 +156,8 @@ module _ (s : State) (id : ℕ) (store : IsIndexed s.records s.shape) (owned : I
   node = node_or (record { id = 0; label = []; properties = maps.empty }) (find (λ n. nat_eq (node_number n) id) g.nodes)
 
   found : find (λ n. nat_eq (node_number n) id) g.nodes ≡ Some node
-  found = node_is s.records id has.used ∙ ap (λ o. Some (node_or (record { id = 0; label = []; properties = maps.empty }) o)) (sym (node_is s.records id has.used))
+  found = node_is s.records id has.used ∙ ap (λ o. Some (node_or (record { id = 0; label = []; properties = maps.empty }) o))
+      (sym (node_is s.records id has.used))
 
   id_is : node.id ≡ id
   id_is = ap (λ o. (node_or (record { id = 0; label = []; properties = maps.empty }) o).id) (node_is s.records id has.used)
@@ -159,30 +169,37 @@ module _ (s : State) (id : ℕ) (store : IsIndexed s.records s.shape) (owned : I
   lacks_key = ap (λ (m : Properties). has_key m key) (ap node_properties (sym found)) ∙ key_held s id store owned has number low ∙ ap is_some lacks
 
   label_low : label < high s.records format.names_file
-  label_low = store.store.named.nodes_named id (node_in (rec_at s.records format.nodes_file id) id) (row_some (kind_at s.records format.nodes_file id) (node_in (rec_at s.records format.nodes_file id) id) has.used)
+  label_low = store.store.named.nodes_named id (node_in (rec_at s.records format.nodes_file id) id)
+      (row_some (kind_at s.records format.nodes_file id) (node_in (rec_at s.records format.nodes_file id) id) has.used)
 
   same_label : is_text (text s.records label) node.label ≡ true
-  same_label = ap (is_text (text s.records label)) label_is ∙ text_test (rec_at s.records format.names_file) (high s.records format.names_file) store.store.names label label label_low label_low ∙ eq_true label label refl
+  same_label = ap (is_text (text s.records label)) label_is ∙ text_test (rec_at s.records format.names_file) (high s.records format.names_file)
+      store.store.names label label label_low label_low ∙ eq_true label label refl
 
   out_before : in_index id key value (index_at s.records label number) node ≡ false
   out_before = ap (λ b. b && has_key node.properties key) same_label ∙ lacks_key
 
   in_after : in_index id key value (index_at s.records label number) (put_key id key value node) ≡ true
-  in_after = ap (λ b. in_index id key value (index_at s.records label number) (if b then change_node (λ m. maps.insert m key value) node else node)) (eq_true node.id id id_is)
+  in_after = ap (λ b. in_index id key value (index_at s.records label number) (if b then change_node (λ m. maps.insert m key value) node else node))
+      (eq_true node.id id id_is)
       ∙ ap (λ b. b && has_key (maps.insert node.properties key value) key) same_label
-      ∙ ap is_some (get-insert nat_list_cmp_total node.properties key value key) ∙ ap (λ b. is_some (cond b (Some value) (maps.get node.properties key))) ((eq_by_cmp_equiv nat_list_cmp_total).refl key)
+      ∙ ap is_some (get-insert nat_list_cmp_total node.properties key value key)
+      ∙ ap (λ b. is_some (cond b (Some value) (maps.get node.properties key))) ((eq_by_cmp_equiv nat_list_cmp_total).refl key)
 
   own : before (index_at s.records label number) < after (index_at s.records label number)
   own =
-      let less = count_less (in_index id key value (index_at s.records label number)) (put_key id key value) (key_kept id key value (index_at s.records label number)) (λ n. nat_eq (node_number n) id) node out_before in_after g.nodes found in
+      let less = count_less (in_index id key value (index_at s.records label number)) (put_key id key value)
+      (key_kept id key value (index_at s.records label number)) (λ n. nat_eq (node_number n) id) node out_before in_after g.nodes found in
       omega (arith, less)
 
   pub records_more : index_records g < index_records (with_value g (targets.Node id) key value)
   records_more =
       let there = any_in (has_pair s.records label number) store.indexes.definitions listed in
       let pair = pair_is s.records label number there.0 there.2 in
-      let one : index_records g ≡ sum_by (of_definition s.records before) store.indexes.definitions = sum_indexes s.records store.store.defined (wanted_in s.records) store.indexes before in
-      let other : index_records (with_value g (targets.Node id) key value) ≡ sum_by (of_definition s.records after) store.indexes.definitions = sum_indexes s.records store.store.defined (wanted_in s.records) store.indexes after in
+      let one : index_records g ≡ sum_by (of_definition s.records before) store.indexes.definitions =
+      sum_indexes s.records store.store.defined (wanted_in s.records) store.indexes before in
+      let other : index_records (with_value g (targets.Node id) key value) ≡ sum_by (of_definition s.records after) store.indexes.definitions =
+      sum_indexes s.records store.store.defined (wanted_in s.records) store.indexes after in
       let at : of_definition s.records before there.0 < of_definition s.records after there.0
       = subst (λ x. before (index_at s.records x (indexed_key s.records there.0)) < after (index_at s.records x (indexed_key s.records there.0))) (sym pair.0)
       (subst (λ y. before (index_at s.records label y) < after (index_at s.records label y)) (sym pair.1) own) in

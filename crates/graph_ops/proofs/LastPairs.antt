@@ -3,7 +3,9 @@ use Rattle.std.specs.FinMap as maps
 use Rattle.std.specs.List.{All, sum_by}
 use Rattle.std.specs.Ordering.{eq_by_cmp}
 use Rattle.std.specs.Prelude.{Contains, is_some}
-use Rattle.std.proofs.Common.{◌≡◌, ◌≢◌, ◌⊎◌, ℕ, zero, suc, ◌+◌, ◌<◌, nat_eq, Bool, true, false, cond, Option, None, Some, List, [], ◌∷◌, ◌++◌, length, map, get_or, take, sym, ap, ◌∙◌, subst, inl, inr, ⊎_elim, arith, refl}
+use Rattle.std.proofs.Common.{◌≡◌, ◌≢◌, ◌⊎◌, ℕ, zero, suc, ◌+◌, ◌<◌, nat_eq, Bool, true, false, cond, Option, None}
+use Rattle.std.proofs.Common.{Some, List, [], ◌∷◌, ◌++◌, length, map, get_or, take, sym, ap, ◌∙◌, subst, inl, inr}
+use Rattle.std.proofs.Common.{⊎_elim, arith, refl}
 use Rattle.std.proofs.lemmas.Cmp.{nat_list_cmp_total}
 use Rattle.std.proofs.lemmas.Bool.Decides.{nat_tests}
 use Rattle.std.proofs.lemmas.List.Elements.{All-cons, All-head, All-tail, All-nil, Contains-get_or}
@@ -58,7 +60,8 @@ abbrev LackKey : List ℕ → List Pair → Type 0
 LackKey k [] = Unit {0}
 LackKey k (p ∷ ps) = (p.key ≢ k) × LackKey k ps
 
-insert_before : (m : Properties) (k : List ℕ) (v : Value) (ps : List Pair) → LackKey k ps → with_pairs (maps.insert m k v) ps ≡ maps.insert (with_pairs m ps) k v
+insert_before : (m : Properties) (k : List ℕ) (v : Value) (ps : List Pair) → LackKey k ps
+    → with_pairs (maps.insert m k v) ps ≡ maps.insert (with_pairs m ps) k v
 insert_before m k v [] lack = refl
 insert_before m k v (p ∷ ps) lack =
     ap (λ z. with_pairs z ps) (insert_swap m k p.key v p.value (λ e. lack.0 (sym e))) ∙ insert_before (maps.insert m p.key p.value) k v ps lack.1
@@ -74,7 +77,8 @@ len-with_pairs m (p ∷ ps) new =
     absent None e = refl
     absent (Some v) e = absurd cc
 
-pub blocks_in-with_pairs : (m : Properties) (ps : List Pair) → AreNew m ps → blocks_in (with_pairs m ps) ≡ blocks_in m + sum_by (λ (p : Pair). blocks_of p.value) ps
+pub blocks_in-with_pairs : (m : Properties) (ps : List Pair) → AreNew m ps
+    → blocks_in (with_pairs m ps) ≡ blocks_in m + sum_by (λ (p : Pair). blocks_of p.value) ps
 blocks_in-with_pairs m [] new = omega arith
 blocks_in-with_pairs m (p ∷ ps) new =
     let rest = blocks_in-with_pairs (maps.insert m p.key p.value) ps new.1 in
@@ -115,7 +119,8 @@ key_cases : (xs : List Assignment) (key place x : ℕ) → In x (keys (with_plac
 key_cases [] key place x i = ⊎_elim (λ e. inr e) (λ j. absurd j) i
 key_cases (a ∷ xs) key place x i = by (nat_eq a.key key) i (key_cases xs key place x)
   where
-    by : (b : Bool) → In x (keys (cond b (record { key = key; pair = place } ∷ xs) (a ∷ with_place xs key place))) → (In x (keys (with_place xs key place)) → In x (keys xs) ⊎ (x ≡ key)) → In x (keys (a ∷ xs)) ⊎ (x ≡ key)
+    by : (b : Bool) → In x (keys (cond b (record { key = key; pair = place } ∷ xs) (a ∷ with_place xs key place)))
+        → (In x (keys (with_place xs key place)) → In x (keys xs) ⊎ (x ≡ key)) → In x (keys (a ∷ xs)) ⊎ (x ≡ key)
     by true i rest = ⊎_elim (λ e. inr e) (λ j. inl (inr j)) i
     by false i rest = ⊎_elim (λ e. inl (inl e)) (λ j. ⊎_elim (λ k. inl (inr k)) (λ e. inr e) (rest j)) i
 
@@ -129,11 +134,13 @@ once_placed (a ∷ xs) key place once = by (nat_eq a.key key) (λ e. same a.key 
     apart : (m n : ℕ) → nat_eq m n ≡ false → m ≢ n
     apart m n e = grind (arith, nat_tests)
 
-    by : (b : Bool) → (b ≡ true → a.key ≡ key) → (b ≡ false → a.key ≢ key) → AreOnce (keys (with_place xs key place)) → AreOnce (keys (cond b (record { key = key; pair = place } ∷ xs) (a ∷ with_place xs key place)))
+    by : (b : Bool) → (b ≡ true → a.key ≡ key) → (b ≡ false → a.key ≢ key) → AreOnce (keys (with_place xs key place))
+        → AreOnce (keys (cond b (record { key = key; pair = place } ∷ xs) (a ∷ with_place xs key place)))
     by true eq ne rest = ((λ i. once.0 (subst (λ k. In k (keys xs)) (sym (eq refl)) i)), once.1)
     by false eq ne rest = ((λ i. ⊎_elim once.0 (ne refl) (key_cases xs key place a.key i)), rest)
 
-pub all_placed : (P : Assignment → Type 0) (xs : List Assignment) (key place : ℕ) → P (record { key = key; pair = place }) → All P xs → All P (with_place xs key place)
+pub all_placed : (P : Assignment → Type 0) (xs : List Assignment) (key place : ℕ) → P (record { key = key; pair = place }) → All P xs
+    → All P (with_place xs key place)
 all_placed P [] key place new all = All-cons P (record { key = key; pair = place }) [] new (All-nil P)
 all_placed P (a ∷ xs) key place new all = by (nat_eq a.key key) (all_placed P xs key place new (All-tail P a xs all))
   where
@@ -156,7 +163,8 @@ module _ (names : List (List ℕ)) (pairs : List Pair) (distinct : AreDistinct n
 
   -- a place for a key is its value in the map
   pub with_pairs-placed : (m : Properties) (xs : List Assignment) (key place : ℕ) → key < length names → All Known xs → AreOnce (keys xs)
-      → with_pairs m (pairs_of names pairs (with_place xs key place)) ≡ maps.insert (with_pairs m (pairs_of names pairs xs)) (text key) (pair_at pairs place).value
+      → with_pairs m (pairs_of names pairs (with_place xs key place)) ≡ maps.insert (with_pairs m (pairs_of names pairs xs)) (text key)
+      (pair_at pairs place).value
   with_pairs-placed m [] key place low known once = refl
   with_pairs-placed m (a ∷ xs) key place low known once =
       by (nat_eq a.key key) (λ e. same a.key key e) (with_pairs-placed (maps.insert m (text a.key) (pair_at pairs a.pair).value) xs key place low (All-tail Known a xs known) once.1)
@@ -165,7 +173,8 @@ module _ (names : List (List ℕ)) (pairs : List Pair) (distinct : AreDistinct n
       same x y e = grind (arith, nat_tests)
 
       by : (b : Bool) → (b ≡ true → a.key ≡ key)
-          → with_pairs (maps.insert m (text a.key) (pair_at pairs a.pair).value) (pairs_of names pairs (with_place xs key place)) ≡ maps.insert (with_pairs (maps.insert m (text a.key) (pair_at pairs a.pair).value) (pairs_of names pairs xs)) (text key) (pair_at pairs place).value
+          → with_pairs (maps.insert m (text a.key) (pair_at pairs a.pair).value) (pairs_of names pairs (with_place xs key place)) ≡ maps.insert
+          (with_pairs (maps.insert m (text a.key) (pair_at pairs a.pair).value) (pairs_of names pairs xs)) (text key) (pair_at pairs place).value
           → with_pairs m (pairs_of names pairs (cond b (record { key = key; pair = place } ∷ xs) (a ∷ with_place xs key place)))
           ≡ maps.insert (with_pairs (maps.insert m (text a.key) (pair_at pairs a.pair).value) (pairs_of names pairs xs)) (text key) (pair_at pairs place).value
       by true eq rest =
@@ -173,12 +182,14 @@ module _ (names : List (List ℕ)) (pairs : List Pair) (distinct : AreDistinct n
           let z = with_pairs m (pairs_of names pairs xs) in
           insert_before m (text key) (pair_at pairs place).value (pairs_of names pairs xs) lack
           ∙ sym (ap (λ k. maps.insert (with_pairs (maps.insert m (text k) (pair_at pairs a.pair).value) (pairs_of names pairs xs)) (text key) (pair_at pairs place).value) (eq refl)
-          ∙ ap (λ n. maps.insert n (text key) (pair_at pairs place).value) (insert_before m (text key) (pair_at pairs a.pair).value (pairs_of names pairs xs) lack)
+          ∙ ap (λ n. maps.insert n (text key) (pair_at pairs place).value)
+          (insert_before m (text key) (pair_at pairs a.pair).value (pairs_of names pairs xs) lack)
           ∙ insert_twice z (text key) (pair_at pairs a.pair).value (pair_at pairs place).value)
       by false eq rest = rest
 
   -- the assignments' pairs are new to a map without their keys
-  pub pairs_new : (m : Properties) (xs : List Assignment) → All Known xs → AreOnce (keys xs) → ((k : ℕ) → In k (keys xs) → maps.get m (text k) ≡ None) → AreNew m (pairs_of names pairs xs)
+  pub pairs_new : (m : Properties) (xs : List Assignment) → All Known xs → AreOnce (keys xs) → ((k : ℕ) → In k (keys xs) → maps.get m (text k) ≡ None)
+      → AreNew m (pairs_of names pairs xs)
   pairs_new m [] known once none = tt
   pairs_new m (a ∷ xs) known once none = (
     none a.key (inl refl),

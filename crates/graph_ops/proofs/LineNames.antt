@@ -2,7 +2,8 @@
 use Rattle.std.specs.Cmp.Lexicographic.{pointwise}
 use Rattle.std.specs.List.{list_any}
 use Rattle.std.specs.Prelude.{Contains}
-use Rattle.std.proofs.Common.{◌≡◌, ◌≢◌, ℕ, suc, ◌+◌, ◌-◌, ◌<◌, ◌≤◌, nat_eq, Bool, true, false, List, [], ◌∷◌, ◌++◌, length, take, drop, sym, ap, ◌∙◌, subst, inl, inr, ⊎_elim, append_assoc, arith, refl}
+use Rattle.std.proofs.Common.{◌≡◌, ◌≢◌, ℕ, suc, ◌+◌, ◌-◌, ◌<◌, ◌≤◌, nat_eq, Bool, true, false, List, [], ◌∷◌, ◌++◌}
+use Rattle.std.proofs.Common.{length, take, drop, sym, ap, ◌∙◌, subst, inl, inr, ⊎_elim, append_assoc, arith, refl}
 use Rattle.std.proofs.Math.Seq.{drop-cons}
 use Rattle.std.proofs.lemmas.List.{length-append, map-append, take-append-drop, take_more}
 use Rattle.plain_graph.specs.Graph.{NeedsNames, UsesName, UsesNames}
@@ -46,7 +47,8 @@ pub name_long : (a : List (List ℕ)) (x : List ℕ) (b : List (List ℕ)) → U
 name_long a x b h = let p = name_prefix a x b h in let n = ap length p.1 in omega (arith, length-append a p.0)
 
 -- names that are kept stay such where there is room for one more
-pub held_name : (a : List (List ℕ)) (x : List ℕ) (b : List (List ℕ)) → AreHeldNames a → UsesName a x b → IsShortName x → (¬ Contains a x → length a ≢ most_names) → AreHeldNames b
+pub held_name : (a : List (List ℕ)) (x : List ℕ) (b : List (List ℕ)) → AreHeldNames a → UsesName a x b → IsShortName x
+    → (¬ Contains a x → length a ≢ most_names) → AreHeldNames b
 held_name a x b held uses short room = ⊎_elim
     (λ (i : Contains a x × (b ≡ a)). subst AreHeldNames (sym i.1) held)
     (λ (i : (¬ Contains a x) × (b ≡ a ++ x ∷ [])). let few = held.few in let ne = room i.0 in subst AreHeldNames (sym i.1) (AreHeldNames-push a x held short i.0 (omega arith))) uses
@@ -86,10 +88,13 @@ needs_names a xs b h = (b, h, let le = uses_long a xs b h in omega arith)
 -- ---- the keys of pairs
 
 pub keys_more : (pairs : List Pair) (i : ℕ) → i < length pairs → keys_in (take (i + 1) pairs) ≡ keys_in (take i pairs) ++ (pair_at pairs i).key ∷ []
-keys_more pairs i lt = ap keys_in (take_more pairs i (record { key = []; value = values.Text [] }) lt) ∙ map-append (λ (p : Pair). p.key) (take i pairs) (pair_at pairs i ∷ [])
+keys_more pairs i lt = ap keys_in (take_more pairs i (record { key = []; value = values.Text [] }) lt)
+    ∙ map-append (λ (p : Pair). p.key) (take i pairs) (pair_at pairs i ∷ [])
 
-pub uses_more : (a : List (List ℕ)) (pairs : List Pair) (i : ℕ) (b c : List (List ℕ)) → i < length pairs → UsesNames a (keys_in (take i pairs)) b → UsesName b (pair_at pairs i).key c → UsesNames a (keys_in (take (i + 1) pairs)) c
-uses_more a pairs i b c lt h k = subst (λ l. UsesNames a l c) (sym (keys_more pairs i lt)) (uses_both a (keys_in (take i pairs)) b ((pair_at pairs i).key ∷ []) c h (c, k, refl))
+pub uses_more : (a : List (List ℕ)) (pairs : List Pair) (i : ℕ) (b c : List (List ℕ)) → i < length pairs → UsesNames a (keys_in (take i pairs)) b
+    → UsesName b (pair_at pairs i).key c → UsesNames a (keys_in (take (i + 1) pairs)) c
+uses_more a pairs i b c lt h k = subst (λ l. UsesNames a l c) (sym (keys_more pairs i lt))
+    (uses_both a (keys_in (take i pairs)) b ((pair_at pairs i).key ∷ []) c h (c, k, refl))
 
 -- the keys up to a place and those from there on
 keys_split : (pairs : List Pair) (i : ℕ) → i < length pairs → keys_in pairs ≡ keys_in (take i pairs) ++ (pair_at pairs i).key ∷ keys_in (drop (i + 1) pairs)
@@ -101,7 +106,8 @@ keys_split pairs i lt =
     next n = omega arith
 
 -- where there are as many names as there may be, a key that is none of them is too many
-pub key_lacks : (a : List (List ℕ)) (pairs : List Pair) (i : ℕ) (b : List (List ℕ)) → i < length pairs → UsesNames a (keys_in (take i pairs)) b → length b ≡ most_names → ¬ Contains b (pair_at pairs i).key → LacksNames a (keys_in pairs)
+pub key_lacks : (a : List (List ℕ)) (pairs : List Pair) (i : ℕ) (b : List (List ℕ)) → i < length pairs → UsesNames a (keys_in (take i pairs)) b
+    → length b ≡ most_names → ¬ Contains b (pair_at pairs i).key → LacksNames a (keys_in pairs)
 key_lacks a pairs i b lt h full lacks =
     let x = (pair_at pairs i).key in
     let rest = some_names (b ++ x ∷ []) (keys_in (drop (i + 1) pairs)) in (

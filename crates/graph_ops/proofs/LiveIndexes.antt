@@ -2,7 +2,8 @@
 use Rattle.std.specs.FinMap as maps
 use Rattle.std.specs.Prelude.{is_some}
 use Rattle.std.specs.List.{sum_by}
-use Rattle.std.proofs.Common.{◌≡◌, ◌≢◌, ◌⊎◌, inl, inr, ℕ, ◌+◌, ◌*◌, ◌<◌, ◌≤◌, nat_eq, Bool, true, false, ◌&&◌, cond, Option, None, Some, List, [], ◌∷◌, length, map, ap, sym, ◌∙◌, subst, arith, refl}
+use Rattle.std.proofs.Common.{◌≡◌, ◌≢◌, ◌⊎◌, inl, inr, ℕ, ◌+◌, ◌*◌, ◌<◌, ◌≤◌, nat_eq, Bool, true, false, ◌&&◌, cond}
+use Rattle.std.proofs.Common.{Option, None, Some, List, [], ◌∷◌, length, map, ap, sym, ◌∙◌, subst, arith, refl}
 use Rattle.std.proofs.lemmas.Bool.{false≢true}
 use Rattle.std.proofs.lemmas.List.{length-map}
 use Rattle.std.proofs.lemmas.List.Concat.{length-flat_map}
@@ -18,7 +19,8 @@ use Rattle.rec_bytes.specs.Space.{State, meta_of}
 use Rattle.store_rules.specs.Chains.{In}
 use Rattle.store_rules.specs.Graph.{graph_of, node_from, node_of}
 use Rattle.store_rules.specs.Hashes.{bucket_of, hash_of}
-use Rattle.store_rules.specs.Indexes.{AreIndexed, Entry, IsIndexed, entry_hash, entry_node, has_hash, indexed_key, indexed_label, node_value, row_value, value_in, wanted_in}
+use Rattle.store_rules.specs.Indexes.{AreIndexed, Entry, IsIndexed, entry_hash, entry_node, has_hash, indexed_key}
+use Rattle.store_rules.specs.Indexes.{indexed_label, node_value, row_value, value_in, wanted_in}
 use Rattle.store_rules.specs.Properties.{property_records}
 use Rattle.store_rules.specs.Rows.{ids}
 use Rattle.store_rules.specs.Rules.{IsWellFormed}
@@ -50,7 +52,8 @@ value_low : (s : Records) (label key n : ℕ) → is_some (node_value s label ke
 value_low s label key n has = by (node_at s n) refl
   where
     by : (o : Option NodeRow) → node_at s n ≡ o → n < high s format.nodes_file
-    by (Some row) is = kind_below (high s format.nodes_file) (rec_at s format.nodes_file n) n (some_row (kind_at s format.nodes_file n) (node_in (rec_at s format.nodes_file n) n) row is).0
+    by (Some row) is = kind_below (high s format.nodes_file) (rec_at s format.nodes_file n) n
+        (some_row (kind_at s format.nodes_file n) (node_in (rec_at s format.nodes_file n) n) row is).0
     by None is = absurd (false≢true (sym (ap (λ o. is_some (row_value (property_records s) label key o)) is) ∙ has))
 
 hash_some : (hash : ℕ) (o : Option Value) → has_hash hash o ≡ true → is_some o ≡ true
@@ -66,21 +69,24 @@ one_hash a b None p q = absurd (false≢true p)
 one_hash a b (Some v) p q = sym (hash_is a v p) ∙ hash_is b v q
 
 -- the identifier of a node in use is one that a key may have
-pub node_owned : (s : State) → IsWellFormed s.records s.shape → (n : ℕ) → kind_at s.records format.nodes_file n ≢ format.free_kind → IsOwner (owner_of (targets.Node n))
+pub node_owned : (s : State) → IsWellFormed s.records s.shape → (n : ℕ) → kind_at s.records format.nodes_file n ≢ format.free_kind
+    → IsOwner (owner_of (targets.Node n))
 node_owned s store n used =
     let lt = kind_below (high s.records format.nodes_file) (rec_at s.records format.nodes_file n) n used in
     let most = high_most s.records s.shape format.nodes_file store.ranges refl in
     owner_is (targets.Node n) (record { file = refl; id = omega (arith, lt, most) })
 
 -- a node in use is of the index by the graph where it has a value by the records
-module _ (s : State) (store : IsIndexed s.records s.shape) (l k : ℕ) (l_low : l < high s.records format.names_file) (k_low : k < high s.records format.names_file) (n : ℕ) (used : kind_at s.records format.nodes_file n ≢ format.free_kind) where
+module _ (s : State) (store : IsIndexed s.records s.shape) (l k : ℕ) (l_low : l < high s.records format.names_file)
+    (k_low : k < high s.records format.names_file) (n : ℕ) (used : kind_at s.records format.nodes_file n ≢ format.free_kind) where
   has : HasElement s (owner_of (targets.Node n))
   has = record { store = store.store; used = used }
 
   owned : IsOwner (owner_of (targets.Node n))
   owned = node_owned s store.store n used
 
-  pass_used : row_passes (λ (node : Node). is_text (text s.records l) node.label && has_key node.properties (text s.records k)) (node_of s.records n) ≡ is_some (node_value s.records l k n)
+  pass_used : row_passes (λ (node : Node). is_text (text s.records l) node.label && has_key node.properties (text s.records k)) (node_of s.records n) ≡ is_some
+      (node_value s.records l k n)
   pass_used =
       ap (λ o. row_passes (λ (node : Node). is_text (text s.records l) node.label && has_key node.properties (text s.records k)) (node_from (rec_at s.records format.names_file) (property_records s.records) o)) row
       ∙ (λ i. text_test (rec_at s.records format.names_file) (high s.records format.names_file) store.store.names l (label_at s.records n) l_low label_low i && is_some (maps.get (ap node_properties (sym (node_is s.records n used)) i) (text s.records k)))
@@ -100,21 +106,26 @@ module _ (s : State) (store : IsIndexed s.records s.shape) (l k : ℕ) (l_low : 
           ∙ sym (ap is_some (value_listed s n store owned has l k) ∙ ap (λ b. is_some (cond b (value_in (listed_at s (owner_of (targets.Node n)) owned has) k) None)) (eq_false (label_at s.records n) l (λ e. ne (sym e))))
 
 -- and so is each node, or none
-module _ (s : State) (store : IsIndexed s.records s.shape) (l k : ℕ) (l_low : l < high s.records format.names_file) (k_low : k < high s.records format.names_file) where
+module _ (s : State) (store : IsIndexed s.records s.shape) (l k : ℕ) (l_low : l < high s.records format.names_file)
+    (k_low : k < high s.records format.names_file) where
   abbrev is_node_of : Node → Bool
   is_node_of node = is_text (text s.records l) node.label && has_key node.properties (text s.records k)
 
   pub node_passes : (n : ℕ) → row_passes is_node_of (node_of s.records n) ≡ is_some (node_value s.records l k n)
   node_passes n = by (nat_eq (kind_at s.records format.nodes_file n) 0) refl
     where
-      by : (b : Bool) → nat_eq (kind_at s.records format.nodes_file n) 0 ≡ b → row_passes is_node_of (node_of s.records n) ≡ is_some (node_value s.records l k n)
+      by : (b : Bool) → nat_eq (kind_at s.records format.nodes_file n) 0 ≡ b
+          → row_passes is_node_of (node_of s.records n) ≡ is_some (node_value s.records l k n)
       by true free =
-          let none = row_none (kind_at s.records format.nodes_file n) (node_in (rec_at s.records format.nodes_file n) n) (same_number (kind_at s.records format.nodes_file n) 0 free) in
-          ap (λ o. row_passes is_node_of (node_from (rec_at s.records format.names_file) (property_records s.records) o)) none ∙ sym (ap (λ o. is_some (row_value (property_records s.records) l k o)) none)
+          let none = row_none (kind_at s.records format.nodes_file n) (node_in (rec_at s.records format.nodes_file n) n)
+          (same_number (kind_at s.records format.nodes_file n) 0 free) in
+          ap (λ o. row_passes is_node_of (node_from (rec_at s.records format.names_file) (property_records s.records) o)) none
+          ∙ sym (ap (λ o. is_some (row_value (property_records s.records) l k o)) none)
       by false live = pass_used s store l k l_low k_low n (λ e. false≢true (sym live ∙ eq_true (kind_at s.records format.nodes_file n) 0 e))
 
   -- as many as have a value by the records
-  pub count_passes : length (indexed_nodes (graph_of s.records) (index_at s.records l k)) ≡ length (ids (λ n. is_some (node_value s.records l k n)) (high s.records format.nodes_file))
+  pub count_passes : length (indexed_nodes (graph_of s.records) (index_at s.records l k)) ≡ length
+      (ids (λ n. is_some (node_value s.records l k n)) (high s.records format.nodes_file))
   count_passes = length-filter Node (node_of s.records) is_node_of (λ n. is_some (node_value s.records l k n)) (high s.records format.nodes_file) node_passes
 
 module _ (s : State) (store : IsIndexed s.records s.shape) where
@@ -133,18 +144,24 @@ module _ (s : State) (store : IsIndexed s.records s.shape) where
   -- ---- one index: an entry for each node that has a value
 
   module _ (d : ℕ) (i : In d ix.definitions) where
-    wanted : (x : ℕ) → In x (entries d) → has_hash (entry_hash s.records x) (node_value s.records (indexed_label s.records d) (indexed_key s.records d) (entry_node s.records x)) ≡ true
+    wanted : (x : ℕ) → In x (entries d) → has_hash (entry_hash s.records x)
+        (node_value s.records (indexed_label s.records d) (indexed_key s.records d) (entry_node s.records x)) ≡ true
     wanted x m = let r = flat_map_in (ix.lists d) x (down 180) m in (ix.buckets d r.0 i (down_in 180 r.0 r.1)).wanted_is x r.2
 
     node_held : (x : ℕ) → In x (entries d) → In (entry_node s.records x) (held d)
     node_held x m =
-        let some = hash_some (entry_hash s.records x) (node_value s.records (indexed_label s.records d) (indexed_key s.records d) (entry_node s.records x)) (wanted x m) in
-        in_ids (holds d) (high s.records format.nodes_file) (entry_node s.records x) (value_low s.records (indexed_label s.records d) (indexed_key s.records d) (entry_node s.records x) some) some
+        let some = hash_some (entry_hash s.records x) (node_value s.records (indexed_label s.records d) (indexed_key s.records d) (entry_node s.records x))
+        (wanted x m) in
+        in_ids (holds d) (high s.records format.nodes_file) (entry_node s.records x)
+        (value_low s.records (indexed_label s.records d) (indexed_key s.records d) (entry_node s.records x) some) some
 
     has_entry : (n : ℕ) → In n (held d) → (x : ℕ) × In x (entries d) × (entry_node s.records x ≡ n)
-    has_entry n m = by (node_value s.records (indexed_label s.records d) (indexed_key s.records d) n) refl (ids_in (holds d) (high s.records format.nodes_file) n m).1
+    has_entry n m = by (node_value s.records (indexed_label s.records d) (indexed_key s.records d) n) refl
+        (ids_in (holds d) (high s.records format.nodes_file) n m).1
       where
-        by : (o : Option Value) → node_value s.records (indexed_label s.records d) (indexed_key s.records d) n ≡ o → is_some (node_value s.records (indexed_label s.records d) (indexed_key s.records d) n) ≡ true → (x : ℕ) × In x (entries d) × (entry_node s.records x ≡ n)
+        by : (o : Option Value) → node_value s.records (indexed_label s.records d) (indexed_key s.records d) n ≡ o
+            → is_some (node_value s.records (indexed_label s.records d) (indexed_key s.records d) n) ≡ true → (x : ℕ) × In x (entries d)
+            × (entry_node s.records x ≡ n)
         by None is some = absurd (false≢true (sym (ap is_some is) ∙ some))
         by (Some v) is some =
             let e : Entry = record { label = indexed_label s.records d; key = indexed_key s.records d; node = n; hash = hash_of v } in
@@ -158,14 +175,18 @@ module _ (s : State) (store : IsIndexed s.records s.shape) where
         let r = flat_map_in (ix.lists d) x (down 180) m in
         let q = flat_map_in (ix.lists d) y (down 180) k in
         let value : ℕ → Option Value = λ n. node_value s.records (indexed_label s.records d) (indexed_key s.records d) n in
-        let hash : entry_hash s.records x ≡ entry_hash s.records y = one_hash (entry_hash s.records x) (entry_hash s.records y) (value (entry_node s.records y)) (subst (λ n. has_hash (entry_hash s.records x) (value n) ≡ true) same (wanted x m)) (wanted y k) in
-        let bucket : q.0 ≡ r.0 = sym ((ix.buckets d q.0 i (down_in 180 q.0 q.1)).hash y q.2) ∙ ap bucket_of (sym hash) ∙ (ix.buckets d r.0 i (down_in 180 r.0 r.1)).hash x r.2 in
+        let hash : entry_hash s.records x ≡ entry_hash s.records y = one_hash (entry_hash s.records x) (entry_hash s.records y) (value (entry_node s.records y))
+        (subst (λ n. has_hash (entry_hash s.records x) (value n) ≡ true) same (wanted x m)) (wanted y k) in
+        let bucket : q.0 ≡ r.0 = sym ((ix.buckets d q.0 i (down_in 180 q.0 q.1)).hash y q.2) ∙ ap bucket_of (sym hash)
+        ∙ (ix.buckets d r.0 i (down_in 180 r.0 r.1)).hash x r.2 in
         ix.once d r.0 x y i (down_in 180 r.0 r.1) r.2 (subst (λ b. In y (ix.lists d b)) bucket q.2) same hash
 
     count : length (entries d) ≡ length (held d)
     count =
         sym (length-map (entries d) (entry_node s.records))
-        ∙ length_same (map (entry_node s.records) (entries d)) (held d) (once_map (entry_node s.records) (entries d) (entries_once s.records (wanted_in s.records) ix d i) nodes_once) (once_ids (holds d) (high s.records format.nodes_file))
+        ∙ length_same (map (entry_node s.records) (entries d)) (held d)
+        (once_map (entry_node s.records) (entries d) (entries_once s.records (wanted_in s.records) ix d i) nodes_once)
+        (once_ids (holds d) (high s.records format.nodes_file))
         (λ n m. let r = map_in (entry_node s.records) n (entries d) m in subst (λ z. In z (held d)) (sym r.2) (node_held r.0 r.1))
         (λ n m. let r = has_entry n m in subst (λ z. In z (map (entry_node s.records) (entries d))) r.2 (image_in (entry_node s.records) r.0 (entries d) r.1))
 

@@ -1,7 +1,8 @@
 -- How many names the keys of a line make.
 use Rattle.std.specs.List.{All}
 use Rattle.std.specs.Prelude.{Contains, slice_get}
-use Rattle.std.proofs.Common.{◌≡◌, ℕ, suc, ◌+◌, ◌<◌, ◌≤◌, nat_eq, nat_lt, Bool, true, false, cond, Some, List, [], ◌∷◌, ◌++◌, length, take, get_or, sym, ap, ◌∙◌, ⊎_elim, arith, refl}
+use Rattle.std.proofs.Common.{◌≡◌, ℕ, suc, ◌+◌, ◌<◌, ◌≤◌, nat_eq, nat_lt, Bool, true, false, cond, Some, List, [], ◌∷◌}
+use Rattle.std.proofs.Common.{◌++◌, length, take, get_or, sym, ap, ◌∙◌, ⊎_elim, arith, refl}
 use Rattle.std.proofs.lemmas.Bool.Decides.{nat_tests}
 use Rattle.std.proofs.lemmas.List.{get_or_append_left, length-append, length-take}
 use Rattle.std.proofs.lemmas.List.Elements.{All-head, All-tail}
@@ -32,7 +33,8 @@ module _ (key place : ℕ) where
       let low : x.key < m = All-head (λ (a : Assignment). a.key < m) x xs known in
       by (nat_eq x.key key) (eq_false x.key key (λ e. absurd (omega arith))) (placed_new m xs (All-tail (λ (a : Assignment). a.key < m) x xs known) le)
     where
-      by : (b : Bool) → b ≡ false → length (with_place xs key place) ≡ suc (length xs) → length (cond b (here ∷ xs) (x ∷ with_place xs key place)) ≡ suc (suc (length xs))
+      by : (b : Bool) → b ≡ false → length (with_place xs key place) ≡ suc (length xs)
+          → length (cond b (here ∷ xs) (x ∷ with_place xs key place)) ≡ suc (suc (length xs))
       by true e rest = absurd cc
       by false e rest = ap suc rest
 
@@ -41,7 +43,8 @@ module _ (key place : ℕ) where
   placed_grows items now few is = let e = ap length is in let long = placed_long items in omega (arith, length-take 33 (with_place items key place))
 
   -- a new name gets a place of its own, too
-  pub named_once : (names : List (List ℕ)) (x : List ℕ) (new : List (List ℕ)) (xs : List Assignment) → UsesName names x new → slice_get new key ≡ Some x → All (λ (a : Assignment). a.key < length names) xs
+  pub named_once : (names : List (List ℕ)) (x : List ℕ) (new : List (List ℕ)) (xs : List Assignment) → UsesName names x new → slice_get new key ≡ Some x
+      → All (λ (a : Assignment). a.key < length names) xs
       → length new + length xs ≤ length names + length (with_place xs key place)
   named_once names x new xs uses at known = ⊎_elim
       (λ (k : Contains names x × (new ≡ names)). let e = ap length k.1 in let long = placed_long xs in omega arith)

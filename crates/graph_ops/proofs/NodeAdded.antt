@@ -45,13 +45,15 @@ module _ (s : State) (names : List (List ℕ)) (store : IsMidway s names) where
 
   -- a space with the same nodes has room for one more, too
   pub room_kept : (u : State) (c : List (List ℕ)) → KeepsElements s u c → HasRoom s format.nodes_file 1 → HasRoom u format.nodes_file 1
-  room_kept u c kept = rooms.room_still s u format.nodes_file 1 (count_nodes u.records u.shape kept.store.store ∙ ap length kept.nodes ∙ sym live_nodes) kept.shape
+  room_kept u c kept = rooms.room_still s u format.nodes_file 1 (count_nodes u.records u.shape kept.store.store ∙ ap length kept.nodes ∙ sym live_nodes)
+      kept.shape
 
 -- ---- refusals
 none_of : (other : Refusal) → ⊥ → ⊥
 none_of other h = h
 
-pub full_refused : (s : State) (names : List (List ℕ)) (label : List ℕ) (pairs : List Pair) → IsMidway s names → (fault : ChangeFault) → LacksRoom s format.nodes_file 1 fault → IsRefusedBy change_reasons s.shape.limit (graph_in s) (commands.Node label pairs) fault
+pub full_refused : (s : State) (names : List (List ℕ)) (label : List ℕ) (pairs : List Pair) → IsMidway s names → (fault : ChangeFault)
+    → LacksRoom s format.nodes_file 1 fault → IsRefusedBy change_reasons s.shape.limit (graph_in s) (commands.Node label pairs) fault
 full_refused s names label pairs store fault why =
     subst (IsRefusedBy change_reasons s.shape.limit (graph_in s) (commands.Node label pairs)) (sym why.is) (inl (lacks_full s names store fault why, refl))
 
@@ -60,14 +62,17 @@ module _ (s : State) (label : List ℕ) (pairs : List Pair) (room : ¬ IsFullOfN
   pub no_full : None (nodes_full s.shape.limit (graph_in s) (commands.Node label pairs))
   no_full other why = room why.0
 
-  line_first : (why : Refusal) → FirstReason line_reasons s.shape.limit (graph_in s) (commands.Node label pairs) why → FirstReason change_reasons s.shape.limit (graph_in s) (commands.Node label pairs) why
+  line_first : (why : Refusal) → FirstReason line_reasons s.shape.limit (graph_in s) (commands.Node label pairs) why
+      → FirstReason change_reasons s.shape.limit (graph_in s) (commands.Node label pairs) why
   line_first why h = inr (no_full, inr (none_of, inr (none_of, inr (none_of, inr (none_of, inr (none_of, inr (none_of, inr (none_of, inr (none_of, inr (none_of, first_front line_reasons index_reasons s.shape.limit (graph_in s) (commands.Node label pairs) why h))))))))))
 
-  pub line_refused : (fault : ChangeFault) → IsRefusedBy line_reasons s.shape.limit (graph_in s) (commands.Node label pairs) fault → IsRefusedBy change_reasons s.shape.limit (graph_in s) (commands.Node label pairs) fault
+  pub line_refused : (fault : ChangeFault) → IsRefusedBy line_reasons s.shape.limit (graph_in s) (commands.Node label pairs) fault
+      → IsRefusedBy change_reasons s.shape.limit (graph_in s) (commands.Node label pairs) fault
   line_refused = refused_more line_reasons change_reasons s.shape.limit (graph_in s) (commands.Node label pairs) (commands.Node label pairs) line_first
 
 -- ---- the change
-module _ (s u v : State) (names c : List (List ℕ)) (label : List ℕ) (pairs : List Pair) (id : ℕ) (prepared : Prepared) (store : IsMidway s names) (at_hand : IsPrepared s u c label pairs prepared) (puts : PutsNode u v c prepared.label label id) (same : v.shape ≡ u.shape) where
+module _ (s u v : State) (names c : List (List ℕ)) (label : List ℕ) (pairs : List Pair) (id : ℕ) (prepared : Prepared) (store : IsMidway s names)
+    (at_hand : IsPrepared s u c label pairs prepared) (puts : PutsNode u v c prepared.label label id) (same : v.shape ≡ u.shape) where
   abbrev bare : Node
   bare = record { id = id; label = label; properties = no_properties }
 
@@ -96,12 +101,15 @@ module _ (s u v : State) (names c : List (List ℕ)) (label : List ℕ) (pairs :
 
     nodes_are : (x : State) → graph_in x ≡ graph_in w → (graph_in x).nodes ≡ with_row node_number full (graph_in s).nodes
     nodes_are x last =
-        ap (λ (g : Graph). g.nodes) (last ∙ put.graph) ∙ ap (with_change node_number id (change_node (λ m. with_pairs m ps))) puts.nodes ∙ new_node_changed (λ m. with_pairs m ps) bare (graph_in u).nodes fresh
+        ap (λ (g : Graph). g.nodes) (last ∙ put.graph) ∙ ap (with_change node_number id (change_node (λ m. with_pairs m ps))) puts.nodes
+        ∙ new_node_changed (λ m. with_pairs m ps) bare (graph_in u).nodes fresh
         ∙ (λ i. with_row node_number (record { id = id; label = label; properties = at_hand.assigned.same i }) (at_hand.kept.nodes i))
 
     -- Its entries were added then, which no reason refuses.
-    pub made : (x : State) (entries weight : ℕ) → IsStore x c → graph_in x ≡ graph_in w → entries_weight (graph_in s) label (λ key. true) no_properties (with_pairs no_properties pairs) ≡ 3 * entries
-        → None (index_full s.shape.limit (graph_in s) (commands.Node label pairs)) → weight ≡ 1 + prepared.weight + 3 * entries → MakesChange (commands.Node label pairs) (NodeMade id) weight s x c
+    pub made : (x : State) (entries weight : ℕ) → IsStore x c → graph_in x ≡ graph_in w
+        → entries_weight (graph_in s) label (λ key. true) no_properties (with_pairs no_properties pairs) ≡ 3 * entries
+        → None (index_full s.shape.limit (graph_in s) (commands.Node label pairs)) → weight ≡ 1 + prepared.weight + 3 * entries
+        → MakesChange (commands.Node label pairs) (NodeMade id) weight s x c
     made x entries weight whole last e fits is = record {
       store = whole;
       changes = (

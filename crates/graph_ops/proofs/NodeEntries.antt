@@ -50,18 +50,21 @@ use Rattle.graph_ops.proofs.Reasons.{None as Never, index_reasons}
 use Rattle.graph_ops.proofs.Setting.{number_low, number_text}
 
 -- the line is at hand still where the space was read then
-pub prepared_read : (s t u : State) (c : List (List ℕ)) (label : List ℕ) (pairs : List Pair) (prepared : Prepared) → SameButReads t u → IsPrepared s t c label pairs prepared → IsPrepared s u c label pairs prepared
+pub prepared_read : (s t u : State) (c : List (List ℕ)) (label : List ℕ) (pairs : List Pair) (prepared : Prepared) → SameButReads t u
+    → IsPrepared s t c label pairs prepared → IsPrepared s u c label pairs prepared
 prepared_read s t u c label pairs prepared same h = record {
   kept = kept_read s t u c same h.kept;
   label_is = h.label_is;
   assigned = h.assigned;
-  room = subst (λ (z : State). HasPropertyRoom z (length prepared.assigned.items) (assigned_blocks pairs prepared.assigned.items)) (sym same) (record { properties = h.room.properties; blocks = h.room.blocks });
+  room = subst (λ (z : State). HasPropertyRoom z (length prepared.assigned.items) (assigned_blocks pairs prepared.assigned.items)) (sym same)
+      (record { properties = h.room.properties; blocks = h.room.blocks });
   uses = h.uses;
   weighs = h.weighs;
   free = h.free;
 }
 
-module _ (s u : State) (names c : List (List ℕ)) (label : List ℕ) (pairs : List Pair) (prepared : Prepared) (store : IsStore s names) (at_hand : IsPrepared s u c label pairs prepared) where
+module _ (s u : State) (names c : List (List ℕ)) (label : List ℕ) (pairs : List Pair) (prepared : Prepared) (store : IsStore s names)
+    (at_hand : IsPrepared s u c label pairs prepared) where
   abbrev items : List Assignment
   items = prepared.assigned.items
 
@@ -104,7 +107,8 @@ module _ (s u : State) (names c : List (List ℕ)) (label : List ℕ) (pairs : L
       absurd (omega (arith, room, lives, counts, limit, more))
 
   -- and where there is none, they are the first
-  pub entries_refused : ¬ IsFullOfNodes s → (fault : ChangeFault) → LacksRoom u format.index_file entries fault → IsRefusedBy change_reasons s.shape.limit (graph_in s) (commands.Node label pairs) fault
+  pub entries_refused : ¬ IsFullOfNodes s → (fault : ChangeFault) → LacksRoom u format.index_file entries fault
+      → IsRefusedBy change_reasons s.shape.limit (graph_in s) (commands.Node label pairs) fault
   entries_refused room fault why = subst (IsRefusedBy change_reasons s.shape.limit (graph_in s) (commands.Node label pairs)) (sym why.is)
       (inr (
         no_full s label pairs room,
@@ -126,7 +130,8 @@ module _ (s u : State) (names c : List (List ℕ)) (label : List ℕ) (pairs : L
                         none_of,
                         inr (
                           none_of,
-                          first_after line_reasons index_reasons s.shape.limit (graph_in s) (commands.Node label pairs) refusals.FullIndex at_hand.free (inr (none_of, inl (lacks, refl))),
+                          first_after line_reasons index_reasons s.shape.limit (graph_in s) (commands.Node label pairs) refusals.FullIndex at_hand.free
+                              (inr (none_of, inl (lacks, refl))),
                         ),
                       ),
                     ),
@@ -177,7 +182,8 @@ module _ (s u : State) (names c : List (List ℕ)) (label : List ℕ) (pairs : L
       }
 
       there : has_element (graph_in w) (targets.Node id) ≡ true
-      there = ap (λ g. has_element g (targets.Node id)) put.graph ∙ has_element-with_properties (graph_in v) (targets.Node id) (λ m. with_pairs m (pairs_of c pairs items))
+      there = ap (λ g. has_element g (targets.Node id)) put.graph ∙ has_element-with_properties (graph_in v) (targets.Node id)
+          (λ m. with_pairs m (pairs_of c pairs items))
           ∙ (can_put s u v names c label pairs id prepared (midway s names store) at_hand puts same).there
 
       pub node_low : id < high w.records format.nodes_file
@@ -195,7 +201,8 @@ module _ (s u : State) (names c : List (List ℕ)) (label : List ℕ) (pairs : L
 
       -- ---- its entries are added
 
-      module _ (x : State) (beside : KeepsBesideIndex w.records x.records) (graph : indexes_of x.records ≡ indexes_of w.records) (keeps : KeepsStore x) (entered : AreIndexed x.records (with_assigned (wanted_in v.records) prepared.label id pairs items)) where
+      module _ (x : State) (beside : KeepsBesideIndex w.records x.records) (graph : indexes_of x.records ≡ indexes_of w.records) (keeps : KeepsStore x)
+          (entered : AreIndexed x.records (with_assigned (wanted_in v.records) prepared.label id pairs items)) where
         wanted_then : wanted_in x.records ≡ with_assigned (wanted_in v.records) prepared.label id pairs items
         wanted_then = wanted_beside w.records x.records beside
             ∙ (λ i e. (given.values e ∙ ap (λ l. with_assigned (wanted_in v.records) l id pairs items e) puts.numbered) i)
@@ -206,5 +213,7 @@ module _ (s u : State) (names c : List (List ℕ)) (label : List ℕ) (pairs : L
           names = put.store.names ∙ sym (names_beside w.records x.records beside);
         }
 
-        pub added_made : ¬ IsFullOfNodes s → HasRoom u format.index_file entries → (weight : ℕ) → weight ≡ 1 + prepared.weight + 3 * entries → MakesChange (commands.Node label pairs) (NodeMade id) weight s x c
-        added_made room fits weight is = made s u v names c label pairs id prepared (midway s names store) at_hand puts same w put room x entries weight whole_after (graph_beside w.records x.records beside graph) weighs (entries_fit fits) is
+        pub added_made : ¬ IsFullOfNodes s → HasRoom u format.index_file entries → (weight : ℕ) → weight ≡ 1 + prepared.weight + 3 * entries
+            → MakesChange (commands.Node label pairs) (NodeMade id) weight s x c
+        added_made room fits weight is = made s u v names c label pairs id prepared (midway s names store) at_hand puts same w put room x entries weight
+            whole_after (graph_beside w.records x.records beside graph) weighs (entries_fit fits) is

@@ -1,6 +1,7 @@
 -- A node that is deleted: its entries leave the indexes when the rest is gone.
 use Rattle.std.specs.List.{list_any, sum_by}
-use Rattle.std.proofs.Common.{◌≡◌, ◌≢◌, ⊎_elim, ℕ, ◌+◌, ◌*◌, ◌<◌, nat_eq, Bool, true, false, ◌&&◌, not, if◌then◌else◌, cond, Option, None, Some, List, map, ap, sym, ◌∙◌, subst, arith, refl}
+use Rattle.std.proofs.Common.{◌≡◌, ◌≢◌, ⊎_elim, ℕ, ◌+◌, ◌*◌, ◌<◌, nat_eq, Bool, true, false, ◌&&◌, not, if◌then◌else◌}
+use Rattle.std.proofs.Common.{cond, Option, None, Some, List, map, ap, sym, ◌∙◌, subst, arith, refl}
 use Rattle.plain_graph.specs.Graph.{Graph, Index}
 use Rattle.plain_graph.specs.Reply.{Done}
 use Rattle.plain_graph.specs.Values.{is_text}
@@ -65,17 +66,22 @@ one_zero false true e = absurd (omega (arith, e))
 one_zero false false e = refl
 
 -- have the same pairs
-pub pairs_same : (n v : Records) (shape other : Shape) → IsWellFormed n shape → IsWellFormed v other → (wanted now : Entries) (ix : AreIndexed n wanted) (iy : AreIndexed v now) → indexes_of v ≡ indexes_of n
-    → rec_at v format.names_file ≡ rec_at n format.names_file → high v format.names_file ≡ high n format.names_file → (label key : ℕ) → label < high n format.names_file → key < high n format.names_file → is_among v iy.definitions label key ≡ is_among n ix.definitions label key
-pairs_same n v shape other store after wanted now ix iy graph names mark label key label_low key_low = one_zero (is_among v iy.definitions label key) (is_among n ix.definitions label key)
+pub pairs_same : (n v : Records) (shape other : Shape) → IsWellFormed n shape → IsWellFormed v other
+    → (wanted now : Entries) (ix : AreIndexed n wanted) (iy : AreIndexed v now) → indexes_of v ≡ indexes_of n
+    → rec_at v format.names_file ≡ rec_at n format.names_file → high v format.names_file ≡ high n format.names_file → (label key : ℕ)
+    → label < high n format.names_file → key < high n format.names_file → is_among v iy.definitions label key ≡ is_among n ix.definitions label key
+pairs_same n v shape other store after wanted now ix iy graph names mark label key label_low key_low =
+    one_zero (is_among v iy.definitions label key) (is_among n ix.definitions label key)
     (sym (pair_weight v other after now iy label key (subst (λ m. label < m) (sym mark) label_low) (subst (λ m. key < m) (sym mark) key_low) (λ k. 1))
     ∙ (λ i. sum_by (λ (index : Index). if is_text index.label (text_of (names i label)) && is_text (text_of (names i key)) index.key then 1 else 0) (graph i))
     ∙ pair_weight n shape store wanted ix label key label_low key_low (λ k. 1))
 
 -- ---- the node
 
-module _ (n u t : State) (names : List (List ℕ)) (id : ℕ) (store : IsStore n names) (used : kind_at n.records format.nodes_file id ≢ format.free_kind) (lone : degree n.records id ≡ 0) (dropped : Dropped) (owned : IsOwner (owner_of (targets.Node id)))
-    (drops : DropsAll n u (owner_of (targets.Node id)) dropped) (before : u.shape ≡ n.shape) (after : t.shape ≡ u.shape) (given : (free : List ℕ) → CanGive u format.nodes_file id free → HasGiven u.records t.records format.nodes_file id free) where
+module _ (n u t : State) (names : List (List ℕ)) (id : ℕ) (store : IsStore n names) (used : kind_at n.records format.nodes_file id ≢ format.free_kind)
+    (lone : degree n.records id ≡ 0) (dropped : Dropped) (owned : IsOwner (owner_of (targets.Node id)))
+    (drops : DropsAll n u (owner_of (targets.Node id)) dropped) (before : u.shape ≡ n.shape) (after : t.shape ≡ u.shape)
+    (given : (free : List ℕ) → CanGive u format.nodes_file id free → HasGiven u.records t.records format.nodes_file id free) where
   abbrev element : HasElement n (owner_of (targets.Node id))
   element = record { store = store.store.store; used = used }
 
@@ -93,7 +99,8 @@ module _ (n u t : State) (names : List (List ℕ)) (id : ℕ) (store : IsStore n
   gone_left = node_left n u names dropped (midway n names store) id drops t used lone before after given
 
   gone_indexes : indexes_of t.records ≡ indexes_of n.records
-  gone_indexes = node_graph_indexes u.records t.records id (node_gone n u names dropped (midway n names store) id drops t used lone before after given).change ∙ ap (λ (g : Graph). g.indexes) drops.graph
+  gone_indexes = node_graph_indexes u.records t.records id (node_gone n u names dropped (midway n names store) id drops t used lone before after given).change
+      ∙ ap (λ (g : Graph). g.indexes) drops.graph
 
   gone_names : rec_at t.records format.names_file ≡ rec_at n.records format.names_file
   gone_names = nc.name_file u.records t.records id (node_gone n u names dropped (midway n names store) id drops t used lone before after given).change
@@ -104,7 +111,8 @@ module _ (n u t : State) (names : List (List ℕ)) (id : ℕ) (store : IsStore n
       ∙ fr.name_mark n.records u.records n.shape format.nodes_file id drops.changes.before drops.changes.after drops.changes.changes
 
   pub gone_kinds : (v : State) → KeepsBesideIndex t.records v.records → KeepsOtherKinds n v id
-  gone_kinds v beside x ne = ap (λ (f : ℕ → ℕ). f x) (kinds_beside t.records v.records beside format.nodes_file refl (λ e. omega arith)) ∙ node_kinds n u names dropped (midway n names store) id drops t used lone before after given x ne
+  gone_kinds v beside x ne = ap (λ (f : ℕ → ℕ). f x) (kinds_beside t.records v.records beside format.nodes_file refl (λ e. omega arith))
+      ∙ node_kinds n u names dropped (midway n names store) id drops t used lone before after given x ne
 
   module _ (alone : DropsAllAlone n u (owner_of (targets.Node id)) (listed_at n (owner_of (targets.Node id)) owned element) dropped) where
     -- now the node has no value, and the others have what they had
@@ -126,8 +134,10 @@ module _ (n u t : State) (names : List (List ℕ)) (id : ℕ) (store : IsStore n
         each : (e : Entry) → wanted_in t.records e ≡ without_node (wanted_in n.records) id e
         each e = ap (has_hash e.hash) (value_gone e.label e.key e.node) ∙ by (nat_eq e.node id) e.hash (node_value n.records e.label e.key e.node)
 
-    module _ (v : State) (beside : KeepsBesideIndex t.records v.records) (graph : indexes_of v.records ≡ indexes_of t.records) (keeps : KeepsStore v) (held : List IndexedValue)
-        (is : held ≡ held_of n.records (label_at n.records id) id (map (pair_of n.records) store.store.indexes.definitions)) (left : AreIndexed v.records (without_held (wanted_in n.records) held)) where
+    module _ (v : State) (beside : KeepsBesideIndex t.records v.records) (graph : indexes_of v.records ≡ indexes_of t.records) (keeps : KeepsStore v)
+        (held : List IndexedValue)
+        (is : held ≡ held_of n.records (label_at n.records id) id (map (pair_of n.records) store.store.indexes.definitions))
+        (left : AreIndexed v.records (without_held (wanted_in n.records) held)) where
       gone : graph_in v ≡ graph_in t
       gone = graph_beside t.records v.records beside graph
 
@@ -135,29 +145,35 @@ module _ (n u t : State) (names : List (List ℕ)) (id : ℕ) (store : IsStore n
       names_left = gone_left.names ∙ sym (names_beside t.records v.records beside)
 
       -- a pair of the definitions then was one before
-      listed_then : (d : ℕ) → In d left.definitions → list_any (is_pair (indexed_label v.records d) (indexed_key v.records d)) (map (pair_of n.records) store.store.indexes.definitions) ≡ true
+      listed_then : (d : ℕ) → In d left.definitions → list_any (is_pair (indexed_label v.records d) (indexed_key v.records d))
+          (map (pair_of n.records) store.store.indexes.definitions) ≡ true
       listed_then d i =
           let low = (apart v.records keeps.defined (without_held (wanted_in n.records) held) left).named d i in
           let mark = mark_same t.records v.records beside format.names_file (λ e. omega arith) ∙ gone_mark in
           listed_among n.records store.store.indexes.definitions (indexed_label v.records d) (indexed_key v.records d)
           ∙ sym (pairs_same n.records v.records n.shape v.shape store.store.store keeps (wanted_in n.records) (without_held (wanted_in n.records) held) store.store.indexes left (graph ∙ gone_indexes) (file_same t.records v.records beside format.names_file refl (λ e. omega arith) ∙ gone_names) mark
-          (indexed_label v.records d) (indexed_key v.records d) (subst (λ m. indexed_label v.records d < m) mark low.0) (subst (λ m. indexed_key v.records d < m) mark low.1))
-          ∙ in_any (has_pair v.records (indexed_label v.records d) (indexed_key v.records d)) d left.definitions i (rw (eq_true (indexed_label v.records d) (indexed_label v.records d) refl, eq_true (indexed_key v.records d) (indexed_key v.records d) refl) refl)
+          (indexed_label v.records d) (indexed_key v.records d) (subst (λ m. indexed_label v.records d < m) mark low.0)
+          (subst (λ m. indexed_key v.records d < m) mark low.1))
+          ∙ in_any (has_pair v.records (indexed_label v.records d) (indexed_key v.records d)) d left.definitions i
+          (rw (eq_true (indexed_label v.records d) (indexed_label v.records d) refl, eq_true (indexed_key v.records d) (indexed_key v.records d) refl) refl)
 
       left_then : AreIndexed v.records (without_node (wanted_in n.records) id)
       left_then = indexed_same v.records (without_held (wanted_in n.records) held) (without_node (wanted_in n.records) id) left (λ d e i l k.
           held_left n.records (label_at n.records id) id e (map (pair_of n.records) store.store.indexes.definitions)
           (λ own. (λ j. list_any (is_pair ((sym own ∙ l) j) (k j)) (map (pair_of n.records) store.store.indexes.definitions)) ∙ listed_then d i)
           (λ ne at. ap (has_hash e.hash) (ap (node_value n.records e.label e.key) at ∙ value_listed n id store.store owned element e.label e.key
-          ∙ ap (λ b. cond b (value_in (listed_at n (owner_of (targets.Node id)) owned element) e.key) None) (eq_false (label_at n.records id) e.label (λ z. ne (sym z)))))
+          ∙ ap (λ b. cond b (value_in (listed_at n (owner_of (targets.Node id)) owned element) e.key) None)
+          (eq_false (label_at n.records id) e.label (λ z. ne (sym z)))))
           ∙ ap (λ hs. without_held (wanted_in n.records) hs e) (sym is))
 
       indexed_left : AreIndexed v.records (wanted_in v.records)
       indexed_left = subst (AreIndexed v.records) (sym (wanted_beside t.records v.records beside ∙ wanted_gone)) left_then
 
-      pub gone_made : (entries : ℕ) → entries ≡ held_weight held → MakesChange (commands.Delete (targets.Node id)) Done (1 + dropped.properties + dropped.blocks + entries) n v names
+      pub gone_made : (entries : ℕ) → entries ≡ held_weight held → MakesChange (commands.Delete (targets.Node id)) Done
+          (1 + dropped.properties + dropped.blocks + entries) n v names
       gone_made entries weight =
           let pairs = map (pair_of n.records) store.store.indexes.definitions in
-          node_deleted n u names dropped (midway n names store) id drops t used lone before after given v entries (record { store = record { store = keeps; indexes = indexed_left }; names = names_left }) gone
+          node_deleted n u names dropped (midway n names store) id drops t used lone before after given v entries
+          (record { store = record { store = keeps; indexes = indexed_left }; names = names_left }) gone
           (node_entries n id store.store owned element ∙ ap (λ n. 3 * n) (sym (held_same n.records (label_at n.records id) id store.store.indexes.definitions))
           ∙ sym (held_weighs_all n.records (label_at n.records id) id pairs) ∙ ap held_weight (sym is) ∙ sym weight)

@@ -35,7 +35,8 @@ use Rattle.store_rules.proofs.Shapes.{room_small}
 use Rattle.graph_ops.proofs.KeptIndexes.{node_graph_indexes}
 
 -- the number of a name is below their count, and its record says the name
-pub number_in : (v : Records) (names : List (List ℕ)) (number : ℕ) (label : List ℕ) → names ≡ names_of v → slice_get names number ≡ Some label → (number < high v format.names_file) × (text_of (rec_at v format.names_file number) ≡ label)
+pub number_in : (v : Records) (names : List (List ℕ)) (number : ℕ) (label : List ℕ) → names ≡ names_of v → slice_get names number ≡ Some label
+    → (number < high v format.names_file) × (text_of (rec_at v format.names_file number) ≡ label)
 number_in v names number label is at =
     let inside = slice_get_within names number label at in
     let long = ap length is ∙ length-names_of v in
@@ -65,20 +66,25 @@ module _ (s m t : State) (names : List (List ℕ)) (id number : ℕ) (label : Li
 
   made : IsMade s.records after s.shape format.nodes_file id rec
   made = let split = store.store.split format.nodes_file refl in
-      is_made s.records m.records after s.shape format.nodes_file id split.0 rec refl split.1 has (put_same m.records (node_key id) rec) (put_other m.records (node_key id) rec)
-      (λ e. let k = fresh.kind in omega arith) small (room_small s.records s.shape format.nodes_file store.store.ranges) (store.store.ranges.metas format.nodes_file refl)
+      is_made s.records m.records after s.shape format.nodes_file id split.0 rec refl split.1 has (put_same m.records (node_key id) rec)
+      (put_other m.records (node_key id) rec)
+      (λ e. let k = fresh.kind in omega arith) small (room_small s.records s.shape format.nodes_file store.store.ranges)
+      (store.store.ranges.metas format.nodes_file refl)
 
   other_meta : (file : ℕ) → file ≢ format.nodes_file → after (meta_key_of file) ≡ s.records (meta_key_of file)
-  other_meta file ne = put_other m.records (node_key id) rec (meta_key_of file) (λ e. let f = ap (λ (k : Key). k.file) e in omega arith) ∙ has.others (meta_key_of file) (λ e. ne (ap (λ (k : Key). k.id) e))
+  other_meta file ne = put_other m.records (node_key id) rec (meta_key_of file) (λ e. let f = ap (λ (k : Key). k.file) e in omega arith)
+      ∙ has.others (meta_key_of file) (λ e. ne (ap (λ (k : Key). k.id) e))
 
   -- it leads to no property
   no_value : (files : PropertyRecords) (k : ℕ) → value_in (listed_from files format.nil) k ≡ None
   unfolding followed
   no_value files k = refl
 
-  row_nil : (files : PropertyRecords) (l k : ℕ) (o : Option NodeRow) → ((row : NodeRow) → o ≡ Some row → row.property ≡ format.nil) → row_value files l k o ≡ None
+  row_nil : (files : PropertyRecords) (l k : ℕ) (o : Option NodeRow) → ((row : NodeRow) → o ≡ Some row → row.property ≡ format.nil)
+      → row_value files l k o ≡ None
   row_nil files l k None bare = refl
-  row_nil files l k (Some row) bare = ap (λ first. cond (nat_eq row.label l) (value_in (listed_from files first) k) None) (bare row refl) ∙ by (nat_eq row.label l)
+  row_nil files l k (Some row) bare = ap (λ first. cond (nat_eq row.label l) (value_in (listed_from files first) k) None) (bare row refl)
+      ∙ by (nat_eq row.label l)
     where
       by : (b : Bool) → cond b (value_in (listed_from files format.nil) k) None ≡ None
       by true = no_value files k

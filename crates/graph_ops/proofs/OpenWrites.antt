@@ -30,7 +30,8 @@ use Rattle.group_store.proofs.GroupWrites.{own_both}
 -- ---- the ends that become dense
 
 -- what they weigh is what they write
-pub ends_weigh : (threshold from to : ℕ) (ends : Ends EndDegree) → LeadFrom ends from to → ends_moved threshold ends ≡ degrees_weight threshold from (source_of ends).degree to (target_of ends).degree
+pub ends_weigh : (threshold from to : ℕ) (ends : Ends EndDegree) → LeadFrom ends from to
+    → ends_moved threshold ends ≡ degrees_weight threshold from (source_of ends).degree to (target_of ends).degree
 ends_weigh threshold from to (Loop end) lead = rw (eq_true from to (sym lead.leaves ∙ lead.enters)) (omega arith)
 ends_weigh threshold from to (Two source target) lead = rw (eq_false from to (λ e. lead.apart (lead.leaves ∙ e ∙ sym lead.enters))) refl
 
@@ -44,10 +45,12 @@ module _ (source target : EdgeEnd) (keys : List Key) where
   others : (q : Key) → IsAmong q (keys ++ meta_keys) → IsAmong q all
   others q i = among_right q (opened_keys source) (opened_keys target ++ keys ++ meta_keys) (among_right q (opened_keys target) (keys ++ meta_keys) i)
 
-  in_source : (q : Key) (more : List Key) → (IsAmong q more → IsAmong q keys) → IsAmong q (node_key source.node ∷ source.head.key ∷ more ++ meta_keys) → IsAmong q all
+  in_source : (q : Key) (more : List Key) → (IsAmong q more → IsAmong q keys) → IsAmong q (node_key source.node ∷ source.head.key ∷ more ++ meta_keys)
+      → IsAmong q all
   in_source q more are i = ⊎_elim (λ e. inl e) (λ j. ⊎_elim (λ e. inr (inl e)) (λ k. others q (among_both q more meta_keys (λ l. among_left q keys meta_keys (are l)) (λ l. among_right q keys meta_keys l) k)) j) i
 
-  in_target : (q : Key) (more : List Key) → (IsAmong q more → IsAmong q keys) → IsAmong q (node_key target.node ∷ target.head.key ∷ more ++ meta_keys) → IsAmong q all
+  in_target : (q : Key) (more : List Key) → (IsAmong q more → IsAmong q keys) → IsAmong q (node_key target.node ∷ target.head.key ∷ more ++ meta_keys)
+      → IsAmong q all
   in_target q more are i = ⊎_elim (λ e. inr (inr (inl e))) (λ j. ⊎_elim (λ e. inr (inr (inr (inl e)))) (λ k. others q (among_both q more meta_keys (λ l. among_left q keys meta_keys (are l)) (λ l. among_right q keys meta_keys l) k)) j) i
 
 -- a loop's
@@ -55,7 +58,8 @@ pub loop_wrote : {n m : ℕ} (s t : State) (source : EdgeEnd) → n ≤ m → Wr
 loop_wrote s t source le w = record { keys = w.keys; few = let f = w.few in omega arith; own = w.own; only = writes_more s t _ _ (λ q i. in_source source source w.keys q w.keys (λ l. l) i) w.only }
 
 -- both, one after the other
-pub both_wrote : {n m k : ℕ} (s t u : State) (source target : EdgeEnd) → n + m ≤ k → WritesOpened s t source.node source.head.key n → WritesOpened t u target.node target.head.key m
+pub both_wrote : {n m k : ℕ} (s t u : State) (source target : EdgeEnd) → n + m ≤ k → WritesOpened s t source.node source.head.key n
+    → WritesOpened t u target.node target.head.key m
     → WritesEndsOpened s u (Two source target) k
 both_wrote s t u source target le v w = record {
   keys = v.keys ++ w.keys;
@@ -76,7 +80,8 @@ both_wrote s t u source target le v w = record {
 
 -- ---- and the relationship that joins the chains then
 
-module _ (s t u : State) (rel : ℕ) (ends : Ends EdgeEnd) (count : ℕ) (are : AtEach IsEdgeEnd ends) (opened : WritesEndsOpened s t ends count) (joins : WritesJoined t u rel ends) where
+module _ (s t u : State) (rel : ℕ) (ends : Ends EdgeEnd) (count : ℕ) (are : AtEach IsEdgeEnd ends) (opened : WritesEndsOpened s t ends count)
+    (joins : WritesJoined t u rel ends) where
   abbrev chains : List Key
   chains = joined_keys joins.first_source (source_of ends) ++ joined_keys joins.first_target (target_of ends)
 
@@ -89,7 +94,8 @@ module _ (s t u : State) (rel : ℕ) (ends : Ends EdgeEnd) (count : ℕ) (are : 
   in_opened : (q : Key) → IsAmong q (opened.keys ++ meta_keys) → IsAmong q (rel_key rel ∷ E ++ meta_keys)
   in_opened q i = inr (among_both q opened.keys meta_keys (λ j. among_left q E meta_keys (among_right q chains opened.keys j)) (λ j. among_right q E meta_keys j) i)
 
-  before : (q : Key) → IsAmong q (opened_keys (source_of ends) ++ opened_keys (target_of ends) ++ opened.keys ++ meta_keys) → IsAmong q (rel_key rel ∷ E ++ meta_keys)
+  before : (q : Key) → IsAmong q (opened_keys (source_of ends) ++ opened_keys (target_of ends) ++ opened.keys ++ meta_keys)
+      → IsAmong q (rel_key rel ∷ E ++ meta_keys)
   before q (inl e) = in_chains q (inr (inr (inl e)))
   before q (inr (inl e)) = in_chains q (inr (inl e))
   before q (inr (inr (inl e))) = in_chains q (inr (inr (inr (inr (inr (inl e))))))
@@ -113,7 +119,8 @@ module _ (s t u : State) (rel : ℕ) (ends : Ends EdgeEnd) (count : ℕ) (are : 
       before_keys = opened_keys (source_of ends) ++ opened_keys (target_of ends) ++ opened.keys ++ meta_keys
 
 -- what is written where it joins none
-pub put_failed : {n : ℕ} (s t u : State) (ends : Ends EdgeEnd) → AtEach IsEdgeEnd ends → WritesAtMost n s t → (result : Result ℕ ChangeFault) → OnErr result ((id : ℕ) × WritesJoined t u id ends) → OnErr result (WritesAtMost (n + 7) s u)
+pub put_failed : {n : ℕ} (s t u : State) (ends : Ends EdgeEnd) → AtEach IsEdgeEnd ends → WritesAtMost n s t → (result : Result ℕ ChangeFault)
+    → OnErr result ((id : ℕ) × WritesJoined t u id ends) → OnErr result (WritesAtMost (n + 7) s u)
 put_failed s t u ends are few (Ok id) failed = tt
 put_failed s t u ends are few (Err fault) failed = then_written few (joined_written t u failed.0 ends are failed.1)
 

@@ -1,6 +1,8 @@
 -- Properties that a new element gets, one after another.
 use Rattle.std.specs.FinMap as maps
-use Rattle.std.proofs.Common.{◌≡◌, ℕ, ◌+◌, ◌<◌, ◌≤◌, nat_eq, Bool, true, false, if◌then◌else◌, cond, Option, None, Some, List, [], ◌∷◌, ◌++◌, length, take, get_or, sym, ap, ◌∙◌, subst, inl, inr, ⊎_elim, arith, refl}
+use Rattle.std.proofs.Common.{◌≡◌, ℕ, ◌+◌, ◌<◌, ◌≤◌, nat_eq, Bool, true, false, if◌then◌else◌, cond, Option, None, Some}
+use Rattle.std.proofs.Common.{List, [], ◌∷◌, ◌++◌, length, take, get_or, sym, ap, ◌∙◌, subst, inl, inr, ⊎_elim, arith}
+use Rattle.std.proofs.Common.{refl}
 use Rattle.std.proofs.lemmas.List.{get_or-map, length-map, length-take-le, take_all, take_more}
 use Rattle.std.proofs.lemmas.List.Sums.{sum_by-take-le}
 use Rattle.std.proofs.lemmas.Option.{slice_get-get_or}
@@ -46,7 +48,8 @@ use Rattle.store_rules.specs.RuleList.{IsSameFile}
 use Rattle.store_rules.proofs.MetaLaws.{not_meta_key}
 use Rattle.graph_ops.specs.declared.assigning.Assignment.{Assignment}
 use Rattle.graph_ops.proofs.Assigned.{sums}
-use Rattle.graph_ops.proofs.ElementChanges.{has_element-with_properties, names-with_properties, properties_at-with_properties, with_properties_same, with_properties_twice}
+use Rattle.graph_ops.proofs.ElementChanges.{has_element-with_properties, names-with_properties}
+use Rattle.graph_ops.proofs.ElementChanges.{properties_at-with_properties, with_properties_same, with_properties_twice}
 use Rattle.graph_ops.proofs.LastPairs.{blocks_in-with_pairs, len-with_pairs, new_at, new_take, with_pairs-push}
 use Rattle.graph_ops.proofs.NodePut.{number_in}
 use Rattle.graph_ops.proofs.Elements.{element_used}
@@ -63,7 +66,8 @@ owner_is (targets.Node id) key = record { key = key; file = inl refl; place = re
 owner_is (targets.Edge id) key = record { key = key; file = inr refl; place = refl }
 
 -- the text of a key that is one of a store's names
-pub text_known : (s : State) (names : List (List ℕ)) (key : ℕ) → IsMidway s names → key < length names → (key < high s.records format.names_file) × (text_at s key ≡ get_or names key [])
+pub text_known : (s : State) (names : List (List ℕ)) (key : ℕ) → IsMidway s names → key < length names → (key < high s.records format.names_file)
+    × (text_at s key ≡ get_or names key [])
 text_known s names key store low = number_in s.records names key (get_or names key []) store.names (slice_get-get_or names key [] low)
 
 -- ---- no pair yet
@@ -85,7 +89,8 @@ links_twice s t u owner a b = record {
 }
 
 -- ---- one pair more
-module _ (s t : State) (names : List (List ℕ)) (target : Target) (pairs : List Pair) (assigned : List Assignment) (i : ℕ) (can : CanPut s names target pairs assigned) (few : length assigned ≤ 32)
+module _ (s t : State) (names : List (List ℕ)) (target : Target) (pairs : List Pair) (assigned : List Assignment) (i : ℕ)
+    (can : CanPut s names target pairs assigned) (few : length assigned ≤ 32)
     (put : PutsPairs s t names target (take i (pairs_of names pairs assigned))) (lt : i < length assigned) (shape : t.shape ≡ s.shape) where
   abbrev a : Assignment
   a = get_or assigned i (record { key = 0; pair = 0 })
@@ -115,7 +120,8 @@ module _ (s t : State) (names : List (List ℕ)) (target : Target) (pairs : List
   text_is = (text_known t names a.key put.store low).1
 
   of_target : properties_of t owner ≡ with_pairs no_properties (take i ps)
-  of_target = ap (properties_at (graph_in t)) (target_of-owner_of target) ∙ ap (λ g. properties_at g target) put.graph ∙ properties_at-with_properties (graph_in s) target (λ m. with_pairs m (take i ps)) can.there
+  of_target = ap (properties_at (graph_in t)) (target_of-owner_of target) ∙ ap (λ g. properties_at g target) put.graph
+      ∙ properties_at-with_properties (graph_in s) target (λ m. with_pairs m (take i ps)) can.there
       ∙ ap (λ m. with_pairs m (take i ps)) can.bare
 
   there_now : has_element (graph_in t) target ≡ true
@@ -140,7 +146,8 @@ module _ (s t : State) (names : List (List ℕ)) (target : Target) (pairs : List
   key_fits = let same = ap (λ (m : Properties). maps.len m) of_target in let n = count_then i (omega arith) in omega arith
 
   -- the graph with the value is that with one pair more
-  next_graph : (value : Value) → value ≡ p.value → with_value (graph_in t) (target_of owner) (text_at t a.key) value ≡ with_properties (graph_in s) target (λ m. with_pairs m (take (i + 1) ps))
+  next_graph : (value : Value) → value ≡ p.value → with_value (graph_in t) (target_of owner) (text_at t a.key) value ≡ with_properties (graph_in s) target
+      (λ m. with_pairs m (take (i + 1) ps))
   next_graph value is =
       (λ j. with_value (put.graph j) (target_of-owner_of target j) (text_is j) (is j))
       ∙ with_properties_twice (graph_in s) target (λ m. with_pairs m (take i ps)) (λ m. maps.insert m p.key p.value)
@@ -193,7 +200,8 @@ module _ (s t : State) (names : List (List ℕ)) (target : Target) (pairs : List
     fits_element : maps.len (maps.insert (properties_of t owner) (text_at t a.key) value) ≤ 32
     fits_element =
         let same : maps.insert (properties_of t owner) (text_at t a.key) value ≡ with_pairs no_properties (take (i + 1) ps)
-        = (λ j. maps.insert (of_target j) (text_is j) (is j)) ∙ sym (with_pairs-push no_properties (take i ps) p) ∙ ap (with_pairs no_properties) (sym next_pairs) in
+        = (λ j. maps.insert (of_target j) (text_is j) (is j)) ∙ sym (with_pairs-push no_properties (take i ps) p)
+        ∙ ap (with_pairs no_properties) (sym next_pairs) in
         let n = ap (λ (m : Properties). maps.len m) same ∙ count_then (i + 1) (omega arith) in
         omega arith
 
@@ -207,8 +215,10 @@ module _ (s t : State) (names : List (List ℕ)) (target : Target) (pairs : List
     put_outside (set.Damaged damage) why = absurd why
 
 -- ---- the end of the assignments
-pub all_put : (s t : State) (names : List (List ℕ)) (target : Target) (pairs : List Pair) (assigned : List Assignment) (n : ℕ) → length assigned ≤ n → PutsPairs s t names target (take n (pairs_of names pairs assigned)) → PutsPairs s t names target (pairs_of names pairs assigned)
-all_put s t names target pairs assigned n le = subst (PutsPairs s t names target) (take_all n (pairs_of names pairs assigned) (omega (arith, length-map assigned (pair_of names pairs))))
+pub all_put : (s t : State) (names : List (List ℕ)) (target : Target) (pairs : List Pair) (assigned : List Assignment) (n : ℕ) → length assigned ≤ n
+    → PutsPairs s t names target (take n (pairs_of names pairs assigned)) → PutsPairs s t names target (pairs_of names pairs assigned)
+all_put s t names target pairs assigned n le = subst (PutsPairs s t names target)
+    (take_all n (pairs_of names pairs assigned) (omega (arith, length-map assigned (pair_of names pairs))))
 
 -- ---- what is wanted of the indexes
 
@@ -219,12 +229,18 @@ label_at records id = field 4 (rec_at records format.nodes_file id) format.node_
 -- the file of the indexes stays
 pub index_kept : (s t : Records) (target : Target) → KeepsLinks s t (owner_of target) → IsSameFile s t format.index_file
 index_kept s t (targets.Node id) keeps = record {
-  records = λ i x. keeps.others (key_in format.index_file x) (λ e. omega arith) (λ e. omega arith) (not_meta_key format.index_file x format.properties_file refl) (not_meta_key format.index_file x format.strings_file refl) (λ e. let f = ap (λ (k : Key). k.file) e in omega arith) i;
-  meta = keeps.others (meta_key_of format.index_file) (λ e. omega arith) (λ e. omega arith) (λ e. let f = ap (λ (k : Key). k.id) e in omega arith) (λ e. let f = ap (λ (k : Key). k.id) e in omega arith) (λ e. let f = ap (λ (k : Key). k.file) e in omega arith);
+  records = λ i x. keeps.others (key_in format.index_file x) (λ e. omega arith) (λ e. omega arith)
+      (not_meta_key format.index_file x format.properties_file refl) (not_meta_key format.index_file x format.strings_file refl)
+      (λ e. let f = ap (λ (k : Key). k.file) e in omega arith) i;
+  meta = keeps.others (meta_key_of format.index_file) (λ e. omega arith) (λ e. omega arith) (λ e. let f = ap (λ (k : Key). k.id) e in omega arith)
+      (λ e. let f = ap (λ (k : Key). k.id) e in omega arith) (λ e. let f = ap (λ (k : Key). k.file) e in omega arith);
 }
 index_kept s t (targets.Edge id) keeps = record {
-  records = λ i x. keeps.others (key_in format.index_file x) (λ e. omega arith) (λ e. omega arith) (not_meta_key format.index_file x format.properties_file refl) (not_meta_key format.index_file x format.strings_file refl) (λ e. let f = ap (λ (k : Key). k.file) e in omega arith) i;
-  meta = keeps.others (meta_key_of format.index_file) (λ e. omega arith) (λ e. omega arith) (λ e. let f = ap (λ (k : Key). k.id) e in omega arith) (λ e. let f = ap (λ (k : Key). k.id) e in omega arith) (λ e. let f = ap (λ (k : Key). k.file) e in omega arith);
+  records = λ i x. keeps.others (key_in format.index_file x) (λ e. omega arith) (λ e. omega arith)
+      (not_meta_key format.index_file x format.properties_file refl) (not_meta_key format.index_file x format.strings_file refl)
+      (λ e. let f = ap (λ (k : Key). k.file) e in omega arith) i;
+  meta = keeps.others (meta_key_of format.index_file) (λ e. omega arith) (λ e. omega arith) (λ e. let f = ap (λ (k : Key). k.id) e in omega arith)
+      (λ e. let f = ap (λ (k : Key). k.id) e in omega arith) (λ e. let f = ap (λ (k : Key). k.file) e in omega arith);
 }
 
 -- so does the label of the node
@@ -235,27 +251,33 @@ pub lacked_value : (es : List Property) (key : ℕ) → property_of es key ≡ N
 lacked_value [] key none = refl
 lacked_value (e ∷ es) key none = by (nat_eq e.key key) (λ later. lacked_value es key later) none
   where
-    by : (b : Bool) → (property_of es key ≡ None → value_in es key ≡ None) → (if b then Some e else property_of es key) ≡ None → cond b (Some e.value) (value_in es key) ≡ None
+    by : (b : Bool) → (property_of es key ≡ None → value_in es key ≡ None) → (if b then Some e else property_of es key) ≡ None
+        → cond b (Some e.value) (value_in es key) ≡ None
     by true later is = absurd cc
     by false later is = later is
 
 -- A property that was added to a node gave it one value.
-pub added_value : (s t : State) (id key : ℕ) (value : Value) (owned : IsOwner (owner_of (targets.Node id))) (has : HasKey s (owner_of (targets.Node id)) key) → maps.get (properties_of s (owner_of (targets.Node id))) (text_at s key) ≡ None
-    → SetsAlone s t (owner_of (targets.Node id)) (listed_at s (owner_of (targets.Node id)) owned has.element) key value 0 → ChangesValue s.records t.records (label_at s.records id) key id None (Some value)
+pub added_value : (s t : State) (id key : ℕ) (value : Value) (owned : IsOwner (owner_of (targets.Node id))) (has : HasKey s (owner_of (targets.Node id)) key)
+    → maps.get (properties_of s (owner_of (targets.Node id))) (text_at s key) ≡ None
+    → SetsAlone s t (owner_of (targets.Node id)) (listed_at s (owner_of (targets.Node id)) owned has.element) key value 0
+    → ChangesValue s.records t.records (label_at s.records id) key id None (Some value)
 added_value s t id key value owned has none sets =
     subst (λ (o : Option Value). ChangesValue s.records t.records (label_at s.records id) key id o (Some value))
     (lacked_value (listed_at s (owner_of (targets.Node id)) owned has.element) key (lacks_key s (owner_of (targets.Node id)) owned has.element key none))
     (sets_value s t (owner_of (targets.Node id)) (listed_at s (owner_of (targets.Node id)) owned has.element) key refl has.element.store value 0 sets)
 
 -- ---- the loop's invariant
-pub record IsPutting (tells onward : Type 0) (s t : State) (before now : ℕ) (owner : Owner) (pairs : List Pair) (assigned : List Assignment) (i : ℕ) : Type 0 where
-  pub put : tells → (names : List (List ℕ)) (target : Target) → owner ≡ owner_of target → CanPut s names target pairs assigned → PutsPairs s t names target (take i (pairs_of names pairs assigned))
-  pub values : tells → (names : List (List ℕ)) (id : ℕ) → owner ≡ owner_of (targets.Node id) → CanPut s names (targets.Node id) pairs assigned
-      → (e : Entry) → wanted_in t.records e ≡ with_assigned (wanted_in s.records) (label_at s.records id) id pairs (take i assigned) e
-  pub indexes : tells → (names : List (List ℕ)) (id : ℕ) → owner ≡ owner_of (targets.Edge id) → CanPut s names (targets.Edge id) pairs assigned → KeepsIndexes s t
-  pub shape : tells → t.shape ≡ s.shape
-  pub harmless : tells → HarmsNoLists s t
-  pub beside : tells → LeavesIndexes s t
-  pub writes : WritesBeside owner.key (i + assigned_blocks pairs (take i assigned)) s t
-  pub onward_is : onward
-  pub later : before ≤ now
+pub record IsPutting (tells onward : Type 0) (s t : State) (before now : ℕ) (owner : Owner) (pairs : List Pair) (assigned : List Assignment) (i : ℕ) : Type 0
+  where
+    pub put : tells → (names : List (List ℕ)) (target : Target) → owner ≡ owner_of target → CanPut s names target pairs assigned
+        → PutsPairs s t names target (take i (pairs_of names pairs assigned))
+    pub values : tells → (names : List (List ℕ)) (id : ℕ) → owner ≡ owner_of (targets.Node id) → CanPut s names (targets.Node id) pairs assigned
+        → (e : Entry) → wanted_in t.records e ≡ with_assigned (wanted_in s.records) (label_at s.records id) id pairs (take i assigned) e
+    pub indexes : tells → (names : List (List ℕ)) (id : ℕ) → owner ≡ owner_of (targets.Edge id) → CanPut s names (targets.Edge id) pairs assigned
+        → KeepsIndexes s t
+    pub shape : tells → t.shape ≡ s.shape
+    pub harmless : tells → HarmsNoLists s t
+    pub beside : tells → LeavesIndexes s t
+    pub writes : WritesBeside owner.key (i + assigned_blocks pairs (take i assigned)) s t
+    pub onward_is : onward
+    pub later : before ≤ now

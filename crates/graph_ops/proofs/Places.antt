@@ -1,6 +1,7 @@
 -- A place for a key among assignments: where the key stands, or at the end.
 use Rattle.std.specs.List.{position, position_or_len, refill}
-use Rattle.std.proofs.Common.{◌≡◌, ℕ, suc, ◌+◌, ◌<◌, ◌≤◌, nat_eq, nat_lt, Bool, true, false, cond, not, Some, None, List, [], ◌∷◌, ◌++◌, length, take, set, sym, ap, ◌∙◌, arith, refl}
+use Rattle.std.proofs.Common.{◌≡◌, ℕ, suc, ◌+◌, ◌<◌, ◌≤◌, nat_eq, nat_lt, Bool, true, false, cond, not, Some, None}
+use Rattle.std.proofs.Common.{List, [], ◌∷◌, ◌++◌, length, take, set, sym, ap, ◌∙◌, arith, refl}
 use Rattle.std.proofs.Math.ListN.{length-set}
 use Rattle.std.proofs.Math.Seq.{take-length}
 use Rattle.std.proofs.lemmas.Bool.Decides.{nat_tests}
@@ -23,7 +24,8 @@ module _ (key place : ℕ) where
   place_set [] lt = absurd (omega arith)
   place_set (x ∷ xs) lt = by (has_key x) lt (place_set xs)
     where
-      by : (b : Bool) → cond (not b) (1 + position_or_len has_key xs) 0 < length (x ∷ xs) → (position_or_len has_key xs < length xs → with_place xs key place ≡ set xs (position_or_len has_key xs) here)
+      by : (b : Bool) → cond (not b) (1 + position_or_len has_key xs) 0 < length (x ∷ xs)
+          → (position_or_len has_key xs < length xs → with_place xs key place ≡ set xs (position_or_len has_key xs) here)
           → cond b (here ∷ xs) (x ∷ with_place xs key place) ≡ set (x ∷ xs) (cond (not b) (1 + position_or_len has_key xs) 0) here
       by true lt rest = refl
       by false lt rest = ap (λ l. x ∷ l) (rest (omega arith)) ∙ ap (λ n. set (x ∷ xs) n here) (one (position_or_len has_key xs))
@@ -35,7 +37,8 @@ module _ (key place : ℕ) where
   place_push [] le = refl
   place_push (x ∷ xs) le = by (has_key x) le (place_push xs)
     where
-      by : (b : Bool) → length (x ∷ xs) ≤ cond (not b) (1 + position_or_len has_key xs) 0 → (length xs ≤ position_or_len has_key xs → with_place xs key place ≡ xs ++ here ∷ [])
+      by : (b : Bool) → length (x ∷ xs) ≤ cond (not b) (1 + position_or_len has_key xs) 0
+          → (length xs ≤ position_or_len has_key xs → with_place xs key place ≡ xs ++ here ∷ [])
           → cond b (here ∷ xs) (x ∷ with_place xs key place) ≡ (x ∷ xs) ++ here ∷ []
       by true le rest = absurd (omega arith)
       by false le rest = ap (λ l. x ∷ l) (rest (omega arith))
@@ -43,23 +46,27 @@ module _ (key place : ℕ) where
   found : (xs : List Assignment) (at : ℕ) → position has_key xs ≡ Some at → (position_or_len has_key xs < length xs) × (position_or_len has_key xs ≡ at)
   found xs at e = by (nat_lt (position_or_len has_key xs) (length xs)) (λ k. grind (arith, nat_tests)) e
     where
-      by : (b : Bool) → (b ≡ true → position_or_len has_key xs < length xs) → cond b (Some (position_or_len has_key xs)) None ≡ Some at → (position_or_len has_key xs < length xs) × (position_or_len has_key xs ≡ at)
+      by : (b : Bool) → (b ≡ true → position_or_len has_key xs < length xs) → cond b (Some (position_or_len has_key xs)) None ≡ Some at
+          → (position_or_len has_key xs < length xs) × (position_or_len has_key xs ≡ at)
       by true lt e = (lt refl, cc)
       by false lt e = absurd cc
 
   missing : (xs : List Assignment) → position has_key xs ≡ None → length xs ≤ position_or_len has_key xs
   missing xs e = by (nat_lt (position_or_len has_key xs) (length xs)) (λ k. grind (arith, nat_tests)) e
     where
-      by : (b : Bool) → (b ≡ false → length xs ≤ position_or_len has_key xs) → cond b (Some (position_or_len has_key xs)) None ≡ None → length xs ≤ position_or_len has_key xs
+      by : (b : Bool) → (b ≡ false → length xs ≤ position_or_len has_key xs) → cond b (Some (position_or_len has_key xs)) None ≡ None
+          → length xs ≤ position_or_len has_key xs
       by true le e = absurd cc
       by false le e = le refl
 
   -- the place of the key is written over
-  pub place_known : (xs ws : List Assignment) (at : ℕ) → ws ≡ xs → length ws ≤ 33 → position has_key xs ≡ Some at → refill (length xs) xs (set ws at here) ≡ take 33 (with_place xs key place)
+  pub place_known : (xs ws : List Assignment) (at : ℕ) → ws ≡ xs → length ws ≤ 33 → position has_key xs ≡ Some at
+      → refill (length xs) xs (set ws at here) ≡ take 33 (with_place xs key place)
   place_known xs ws at same few e =
       let k = found xs at e in
       let is : set ws at here ≡ with_place xs key place = ap (λ l. set l at here) same ∙ ap (λ n. set xs n here) (sym k.1) ∙ sym (place_set xs k.0) in
-      refill_all xs (set ws at here) (length-set ws at here ∙ ap length same) ∙ sym (take_all 33 (set ws at here) (omega (arith, length-set ws at here))) ∙ ap (take 33) is
+      refill_all xs (set ws at here) (length-set ws at here ∙ ap length same) ∙ sym (take_all 33 (set ws at here) (omega (arith, length-set ws at here)))
+      ∙ ap (take 33) is
 
   -- a key that is new goes to the end, while there is room
   pub place_new : (xs : List Assignment) → length xs < 33 → position has_key xs ≡ None → xs ++ here ∷ [] ≡ take 33 (with_place xs key place)

@@ -24,7 +24,9 @@ use Rattle.graph_ops.specs.Rooms.{HasRoom, LacksRoom}
 use Rattle.graph_ops.specs.Store.{IsMidway, KeepsElements, graph_in}
 use Rattle.graph_ops.specs.declared.assigning.Assignment.{Assignment}
 use Rattle.graph_ops.specs.declared.change_fault.ChangeFault.{ChangeFault}
-use Rattle.graph_ops.specs.declared.change_fault.ChangeFault.TheVariants.{NoNode, NoEdge, HasRelationships, IndexThere, TooManyIndexes, IndexTooLarge, Full, NamesFull, PropsFull, Memory, Disk, Damaged}
+use Rattle.graph_ops.specs.declared.change_fault.ChangeFault.TheVariants.{NoNode, NoEdge, HasRelationships, IndexThere}
+use Rattle.graph_ops.specs.declared.change_fault.ChangeFault.TheVariants.{TooManyIndexes, IndexTooLarge, Full}
+use Rattle.graph_ops.specs.declared.change_fault.ChangeFault.TheVariants.{NamesFull, PropsFull, Memory, Disk, Damaged}
 use Rattle.graph_ops.specs.declared.preparing.Prepared.{Prepared}
 use Rattle.graph_ops.proofs.Assigned.{blocks-assigned, length-assigned}
 use Rattle.graph_ops.proofs.LineNames.{first_lacks, uses_prefix}
@@ -34,10 +36,12 @@ use Rattle.graph_ops.proofs.Reasons.{None, few_fit, line_free, many_refused, nam
 pub slice_get-more : (names rest : List (List ℕ)) (id : ℕ) (text : List ℕ) → slice_get names id ≡ Some text → slice_get (names ++ rest) id ≡ Some text
 slice_get-more names rest id text at =
     let low = slice_get_within names id text at in
-    slice_get-get_or (names ++ rest) id [] (omega (arith, length-append names rest)) ∙ ap Some (get_or_append_left names rest [] id low ∙ get_or_from_slice_get names id text [] at)
+    slice_get-get_or (names ++ rest) id [] (omega (arith, length-append names rest))
+    ∙ ap Some (get_or_append_left names rest [] id low ∙ get_or_from_slice_get names id text [] at)
 
 -- ---- the label has no number
-pub label_refused : (s : State) (names : List (List ℕ)) (label : List ℕ) (pairs : List Pair) → IsMidway s names → (fault : InternFault) → IsFullFault names label fault → IsRefusedBy line_reasons s.shape.limit (graph_in s) (commands.Node label pairs) (of_intern fault)
+pub label_refused : (s : State) (names : List (List ℕ)) (label : List ℕ) (pairs : List Pair) → IsMidway s names → (fault : InternFault)
+    → IsFullFault names label fault → IsRefusedBy line_reasons s.shape.limit (graph_in s) (commands.Node label pairs) (of_intern fault)
 label_refused s names label pairs store (intern.NamesFull count) why =
     names_refused s.shape.limit (graph_in s) label pairs (subst (λ n. LacksNames n (label ∷ keys_in pairs)) store.names (first_lacks names label (keys_in pairs) why.all why.new))
 label_refused s names label pairs store intern.Memory why = tt
@@ -55,7 +59,8 @@ module _ (s : State) (a b : List (List ℕ)) (label : List ℕ) (pairs : List Pa
   line_fits : (c : List (List ℕ)) → UsesNames b (keys_in pairs) c → length c ≤ most_names → None (lacks_names (graph_in s) line)
   line_fits c later few = names_fit (graph_in s) line c (line_uses c later) few
 
-  pub assign_refused_by : (fault : ChangeFault) → IsAssignFault b pairs fault → IsRefusedBy line_reasons s.shape.limit (graph_in s) (commands.Node label pairs) fault
+  pub assign_refused_by : (fault : ChangeFault) → IsAssignFault b pairs fault
+      → IsRefusedBy line_reasons s.shape.limit (graph_in s) (commands.Node label pairs) fault
   assign_refused_by (NoNode id) why = absurd why
   assign_refused_by (NoEdge id) why = absurd why
   assign_refused_by (HasRelationships id degree) why = absurd why
@@ -69,10 +74,12 @@ module _ (s : State) (a b : List (List ℕ)) (label : List ℕ) (pairs : List Pa
   assign_refused_by Disk why = tt
   assign_refused_by (Damaged damage) why = absurd why
 
-  module _ (u : State) (c : List (List ℕ)) (xs : List Assignment) (later : UsesNames b (keys_in pairs) c) (kept : KeepsElements s u c) (are : AreAssigned c pairs xs) (few : length xs ≤ 32) (names_few : length c ≤ most_names) where
+  module _ (u : State) (c : List (List ℕ)) (xs : List Assignment) (later : UsesNames b (keys_in pairs) c) (kept : KeepsElements s u c)
+      (are : AreAssigned c pairs xs) (few : length xs ≤ 32) (names_few : length c ≤ most_names) where
     -- the counts of the store are those of the graph before
     live_properties : (meta_of u format.properties_file).live ≡ property_count (graph_in s)
-    live_properties = count_properties u.records u.shape kept.store.store ∙ (λ i. property_count (record { nodes = kept.nodes i; edges = kept.edges i; names = (graph_in s).names; indexes = (graph_in s).indexes }))
+    live_properties = count_properties u.records u.shape kept.store.store
+        ∙ (λ i. property_count (record { nodes = kept.nodes i; edges = kept.edges i; names = (graph_in s).names; indexes = (graph_in s).indexes }))
 
     live_blocks : (meta_of u format.strings_file).live ≡ block_count (graph_in s)
     live_blocks = count_blocks u.records u.shape kept.store.store ∙ (λ i. block_count (record { nodes = kept.nodes i; edges = kept.edges i; names = (graph_in s).names; indexes = (graph_in s).indexes }))
@@ -83,7 +90,8 @@ module _ (s : State) (a b : List (List ℕ)) (label : List ℕ) (pairs : List Pa
     few_properties : maps.len (with_pairs no_properties pairs) ≤ 32
     few_properties = let n = length-assigned c pairs xs are in omega arith
 
-    pub reserve_refused : (fault : ChangeFault) → IsReserveFault u (length xs) (assigned_blocks pairs xs) fault → IsRefusedBy line_reasons s.shape.limit (graph_in s) (commands.Node label pairs) fault
+    pub reserve_refused : (fault : ChangeFault) → IsReserveFault u (length xs) (assigned_blocks pairs xs) fault
+        → IsRefusedBy line_reasons s.shape.limit (graph_in s) (commands.Node label pairs) fault
     reserve_refused fault why =
         let live = live_properties in
         let blocks = live_blocks in
@@ -96,11 +104,13 @@ module _ (s : State) (a b : List (List ℕ)) (label : List ℕ) (pairs : List Pa
         (λ (k : HasRoom u format.properties_file (length xs) × LacksRoom u format.strings_file (assigned_blocks pairs xs) fault). subst (IsRefusedBy line_reasons s.shape.limit (graph_in s) (commands.Node label pairs)) (sym k.1.is)
         (strings_refused s.shape.limit (graph_in s) label pairs (line_fits c later names_few) few_properties (let le = k.0 in omega arith) (let lt = k.1.lacks in omega arith))) why
 
-    pub prepared_is : (prepared : Prepared) → prepared.assigned.items ≡ xs → slice_get b prepared.label ≡ Some label → HasPropertyRoom u (length xs) (assigned_blocks pairs xs)
+    pub prepared_is : (prepared : Prepared) → prepared.assigned.items ≡ xs → slice_get b prepared.label ≡ Some label
+        → HasPropertyRoom u (length xs) (assigned_blocks pairs xs)
         → prepared.weight ≡ length xs + assigned_blocks pairs xs + (length c - length a) → IsPrepared s u c label pairs prepared
     prepared_is prepared same at room weighs = record {
       kept = kept;
-      label_is = let more = uses_prefix b (keys_in pairs) c later in ap (λ n. slice_get n prepared.label) more.1 ∙ slice_get-more b more.0 prepared.label label at;
+      label_is = let more = uses_prefix b (keys_in pairs) c later in ap (λ n. slice_get n prepared.label) more.1
+          ∙ slice_get-more b more.0 prepared.label label at;
       assigned = subst (AreAssigned c pairs) (sym same) are;
       room = subst (λ l. HasPropertyRoom u (length l) (assigned_blocks pairs l)) (sym same) room;
       uses = line_uses c later;

@@ -11,7 +11,9 @@ use Rattle.graph_ops.specs.Change.{IsRefusedBy, MakesChange}
 use Rattle.graph_ops.specs.ChangeFault.{LeavesSpace, is_element_file}
 use Rattle.graph_ops.specs.Store.{IsMidway, graph_in}
 use Rattle.graph_ops.specs.declared.change_fault.ChangeFault.{ChangeFault}
-use Rattle.graph_ops.specs.declared.change_fault.ChangeFault.TheVariants.{NoNode, NoEdge, HasRelationships, IndexThere, TooManyIndexes, IndexTooLarge, Full, NamesFull, PropsFull, Memory, Disk, Damaged}
+use Rattle.graph_ops.specs.declared.change_fault.ChangeFault.TheVariants.{NoNode, NoEdge, HasRelationships, IndexThere}
+use Rattle.graph_ops.specs.declared.change_fault.ChangeFault.TheVariants.{TooManyIndexes, IndexTooLarge, Full}
+use Rattle.graph_ops.specs.declared.change_fault.ChangeFault.TheVariants.{NamesFull, PropsFull, Memory, Disk, Damaged}
 use Rattle.graph_ops.proofs.Elements.{same_both}
 
 -- it is the same store
@@ -19,7 +21,8 @@ pub store_read : (s m : State) (names : List (List ℕ)) → SameButReads s m �
 store_read s m names same store = subst (λ z. IsMidway z names) (sym same) (record { store = store.store; names = store.names })
 
 -- a change of it is one of the space before
-pub made_read : (s m u : State) (names : List (List ℕ)) (command : Command) (reply : Reply) (weight : ℕ) → SameButReads s m → MakesChange command reply weight m u names → MakesChange command reply weight s u names
+pub made_read : (s m u : State) (names : List (List ℕ)) (command : Command) (reply : Reply) (weight : ℕ) → SameButReads s m
+    → MakesChange command reply weight m u names → MakesChange command reply weight s u names
 made_read s m u names command reply weight same h =
     let k = subst (λ z. MakesChange command reply weight z u names) same h in
     record { store = k.store; changes = k.changes; weighs = k.weighs; free = k.free }
@@ -29,7 +32,8 @@ pub there_read : (s m : State) (target : Target) → SameButReads s m → has_el
 there_read s m target same there = subst (λ z. has_element (graph_in z) target ≡ true) (sym same) there
 
 -- what refuses a change of it refuses one of the space before
-pub refused_read : (s m : State) (reasons : List Reason) (command : Command) (fault : ChangeFault) → SameButReads s m → IsRefusedBy reasons m.shape.limit (graph_in m) command fault → IsRefusedBy reasons s.shape.limit (graph_in s) command fault
+pub refused_read : (s m : State) (reasons : List Reason) (command : Command) (fault : ChangeFault) → SameButReads s m
+    → IsRefusedBy reasons m.shape.limit (graph_in m) command fault → IsRefusedBy reasons s.shape.limit (graph_in s) command fault
 refused_read s m reasons command fault same h = subst (λ z. IsRefusedBy reasons z.shape.limit (graph_in z) command fault) same h
 
 -- a space that a fault leaves is left by it if it was read before

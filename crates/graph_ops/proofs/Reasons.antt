@@ -14,7 +14,9 @@ use Rattle.graph_ops.specs.Change.{IsRefusedBy}
 use Rattle.graph_ops.specs.ChangeFault.{IsOutside}
 use Rattle.graph_ops.specs.Preparing.{line_reasons}
 use Rattle.graph_ops.specs.declared.change_fault.ChangeFault.{ChangeFault}
-use Rattle.graph_ops.specs.declared.change_fault.ChangeFault.TheVariants.{NoNode, NoEdge, HasRelationships, IndexThere, TooManyIndexes, IndexTooLarge, Full, NamesFull, PropsFull, Memory, Disk, Damaged}
+use Rattle.graph_ops.specs.declared.change_fault.ChangeFault.TheVariants.{NoNode, NoEdge, HasRelationships, IndexThere}
+use Rattle.graph_ops.specs.declared.change_fault.ChangeFault.TheVariants.{TooManyIndexes, IndexTooLarge, Full}
+use Rattle.graph_ops.specs.declared.change_fault.ChangeFault.TheVariants.{NamesFull, PropsFull, Memory, Disk, Damaged}
 use Rattle.graph_ops.proofs.LineNames.{uses_once}
 
 -- the reasons that an index gives, after those of the names and the properties
@@ -27,7 +29,8 @@ None reason = (other : Refusal) → ¬ reason other
 
 -- names that fit are no reason
 pub names_fit : (graph : Graph) (line new : List (List ℕ)) → UsesNames graph.names line new → length new ≤ most_names → None (lacks_names graph line)
-names_fit graph line new uses few other lacks = let n = ap length (uses_once graph.names line new lacks.0 uses lacks.1) in let many = lacks.2 in absurd (omega arith)
+names_fit graph line new uses few other lacks = let n = ap length (uses_once graph.names line new lacks.0 uses lacks.1) in let many = lacks.2 in
+    absurd (omega arith)
 
 pub few_fit : (properties : Properties) → maps.len properties ≤ 32 → None (has_too_many properties)
 few_fit properties few other many = let lt = many.0 in absurd (omega arith)
@@ -43,26 +46,31 @@ module _ (limit : ℕ) (graph : Graph) (label : List ℕ) (pairs : List Pair) wh
   abbrev line : List (List ℕ)
   line = label ∷ keys_in pairs
 
-  pub line_free : None (lacks_names graph line) → None (has_too_many properties) → None (lacks_room limit (property_count graph + maps.len properties) refusals.FullProperties)
+  pub line_free : None (lacks_names graph line) → None (has_too_many properties)
+      → None (lacks_room limit (property_count graph + maps.len properties) refusals.FullProperties)
       → None (lacks_room limit (block_count graph + blocks_in properties) refusals.FullStrings) → NoReason line_reasons limit graph (commands.Node label pairs)
   line_free names few properties_fit blocks_fit = (names, (few, (properties_fit, (blocks_fit, tt))))
 
   pub names_refused : LacksNames graph.names line → FirstReason line_reasons limit graph (commands.Node label pairs) refusals.FullNames
   names_refused lacks = inl (lacks.0, lacks.1, lacks.2, refl)
 
-  pub many_refused : None (lacks_names graph line) → 32 < maps.len properties → FirstReason line_reasons limit graph (commands.Node label pairs) refusals.TooManyProperties
+  pub many_refused : None (lacks_names graph line) → 32 < maps.len properties
+      → FirstReason line_reasons limit graph (commands.Node label pairs) refusals.TooManyProperties
   many_refused names many = inr (names, inl (many, refl))
 
-  pub properties_refused : None (lacks_names graph line) → maps.len properties ≤ 32 → limit < property_count graph + maps.len properties → FirstReason line_reasons limit graph (commands.Node label pairs) refusals.FullProperties
+  pub properties_refused : None (lacks_names graph line) → maps.len properties ≤ 32 → limit < property_count graph + maps.len properties
+      → FirstReason line_reasons limit graph (commands.Node label pairs) refusals.FullProperties
   properties_refused names few full = inr (names, inr (few_fit properties few, inl (full, refl)))
 
-  pub strings_refused : None (lacks_names graph line) → maps.len properties ≤ 32 → property_count graph + maps.len properties ≤ limit → limit < block_count graph + blocks_in properties
+  pub strings_refused : None (lacks_names graph line) → maps.len properties ≤ 32 → property_count graph + maps.len properties ≤ limit
+      → limit < block_count graph + blocks_in properties
       → FirstReason line_reasons limit graph (commands.Node label pairs) refusals.FullStrings
   strings_refused names few fits full = inr (names, inr (few_fit properties few, inr (room_fits limit (property_count graph + maps.len properties) refusals.FullProperties fits, inl (full, refl))))
 
 -- ---- more reasons
 -- what refuses by some reasons refuses by others, where each first one does
-pub refused_more : (some all : List Reason) (limit : ℕ) (graph : Graph) (command other : Command) → ((why : Refusal) → FirstReason some limit graph command why → FirstReason all limit graph other why) → (fault : ChangeFault)
+pub refused_more : (some all : List Reason) (limit : ℕ) (graph : Graph) (command other : Command)
+    → ((why : Refusal) → FirstReason some limit graph command why → FirstReason all limit graph other why) → (fault : ChangeFault)
     → IsRefusedBy some limit graph command fault → IsRefusedBy all limit graph other fault
 refused_more some all limit graph command other more (NoNode id) why = more (refusals.NoNode id) why
 refused_more some all limit graph command other more (NoEdge id) why = more (refusals.NoEdge id) why
@@ -78,7 +86,8 @@ refused_more some all limit graph command other more Disk why = tt
 refused_more some all limit graph command other more (Damaged damage) why = absurd why
 
 -- a failure of the machine refuses anything
-pub outside_refused : (reasons : List Reason) (limit : ℕ) (graph : Graph) (command : Command) (fault : ChangeFault) → IsOutside fault → IsRefusedBy reasons limit graph command fault
+pub outside_refused : (reasons : List Reason) (limit : ℕ) (graph : Graph) (command : Command) (fault : ChangeFault) → IsOutside fault
+    → IsRefusedBy reasons limit graph command fault
 outside_refused reasons limit graph command (NoNode id) out = absurd out
 outside_refused reasons limit graph command (NoEdge id) out = absurd out
 outside_refused reasons limit graph command (HasRelationships id degree) out = absurd out

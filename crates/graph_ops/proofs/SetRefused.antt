@@ -34,14 +34,21 @@ use Rattle.graph_ops.proofs.LiveIndexes.{live_indexes}
 use Rattle.graph_ops.proofs.PairsPut.{label_at}
 use Rattle.graph_ops.proofs.Setting.{entry_refused, number_low, number_text}
 
-pub set_entry_refused : (s : State) (old : List (List ℕ)) (target : Target) (key : List ℕ) (value : Value) (store : IsMidway s old) (there : has_element (graph_in s) target ≡ true)
-    (n u : State) (new : List (List ℕ)) (number : ℕ) (uses : UsesName old key new) (kept : KeepsElements s n new) (few : length new ≤ most_names) (at : slice_get new number ≡ Some key)
-    (whole : IsStore n new) (owned : IsOwner (owner_of target)) (has : HasElement n (owner_of target)) (released : ℕ) (sets : SetsValue n u (owner_of target) number value released) (shape : u.shape ≡ n.shape)
+pub set_entry_refused : (s : State) (old : List (List ℕ)) (target : Target) (key : List ℕ) (value : Value) (store : IsMidway s old)
+    (there : has_element (graph_in s) target ≡ true)
+    (n u : State) (new : List (List ℕ)) (number : ℕ) (uses : UsesName old key new) (kept : KeepsElements s n new) (few : length new ≤ most_names)
+    (at : slice_get new number ≡ Some key)
+    (whole : IsStore n new) (owned : IsOwner (owner_of target)) (has : HasElement n (owner_of target)) (released : ℕ)
+    (sets : SetsValue n u (owner_of target) number value released) (shape : u.shape ≡ n.shape)
     (held : Option IndexedValue) → IsIndexedValue n.records (map (pair_of n.records) whole.store.indexes.definitions) target number held
-    → (fault : ChangeFault) → LacksValue held → LacksRoom u format.index_file 1 fault → IsRefusal s.shape.limit (graph_in s) (commands.Set target key value) fault
-set_entry_refused s old (targets.Edge id) key value store there n u new number uses kept few at whole owned has released sets shape held is fault lacks why = absurd (subst LacksValue is lacks)
-set_entry_refused s old (targets.Node id) key value store there n u new number uses kept few at whole owned has released sets shape None is fault lacks why = absurd lacks
-set_entry_refused s old (targets.Node id) key value store there n u new number uses kept few at whole owned has released sets shape (Some held) is fault lacks why =
+    → (fault : ChangeFault) → LacksValue held → LacksRoom u format.index_file 1 fault
+    → IsRefusal s.shape.limit (graph_in s) (commands.Set target key value) fault
+set_entry_refused s old (targets.Edge id) key value store there n u new number uses kept few at whole owned has released sets shape held is fault lacks why =
+    absurd (subst LacksValue is lacks)
+set_entry_refused s old (targets.Node id) key value store there n u new number uses kept few at whole owned has released sets shape None is fault lacks why =
+    absurd lacks
+set_entry_refused s old (targets.Node id) key value store there n u new number uses kept few at whole owned has released sets shape (Some held) is fault lacks
+    why =
     subst (IsRefusal s.shape.limit (graph_in s) (commands.Set (targets.Node id) key value)) (sym why.is)
     (entry_refused s old (targets.Node id) key value store there n new number (owner_of (targets.Node id)) refl uses kept few at u released sets shape (no_room, refl) (meta_of u format.index_file).live)
   where
@@ -55,10 +62,12 @@ set_entry_refused s old (targets.Node id) key value store there n u new number u
     none = sym (ap (λ l. node_value n.records l number id) is.2) ∙ sym is.4 ∙ lacks
 
     listed : is_among n.records whole.store.indexes.definitions (label_at n.records id) number ≡ true
-    listed = sym (listed_among n.records whole.store.indexes.definitions (label_at n.records id) number) ∙ ap (λ l. is_listed (map (pair_of n.records) whole.store.indexes.definitions) l number) (sym is.2) ∙ is.3
+    listed = sym (listed_among n.records whole.store.indexes.definitions (label_at n.records id) number)
+        ∙ ap (λ l. is_listed (map (pair_of n.records) whole.store.indexes.definitions) l number) (sym is.2) ∙ is.3
 
     more : index_records (graph_in n) < index_records (with_value (graph_in n) (targets.Node id) key value)
-    more = subst (λ k. index_records (graph_in n) < index_records (with_value (graph_in n) (targets.Node id) k value)) text_is (records_more n id whole.store owned has number low value none listed)
+    more = subst (λ k. index_records (graph_in n) < index_records (with_value (graph_in n) (targets.Node id) k value)) text_is
+        (records_more n id whole.store owned has number low value none listed)
 
     -- the graphs have the same nodes and indexes
     same_records : index_records (graph_in n) ≡ index_records (graph_in s)

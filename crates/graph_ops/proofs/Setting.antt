@@ -4,13 +4,15 @@ use Rattle.std.specs.FinMap.{get-remove, same_map, slice_cmp-IsAntisymmetric, na
 use Rattle.std.specs.Cmp.Lexicographic.{nat_list_cmp_total}
 use Rattle.std.specs.Ordering.{eq_by_cmp}
 use Rattle.std.specs.Prelude.{Contains, Err, slice_get}
-use Rattle.std.proofs.Common.{◌≡◌, ◌≢◌, ◌⊎◌, ℕ, ◌+◌, ◌-◌, ◌/◌, ◌<◌, ◌≤◌, nat_le, Bool, true, false, cond, Some, None, List, [], ◌∷◌, length, sym, ap, ◌∙◌, subst, inl, inr, ⊎_elim, arith, refl}
+use Rattle.std.proofs.Common.{◌≡◌, ◌≢◌, ◌⊎◌, ℕ, ◌+◌, ◌-◌, ◌/◌, ◌<◌, ◌≤◌, nat_le, Bool, true, false, cond, Some, None}
+use Rattle.std.proofs.Common.{List, [], ◌∷◌, length, sym, ap, ◌∙◌, subst, inl, inr, ⊎_elim, arith, refl}
 use Rattle.std.proofs.lemmas.Option.{slice_get_within}
 use Rattle.plain_graph.proofs.PropertyLaws.{order, same_key}
 use Rattle.plain_graph.specs.Graph.{Graph, UsesName, UsesNames, block_count, has_element, properties_at, property_count, with_value, without_value}
 use Rattle.plain_graph.specs.Forms.{IsKept}
 use Rattle.plain_graph.specs.Properties.{Properties, blocks_at, blocks_if, blocks_of}
-use Rattle.plain_graph.specs.Refusals.{FirstReason, NoReason, change_reasons, index_full, most_names, names_full, no_edge, no_node, properties_full, too_many_properties}
+use Rattle.plain_graph.specs.Refusals.{FirstReason, NoReason, change_reasons, index_full, most_names, names_full}
+use Rattle.plain_graph.specs.Refusals.{no_edge, no_node, properties_full, too_many_properties}
 use Rattle.plain_graph.specs.Reply.{Done}
 use Rattle.plain_graph.specs.declared.command.Command.{Command}
 use Rattle.plain_graph.specs.declared.command.Command.TheVariants as commands
@@ -20,7 +22,8 @@ use Rattle.plain_graph.specs.declared.refusal.Refusal.{Refusal}
 use Rattle.plain_graph.specs.declared.refusal.Refusal.TheVariants as refusals
 use Rattle.plain_graph.specs.declared.value.Value.{Value}
 use Rattle.plain_graph.specs.declared.value.Value.TheVariants as values
-use Rattle.prop_store.specs.Changing.{HasElement, HasKey, IsSetRefusal, RemovesValue, SetsValue, UnsetsValue, blocks_with, properties_of, properties_with, set_properties, target_of, text_at}
+use Rattle.prop_store.specs.Changing.{HasElement, HasKey, IsSetRefusal, RemovesValue, SetsValue, UnsetsValue}
+use Rattle.prop_store.specs.Changing.{blocks_with, properties_of, properties_with, set_properties, target_of, text_at}
 use Rattle.rec_bytes.specs.Fault.{NotDamaged}
 use Rattle.rec_bytes.specs.declared.fault.Fault.{Fault}
 use Rattle.rec_bytes.specs.declared.fault.Fault.TheVariants as prop
@@ -49,7 +52,9 @@ use Rattle.graph_ops.specs.Owners.{IsMissing, owner_of}
 use Rattle.graph_ops.specs.Preparing.{line_reasons}
 use Rattle.graph_ops.specs.Store.{IsMidway, IsStore, KeepsElements, graph_in}
 use Rattle.graph_ops.specs.declared.change_fault.ChangeFault.{ChangeFault}
-use Rattle.graph_ops.specs.declared.change_fault.ChangeFault.TheVariants.{NoNode, NoEdge, HasRelationships, IndexThere, TooManyIndexes, IndexTooLarge, Full, NamesFull, PropsFull, Memory, Disk, Damaged}
+use Rattle.graph_ops.specs.declared.change_fault.ChangeFault.TheVariants.{NoNode, NoEdge, HasRelationships, IndexThere}
+use Rattle.graph_ops.specs.declared.change_fault.ChangeFault.TheVariants.{TooManyIndexes, IndexTooLarge, Full}
+use Rattle.graph_ops.specs.declared.change_fault.ChangeFault.TheVariants.{NamesFull, PropsFull, Memory, Disk, Damaged}
 use Rattle.graph_ops.proofs.LineNames.{first_lacks, needs_names, uses_once}
 use Rattle.graph_ops.proofs.Elements.{element_used}
 use Rattle.graph_ops.proofs.KeptIndexes.{whole_read}
@@ -79,7 +84,8 @@ owner_file (targets.Node id) = inl refl
 owner_file (targets.Edge id) = inr refl
 
 -- an element that is there is one that properties may be given
-pub has_owner : (s : State) (names : List (List ℕ)) (target : Target) → IsMidway s names → has_element (graph_in s) target ≡ true → HasElement s (owner_of target)
+pub has_owner : (s : State) (names : List (List ℕ)) (target : Target) → IsMidway s names → has_element (graph_in s) target ≡ true
+    → HasElement s (owner_of target)
 has_owner s names target store there = record { store = store.store; used = element_used s target there }
 
 -- a name that has a number is that of the key
@@ -97,7 +103,8 @@ module _ (s : State) (names : List (List ℕ)) (number : ℕ) (key : List ℕ) (
       some a b e = cc
 
 -- ---- no reason, and the first one
-pub unset_free : (limit : ℕ) (graph : Graph) (target : Target) (key : List ℕ) → has_element graph target ≡ true → NoReason change_reasons limit graph (commands.Unset target key)
+pub unset_free : (limit : ℕ) (graph : Graph) (target : Target) (key : List ℕ) → has_element graph target ≡ true
+    → NoReason change_reasons limit graph (commands.Unset target key)
 unset_free limit graph (targets.Node id) key there =
     (λ o z. z, (λ o z. z, (λ o z. z, (λ o z. z, (λ o z. clash (sym there ∙ z.0), (λ o z. z, (λ o z. z, (λ o z. z, (λ o z. z, (λ o z. z, (λ o z. z, (λ o z. z, (λ o z. z, (λ o z. z, (λ o z. z, (λ o z. z, tt))))))))))))))))
   where
@@ -109,11 +116,14 @@ unset_free limit graph (targets.Edge id) key there =
     clash : true ≡ false → ⊥
     clash e = cc
 
-pub unset_missing : (limit : ℕ) (graph : Graph) (target : Target) (key : List ℕ) (fault : ChangeFault) → IsMissing graph target fault → IsRefusal limit graph (commands.Unset target key) fault
+pub unset_missing : (limit : ℕ) (graph : Graph) (target : Target) (key : List ℕ) (fault : ChangeFault) → IsMissing graph target fault
+    → IsRefusal limit graph (commands.Unset target key) fault
 unset_missing limit graph target key (NoNode id) h =
-    subst (λ t. IsRefusal limit graph (commands.Unset t key) (NoNode id)) (sym h.0) (inr (λ o z. z, inr (λ o z. z, inr (λ o z. z, inr (λ o z. z, inl (h.1, refl))))))
+    subst (λ t. IsRefusal limit graph (commands.Unset t key) (NoNode id)) (sym h.0)
+    (inr (λ o z. z, inr (λ o z. z, inr (λ o z. z, inr (λ o z. z, inl (h.1, refl))))))
 unset_missing limit graph target key (NoEdge id) h =
-    subst (λ t. IsRefusal limit graph (commands.Unset t key) (NoEdge id)) (sym h.0) (inr (λ o z. z, inr (λ o z. z, inr (λ o z. z, inr (λ o z. z, inr (λ o z. z, inl (h.1, refl)))))))
+    subst (λ t. IsRefusal limit graph (commands.Unset t key) (NoEdge id)) (sym h.0)
+    (inr (λ o z. z, inr (λ o z. z, inr (λ o z. z, inr (λ o z. z, inr (λ o z. z, inl (h.1, refl)))))))
 unset_missing limit graph target key (HasRelationships id degree) h = absurd h
 unset_missing limit graph target key IndexThere h = absurd h
 unset_missing limit graph target key TooManyIndexes h = absurd h
@@ -125,14 +135,16 @@ unset_missing limit graph target key Memory h = absurd h
 unset_missing limit graph target key Disk h = tt
 unset_missing limit graph target key (Damaged damage) h = absurd h
 
-pub prop_refused : (limit : ℕ) (graph : Graph) (command : Command) (fault : Fault) → NotDamaged {T = ℕ} (Err fault) → IsRefusal limit graph command (of_fault fault)
+pub prop_refused : (limit : ℕ) (graph : Graph) (command : Command) (fault : Fault) → NotDamaged {T = ℕ} (Err fault)
+    → IsRefusal limit graph command (of_fault fault)
 prop_refused limit graph command prop.Memory h = tt
 prop_refused limit graph command prop.Disk h = tt
 prop_refused limit graph command (prop.Damaged damage) h = absurd h
 
 -- ---- a key without a value
 remove_none : (m : Properties) (key : List ℕ) → maps.get m key ≡ None → maps.remove m key ≡ m
-remove_none m key none = same_map nat_list_cmp_total (λ x y e. slice_cmp-IsAntisymmetric nat_cmp-IsAntisymmetric x y e) (maps.remove m key) m (λ q. get-remove nat_list_cmp_total m key q ∙ by q (eq_by_cmp order q key) refl)
+remove_none m key none = same_map nat_list_cmp_total (λ x y e. slice_cmp-IsAntisymmetric nat_cmp-IsAntisymmetric x y e) (maps.remove m key) m
+    (λ q. get-remove nat_list_cmp_total m key q ∙ by q (eq_by_cmp order q key) refl)
   where
     by : (q : List ℕ) (b : Bool) → eq_by_cmp order q key ≡ b → cond b None (maps.get m q) ≡ maps.get m q
     by q true e = sym (ap (maps.get m) (same_key q key e) ∙ none)
@@ -153,12 +165,14 @@ module _ (s : State) (names : List (List ℕ)) (target : Target) (key : List ℕ
 
   are : AreProperties (property_records s.records) (property_from s.records element_file element_id) es
   unfolding es
-  are = properties_right s.records s.shape store.store element_file element_id (property_from s.records element_file element_id) (owner_in-used s.records element_file element_id (owner_file target) used)
+  are = properties_right s.records s.shape store.store element_file element_id (property_from s.records element_file element_id)
+      (owner_in-used s.records element_file element_id (owner_file target) used)
 
   -- what is no name is no key
   lacks_key : ¬ Contains names key → LackKey (rec_at s.records format.names_file) es key
   lacks_key lacks k i e =
-      let low = key_known s.records s.shape store.store element_file element_id (property_from s.records element_file element_id) es (owner_in-used s.records element_file element_id (owner_file target) used) are k i in
+      let low = key_known s.records s.shape store.store element_file element_id (property_from s.records element_file element_id) es
+      (owner_in-used s.records element_file element_id (owner_file target) used) are k i in
       lacks (subst (λ l. Contains l key) (sym store.names) (contains_at (names_of s.records) k key (first-names_of s.records k low ∙ ap Some e)))
 
   pub unnamed_none : ¬ Contains names key → maps.get (properties_at (graph_in s) target) key ≡ None
@@ -168,18 +182,22 @@ module _ (s : State) (names : List (List ℕ)) (target : Target) (key : List ℕ
 
   nothing_gone : maps.get (properties_at (graph_in s) target) key ≡ None → without_value (graph_in s) target key ≡ graph_in s
   nothing_gone none =
-      let is : properties_at (graph_in s) target ≡ map_of (rec_at s.records format.names_file) es = ap (properties_at (graph_in s)) (sym (target_is target)) ∙ properties_at-is s.records element_file element_id es (owner_file target) used are in
+      let is : properties_at (graph_in s) target ≡ map_of (rec_at s.records format.names_file) es = ap (properties_at (graph_in s)) (sym (target_is target))
+      ∙ properties_at-is s.records element_file element_id es (owner_file target) used are in
       ap (λ t. without_value (graph_in s) t key) (sym (target_is target))
-      ∙ graph_kept s.records element_file element_id es (owner_file target) used are (λ properties. maps.remove properties key) (remove_none (map_of (rec_at s.records format.names_file) es) key (sym (ap (λ m. maps.get m key) is) ∙ none))
+      ∙ graph_kept s.records element_file element_id es (owner_file target) used are (λ properties. maps.remove properties key)
+      (remove_none (map_of (rec_at s.records format.names_file) es) key (sym (ap (λ m. maps.get m key) is) ∙ none))
 
   -- a key that it hasn't has no entry in an index
-  unset_weighs : maps.get (properties_at (graph_in s) target) key ≡ None → element_weight (graph_in s) target (is_text key) (maps.remove (properties_at (graph_in s) target) key) ≡ 0
+  unset_weighs : maps.get (properties_at (graph_in s) target) key ≡ None
+      → element_weight (graph_in s) target (is_text key) (maps.remove (properties_at (graph_in s) target) key) ≡ 0
   unset_weighs none =
       let properties = properties_at (graph_in s) target in
       lacked_weighs (graph_in s) key (maps.remove properties key) (ap (λ m. maps.get m key) (remove_none properties key none) ∙ none) target none
 
   -- nothing changes where the element hasn't the key
-  pub unset_nothing : (u : State) → IsStore s names → SameButReads s u → maps.get (properties_at (graph_in s) target) key ≡ None → MakesChange (commands.Unset target key) Done 2 s u names
+  pub unset_nothing : (u : State) → IsStore s names → SameButReads s u → maps.get (properties_at (graph_in s) target) key ≡ None
+      → MakesChange (commands.Unset target key) Done 2 s u names
   unset_nothing u whole same none = record {
     store = whole_read s u names same whole;
     changes = (
@@ -205,13 +223,16 @@ module _ (s : State) (names : List (List ℕ)) (target : Target) (key : List ℕ
   without_names (targets.Edge x) = refl
 
   -- the value is gone
-  pub unset_value : (u v : State) (owner : Owner) (number released entries : ℕ) → owner ≡ owner_of target → slice_get names number ≡ Some key → RemovesValue s u owner number released
-      → IsStore v names → graph_in v ≡ graph_in u → element_weight (graph_in s) target (is_text key) (maps.remove (properties_at (graph_in s) target) key) ≡ entries
+  pub unset_value : (u v : State) (owner : Owner) (number released entries : ℕ) → owner ≡ owner_of target → slice_get names number ≡ Some key
+      → RemovesValue s u owner number released
+      → IsStore v names → graph_in v ≡ graph_in u → element_weight (graph_in s) target (is_text key)
+      (maps.remove (properties_at (graph_in s) target) key) ≡ entries
       → MakesChange (commands.Unset target key) Done (2 + released + entries) s v names
   unset_value u v owner number released entries is at h whole last w =
       let text = number_text s names number key store at in
       let whose : target_of owner ≡ target = ap target_of is ∙ target_is target in
-      let graph : graph_in v ≡ without_value (graph_in s) target key = last ∙ h.graph ∙ ap (λ t. without_value (graph_in s) t (text_at s number)) whose ∙ ap (without_value (graph_in s) target) text in
+      let graph : graph_in v ≡ without_value (graph_in s) target key = last ∙ h.graph ∙ ap (λ t. without_value (graph_in s) t (text_at s number)) whose
+      ∙ ap (without_value (graph_in s) target) text in
       record {
         store = whole;
         changes = (
@@ -224,12 +245,14 @@ module _ (s : State) (names : List (List ℕ)) (target : Target) (key : List ℕ
             indexes = ap (λ (z : Graph). z.indexes) graph ∙ without_indexes target;
           },
         );
-        weighs = let e = h.released_is ∙ ap (λ t. blocks_if (maps.get (properties_at (graph_in s) t) (text_at s number))) whose ∙ ap (λ k. blocks_if (maps.get (properties_at (graph_in s) target) k)) text in omega arith;
+        weighs = let e = h.released_is ∙ ap (λ t. blocks_if (maps.get (properties_at (graph_in s) t) (text_at s number))) whose
+            ∙ ap (λ k. blocks_if (maps.get (properties_at (graph_in s) target) k)) text in omega arith;
         free = unset_free s.shape.limit (graph_in s) target key there;
       }
 
   -- the key was a name, and the element hadn't it
-  pub unset_absent : (u : State) (owner : Owner) (number : ℕ) → IsStore s names → owner ≡ owner_of target → slice_get names number ≡ Some key → UnsetsValue s u owner number None
+  pub unset_absent : (u : State) (owner : Owner) (number : ℕ) → IsStore s names → owner ≡ owner_of target → slice_get names number ≡ Some key
+      → UnsetsValue s u owner number None
       → MakesChange (commands.Unset target key) Done 2 s u names
   unset_absent u owner number whole is at h =
       let text = number_text s names number key store at in
@@ -254,29 +277,36 @@ set_there limit graph (targets.Edge id) key value there = (λ o z. z, λ o z. cl
     clash : true ≡ false → ⊥
     clash e = cc
 
-set_first : (limit : ℕ) (graph : Graph) (target : Target) (key : List ℕ) (value : Value) (why : Refusal) → has_element graph target ≡ true → FirstReason line_reasons limit graph (commands.Set target key value) why
+set_first : (limit : ℕ) (graph : Graph) (target : Target) (key : List ℕ) (value : Value) (why : Refusal) → has_element graph target ≡ true
+    → FirstReason line_reasons limit graph (commands.Set target key value) why
     → FirstReason change_reasons limit graph (commands.Set target key value) why
 set_first limit graph target key value why there first =
     let k = set_there limit graph target key value there in inr (λ o z. z, inr (λ o z. z, inr (λ o z. z, inr (λ o z. z, inr (k.0, inr (k.1, inr (λ o z. z, inr (λ o z. z, inr (λ o z. z, inr (λ o z. z, first_front line_reasons index_reasons limit graph (commands.Set target key value) why first))))))))))
 
 -- the indexes have no room
-set_full : (limit : ℕ) (graph : Graph) (target : Target) (key : List ℕ) (value : Value) → has_element graph target ≡ true → NoReason line_reasons limit graph (commands.Set target key value)
-    → index_full limit graph (commands.Set target key value) refusals.FullIndex → FirstReason change_reasons limit graph (commands.Set target key value) refusals.FullIndex
+set_full : (limit : ℕ) (graph : Graph) (target : Target) (key : List ℕ) (value : Value) → has_element graph target ≡ true
+    → NoReason line_reasons limit graph (commands.Set target key value)
+    → index_full limit graph (commands.Set target key value) refusals.FullIndex
+    → FirstReason change_reasons limit graph (commands.Set target key value) refusals.FullIndex
 set_full limit graph target key value there free full =
     let k = set_there limit graph target key value there in
     inr (λ o z. z, inr (λ o z. z, inr (λ o z. z, inr (λ o z. z, inr (k.0, inr (k.1, inr (λ o z. z, inr (λ o z. z, inr (λ o z. z, inr (λ o z. z, first_after line_reasons index_reasons limit graph (commands.Set target key value) refusals.FullIndex free (inr (λ o z. z, inl full))))))))))))
 
-set_free : (limit : ℕ) (graph : Graph) (target : Target) (key : List ℕ) (value : Value) → has_element graph target ≡ true → Never (index_full limit graph (commands.Set target key value)) → NoReason line_reasons limit graph (commands.Set target key value)
+set_free : (limit : ℕ) (graph : Graph) (target : Target) (key : List ℕ) (value : Value) → has_element graph target ≡ true
+    → Never (index_full limit graph (commands.Set target key value)) → NoReason line_reasons limit graph (commands.Set target key value)
     → NoReason change_reasons limit graph (commands.Set target key value)
 set_free limit graph target key value there fits free =
     let k = set_there limit graph target key value there in
     (λ o z. z, (λ o z. z, (λ o z. z, (λ o z. z, (k.0, (k.1, (λ o z. z, (λ o z. z, (λ o z. z, (λ o z. z, none_both line_reasons index_reasons limit graph (commands.Set target key value) free (λ o z. z, (fits, tt))))))))))))
 
-pub set_missing : (limit : ℕ) (graph : Graph) (target : Target) (key : List ℕ) (value : Value) (fault : ChangeFault) → IsMissing graph target fault → IsRefusal limit graph (commands.Set target key value) fault
+pub set_missing : (limit : ℕ) (graph : Graph) (target : Target) (key : List ℕ) (value : Value) (fault : ChangeFault) → IsMissing graph target fault
+    → IsRefusal limit graph (commands.Set target key value) fault
 set_missing limit graph target key value (NoNode id) h =
-    subst (λ t. IsRefusal limit graph (commands.Set t key value) (NoNode id)) (sym h.0) (inr (λ o z. z, inr (λ o z. z, inr (λ o z. z, inr (λ o z. z, inl (h.1, refl))))))
+    subst (λ t. IsRefusal limit graph (commands.Set t key value) (NoNode id)) (sym h.0)
+    (inr (λ o z. z, inr (λ o z. z, inr (λ o z. z, inr (λ o z. z, inl (h.1, refl))))))
 set_missing limit graph target key value (NoEdge id) h =
-    subst (λ t. IsRefusal limit graph (commands.Set t key value) (NoEdge id)) (sym h.0) (inr (λ o z. z, inr (λ o z. z, inr (λ o z. z, inr (λ o z. z, inr (λ o z. z, inl (h.1, refl)))))))
+    subst (λ t. IsRefusal limit graph (commands.Set t key value) (NoEdge id)) (sym h.0)
+    (inr (λ o z. z, inr (λ o z. z, inr (λ o z. z, inr (λ o z. z, inr (λ o z. z, inl (h.1, refl)))))))
 set_missing limit graph target key value (HasRelationships id degree) h = absurd h
 set_missing limit graph target key value IndexThere h = absurd h
 set_missing limit graph target key value TooManyIndexes h = absurd h
@@ -297,22 +327,26 @@ properties_renamed : (g : Graph) (names : List (List ℕ)) (target : Target) →
 properties_renamed g names (targets.Node id) = refl
 properties_renamed g names (targets.Edge id) = refl
 
-value_renamed : (g : Graph) (names : List (List ℕ)) (target : Target) (key : List ℕ) (value : Value) → with_value (record g { names = names }) target key value ≡ record (with_value g target key value) { names = names }
+value_renamed : (g : Graph) (names : List (List ℕ)) (target : Target) (key : List ℕ) (value : Value)
+    → with_value (record g { names = names }) target key value ≡ record (with_value g target key value) { names = names }
 value_renamed g names (targets.Node id) key value = refl
 value_renamed g names (targets.Edge id) key value = refl
 
 -- ---- a value that is set
-module _ (s : State) (old : List (List ℕ)) (target : Target) (key : List ℕ) (value : Value) (store : IsMidway s old) (there : has_element (graph_in s) target ≡ true) where
+module _ (s : State) (old : List (List ℕ)) (target : Target) (key : List ℕ) (value : Value) (store : IsMidway s old)
+    (there : has_element (graph_in s) target ≡ true) where
   -- a key that is one name too many
   pub set_unnamed : (fault : InternFault) → IsFullFault old key fault → IsRefusal s.shape.limit (graph_in s) (commands.Set target key value) (of_intern fault)
   set_unnamed (intern.NamesFull count) why =
       let lacks = first_lacks old key [] why.all why.new in
-      set_first s.shape.limit (graph_in s) target key value refusals.FullNames there (inl (lacks.0, subst (λ l. UsesNames l (key ∷ []) lacks.0) store.names lacks.1, lacks.2, refl))
+      set_first s.shape.limit (graph_in s) target key value refusals.FullNames there
+      (inl (lacks.0, subst (λ l. UsesNames l (key ∷ []) lacks.0) store.names lacks.1, lacks.2, refl))
   set_unnamed intern.Memory why = tt
   set_unnamed intern.Disk why = tt
 
   -- the key has its number
-  module _ (t : State) (new : List (List ℕ)) (number : ℕ) (owner : Owner) (is : owner ≡ owner_of target) (uses : UsesName old key new) (kept : KeepsElements s t new) (few : length new ≤ most_names)
+  module _ (t : State) (new : List (List ℕ)) (number : ℕ) (owner : Owner) (is : owner ≡ owner_of target) (uses : UsesName old key new)
+      (kept : KeepsElements s t new) (few : length new ≤ most_names)
       (at : slice_get new number ≡ Some key) where
     graph_same : graph_in t ≡ record (graph_in s) { names = (graph_in t).names }
     graph_same = λ i. record { nodes = kept.nodes i; edges = kept.edges i; names = (graph_in t).names; indexes = kept.indexes i }
@@ -339,7 +373,8 @@ module _ (s : State) (old : List (List ℕ)) (target : Target) (key : List ℕ) 
     element_with : set_properties t owner number value ≡ maps.insert (properties_at (graph_in s) target) key value
     element_with = ap (λ m. maps.insert m (text_at t number) value) properties_are ∙ ap (λ k. maps.insert (properties_at (graph_in s) target) k value) text
 
-    graph_with : with_value (graph_in t) (target_of owner) (text_at t number) value ≡ record (with_value (graph_in s) target key value) { names = (graph_in t).names }
+    graph_with : with_value (graph_in t) (target_of owner) (text_at t number) value ≡ record (with_value (graph_in s) target key value)
+        { names = (graph_in t).names }
     graph_with =
         ap (λ z. with_value (graph_in t) z (text_at t number) value) whose ∙ ap (λ k. with_value (graph_in t) target k value) text
         ∙ ap (λ g. with_value g target key value) graph_same ∙ value_renamed (graph_in s) (graph_in t).names target key value
@@ -350,13 +385,16 @@ module _ (s : State) (old : List (List ℕ)) (target : Target) (key : List ℕ) 
     names_free : (o : Refusal) → ¬ names_full s.shape.limit (graph_in s) (commands.Set target key value) o
     names_free o z = let e = ap length (uses_once (graph_in s).names (key ∷ []) z.0 new z.1 names_used) in let more = z.2 in absurd (omega arith)
 
-    few_free : maps.len (set_properties t owner number value) ≤ 32 → (o : Refusal) → ¬ too_many_properties s.shape.limit (graph_in s) (commands.Set target key value) o
+    few_free : maps.len (set_properties t owner number value) ≤ 32 → (o : Refusal)
+        → ¬ too_many_properties s.shape.limit (graph_in s) (commands.Set target key value) o
     few_free fits o z = let e = ap maps.len element_with in let more = z.0 in absurd (omega arith)
 
     -- there is no room for the value
-    pub set_refused : (fault : SetFault) → IsSetRefusal t owner number value fault → IsRefusal s.shape.limit (graph_in s) (commands.Set target key value) (of_set fault)
+    pub set_refused : (fault : SetFault) → IsSetRefusal t owner number value fault
+        → IsRefusal s.shape.limit (graph_in s) (commands.Set target key value) (of_set fault)
     set_refused (sets.PropsFull count) h =
-        set_first s.shape.limit (graph_in s) target key value refusals.TooManyProperties there (inr (names_free, inl (let e = ap maps.len element_with in let more = h.1 in omega arith, refl)))
+        set_first s.shape.limit (graph_in s) target key value refusals.TooManyProperties there
+        (inr (names_free, inl (let e = ap maps.len element_with in let more = h.1 in omega arith, refl)))
     set_refused (sets.Full file live) h = ⊎_elim
         (λ (k : (file ≡ format.properties_file) × (t.shape.limit < properties_with t owner number value)). subst (λ f. IsRefusal s.shape.limit (graph_in s) (commands.Set target key value) (Full f live)) (sym k.0)
         (set_first s.shape.limit (graph_in s) target key value refusals.FullProperties there
@@ -370,7 +408,8 @@ module _ (s : State) (old : List (List ℕ)) (target : Target) (key : List ℕ) 
         limit_same : t.shape.limit ≡ s.shape.limit
         limit_same = ap (λ (z : Shape). z.limit) kept.shape
 
-        room_free : properties_with t owner number value ≤ t.shape.limit → (o : Refusal) → ¬ properties_full s.shape.limit (graph_in s) (commands.Set target key value) o
+        room_free : properties_with t owner number value ≤ t.shape.limit → (o : Refusal)
+            → ¬ properties_full s.shape.limit (graph_in s) (commands.Set target key value) o
         room_free fits o z = let e = ap property_count graph_with in let l = limit_same in let more = z.0 in absurd (omega arith)
     set_refused sets.Memory h = tt
     set_refused sets.Disk h = tt
@@ -382,7 +421,8 @@ module _ (s : State) (old : List (List ℕ)) (target : Target) (key : List ℕ) 
 
     -- the value stands at the key
     -- there is no room for its entry
-    pub entry_refused : (u : State) (released : ℕ) → SetsValue t u owner number value released → u.shape ≡ t.shape → index_full s.shape.limit (graph_in s) (commands.Set target key value) refusals.FullIndex
+    pub entry_refused : (u : State) (released : ℕ) → SetsValue t u owner number value released → u.shape ≡ t.shape
+        → index_full s.shape.limit (graph_in s) (commands.Set target key value) refusals.FullIndex
         → (live : ℕ) → IsRefusal s.shape.limit (graph_in s) (commands.Set target key value) (Full format.index_file live)
     entry_refused u released h shape full live =
         let put : graph_in u ≡ record (with_value (graph_in s) target key value) { names = (graph_in t).names } = h.graph ∙ graph_with in
@@ -400,8 +440,10 @@ module _ (s : State) (old : List (List ℕ)) (target : Target) (key : List ℕ) 
           ),
         ) full
 
-    pub set_value : (u v : State) (released entries weight : ℕ) → SetsValue t u owner number value released → u.shape ≡ t.shape → weight ≡ 2 + blocks_of value + released + (length new - length old) + entries
-        → IsStore v new → graph_in v ≡ graph_in u → element_weight (graph_in s) target (is_text key) (maps.insert (properties_at (graph_in s) target) key value) ≡ entries
+    pub set_value : (u v : State) (released entries weight : ℕ) → SetsValue t u owner number value released → u.shape ≡ t.shape
+        → weight ≡ 2 + blocks_of value + released + (length new - length old) + entries
+        → IsStore v new → graph_in v ≡ graph_in u → element_weight (graph_in s) target (is_text key)
+        (maps.insert (properties_at (graph_in s) target) key value) ≡ entries
         → (graph_in v ≡ record (with_value (graph_in s) target key value) { names = (graph_in t).names } → Never (index_full s.shape.limit (graph_in s) (commands.Set target key value))) → MakesChange (commands.Set target key value) Done weight s v new
     set_value u v released entries weight h shape weighs whole last w fits =
         let put : graph_in u ≡ record (with_value (graph_in s) target key value) { names = (graph_in t).names } = h.graph ∙ graph_with in
@@ -425,8 +467,10 @@ module _ (s : State) (old : List (List ℕ)) (target : Target) (key : List ℕ) 
           weighs = (
             length new - length (graph_in s).names,
             needs_names (graph_in s).names (key ∷ []) new names_used,
-            let all = weighs ∙ ap (λ n. 2 + blocks_of value + n + (length new - length old) + entries) (h.released_is ∙ ap (λ m. blocks_at m (text_at t number)) properties_are ∙ ap (blocks_at (properties_at (graph_in s) target)) text)
-                ∙ ap (λ (l : List (List ℕ)). 2 + blocks_of value + blocks_at (properties_at (graph_in s) target) key + (length new - length l) + entries) store.names in
+            let all = weighs ∙ ap (λ n. 2 + blocks_of value + n + (length new - length old) + entries)
+                (h.released_is ∙ ap (λ m. blocks_at m (text_at t number)) properties_are ∙ ap (blocks_at (properties_at (graph_in s) target)) text)
+                ∙ ap (λ (l : List (List ℕ)). 2 + blocks_of value + blocks_at (properties_at (graph_in s) target) key + (length new - length l) + entries)
+                store.names in
                 omega arith,
           );
           free = set_free s.shape.limit (graph_in s) target key value there (fits graph) (

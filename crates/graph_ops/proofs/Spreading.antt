@@ -20,10 +20,12 @@ IsSpread {X} of = (xs ys : List X) → of (xs ++ ys) ≡ of xs ++ of ys
 
 pub edges_spread : (label : List ℕ) (to : ℕ) (pairs : List Pair) → IsSpread (changes_of (mutations.AddE label to pairs))
 edges_spread label to pairs xs ys =
-    ap (map (λ from. commands.Edge from label to pairs)) (filter_map-append vertex_id xs ys) ∙ map-append (λ from. commands.Edge from label to pairs) (vertices_of xs) (vertices_of ys)
+    ap (map (λ from. commands.Edge from label to pairs)) (filter_map-append vertex_id xs ys)
+    ∙ map-append (λ from. commands.Edge from label to pairs) (vertices_of xs) (vertices_of ys)
 
 pub items_spread : (pairs : List Pair) → IsSpread (changes_of (mutations.Property pairs))
-items_spread pairs xs ys = ap (flat_map (settings pairs)) (filter_map-append target_of xs ys) ∙ flat_map-append (settings pairs) (elements_of xs) (elements_of ys)
+items_spread pairs xs ys = ap (flat_map (settings pairs)) (filter_map-append target_of xs ys)
+    ∙ flat_map-append (settings pairs) (elements_of xs) (elements_of ys)
 
 pub pairs_spread : (target : Target) → IsSpread (λ (pairs : List Pair). settings pairs target)
 pairs_spread target xs ys = map-append (λ (pair : Pair). commands.Set target pair.key pair.value) xs ys
@@ -65,7 +67,8 @@ settings_all (pair ∷ later) target = (tt, settings_all later target)
 
 values_all : (pairs : List Pair) (targets : List Target) → AreAll IsOfElement (flat_map (settings pairs) targets)
 values_all pairs [] = tt
-values_all pairs (target ∷ later) = all_both IsOfElement (settings pairs target) (flat_map (settings pairs) later) (settings_all pairs target) (values_all pairs later)
+values_all pairs (target ∷ later) = all_both IsOfElement (settings pairs target) (flat_map (settings pairs) later) (settings_all pairs target)
+    (values_all pairs later)
 
 pub items_all : (pairs : List Pair) (results : List Item) → AreAll IsOfElement (changes_of (mutations.Property pairs) results)
 items_all pairs results = values_all pairs (elements_of results)

@@ -16,14 +16,17 @@ use Rattle.graph_ops.specs.Rooms.{HasRoom}
 use Rattle.graph_ops.specs.Store.{IsMidway}
 
 -- a file of a store can give an identifier, unless it is full
-pub kept_can_take : (s : State) {most : ℕ} {empty : List ℕ} (file : ℕ) (reused : is_reused file ≡ true) → is_meta_file file ≡ true → (well : KeepsRules s.records s.shape most empty) → CanTake s file (well.split file reused).0
+pub kept_can_take : (s : State) {most : ℕ} {empty : List ℕ} (file : ℕ) (reused : is_reused file ≡ true) → is_meta_file file ≡ true
+    → (well : KeepsRules s.records s.shape most empty) → CanTake s file (well.split file reused).0
 kept_can_take s file reused is well = let k = well.split file reused in can_take s file k.0 (well.ranges.metas file is).high k.1
 
-pub store_can_take : (s : State) (names : List (List ℕ)) (file : ℕ) (reused : is_reused file ≡ true) → is_meta_file file ≡ true → (store : IsMidway s names) → CanTake s file (store.store.split file reused).0
+pub store_can_take : (s : State) (names : List (List ℕ)) (file : ℕ) (reused : is_reused file ≡ true) → is_meta_file file ≡ true → (store : IsMidway s names)
+    → CanTake s file (store.store.split file reused).0
 store_can_take s names file reused is store = kept_can_take s file reused is store.store
 
 -- so only the machine can fail
-pub take_outside : (s : State) (file : ℕ) (fault : TakeFault) → HasRoom s file 1 → IsTakeFault s file fault → NotDamaged {T = ℕ} (Err fault) → IsOutside (of_take fault)
+pub take_outside : (s : State) (file : ℕ) (fault : TakeFault) → HasRoom s file 1 → IsTakeFault s file fault → NotDamaged {T = ℕ} (Err fault)
+    → IsOutside (of_take fault)
 take_outside s file (take.Full full live) room why ok = absurd (let a = why.1 in let b = why.2 in omega arith)
 take_outside s file take.Memory room why ok = tt
 take_outside s file take.Disk room why ok = tt

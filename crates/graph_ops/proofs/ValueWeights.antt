@@ -2,7 +2,8 @@
 use Rattle.std.specs.FinMap as maps
 use Rattle.std.specs.Prelude.{is_some}
 use Rattle.std.specs.List.{sum_by}
-use Rattle.std.proofs.Common.{◌≡◌, ◌≢◌, ℕ, ◌+◌, ◌<◌, nat_eq, Bool, true, false, ◌&&◌, if◌then◌else◌, cond, Option, None, Some, List, [], ◌∷◌, find, ap, sym, ◌∙◌, arith, refl}
+use Rattle.std.proofs.Common.{◌≡◌, ◌≢◌, ℕ, ◌+◌, ◌<◌, nat_eq, Bool, true, false, ◌&&◌, if◌then◌else◌, cond, Option, None}
+use Rattle.std.proofs.Common.{Some, List, [], ◌∷◌, find, ap, sym, ◌∙◌, arith, refl}
 use Rattle.std.proofs.lemmas.List.Sums.{sum_by-cons}
 use Rattle.plain_graph.specs.Graph.{Graph, Index, Node, node_number, node_properties, properties_at}
 use Rattle.plain_graph.specs.Indexes.{element_weight, entries_weight, entry_weight, node_weight}
@@ -59,23 +60,30 @@ module _ (s : Records) (id : ℕ) (used : kind_at s format.nodes_file id ≢ for
   abbrev pub label_number : ℕ
   label_number = field 4 (rec_at s format.nodes_file id) format.node_label
 
-  pub node_is : find (λ node. nat_eq (node_number node) id) (graph_of s).nodes ≡ node_from (rec_at s format.names_file) (property_records s) (Some (node_in (rec_at s format.nodes_file id) id))
+  pub node_is : find (λ node. nat_eq (node_number node) id) (graph_of s).nodes ≡ node_from (rec_at s format.names_file) (property_records s)
+      (Some (node_in (rec_at s format.nodes_file id) id))
   node_is =
-      find_collect node_number (node_of s) (high s format.nodes_file) id (nodes_numbered s) (kind_below (high s format.nodes_file) (rec_at s format.nodes_file id) id used)
-      ∙ ap (node_from (rec_at s format.names_file) (property_records s)) (row_some (kind_at s format.nodes_file id) (node_in (rec_at s format.nodes_file id) id) used)
+      find_collect node_number (node_of s) (high s format.nodes_file) id (nodes_numbered s)
+      (kind_below (high s format.nodes_file) (rec_at s format.nodes_file id) id used)
+      ∙ ap (node_from (rec_at s format.names_file) (property_records s))
+      (row_some (kind_at s format.nodes_file id) (node_in (rec_at s format.nodes_file id) id) used)
 
-  pub node_weighs : (is_touched : List ℕ → Bool) (after : Properties) → element_weight (graph_of s) (targets.Node id) is_touched after ≡ entries_weight (graph_of s) (text s label_number) is_touched (properties_at (graph_of s) (targets.Node id)) after
+  pub node_weighs : (is_touched : List ℕ → Bool) (after : Properties) → element_weight (graph_of s) (targets.Node id) is_touched after ≡ entries_weight
+      (graph_of s) (text s label_number) is_touched (properties_at (graph_of s) (targets.Node id)) after
   node_weighs is_touched after =
       ap (λ o. node_weight (graph_of s) o is_touched after) node_is
       ∙ ap (λ p. entries_weight (graph_of s) (text s label_number) is_touched p after) (sym (ap node_properties node_is))
 
-  module _ (shape : Shape) (store : IsWellFormed s shape) (wanted : Entries) (ix : AreIndexed s wanted) (key : ℕ) (key_low : key < high s format.names_file) where
-    label_low : label_number < high s format.names_file
-    label_low = store.named.nodes_named id (node_in (rec_at s format.nodes_file id) id) (row_some (kind_at s format.nodes_file id) (node_in (rec_at s format.nodes_file id) id) used)
+  module _ (shape : Shape) (store : IsWellFormed s shape) (wanted : Entries) (ix : AreIndexed s wanted) (key : ℕ) (key_low : key < high s format.names_file)
+    where
+      label_low : label_number < high s format.names_file
+      label_low = store.named.nodes_named id (node_in (rec_at s format.nodes_file id) id)
+          (row_some (kind_at s format.nodes_file id) (node_in (rec_at s format.nodes_file id) id) used)
 
-    -- A change of the key weighs what it does where the pair has an index, and else nothing.
-    pub key_weighs : (after : Properties) → element_weight (graph_of s) (targets.Node id) (is_text (text s key)) after
-        ≡ cond (is_among s ix.definitions label_number key) (entry_weight (properties_at (graph_of s) (targets.Node id)) (text s key) + entry_weight after (text s key)) 0
-    key_weighs after =
-        node_weighs (is_text (text s key)) after
-        ∙ pair_weight s shape store wanted ix label_number key label_low key_low (λ k. entry_weight (properties_at (graph_of s) (targets.Node id)) k + entry_weight after k)
+      -- A change of the key weighs what it does where the pair has an index, and else nothing.
+      pub key_weighs : (after : Properties) → element_weight (graph_of s) (targets.Node id) (is_text (text s key)) after
+          ≡ cond (is_among s ix.definitions label_number key) (entry_weight (properties_at (graph_of s) (targets.Node id)) (text s key) + entry_weight after (text s key)) 0
+      key_weighs after =
+          node_weighs (is_text (text s key)) after
+          ∙ pair_weight s shape store wanted ix label_number key label_low key_low
+          (λ k. entry_weight (properties_at (graph_of s) (targets.Node id)) k + entry_weight after k)

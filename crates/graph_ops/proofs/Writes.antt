@@ -24,7 +24,8 @@ own_record (targets.Node id) = refl
 own_record (targets.Edge id) = refl
 
 -- what a change of an element's properties touches, counted
-pub touched_written : {tells : Type 0} {key : Key} {n m : ℕ} {s t : State} → is_meta_file key.file ≡ true → TouchesProperties tells (key ∷ []) n m s t → WritesAtMost (1 + (n + m)) s t
+pub touched_written : {tells : Type 0} {key : Key} {n m : ℕ} {s t : State} → is_meta_file key.file ≡ true → TouchesProperties tells (key ∷ []) n m s t
+    → WritesAtMost (1 + (n + m)) s t
 touched_written {tells} {key} {n} {m} {s} {t} own h = beside_written own (touched_beside n m (n + m) s t key (omega arith) h)
 
 -- ---- single calls

@@ -7,7 +7,8 @@ use Rattle.plain_graph.specs.declared.pairs.Pair.{Pair}
 use Rattle.plain_graph.specs.declared.value.Value.TheVariants as values
 use Rattle.graph_ops.specs.Assigning.{IsAssignCount, IsAssignFault, pair_at}
 use Rattle.graph_ops.specs.ChangeFault.{of_intern}
-use Rattle.graph_ops.proofs.Assigned.{IsSoFar, all_assigned, all_used, assign_refused, few_after, few_named, few_then, items_most, none_so_far, one_more, pair_form, too_many}
+use Rattle.graph_ops.proofs.Assigned.{IsSoFar, all_assigned, all_used, assign_refused, few_after, few_named, few_then}
+use Rattle.graph_ops.proofs.Assigned.{items_most, none_so_far, one_more, pair_form, too_many}
 use Rattle.graph_ops.proofs.Counted.{count_full}
 use Rattle.graph_ops.proofs.Exits.{fault_exit}
 use Rattle.graph_ops.proofs.Interned.{keeps_interned, keeps_same, keeps_then, metas_same, metas_then, name_written, one_written}
@@ -26,7 +27,8 @@ pub loop-place-init : goal.loop-place-init
 loop-place-init g c =
     let s = g.S.Reads.state c.args.space.now in
     record {
-      so_far = subst (IsSoFar c.args.names.now.names c.args.names.now.names c.args.pairs.now 0) (sym c.new-assigned.ensures) (none_so_far c.args.names.now.names c.args.pairs.now c.requires.names);
+      so_far = subst (IsSoFar c.args.names.now.names c.args.names.now.names c.args.pairs.now 0) (sym c.new-assigned.ensures)
+          (none_so_far c.args.names.now.names c.args.pairs.now c.requires.names);
       stays = λ tells q other no_meta. refl;
       kept = λ tells few store. keeps_same s c.args.names.now.names store;
       metas = λ tells. metas_same s;
@@ -54,7 +56,8 @@ returns-in_err-key-clause-refused g c =
     c.loop-place.invariant.so_far c.loop-place-test.true c.in_err-key.field-0.0 c.in_err-key.ensures.full_only)
 
 pub returns-in_err-key-clause-counts : goal.returns-in_err-key-clause-counts
-returns-in_err-key-clause-counts g c = fault_exit of_intern IsAssignCount c.in_err-key.field-0.0 c.from_residual.result c.from_residual.ensures.1 (count_full c.loop-place.names.names c.as_bytes.result.now c.in_err-key.field-0.0 c.in_err-key.ensures.full_only)
+returns-in_err-key-clause-counts g c = fault_exit of_intern IsAssignCount c.in_err-key.field-0.0 c.from_residual.result c.from_residual.ensures.1
+    (count_full c.loop-place.names.names c.as_bytes.result.now c.in_err-key.field-0.0 c.in_err-key.ensures.full_only)
 
 -- the keys are few where there is room for one more
 few_true : (g : Over) (c : After-as_bytes g) → length c.loop-place.assigned.items ≤ 32 → not c.is_full-are_few.result ≡ true
@@ -86,7 +89,8 @@ loop-place-preserved g c =
     let u = g.S.Reads.state c.number_key.new.space in
     let uses = c.in_ok-key.ensures.names in
     let room : ¬ Contains names text → length names ≢ most_names = λ lacks all. absurd (let e = c.in_ok-key.ensures.full all lacks in cc) in
-    let now = one_more old names new c.args.pairs.now c.loop-place.place c.in_ok-key.key items assigned text (key_is g at) inv.so_far c.loop-place-test.true (short g at) uses c.in_ok-key.ensures.number room c.assign.ensures in
+    let now = one_more old names new c.args.pairs.now c.loop-place.place c.in_ok-key.key items assigned text (key_is g at) inv.so_far c.loop-place-test.true
+    (short g at) uses c.in_ok-key.ensures.number room c.assign.ensures in
     let most = items_most old names c.args.pairs.now c.loop-place.place items inv.so_far in
     let grows = placed_grows c.in_ok-key.key c.loop-place.place items assigned most c.assign.ensures in
     let longer = name_long names text new uses in
@@ -104,13 +108,15 @@ loop-place-preserved g c =
       writes = λ few.
           let before : length items ≤ 32 = omega arith in
           more_written (omega arith) (then_written (inv.writes before) written);
-      few_writes = few_then s t u old names new c.args.pairs.now c.loop-place.place c.in_ok-key.key items assigned text inv.so_far uses c.in_ok-key.ensures.number c.assign.ensures inv.few_writes written (λ many. c.number_key.ensures.held (few_false g at many));
+      few_writes = few_then s t u old names new c.args.pairs.now c.loop-place.place c.in_ok-key.key items assigned text inv.so_far uses
+          c.in_ok-key.ensures.number c.assign.ensures inv.few_writes written (λ many. c.number_key.ensures.held (few_false g at many));
       onward_is = g.met.S.Reads.further_onward c.args.space.now c.loop-place.space c.number_key.new.space inv.onward_is c.number_key.ensures.onward;
       later = let a = inv.later in let b = c.number_key.ensures.cause.later in omega arith;
     }
 
 -- all pairs are assigned at the end
-whole : (g : Over) (c : After-len g) → IsSoFar c.args.names.now.names c.loop-place.names.names c.args.pairs.now (length c.args.pairs.now) c.loop-place.assigned.items
+whole : (g : Over) (c : After-len g) → IsSoFar c.args.names.now.names c.loop-place.names.names c.args.pairs.now (length c.args.pairs.now)
+    c.loop-place.assigned.items
 whole g c =
     let ends : c.loop-place.place ≡ length c.args.pairs.now = omega arith in
     subst (λ n. IsSoFar c.args.names.now.names c.loop-place.names.names c.args.pairs.now n c.loop-place.assigned.items) ends c.loop-place.invariant.so_far
@@ -124,10 +130,12 @@ returns-then-len-clause-refused g c =
 
 pub returns-clause-assigned : goal.returns-clause-assigned
 returns-clause-assigned g c =
-    all_assigned c.args.names.now.names c.loop-place.names.names c.args.pairs.now c.loop-place.assigned.items (whole g (goal.at.returns-clause-assigned g c).After-len) (let e = c.len.ensures.value in omega arith)
+    all_assigned c.args.names.now.names c.loop-place.names.names c.args.pairs.now c.loop-place.assigned.items
+    (whole g (goal.at.returns-clause-assigned g c).After-len) (let e = c.len.ensures.value in omega arith)
 
 pub returns-clause-uses : goal.returns-clause-uses
-returns-clause-uses g c = all_used c.args.names.now.names c.loop-place.names.names c.args.pairs.now c.loop-place.assigned.items (whole g (goal.at.returns-clause-uses g c).After-len)
+returns-clause-uses g c = all_used c.args.names.now.names c.loop-place.names.names c.args.pairs.now c.loop-place.assigned.items
+    (whole g (goal.at.returns-clause-uses g c).After-len)
 
 pub returns-in_err-key-clause-prefix : goal.returns-in_err-key-clause-prefix
 returns-in_err-key-clause-prefix g c =
@@ -142,14 +150,16 @@ returns-clause-prefix g c = uses_prefix c.args.names.now.names _ c.loop-place.na
 
 pub returns-clause-few_names : goal.returns-clause-few_names
 returns-clause-few_names g c =
-    few_named c.args.names.now.names c.loop-place.names.names c.args.pairs.now c.loop-place.assigned.items (whole g (goal.at.returns-clause-few_names g c).After-len) (let e = c.len.ensures.value in omega arith)
+    few_named c.args.names.now.names c.loop-place.names.names c.args.pairs.now c.loop-place.assigned.items
+    (whole g (goal.at.returns-clause-few_names g c).After-len) (let e = c.len.ensures.value in omega arith)
 
 pub returns-in_err-key-clause-few_writes : goal.returns-in_err-key-clause-few_writes
 returns-in_err-key-clause-few_writes g c =
     let inv = c.loop-place.invariant in
     let at = (goal.at.returns-in_err-key-clause-few_writes g c).After-as_bytes in
     few_after (g.S.Reads.state c.args.space.now) (g.S.Reads.state c.loop-place.space) (g.S.Reads.state c.number_key.new.space) c.loop-place.assigned.items
-    (items_most c.args.names.now.names c.loop-place.names.names c.args.pairs.now c.loop-place.place c.loop-place.assigned.items inv.so_far) inv.few_writes (one_written _ _ _ c.number_key.ensures.writes) (λ many. c.number_key.ensures.held (few_false g at many))
+    (items_most c.args.names.now.names c.loop-place.names.names c.args.pairs.now c.loop-place.place c.loop-place.assigned.items inv.so_far) inv.few_writes
+    (one_written _ _ _ c.number_key.ensures.writes) (λ many. c.number_key.ensures.held (few_false g at many))
 
 pub returns-clause-stays : goal.returns-clause-stays
 returns-clause-stays g c tells = c.loop-place.invariant.stays tells

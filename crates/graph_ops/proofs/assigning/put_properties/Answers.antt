@@ -61,7 +61,8 @@ inside : (g : Over) (c : After-index-pairs-assignment g) → (this g c).pair < l
 inside g c = c.requires.placed c.loop-assignment.assignment-index (record { key = 0; pair = 0 }) c.loop-assignment-test.true
 
 -- its value is that of its pair
-value_is : (g : Over) (c : After-index-pairs-assignment g) → (get_or c.args.pairs.now (this g c).pair c.index-pairs-assignment.result).value ≡ (pair_at c.args.pairs.now (this g c).pair).value
+value_is : (g : Over) (c : After-index-pairs-assignment g) → (get_or c.args.pairs.now (this g c).pair c.index-pairs-assignment.result).value
+    ≡ (pair_at c.args.pairs.now (this g c).pair).value
 value_is g c = ap (λ (p : Pair). p.value) (sym c.index-pairs-assignment.is ∙ get_or_read c.args.pairs.now (this g c).pair c.index-pairs-assignment.result (inside g c) c.index-pairs-assignment.is (record { key = []; value = values.Text [] }))
 
 pub add-requires-clause-kept : goal.add-requires-clause-kept
@@ -99,8 +100,10 @@ loop-assignment-preserved g c =
           let es = listed_at t (owner_of target) owned has in
           let few = key_fits s t names target pairs assigned i can c.requires.few put lt shape in
           let count = count_is t (owner_of target) owned has in
-          let sets = alone es (owns_listed t (owner_of target) owned has) there.known (lacks_key t (owner_of target) owned has (this g at).key none) (omega arith) in
-          more_given t.records u.records (wanted_in s.records) (label_at s.records id) id pairs assigned i (record { key = 0; pair = 0 }) value lt (value_is g at)
+          let sets = alone es (owns_listed t (owner_of target) owned has) there.known (lacks_key t (owner_of target) owned has (this g at).key none)
+          (omega arith) in
+          more_given t.records u.records (wanted_in s.records) (label_at s.records id) id pairs assigned i (record { key = 0; pair = 0 }) value lt
+          (value_is g at)
           (subst (λ l. ChangesValue t.records u.records l (this g at).key id None (Some value)) (label_kept s.records t.records id put.keeps) (added_value t u id (this g at).key value owned there none sets))
           (inv.values tells names id is can);
       indexes = λ tells names id is can.
@@ -109,13 +112,18 @@ loop-assignment-preserved g c =
           let lt = c.loop-assignment-test.true in
           let shape = inv.shape tells in
           let added = subst (λ (o : Owner). HasKey t o (this g at).key → maps.get (properties_of t o) (text_at t (this g at).key) ≡ None → maps.len (properties_of t o) < 32 → SetsValue t u o (this g at).key value 0) is (c.in_ok-add.ensures.added tells) in
-          let sets = added (key_there s t names target pairs assigned i can c.requires.few put lt shape) (key_new s t names target pairs assigned i can c.requires.few put lt shape) (key_fits s t names target pairs assigned i can c.requires.few put lt shape) in
-          λ are. properties_keep t u t.shape format.relationships_file id sets.changes.before sets.changes.after sets.changes.changes refl put.store.store (inv.indexes tells names id is can are);
+          let sets = added (key_there s t names target pairs assigned i can c.requires.few put lt shape)
+          (key_new s t names target pairs assigned i can c.requires.few put lt shape)
+          (key_fits s t names target pairs assigned i can c.requires.few put lt shape) in
+          λ are. properties_keep t u t.shape format.relationships_file id sets.changes.before sets.changes.after sets.changes.changes refl put.store.store
+          (inv.indexes tells names id is can are);
       shape = λ tells. (g.met.S.Reads.onward_shape _ _ c.add.ensures.onward) ∙ inv.shape tells;
       harmless = λ tells. no_lists_then s t u (inv.harmless tells) (c.in_ok-add.ensures.harmless tells);
-      beside = λ tells damage of. properties_leave g.S.Reads.tells _ _ t u c.args.owner c.requires.owner.file tells c.add.ensures.touches damage of ∙ inv.beside tells damage of;
+      beside = λ tells damage of. properties_leave g.S.Reads.tells _ _ t u c.args.owner c.requires.owner.file tells c.add.ensures.touches damage of
+          ∙ inv.beside tells damage of;
       writes =
-          let more = sum_by_more (λ (a : Assignment). blocks_of (pair_at pairs a.pair).value) assigned i (record { key = 0; pair = 0 }) c.loop-assignment-test.true in
+          let more = sum_by_more (λ (a : Assignment). blocks_of (pair_at pairs a.pair).value) assigned i (record { key = 0; pair = 0 })
+          c.loop-assignment-test.true in
           let same = ap blocks_of (value_is g at) in
           beside_more (omega arith) (beside_then inv.writes c.in_ok-add.ensures.writes);
       onward_is = g.met.S.Reads.further_onward c.args.space.now c.loop-assignment.space c.add.new.space inv.onward_is c.add.ensures.onward;
@@ -143,7 +151,8 @@ returns-in_err-add-clause-sound g c tells names target is can room =
 
 pub returns-clause-put : goal.returns-clause-put
 returns-clause-put g c tells names target is can =
-    all_put (g.S.Reads.state c.args.space.now) (g.S.Reads.state c.loop-assignment.space) names target c.args.pairs.now c.args.assigned.now c.loop-assignment.assignment-index c.loop-assignment-test.false (c.loop-assignment.invariant.put tells names target is can)
+    all_put (g.S.Reads.state c.args.space.now) (g.S.Reads.state c.loop-assignment.space) names target c.args.pairs.now c.args.assigned.now
+    c.loop-assignment.assignment-index c.loop-assignment-test.false (c.loop-assignment.invariant.put tells names target is can)
 
 pub returns-clause-values : goal.returns-clause-values
 returns-clause-values g c tells names id is can =
@@ -155,14 +164,16 @@ returns-clause-values g c tells names id is can =
     record {
       file = index_kept s.records t.records (targets.Node id) put.keeps;
       values = λ e. c.loop-assignment.invariant.values tells names id is can e
-          ∙ ap (λ (l : List Assignment). with_assigned (wanted_in s.records) (label_at s.records id) id c.args.pairs.now l e) (take_all i assigned c.loop-assignment-test.false);
+          ∙ ap (λ (l : List Assignment). with_assigned (wanted_in s.records) (label_at s.records id) id c.args.pairs.now l e)
+          (take_all i assigned c.loop-assignment-test.false);
     }
 
 pub returns-clause-indexes : goal.returns-clause-indexes
 returns-clause-indexes g c tells names id is can = c.loop-assignment.invariant.indexes tells names id is can
 
 pub returns-in_err-add-clause-late : goal.returns-in_err-add-clause-late
-returns-in_err-add-clause-late g c tells = fault_exit of_set MayComeLate c.in_err-add.field-0.0 c.from_residual.result c.from_residual.ensures.1 (set_late _ _ _ (g.S.Reads.state c.add.new.space) c.in_err-add.field-0.0 (c.in_err-add.ensures.caused tells))
+returns-in_err-add-clause-late g c tells = fault_exit of_set MayComeLate c.in_err-add.field-0.0 c.from_residual.result c.from_residual.ensures.1
+    (set_late _ _ _ (g.S.Reads.state c.add.new.space) c.in_err-add.field-0.0 (c.in_err-add.ensures.caused tells))
 
 pub returns-in_err-add-clause-err_writes : goal.returns-in_err-add-clause-err_writes
 returns-in_err-add-clause-err_writes g c =
@@ -187,7 +198,8 @@ returns-in_err-add-clause-caused g c tells =
     let lt = c.loop-assignment-test.true in
     let part = get_or-le-sum_by blocks assigned i (record { key = 0; pair = 0 }) lt in
     let same = ap blocks_of (value_is g at) in
-    fault_exit of_set (IsPutCause t (length assigned) (assigned_blocks c.args.pairs.now assigned)) c.in_err-add.field-0.0 c.from_residual.result c.from_residual.ensures.1
+    fault_exit of_set (IsPutCause t (length assigned) (assigned_blocks c.args.pairs.now assigned)) c.in_err-add.field-0.0 c.from_residual.result
+    c.from_residual.ensures.1
     (add_caused _ t (length assigned) (assigned_blocks c.args.pairs.now assigned) _ (omega arith) (omega arith) c.in_err-add.field-0.0 (c.in_err-add.ensures.caused tells))
 
 pub returns-in_err-add-clause-damaged : goal.returns-in_err-add-clause-damaged
@@ -204,7 +216,8 @@ returns-in_err-add-clause-cause g c =
 pub returns-in_err-add-clause-still : goal.returns-in_err-add-clause-still
 returns-in_err-add-clause-still g c tells =
     let t = g.S.Reads.state c.add.new.space in
-    fault_exit of_set (BlamesBroken t) c.in_err-add.field-0.0 c.from_residual.result c.from_residual.ensures.1 (set_blamed t c.in_err-add.field-0.0 (c.in_err-add.ensures.still tells))
+    fault_exit of_set (BlamesBroken t) c.in_err-add.field-0.0 c.from_residual.result c.from_residual.ensures.1
+    (set_blamed t c.in_err-add.field-0.0 (c.in_err-add.ensures.still tells))
 
 pub returns-in_err-add-clause-put : goal.returns-in_err-add-clause-put
 returns-in_err-add-clause-put g c _ = never_ok c.from_residual.result _ _ c.from_residual.ensures.1

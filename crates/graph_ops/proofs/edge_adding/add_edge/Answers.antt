@@ -42,7 +42,9 @@ use Rattle.graph_ops.proofs.Broken.{blames_more}
 use Rattle.graph_ops.proofs.JoinBlames.{absent_blamed, room_beyond, used_beyond, used_read}
 use Rattle.rec_bytes.proofs.Causes.{never_ok, ok_cause}
 use Rattle.graph_ops.proofs.edge_adding.add_edge.Goals as goal
-use Rattle.graph_ops.proofs.edge_adding.add_edge.Goals.{After-put_properties, In_err-ends, In_err-id, In_err-put_properties, In_ok-ends, In_ok-id, In_ok-prepared, In_ok-put_properties, In_ok-test_room}
+use Rattle.graph_ops.proofs.edge_adding.add_edge.Goals.{After-put_properties, In_err-ends, In_err-id}
+use Rattle.graph_ops.proofs.edge_adding.add_edge.Goals.{In_err-put_properties, In_ok-ends, In_ok-id, In_ok-prepared}
+use Rattle.graph_ops.proofs.edge_adding.add_edge.Goals.{In_ok-put_properties, In_ok-test_room}
 use Rattle.graph_ops.proofs.edge_adding.add_edge.Given.{Over}
 
 -- ---- an end is no node
@@ -58,29 +60,36 @@ returns-in_err-ends-clause-refused g c tells whole =
 
 -- they were only read
 degrees_now : (g : Over) (c : In_ok-ends g) → g.S.Reads.tells → AtEach (HasEndDegree (g.S.Reads.state c.end_degrees.new.space).records) c.in_ok-ends.ends
-degrees_now g c tells = subst (λ (z : State). AtEach (HasEndDegree z.records) c.in_ok-ends.ends) (sym c.end_degrees.ensures.state) (c.in_ok-ends.ensures.found tells)
+degrees_now g c tells = subst (λ (z : State). AtEach (HasEndDegree z.records) c.in_ok-ends.ends) (sym c.end_degrees.ensures.state)
+    (c.in_ok-ends.ensures.found tells)
 
-source_now : (g : Over) (c : In_ok-ends g) → g.S.Reads.tells → HasDegree (g.S.Reads.state c.end_degrees.new.space).records c.args.from (source_of c.in_ok-ends.ends).degree
+source_now : (g : Over) (c : In_ok-ends g) → g.S.Reads.tells → HasDegree (g.S.Reads.state c.end_degrees.new.space).records c.args.from
+    (source_of c.in_ok-ends.ends).degree
 source_now g c tells =
     let n = g.S.Reads.state c.end_degrees.new.space in
     let ends = c.in_ok-ends.ends in
-    subst (λ k. HasDegree n.records k (source_of ends).degree) c.in_ok-ends.ensures.ends.leaves (at_source (HasEndDegree n.records) ends (degrees_now g c tells))
+    subst (λ k. HasDegree n.records k (source_of ends).degree) c.in_ok-ends.ensures.ends.leaves
+    (at_source (HasEndDegree n.records) ends (degrees_now g c tells))
 
-target_now : (g : Over) (c : In_ok-ends g) → g.S.Reads.tells → HasDegree (g.S.Reads.state c.end_degrees.new.space).records c.args.to (target_of c.in_ok-ends.ends).degree
+target_now : (g : Over) (c : In_ok-ends g) → g.S.Reads.tells → HasDegree (g.S.Reads.state c.end_degrees.new.space).records c.args.to
+    (target_of c.in_ok-ends.ends).degree
 target_now g c tells =
     let n = g.S.Reads.state c.end_degrees.new.space in
     let ends = c.in_ok-ends.ends in
-    subst (λ k. HasDegree n.records k (target_of ends).degree) c.in_ok-ends.ensures.ends.enters (at_target (HasEndDegree n.records) ends (degrees_now g c tells))
+    subst (λ k. HasDegree n.records k (target_of ends).degree) c.in_ok-ends.ensures.ends.enters
+    (at_target (HasEndDegree n.records) ends (degrees_now g c tells))
 
 module _ (g : Over) (c : In_ok-ends g) (tells : g.S.Reads.tells) (store : IsMidway (g.S.Reads.state c.args.space.now) c.args.names.now.names) where
   kept : IsMidway (g.S.Reads.state c.end_degrees.new.space) c.args.names.now.names
   kept = store_read (g.S.Reads.state c.args.space.now) (g.S.Reads.state c.end_degrees.new.space) c.args.names.now.names c.end_degrees.ensures.state store
 
   leaves_node : has_node (graph_in (g.S.Reads.state c.end_degrees.new.space)) c.args.from ≡ true
-  leaves_node = found_there (g.S.Reads.state c.end_degrees.new.space) c.args.names.now.names c.args.from (source_of c.in_ok-ends.ends).degree kept (source_now g c tells)
+  leaves_node = found_there (g.S.Reads.state c.end_degrees.new.space) c.args.names.now.names c.args.from (source_of c.in_ok-ends.ends).degree kept
+      (source_now g c tells)
 
   enters_node : has_node (graph_in (g.S.Reads.state c.end_degrees.new.space)) c.args.to ≡ true
-  enters_node = found_there (g.S.Reads.state c.end_degrees.new.space) c.args.names.now.names c.args.to (target_of c.in_ok-ends.ends).degree kept (target_now g c tells)
+  enters_node = found_there (g.S.Reads.state c.end_degrees.new.space) c.args.names.now.names c.args.to (target_of c.in_ok-ends.ends).degree kept
+      (target_now g c tells)
 
 pub returns-in_err-test_room-clause-refused : goal.returns-in_err-test_room-clause-refused
 returns-in_err-test_room-clause-refused g c tells whole =
@@ -100,7 +109,8 @@ returns-in_err-test_room-clause-refused g c tells whole =
 -- ---- there is room for an edge
 module _ (g : Over) (c : In_ok-test_room g) (tells : g.S.Reads.tells) (store : IsMidway (g.S.Reads.state c.args.space.now) c.args.names.now.names) where
   room : ¬ IsFullOfEdges (g.S.Reads.state c.end_degrees.new.space)
-  room = not_full (g.S.Reads.state c.end_degrees.new.space) c.args.names.now.names (kept g (goal.at.In_ok-test_room g c).In_ok-ends tells store) c.in_ok-test_room.ensures.room
+  room = not_full (g.S.Reads.state c.end_degrees.new.space) c.args.names.now.names (kept g (goal.at.In_ok-test_room g c).In_ok-ends tells store)
+      c.in_ok-test_room.ensures.room
 
 pub returns-in_err-prepared-clause-refused : goal.returns-in_err-prepared-clause-refused
 returns-in_err-prepared-clause-refused g c tells whole =
@@ -111,7 +121,8 @@ returns-in_err-prepared-clause-refused g c tells whole =
     let pairs = c.as_slice-pairs.result.now in
     let command = commands.Edge c.args.from c.args.label.now c.args.to pairs in
     let fault = c.in_err-prepared.field-0.0 in
-    subst (λ l. IfErr c.from_residual-in_err-prepared.result (IsRefusal s.shape.limit (graph_in s) (commands.Edge c.args.from c.args.label.now c.args.to l))) c.as_slice-pairs.ensures
+    subst (λ l. IfErr c.from_residual-in_err-prepared.result (IsRefusal s.shape.limit (graph_in s) (commands.Edge c.args.from c.args.label.now c.args.to l)))
+    c.as_slice-pairs.ensures
     (fault_exit (λ f. f) (IsRefusal s.shape.limit (graph_in s) command) fault c.from_residual-in_err-prepared.result c.from_residual-in_err-prepared.ensures.1
     (refused_read s n change_reasons command fault c.end_degrees.ensures.state
     (line_refused n.shape.limit (graph_in n) c.args.from c.args.label.now c.args.to pairs (leaves_node g at.In_ok-ends tells store) (enters_node g at.In_ok-ends tells store)
@@ -119,7 +130,8 @@ returns-in_err-prepared-clause-refused g c tells whole =
 
 -- ---- the edge's record and its chains
 module _ (g : Over) (c : In_ok-prepared g) (tells : g.S.Reads.tells) (store : IsMidway (g.S.Reads.state c.args.space.now) c.args.names.now.names) where
-  at_hand : IsPrepared (g.S.Reads.state c.end_degrees.new.space) (g.S.Reads.state c.prepare.new.space) c.prepare.new.names.names c.args.label.now c.as_slice-pairs.result.now c.in_ok-prepared.prepared
+  at_hand : IsPrepared (g.S.Reads.state c.end_degrees.new.space) (g.S.Reads.state c.prepare.new.space) c.prepare.new.names.names c.args.label.now
+      c.as_slice-pairs.result.now c.in_ok-prepared.prepared
   at_hand = c.in_ok-prepared.ensures.prepared tells (kept g (goal.at.In_ok-prepared g c).In_ok-ends tells store)
 
   degrees_kept : AtEach (HasEndDegree (g.S.Reads.state c.prepare.new.space).records) c.in_ok-ends.ends
@@ -127,17 +139,21 @@ module _ (g : Over) (c : In_ok-prepared g) (tells : g.S.Reads.tells) (store : Is
       let at = (goal.at.In_ok-prepared g c).In_ok-ends in
       let n = g.S.Reads.state c.end_degrees.new.space in
       let u = g.S.Reads.state c.prepare.new.space in
-      at_more (HasEndDegree n.records) (HasEndDegree u.records) c.in_ok-ends.ends (λ end has. degree_kept n u c.args.names.now.names c.prepare.new.names.names end.node end.degree (kept g at tells store) at_hand.kept has) (degrees_now g at tells)
+      at_more (HasEndDegree n.records) (HasEndDegree u.records) c.in_ok-ends.ends
+      (λ end has. degree_kept n u c.args.names.now.names c.prepare.new.names.names end.node end.degree (kept g at tells store) at_hand.kept has)
+      (degrees_now g at tells)
 
   limit_kept : c.shape-threshold.result.threshold ≡ (g.S.Reads.state c.prepare.new.space).shape.threshold
   limit_kept = ap (λ (h : Shape). h.threshold) (c.shape-threshold.ensures.is ∙ sym at_hand.kept.shape)
 
 -- only the machine can fail
-edge_outside : (g : Over) (c : In_err-id g) → g.S.Reads.tells → IsMidway (g.S.Reads.state c.args.space.now) c.args.names.now.names → IsOutside c.in_err-id.field-0.0
+edge_outside : (g : Over) (c : In_err-id g) → g.S.Reads.tells → IsMidway (g.S.Reads.state c.args.space.now) c.args.names.now.names
+    → IsOutside c.in_err-id.field-0.0
 edge_outside g c tells store =
     let at = goal.at.In_err-id g c in
     let hand = at_hand g at.In_ok-prepared tells store in
-    c.in_err-id.ensures.sound tells (limit_kept g at.In_ok-prepared tells store) c.prepare.new.names.names c.args.label.now hand.kept.store hand.label_is (degrees_kept g at.In_ok-prepared tells store)
+    c.in_err-id.ensures.sound tells (limit_kept g at.In_ok-prepared tells store) c.prepare.new.names.names c.args.label.now hand.kept.store hand.label_is
+    (degrees_kept g at.In_ok-prepared tells store)
     (room_kept (g.S.Reads.state c.end_degrees.new.space) c.args.names.now.names (kept g at.In_ok-ends tells store) (g.S.Reads.state c.prepare.new.space) c.prepare.new.names.names hand.kept c.in_ok-test_room.ensures.room)
 
 pub returns-in_err-id-clause-refused : goal.returns-in_err-id-clause-refused
@@ -145,7 +161,8 @@ returns-in_err-id-clause-refused g c tells whole =
     let store = midway _ _ whole in
     let s = g.S.Reads.state c.args.space.now in
     let command = commands.Edge c.args.from c.args.label.now c.args.to c.args.pairs.now in
-    fault_exit (λ f. f) (IsRefusal s.shape.limit (graph_in s) command) c.in_err-id.field-0.0 c.from_residual-in_err-id.result c.from_residual-in_err-id.ensures.1
+    fault_exit (λ f. f) (IsRefusal s.shape.limit (graph_in s) command) c.in_err-id.field-0.0 c.from_residual-in_err-id.result
+    c.from_residual-in_err-id.ensures.1
     (outside_refused change_reasons s.shape.limit (graph_in s) command c.in_err-id.field-0.0 (edge_outside g (goal.at.returns-in_err-id-clause-refused g c).In_err-id tells store))
 
 pub returns-in_err-id-clause-leaves : goal.returns-in_err-id-clause-leaves
@@ -164,44 +181,53 @@ returns-in_err-id-clause-refused_writes g c =
 
 -- ---- its properties
 puts : (g : Over) (c : In_ok-id g) → g.S.Reads.tells → IsMidway (g.S.Reads.state c.args.space.now) c.args.names.now.names
-    → PutsEdge (g.S.Reads.state c.prepare.new.space) (g.S.Reads.state c.put_edge.new.space) c.prepare.new.names.names c.args.from c.args.label.now c.args.to c.in_ok-id.id
+    → PutsEdge (g.S.Reads.state c.prepare.new.space) (g.S.Reads.state c.put_edge.new.space) c.prepare.new.names.names c.args.from c.args.label.now c.args.to
+    c.in_ok-id.id
 puts g c tells store =
     let at = (goal.at.In_ok-id g c).In_ok-prepared in
     let hand = at_hand g at tells store in
     let u = g.S.Reads.state c.prepare.new.space in
     let v = g.S.Reads.state c.put_edge.new.space in
-    at_nodes (λ from to. PutsEdge u v c.prepare.new.names.names from c.args.label.now to c.in_ok-id.id) c.in_ok-ends.ends c.args.from c.args.to c.in_ok-ends.ensures.ends
+    at_nodes (λ from to. PutsEdge u v c.prepare.new.names.names from c.args.label.now to c.in_ok-id.id) c.in_ok-ends.ends c.args.from c.args.to
+    c.in_ok-ends.ensures.ends
     (c.in_ok-id.ensures.put tells (limit_kept g at tells store) c.prepare.new.names.names c.args.label.now hand.kept.store hand.label_is (degrees_kept g at tells store))
 
 can : (g : Over) (c : After-put_properties g) → g.S.Reads.tells → IsMidway (g.S.Reads.state c.args.space.now) c.args.names.now.names
     → CanPut (g.S.Reads.state c.put_edge.new.space) c.prepare.new.names.names (targets.Edge c.in_ok-id.id) c.as_slice-pairs.result.now c.deref.result.now
 can g c tells store =
     let at = goal.at.After-put_properties g c in
-    subst (CanPut (g.S.Reads.state c.put_edge.new.space) c.prepare.new.names.names (targets.Edge c.in_ok-id.id) c.as_slice-pairs.result.now) (sym c.deref.ensures.0)
+    subst (CanPut (g.S.Reads.state c.put_edge.new.space) c.prepare.new.names.names (targets.Edge c.in_ok-id.id) c.as_slice-pairs.result.now)
+    (sym c.deref.ensures.0)
     (can_put (g.S.Reads.state c.end_degrees.new.space) (g.S.Reads.state c.prepare.new.space) (g.S.Reads.state c.put_edge.new.space) c.args.names.now.names c.prepare.new.names.names c.args.from c.args.label.now c.args.to c.as_slice-pairs.result.now c.in_ok-id.id
-    c.in_ok-prepared.prepared (kept g at.In_ok-ends tells store) (at_hand g at.In_ok-prepared tells store) (puts g at.In_ok-id tells store) ((g.met.S.Reads.onward_shape _ _ c.put_edge.ensures.onward)))
+    c.in_ok-prepared.prepared (kept g at.In_ok-ends tells store) (at_hand g at.In_ok-prepared tells store) (puts g at.In_ok-id tells store)
+    ((g.met.S.Reads.onward_shape _ _ c.put_edge.ensures.onward)))
 
-properties_outside : (g : Over) (c : In_err-put_properties g) → g.S.Reads.tells → IsMidway (g.S.Reads.state c.args.space.now) c.args.names.now.names → IsOutside c.in_err-put_properties.field-0.0
+properties_outside : (g : Over) (c : In_err-put_properties g) → g.S.Reads.tells → IsMidway (g.S.Reads.state c.args.space.now) c.args.names.now.names
+    → IsOutside c.in_err-put_properties.field-0.0
 properties_outside g c tells store =
     let at = goal.at.In_err-put_properties g c in
-    c.in_err-put_properties.ensures.sound tells c.prepare.new.names.names (targets.Edge c.in_ok-id.id) c.edge_owner.ensures (can g at.After-put_properties tells store)
+    c.in_err-put_properties.ensures.sound tells c.prepare.new.names.names (targets.Edge c.in_ok-id.id) c.edge_owner.ensures
+    (can g at.After-put_properties tells store)
     (subst (λ l. HasPropertyRoom (g.S.Reads.state c.put_edge.new.space) (length l) (assigned_blocks c.as_slice-pairs.result.now l)) (sym c.deref.ensures.0)
     (put_room (g.S.Reads.state c.end_degrees.new.space) (g.S.Reads.state c.prepare.new.space) (g.S.Reads.state c.put_edge.new.space) c.args.names.now.names c.prepare.new.names.names c.args.from c.args.label.now c.args.to c.as_slice-pairs.result.now c.in_ok-id.id
-    c.in_ok-prepared.prepared (kept g at.In_ok-ends tells store) (at_hand g at.In_ok-prepared tells store) (puts g at.In_ok-id tells store) ((g.met.S.Reads.onward_shape _ _ c.put_edge.ensures.onward))))
+    c.in_ok-prepared.prepared (kept g at.In_ok-ends tells store) (at_hand g at.In_ok-prepared tells store) (puts g at.In_ok-id tells store)
+    ((g.met.S.Reads.onward_shape _ _ c.put_edge.ensures.onward))))
 
 pub returns-in_err-put_properties-clause-refused : goal.returns-in_err-put_properties-clause-refused
 returns-in_err-put_properties-clause-refused g c tells whole =
     let store = midway _ _ whole in
     let s = g.S.Reads.state c.args.space.now in
     let command = commands.Edge c.args.from c.args.label.now c.args.to c.args.pairs.now in
-    fault_exit (λ f. f) (IsRefusal s.shape.limit (graph_in s) command) c.in_err-put_properties.field-0.0 c.from_residual-in_err-put_properties.result c.from_residual-in_err-put_properties.ensures.1
+    fault_exit (λ f. f) (IsRefusal s.shape.limit (graph_in s) command) c.in_err-put_properties.field-0.0 c.from_residual-in_err-put_properties.result
+    c.from_residual-in_err-put_properties.ensures.1
     (outside_refused change_reasons s.shape.limit (graph_in s) command c.in_err-put_properties.field-0.0 (properties_outside g (goal.at.returns-in_err-put_properties-clause-refused g c).In_err-put_properties tells store))
 
 pub returns-in_err-put_properties-clause-leaves : goal.returns-in_err-put_properties-clause-leaves
 returns-in_err-put_properties-clause-leaves g c tells =
     let s = g.S.Reads.state c.args.space.now in
     let w = g.S.Reads.state c.put_properties.new.space in
-    fault_exit (λ f. f) (LeavesSpace s w) c.in_err-put_properties.field-0.0 c.from_residual-in_err-put_properties.result c.from_residual-in_err-put_properties.ensures.1
+    fault_exit (λ f. f) (LeavesSpace s w) c.in_err-put_properties.field-0.0 c.from_residual-in_err-put_properties.result
+    c.from_residual-in_err-put_properties.ensures.1
     (late_leaves s w c.in_err-put_properties.field-0.0 (c.in_err-put_properties.ensures.late tells))
 
 pub returns-in_err-put_properties-clause-refused_writes : goal.returns-in_err-put_properties-clause-refused_writes
@@ -256,12 +282,15 @@ returns-clause-made g c tells whole =
     let hand = at_hand g at.In_ok-prepared tells store in
     let ends = c.in_ok-ends.ends in
     let weight = 9 + c.in_ok-prepared.prepared.weight + c.ends_weight-moved.result in
-    let put = subst (λ l. PutsPairs v w names (targets.Edge id) (pairs_of names pairs l)) c.deref.ensures.0 (c.in_ok-put_properties.ensures.put tells names (targets.Edge id) c.edge_owner.ensures (can g at.After-put_properties tells store)) in
+    let put = subst (λ l. PutsPairs v w names (targets.Edge id) (pairs_of names pairs l)) c.deref.ensures.0
+    (c.in_ok-put_properties.ensures.put tells names (targets.Edge id) c.edge_owner.ensures (can g at.After-put_properties tells store)) in
     made_read s n w names (commands.Edge c.args.from c.args.label.now c.args.to c.args.pairs.now) (EdgeMade id) weight c.end_degrees.ensures.state
     (subst (λ l. MakesChange (commands.Edge c.args.from c.args.label.now c.args.to l) (EdgeMade id) weight n w names) c.as_slice-pairs.ensures
     (made n u v c.args.names.now.names names c.args.from c.args.label.now c.args.to pairs id c.in_ok-prepared.prepared (kept g at.In_ok-ends tells store) hand (puts g at.In_ok-id tells store) ((g.met.S.Reads.onward_shape _ _ c.put_edge.ensures.onward))
-    w put (room g at.In_ok-test_room tells store) (source_of ends).degree (target_of ends).degree (source_now g at.In_ok-ends tells) (target_now g at.In_ok-ends tells) (subst (λ (z : State). AreIndexed z.records (wanted_in z.records)) (sym c.end_degrees.ensures.state) whole.store.indexes)
-    (c.in_ok-put_properties.ensures.indexes tells names id c.edge_owner.ensures (can g at.After-put_properties tells store)) weight c.ends_weight-moved.result refl
+    w put (room g at.In_ok-test_room tells store) (source_of ends).degree (target_of ends).degree (source_now g at.In_ok-ends tells)
+    (target_now g at.In_ok-ends tells) (subst (λ (z : State). AreIndexed z.records (wanted_in z.records)) (sym c.end_degrees.ensures.state) whole.store.indexes)
+    (c.in_ok-put_properties.ensures.indexes tells names id c.edge_owner.ensures (can g at.After-put_properties tells store)) weight c.ends_weight-moved.result
+    refl
     (c.ends_weight-moved.ensures.is ∙ ends_weigh c.shape-threshold.result.threshold c.args.from c.args.to ends c.in_ok-ends.ensures.ends
     ∙ ap (λ (h : Shape). degrees_weight h.threshold c.args.from (source_of ends).degree c.args.to (target_of ends).degree) c.shape-threshold.ensures.is)))
 
@@ -281,7 +310,8 @@ returns-clause-first g c tells whole =
 
 -- the properties are put at the relationship's record
 owned : (g : Over) (c : In_ok-put_properties g)
-    → WritesBeside (rel_key c.in_ok-id.id) (length c.deref.result.now + assigned_blocks c.as_slice-pairs.result.now c.deref.result.now) (g.S.Reads.state c.put_edge.new.space) (g.S.Reads.state c.put_properties.new.space)
+    → WritesBeside (rel_key c.in_ok-id.id) (length c.deref.result.now + assigned_blocks c.as_slice-pairs.result.now c.deref.result.now)
+    (g.S.Reads.state c.put_edge.new.space) (g.S.Reads.state c.put_properties.new.space)
 owned g c = subst (λ (o : Owner). WritesBeside o.key (length c.deref.result.now + assigned_blocks c.as_slice-pairs.result.now c.deref.result.now) (g.S.Reads.state c.put_edge.new.space) (g.S.Reads.state c.put_properties.new.space)) c.edge_owner.ensures
     c.in_ok-put_properties.ensures.writes
 
@@ -317,7 +347,8 @@ returns-in_err-prepared-clause-counts g c tells whole =
     let s = g.S.Reads.state c.args.space.now in
     let n = g.S.Reads.state c.end_degrees.new.space in
     let fault = c.in_err-prepared.field-0.0 in
-    fault_exit (λ f. f) (IsCounted s) fault c.from_residual-in_err-prepared.result c.from_residual-in_err-prepared.ensures.1 (counted_read s n c.end_degrees.ensures.state fault (c.in_err-prepared.ensures.counts tells))
+    fault_exit (λ f. f) (IsCounted s) fault c.from_residual-in_err-prepared.result c.from_residual-in_err-prepared.ensures.1
+    (counted_read s n c.end_degrees.ensures.state fault (c.in_err-prepared.ensures.counts tells))
 
 pub returns-in_err-id-clause-counts : goal.returns-in_err-id-clause-counts
 returns-in_err-id-clause-counts g c tells whole =
@@ -330,20 +361,23 @@ pub returns-in_err-put_properties-clause-counts : goal.returns-in_err-put_proper
 returns-in_err-put_properties-clause-counts g c tells whole =
     let store = midway _ _ whole in
     let s = g.S.Reads.state c.args.space.now in
-    fault_exit (λ f. f) (IsCounted s) c.in_err-put_properties.field-0.0 c.from_residual-in_err-put_properties.result c.from_residual-in_err-put_properties.ensures.1
+    fault_exit (λ f. f) (IsCounted s) c.in_err-put_properties.field-0.0 c.from_residual-in_err-put_properties.result
+    c.from_residual-in_err-put_properties.ensures.1
     (outside_counted s c.in_err-put_properties.field-0.0 (properties_outside g (goal.at.returns-in_err-put_properties-clause-counts g c).In_err-put_properties tells store))
 
 -- ---- why it is refused over any records
 
 -- an end is no node
-ends_caused : (g : Over) (c : In_err-ends g) → g.S.Reads.tells → IsCaused (commands.Edge c.args.from c.args.label.now c.args.to c.args.pairs.now) (g.S.Reads.state c.args.space.now) (g.S.Reads.state c.end_degrees.new.space) c.args.names.now.names c.args.names.now.names c.in_err-ends.field-0.0
+ends_caused : (g : Over) (c : In_err-ends g) → g.S.Reads.tells → IsCaused (commands.Edge c.args.from c.args.label.now c.args.to c.args.pairs.now)
+    (g.S.Reads.state c.args.space.now) (g.S.Reads.state c.end_degrees.new.space) c.args.names.now.names c.args.names.now.names c.in_err-ends.field-0.0
 ends_caused g c tells =
     let s = g.S.Reads.state c.args.space.now in
     let n = g.S.Reads.state c.end_degrees.new.space in
     let names = c.args.names.now.names in
     let command = commands.Edge c.args.from c.args.label.now c.args.to c.args.pairs.now in
     ⊎_elim (absent_caused command s n names names (targets.Node c.args.from) (λ id e. inl (sym (node_of e))) (λ id e. no_edge e) c.in_err-ends.field-0.0)
-    (absent_caused command s n names names (targets.Node c.args.to) (λ id e. inr (sym (node_of e))) (λ id e. no_edge e) c.in_err-ends.field-0.0) (c.in_err-ends.ensures.absent tells)
+    (absent_caused command s n names names (targets.Node c.args.to) (λ id e. inr (sym (node_of e))) (λ id e. no_edge e) c.in_err-ends.field-0.0)
+    (c.in_err-ends.ensures.absent tells)
 
 pub returns-in_err-ends-clause-caused : goal.returns-in_err-ends-clause-caused
 returns-in_err-ends-clause-caused g c tells =
@@ -351,7 +385,8 @@ returns-in_err-ends-clause-caused g c tells =
     let n = g.S.Reads.state c.end_degrees.new.space in
     let names = c.args.names.now.names in
     let command = commands.Edge c.args.from c.args.label.now c.args.to c.args.pairs.now in
-    fault_exit (λ f. f) (IsCaused command s n names names) c.in_err-ends.field-0.0 c.from_residual.result c.from_residual.ensures.1 (ends_caused g (goal.at.returns-in_err-ends-clause-caused g c).In_err-ends tells)
+    fault_exit (λ f. f) (IsCaused command s n names names) c.in_err-ends.field-0.0 c.from_residual.result c.from_residual.ensures.1
+    (ends_caused g (goal.at.returns-in_err-ends-clause-caused g c).In_err-ends tells)
 
 pub returns-in_err-test_room-clause-caused : goal.returns-in_err-test_room-clause-caused
 returns-in_err-test_room-clause-caused g c tells =
@@ -360,7 +395,8 @@ returns-in_err-test_room-clause-caused g c tells =
     let names = c.args.names.now.names in
     let command = commands.Edge c.args.from c.args.label.now c.args.to c.args.pairs.now in
     let read = c.end_degrees.ensures.state in
-    fault_exit (λ f. f) (IsCaused command s n names names) c.in_err-test_room.field-0.0 c.from_residual-in_err-test_room.result c.from_residual-in_err-test_room.ensures.1
+    fault_exit (λ f. f) (IsCaused command s n names names) c.in_err-test_room.field-0.0 c.from_residual-in_err-test_room.result
+    c.from_residual-in_err-test_room.ensures.1
     (caused_read command s n n names names read c.in_err-test_room.field-0.0
     (room_caused command n n names names format.relationships_file 1 (inl (refl, refl)) c.in_err-test_room.field-0.0 c.in_err-test_room.ensures.full))
 
@@ -374,7 +410,8 @@ returns-in_err-prepared-clause-caused g c tells =
     let pairs = c.as_slice-pairs.result.now in
     let command = commands.Edge c.args.from c.args.label.now c.args.to pairs in
     let read = c.end_degrees.ensures.state in
-    subst (λ l. IfErr c.from_residual-in_err-prepared.result (IsCaused (commands.Edge c.args.from c.args.label.now c.args.to l) s t names now)) c.as_slice-pairs.ensures
+    subst (λ l. IfErr c.from_residual-in_err-prepared.result (IsCaused (commands.Edge c.args.from c.args.label.now c.args.to l) s t names now))
+    c.as_slice-pairs.ensures
     (fault_exit (λ f. f) (IsCaused command s t names now) c.in_err-prepared.field-0.0 c.from_residual-in_err-prepared.result c.from_residual-in_err-prepared.ensures.1
     (caused_read command s n t names now read c.in_err-prepared.field-0.0
     (line_edge n t names now c.args.label.now pairs c.args.from c.args.to c.in_err-prepared.field-0.0 (c.in_err-prepared.ensures.caused tells))))
@@ -399,26 +436,33 @@ returns-in_err-put_properties-clause-caused g c tells =
     let command = commands.Edge c.args.from c.args.label.now c.args.to pairs in
     let items = c.in_ok-prepared.prepared.assigned.items in
     let needs = c.in_ok-prepared.ensures.needs in
-    let told = subst (λ l. IsPutCause t (length l) (assigned_blocks pairs l) c.in_err-put_properties.field-0.0) c.deref.ensures.0 (c.in_err-put_properties.ensures.caused tells) in
-    subst (λ l. IfErr c.from_residual-in_err-put_properties.result (IsCaused (commands.Edge c.args.from c.args.label.now c.args.to l) s t names now)) c.as_slice-pairs.ensures
+    let told = subst (λ l. IsPutCause t (length l) (assigned_blocks pairs l) c.in_err-put_properties.field-0.0) c.deref.ensures.0
+    (c.in_err-put_properties.ensures.caused tells) in
+    subst (λ l. IfErr c.from_residual-in_err-put_properties.result (IsCaused (commands.Edge c.args.from c.args.label.now c.args.to l) s t names now))
+    c.as_slice-pairs.ensures
     (fault_exit (λ f. f) (IsCaused command s t names now) c.in_err-put_properties.field-0.0 c.from_residual-in_err-put_properties.result c.from_residual-in_err-put_properties.ensures.1
     (put_caused command s t names now pairs (length items) (assigned_blocks pairs items) needs.0 needs.1 (λ file any. any) c.in_err-put_properties.field-0.0 told))
 
 pub returns-in_err-test_room-clause-cause : goal.returns-in_err-test_room-clause-cause
 returns-in_err-test_room-clause-cause g c =
-    room_refusal_cause _ _ c.from_residual-in_err-test_room.result c.in_err-test_room.field-0.0 c.in_err-test_room.ensures.full c.in_ok-ends.ensures.cause.later c.from_residual-in_err-test_room.ensures.1
+    room_refusal_cause _ _ c.from_residual-in_err-test_room.result c.in_err-test_room.field-0.0 c.in_err-test_room.ensures.full c.in_ok-ends.ensures.cause.later
+    c.from_residual-in_err-test_room.ensures.1
 
 pub returns-in_err-prepared-clause-cause : goal.returns-in_err-prepared-clause-cause
 returns-in_err-prepared-clause-cause g c =
-    change_cause_passed _ _ _ c.from_residual-in_err-prepared.result c.in_err-prepared.field-0.0 c.in_ok-ends.ensures.cause.later c.in_err-prepared.ensures.cause c.from_residual-in_err-prepared.ensures.1
+    change_cause_passed _ _ _ c.from_residual-in_err-prepared.result c.in_err-prepared.field-0.0 c.in_ok-ends.ensures.cause.later
+    c.in_err-prepared.ensures.cause c.from_residual-in_err-prepared.ensures.1
 
 pub returns-in_err-id-clause-cause : goal.returns-in_err-id-clause-cause
 returns-in_err-id-clause-cause g c =
-    change_cause_passed _ _ _ c.from_residual-in_err-id.result c.in_err-id.field-0.0 (later_on c.in_ok-ends.ensures.cause.later c.in_ok-prepared.ensures.cause.later) c.in_err-id.ensures.cause c.from_residual-in_err-id.ensures.1
+    change_cause_passed _ _ _ c.from_residual-in_err-id.result c.in_err-id.field-0.0
+    (later_on c.in_ok-ends.ensures.cause.later c.in_ok-prepared.ensures.cause.later) c.in_err-id.ensures.cause c.from_residual-in_err-id.ensures.1
 
 pub returns-in_err-put_properties-clause-cause : goal.returns-in_err-put_properties-clause-cause
 returns-in_err-put_properties-clause-cause g c =
-    change_cause_passed _ _ _ c.from_residual-in_err-put_properties.result c.in_err-put_properties.field-0.0 (later_on (later_on c.in_ok-ends.ensures.cause.later c.in_ok-prepared.ensures.cause.later) c.in_ok-id.ensures.cause.later) c.in_err-put_properties.ensures.cause c.from_residual-in_err-put_properties.ensures.1
+    change_cause_passed _ _ _ c.from_residual-in_err-put_properties.result c.in_err-put_properties.field-0.0
+    (later_on (later_on c.in_ok-ends.ensures.cause.later c.in_ok-prepared.ensures.cause.later) c.in_ok-id.ensures.cause.later)
+    c.in_err-put_properties.ensures.cause c.from_residual-in_err-put_properties.ensures.1
 
 -- ---- which record is blamed
 ends_blamed : (g : Over) (c : In_err-ends g) → g.S.Reads.tells → BlamesLinking (g.S.Reads.state c.end_degrees.new.space) c.in_err-ends.field-0.0
@@ -432,7 +476,8 @@ ends_blamed g c tells =
 pub returns-in_err-ends-clause-damaged : goal.returns-in_err-ends-clause-damaged
 returns-in_err-ends-clause-damaged g c tells =
     let n = g.S.Reads.state c.end_degrees.new.space in
-    fault_exit (λ f. f) (BlamesLinking n) c.in_err-ends.field-0.0 c.from_residual.result c.from_residual.ensures.1 (ends_blamed g (goal.at.returns-in_err-ends-clause-damaged g c).In_err-ends tells)
+    fault_exit (λ f. f) (BlamesLinking n) c.in_err-ends.field-0.0 c.from_residual.result c.from_residual.ensures.1
+    (ends_blamed g (goal.at.returns-in_err-ends-clause-damaged g c).In_err-ends tells)
 
 pub returns-in_err-test_room-clause-damaged : goal.returns-in_err-test_room-clause-damaged
 returns-in_err-test_room-clause-damaged g c tells =
@@ -456,13 +501,15 @@ put_blamed g c tells =
     let v = g.S.Reads.state c.put_edge.new.space in
     let ends = c.in_ok-ends.ends in
     let keeps = c.in_ok-prepared.ensures.stays tells in
-    let used = at_more (IsUsedEnd s) (IsUsedEnd u) ends (λ end is. used_beyond n u keeps end.node (used_read s n end.node c.end_degrees.ensures.state is)) (c.in_ok-ends.ensures.used tells) in
+    let used = at_more (IsUsedEnd s) (IsUsedEnd u) ends (λ end is. used_beyond n u keeps end.node (used_read s n end.node c.end_degrees.ensures.state is))
+    (c.in_ok-ends.ensures.used tells) in
     let limit = ap (λ (h : Shape). h.threshold) (c.shape-threshold.ensures.is ∙ sym (g.met.S.Reads.onward_shape _ _ c.prepare.ensures.onward)) in
     c.in_err-id.ensures.damaged tells used limit (room_beyond n u keeps (g.met.S.Reads.onward_shape _ _ c.prepare.ensures.onward) c.in_ok-test_room.ensures.room)
 
 pub returns-in_err-id-clause-damaged : goal.returns-in_err-id-clause-damaged
 returns-in_err-id-clause-damaged g c tells =
-    fault_exit (λ f. f) (BlamesLinking (g.S.Reads.state c.put_edge.new.space)) c.in_err-id.field-0.0 c.from_residual-in_err-id.result c.from_residual-in_err-id.ensures.1
+    fault_exit (λ f. f) (BlamesLinking (g.S.Reads.state c.put_edge.new.space)) c.in_err-id.field-0.0 c.from_residual-in_err-id.result
+    c.from_residual-in_err-id.ensures.1
     (put_blamed g (goal.at.returns-in_err-id-clause-damaged g c).In_err-id tells)
 
 pub returns-in_err-put_properties-clause-damaged : goal.returns-in_err-put_properties-clause-damaged
@@ -506,7 +553,8 @@ returns-in_err-prepared-clause-still g c tells =
     let command = commands.Edge c.args.from c.args.label.now c.args.to pairs in
     let fault = c.in_err-prepared.field-0.0 in
     let why = c.in_err-prepared.ensures.still tells in
-    subst (λ l. IfErr c.from_residual-in_err-prepared.result (IsStillCaused (commands.Edge c.args.from c.args.label.now c.args.to l) t names now)) c.as_slice-pairs.ensures
+    subst (λ l. IfErr c.from_residual-in_err-prepared.result (IsStillCaused (commands.Edge c.args.from c.args.label.now c.args.to l) t names now))
+    c.as_slice-pairs.ensures
     (fault_exit (λ f. f) (IsStillCaused command t names now) fault c.from_residual-in_err-prepared.result c.from_residual-in_err-prepared.ensures.1
     (record { caused = line_edge t t names now c.args.label.now pairs c.args.from c.args.to fault why; damaged = line_blamed _ t names c.args.label.now pairs fault why }))
 
@@ -534,7 +582,8 @@ returns-in_err-put_properties-clause-still g c tells =
     let needs = c.in_ok-prepared.ensures.needs in
     let fault = c.in_err-put_properties.field-0.0 in
     let told = subst (λ l. IsPutCause t (length l) (assigned_blocks pairs l) fault) c.deref.ensures.0 (c.in_err-put_properties.ensures.caused tells) in
-    subst (λ l. IfErr c.from_residual-in_err-put_properties.result (IsStillCaused (commands.Edge c.args.from c.args.label.now c.args.to l) t names now)) c.as_slice-pairs.ensures
+    subst (λ l. IfErr c.from_residual-in_err-put_properties.result (IsStillCaused (commands.Edge c.args.from c.args.label.now c.args.to l) t names now))
+    c.as_slice-pairs.ensures
     (fault_exit (λ f. f) (IsStillCaused command t names now) fault c.from_residual-in_err-put_properties.result c.from_residual-in_err-put_properties.ensures.1
     (record {
       caused = put_caused command t t names now pairs (length items) (assigned_blocks pairs items) needs.0 needs.1 (λ file any. any) fault told;

@@ -23,7 +23,8 @@ pub returns-in_err-from_degree-clause-refused : goal.returns-in_err-from_degree-
 returns-in_err-from_degree-clause-refused g c tells names store label pairs =
     let s = g.R.Reads.state c.args.space.now in
     let fault = c.in_err-from_degree.field-0.0 in
-    fault_exit (λ f. f) (IsRefusal s.shape.limit (graph_in s) (commands.Edge c.args.from label c.args.to pairs)) fault c.from_residual.result c.from_residual.ensures.1
+    fault_exit (λ f. f) (IsRefusal s.shape.limit (graph_in s) (commands.Edge c.args.from label c.args.to pairs)) fault c.from_residual.result
+    c.from_residual.ensures.1
     (source_missing s.shape.limit (graph_in s) c.args.from label c.args.to pairs fault (c.in_err-from_degree.ensures.refused tells names store))
 
 pub returns-in_err-to_degree-clause-refused : goal.returns-in_err-to_degree-clause-refused
@@ -34,7 +35,8 @@ returns-in_err-to_degree-clause-refused g c tells names store label pairs =
     let fault = c.in_err-to_degree.field-0.0 in
     let same = c.node_degree.ensures.state in
     let kept = store_read s m names same store in
-    let leaves = found_there m names c.args.from c.in_ok-from_degree.from_degree kept (subst (λ (z : State). HasDegree z.records c.args.from c.in_ok-from_degree.from_degree) (sym same) (c.in_ok-from_degree.ensures.found tells)) in
+    let leaves = found_there m names c.args.from c.in_ok-from_degree.from_degree kept
+    (subst (λ (z : State). HasDegree z.records c.args.from c.in_ok-from_degree.from_degree) (sym same) (c.in_ok-from_degree.ensures.found tells)) in
     fault_exit (λ f. f) (IsRefusal s.shape.limit (graph_in s) command) fault c.from_residual-in_err-to_degree.result c.from_residual-in_err-to_degree.ensures.1
     (refused_read s m change_reasons command fault same
     (target_missing m.shape.limit (graph_in m) c.args.from label c.args.to pairs leaves fault (c.in_err-to_degree.ensures.refused tells names kept)))
@@ -42,7 +44,8 @@ returns-in_err-to_degree-clause-refused g c tells names store label pairs =
 pub returns-in_err-from_degree-clause-absent : goal.returns-in_err-from_degree-clause-absent
 returns-in_err-from_degree-clause-absent g c tells =
     let s = g.R.Reads.state c.args.space.now in
-    fault_exit (λ f. f) (λ (fault : ChangeFault). IsAbsent s (targets.Node c.args.from) fault ⊎ IsAbsent s (targets.Node c.args.to) fault) c.in_err-from_degree.field-0.0 c.from_residual.result c.from_residual.ensures.1
+    fault_exit (λ f. f) (λ (fault : ChangeFault). IsAbsent s (targets.Node c.args.from) fault ⊎ IsAbsent s (targets.Node c.args.to) fault)
+    c.in_err-from_degree.field-0.0 c.from_residual.result c.from_residual.ensures.1
     (inl (c.in_err-from_degree.ensures.absent tells))
 
 pub returns-in_err-to_degree-clause-absent : goal.returns-in_err-to_degree-clause-absent
@@ -50,12 +53,14 @@ returns-in_err-to_degree-clause-absent g c tells =
     let s = g.R.Reads.state c.args.space.now in
     let m = g.R.Reads.state c.node_degree.new.space in
     let fault = c.in_err-to_degree.field-0.0 in
-    fault_exit (λ f. f) (λ (fault : ChangeFault). IsAbsent s (targets.Node c.args.from) fault ⊎ IsAbsent s (targets.Node c.args.to) fault) fault c.from_residual-in_err-to_degree.result c.from_residual-in_err-to_degree.ensures.1
+    fault_exit (λ f. f) (λ (fault : ChangeFault). IsAbsent s (targets.Node c.args.from) fault ⊎ IsAbsent s (targets.Node c.args.to) fault) fault
+    c.from_residual-in_err-to_degree.result c.from_residual-in_err-to_degree.ensures.1
     (inr (absent_read s m (targets.Node c.args.to) c.node_degree.ensures.state fault (c.in_err-to_degree.ensures.absent tells)))
 
 pub returns-in_err-to_degree-clause-cause : goal.returns-in_err-to_degree-clause-cause
 returns-in_err-to_degree-clause-cause g c =
-    change_cause_passed _ _ _ c.from_residual-in_err-to_degree.result c.in_err-to_degree.field-0.0 c.in_ok-from_degree.ensures.cause.later c.in_err-to_degree.ensures.cause c.from_residual-in_err-to_degree.ensures.1
+    change_cause_passed _ _ _ c.from_residual-in_err-to_degree.result c.in_err-to_degree.field-0.0 c.in_ok-from_degree.ensures.cause.later
+    c.in_err-to_degree.ensures.cause c.from_residual-in_err-to_degree.ensures.1
 
 -- ---- both are
 pub returns-then-from-to-clause-ends : goal.returns-then-from-to-clause-ends
@@ -83,10 +88,12 @@ pub returns-clause-keys : goal.returns-clause-keys
 returns-clause-keys g c = (c.in_ok-from_degree.ensures.key, c.in_ok-to_degree.ensures.key)
 
 pub returns-in_err-to_degree-clause-state : goal.returns-in_err-to_degree-clause-state
-returns-in_err-to_degree-clause-state g c = same_both (g.R.Reads.state c.args.space.now) (g.R.Reads.state c.node_degree.new.space) (g.R.Reads.state c.node_degree-2.new.space) c.node_degree.ensures.state c.node_degree-2.ensures.state
+returns-in_err-to_degree-clause-state g c = same_both (g.R.Reads.state c.args.space.now) (g.R.Reads.state c.node_degree.new.space)
+    (g.R.Reads.state c.node_degree-2.new.space) c.node_degree.ensures.state c.node_degree-2.ensures.state
 
 pub returns-clause-state : goal.returns-clause-state
-returns-clause-state g c = same_both (g.R.Reads.state c.args.space.now) (g.R.Reads.state c.node_degree.new.space) (g.R.Reads.state c.node_degree-2.new.space) c.node_degree.ensures.state c.node_degree-2.ensures.state
+returns-clause-state g c = same_both (g.R.Reads.state c.args.space.now) (g.R.Reads.state c.node_degree.new.space) (g.R.Reads.state c.node_degree-2.new.space)
+    c.node_degree.ensures.state c.node_degree-2.ensures.state
 
 pub returns-in_err-from_degree-clause-ends : goal.returns-in_err-from_degree-clause-ends
 returns-in_err-from_degree-clause-ends g c = never_ok c.from_residual.result _ _ c.from_residual.ensures.1

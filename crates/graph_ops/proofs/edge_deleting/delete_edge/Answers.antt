@@ -64,7 +64,8 @@ returns-in_err-dropped-clause-refused g c tells whole =
     let v = g.S.Reads.state c.load.new.space in
     let at = (goal.at.returns-in_err-dropped-clause-refused g c).After-drop_all in
     let element = edge_element s v c.args.names.now.names c.args.id c.in-Some.rel store (found g at tells) (was_read g at) in
-    fault_exit of_fault (IsRefusal s.shape.limit (graph_in s) (commands.Delete (targets.Edge c.args.id))) c.in_err-dropped.field-0.0 c.from_residual-in_err-dropped.result c.from_residual-in_err-dropped.ensures.1
+    fault_exit of_fault (IsRefusal s.shape.limit (graph_in s) (commands.Delete (targets.Edge c.args.id))) c.in_err-dropped.field-0.0
+    c.from_residual-in_err-dropped.result c.from_residual-in_err-dropped.ensures.1
     (prop_refused s.shape.limit (graph_in s) (commands.Delete (targets.Edge c.args.id)) c.in_err-dropped.field-0.0
     (c.in_err-dropped.ensures.sound tells (subst (HasElement v) (sym c.edge_owner.ensures) element)))
 
@@ -89,10 +90,12 @@ module _ (g : Over) (c : After-take_edge g) (tells : g.S.Reads.tells) (store : I
   read = was_read g (goal.at.After-take_edge g c).After-drop_all
 
   left : IsMidway u names
-  left = left_store s v names c.args.id c.in-Some.rel store there read u c.edge_owner.result c.edge_owner.ensures c.in_ok-dropped.dropped (c.in_ok-dropped.ensures.dropped tells)
+  left = left_store s v names c.args.id c.in-Some.rel store there read u c.edge_owner.result c.edge_owner.ensures c.in_ok-dropped.dropped
+      (c.in_ok-dropped.ensures.dropped tells)
 
   bare : HasBareRow u.records c.args.id c.in-Some.rel
-  bare = left_bare s v names c.args.id c.in-Some.rel store there read u c.edge_owner.result c.edge_owner.ensures c.in_ok-dropped.dropped (c.in_ok-dropped.ensures.dropped tells)
+  bare = left_bare s v names c.args.id c.in-Some.rel store there read u c.edge_owner.result c.edge_owner.ensures c.in_ok-dropped.dropped
+      (c.in_ok-dropped.ensures.dropped tells)
 
 -- failures that are met then
 pub returns-in_err-take_edge-clause-refused : goal.returns-in_err-take_edge-clause-refused
@@ -100,7 +103,8 @@ returns-in_err-take_edge-clause-refused g c tells whole =
     let store = midway _ _ whole in
     let s = g.S.Reads.state c.args.space.now in
     let at = (goal.at.returns-in_err-take_edge-clause-refused g c).After-take_edge in
-    fault_exit (λ f. f) (IsRefusal s.shape.limit (graph_in s) (commands.Delete (targets.Edge c.args.id))) c.in_err-take_edge.field-0.0 c.from_residual-in_err-take_edge.result c.from_residual-in_err-take_edge.ensures.1
+    fault_exit (λ f. f) (IsRefusal s.shape.limit (graph_in s) (commands.Delete (targets.Edge c.args.id))) c.in_err-take_edge.field-0.0
+    c.from_residual-in_err-take_edge.result c.from_residual-in_err-take_edge.ensures.1
     (outside_refused change_reasons s.shape.limit (graph_in s) (commands.Delete (targets.Edge c.args.id)) c.in_err-take_edge.field-0.0
     (c.in_err-take_edge.ensures.sound tells c.args.names.now.names (left g at tells store) (bare g at tells store)))
 
@@ -116,7 +120,8 @@ returns-clause-made g c tells whole =
     let store = midway _ _ whole in
     let at = (goal.at.returns-clause-made g c).After-take_edge in
     let names = c.args.names.now.names in
-    edge_made (g.S.Reads.state c.args.space.now) (g.S.Reads.state c.load.new.space) names c.args.id c.in-Some.rel store (there g at tells store) (read g at tells store)
+    edge_made (g.S.Reads.state c.args.space.now) (g.S.Reads.state c.load.new.space) names c.args.id c.in-Some.rel store (there g at tells store)
+    (read g at tells store)
     (g.S.Reads.state c.drop_all.new.space) c.edge_owner.result c.edge_owner.ensures c.in_ok-dropped.dropped (c.in_ok-dropped.ensures.dropped tells)
     (g.S.Reads.state c.take_edge.new.space) whole.store.indexes (c.in_ok-take_edge.ensures.taken tells names (left g at tells store) (bare g at tells store))
 
@@ -129,7 +134,8 @@ returns-clause-kinds g c tells whole n =
     let u = g.S.Reads.state c.drop_all.new.space in
     let element = edge_element s v c.args.names.now.names c.args.id c.in-Some.rel store (there g at tells store) (read g at tells store) in
     (c.in_ok-take_edge.ensures.taken tells c.args.names.now.names (left g at tells store) (bare g at tells store)).kinds n
-    ∙ dropped_kinds v u c.edge_owner.result (targets.Edge c.args.id) c.in_ok-dropped.dropped c.edge_owner.ensures element (c.in_ok-dropped.ensures.dropped tells) n
+    ∙ dropped_kinds v u c.edge_owner.result (targets.Edge c.args.id) c.in_ok-dropped.dropped c.edge_owner.ensures element
+    (c.in_ok-dropped.ensures.dropped tells) n
     ∙ ap (λ (z : State). kind_at z.records format.nodes_file n) (read g at tells store)
 
 -- what is written, besides the edge
@@ -138,9 +144,11 @@ module _ (g : Over) (c : After-take_edge g) where
   count = c.in_ok-dropped.dropped.properties + c.in_ok-dropped.dropped.blocks
 
   drops : WritesBeside (rel_key c.args.id) count (g.S.Reads.state c.load.new.space) (g.S.Reads.state c.drop_all.new.space)
-  drops = subst (λ (o : Owner). WritesBeside o.key count (g.S.Reads.state c.load.new.space) (g.S.Reads.state c.drop_all.new.space)) c.edge_owner.ensures c.in_ok-dropped.ensures.writes
+  drops = subst (λ (o : Owner). WritesBeside o.key count (g.S.Reads.state c.load.new.space) (g.S.Reads.state c.drop_all.new.space)) c.edge_owner.ensures
+      c.in_ok-dropped.ensures.writes
 
-  written : WritesAtMost (13 + c.in_ok-dropped.dropped.properties + c.in_ok-dropped.dropped.blocks) (g.S.Reads.state c.args.space.now) (g.S.Reads.state c.take_edge.new.space)
+  written : WritesAtMost (13 + c.in_ok-dropped.dropped.properties + c.in_ok-dropped.dropped.blocks) (g.S.Reads.state c.args.space.now)
+      (g.S.Reads.state c.take_edge.new.space)
   written = more_written (omega arith) (then_written (none_written _ _ (was_read g (goal.at.After-take_edge g c).After-drop_all)) (beside_written refl (beside_then drops c.take_edge.ensures.writes)))
 
 pub returns-clause-writes : goal.returns-clause-writes
@@ -149,7 +157,8 @@ returns-clause-writes g c = written g (goal.at.returns-clause-writes g c).After-
 pub returns-in_err-dropped-clause-refused_writes : goal.returns-in_err-dropped-clause-refused_writes
 returns-in_err-dropped-clause-refused_writes g c =
     let v = g.S.Reads.state c.load.new.space in
-    let touched = subst (λ (o : Owner). TouchesProperties g.S.Reads.tells (o.key ∷ []) 32 704 v (g.S.Reads.state c.drop_all.new.space)) c.edge_owner.ensures c.drop_all.ensures.at_most in
+    let touched = subst (λ (o : Owner). TouchesProperties g.S.Reads.tells (o.key ∷ []) 32 704 v (g.S.Reads.state c.drop_all.new.space)) c.edge_owner.ensures
+    c.drop_all.ensures.at_most in
     on_any_err _ _ (more_written (omega arith) (then_written (none_written _ v (was_read g (goal.at.returns-in_err-dropped-clause-refused_writes g c).After-drop_all)) (touched_written refl touched)))
 
 pub returns-in_err-take_edge-clause-refused_writes : goal.returns-in_err-take_edge-clause-refused_writes
@@ -189,7 +198,8 @@ returns-in_err-dropped-clause-caused g c tells =
     let s = g.S.Reads.state c.args.space.now in
     let t = g.S.Reads.state c.drop_all.new.space in
     let names = c.args.names.now.names in
-    fault_exit of_fault (IsCaused command s t names names) c.in_err-dropped.field-0.0 c.from_residual-in_err-dropped.result c.from_residual-in_err-dropped.ensures.1
+    fault_exit of_fault (IsCaused command s t names names) c.in_err-dropped.field-0.0 c.from_residual-in_err-dropped.result
+    c.from_residual-in_err-dropped.ensures.1
     (failure_caused command s t names names (of_fault c.in_err-dropped.field-0.0) (fault_fails c.in_err-dropped.field-0.0))
 
 pub returns-in_err-take_edge-clause-caused : goal.returns-in_err-take_edge-clause-caused
@@ -198,16 +208,20 @@ returns-in_err-take_edge-clause-caused g c tells =
     let s = g.S.Reads.state c.args.space.now in
     let t = g.S.Reads.state c.take_edge.new.space in
     let names = c.args.names.now.names in
-    fault_exit (λ f. f) (IsCaused command s t names names) c.in_err-take_edge.field-0.0 c.from_residual-in_err-take_edge.result c.from_residual-in_err-take_edge.ensures.1
+    fault_exit (λ f. f) (IsCaused command s t names names) c.in_err-take_edge.field-0.0 c.from_residual-in_err-take_edge.result
+    c.from_residual-in_err-take_edge.ensures.1
     (failure_caused command s t names names c.in_err-take_edge.field-0.0 c.in_err-take_edge.ensures.failure)
 
 pub returns-in_err-dropped-clause-cause : goal.returns-in_err-dropped-clause-cause
 returns-in_err-dropped-clause-cause g c =
-    fault_cause_passed _ _ _ c.from_residual-in_err-dropped.result c.in_err-dropped.field-0.0 c.in_ok-rel.ensures.cause.later c.in_err-dropped.ensures.cause c.from_residual-in_err-dropped.ensures.1
+    fault_cause_passed _ _ _ c.from_residual-in_err-dropped.result c.in_err-dropped.field-0.0 c.in_ok-rel.ensures.cause.later c.in_err-dropped.ensures.cause
+    c.from_residual-in_err-dropped.ensures.1
 
 pub returns-in_err-take_edge-clause-cause : goal.returns-in_err-take_edge-clause-cause
 returns-in_err-take_edge-clause-cause g c =
-    change_cause_passed _ _ _ c.from_residual-in_err-take_edge.result c.in_err-take_edge.field-0.0 (later_on c.in_ok-rel.ensures.cause.later c.in_ok-dropped.ensures.cause.later) c.in_err-take_edge.ensures.cause c.from_residual-in_err-take_edge.ensures.1
+    change_cause_passed _ _ _ c.from_residual-in_err-take_edge.result c.in_err-take_edge.field-0.0
+    (later_on c.in_ok-rel.ensures.cause.later c.in_ok-dropped.ensures.cause.later) c.in_err-take_edge.ensures.cause
+    c.from_residual-in_err-take_edge.ensures.1
 
 -- ---- which record is blamed
 pub returns-in_err-rel-clause-damaged : goal.returns-in_err-rel-clause-damaged
@@ -250,7 +264,8 @@ returns-in_err-rel-clause-still g c tells =
     let names = c.args.names.now.names in
     let command = commands.Delete (targets.Edge c.args.id) in
     let fault = of_row c.in_err-rel.field-0.0 in
-    fault_exit of_row (IsStillCaused command t names names) c.in_err-rel.field-0.0 c.from_residual.result c.from_residual.ensures.1 (record { caused = failure_caused command t t names names fault (row_fails c.in_err-rel.field-0.0); damaged = any_blamed _ (λ damage. tt) fault })
+    fault_exit of_row (IsStillCaused command t names names) c.in_err-rel.field-0.0 c.from_residual.result c.from_residual.ensures.1
+    (record { caused = failure_caused command t t names names fault (row_fails c.in_err-rel.field-0.0); damaged = any_blamed _ (λ damage. tt) fault })
 
 pub returns-in_err-dropped-clause-still : goal.returns-in_err-dropped-clause-still
 returns-in_err-dropped-clause-still g c tells =
@@ -258,7 +273,8 @@ returns-in_err-dropped-clause-still g c tells =
     let names = c.args.names.now.names in
     let command = commands.Delete (targets.Edge c.args.id) in
     let fault = of_fault c.in_err-dropped.field-0.0 in
-    fault_exit of_fault (IsStillCaused command t names names) c.in_err-dropped.field-0.0 c.from_residual-in_err-dropped.result c.from_residual-in_err-dropped.ensures.1 (record { caused = failure_caused command t t names names fault (fault_fails c.in_err-dropped.field-0.0); damaged = any_blamed _ (λ damage. tt) fault })
+    fault_exit of_fault (IsStillCaused command t names names) c.in_err-dropped.field-0.0 c.from_residual-in_err-dropped.result
+    c.from_residual-in_err-dropped.ensures.1 (record { caused = failure_caused command t t names names fault (fault_fails c.in_err-dropped.field-0.0); damaged = any_blamed _ (λ damage. tt) fault })
 
 pub returns-in_err-take_edge-clause-still : goal.returns-in_err-take_edge-clause-still
 returns-in_err-take_edge-clause-still g c tells =
@@ -266,7 +282,8 @@ returns-in_err-take_edge-clause-still g c tells =
     let names = c.args.names.now.names in
     let command = commands.Delete (targets.Edge c.args.id) in
     let fault = c.in_err-take_edge.field-0.0 in
-    fault_exit (λ f. f) (IsStillCaused command t names names) c.in_err-take_edge.field-0.0 c.from_residual-in_err-take_edge.result c.from_residual-in_err-take_edge.ensures.1 (record { caused = failure_caused command t t names names fault (c.in_err-take_edge.ensures.failure); damaged = any_blamed _ (λ damage. tt) fault })
+    fault_exit (λ f. f) (IsStillCaused command t names names) c.in_err-take_edge.field-0.0 c.from_residual-in_err-take_edge.result
+    c.from_residual-in_err-take_edge.ensures.1 (record { caused = failure_caused command t t names names fault (c.in_err-take_edge.ensures.failure); damaged = any_blamed _ (λ damage. tt) fault })
 
 pub returns-in_default-clause-still : goal.returns-in_default-clause-still
 returns-in_default-clause-still g c tells =
@@ -306,7 +323,8 @@ returns-in_err-take_edge-clause-broken g c tells =
     let id = c.args.id in
     let left = edge_then s v w id (edge_read s v id (was_read g at)) (edge_left v w id (g.met.S.Reads.onward_shape _ _ c.drop_all.ensures.onward)
     (subst (LeavesElement v w) c.edge_owner.ensures (c.drop_all.ensures.leaves tells))) in
-    fault_exit (λ f. f) (BlamesBroken (g.S.Reads.state c.take_edge.new.space)) c.in_err-take_edge.field-0.0 c.from_residual-in_err-take_edge.result c.from_residual-in_err-take_edge.ensures.1
+    fault_exit (λ f. f) (BlamesBroken (g.S.Reads.state c.take_edge.new.space)) c.in_err-take_edge.field-0.0 c.from_residual-in_err-take_edge.result
+    c.from_residual-in_err-take_edge.ensures.1
     (c.in_err-take_edge.ensures.still tells (row_later s w id left c.in-Some.rel (row_found s id c.in-Some.rel (sym (found g at tells)))))
 
 pub returns-in_err-rel-clause-made : goal.returns-in_err-rel-clause-made

@@ -34,7 +34,8 @@ returns-in_err-head-clause-sound g c tells names store there which =
     (end_of s names c.args.id c.args.rel store there c.args.node which m c.end_degree.ensures.state c.at-side.result c.at-side.ensures)))
 
 pub returns-in_err-head-clause-failure : goal.returns-in_err-head-clause-failure
-returns-in_err-head-clause-failure g c = fault_exit of_fault IsFailure c.in_err-head.field-0.0 c.from_residual-in_err-head.result c.from_residual-in_err-head.ensures.1 (fault_fails c.in_err-head.field-0.0)
+returns-in_err-head-clause-failure g c = fault_exit of_fault IsFailure c.in_err-head.field-0.0 c.from_residual-in_err-head.result
+    c.from_residual-in_err-head.ensures.1 (fault_fails c.in_err-head.field-0.0)
 
 -- ---- what it leaves
 pub returns-clause-found : goal.returns-clause-found
@@ -61,18 +62,21 @@ returns-clause-wrote g c = read_then _ _ _ _ c.end_degree.ensures.state c.in_ok-
 
 pub returns-in_err-head-clause-cause : goal.returns-in_err-head-clause-cause
 returns-in_err-head-clause-cause g c =
-    fault_cause_passed _ _ _ c.from_residual-in_err-head.result c.in_err-head.field-0.0 c.in_ok-degree.ensures.cause.later c.in_err-head.ensures.cause c.from_residual-in_err-head.ensures.1
+    fault_cause_passed _ _ _ c.from_residual-in_err-head.result c.in_err-head.field-0.0 c.in_ok-degree.ensures.cause.later c.in_err-head.ensures.cause
+    c.from_residual-in_err-head.ensures.1
 
 -- ---- which record is blamed, and whose the head is
 pub returns-in_err-degree-clause-damaged : goal.returns-in_err-degree-clause-damaged
 returns-in_err-degree-clause-damaged g c tells =
-    fault_exit (λ f. f) (BlamesEnd (g.S.Reads.state c.args.space.now) c.args.id c.args.node c.args.rel.label) c.in_err-degree.field-0.0 c.from_residual.result c.from_residual.ensures.1 (c.in_err-degree.ensures.damaged tells c.args.rel.label)
+    fault_exit (λ f. f) (BlamesEnd (g.S.Reads.state c.args.space.now) c.args.id c.args.node c.args.rel.label) c.in_err-degree.field-0.0 c.from_residual.result
+    c.from_residual.ensures.1 (c.in_err-degree.ensures.damaged tells c.args.rel.label)
 
 pub returns-in_err-head-clause-damaged : goal.returns-in_err-head-clause-damaged
 returns-in_err-head-clause-damaged g c tells =
     let s = g.S.Reads.state c.args.space.now in
     let m = g.S.Reads.state c.end_degree.new.space in
-    fault_exit of_fault (BlamesEnd s c.args.id c.args.node c.args.rel.label) c.in_err-head.field-0.0 c.from_residual-in_err-head.result c.from_residual-in_err-head.ensures.1
+    fault_exit of_fault (BlamesEnd s c.args.id c.args.node c.args.rel.label) c.in_err-head.field-0.0 c.from_residual-in_err-head.result
+    c.from_residual-in_err-head.ensures.1
     (head_blamed s m c.args.id c.args.node c.args.rel.label c.end_degree.ensures.state c.in_err-head.field-0.0 (c.in_err-head.ensures.damaged tells))
 
 pub returns-clause-has : goal.returns-clause-has
@@ -95,7 +99,8 @@ pub returns-clause-counts : goal.returns-clause-counts
 returns-clause-counts g c tells =
     let s = g.S.Reads.state c.args.space.now in
     let m = g.S.Reads.state c.end_degree.new.space in
-    counted_then s.records m.records (g.S.Reads.state c.open_head.new.space).records (counted_read s m c.end_degree.ensures.state) (c.in_ok-head.ensures.counts tells)
+    counted_then s.records m.records (g.S.Reads.state c.open_head.new.space).records (counted_read s m c.end_degree.ensures.state)
+    (c.in_ok-head.ensures.counts tells)
 
 -- ---- in the space as it is left
 pub returns-in_err-degree-clause-still : goal.returns-in_err-degree-clause-still

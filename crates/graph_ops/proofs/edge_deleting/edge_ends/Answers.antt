@@ -18,7 +18,8 @@ use Rattle.graph_ops.proofs.edge_deleting.edge_ends.Goals as goal
 -- ---- why it fails
 pub returns-in_err-source-clause-sound : goal.returns-in_err-source-clause-sound
 returns-in_err-source-clause-sound g c tells names store there =
-    fault_exit (λ f. f) IsOutside c.in_err-source.field-0.0 c.from_residual.result c.from_residual.ensures.1 (c.in_err-source.ensures.sound tells names store there (inl refl))
+    fault_exit (λ f. f) IsOutside c.in_err-source.field-0.0 c.from_residual.result c.from_residual.ensures.1
+    (c.in_err-source.ensures.sound tells names store there (inl refl))
 
 pub returns-in_err-target-clause-sound : goal.returns-in_err-target-clause-sound
 returns-in_err-target-clause-sound g c tells names store there =
@@ -33,7 +34,8 @@ pub returns-then-rel-clause-found : goal.returns-then-rel-clause-found
 returns-then-rel-clause-found g c tells names store there =
     let s = g.S.Reads.state c.args.space.now in
     let t = g.S.Reads.state c.edge_end.new.space in
-    loop_found s t names c.args.id c.args.rel there c.in_ok-source.source c.in_ok-source.ensures.node (c.in_ok-source.ensures.found tells names store there (inl refl)) c.if-rel.true
+    loop_found s t names c.args.id c.args.rel there c.in_ok-source.source c.in_ok-source.ensures.node
+    (c.in_ok-source.ensures.found tells names store there (inl refl)) c.if-rel.true
 
 pub returns-clause-found : goal.returns-clause-found
 returns-clause-found g c tells names store there =
@@ -41,7 +43,8 @@ returns-clause-found g c tells names store there =
     let t = g.S.Reads.state c.edge_end.new.space in
     let u = g.S.Reads.state c.edge_end-2.new.space in
     let first = c.in_ok-source.ensures.found tells names store there (inl refl) in
-    both_found s t names c.args.id c.args.rel there c.in_ok-source.source c.in_ok-source.ensures.node first u c.in_ok-target.target c.in_ok-target.ensures.node c.if-rel.false
+    both_found s t names c.args.id c.args.rel there c.in_ok-source.source c.in_ok-source.ensures.node first u c.in_ok-target.target c.in_ok-target.ensures.node
+    c.if-rel.false
     (c.in_ok-target.ensures.found tells names first.store (there_then s t names c.args.id c.args.rel there c.in_ok-source.source c.in_ok-source.ensures.node first) (inr refl))
 
 -- ---- what it writes
@@ -65,7 +68,8 @@ returns-clause-wrote g c = writes_then _ _ _ _ _ c.in_ok-source.ensures.wrote c.
 
 pub returns-in_err-target-clause-cause : goal.returns-in_err-target-clause-cause
 returns-in_err-target-clause-cause g c =
-    change_cause_passed _ _ _ c.from_residual-in_err-target.result c.in_err-target.field-0.0 c.in_ok-source.ensures.cause.later c.in_err-target.ensures.cause c.from_residual-in_err-target.ensures.1
+    change_cause_passed _ _ _ c.from_residual-in_err-target.result c.in_err-target.field-0.0 c.in_ok-source.ensures.cause.later c.in_err-target.ensures.cause
+    c.from_residual-in_err-target.ensures.1
 
 -- ---- which record is blamed, and whose the heads are
 pub returns-in_err-source-clause-damaged : goal.returns-in_err-source-clause-damaged
@@ -98,7 +102,8 @@ returns-clause-ends g c = record { each = (c.in_ok-source.ensures.end, c.in_ok-t
 
 pub returns-then-rel-clause-counts : goal.returns-then-rel-clause-counts
 returns-then-rel-clause-counts g c tells =
-    edge_counted (g.S.Reads.state c.args.space.now) (g.S.Reads.state c.edge_end.new.space) c.args.id (g.met.S.Reads.onward_shape _ _ c.edge_end.ensures.onward) (c.in_ok-source.ensures.counts tells)
+    edge_counted (g.S.Reads.state c.args.space.now) (g.S.Reads.state c.edge_end.new.space) c.args.id (g.met.S.Reads.onward_shape _ _ c.edge_end.ensures.onward)
+    (c.in_ok-source.ensures.counts tells)
 
 pub returns-clause-counts : goal.returns-clause-counts
 returns-clause-counts g c tells =
@@ -124,12 +129,14 @@ returns-clause-placed g c tells property =
 -- ---- in the space as it is left
 pub returns-in_err-source-clause-still : goal.returns-in_err-source-clause-still
 returns-in_err-source-clause-still g c tells has =
-    fault_exit (λ f. f) (BlamesBroken (g.S.Reads.state c.edge_end.new.space)) c.in_err-source.field-0.0 c.from_residual.result c.from_residual.ensures.1 (c.in_err-source.ensures.still tells has (inl refl))
+    fault_exit (λ f. f) (BlamesBroken (g.S.Reads.state c.edge_end.new.space)) c.in_err-source.field-0.0 c.from_residual.result c.from_residual.ensures.1
+    (c.in_err-source.ensures.still tells has (inl refl))
 
 pub returns-in_err-target-clause-still : goal.returns-in_err-target-clause-still
 returns-in_err-target-clause-still g c tells has =
     let s = g.S.Reads.state c.args.space.now in
     let m = g.S.Reads.state c.edge_end.new.space in
     let left = edge_counted s m c.args.id (g.met.S.Reads.onward_shape _ _ c.edge_end.ensures.onward) (c.in_ok-source.ensures.counts tells) in
-    fault_exit (λ f. f) (BlamesBroken (g.S.Reads.state c.edge_end-2.new.space)) c.in_err-target.field-0.0 c.from_residual-in_err-target.result c.from_residual-in_err-target.ensures.1
+    fault_exit (λ f. f) (BlamesBroken (g.S.Reads.state c.edge_end-2.new.space)) c.in_err-target.field-0.0 c.from_residual-in_err-target.result
+    c.from_residual-in_err-target.ensures.1
     (c.in_err-target.ensures.still tells (row_later s m c.args.id left c.args.rel has) (inr refl))

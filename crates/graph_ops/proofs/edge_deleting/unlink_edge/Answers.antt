@@ -19,14 +19,16 @@ use Rattle.graph_ops.proofs.edge_deleting.unlink_edge.Goals as goal
 -- ---- why it fails
 pub returns-in_err-part_edge-clause-sound : goal.returns-in_err-part_edge-clause-sound
 returns-in_err-part_edge-clause-sound g c tells names store bare =
-    fault_exit (λ f. f) IsOutside c.in_err-part_edge.field-0.0 c.from_residual.result c.from_residual.ensures.1 (c.in_err-part_edge.ensures.sound tells names store bare)
+    fault_exit (λ f. f) IsOutside c.in_err-part_edge.field-0.0 c.from_residual.result c.from_residual.ensures.1
+    (c.in_err-part_edge.ensures.sound tells names store bare)
 
 pub returns-in_err-close_chain-in-Loop-clause-sound : goal.returns-in_err-close_chain-in-Loop-clause-sound
 returns-in_err-close_chain-in-Loop-clause-sound g c tells names store bare =
     let s = g.S.Reads.state c.args.space.now in
     let u = g.S.Reads.state c.part_edge.new.space in
     let parts = subst (PartsEdge s u names c.args.id) c.in-Loop.is (c.in_ok-part_edge.ensures.parted tells names store bare) in
-    fault_exit of_fault IsOutside c.in_err-close_chain-in-Loop.field-0.0 c.from_residual-in_err-close_chain-in-Loop.result c.from_residual-in_err-close_chain-in-Loop.ensures.1
+    fault_exit of_fault IsOutside c.in_err-close_chain-in-Loop.field-0.0 c.from_residual-in_err-close_chain-in-Loop.result
+    c.from_residual-in_err-close_chain-in-Loop.ensures.1
     (fault_outside Unit c.in_err-close_chain-in-Loop.field-0.0 (c.in_err-close_chain-in-Loop.ensures.sound tells _ _
     (source_closes s u names c.args.id (Loop c.in-Loop.end) (subst (IsBareEdge s c.args.id) c.in-Loop.is bare) parts)))
 
@@ -35,7 +37,8 @@ returns-in_err-close_chain-in-Two-clause-sound g c tells names store bare =
     let s = g.S.Reads.state c.args.space.now in
     let u = g.S.Reads.state c.part_edge.new.space in
     let parts = subst (PartsEdge s u names c.args.id) c.in-Two.is (c.in_ok-part_edge.ensures.parted tells names store bare) in
-    fault_exit of_fault IsOutside c.in_err-close_chain-in-Two.field-0.0 c.from_residual-in_err-close_chain-in-Two.result c.from_residual-in_err-close_chain-in-Two.ensures.1
+    fault_exit of_fault IsOutside c.in_err-close_chain-in-Two.field-0.0 c.from_residual-in_err-close_chain-in-Two.result
+    c.from_residual-in_err-close_chain-in-Two.ensures.1
     (fault_outside Unit c.in_err-close_chain-in-Two.field-0.0 (c.in_err-close_chain-in-Two.ensures.sound tells _ _
     (source_closes s u names c.args.id (Two c.in-Two.source c.in-Two.target) (subst (IsBareEdge s c.args.id) c.in-Two.is bare) parts)))
 
@@ -48,7 +51,8 @@ returns-in_err-close_chain-in-Two-2-clause-sound g c tells names store bare =
     let here = subst (IsBareEdge s c.args.id) c.in-Two.is bare in
     let parts = subst (PartsEdge s u names c.args.id) c.in-Two.is (c.in_ok-part_edge.ensures.parted tells names store bare) in
     let differ : c.in-Two.source.node ≢ c.in-Two.target.node = subst (AreApart (λ (end : EdgeEnd). end.node)) c.in-Two.is c.requires.ends.apart in
-    fault_exit of_fault IsOutside c.in_err-close_chain-in-Two-2.field-0.0 c.from_residual-in_err-close_chain-in-Two-2.result c.from_residual-in_err-close_chain-in-Two-2.ensures.1
+    fault_exit of_fault IsOutside c.in_err-close_chain-in-Two-2.field-0.0 c.from_residual-in_err-close_chain-in-Two-2.result
+    c.from_residual-in_err-close_chain-in-Two-2.ensures.1
     (fault_outside Unit c.in_err-close_chain-in-Two-2.field-0.0 (c.in_err-close_chain-in-Two-2.ensures.sound tells _ _
     (target_closes s u names c.args.id ends here parts v (c.in_ok-close_chain-in-Two.ensures.closed tells _ _ (source_closes s u names c.args.id ends here parts)) differ refl)))
 
@@ -61,7 +65,8 @@ returns-in_ok-close_chain-in-Loop-clause-taken g c tells names store bare =
     let ends = Loop c.in-Loop.end in
     let here = subst (IsBareEdge s c.args.id) c.in-Loop.is bare in
     let parts = subst (PartsEdge s u names c.args.id) c.in-Loop.is (c.in_ok-part_edge.ensures.parted tells names store bare) in
-    loop_taken s u names c.args.id ends here parts v (c.in_ok-close_chain-in-Loop.ensures.closed tells _ _ (source_closes s u names c.args.id ends here parts)) refl
+    loop_taken s u names c.args.id ends here parts v (c.in_ok-close_chain-in-Loop.ensures.closed tells _ _ (source_closes s u names c.args.id ends here parts))
+    refl
 
 pub returns-in_ok-close_chain-in-Two-2-clause-taken : goal.returns-in_ok-close_chain-in-Two-2-clause-taken
 returns-in_ok-close_chain-in-Two-2-clause-taken g c tells names store bare =
@@ -121,21 +126,26 @@ returns-in_ok-close_chain-in-Two-2-clause-writes g c =
 
 pub returns-in_err-close_chain-in-Loop-clause-cause : goal.returns-in_err-close_chain-in-Loop-clause-cause
 returns-in_err-close_chain-in-Loop-clause-cause g c =
-    fault_cause_passed _ _ _ c.from_residual-in_err-close_chain-in-Loop.result c.in_err-close_chain-in-Loop.field-0.0 c.in_ok-part_edge.ensures.cause.later c.in_err-close_chain-in-Loop.ensures.cause c.from_residual-in_err-close_chain-in-Loop.ensures.1
+    fault_cause_passed _ _ _ c.from_residual-in_err-close_chain-in-Loop.result c.in_err-close_chain-in-Loop.field-0.0 c.in_ok-part_edge.ensures.cause.later
+    c.in_err-close_chain-in-Loop.ensures.cause c.from_residual-in_err-close_chain-in-Loop.ensures.1
 
 pub returns-in_err-close_chain-in-Two-clause-cause : goal.returns-in_err-close_chain-in-Two-clause-cause
 returns-in_err-close_chain-in-Two-clause-cause g c =
-    fault_cause_passed _ _ _ c.from_residual-in_err-close_chain-in-Two.result c.in_err-close_chain-in-Two.field-0.0 c.in_ok-part_edge.ensures.cause.later c.in_err-close_chain-in-Two.ensures.cause c.from_residual-in_err-close_chain-in-Two.ensures.1
+    fault_cause_passed _ _ _ c.from_residual-in_err-close_chain-in-Two.result c.in_err-close_chain-in-Two.field-0.0 c.in_ok-part_edge.ensures.cause.later
+    c.in_err-close_chain-in-Two.ensures.cause c.from_residual-in_err-close_chain-in-Two.ensures.1
 
 pub returns-in_err-close_chain-in-Two-2-clause-cause : goal.returns-in_err-close_chain-in-Two-2-clause-cause
 returns-in_err-close_chain-in-Two-2-clause-cause g c =
-    fault_cause_passed _ _ _ c.from_residual-in_err-close_chain-in-Two-2.result c.in_err-close_chain-in-Two-2.field-0.0 (later_on c.in_ok-part_edge.ensures.cause.later c.in_ok-close_chain-in-Two.ensures.cause.later) c.in_err-close_chain-in-Two-2.ensures.cause c.from_residual-in_err-close_chain-in-Two-2.ensures.1
+    fault_cause_passed _ _ _ c.from_residual-in_err-close_chain-in-Two-2.result c.in_err-close_chain-in-Two-2.field-0.0
+    (later_on c.in_ok-part_edge.ensures.cause.later c.in_ok-close_chain-in-Two.ensures.cause.later) c.in_err-close_chain-in-Two-2.ensures.cause
+    c.from_residual-in_err-close_chain-in-Two-2.ensures.1
 
 -- ---- which record is blamed
 pub returns-in_err-part_edge-clause-damaged : goal.returns-in_err-part_edge-clause-damaged
 returns-in_err-part_edge-clause-damaged g c tells row edge =
     let s = g.S.Reads.state c.args.space.now in
-    fault_exit (λ f. f) (IfBlames (λ damage. IsPartedDamage s c.args.id row.from row.to damage ⊎ IsUndroppedDamage s damage)) c.in_err-part_edge.field-0.0 c.from_residual.result c.from_residual.ensures.1
+    fault_exit (λ f. f) (IfBlames (λ damage. IsPartedDamage s c.args.id row.from row.to damage ⊎ IsUndroppedDamage s damage)) c.in_err-part_edge.field-0.0
+    c.from_residual.result c.from_residual.ensures.1
     (blames_more _ _ (λ damage told. inl told) c.in_err-part_edge.field-0.0 (c.in_err-part_edge.ensures.damaged tells row edge))
 
 pub returns-in_err-close_chain-in-Loop-clause-damaged : goal.returns-in_err-close_chain-in-Loop-clause-damaged
@@ -148,7 +158,8 @@ returns-in_err-close_chain-in-Loop-clause-damaged g c tells row edge =
     let now = c.in_ok-part_edge.ensures.heads tells heads (head_of end.head) end.node was in
     let fault = c.in_err-close_chain-in-Loop.field-0.0 in
     let told = c.in_err-close_chain-in-Loop.ensures in
-    fault_exit of_fault (IfBlames (λ damage. IsPartedDamage s c.args.id row.from row.to damage ⊎ IsUndroppedDamage s damage)) fault c.from_residual-in_err-close_chain-in-Loop.result c.from_residual-in_err-close_chain-in-Loop.ensures.1
+    fault_exit of_fault (IfBlames (λ damage. IsPartedDamage s c.args.id row.from row.to damage ⊎ IsUndroppedDamage s damage)) fault
+    c.from_residual-in_err-close_chain-in-Loop.result c.from_residual-in_err-close_chain-in-Loop.ensures.1
     (blames_more _ _ (λ damage told. inr told) (of_fault fault) (close_blamed s u (head_of end.head) end.node (c.in_ok-part_edge.ensures.groups tells heads) was now told.grouped fault (told.damaged tells)))
 
 pub returns-in_err-close_chain-in-Two-clause-damaged : goal.returns-in_err-close_chain-in-Two-clause-damaged
@@ -161,7 +172,8 @@ returns-in_err-close_chain-in-Two-clause-damaged g c tells row edge =
     let now = c.in_ok-part_edge.ensures.heads tells heads (head_of end.head) end.node has.0 in
     let fault = c.in_err-close_chain-in-Two.field-0.0 in
     let told = c.in_err-close_chain-in-Two.ensures in
-    fault_exit of_fault (IfBlames (λ damage. IsPartedDamage s c.args.id row.from row.to damage ⊎ IsUndroppedDamage s damage)) fault c.from_residual-in_err-close_chain-in-Two.result c.from_residual-in_err-close_chain-in-Two.ensures.1
+    fault_exit of_fault (IfBlames (λ damage. IsPartedDamage s c.args.id row.from row.to damage ⊎ IsUndroppedDamage s damage)) fault
+    c.from_residual-in_err-close_chain-in-Two.result c.from_residual-in_err-close_chain-in-Two.ensures.1
     (blames_more _ _ (λ damage told. inr told) (of_fault fault) (close_blamed s u (head_of end.head) end.node (c.in_ok-part_edge.ensures.groups tells heads) has.0 now told.grouped fault (told.damaged tells)))
 
 pub returns-in_err-close_chain-in-Two-2-clause-damaged : goal.returns-in_err-close_chain-in-Two-2-clause-damaged
@@ -180,14 +192,16 @@ returns-in_err-close_chain-in-Two-2-clause-damaged g c tells row edge =
     let now = c.in_ok-close_chain-in-Two.ensures.heads tells first (head_of end.head) end.node (λ e. differ (sym e)) mid in
     let fault = c.in_err-close_chain-in-Two-2.field-0.0 in
     let told = c.in_err-close_chain-in-Two-2.ensures in
-    fault_exit of_fault (IfBlames (λ damage. IsPartedDamage s c.args.id row.from row.to damage ⊎ IsUndroppedDamage s damage)) fault c.from_residual-in_err-close_chain-in-Two-2.result c.from_residual-in_err-close_chain-in-Two-2.ensures.1
+    fault_exit of_fault (IfBlames (λ damage. IsPartedDamage s c.args.id row.from row.to damage ⊎ IsUndroppedDamage s damage)) fault
+    c.from_residual-in_err-close_chain-in-Two-2.result c.from_residual-in_err-close_chain-in-Two-2.ensures.1
     (blames_more _ _ (λ damage told. inr told) (of_fault fault) (later_blamed s u v (head_of end.head) source.node end.node (c.in_ok-part_edge.ensures.groups tells heads) (c.in_ok-close_chain-in-Two.ensures.others tells first)
     (λ e. differ (sym e)) has.1 mid now told.grouped fault (told.damaged tells)))
 
 -- ---- in the space as it is left
 pub returns-in_err-part_edge-clause-still : goal.returns-in_err-part_edge-clause-still
 returns-in_err-part_edge-clause-still g c tells row edge =
-    fault_exit (λ f. f) (BlamesBroken (g.S.Reads.state c.part_edge.new.space)) c.in_err-part_edge.field-0.0 c.from_residual.result c.from_residual.ensures.1 (c.in_err-part_edge.ensures.still tells row edge)
+    fault_exit (λ f. f) (BlamesBroken (g.S.Reads.state c.part_edge.new.space)) c.in_err-part_edge.field-0.0 c.from_residual.result c.from_residual.ensures.1
+    (c.in_err-part_edge.ensures.still tells row edge)
 
 pub returns-in_err-close_chain-in-Loop-clause-still : goal.returns-in_err-close_chain-in-Loop-clause-still
 returns-in_err-close_chain-in-Loop-clause-still g c tells row edge =

@@ -21,14 +21,17 @@ pub returns-in_err-push_counted-clause-writes : goal.returns-in_err-push_counted
 returns-in_err-push_counted-clause-writes g c = head_written _ _ c.args.rel c.args.end c.push_counted.ensures.writes
 
 pub returns-in_err-push_counted-clause-failure : goal.returns-in_err-push_counted-clause-failure
-returns-in_err-push_counted-clause-failure g c = fault_exit of_fault IsFailure c.in_err-push_counted.field-0.0 c.from_residual.result c.from_residual.ensures.1 (fault_fails c.in_err-push_counted.field-0.0)
+returns-in_err-push_counted-clause-failure g c = fault_exit of_fault IsFailure c.in_err-push_counted.field-0.0 c.from_residual.result c.from_residual.ensures.1
+    (fault_fails c.in_err-push_counted.field-0.0)
 
 pub returns-in_err-set_number-clause-failure : goal.returns-in_err-set_number-clause-failure
-returns-in_err-set_number-clause-failure g c = fault_exit of_space IsFailure c.in_err-set_number.field-0.0 c.from_residual-in_err-set_number.result c.from_residual-in_err-set_number.ensures.1 (space_fails c.in_err-set_number.field-0.0)
+returns-in_err-set_number-clause-failure g c = fault_exit of_space IsFailure c.in_err-set_number.field-0.0 c.from_residual-in_err-set_number.result
+    c.from_residual-in_err-set_number.ensures.1 (space_fails c.in_err-set_number.field-0.0)
 
 pub returns-in_err-set_number-clause-cause : goal.returns-in_err-set_number-clause-cause
 returns-in_err-set_number-clause-cause g c =
-    space_cause_passed _ _ _ c.from_residual-in_err-set_number.result c.in_err-set_number.field-0.0 c.in_ok-push_counted.ensures.cause.later c.in_err-set_number.ensures.cause c.from_residual-in_err-set_number.ensures.1
+    space_cause_passed _ _ _ c.from_residual-in_err-set_number.result c.in_err-set_number.field-0.0 c.in_ok-push_counted.ensures.cause.later
+    c.in_err-set_number.ensures.cause c.from_residual-in_err-set_number.ensures.1
 
 -- ---- which record is blamed, and heads that stay
 pub returns-in_err-push_counted-clause-damaged : goal.returns-in_err-push_counted-clause-damaged
@@ -40,12 +43,14 @@ returns-in_err-push_counted-clause-damaged g c tells owns =
 
 pub returns-in_err-set_number-clause-damaged : goal.returns-in_err-set_number-clause-damaged
 returns-in_err-set_number-clause-damaged g c tells owns =
-    fault_exit of_space (BlamesBroken (g.S.Reads.state c.set_number.new.space)) c.in_err-set_number.field-0.0 c.from_residual-in_err-set_number.result c.from_residual-in_err-set_number.ensures.1 (space_blamed _ c.in_err-set_number.field-0.0)
+    fault_exit of_space (BlamesBroken (g.S.Reads.state c.set_number.new.space)) c.in_err-set_number.field-0.0 c.from_residual-in_err-set_number.result
+    c.from_residual-in_err-set_number.ensures.1 (space_blamed _ c.in_err-set_number.field-0.0)
 
 pub returns-clause-heads : goal.returns-clause-heads
 returns-clause-heads g c tells owns =
     heads_joined_by (g.S.Reads.state c.args.space.now) (head_of c.args.end.head) c.args.end.node owns c.args.rel _
-    (g.S.Reads.state c.push_counted.new.space) (g.S.Reads.state c.set_number.new.space) (c.in_ok-push_counted.ensures.ok tells) (c.in_ok-set_number.ensures.ok tells)
+    (g.S.Reads.state c.push_counted.new.space) (g.S.Reads.state c.set_number.new.space) (c.in_ok-push_counted.ensures.ok tells)
+    (c.in_ok-set_number.ensures.ok tells)
 
 pub returns-in_err-push_counted-clause-ok : goal.returns-in_err-push_counted-clause-ok
 returns-in_err-push_counted-clause-ok g c _ = never_ok c.from_residual.result _ _ c.from_residual.ensures.1

@@ -24,7 +24,8 @@ returns-in-Loop-clause-damaged g c tells heads =
 pub returns-in_err-join_end-in-Two-clause-damaged : goal.returns-in_err-join_end-in-Two-clause-damaged
 returns-in_err-join_end-in-Two-clause-damaged g c tells heads =
     let has = subst (AtEach (HasHead (g.S.Reads.state c.args.space.now).records)) c.in-Two.is heads in
-    fault_exit (λ f. f) (BlamesBroken (g.S.Reads.state c.join_end-in-Two.new.space)) c.in_err-join_end-in-Two.field-0.0 c.from_residual.result c.from_residual.ensures.1
+    fault_exit (λ f. f) (BlamesBroken (g.S.Reads.state c.join_end-in-Two.new.space)) c.in_err-join_end-in-Two.field-0.0 c.from_residual.result
+    c.from_residual.ensures.1
     (c.in_err-join_end-in-Two.ensures.damaged tells has.0)
 
 pub returns-in_ok-join_end-in-Two-clause-damaged : goal.returns-in_ok-join_end-in-Two-clause-damaged

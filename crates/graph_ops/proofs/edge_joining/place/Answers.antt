@@ -55,25 +55,30 @@ returns-clause-writes g c = written g (goal.at.returns-clause-writes g c).After-
 
 pub returns-in_err-save-clause-err_writes : goal.returns-in_err-save-clause-err_writes
 returns-in_err-save-clause-err_writes g c =
-    let w : (id : ℕ) × WritesOnly (g.S.Reads.state c.args.space.now) (g.S.Reads.state c.save.new.space) (rel_key id ∷ meta_keys) = (c.in_ok-id.id, written g (goal.at.returns-in_err-save-clause-err_writes g c).After-save) in
+    let w : (id : ℕ) × WritesOnly (g.S.Reads.state c.args.space.now) (g.S.Reads.state c.save.new.space) (rel_key id ∷ meta_keys) =
+    (c.in_ok-id.id, written g (goal.at.returns-in_err-save-clause-err_writes g c).After-save) in
     on_any_err _ _ w
 
 pub returns-in_err-id-clause-err_writes : goal.returns-in_err-id-clause-err_writes
 returns-in_err-id-clause-err_writes g c =
-    let w : (id : ℕ) × WritesOnly (g.S.Reads.state c.args.space.now) (g.S.Reads.state c.take_id.new.space) (rel_key id ∷ meta_keys) = (0, only_read _ _ (rel_key 0 ∷ meta_keys) c.in_err-id.ensures.err) in
+    let w : (id : ℕ) × WritesOnly (g.S.Reads.state c.args.space.now) (g.S.Reads.state c.take_id.new.space) (rel_key id ∷ meta_keys) =
+    (0, only_read _ _ (rel_key 0 ∷ meta_keys) c.in_err-id.ensures.err) in
     on_any_err _ _ w
 
 pub returns-in_err-save-clause-failure : goal.returns-in_err-save-clause-failure
-returns-in_err-save-clause-failure g c = fault_exit of_space IsFailure c.in_err-save.field-0.0 c.from_residual-in_err-save.result c.from_residual-in_err-save.ensures.1 (space_fails c.in_err-save.field-0.0)
+returns-in_err-save-clause-failure g c = fault_exit of_space IsFailure c.in_err-save.field-0.0 c.from_residual-in_err-save.result
+    c.from_residual-in_err-save.ensures.1 (space_fails c.in_err-save.field-0.0)
 
 pub returns-in_err-save-clause-cause : goal.returns-in_err-save-clause-cause
 returns-in_err-save-clause-cause g c =
-    space_cause_passed _ _ _ c.from_residual-in_err-save.result c.in_err-save.field-0.0 c.in_ok-id.ensures.cause.later c.in_err-save.ensures.cause c.from_residual-in_err-save.ensures.1
+    space_cause_passed _ _ _ c.from_residual-in_err-save.result c.in_err-save.field-0.0 c.in_ok-id.ensures.cause.later c.in_err-save.ensures.cause
+    c.from_residual-in_err-save.ensures.1
 
 -- ---- which record is blamed, and heads that stay
 pub returns-in_err-save-clause-damaged : goal.returns-in_err-save-clause-damaged
 returns-in_err-save-clause-damaged g c tells has =
-    fault_exit of_space (BlamesBroken (g.S.Reads.state c.save.new.space)) c.in_err-save.field-0.0 c.from_residual-in_err-save.result c.from_residual-in_err-save.ensures.1 (space_blamed _ c.in_err-save.field-0.0)
+    fault_exit of_space (BlamesBroken (g.S.Reads.state c.save.new.space)) c.in_err-save.field-0.0 c.from_residual-in_err-save.result
+    c.from_residual-in_err-save.ensures.1 (space_blamed _ c.in_err-save.field-0.0)
 
 pub returns-clause-heads : goal.returns-clause-heads
 returns-clause-heads g c tells =

@@ -13,7 +13,8 @@ use Rattle.graph_ops.specs.declared.edge_end.EndDegree.{EndDegree}
 use Rattle.graph_ops.specs.declared.edge_end.Ends.TheVariants.{Loop, Two}
 use Rattle.store_rules.proofs.WriteLaws.{beside_written, more_written, then_written}
 use Rattle.graph_ops.proofs.DiskCauses.{change_cause_passed}
-use Rattle.graph_ops.proofs.EdgeOpening.{both_opened, can_link, end_of, in_side, joint_of, loop_opened, loop_side, out_side, source_can, source_room, target_can, target_room}
+use Rattle.graph_ops.proofs.EdgeOpening.{both_opened, can_link, end_of, in_side, joint_of, loop_opened, loop_side}
+use Rattle.graph_ops.proofs.EdgeOpening.{out_side, source_can, source_room, target_can, target_room}
 use Rattle.graph_ops.proofs.Exits.{fault_exit}
 use Rattle.graph_ops.proofs.JoinBlames.{meta_beside, used_beside}
 use Rattle.graph_ops.proofs.OpenWrites.{both_wrote}
@@ -42,12 +43,14 @@ returns-in_ok-only-in-Loop-clause-opened g c tells names can =
 
 pub returns-in_err-only-in-Loop-clause-writes : goal.returns-in_err-only-in-Loop-clause-writes
 returns-in_err-only-in-Loop-clause-writes g c =
-    let count : ends_moved c.args.joint.threshold c.args.joint.ends ≡ moved_writes c.args.joint.threshold c.in-Loop.end.degree = ap (ends_moved c.args.joint.threshold) c.in-Loop.is in
+    let count : ends_moved c.args.joint.threshold c.args.joint.ends ≡ moved_writes c.args.joint.threshold c.in-Loop.end.degree =
+    ap (ends_moved c.args.joint.threshold) c.in-Loop.is in
     more_written (omega arith) (beside_written refl c.open_end.ensures.writes)
 
 pub returns-in_ok-only-in-Loop-clause-writes : goal.returns-in_ok-only-in-Loop-clause-writes
 returns-in_ok-only-in-Loop-clause-writes g c =
-    let count : ends_moved c.args.joint.threshold c.args.joint.ends ≡ moved_writes c.args.joint.threshold c.in-Loop.end.degree = ap (ends_moved c.args.joint.threshold) c.in-Loop.is in
+    let count : ends_moved c.args.joint.threshold c.args.joint.ends ≡ moved_writes c.args.joint.threshold c.in-Loop.end.degree =
+    ap (ends_moved c.args.joint.threshold) c.in-Loop.is in
     more_written (omega arith) (beside_written refl c.open_end.ensures.writes)
 
 pub returns-in_err-only-in-Loop-clause-damaged : goal.returns-in_err-only-in-Loop-clause-damaged
@@ -56,14 +59,16 @@ returns-in_err-only-in-Loop-clause-damaged g c tells used limit =
     (c.in_err-only-in-Loop.ensures.damaged tells (subst (AtEach (IsUsedEnd (g.S.Reads.state c.args.space.now))) c.in-Loop.is used) (omega (arith, limit)))
 
 pub returns-in_ok-only-in-Loop-clause-beside : goal.returns-in_ok-only-in-Loop-clause-beside
-returns-in_ok-only-in-Loop-clause-beside g c tells = meta_beside (g.S.Reads.state c.args.space.now) (g.S.Reads.state c.open_end.new.space) c.in-Loop.end.node (c.in_ok-only-in-Loop.ensures.beside tells)
+returns-in_ok-only-in-Loop-clause-beside g c tells = meta_beside (g.S.Reads.state c.args.space.now) (g.S.Reads.state c.open_end.new.space) c.in-Loop.end.node
+    (c.in_ok-only-in-Loop.ensures.beside tells)
 
 pub returns-in_ok-last-in-Two-clause-beside : goal.returns-in_ok-last-in-Two-clause-beside
 returns-in_ok-last-in-Two-clause-beside g c tells =
     let s = g.S.Reads.state c.args.space.now in
     let t = g.S.Reads.state c.open_end-in-Two.new.space in
     let u = g.S.Reads.state c.open_end-in-Two-2.new.space in
-    meta_beside t u c.in-Two.target.node (c.in_ok-last-in-Two.ensures.beside tells) ∙ meta_beside s t c.in-Two.source.node (c.in_ok-first-in-Two.ensures.beside tells)
+    meta_beside t u c.in-Two.target.node (c.in_ok-last-in-Two.ensures.beside tells)
+    ∙ meta_beside s t c.in-Two.source.node (c.in_ok-first-in-Two.ensures.beside tells)
 
 -- ---- two nodes
 pub returns-in_err-first-in-Two-clause-sound : goal.returns-in_err-first-in-Two-clause-sound
@@ -81,12 +86,15 @@ returns-in_err-first-in-Two-clause-sound g c tells names can room =
 differs : (g : Over) (c : In_ok-first-in-Two g) → c.in-Two.source.node ≢ c.in-Two.target.node
 differs g c = subst (AreApart (λ (end : EndDegree). end.node)) c.in-Two.is c.requires.apart
 
-here_can : (g : Over) (c : In_ok-first-in-Two g) (names : List (List ℕ)) → CanLink (g.S.Reads.state c.args.space.now) names c.args.joint → CanLink (g.S.Reads.state c.args.space.now) names (joint_of c.args.joint (Two c.in-Two.source c.in-Two.target))
+here_can : (g : Over) (c : In_ok-first-in-Two g) (names : List (List ℕ)) → CanLink (g.S.Reads.state c.args.space.now) names c.args.joint
+    → CanLink (g.S.Reads.state c.args.space.now) names (joint_of c.args.joint (Two c.in-Two.source c.in-Two.target))
 here_can g c names can = can_link (g.S.Reads.state c.args.space.now) names c.args.joint (Two c.in-Two.source c.in-Two.target) c.in-Two.is can
 
 -- the source's head is open
-first_open : (g : Over) (c : In_ok-first-in-Two g) → g.S.Reads.tells → (names : List (List ℕ)) → CanLink (g.S.Reads.state c.args.space.now) names c.args.joint → (id : ℕ)
-    → OpensChain (g.S.Reads.state c.args.space.now) (g.S.Reads.state c.open_end-in-Two.new.space) (head_of c.in_ok-first-in-Two.first.head) c.in-Two.source.node (edge_row id c.args.joint.label c.in-Two.source.node c.in-Two.target.node) []
+first_open : (g : Over) (c : In_ok-first-in-Two g) → g.S.Reads.tells → (names : List (List ℕ)) → CanLink (g.S.Reads.state c.args.space.now) names c.args.joint
+    → (id : ℕ)
+    → OpensChain (g.S.Reads.state c.args.space.now) (g.S.Reads.state c.open_end-in-Two.new.space) (head_of c.in_ok-first-in-Two.first.head) c.in-Two.source.node
+    (edge_row id c.args.joint.label c.in-Two.source.node c.in-Two.target.node) []
 first_open g c tells names can id =
     c.in_ok-first-in-Two.ensures.opened tells _ [] (source_can (g.S.Reads.state c.args.space.now) names (joint_of c.args.joint (Two c.in-Two.source c.in-Two.target)) (here_can g c names can) sides.Out (out_side c.in-Two.source.node c.in-Two.target.node (differs g c)) id)
 
@@ -123,19 +131,22 @@ returns-in_ok-last-in-Two-clause-opened g c tells names can =
 pub returns-in_err-first-in-Two-clause-writes : goal.returns-in_err-first-in-Two-clause-writes
 returns-in_err-first-in-Two-clause-writes g c =
     let threshold = c.args.joint.threshold in
-    let count : ends_moved threshold c.args.joint.ends ≡ moved_writes threshold c.in-Two.source.degree + moved_writes threshold c.in-Two.target.degree = ap (ends_moved threshold) c.in-Two.is in
+    let count : ends_moved threshold c.args.joint.ends ≡ moved_writes threshold c.in-Two.source.degree + moved_writes threshold c.in-Two.target.degree =
+    ap (ends_moved threshold) c.in-Two.is in
     more_written (omega arith) (beside_written refl c.open_end-in-Two.ensures.writes)
 
 pub returns-in_err-last-in-Two-clause-writes : goal.returns-in_err-last-in-Two-clause-writes
 returns-in_err-last-in-Two-clause-writes g c =
     let threshold = c.args.joint.threshold in
-    let count : ends_moved threshold c.args.joint.ends ≡ moved_writes threshold c.in-Two.source.degree + moved_writes threshold c.in-Two.target.degree = ap (ends_moved threshold) c.in-Two.is in
+    let count : ends_moved threshold c.args.joint.ends ≡ moved_writes threshold c.in-Two.source.degree + moved_writes threshold c.in-Two.target.degree =
+    ap (ends_moved threshold) c.in-Two.is in
     more_written (omega arith) (then_written (beside_written refl c.open_end-in-Two.ensures.writes) (beside_written refl c.open_end-in-Two-2.ensures.writes))
 
 pub returns-in_ok-last-in-Two-clause-writes : goal.returns-in_ok-last-in-Two-clause-writes
 returns-in_ok-last-in-Two-clause-writes g c =
     let threshold = c.args.joint.threshold in
-    let count : ends_moved threshold c.args.joint.ends ≡ moved_writes threshold c.in-Two.source.degree + moved_writes threshold c.in-Two.target.degree = ap (ends_moved threshold) c.in-Two.is in
+    let count : ends_moved threshold c.args.joint.ends ≡ moved_writes threshold c.in-Two.source.degree + moved_writes threshold c.in-Two.target.degree =
+    ap (ends_moved threshold) c.in-Two.is in
     more_written (omega arith) (then_written (beside_written refl c.open_end-in-Two.ensures.writes) (beside_written refl c.open_end-in-Two-2.ensures.writes))
 
 pub returns-in_ok-last-in-Two-clause-wrote : goal.returns-in_ok-last-in-Two-clause-wrote
@@ -147,20 +158,23 @@ returns-in_ok-last-in-Two-clause-wrote g c =
     let b = c.in-Two.target in
     let threshold = c.args.joint.threshold in
     let most = 2 + ends_moved threshold c.args.joint.ends in
-    let count : ends_moved threshold c.args.joint.ends ≡ moved_writes threshold a.degree + moved_writes threshold b.degree = ap (ends_moved threshold) c.in-Two.is in
+    let count : ends_moved threshold c.args.joint.ends ≡ moved_writes threshold a.degree + moved_writes threshold b.degree =
+    ap (ends_moved threshold) c.in-Two.is in
     subst (λ (e : EdgeEnd). WritesEndsOpened s u (Two e c.in_ok-last-in-Two.last) most) (sym c.in_ok-first-in-Two.ensures.is)
     (subst (λ (e : EdgeEnd). WritesEndsOpened s u (Two (end_of a.node c.in_ok-first-in-Two.first.head a.degree) e) most) (sym c.in_ok-last-in-Two.ensures.is)
     (both_wrote s t u (end_of a.node c.in_ok-first-in-Two.first.head a.degree) (end_of b.node c.in_ok-last-in-Two.last.head b.degree) (omega arith) c.in_ok-first-in-Two.ensures.wrote c.in_ok-last-in-Two.ensures.wrote))
 
 pub returns-in_err-last-in-Two-clause-cause : goal.returns-in_err-last-in-Two-clause-cause
 returns-in_err-last-in-Two-clause-cause g c =
-    change_cause_passed _ _ _ c.from_residual-in_err-last-in-Two.result c.in_err-last-in-Two.field-0.0 c.in_ok-first-in-Two.ensures.cause.later c.in_err-last-in-Two.ensures.cause c.from_residual-in_err-last-in-Two.ensures.1
+    change_cause_passed _ _ _ c.from_residual-in_err-last-in-Two.result c.in_err-last-in-Two.field-0.0 c.in_ok-first-in-Two.ensures.cause.later
+    c.in_err-last-in-Two.ensures.cause c.from_residual-in_err-last-in-Two.ensures.1
 
 -- ---- which record is blamed
 pub returns-in_err-first-in-Two-clause-damaged : goal.returns-in_err-first-in-Two-clause-damaged
 returns-in_err-first-in-Two-clause-damaged g c tells used limit =
     let are = subst (AtEach (IsUsedEnd (g.S.Reads.state c.args.space.now))) c.in-Two.is used in
-    fault_exit (λ f. f) (BlamesLinking (g.S.Reads.state c.open_end-in-Two.new.space)) c.in_err-first-in-Two.field-0.0 c.from_residual-in_err-first-in-Two.result c.from_residual-in_err-first-in-Two.ensures.1
+    fault_exit (λ f. f) (BlamesLinking (g.S.Reads.state c.open_end-in-Two.new.space)) c.in_err-first-in-Two.field-0.0 c.from_residual-in_err-first-in-Two.result
+    c.from_residual-in_err-first-in-Two.ensures.1
     (c.in_err-first-in-Two.ensures.damaged tells are.0 (omega (arith, limit)))
 
 pub returns-in_err-last-in-Two-clause-damaged : goal.returns-in_err-last-in-Two-clause-damaged
@@ -171,7 +185,8 @@ returns-in_err-last-in-Two-clause-damaged g c tells used limit =
     let a = c.in-Two.source in
     let b = c.in-Two.target in
     let are = subst (AtEach (IsUsedEnd s)) c.in-Two.is used in
-    let now = subst (λ (h : Shape). h.threshold ≤ c.args.joint.threshold) (sym (g.met.S.Reads.onward_shape _ _ c.open_end-in-Two.ensures.onward)) (omega (arith, limit)) in
+    let now = subst (λ (h : Shape). h.threshold ≤ c.args.joint.threshold) (sym (g.met.S.Reads.onward_shape _ _ c.open_end-in-Two.ensures.onward))
+    (omega (arith, limit)) in
     let differ = differs g (goal.at.returns-in_err-last-in-Two-clause-damaged g c).In_ok-first-in-Two in
     let still = used_beside s m a.node b.node (c.in_ok-first-in-Two.ensures.beside tells) (λ (e : b.node ≡ a.node). differ (sym e)) are.1 in
     fault_exit (λ f. f) (BlamesLinking t) c.in_err-last-in-Two.field-0.0 c.from_residual-in_err-last-in-Two.result c.from_residual-in_err-last-in-Two.ensures.1
@@ -194,6 +209,7 @@ returns-in_ok-last-in-Two-clause-has g c tells used =
     let still = used_beside s m a.node b.node (c.in_ok-first-in-Two.ensures.beside tells) (λ (e : b.node ≡ a.node). differ (sym e)) are.1 in
     let first = c.in_ok-first-in-Two.first in
     let own : first.node ≡ a.node = ap (λ (e : EdgeEnd). e.node) c.in_ok-first-in-Two.ensures.is in (
-      c.in_ok-last-in-Two.ensures.heads tells (head_of first.head) first.node (λ (e : first.node ≡ b.node). differ (sym own ∙ e)) (c.in_ok-first-in-Two.ensures.has tells are.0),
+      c.in_ok-last-in-Two.ensures.heads tells (head_of first.head) first.node (λ (e : first.node ≡ b.node). differ (sym own ∙ e))
+          (c.in_ok-first-in-Two.ensures.has tells are.0),
       c.in_ok-last-in-Two.ensures.has tells still,
     )

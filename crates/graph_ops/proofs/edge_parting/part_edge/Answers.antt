@@ -20,12 +20,15 @@ returns-in_err-part_ends-clause-sound g c tells names store bare =
 
 pub returns-in_err-give-clause-sound : goal.returns-in_err-give-clause-sound
 returns-in_err-give-clause-sound g c tells names store bare =
-    fault_exit of_space IsOutside c.in_err-give.field-0.0 c.from_residual-in_err-give.result c.from_residual-in_err-give.ensures.1 (space_outside c.in_err-give.field-0.0)
+    fault_exit of_space IsOutside c.in_err-give.field-0.0 c.from_residual-in_err-give.result c.from_residual-in_err-give.ensures.1
+    (space_outside c.in_err-give.field-0.0)
 
 pub returns-clause-parted : goal.returns-clause-parted
 returns-clause-parted g c tells names store bare =
     parts_edge (g.S.Reads.state c.args.space.now) names c.args.id c.args.ends store bare
-    (g.S.Reads.state c.part_ends.new.space) (g.S.Reads.state c.give.new.space) c.requires.ends.apart (c.in_ok-part_ends.ensures.ok tells) ((g.met.S.Reads.onward_shape _ _ c.give.ensures.onward) ∙ (g.met.S.Reads.onward_shape _ _ c.part_ends.ensures.onward)) (c.in_ok-give.ensures.given tells)
+    (g.S.Reads.state c.part_ends.new.space) (g.S.Reads.state c.give.new.space) c.requires.ends.apart (c.in_ok-part_ends.ensures.ok tells)
+    ((g.met.S.Reads.onward_shape _ _ c.give.ensures.onward) ∙ (g.met.S.Reads.onward_shape _ _ c.part_ends.ensures.onward))
+    (c.in_ok-give.ensures.given tells)
 
 pub returns-clause-writes : goal.returns-clause-writes
 returns-clause-writes g c = ends_given _ _ _ c.args.ends _ c.part_ends.ensures.writes c.give.ensures.writes
@@ -35,16 +38,19 @@ returns-in_err-give-clause-writes g c = ends_given _ _ _ c.args.ends _ c.part_en
 
 pub returns-in_err-give-clause-cause : goal.returns-in_err-give-clause-cause
 returns-in_err-give-clause-cause g c =
-    space_cause_passed _ _ _ c.from_residual-in_err-give.result c.in_err-give.field-0.0 c.in_ok-part_ends.ensures.cause.later c.in_err-give.ensures.cause c.from_residual-in_err-give.ensures.1
+    space_cause_passed _ _ _ c.from_residual-in_err-give.result c.in_err-give.field-0.0 c.in_ok-part_ends.ensures.cause.later c.in_err-give.ensures.cause
+    c.from_residual-in_err-give.ensures.1
 
 -- ---- which record is blamed, and heads that stay
 pub returns-in_err-part_ends-clause-damaged : goal.returns-in_err-part_ends-clause-damaged
 returns-in_err-part_ends-clause-damaged g c tells row edge =
-    fault_exit (λ f. f) (IfBlames (IsPartedDamage (g.S.Reads.state c.args.space.now) c.args.id row.from row.to)) c.in_err-part_ends.field-0.0 c.from_residual.result c.from_residual.ensures.1 (c.in_err-part_ends.ensures.damaged tells row edge)
+    fault_exit (λ f. f) (IfBlames (IsPartedDamage (g.S.Reads.state c.args.space.now) c.args.id row.from row.to)) c.in_err-part_ends.field-0.0
+    c.from_residual.result c.from_residual.ensures.1 (c.in_err-part_ends.ensures.damaged tells row edge)
 
 pub returns-in_err-give-clause-damaged : goal.returns-in_err-give-clause-damaged
 returns-in_err-give-clause-damaged g c tells row edge =
-    fault_exit of_space (IfBlames (IsPartedDamage (g.S.Reads.state c.args.space.now) c.args.id row.from row.to)) c.in_err-give.field-0.0 c.from_residual-in_err-give.result c.from_residual-in_err-give.ensures.1 (space_blamed _ c.in_err-give.field-0.0)
+    fault_exit of_space (IfBlames (IsPartedDamage (g.S.Reads.state c.args.space.now) c.args.id row.from row.to)) c.in_err-give.field-0.0
+    c.from_residual-in_err-give.result c.from_residual-in_err-give.ensures.1 (space_blamed _ c.in_err-give.field-0.0)
 
 pub returns-clause-heads : goal.returns-clause-heads
 returns-clause-heads g c tells heads =
@@ -63,11 +69,13 @@ returns-clause-groups g c tells heads =
 -- ---- in the space as it is left
 pub returns-in_err-part_ends-clause-still : goal.returns-in_err-part_ends-clause-still
 returns-in_err-part_ends-clause-still g c tells row edge =
-    fault_exit (λ f. f) (BlamesBroken (g.S.Reads.state c.part_ends.new.space)) c.in_err-part_ends.field-0.0 c.from_residual.result c.from_residual.ensures.1 (c.in_err-part_ends.ensures.still tells row edge)
+    fault_exit (λ f. f) (BlamesBroken (g.S.Reads.state c.part_ends.new.space)) c.in_err-part_ends.field-0.0 c.from_residual.result c.from_residual.ensures.1
+    (c.in_err-part_ends.ensures.still tells row edge)
 
 pub returns-in_err-give-clause-still : goal.returns-in_err-give-clause-still
 returns-in_err-give-clause-still g c tells row edge =
-    fault_exit of_space (BlamesBroken (g.S.Reads.state c.give.new.space)) c.in_err-give.field-0.0 c.from_residual-in_err-give.result c.from_residual-in_err-give.ensures.1 (space_blamed _ c.in_err-give.field-0.0)
+    fault_exit of_space (BlamesBroken (g.S.Reads.state c.give.new.space)) c.in_err-give.field-0.0 c.from_residual-in_err-give.result
+    c.from_residual-in_err-give.ensures.1 (space_blamed _ c.in_err-give.field-0.0)
 
 pub returns-in_err-part_ends-clause-parted : goal.returns-in_err-part_ends-clause-parted
 returns-in_err-part_ends-clause-parted g c _ = never_ok c.from_residual.result _ _ c.from_residual.ensures.1

@@ -22,7 +22,8 @@ returns-clause-writes g c = end_parted _ _ _ c.args.rel c.args.end c.unlink_coun
 
 pub returns-in_err-set_number-clause-cause : goal.returns-in_err-set_number-clause-cause
 returns-in_err-set_number-clause-cause g c =
-    space_cause_passed _ _ _ c.from_residual-in_err-set_number.result c.in_err-set_number.field-0.0 c.in_ok-unlink_counted.ensures.cause.later c.in_err-set_number.ensures.cause c.from_residual-in_err-set_number.ensures.1
+    space_cause_passed _ _ _ c.from_residual-in_err-set_number.result c.in_err-set_number.field-0.0 c.in_ok-unlink_counted.ensures.cause.later
+    c.in_err-set_number.ensures.cause c.from_residual-in_err-set_number.ensures.1
 
 pub returns-in_err-unlink_counted-clause-sound : goal.returns-in_err-unlink_counted-clause-sound
 returns-in_err-unlink_counted-clause-sound g c tells links =
@@ -33,22 +34,27 @@ returns-in_err-unlink_counted-clause-sound g c tells links =
 pub returns-in_err-unlink_counted-clause-damaged : goal.returns-in_err-unlink_counted-clause-damaged
 returns-in_err-unlink_counted-clause-damaged g c tells =
     let s = g.S.Reads.state c.args.space.now in
-    fault_exit of_fault (IfBlames (IsCutDamage s (head_of c.args.end.head) c.args.end.node c.args.rel)) c.in_err-unlink_counted.field-0.0 c.from_residual.result c.from_residual.ensures.1
+    fault_exit of_fault (IfBlames (IsCutDamage s (head_of c.args.end.head) c.args.end.node c.args.rel)) c.in_err-unlink_counted.field-0.0 c.from_residual.result
+    c.from_residual.ensures.1
     (cut_blamed s (head_of c.args.end.head) c.args.end.node c.args.rel c.in_err-unlink_counted.field-0.0 (c.in_err-unlink_counted.ensures.damaged tells))
 
 pub returns-in_err-set_number-clause-damaged : goal.returns-in_err-set_number-clause-damaged
 returns-in_err-set_number-clause-damaged g c tells =
-    fault_exit of_space (IfBlames (IsCutDamage (g.S.Reads.state c.args.space.now) (head_of c.args.end.head) c.args.end.node c.args.rel)) c.in_err-set_number.field-0.0 c.from_residual-in_err-set_number.result c.from_residual-in_err-set_number.ensures.1 (space_blamed _ c.in_err-set_number.field-0.0)
+    fault_exit of_space (IfBlames (IsCutDamage (g.S.Reads.state c.args.space.now) (head_of c.args.end.head) c.args.end.node c.args.rel))
+    c.in_err-set_number.field-0.0 c.from_residual-in_err-set_number.result c.from_residual-in_err-set_number.ensures.1
+    (space_blamed _ c.in_err-set_number.field-0.0)
 
 pub returns-clause-heads : goal.returns-clause-heads
 returns-clause-heads g c tells owns =
     heads_parted_by (g.S.Reads.state c.args.space.now) (head_of c.args.end.head) c.args.end.node owns c.args.rel _
-    (g.S.Reads.state c.unlink_counted.new.space) (g.S.Reads.state c.set_number.new.space) (c.in_ok-unlink_counted.ensures.ok tells) (c.in_ok-set_number.ensures.ok tells)
+    (g.S.Reads.state c.unlink_counted.new.space) (g.S.Reads.state c.set_number.new.space) (c.in_ok-unlink_counted.ensures.ok tells)
+    (c.in_ok-set_number.ensures.ok tells)
 
 pub returns-clause-groups : goal.returns-clause-groups
 returns-clause-groups g c tells owns =
     groups_parted_by (g.S.Reads.state c.args.space.now) (head_of c.args.end.head) c.args.end.node owns c.args.rel _
-    (g.S.Reads.state c.unlink_counted.new.space) (g.S.Reads.state c.set_number.new.space) (c.in_ok-unlink_counted.ensures.ok tells) (c.in_ok-set_number.ensures.ok tells)
+    (g.S.Reads.state c.unlink_counted.new.space) (g.S.Reads.state c.set_number.new.space) (c.in_ok-unlink_counted.ensures.ok tells)
+    (c.in_ok-set_number.ensures.ok tells)
 
 -- ---- in the space as it is left
 pub returns-in_err-unlink_counted-clause-still : goal.returns-in_err-unlink_counted-clause-still
@@ -61,7 +67,8 @@ returns-in_err-unlink_counted-clause-still g c tells row live place =
 
 pub returns-in_err-set_number-clause-still : goal.returns-in_err-set_number-clause-still
 returns-in_err-set_number-clause-still g c tells row live place =
-    fault_exit of_space (BlamesBroken (g.S.Reads.state c.set_number.new.space)) c.in_err-set_number.field-0.0 c.from_residual-in_err-set_number.result c.from_residual-in_err-set_number.ensures.1 (space_blamed _ c.in_err-set_number.field-0.0)
+    fault_exit of_space (BlamesBroken (g.S.Reads.state c.set_number.new.space)) c.in_err-set_number.field-0.0 c.from_residual-in_err-set_number.result
+    c.from_residual-in_err-set_number.ensures.1 (space_blamed _ c.in_err-set_number.field-0.0)
 
 pub returns-in_err-unlink_counted-clause-ok : goal.returns-in_err-unlink_counted-clause-ok
 returns-in_err-unlink_counted-clause-ok g c _ = never_ok c.from_residual.result _ _ c.from_residual.ensures.1

@@ -28,7 +28,8 @@ pub returns-in-Loop-clause-damaged : goal.returns-in-Loop-clause-damaged
 returns-in-Loop-clause-damaged g c tells row =
     let s = g.S.Reads.state c.args.space.now in
     let out = c.part_end.result in
-    subst (λ (e : Ends EdgeEnd). IsPlacedEdge s.records c.args.rel row e → IfErr out (IfBlames (IsPartedDamage s c.args.rel row.from row.to))) (sym c.in-Loop.is)
+    subst (λ (e : Ends EdgeEnd). IsPlacedEdge s.records c.args.rel row e → IfErr out (IfBlames (IsPartedDamage s c.args.rel row.from row.to)))
+    (sym c.in-Loop.is)
     (λ edge. if_blames out _ (IsPartedDamage s c.args.rel row.from row.to) (source_cut s c.args.rel row (Loop c.in-Loop.end) edge) (c.part_end.ensures.damaged tells))
 
 pub returns-in_err-part_end-in-Two-clause-damaged : goal.returns-in_err-part_end-in-Two-clause-damaged
@@ -37,7 +38,8 @@ returns-in_err-part_end-in-Two-clause-damaged g c tells row edge =
     let fault = c.in_err-part_end-in-Two.field-0.0 in
     fault_exit (λ f. f) (IfBlames (IsPartedDamage s c.args.rel row.from row.to)) fault c.from_residual.result c.from_residual.ensures.1
     (blames_more _ (IsPartedDamage s c.args.rel row.from row.to)
-    (source_cut s c.args.rel row (Two c.in-Two.source c.in-Two.target) (subst (IsPlacedEdge s.records c.args.rel row) c.in-Two.is edge)) fault (c.in_err-part_end-in-Two.ensures.damaged tells))
+    (source_cut s c.args.rel row (Two c.in-Two.source c.in-Two.target) (subst (IsPlacedEdge s.records c.args.rel row) c.in-Two.is edge)) fault
+    (c.in_err-part_end-in-Two.ensures.damaged tells))
 
 pub returns-in_ok-part_end-in-Two-clause-damaged : goal.returns-in_ok-part_end-in-Two-clause-damaged
 returns-in_ok-part_end-in-Two-clause-damaged g c tells row edge =
@@ -47,7 +49,8 @@ returns-in_ok-part_end-in-Two-clause-damaged g c tells row edge =
     let b = c.in-Two.target in
     let differ : a.node ≢ b.node = subst (AreApart (λ (end : EdgeEnd). end.node)) c.in-Two.is c.requires.ends.apart in
     if_blames c.part_end-in-Two-2.result _ (IsPartedDamage s c.args.rel row.from row.to)
-    (target_cut s u c.args.rel row a b (subst (IsPlacedEdge s.records c.args.rel row) c.in-Two.is edge) differ (c.in_ok-part_end-in-Two.ensures.ok tells)) (c.part_end-in-Two-2.ensures.damaged tells)
+    (target_cut s u c.args.rel row a b (subst (IsPlacedEdge s.records c.args.rel row) c.in-Two.is edge) differ (c.in_ok-part_end-in-Two.ensures.ok tells))
+    (c.part_end-in-Two-2.ensures.damaged tells)
 
 pub returns-in_ok-part_end-in-Two-clause-heads : goal.returns-in_ok-part_end-in-Two-clause-heads
 returns-in_ok-part_end-in-Two-clause-heads g c tells heads =
@@ -56,7 +59,8 @@ returns-in_ok-part_end-in-Two-clause-heads g c tells heads =
     let t = g.S.Reads.state c.part_end-in-Two-2.new.space in
     let has = subst (AtEach (HasHead s.records)) c.in-Two.is heads in
     let first = c.in_ok-part_end-in-Two.ensures.heads tells has.0 in
-    on_ok c.part_end-in-Two-2.result _ _ (λ second. heads_then s u t first second) (c.part_end-in-Two-2.ensures.heads tells (first (head_of c.in-Two.target.head) c.in-Two.target.node has.1))
+    on_ok c.part_end-in-Two-2.result _ _ (λ second. heads_then s u t first second)
+    (c.part_end-in-Two-2.ensures.heads tells (first (head_of c.in-Two.target.head) c.in-Two.target.node has.1))
 
 pub returns-in_ok-part_end-in-Two-clause-groups : goal.returns-in_ok-part_end-in-Two-clause-groups
 returns-in_ok-part_end-in-Two-clause-groups g c tells heads =
@@ -76,7 +80,8 @@ returns-in-Loop-clause-still g c tells row edge =
 pub returns-in_err-part_end-in-Two-clause-still : goal.returns-in_err-part_end-in-Two-clause-still
 returns-in_err-part_end-in-Two-clause-still g c tells row edge =
     let at = subst (AtEach (HasPlace (g.S.Reads.state c.args.space.now).records row)) c.in-Two.is edge.places in
-    fault_exit (λ f. f) (BlamesBroken (g.S.Reads.state c.part_end-in-Two.new.space)) c.in_err-part_end-in-Two.field-0.0 c.from_residual.result c.from_residual.ensures.1
+    fault_exit (λ f. f) (BlamesBroken (g.S.Reads.state c.part_end-in-Two.new.space)) c.in_err-part_end-in-Two.field-0.0 c.from_residual.result
+    c.from_residual.ensures.1
     (c.in_err-part_end-in-Two.ensures.still tells row edge.live at.0)
 
 pub returns-in_ok-part_end-in-Two-clause-still : goal.returns-in_ok-part_end-in-Two-clause-still
@@ -86,7 +91,8 @@ returns-in_ok-part_end-in-Two-clause-still g c tells row edge =
     let a = c.in-Two.source in
     let b = c.in-Two.target in
     let differ : a.node ≢ b.node = subst (AreApart (λ (end : EdgeEnd). end.node)) c.in-Two.is c.requires.ends.apart in
-    let later = place_later s u c.args.rel row a b (subst (IsPlacedEdge s.records c.args.rel row) c.in-Two.is edge) differ (c.in_ok-part_end-in-Two.ensures.ok tells) in
+    let later = place_later s u c.args.rel row a b (subst (IsPlacedEdge s.records c.args.rel row) c.in-Two.is edge) differ
+    (c.in_ok-part_end-in-Two.ensures.ok tells) in
     c.part_end-in-Two-2.ensures.still tells row later.0 later.1
 
 pub returns-in_err-part_end-in-Two-clause-ok : goal.returns-in_err-part_end-in-Two-clause-ok

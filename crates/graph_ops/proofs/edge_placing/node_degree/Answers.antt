@@ -16,7 +16,8 @@ returns-in_default-clause-refused g c tells names store =
 pub returns-in_err-node-clause-absent : goal.returns-in_err-node-clause-absent
 returns-in_err-node-clause-absent g c tells =
     let s = g.R.Reads.state c.args.space.now in
-    fault_exit of_row (IsAbsent s (targets.Node c.args.id)) c.in_err-node.field-0.0 c.from_residual.result c.from_residual.ensures.1 (node_absent s (targets.Node c.args.id) c.args.id c.in_err-node.field-0.0 (c.in_err-node.ensures.damaged tells))
+    fault_exit of_row (IsAbsent s (targets.Node c.args.id)) c.in_err-node.field-0.0 c.from_residual.result c.from_residual.ensures.1
+    (node_absent s (targets.Node c.args.id) c.args.id c.in_err-node.field-0.0 (c.in_err-node.ensures.damaged tells))
 
 pub returns-in_default-clause-absent : goal.returns-in_default-clause-absent
 returns-in_default-clause-absent g c tells = (refl, sym (sym c.in_default.is ∙ c.in_ok-node.ensures.found tells))

@@ -61,7 +61,8 @@ returns-clause-writes g c =
     let most = ends_moved c.args.joint.threshold c.args.joint.ends in
     let ends = c.in_ok-ends.ensures.ends in
     if_ok c.join_edge.result _ (λ id. WritesBeside (rel_key id) (8 + most) s u)
-    (λ id joins. beside_more (omega arith) (put_beside s t u id c.in_ok-ends.ends (2 + most) ends.each c.in_ok-ends.ensures.wrote joins)) c.join_edge.ensures.writes
+    (λ id joins. beside_more (omega arith) (put_beside s t u id c.in_ok-ends.ends (2 + most) ends.each c.in_ok-ends.ensures.wrote joins))
+    c.join_edge.ensures.writes
 
 pub returns-in_err-ends-clause-err_writes : goal.returns-in_err-ends-clause-err_writes
 returns-in_err-ends-clause-err_writes g c = on_any_err _ _ (more_written (omega arith) c.open_ends.ensures.writes)
@@ -81,5 +82,7 @@ returns-clause-damaged g c tells used limit has =
     let s = g.S.Reads.state c.args.space.now in
     let t = g.S.Reads.state c.open_ends.new.space in
     let u = g.S.Reads.state c.join_edge.new.space in
-    let room = room_still s t format.relationships_file 1 (ap (λ (r : Rec). (metas.meta_of r).live) (c.in_ok-ends.ensures.beside tells)) (g.met.S.Reads.onward_shape _ _ c.open_ends.ensures.onward) has in
-    if_blames c.join_edge.result (IsBroken u) (IsLinkingDamage u) (λ damage told. inl told) (c.join_edge.ensures.damaged tells (c.in_ok-ends.ensures.has tells used) room)
+    let room = room_still s t format.relationships_file 1 (ap (λ (r : Rec). (metas.meta_of r).live) (c.in_ok-ends.ensures.beside tells))
+    (g.met.S.Reads.onward_shape _ _ c.open_ends.ensures.onward) has in
+    if_blames c.join_edge.result (IsBroken u) (IsLinkingDamage u) (λ damage told. inl told)
+    (c.join_edge.ensures.damaged tells (c.in_ok-ends.ensures.has tells used) room)

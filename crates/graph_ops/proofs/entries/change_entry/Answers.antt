@@ -31,7 +31,8 @@ pub returns-in_err-entered-clause-at_most : goal.returns-in_err-entered-clause-a
 returns-in_err-entered-clause-at_most g c = index_then 3 3 6 _ _ _ (omega arith) c.leave_entry.ensures.at_most c.enter_entry.ensures.at_most
 
 pub returns-clause-touches : goal.returns-clause-touches
-returns-clause-touches g c = index_then c.in_ok-left.left c.in_ok-entered.entered (c.in_ok-left.left + c.in_ok-entered.entered) _ _ _ (omega arith) c.in_ok-left.ensures.touches c.in_ok-entered.ensures.touches
+returns-clause-touches g c = index_then c.in_ok-left.left c.in_ok-entered.entered (c.in_ok-left.left + c.in_ok-entered.entered) _ _ _ (omega arith)
+    c.in_ok-left.ensures.touches c.in_ok-entered.ensures.touches
 
 pub returns-clause-at_most : goal.returns-clause-at_most
 returns-clause-at_most g c = index_then 3 3 6 _ _ _ (omega arith) c.leave_entry.ensures.at_most c.enter_entry.ensures.at_most
@@ -67,18 +68,21 @@ returns-in_err-entered-clause-idle g c none = c.enter_entry.ensures.idle none �
 pub returns-in_err-left-clause-full : goal.returns-in_err-left-clause-full
 returns-in_err-left-clause-full g c tells =
     let t = g.S.Reads.state c.leave_entry.new.space in
-    fault_exit (λ f. f) (IsEntryFault t) c.in_err-left.field-0.0 c.from_residual.result c.from_residual.ensures.1 (fails_full t c.in_err-left.field-0.0 c.in_err-left.ensures.failure)
+    fault_exit (λ f. f) (IsEntryFault t) c.in_err-left.field-0.0 c.from_residual.result c.from_residual.ensures.1
+    (fails_full t c.in_err-left.field-0.0 c.in_err-left.ensures.failure)
 
 pub returns-in_err-entered-clause-full : goal.returns-in_err-entered-clause-full
 returns-in_err-entered-clause-full g c tells =
     let t = g.S.Reads.state c.enter_entry.new.space in
-    fault_exit (λ f. f) (IsEntryFault t) c.in_err-entered.field-0.0 c.from_residual-in_err-entered.result c.from_residual-in_err-entered.ensures.1 (c.in_err-entered.ensures.full tells)
+    fault_exit (λ f. f) (IsEntryFault t) c.in_err-entered.field-0.0 c.from_residual-in_err-entered.result c.from_residual-in_err-entered.ensures.1
+    (c.in_err-entered.ensures.full tells)
 
 pub returns-in_err-left-clause-refused : goal.returns-in_err-left-clause-refused
 returns-in_err-left-clause-refused g c tells wanted ix store wants low =
     let s = g.S.Reads.state c.args.space.now in
     let held = c.args.held.now in
-    fault_exit (λ f. f) (IsEntryRefusal s held) c.in_err-left.field-0.0 c.from_residual.result c.from_residual.ensures.1 (inl (c.in_err-left.ensures.sound tells wanted ix store))
+    fault_exit (λ f. f) (IsEntryRefusal s held) c.in_err-left.field-0.0 c.from_residual.result c.from_residual.ensures.1
+    (inl (c.in_err-left.ensures.sound tells wanted ix store))
 
 pub returns-in_err-entered-clause-refused : goal.returns-in_err-entered-clause-refused
 returns-in_err-entered-clause-refused g c tells wanted ix store wants low =
@@ -92,13 +96,15 @@ returns-in_err-entered-clause-refused g c tells wanted ix store wants low =
     let shape : m.shape ≡ s.shape = g.met.S.Reads.onward_shape _ _ c.leave_entry.ensures.onward in
     let pairs = map (pair_of s.records) ix.definitions in
     let with_index : held_is_listed pairs held ≡ true → IsEntryRefusal s held fault
-    = λ is. entry_refusal s m held c.in_err-entered.ensures.some c.in_ok-left.ensures.calm (c.in_ok-left.ensures.gone tells wanted ix store wants is) (store_live s store) shape fault right in
+    = λ is. entry_refusal s m held c.in_err-entered.ensures.some c.in_ok-left.ensures.calm (c.in_ok-left.ensures.gone tells wanted ix store wants is)
+    (store_live s store) shape fault right in
     let no_index : held_is_listed pairs held ≡ false → IsEntryRefusal s held fault
     = λ none.
     let same : SameButReads s m = c.in_ok-left.ensures.unlisted tells wanted ix none in
     inl (undamaged_outside m fault right
     (subst (λ (z : State). (iz : AreIndexed z.records wanted) → held_is_listed (map (pair_of z.records) iz.definitions) held ≡ false → IsFailure fault) same (c.in_err-entered.ensures.unlisted tells wanted) ix none)) in
-    fault_exit (λ f. f) (IsEntryRefusal s held) fault c.from_residual-in_err-entered.result c.from_residual-in_err-entered.ensures.1 (on_bool (held_is_listed pairs held) with_index no_index)
+    fault_exit (λ f. f) (IsEntryRefusal s held) fault c.from_residual-in_err-entered.result c.from_residual-in_err-entered.ensures.1
+    (on_bool (held_is_listed pairs held) with_index no_index)
 
 -- ---- which record is blamed
 pub returns-in_err-left-clause-untouched : goal.returns-in_err-left-clause-untouched
@@ -106,7 +112,8 @@ returns-in_err-left-clause-untouched g c tells =
     let s = g.S.Reads.state c.args.space.now in
     let t = g.S.Reads.state c.leave_entry.new.space in
     let held = c.args.held.now in
-    fault_exit (λ f. f) (IfBlames (λ damage. IsAsFound s t damage ⊎ (0 < old_weight held))) c.in_err-left.field-0.0 c.from_residual.result c.from_residual.ensures.1
+    fault_exit (λ f. f) (IfBlames (λ damage. IsAsFound s t damage ⊎ (0 < old_weight held))) c.in_err-left.field-0.0 c.from_residual.result
+    c.from_residual.ensures.1
     (blames_more _ _ (λ damage found. inl found) c.in_err-left.field-0.0 (c.in_err-left.ensures.untouched tells))
 
 pub returns-in_err-entered-clause-untouched : goal.returns-in_err-entered-clause-untouched
@@ -115,5 +122,6 @@ returns-in_err-entered-clause-untouched g c tells =
     let m = g.S.Reads.state c.leave_entry.new.space in
     let t = g.S.Reads.state c.enter_entry.new.space in
     let held = c.args.held.now in
-    fault_exit (λ f. f) (IfBlames (λ damage. IsAsFound s t damage ⊎ (0 < old_weight held))) c.in_err-entered.field-0.0 c.from_residual-in_err-entered.result c.from_residual-in_err-entered.ensures.1
+    fault_exit (λ f. f) (IfBlames (λ damage. IsAsFound s t damage ⊎ (0 < old_weight held))) c.in_err-entered.field-0.0 c.from_residual-in_err-entered.result
+    c.from_residual-in_err-entered.ensures.1
     (blames_more _ _ (λ damage found. held_untouched s m t (old_weight held) damage c.in_ok-left.ensures.calm found) c.in_err-entered.field-0.0 (c.in_err-entered.ensures.untouched tells))

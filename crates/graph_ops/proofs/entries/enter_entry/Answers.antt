@@ -41,7 +41,8 @@ pub returns-in_err-enter-clause-untouched : goal.returns-in_err-enter-clause-unt
 returns-in_err-enter-clause-untouched g c tells =
     let s = g.S.Reads.state c.args.space.now in
     let t = g.S.Reads.state c.enter.new.space in
-    fault_exit of_take (BlamesUntouched s t) c.in_err-enter.field-0.0 c.from_residual.result c.from_residual.ensures.1 (take_untouched s t c.in_err-enter.field-0.0 c.in_err-enter.ensures.unwritten)
+    fault_exit of_take (BlamesUntouched s t) c.in_err-enter.field-0.0 c.from_residual.result c.from_residual.ensures.1
+    (take_untouched s t c.in_err-enter.field-0.0 c.in_err-enter.ensures.unwritten)
 
 pub returns-in_err-enter-clause-sound : goal.returns-in_err-enter-clause-sound
 returns-in_err-enter-clause-sound g c tells wanted ix store =

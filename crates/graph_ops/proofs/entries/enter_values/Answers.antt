@@ -55,7 +55,8 @@ loop-assignment-preserved g c =
           let there : is_listed listed label this.key ≡ true = sym c.has_pair.ensures ∙ w.if-has_pair.true in
           let value = (get_or pairs this.pair w.index-pairs-assignment.result).value in
           let inside = c.requires.placed i d lt in
-          let is : value ≡ (pair_at pairs this.pair).value = ap (λ (p : Pair). p.value) (sym w.index-pairs-assignment.is ∙ get_or_read pairs this.pair w.index-pairs-assignment.result inside w.index-pairs-assignment.is (record { key = []; value = values.Text [] })) in
+          let is : value ≡ (pair_at pairs this.pair).value = ap (λ (p : Pair). p.value)
+          (sym w.index-pairs-assignment.is ∙ get_or_read pairs this.pair w.index-pairs-assignment.result inside w.index-pairs-assignment.is (record { key = []; value = values.Text [] })) in
           let count = count_more listed label assigned i d lt true there in
           subst (λ sp. IsEntering g.S.Reads.tells (g.S.Reads.onward c.args.space.now sp) s (g.S.Reads.state sp) (g.S.Reads.faults c.args.space.now) (g.S.Reads.faults sp) listed label node assigned pairs (i + 1)) (sym w.space-is)
           (record {
@@ -63,12 +64,14 @@ loop-assignment-preserved g c =
                 let was = inv.entered tells wanted right low lacks once in
                 let same = node_mark s.records m.records (elsewhere_of g.S.Reads.tells s m inv.touched.ids tells inv.touched.only) in
                 let none = entered_lacks listed label node pairs wanted assigned i d lt there lacks once value in (
-                  entered_more listed label node pairs wanted assigned i d lt there value is t.records (w.in_ok-enter.ensures.entered tells _ (free_list m was.1).0 was.0 (store_takes m was.1) none),
+                  entered_more listed label node pairs wanted assigned i d lt there value is t.records
+                      (w.in_ok-enter.ensures.entered tells _ (free_list m was.1).0 was.0 (store_takes m was.1) none),
                   w.in_ok-enter.ensures.keeps tells _ was.0 was.1 (omega (arith, same, low)),
                   w.in_ok-enter.ensures.graph tells _ (free_list m was.1).0 was.0 (store_takes m was.1) ∙ was.2,
                 );
             counted = λ tells. let before = inv.counted tells in let one = w.in_ok-enter.ensures.counted tells in omega (arith, before, one, count);
-            touched = index_then (3 * length (indexed_of listed label (take i assigned))) 3 (3 * length (indexed_of listed label (take (i + 1) assigned))) s m t (omega (arith, count)) inv.touched w.enter.ensures.touches;
+            touched = index_then (3 * length (indexed_of listed label (take i assigned))) 3 (3 * length (indexed_of listed label (take (i + 1) assigned))) s m t
+                (omega (arith, count)) inv.touched w.enter.ensures.touches;
             first = λ e. absurd (omega (arith, e));
             onward_is = g.met.S.Reads.further_onward _ _ _ inv.onward_is w.enter.ensures.onward;
             later = let a = inv.later in let b = w.enter.ensures.cause.later in omega arith;
@@ -92,7 +95,8 @@ loop-assignment-preserved g c =
 pub returns-clause-entered : goal.returns-clause-entered
 returns-clause-entered g c tells wanted right low lacks once =
     let t = g.S.Reads.state c.loop-assignment.space in
-    entered_all c.args.listed.now c.args.label c.args.node c.args.pairs.now wanted c.args.assigned.now c.loop-assignment.assignment-index (omega (arith, c.loop-assignment-test.false)) t.records (c.loop-assignment.invariant.entered tells wanted right low lacks once).0
+    entered_all c.args.listed.now c.args.label c.args.node c.args.pairs.now wanted c.args.assigned.now c.loop-assignment.assignment-index
+    (omega (arith, c.loop-assignment-test.false)) t.records (c.loop-assignment.invariant.entered tells wanted right low lacks once).0
 
 pub returns-clause-keeps : goal.returns-clause-keeps
 returns-clause-keeps g c tells wanted right low lacks once = (c.loop-assignment.invariant.entered tells wanted right low lacks once).1
@@ -144,7 +148,8 @@ returns-in_err-enter-clause-touches g c =
     let there : is_listed listed c.args.label (get_or assigned i (record { key = 0; pair = 0 })).key ≡ true = sym c.has_pair.ensures ∙ c.if-has_pair.true in
     let count = count_more listed c.args.label assigned i (record { key = 0; pair = 0 }) c.loop-assignment-test.true true there in
     let few = count_few listed c.args.label assigned (i + 1) in
-    index_then (3 * length (indexed_of listed c.args.label (take i assigned))) 3 (3 * length (indexed_of listed c.args.label assigned)) _ _ _ (omega (arith, count, few)) inv.touched c.enter.ensures.touches
+    index_then (3 * length (indexed_of listed c.args.label (take i assigned))) 3 (3 * length (indexed_of listed c.args.label assigned)) _ _ _
+    (omega (arith, count, few)) inv.touched c.enter.ensures.touches
 
 pub returns-in_err-enter-clause-full : goal.returns-in_err-enter-clause-full
 returns-in_err-enter-clause-full g c tells =
@@ -154,7 +159,8 @@ returns-in_err-enter-clause-full g c tells =
 
 pub returns-in_err-enter-clause-some : goal.returns-in_err-enter-clause-some
 returns-in_err-enter-clause-some g c =
-    fault_exit of_take (λ _. 0 < length c.args.assigned.now) c.in_err-enter.field-0.0 c.from_residual.result c.from_residual.ensures.1 (omega (arith, c.loop-assignment-test.true))
+    fault_exit of_take (λ _. 0 < length c.args.assigned.now) c.in_err-enter.field-0.0 c.from_residual.result c.from_residual.ensures.1
+    (omega (arith, c.loop-assignment-test.true))
 
 pub returns-in_err-enter-clause-entered : goal.returns-in_err-enter-clause-entered
 returns-in_err-enter-clause-entered g c _ _ _ _ _ _ = never_ok c.from_residual.result _ _ c.from_residual.ensures.1

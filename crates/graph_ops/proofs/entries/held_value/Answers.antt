@@ -24,7 +24,8 @@ returns-in_err-value-clause-same g c = reads_same 55 _ _ c.read_key.ensures.at_m
 pub returns-in_default-clause-held : goal.returns-in_default-clause-held
 returns-in_default-clause-held g c tells used is =
     let s = g.R.Reads.state c.args.space.now in
-    let none = sym (ap (λ (o : Owner). value_of (properties_met s.records o) c.args.pair.key) c.node_owner.ensures) ∙ sym (c.in_ok-value.ensures.met tells) ∙ c.in_default.is in
+    let none = sym (ap (λ (o : Owner). value_of (properties_met s.records o) c.args.pair.key) c.node_owner.ensures) ∙ sym (c.in_ok-value.ensures.met tells)
+    ∙ c.in_default.is in
     sym (held_met s.records c.args.label c.args.node c.args.pair (omega (arith, c.if-pair-label.false)) used is None none)
 
 pub returns-in_default-clause-same : goal.returns-in_default-clause-same
@@ -33,7 +34,8 @@ returns-in_default-clause-same g c = reads_same 55 _ _ c.read_key.ensures.at_mos
 pub returns-clause-held : goal.returns-clause-held
 returns-clause-held g c tells used is =
     let s = g.R.Reads.state c.args.space.now in
-    let some = sym (ap (λ (o : Owner). value_of (properties_met s.records o) c.args.pair.key) c.node_owner.ensures) ∙ sym (c.in_ok-value.ensures.met tells) ∙ c.in-Some.is in
+    let some = sym (ap (λ (o : Owner). value_of (properties_met s.records o) c.args.pair.key) c.node_owner.ensures) ∙ sym (c.in_ok-value.ensures.met tells)
+    ∙ c.in-Some.is in
     sym (held_met s.records c.args.label c.args.node c.args.pair (omega (arith, c.if-pair-label.false)) used is (Some c.in-Some.value) some)
 
 pub returns-clause-same : goal.returns-clause-same

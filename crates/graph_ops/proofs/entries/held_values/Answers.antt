@@ -56,7 +56,8 @@ loop-pair-preserved g c =
           let before = inv.held tells used is in
           let in_use = subst (λ (z : State). IsInUse z.records (owner_of (targets.Node node))) (sym inv.same) used in
           let labelled = subst (λ (z : State). label ≡ field 4 (rec_at z.records nodes_file node) node_label) (sym inv.same) is in
-          let here : c.in_ok-value.value ≡ held_at s.records label node (get_or listed i none) = c.in_ok-value.ensures.held tells in_use labelled ∙ ap (λ (z : State). held_at z.records label node (get_or listed i none)) inv.same in
+          let here : c.in_ok-value.value ≡ held_at s.records label node (get_or listed i none) = c.in_ok-value.ensures.held tells in_use labelled
+          ∙ ap (λ (z : State). held_at z.records label node (get_or listed i none)) inv.same in
           c.in_ok-hold.ensures.held ∙ (λ k. before k ++ option_list (here k)) ∙ sym (held_more s.records label node listed i none lt);
       several = inv.several;
       listed = inv.listed;
@@ -76,7 +77,8 @@ loop-pair-preserved g c =
 pub returns-in_err-listed-clause-sound : goal.returns-in_err-listed-clause-sound
 returns-in_err-listed-clause-sound g c tells store used =
     let s = g.R.Reads.state c.args.space.now in
-    fault_exit (λ f. f) IsOutside c.in_err-listed.field-0.0 c.from_residual.result c.from_residual.ensures.1 (c.in_err-listed.ensures.sound tells (wanted_in s.records) store.indexes store.store)
+    fault_exit (λ f. f) IsOutside c.in_err-listed.field-0.0 c.from_residual.result c.from_residual.ensures.1
+    (c.in_err-listed.ensures.sound tells (wanted_in s.records) store.indexes store.store)
 
 pub returns-in_err-listed-clause-damaged : goal.returns-in_err-listed-clause-damaged
 returns-in_err-listed-clause-damaged g c tells used =
@@ -91,7 +93,8 @@ returns-in_err-value-clause-sound g c tells store used =
     let inv = c.loop-pair.invariant in
     let in_use = subst (λ (z : State). IsInUse z.records (owner_of (targets.Node c.args.node))) (sym inv.same) used in
     let rules = subst (λ (z : State). IsWellFormed z.records z.shape) (sym inv.same) store.store in
-    fault_exit (λ f. f) IsOutside c.in_err-value.field-0.0 c.from_residual-in_err-value.result c.from_residual-in_err-value.ensures.1 (c.in_err-value.ensures.sound tells rules in_use)
+    fault_exit (λ f. f) IsOutside c.in_err-value.field-0.0 c.from_residual-in_err-value.result c.from_residual-in_err-value.ensures.1
+    (c.in_err-value.ensures.sound tells rules in_use)
 
 pub returns-in_err-value-clause-damaged : goal.returns-in_err-value-clause-damaged
 returns-in_err-value-clause-damaged g c tells used =
@@ -103,16 +106,19 @@ returns-in_err-value-clause-damaged g c tells used =
     (subst (λ (z : State). BlamesBroken z fault) inv.same (c.in_err-value.ensures.damaged tells in_use))
 
 pub returns-in_err-value-clause-same : goal.returns-in_err-value-clause-same
-returns-in_err-value-clause-same g c = same_then (g.R.Reads.state c.args.space.now) (g.R.Reads.state c.loop-pair.space) (g.R.Reads.state c.held_value.new.space) c.loop-pair.invariant.same c.held_value.ensures.same
+returns-in_err-value-clause-same g c = same_then (g.R.Reads.state c.args.space.now) (g.R.Reads.state c.loop-pair.space) (g.R.Reads.state c.held_value.new.space)
+    c.loop-pair.invariant.same c.held_value.ensures.same
 
 pub returns-in_err-value-clause-onward : goal.returns-in_err-value-clause-onward
 returns-in_err-value-clause-onward g c = g.met.R.Reads.further_onward _ _ _ c.loop-pair.invariant.onward c.held_value.ensures.onward
 
 pub returns-in_err-value-clause-cause : goal.returns-in_err-value-clause-cause
-returns-in_err-value-clause-cause g c = change_cause_passed _ _ _ c.from_residual-in_err-value.result c.in_err-value.field-0.0 c.loop-pair.invariant.later c.in_err-value.ensures.cause c.from_residual-in_err-value.ensures.1
+returns-in_err-value-clause-cause g c = change_cause_passed _ _ _ c.from_residual-in_err-value.result c.in_err-value.field-0.0 c.loop-pair.invariant.later
+    c.in_err-value.ensures.cause c.from_residual-in_err-value.ensures.1
 
 pub returns-in_err-hold-clause-same : goal.returns-in_err-hold-clause-same
-returns-in_err-hold-clause-same g c = same_then (g.R.Reads.state c.args.space.now) (g.R.Reads.state c.loop-pair.space) (g.R.Reads.state c.held_value.new.space) c.loop-pair.invariant.same c.held_value.ensures.same
+returns-in_err-hold-clause-same g c = same_then (g.R.Reads.state c.args.space.now) (g.R.Reads.state c.loop-pair.space) (g.R.Reads.state c.held_value.new.space)
+    c.loop-pair.invariant.same c.held_value.ensures.same
 
 pub returns-in_err-hold-clause-onward : goal.returns-in_err-hold-clause-onward
 returns-in_err-hold-clause-onward g c = g.met.R.Reads.further_onward _ _ _ c.loop-pair.invariant.onward c.held_value.ensures.onward

@@ -40,7 +40,8 @@ load_same s mid id is = subst (SameButReads s) (sym is) (by (nat_lt id (node_mar
 
 pub returns-in_err-listed-clause-sound : goal.returns-in_err-listed-clause-sound
 returns-in_err-listed-clause-sound g c tells wanted ix store used =
-    fault_exit (λ f. f) IsOutside c.in_err-listed.field-0.0 c.from_residual.result c.from_residual.ensures.1 (c.in_err-listed.ensures.sound tells wanted ix store)
+    fault_exit (λ f. f) IsOutside c.in_err-listed.field-0.0 c.from_residual.result c.from_residual.ensures.1
+    (c.in_err-listed.ensures.sound tells wanted ix store)
 
 pub returns-in_err-listed-clause-same : goal.returns-in_err-listed-clause-same
 returns-in_err-listed-clause-same g c = reads_same 17 _ _ c.listed_pairs.ensures.reads
@@ -49,19 +50,26 @@ pub returns-then-is_empty-clause-same : goal.returns-then-is_empty-clause-same
 returns-then-is_empty-clause-same g c = reads_same 17 _ _ c.listed_pairs.ensures.reads
 
 pub returns-in_err-row-clause-same : goal.returns-in_err-row-clause-same
-returns-in_err-row-clause-same g c = same_then (g.R.Reads.state c.args.space.now) (g.R.Reads.state c.listed_pairs.new.space) (g.R.Reads.state c.load.new.space) (reads_same 17 _ _ c.listed_pairs.ensures.reads) (load_same (g.R.Reads.state c.listed_pairs.new.space) (g.R.Reads.state c.load.new.space) c.in-Node.node c.load.ensures.state)
+returns-in_err-row-clause-same g c = same_then (g.R.Reads.state c.args.space.now) (g.R.Reads.state c.listed_pairs.new.space) (g.R.Reads.state c.load.new.space)
+    (reads_same 17 _ _ c.listed_pairs.ensures.reads) (load_same (g.R.Reads.state c.listed_pairs.new.space) (g.R.Reads.state c.load.new.space) c.in-Node.node c.load.ensures.state)
 
 pub returns-in_default-2-clause-same : goal.returns-in_default-2-clause-same
-returns-in_default-2-clause-same g c = same_then (g.R.Reads.state c.args.space.now) (g.R.Reads.state c.listed_pairs.new.space) (g.R.Reads.state c.load.new.space) (reads_same 17 _ _ c.listed_pairs.ensures.reads) (load_same (g.R.Reads.state c.listed_pairs.new.space) (g.R.Reads.state c.load.new.space) c.in-Node.node c.load.ensures.state)
+returns-in_default-2-clause-same g c = same_then (g.R.Reads.state c.args.space.now) (g.R.Reads.state c.listed_pairs.new.space)
+    (g.R.Reads.state c.load.new.space) (reads_same 17 _ _ c.listed_pairs.ensures.reads)
+    (load_same (g.R.Reads.state c.listed_pairs.new.space) (g.R.Reads.state c.load.new.space) c.in-Node.node c.load.ensures.state)
 
 pub returns-then-not-has_pair-clause-same : goal.returns-then-not-has_pair-clause-same
-returns-then-not-has_pair-clause-same g c = same_then (g.R.Reads.state c.args.space.now) (g.R.Reads.state c.listed_pairs.new.space) (g.R.Reads.state c.load.new.space) (reads_same 17 _ _ c.listed_pairs.ensures.reads) (load_same (g.R.Reads.state c.listed_pairs.new.space) (g.R.Reads.state c.load.new.space) c.in-Node.node c.load.ensures.state)
+returns-then-not-has_pair-clause-same g c = same_then (g.R.Reads.state c.args.space.now) (g.R.Reads.state c.listed_pairs.new.space)
+    (g.R.Reads.state c.load.new.space) (reads_same 17 _ _ c.listed_pairs.ensures.reads)
+    (load_same (g.R.Reads.state c.listed_pairs.new.space) (g.R.Reads.state c.load.new.space) c.in-Node.node c.load.ensures.state)
 
 pub returns-in_err-value-clause-same : goal.returns-in_err-value-clause-same
-returns-in_err-value-clause-same g c = same_then (g.R.Reads.state c.args.space.now) (g.R.Reads.state c.load.new.space) _ (same_then (g.R.Reads.state c.args.space.now) (g.R.Reads.state c.listed_pairs.new.space) (g.R.Reads.state c.load.new.space) (reads_same 17 _ _ c.listed_pairs.ensures.reads) (load_same (g.R.Reads.state c.listed_pairs.new.space) _ c.in-Node.node c.load.ensures.state)) (reads_same 55 _ _ c.read_key.ensures.at_most)
+returns-in_err-value-clause-same g c = same_then (g.R.Reads.state c.args.space.now) (g.R.Reads.state c.load.new.space) _
+    (same_then (g.R.Reads.state c.args.space.now) (g.R.Reads.state c.listed_pairs.new.space) (g.R.Reads.state c.load.new.space) (reads_same 17 _ _ c.listed_pairs.ensures.reads) (load_same (g.R.Reads.state c.listed_pairs.new.space) _ c.in-Node.node c.load.ensures.state)) (reads_same 55 _ _ c.read_key.ensures.at_most)
 
 pub returns-clause-same : goal.returns-clause-same
-returns-clause-same g c = same_then (g.R.Reads.state c.args.space.now) (g.R.Reads.state c.load.new.space) _ (same_then (g.R.Reads.state c.args.space.now) (g.R.Reads.state c.listed_pairs.new.space) (g.R.Reads.state c.load.new.space) (reads_same 17 _ _ c.listed_pairs.ensures.reads) (load_same (g.R.Reads.state c.listed_pairs.new.space) _ c.in-Node.node c.load.ensures.state)) (reads_same 55 _ _ c.read_key.ensures.at_most)
+returns-clause-same g c = same_then (g.R.Reads.state c.args.space.now) (g.R.Reads.state c.load.new.space) _
+    (same_then (g.R.Reads.state c.args.space.now) (g.R.Reads.state c.listed_pairs.new.space) (g.R.Reads.state c.load.new.space) (reads_same 17 _ _ c.listed_pairs.ensures.reads) (load_same (g.R.Reads.state c.listed_pairs.new.space) _ c.in-Node.node c.load.ensures.state)) (reads_same 55 _ _ c.read_key.ensures.at_most)
 
 pub returns-in_default-2-clause-held : goal.returns-in_default-2-clause-held
 returns-in_default-2-clause-held g c tells wanted ix store used =
@@ -106,9 +114,11 @@ returns-in_err-row-clause-sound g c tells wanted ix store used =
     (row_outside Unit c.in_err-row.field-0.0 (c.in_err-row.ensures.sound tells (IsReadable-AreInRange m c.in-Node.node ranges)))
 
 -- the label that was read is that of the node
-label_read : (s m : State) (node : ℕ) (row : NodeRow) → SameButReads s m → row_at m.records node ≡ Some row → row.label ≡ field 4 (rec_at s.records format.nodes_file node) format.node_label
+label_read : (s m : State) (node : ℕ) (row : NodeRow) → SameButReads s m → row_at m.records node ≡ Some row
+    → row.label ≡ field 4 (rec_at s.records format.nodes_file node) format.node_label
 label_read s m node row same is =
-    ap (λ (r : NodeRow). r.label) (kind-row_at-Some m.records node row is).1 ∙ ap (λ (z : State). field 4 (rec_at z.records format.nodes_file node) format.node_label) same
+    ap (λ (r : NodeRow). r.label) (kind-row_at-Some m.records node row is).1
+    ∙ ap (λ (z : State). field 4 (rec_at z.records format.nodes_file node) format.node_label) same
 
 pub returns-then-not-has_pair-clause-held : goal.returns-then-not-has_pair-clause-held
 returns-then-not-has_pair-clause-held g c tells wanted ix store used =
@@ -119,7 +129,8 @@ returns-then-not-has_pair-clause-held g c tells wanted ix store used =
     let label = label_read s m c.in-Node.node row same (sym (c.in_ok-row.ensures.found tells) ∙ c.in-Some.is) in
     let are : c.in_ok-listed.listed.items ≡ map (pair_of s.records) ix.definitions = c.in_ok-listed.ensures.listed tells wanted ix store in
     let lacks : is_listed (map (pair_of s.records) ix.definitions) row.label c.args.key ≡ false
-    = ap (λ (pairs : List IndexPair). is_listed pairs row.label c.args.key) (sym are ∙ sym c.deref.ensures.value) ∙ sym c.has_pair.ensures ∙ c.if-not-has_pair.true in
+    = ap (λ (pairs : List IndexPair). is_listed pairs row.label c.args.key) (sym are ∙ sym c.deref.ensures.value) ∙ sym c.has_pair.ensures
+    ∙ c.if-not-has_pair.true in
     subst (λ (t : Target). IsIndexedValue s.records (map (pair_of s.records) ix.definitions) t c.args.key None) (sym c.in-Node.is)
     (subst (λ (l : ℕ). is_listed (map (pair_of s.records) ix.definitions) l c.args.key ≡ false) label lacks)
 
@@ -136,10 +147,12 @@ returns-clause-held g c tells wanted ix store used =
     let label = label_read s m node row same (sym (c.in_ok-row.ensures.found tells) ∙ c.in-Some.is) in
     let are : c.in_ok-listed.listed.items ≡ map (pair_of s.records) ix.definitions = c.in_ok-listed.ensures.listed tells wanted ix store in
     let there : is_listed (map (pair_of s.records) ix.definitions) row.label c.args.key ≡ true
-    = ap (λ (pairs : List IndexPair). is_listed pairs row.label c.args.key) (sym are ∙ sym c.deref.ensures.value) ∙ sym c.has_pair.ensures ∙ c.if-not-has_pair.false in
+    = ap (λ (pairs : List IndexPair). is_listed pairs row.label c.args.key) (sym are ∙ sym c.deref.ensures.value) ∙ sym c.has_pair.ensures
+    ∙ c.if-not-has_pair.false in
     let value : c.in_ok-value.value ≡ node_value s.records row.label c.args.key node
     = c.in_ok-value.ensures.met tells ∙ ap (λ (o : Owner). value_of (properties_met n.records o) c.args.key) c.node_owner.ensures
-    ∙ ap (λ (z : State). value_of (properties_met z.records (owner_of (targets.Node node))) c.args.key) then ∙ sym (own_met s.records node row.label c.args.key live label) in
+    ∙ ap (λ (z : State). value_of (properties_met z.records (owner_of (targets.Node node))) c.args.key) then
+    ∙ sym (own_met s.records node row.label c.args.key live label) in
     subst (λ (t : Target). IsIndexedValue s.records (map (pair_of s.records) ix.definitions) t c.args.key (Some (record { label = row.label; key = c.args.key; node = node; value = c.in_ok-value.value }))) (sym c.in-Node.is)
     (refl, refl, label, there, value)
 

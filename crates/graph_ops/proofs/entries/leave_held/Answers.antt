@@ -64,7 +64,8 @@ pub returns-in_err-leave-clause-untouched : goal.returns-in_err-leave-clause-unt
 returns-in_err-leave-clause-untouched g c tells =
     let s = g.S.Reads.state c.args.space.now in
     let t = g.S.Reads.state c.leave.new.space in
-    fault_exit of_fault (BlamesUntouched s t) c.in_err-leave.field-0.0 c.from_residual.result c.from_residual.ensures.1 (fault_untouched s t c.in_err-leave.field-0.0 c.in_err-leave.ensures.unwritten)
+    fault_exit of_fault (BlamesUntouched s t) c.in_err-leave.field-0.0 c.from_residual.result c.from_residual.ensures.1
+    (fault_untouched s t c.in_err-leave.field-0.0 c.in_err-leave.ensures.unwritten)
 
 pub returns-clause-unlisted : goal.returns-clause-unlisted
 returns-clause-unlisted g c tells wanted ix none =

@@ -42,7 +42,8 @@ loop-value-preserved g c =
       left = λ tells wanted ix store.
           let was = inv.left tells wanted ix store in
           let before = without_held wanted (take i held) in (
-            subst (AreIndexed t.records) (ap (λ (h : IndexedValue). without_old before (Some h)) item ∙ sym (without_more wanted held i none lt)) (c.in_ok-more.ensures.left tells before was.0 was.1),
+            subst (AreIndexed t.records) (ap (λ (h : IndexedValue). without_old before (Some h)) item ∙ sym (without_more wanted held i none lt))
+                (c.in_ok-more.ensures.left tells before was.0 was.1),
             c.in_ok-more.ensures.keeps tells before was.0 was.1,
             c.in_ok-more.ensures.graph tells before was.0 was.1 ∙ was.2,
           );
@@ -54,7 +55,8 @@ loop-value-preserved g c =
           let here = c.in_ok-more.ensures.weight ∙ ap (λ (h : IndexedValue). old_weight (Some h)) item in
           let more = sum_by_more (λ (h : IndexedValue). old_weight (Some h)) held i none lt in
           omega (arith, before, here, more);
-      touched = index_then c.loop-value.weight c.in_ok-more.more (c.loop-value.weight + c.in_ok-more.more) s m t (omega arith) inv.touched c.in_ok-more.ensures.touches;
+      touched = index_then c.loop-value.weight c.in_ok-more.more (c.loop-value.weight + c.in_ok-more.more) s m t (omega arith) inv.touched
+          c.in_ok-more.ensures.touches;
       onward = g.met.S.Reads.further_onward _ _ _ inv.onward c.leave_held.ensures.onward;
       later = let a = inv.later in let b = c.leave_held.ensures.cause.later in omega arith;
     }
@@ -77,13 +79,15 @@ returns-in_err-more-clause-untouched g c tells =
 pub returns-in_err-more-clause-at_most : goal.returns-in_err-more-clause-at_most
 returns-in_err-more-clause-at_most g c =
     let inv = c.loop-value.invariant in
-    index_then c.loop-value.weight 3 48 _ _ _ (let a = inv.few in let b = c.requires in let d = c.loop-value-test.true in omega arith) inv.touched c.leave_held.ensures.at_most
+    index_then c.loop-value.weight 3 48 _ _ _ (let a = inv.few in let b = c.requires in let d = c.loop-value-test.true in omega arith) inv.touched
+    c.leave_held.ensures.at_most
 
 pub returns-in_err-more-clause-onward : goal.returns-in_err-more-clause-onward
 returns-in_err-more-clause-onward g c = g.met.S.Reads.further_onward _ _ _ c.loop-value.invariant.onward c.leave_held.ensures.onward
 
 pub returns-in_err-more-clause-cause : goal.returns-in_err-more-clause-cause
-returns-in_err-more-clause-cause g c = change_cause_passed _ _ _ c.from_residual.result c.in_err-more.field-0.0 c.loop-value.invariant.later c.in_err-more.ensures.cause c.from_residual.ensures.1
+returns-in_err-more-clause-cause g c = change_cause_passed _ _ _ c.from_residual.result c.in_err-more.field-0.0 c.loop-value.invariant.later
+    c.in_err-more.ensures.cause c.from_residual.ensures.1
 
 pub overflow_add-weight : goal.overflow_add-weight
 overflow_add-weight g c =

@@ -46,7 +46,8 @@ returns-in_err-pairs-clause-damaged g c tells =
 
 pub returns-in_err-pairs-clause-names : goal.returns-in_err-pairs-clause-names
 returns-in_err-pairs-clause-names g c tells =
-    fault_exit of_fault (IfBlames IsOfIndex) c.in_err-pairs.field-0.0 c.from_residual.result c.from_residual.ensures.1 (index_named c.in_err-pairs.field-0.0 (c.in_err-pairs.ensures.names tells))
+    fault_exit of_fault (IfBlames IsOfIndex) c.in_err-pairs.field-0.0 c.from_residual.result c.from_residual.ensures.1
+    (index_named c.in_err-pairs.field-0.0 (c.in_err-pairs.ensures.names tells))
 
 pub returns-in_err-pairs-clause-same : goal.returns-in_err-pairs-clause-same
 returns-in_err-pairs-clause-same g c = reads_same 17 _ _ c.indexes.ensures.at_most

@@ -22,11 +22,14 @@ use Rattle.graph_ops.proofs.Causes.{broken_left, caused_left, intern_blamed}
 use Rattle.graph_ops.proofs.DiskCauses.{change_cause_passed, intern_cause_passed, later_on, make_cause_passed}
 use Rattle.graph_ops.proofs.Exits.{fault_exit, read_leaves}
 use Rattle.graph_ops.proofs.IndexBeside.{index_written, touched_beside}
-use Rattle.graph_ops.proofs.IndexMakes.{AreNumbered, index_makes, index_refused_key, index_refused_label, index_refused_make, index_refused_pair, numbered_names, numbered_store}
+use Rattle.graph_ops.proofs.IndexMakes.{AreNumbered, index_makes, index_refused_key, index_refused_label}
+use Rattle.graph_ops.proofs.IndexMakes.{index_refused_make, index_refused_pair, numbered_names, numbered_store}
 use Rattle.graph_ops.proofs.IndexCounted.{count_beside, count_kept, file_kept}
 use Rattle.graph_ops.proofs.IndexFree.{few_there, none_there}
 use Rattle.graph_ops.proofs.IndexNumbers.{number_stays, pair_is_got}
-use Rattle.graph_ops.proofs.IndexRefused.{IsNamedFor, caused_counted, make_blamed, make_caused, make_leaves, make_still, meta_named, name_caused, name_leaves, records_named, second_lacks, shape_named}
+use Rattle.graph_ops.proofs.IndexRefused.{IsNamedFor, caused_counted, make_blamed, make_caused, make_leaves, make_still}
+use Rattle.graph_ops.proofs.IndexRefused.{meta_named, name_caused, name_leaves, records_named, second_lacks}
+use Rattle.graph_ops.proofs.IndexRefused.{shape_named}
 use Rattle.graph_ops.proofs.Interned.{name_written, one_written}
 use Rattle.graph_ops.proofs.LineNames.{first_lacks, held_name, name_long, name_once, name_prefix, uses_once}
 use Rattle.graph_ops.proofs.NewNames.{name_one}
@@ -111,7 +114,8 @@ pub returns-in_err-test_pair-clause-refused_writes : goal.returns-in_err-test_pa
 returns-in_err-test_pair-clause-refused_writes g c = read_exit _ 1039 _ _ c.test_pair.ensures.same
 
 pub returns-in_err-test_pair-clause-cause : goal.returns-in_err-test_pair-clause-cause
-returns-in_err-test_pair-clause-cause g c = change_cause_passed _ _ _ c.from_residual.result c.in_err-test_pair.field-0.0 (omega arith) c.in_err-test_pair.ensures.cause c.from_residual.ensures.1
+returns-in_err-test_pair-clause-cause g c = change_cause_passed _ _ _ c.from_residual.result c.in_err-test_pair.field-0.0 (omega arith)
+    c.in_err-test_pair.ensures.cause c.from_residual.ensures.1
 
 -- ---- the label gets no number
 
@@ -189,7 +193,8 @@ pub returns-in_err-label-clause-refused_writes : goal.returns-in_err-label-claus
 returns-in_err-label-clause-refused_writes g c = on_any_err _ _ (more_written (omega arith) (label_written g (goal.at.returns-in_err-label-clause-refused_writes g c).After-intern))
 
 pub returns-in_err-label-clause-cause : goal.returns-in_err-label-clause-cause
-returns-in_err-label-clause-cause g c = intern_cause_passed _ _ _ c.from_residual-in_err-label.result c.in_err-label.field-0.0 c.in_ok-test_pair.ensures.cause.later c.in_err-label.ensures.cause c.from_residual-in_err-label.ensures.1
+returns-in_err-label-clause-cause g c = intern_cause_passed _ _ _ c.from_residual-in_err-label.result c.in_err-label.field-0.0
+    c.in_ok-test_pair.ensures.cause.later c.in_err-label.ensures.cause c.from_residual-in_err-label.ensures.1
 
 -- ---- the key gets none
 
@@ -271,7 +276,8 @@ pub returns-in_err-key-clause-refused_writes : goal.returns-in_err-key-clause-re
 returns-in_err-key-clause-refused_writes g c = on_any_err _ _ (more_written (omega arith) (names_written g (goal.at.returns-in_err-key-clause-refused_writes g c).After-intern-2))
 
 pub returns-in_err-key-clause-cause : goal.returns-in_err-key-clause-cause
-returns-in_err-key-clause-cause g c = intern_cause_passed _ _ _ c.from_residual-in_err-key.result c.in_err-key.field-0.0 (later_on c.in_ok-test_pair.ensures.cause.later c.in_ok-label.ensures.cause.later) c.in_err-key.ensures.cause c.from_residual-in_err-key.ensures.1
+returns-in_err-key-clause-cause g c = intern_cause_passed _ _ _ c.from_residual-in_err-key.result c.in_err-key.field-0.0
+    (later_on c.in_ok-test_pair.ensures.cause.later c.in_ok-label.ensures.cause.later) c.in_err-key.ensures.cause c.from_residual-in_err-key.ensures.1
 
 -- ---- no index is made
 
@@ -320,12 +326,15 @@ module _ (g : Over) (c : After-make g) where
       omega arith
 
   label_ok : g.S.Reads.tells → g.S.Reads.state c.intern.new.space ≡ interned (g.S.Reads.state c.test_pair.new.space) c.args.names.now.names c.args.label.now
-  label_ok tells = subst (λ x. g.S.Reads.state c.intern.new.space ≡ interned (g.S.Reads.state c.test_pair.new.space) c.args.names.now.names x) label_is (c.in_ok-label.ensures.ok tells)
+  label_ok tells = subst (λ x. g.S.Reads.state c.intern.new.space ≡ interned (g.S.Reads.state c.test_pair.new.space) c.args.names.now.names x) label_is
+      (c.in_ok-label.ensures.ok tells)
 
   key_ok : g.S.Reads.tells → g.S.Reads.state c.intern-2.new.space ≡ interned (g.S.Reads.state c.intern.new.space) c.intern.new.self.names c.args.key.now
-  key_ok tells = subst (λ x. g.S.Reads.state c.intern-2.new.space ≡ interned (g.S.Reads.state c.intern.new.space) c.intern.new.self.names x) key_is (c.in_ok-key.ensures.ok tells)
+  key_ok tells = subst (λ x. g.S.Reads.state c.intern-2.new.space ≡ interned (g.S.Reads.state c.intern.new.space) c.intern.new.self.names x) key_is
+      (c.in_ok-key.ensures.ok tells)
 
-  numbered : g.S.Reads.tells → AreNumbered (g.S.Reads.state c.test_pair.new.space) (g.S.Reads.state c.intern.new.space) (g.S.Reads.state c.intern-2.new.space) c.args.names.now.names c.intern.new.self.names c.intern-2.new.self.names c.args.label.now c.args.key.now c.in_ok-label.label c.in_ok-key.key
+  numbered : g.S.Reads.tells → AreNumbered (g.S.Reads.state c.test_pair.new.space) (g.S.Reads.state c.intern.new.space) (g.S.Reads.state c.intern-2.new.space)
+      c.args.names.now.names c.intern.new.self.names c.intern-2.new.self.names c.args.label.now c.args.key.now c.in_ok-label.label c.in_ok-key.key
   numbered tells = record {
     label_short = c.requires.0;
     key_short = c.requires.1;
@@ -340,7 +349,8 @@ module _ (g : Over) (c : After-make g) where
   }
 
   -- the test was of the numbers that they got
-  named_for : g.S.Reads.tells → IsNamedFor (g.S.Reads.state c.args.space.now) (g.S.Reads.state c.intern-2.new.space) c.intern-2.new.self.names c.args.label.now c.args.key.now c.in_ok-label.label c.in_ok-key.key
+  named_for : g.S.Reads.tells → IsNamedFor (g.S.Reads.state c.args.space.now) (g.S.Reads.state c.intern-2.new.space) c.intern-2.new.self.names c.args.label.now
+      c.args.key.now c.in_ok-label.label c.in_ok-key.key
   named_for tells =
       let s = g.S.Reads.state c.args.space.now in
       let p = g.S.Reads.state c.test_pair.new.space in
@@ -357,7 +367,8 @@ module _ (g : Over) (c : After-make g) where
       let free = c.in_ok-test_pair.ensures.tested tells in
       let beside = records_named s p a b names first label key c.test_pair.ensures.same given.label_is given.key_is in
       let file = file_kept s.records b.records beside format.index_file (λ e. omega arith) (λ e. omega arith) in
-      let same = pair_is_got names label key free.pair free.pair_is first last l k held_first.distinct held_last.distinct first_uses last_uses given.label_at given.key_at in
+      let same = pair_is_got names label key free.pair free.pair_is first last l k held_first.distinct held_last.distinct first_uses last_uses given.label_at
+      given.key_at in
       record {
         label_at = number_stays first key last l label given.label_at last_uses;
         key_at = given.key_at;
@@ -369,17 +380,22 @@ module _ (g : Over) (c : After-make g) where
       }
 
   -- the nodes are as they were when the names came
-  left_count : g.S.Reads.tells → count_of (g.S.Reads.state c.make.new.space).records c.in_ok-label.label c.in_ok-key.key ≡ count_of (g.S.Reads.state c.intern-2.new.space).records c.in_ok-label.label c.in_ok-key.key
+  left_count : g.S.Reads.tells → count_of (g.S.Reads.state c.make.new.space).records c.in_ok-label.label c.in_ok-key.key ≡ count_of
+      (g.S.Reads.state c.intern-2.new.space).records c.in_ok-label.label c.in_ok-key.key
   left_count tells =
       let b = g.S.Reads.state c.intern-2.new.space in
       let t = g.S.Reads.state c.make.new.space in
       count_beside b.records t.records (touched_beside 1037 b t tells c.make.ensures.at_most) c.in_ok-label.label c.in_ok-key.key
 
-  was : g.S.Reads.tells → IsStore (g.S.Reads.state c.args.space.now) c.args.names.now.names → IsIndexed ((g.S.Reads.state c.intern-2.new.space).records) ((g.S.Reads.state c.intern-2.new.space).shape)
+  was : g.S.Reads.tells → IsStore (g.S.Reads.state c.args.space.now) c.args.names.now.names
+      → IsIndexed ((g.S.Reads.state c.intern-2.new.space).records) ((g.S.Reads.state c.intern-2.new.space).shape)
   was tells whole = (numbered_store (g.S.Reads.state c.args.space.now) (g.S.Reads.state c.test_pair.new.space) (g.S.Reads.state c.intern.new.space) (g.S.Reads.state c.intern-2.new.space) c.args.names.now.names c.intern.new.self.names c.intern-2.new.self.names c.args.label.now c.args.key.now c.in_ok-label.label c.in_ok-key.key c.test_pair.ensures.same whole (numbered tells)).store
 
-  names_are : g.S.Reads.tells → IsStore (g.S.Reads.state c.args.space.now) c.args.names.now.names → AreNamesOf ((g.S.Reads.state c.intern-2.new.space).records) c.in_ok-label.label c.in_ok-key.key
-  names_are tells whole = numbered_names (g.S.Reads.state c.args.space.now) (g.S.Reads.state c.test_pair.new.space) (g.S.Reads.state c.intern.new.space) (g.S.Reads.state c.intern-2.new.space) c.args.names.now.names c.intern.new.self.names c.intern-2.new.self.names c.args.label.now c.args.key.now c.in_ok-label.label c.in_ok-key.key c.test_pair.ensures.same whole (numbered tells)
+  names_are : g.S.Reads.tells → IsStore (g.S.Reads.state c.args.space.now) c.args.names.now.names
+      → AreNamesOf ((g.S.Reads.state c.intern-2.new.space).records) c.in_ok-label.label c.in_ok-key.key
+  names_are tells whole = numbered_names (g.S.Reads.state c.args.space.now) (g.S.Reads.state c.test_pair.new.space) (g.S.Reads.state c.intern.new.space)
+      (g.S.Reads.state c.intern-2.new.space) c.args.names.now.names c.intern.new.self.names c.intern-2.new.self.names c.args.label.now c.args.key.now
+      c.in_ok-label.label c.in_ok-key.key c.test_pair.ensures.same whole (numbered tells)
 
   later : g.S.Reads.faults c.args.space.now ≤ g.S.Reads.faults c.intern-2.new.space
   later = later_on (later_on c.in_ok-test_pair.ensures.cause.later c.in_ok-label.ensures.cause.later) c.in_ok-key.ensures.cause.later
@@ -427,15 +443,20 @@ returns-in_err-count-clause-still g c tells =
     let fault = c.in_err-count.field-0.0 in
     fault_exit of_make (IsStillCaused command t names now) fault c.from_residual-in_err-count.result c.from_residual-in_err-count.ensures.1
     (record {
-      caused = make_still (g.S.Reads.state c.intern-2.new.space) names now label key c.in_ok-label.label c.in_ok-key.key (g.S.Reads.state c.args.space.now) t (named_for g (goal.at.returns-in_err-count-clause-still g c).After-make tells) (left_count g (goal.at.returns-in_err-count-clause-still g c).After-make tells) fault (c.in_err-count.ensures.unwritten tells) (c.in_err-count.ensures.caused tells);
+      caused = make_still (g.S.Reads.state c.intern-2.new.space) names now label key c.in_ok-label.label c.in_ok-key.key (g.S.Reads.state c.args.space.now) t
+          (named_for g (goal.at.returns-in_err-count-clause-still g c).After-make tells)
+          (left_count g (goal.at.returns-in_err-count-clause-still g c).After-make tells) fault (c.in_err-count.ensures.unwritten tells)
+          (c.in_err-count.ensures.caused tells);
       damaged = make_blamed t fault (c.in_err-count.ensures.still tells);
     })
 
 -- the names that the label and the key have become
-named_read : (s m n t : State) (names known then : List (List ℕ)) (label key : List ℕ) → SameButReads s m → n ≡ interned m names label → UsesName names label known → UsesName names label then → t ≡ interned n then key → SameButReads (interned (interned s names label) known key) t
+named_read : (s m n t : State) (names known then : List (List ℕ)) (label key : List ℕ) → SameButReads s m → n ≡ interned m names label
+    → UsesName names label known → UsesName names label then → t ≡ interned n then key → SameButReads (interned (interned s names label) known key) t
 named_read s m n t names known then label key same first is uses second =
     let one : SameButReads (interned s names label) n = subst (SameButReads (interned s names label)) (sym first) (interned_read s m names label same) in
-    let two : SameButReads (interned (interned s names label) then key) t = subst (SameButReads (interned (interned s names label) then key)) (sym second) (interned_read (interned s names label) n then key one) in
+    let two : SameButReads (interned (interned s names label) then key) t =
+    subst (SameButReads (interned (interned s names label) then key)) (sym second) (interned_read (interned s names label) n then key one) in
     subst (λ k. SameButReads (interned (interned s names label) k key) t) (name_once names label then known uses is) two
 
 pub returns-in_err-count-clause-damaged : goal.returns-in_err-count-clause-damaged
@@ -450,8 +471,10 @@ returns-in_err-count-clause-damaged g c tells known uses =
     let named = interned (interned s names label) known key in
     let fault = c.in_err-count.field-0.0 in
     let first : n ≡ interned m names label = subst (λ k. n ≡ interned m names k) c.as_bytes.ensures (c.in_ok-label.ensures.ok tells) in
-    let used : UsesName names label c.intern.new.self.names = subst (λ k. UsesName names k c.intern.new.self.names) c.as_bytes.ensures c.in_ok-label.ensures.names in
-    let second : t ≡ interned n c.intern.new.self.names key = subst (λ k. t ≡ interned n c.intern.new.self.names k) c.as_bytes-2.ensures (c.in_ok-key.ensures.ok tells) in
+    let used : UsesName names label c.intern.new.self.names = subst (λ k. UsesName names k c.intern.new.self.names) c.as_bytes.ensures
+    c.in_ok-label.ensures.names in
+    let second : t ≡ interned n c.intern.new.self.names key = subst (λ k. t ≡ interned n c.intern.new.self.names k) c.as_bytes-2.ensures
+    (c.in_ok-key.ensures.ok tells) in
     let same = named_read s m n t names known c.intern.new.self.names label key c.test_pair.ensures.same first uses used second in
     fault_exit of_make (BlamesMaking s named) fault c.from_residual-in_err-count.result c.from_residual-in_err-count.ensures.1
     (blames_more _ _ (λ damage broken. inr (subst (λ (z : State). IsBroken z damage) same broken)) (of_make fault) (make_blamed t fault (c.in_err-count.ensures.damaged tells)))
@@ -480,7 +503,9 @@ pub returns-in_err-count-clause-refused_writes : goal.returns-in_err-count-claus
 returns-in_err-count-clause-refused_writes g c = on_any_err _ _ (made_written g (goal.at.returns-in_err-count-clause-refused_writes g c).After-make)
 
 pub returns-in_err-count-clause-cause : goal.returns-in_err-count-clause-cause
-returns-in_err-count-clause-cause g c = make_cause_passed _ _ _ c.from_residual-in_err-count.result c.in_err-count.field-0.0 (later_on (later_on c.in_ok-test_pair.ensures.cause.later c.in_ok-label.ensures.cause.later) c.in_ok-key.ensures.cause.later) c.in_err-count.ensures.cause c.from_residual-in_err-count.ensures.1
+returns-in_err-count-clause-cause g c = make_cause_passed _ _ _ c.from_residual-in_err-count.result c.in_err-count.field-0.0
+    (later_on (later_on c.in_ok-test_pair.ensures.cause.later c.in_ok-label.ensures.cause.later) c.in_ok-key.ensures.cause.later) c.in_err-count.ensures.cause
+    c.from_residual-in_err-count.ensures.1
 
 pub returns-in_err-count-clause-onward : goal.returns-in_err-count-clause-onward
 returns-in_err-count-clause-onward g c = gone_on g (goal.at.returns-in_err-count-clause-onward g c).After-make
@@ -494,7 +519,8 @@ returns-in_err-count-clause-prefix g c =
 
 pub returns-in_err-key-clause-prefix : goal.returns-in_err-key-clause-prefix
 returns-in_err-key-clause-prefix g c =
-    let one = name_prefix c.args.names.now.names c.args.label.now c.intern.new.self.names (label_uses g (goal.at.returns-in_err-key-clause-prefix g c).After-intern-2) in
+    let one = name_prefix c.args.names.now.names c.args.label.now c.intern.new.self.names
+    (label_uses g (goal.at.returns-in_err-key-clause-prefix g c).After-intern-2) in
     (one.0, c.in_err-key.ensures.err ∙ one.1)
 
 -- ---- an index is made
@@ -530,7 +556,10 @@ returns-clause-made g c tells whole =
     let label = c.args.label.now in
     let key = c.args.key.now in
     let had = was g after tells whole in
-    index_makes s (g.S.Reads.state c.test_pair.new.space) (g.S.Reads.state c.intern.new.space) (g.S.Reads.state c.intern-2.new.space) names c.intern.new.self.names now label key c.in_ok-label.label c.in_ok-key.key c.test_pair.ensures.same whole (numbered g after tells) had (c.in_ok-test_pair.ensures.may tells whole) (g.S.Reads.state c.make.new.space) c.in_ok-count.count (c.in_ok-count.ensures.made tells had (names_are g after tells whole)) _
+    index_makes s (g.S.Reads.state c.test_pair.new.space) (g.S.Reads.state c.intern.new.space) (g.S.Reads.state c.intern-2.new.space) names
+    c.intern.new.self.names now label key c.in_ok-label.label c.in_ok-key.key c.test_pair.ensures.same whole (numbered g after tells) had
+    (c.in_ok-test_pair.ensures.may tells whole) (g.S.Reads.state c.make.new.space) c.in_ok-count.count
+    (c.in_ok-count.ensures.made tells had (names_are g after tells whole)) _
     (let k = c.count-known.ensures.value in let m = c.count.ensures.value in omega arith)
 
 pub returns-clause-names_full : goal.returns-clause-names_full

@@ -3,7 +3,8 @@ use Rattle.std.proofs.Common.{◌≡◌, inl, inr, ◌+◌, Bool, true, false, n
 use Rattle.graph_ops.specs.Indexing.{IsNumberOf, IsPairOf}
 use Rattle.graph_ops.proofs.IndexNumbers.{pair_apart, pair_next}
 use Rattle.graph_ops.proofs.indexing.pair_of.Goals as goal
-use Rattle.graph_ops.proofs.indexing.pair_of.Goals.{else-label_number-key_number-via-then-label_number-key_number+else-ne, else-label_number-key_number-via-else-label_number-key_number}
+use Rattle.graph_ops.proofs.indexing.pair_of.Goals.{else-label_number-key_number-via-then-label_number-key_number+else-ne}
+use Rattle.graph_ops.proofs.indexing.pair_of.Goals.{else-label_number-key_number-via-else-label_number-key_number}
 
 told_other : (b : Bool) → true ≡ not b → false ≡ b
 told_other true e = absurd cc
@@ -29,8 +30,10 @@ returns c =
     let names = c.args.names.now.names in
     let label = c.args.label.now in
     let key = c.args.key.now in
-    pair_apart names label key c.number_of-label_number.result c.number_of-key_number.result c.number_of-label_number.ensures.is c.number_of-key_number.ensures.is
+    pair_apart names label key c.number_of-label_number.result c.number_of-key_number.result c.number_of-label_number.ensures.is
+    c.number_of-key_number.ensures.is
     (elim c.else-label_number-key_number.branch [
-      | else-label_number-key_number-via-then-label_number-key_number+else-ne w ↦ inr (sym w.as_bytes.ensures ∙ same_text w.as_bytes.result.now w.as_bytes-then-label_number-key_number.result.now (told_same _ w.if-ne.ensures) ∙ w.as_bytes-then-label_number-key_number.ensures)
+      | else-label_number-key_number-via-then-label_number-key_number+else-ne w ↦ inr
+          (sym w.as_bytes.ensures ∙ same_text w.as_bytes.result.now w.as_bytes-then-label_number-key_number.result.now (told_same _ w.if-ne.ensures) ∙ w.as_bytes-then-label_number-key_number.ensures)
       | else-label_number-key_number-via-else-label_number-key_number w ↦ inl w.if-label_number-key_number.false
     ])

@@ -38,7 +38,8 @@ returns-in_err-listed-clause-caused g c tells =
     let names = c.args.names.now.names in
     let command = commands.Index c.args.label.now c.args.key.now in
     let fault = c.in_err-listed.field-0.0 in
-    fault_exit of_fault (IsCaused command s t names names) fault c.from_residual.result c.from_residual.ensures.1 (failure_caused command s t names names (of_fault fault) (fault_fails fault))
+    fault_exit of_fault (IsCaused command s t names names) fault c.from_residual.result c.from_residual.ensures.1
+    (failure_caused command s t names names (of_fault fault) (fault_fails fault))
 
 pub returns-in_err-listed-clause-damaged : goal.returns-in_err-listed-clause-damaged
 returns-in_err-listed-clause-damaged g c tells =
@@ -74,7 +75,8 @@ pub returns-then-has_pair-clause-caused : goal.returns-then-has_pair-clause-caus
 returns-then-has_pair-clause-caused g c tells =
     let s = g.R.Reads.state c.args.space.now in
     let names = c.args.names.now.names in
-    there_caused s.records names c.in_ok-listed.listed.items c.args.label.now c.args.key.now c.pair_of-pair.result (c.in_ok-listed.ensures.walked tells) c.pair_of-pair.ensures
+    there_caused s.records names c.in_ok-listed.listed.items c.args.label.now c.args.key.now c.pair_of-pair.result (c.in_ok-listed.ensures.walked tells)
+    c.pair_of-pair.ensures
     (sym (listed_is g (goal.at.returns-then-has_pair-clause-caused g c).After-has_pair) ∙ c.if-has_pair.true)
 
 pub returns-then-has_pair-clause-same : goal.returns-then-has_pair-clause-same

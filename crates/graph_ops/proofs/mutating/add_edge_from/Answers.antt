@@ -18,11 +18,13 @@ returns-in-Vertex-clause-refused g c told store =
 
 pub returns-in-Edge-clause-part : goal.returns-in-Edge-clause-part
 returns-in-Edge-clause-part g c =
-    none_from g.S.Reads.tells c.args.label.now c.args.to c.args.pairs.now c.args.item.now c.args.shown.now.items (g.S.Reads.state c.args.space.now) c.args.names.now.names (⊎_elim (λ e. ap vertex_id e.4) (λ e. ap vertex_id e.1) c.in-Edge.is)
+    none_from g.S.Reads.tells c.args.label.now c.args.to c.args.pairs.now c.args.item.now c.args.shown.now.items (g.S.Reads.state c.args.space.now)
+    c.args.names.now.names (⊎_elim (λ e. ap vertex_id e.4) (λ e. ap vertex_id e.1) c.in-Edge.is)
 
 pub returns-in-Edge-2-clause-part : goal.returns-in-Edge-2-clause-part
 returns-in-Edge-2-clause-part g c =
-    none_from g.S.Reads.tells c.args.label.now c.args.to c.args.pairs.now c.args.item.now c.args.shown.now.items (g.S.Reads.state c.args.space.now) c.args.names.now.names (⊎_elim (λ e. ap vertex_id e.4) (λ e. ap vertex_id e.1) c.in-Edge.is)
+    none_from g.S.Reads.tells c.args.label.now c.args.to c.args.pairs.now c.args.item.now c.args.shown.now.items (g.S.Reads.state c.args.space.now)
+    c.args.names.now.names (⊎_elim (λ e. ap vertex_id e.4) (λ e. ap vertex_id e.1) c.in-Edge.is)
 
 pub returns-in-Vertex-clause-still : goal.returns-in-Vertex-clause-still
 returns-in-Vertex-clause-still g c tells =

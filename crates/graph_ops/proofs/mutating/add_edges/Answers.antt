@@ -20,8 +20,10 @@ returns-in_err-more-clause-refused g c told store =
     let label = c.args.label.now in
     let pairs = c.args.pairs.now in
     let item = c.item-item.result in
-    next_exit (changes_of (mutations.AddE label c.args.to pairs)) (edges_spread label c.args.to pairs) c.args.items.now c.loop-item.item-index item item c.loop-item-test.true c.item-item.is c.loop-item.weight (g.S.Reads.state c.args.space.now) (g.S.Reads.state c.loop-item.space) c.args.names.now.names
-    c.loop-item.names.names c.in_err-more.field-0.0 c.from_residual.result told store inv.part inv.shape c.from_residual.ensures.1 (λ kept. c.in_err-more.ensures.refused told kept)
+    next_exit (changes_of (mutations.AddE label c.args.to pairs)) (edges_spread label c.args.to pairs) c.args.items.now c.loop-item.item-index item item
+    c.loop-item-test.true c.item-item.is c.loop-item.weight (g.S.Reads.state c.args.space.now) (g.S.Reads.state c.loop-item.space) c.args.names.now.names
+    c.loop-item.names.names c.in_err-more.field-0.0 c.from_residual.result told store inv.part inv.shape c.from_residual.ensures.1
+    (λ kept. c.in_err-more.ensures.refused told kept)
 
 pub loop-item-preserved : goal.loop-item-preserved
 loop-item-preserved g c =
@@ -37,11 +39,16 @@ loop-item-preserved g c =
     let i = c.loop-item.item-index in
     let start = c.args.shown.now.items in
     record {
-      making = making_more of spread results i item item c.loop-item-test.true c.item-item.is c.loop-item.weight c.in_ok-more.more c.in_ok-both.both s t (g.S.Reads.state c.add_edge_from.new.space) c.args.names.now.names c.loop-item.names.names c.add_edge_from.new.names.names (g.S.Reads.faults c.args.space.now)
-          (g.S.Reads.faults c.loop-item.space) (g.S.Reads.faults c.add_edge_from.new.space) c.in_ok-both.ensures.sum c.in_ok-both.ensures.few inv c.in_ok-more.ensures.part c.add_edge_from.ensures.prefix (g.met.S.Reads.onward_shape _ _ c.add_edge_from.ensures.onward)
-          (g.met.S.Reads.further_onward c.args.space.now c.loop-item.space c.add_edge_from.new.space inv.onward_is c.add_edge_from.ensures.onward) c.add_edge_from.ensures.cause.later
+      making = making_more of spread results i item item c.loop-item-test.true c.item-item.is c.loop-item.weight c.in_ok-more.more c.in_ok-both.both s t
+          (g.S.Reads.state c.add_edge_from.new.space) c.args.names.now.names c.loop-item.names.names c.add_edge_from.new.names.names
+          (g.S.Reads.faults c.args.space.now)
+          (g.S.Reads.faults c.loop-item.space) (g.S.Reads.faults c.add_edge_from.new.space) c.in_ok-both.ensures.sum c.in_ok-both.ensures.few inv
+          c.in_ok-more.ensures.part c.add_edge_from.ensures.prefix (g.met.S.Reads.onward_shape _ _ c.add_edge_from.ensures.onward)
+          (g.met.S.Reads.further_onward c.args.space.now c.loop-item.space c.add_edge_from.new.space inv.onward_is c.add_edge_from.ensures.onward)
+          c.add_edge_from.ensures.cause.later
           (λ rs ts total a each b.
-          b ∙ ap (λ (l : List Item). l ++ new_elements (of (item ∷ [])) ts) a ∙ append_assoc start (new_elements (of (take i results)) rs) (new_elements (of (item ∷ [])) ts)
+          b ∙ ap (λ (l : List Item). l ++ new_elements (of (item ∷ [])) ts) a
+          ∙ append_assoc start (new_elements (of (take i results)) rs) (new_elements (of (item ∷ [])) ts)
           ∙ ap (λ (l : List Item). start ++ l)
           (sym (elements_then s.shape.limit s.shape.threshold (graph_in s) (graph_in t) (of (take i results)) (of (item ∷ [])) rs ts total each) ∙ ap (λ (cs : List Command). new_elements cs (rs ++ ts)) (sym (up_to of spread results i item item c.loop-item-test.true c.item-item.is))));
       lines = λ shown. c.in_ok-more.ensures.lines (c.loop-item.invariant.lines shown);
@@ -63,7 +70,8 @@ returns-in_err-more-clause-still g c tells =
     let label = c.args.label.now in
     let pairs = c.args.pairs.now in
     let item = c.item-item.result in
-    next_still (changes_of (mutations.AddE label c.args.to pairs)) (edges_spread label c.args.to pairs) c.args.items.now c.loop-item.item-index item item c.loop-item-test.true c.item-item.is t c.args.names.now.names c.loop-item.names.names c.add_edge_from.new.names.names c.in_err-more.field-0.0
+    next_still (changes_of (mutations.AddE label c.args.to pairs)) (edges_spread label c.args.to pairs) c.args.items.now c.loop-item.item-index item item
+    c.loop-item-test.true c.item-item.is t c.args.names.now.names c.loop-item.names.names c.add_edge_from.new.names.names c.in_err-more.field-0.0
     c.from_residual.result c.loop-item.invariant.making.prefix c.from_residual.ensures.1 (c.in_err-more.ensures.still tells)
 
 pub returns-in_err-both-clause-still : goal.returns-in_err-both-clause-still

@@ -10,7 +10,9 @@ abbrev pub invariant-loop-item : goal.invariant-loop-item
 invariant-loop-item g l =
     let commands = changes_of (mutations.AddE l.label l.to l.pairs) (take l.item-index l.items) in
     record {
-      making : IsMaking g.S.Reads.tells (g.S.Reads.onward l.fn.space l.space) commands (λ replies. l.shown.items ≡ l.fn.shown.items ++ new_elements commands replies) l.weight (g.S.Reads.state l.fn.space) (g.S.Reads.state l.space) l.fn.names.names l.names.names (g.S.Reads.faults l.fn.space)
+      making : IsMaking g.S.Reads.tells (g.S.Reads.onward l.fn.space l.space) commands
+          (λ replies. l.shown.items ≡ l.fn.shown.items ++ new_elements commands replies) l.weight (g.S.Reads.state l.fn.space) (g.S.Reads.state l.space)
+          l.fn.names.names l.names.names (g.S.Reads.faults l.fn.space)
           (g.S.Reads.faults l.space);
       lines : AllByRecursion IsShown l.fn.shown.items → AllByRecursion IsShown l.shown.items;
     }

@@ -19,7 +19,9 @@ returns-clause-part g c =
     let old = c.args.shown.now.items in
     let shown : c.show.new.shown.items ≡ old ++ items.Edge id c.args.label.now from to ∷ []
     = c.in_ok-show.ensures.shown ∙ (λ i. old ++ items.Edge id (c.in-Ok.ensures i) from to ∷ []) in
-    one_part g.S.Reads.tells command (λ (replies : List Reply). c.show.new.shown.items ≡ old ++ new_elements (command ∷ []) replies) (EdgeMade id) c.in_ok-id.field-0.weight (g.S.Reads.state c.args.space.now) (g.S.Reads.state c.add_edge.new.space) c.args.names.now.names c.add_edge.new.names.names made.made made.light
+    one_part g.S.Reads.tells command (λ (replies : List Reply). c.show.new.shown.items ≡ old ++ new_elements (command ∷ []) replies) (EdgeMade id)
+    c.in_ok-id.field-0.weight (g.S.Reads.state c.args.space.now) (g.S.Reads.state c.add_edge.new.space) c.args.names.now.names c.add_edge.new.names.names
+    made.made made.light
     made.writes shown
 
 -- ---- why it is refused, by the space as it is left
@@ -34,13 +36,15 @@ returns-in_err-id-clause-still g c tells =
     let now = c.add_edge.new.names.names in
     let command = commands.Edge c.args.from c.args.label.now c.args.to c.args.pairs.now in
     let fault = c.in_err-id.field-0.0 in
-    fault_exit (λ f. f) (IsListCaused (command ∷ []) t names now) fault c.from_residual.result c.from_residual.ensures.1 (one_caused command t names now fault c.add_edge.ensures.prefix (c.in_err-id.ensures.still tells))
+    fault_exit (λ f. f) (IsListCaused (command ∷ []) t names now) fault c.from_residual.result c.from_residual.ensures.1
+    (one_caused command t names now fault c.add_edge.ensures.prefix (c.in_err-id.ensures.still tells))
 
 pub returns-in_err-show-clause-still : goal.returns-in_err-show-clause-still
 returns-in_err-show-clause-still g c tells =
     let t = g.S.Reads.state c.add_edge.new.space in
     let command = commands.Edge c.args.from c.args.label.now c.args.to c.args.pairs.now in
-    fault_exit (λ f. f) (IsListCaused (command ∷ []) t c.args.names.now.names c.add_edge.new.names.names) c.in_err-show.field-0.0 c.from_residual-in_err-show.result c.from_residual-in_err-show.ensures.1 (inl c.in_err-show.ensures.memory)
+    fault_exit (λ f. f) (IsListCaused (command ∷ []) t c.args.names.now.names c.add_edge.new.names.names) c.in_err-show.field-0.0
+    c.from_residual-in_err-show.result c.from_residual-in_err-show.ensures.1 (inl c.in_err-show.ensures.memory)
 
 pub returns-in_err-id-clause-part : goal.returns-in_err-id-clause-part
 returns-in_err-id-clause-part g c = never_ok c.from_residual.result _ _ c.from_residual.ensures.1

@@ -5,7 +5,9 @@ use Rattle.graph_ops.specs.Damage.{BlamesEntries}
 use Rattle.graph_ops.specs.Entries.{HasIndexes}
 use Rattle.graph_ops.specs.NodeDeleting.{IsDeleteCause}
 use Rattle.graph_ops.specs.declared.change_fault.ChangeFault.{ChangeFault}
-use Rattle.graph_ops.specs.declared.change_fault.ChangeFault.TheVariants.{NoNode, NoEdge, HasRelationships, IndexThere, TooManyIndexes, IndexTooLarge, Full, NamesFull, PropsFull, Memory, Disk, Damaged}
+use Rattle.graph_ops.specs.declared.change_fault.ChangeFault.TheVariants.{NoNode, NoEdge, HasRelationships, IndexThere}
+use Rattle.graph_ops.specs.declared.change_fault.ChangeFault.TheVariants.{TooManyIndexes, IndexTooLarge, Full}
+use Rattle.graph_ops.specs.declared.change_fault.ChangeFault.TheVariants.{NamesFull, PropsFull, Memory, Disk, Damaged}
 use Rattle.std.specs.Prelude.{IfErr, IfOk}
 use Rattle.graph_ops.specs.Causes.{IsStillCaused}
 use Rattle.plain_graph.specs.Reply.{Done}
@@ -37,13 +39,15 @@ pub returns-in-Node-clause-still : goal.returns-in-Node-clause-still
 returns-in-Node-clause-still g c tells =
     let t = g.S.Reads.state c.delete_node.new.space in
     let names = c.args.names.now.names in
-    subst (λ (target : Target). IfErr c.delete_node.result (IsStillCaused (commands.Delete target) t names names)) (sym c.in-Node.is) (c.delete_node.ensures.still tells)
+    subst (λ (target : Target). IfErr c.delete_node.result (IsStillCaused (commands.Delete target) t names names)) (sym c.in-Node.is)
+    (c.delete_node.ensures.still tells)
 
 pub returns-in-Edge-clause-still : goal.returns-in-Edge-clause-still
 returns-in-Edge-clause-still g c tells =
     let t = g.S.Reads.state c.delete_edge.new.space in
     let names = c.args.names.now.names in
-    subst (λ (target : Target). IfErr c.delete_edge.result (IsStillCaused (commands.Delete target) t names names)) (sym c.in-Edge.is) (c.delete_edge.ensures.still tells)
+    subst (λ (target : Target). IfErr c.delete_edge.result (IsStillCaused (commands.Delete target) t names names)) (sym c.in-Edge.is)
+    (c.delete_edge.ensures.still tells)
 
 -- ---- which record is blamed
 
@@ -77,9 +81,11 @@ returns-in-Edge-clause-damaged g c tells =
 pub returns-in-Node-clause-refused : goal.returns-in-Node-clause-refused
 returns-in-Node-clause-refused g c = λ tells store.
     let s = g.S.Reads.state c.args.space.now in
-    subst (λ (target : Target). IfErr c.delete_node.result (IsRefusal s.shape.limit (graph_in s) (commands.Delete target))) (sym c.in-Node.is) (c.delete_node.ensures.refused tells store)
+    subst (λ (target : Target). IfErr c.delete_node.result (IsRefusal s.shape.limit (graph_in s) (commands.Delete target))) (sym c.in-Node.is)
+    (c.delete_node.ensures.refused tells store)
 
 pub returns-in-Edge-clause-refused : goal.returns-in-Edge-clause-refused
 returns-in-Edge-clause-refused g c = λ tells store.
     let s = g.S.Reads.state c.args.space.now in
-    subst (λ (target : Target). IfErr c.delete_edge.result (IsRefusal s.shape.limit (graph_in s) (commands.Delete target))) (sym c.in-Edge.is) (c.delete_edge.ensures.refused tells store)
+    subst (λ (target : Target). IfErr c.delete_edge.result (IsRefusal s.shape.limit (graph_in s) (commands.Delete target))) (sym c.in-Edge.is)
+    (c.delete_edge.ensures.refused tells store)

@@ -21,7 +21,8 @@ returns-in_err-more-clause-refused g c told store =
     let i = c.loop-target.target-index in
     let target = get_or c.args.targets.now i (targets.Node 0) in
     let fault = c.in_err-more.field-0.0 in
-    next_exit deletions deletions_spread c.args.targets.now i target (targets.Node 0) c.loop-target-test.true refl c.loop-target.weight (g.S.Reads.state c.args.space.now) t names names fault c.from_residual.result told store inv.part inv.shape c.from_residual.ensures.1
+    next_exit deletions deletions_spread c.args.targets.now i target (targets.Node 0) c.loop-target-test.true refl c.loop-target.weight
+    (g.S.Reads.state c.args.space.now) t names names fault c.from_residual.result told store inv.part inv.shape c.from_residual.ensures.1
     (λ kept. one_refused t.shape.limit (graph_in t) (commands.Delete target) fault (c.in_err-more.ensures.refused told kept))
 
 pub loop-target-init : goal.loop-target-init
@@ -47,9 +48,13 @@ loop-target-preserved g c =
     let target = get_or c.args.targets.now i (targets.Node 0) in
     record {
       fresh = λ none. absurd (omega (arith, none));
-      making = making_more deletions deletions_spread c.args.targets.now i target (targets.Node 0) c.loop-target-test.true refl c.loop-target.weight c.in_ok-more.more c.in_ok-both.both (g.S.Reads.state c.args.space.now) (g.S.Reads.state c.loop-target.space) (g.S.Reads.state c.delete.new.space) names names names (g.S.Reads.faults c.args.space.now)
-          (g.S.Reads.faults c.loop-target.space) (g.S.Reads.faults c.delete.new.space) c.in_ok-both.ensures.sum c.in_ok-both.ensures.few inv c.in_ok-more.ensures.part ([], sym (append_none names)) (g.met.S.Reads.onward_shape _ _ c.delete.ensures.onward)
-          (g.met.S.Reads.further_onward c.args.space.now c.loop-target.space c.delete.new.space inv.onward_is c.delete.ensures.onward) c.delete.ensures.cause.later (λ rs ts total a each b. tt);
+      making = making_more deletions deletions_spread c.args.targets.now i target (targets.Node 0) c.loop-target-test.true refl c.loop-target.weight
+          c.in_ok-more.more c.in_ok-both.both (g.S.Reads.state c.args.space.now) (g.S.Reads.state c.loop-target.space) (g.S.Reads.state c.delete.new.space)
+          names names names (g.S.Reads.faults c.args.space.now)
+          (g.S.Reads.faults c.loop-target.space) (g.S.Reads.faults c.delete.new.space) c.in_ok-both.ensures.sum c.in_ok-both.ensures.few inv
+          c.in_ok-more.ensures.part ([], sym (append_none names)) (g.met.S.Reads.onward_shape _ _ c.delete.ensures.onward)
+          (g.met.S.Reads.further_onward c.args.space.now c.loop-target.space c.delete.new.space inv.onward_is c.delete.ensures.onward)
+          c.delete.ensures.cause.later (λ rs ts total a each b. tt);
     }
 
 -- ---- why it is refused, by the space as it is left
@@ -61,14 +66,16 @@ returns-in_err-more-clause-still g c tells =
     let i = c.loop-target.target-index in
     let target = get_or c.args.targets.now i (targets.Node 0) in
     let fault = c.in_err-more.field-0.0 in
-    next_still deletions deletions_spread c.args.targets.now i target (targets.Node 0) c.loop-target-test.true refl t names names names fault c.from_residual.result ([], sym (append_none names)) c.from_residual.ensures.1
+    next_still deletions deletions_spread c.args.targets.now i target (targets.Node 0) c.loop-target-test.true refl t names names names fault
+    c.from_residual.result ([], sym (append_none names)) c.from_residual.ensures.1
     (one_caused (commands.Delete target) t names names fault ([], sym (append_none names)) (c.in_err-more.ensures.still tells))
 
 pub returns-in_err-both-clause-still : goal.returns-in_err-both-clause-still
 returns-in_err-both-clause-still g c tells =
     let t = g.S.Reads.state c.delete.new.space in
     let names = c.args.names.now.names in
-    fault_exit (λ f. f) (IsListCaused (deletions c.args.targets.now) t names names) c.in_err-both.field-0.0 c.from_residual-in_err-both.result c.from_residual-in_err-both.ensures.1 (inl c.in_err-both.ensures.memory)
+    fault_exit (λ f. f) (IsListCaused (deletions c.args.targets.now) t names names) c.in_err-both.field-0.0 c.from_residual-in_err-both.result
+    c.from_residual-in_err-both.ensures.1 (inl c.in_err-both.ensures.memory)
 
 -- ---- which record is blamed
 
@@ -79,7 +86,8 @@ returns-in_err-more-clause-lone g c tells target is =
     let i = c.loop-target.target-index in
     let one = ap (λ (l : List Target). length l) is in
     let none : i ≡ 0 = let lt = c.loop-target-test.true in omega (arith, lt, one) in
-    let at : get_or c.args.targets.now i (targets.Node 0) ≡ target = ap (λ n. get_or c.args.targets.now n (targets.Node 0)) none ∙ ap (λ (l : List Target). get_or l 0 (targets.Node 0)) is in
+    let at : get_or c.args.targets.now i (targets.Node 0) ≡ target = ap (λ n. get_or c.args.targets.now n (targets.Node 0)) none
+    ∙ ap (λ (l : List Target). get_or l 0 (targets.Node 0)) is in
     let fault = c.in_err-more.field-0.0 in
     fault_exit (λ f. f) (BlamesDeletion s t target) fault c.from_residual.result c.from_residual.ensures.1
     (subst (λ (x : Target). BlamesDeletion s t x fault) at (subst (λ (z : State). BlamesDeletion z t (get_or c.args.targets.now i (targets.Node 0)) fault) (c.loop-target.invariant.fresh none) (c.in_err-more.ensures.damaged tells)))
@@ -88,14 +96,17 @@ pub returns-in_err-both-clause-lone : goal.returns-in_err-both-clause-lone
 returns-in_err-both-clause-lone g c tells target is =
     let s = g.S.Reads.state c.args.space.now in
     let t = g.S.Reads.state c.delete.new.space in
-    fault_exit (λ f. f) (BlamesDeletion s t target) c.in_err-both.field-0.0 c.from_residual-in_err-both.result c.from_residual-in_err-both.ensures.1 (memory_blames s t target c.in_err-both.field-0.0 c.in_err-both.ensures.memory)
+    fault_exit (λ f. f) (BlamesDeletion s t target) c.in_err-both.field-0.0 c.from_residual-in_err-both.result c.from_residual-in_err-both.ensures.1
+    (memory_blames s t target c.in_err-both.field-0.0 c.in_err-both.ensures.memory)
 
 -- in the space as it is left
 pub returns-in_err-more-clause-blamed : goal.returns-in_err-more-clause-blamed
 returns-in_err-more-clause-blamed g c tells =
-    fault_exit (λ f. f) (BlamesBroken (g.S.Reads.state c.delete.new.space)) c.in_err-more.field-0.0 c.from_residual.result c.from_residual.ensures.1 (c.in_err-more.ensures.broken tells)
+    fault_exit (λ f. f) (BlamesBroken (g.S.Reads.state c.delete.new.space)) c.in_err-more.field-0.0 c.from_residual.result c.from_residual.ensures.1
+    (c.in_err-more.ensures.broken tells)
 
 pub returns-in_err-both-clause-blamed : goal.returns-in_err-both-clause-blamed
 returns-in_err-both-clause-blamed g c tells =
     let t = g.S.Reads.state c.delete.new.space in
-    fault_exit (λ f. f) (BlamesBroken t) c.in_err-both.field-0.0 c.from_residual-in_err-both.result c.from_residual-in_err-both.ensures.1 (memory_breaks t c.in_err-both.field-0.0 c.in_err-both.ensures.memory)
+    fault_exit (λ f. f) (BlamesBroken t) c.in_err-both.field-0.0 c.from_residual-in_err-both.result c.from_residual-in_err-both.ensures.1
+    (memory_breaks t c.in_err-both.field-0.0 c.in_err-both.ensures.memory)

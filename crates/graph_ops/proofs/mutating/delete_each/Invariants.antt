@@ -8,5 +8,6 @@ abbrev pub invariant-loop-target : goal.invariant-loop-target
 invariant-loop-target g l =
     record {
       fresh : l.target-index ≡ 0 → g.S.Reads.state l.space ≡ g.S.Reads.state l.fn.space;
-      making : IsMaking g.S.Reads.tells (g.S.Reads.onward l.fn.space l.space) (deletions (take l.target-index l.targets)) any_replies l.weight (g.S.Reads.state l.fn.space) (g.S.Reads.state l.space) l.names.names l.names.names (g.S.Reads.faults l.fn.space) (g.S.Reads.faults l.space);
+      making : IsMaking g.S.Reads.tells (g.S.Reads.onward l.fn.space l.space) (deletions (take l.target-index l.targets)) any_replies l.weight
+          (g.S.Reads.state l.fn.space) (g.S.Reads.state l.space) l.names.names l.names.names (g.S.Reads.faults l.fn.space) (g.S.Reads.faults l.space);
     }

@@ -61,7 +61,8 @@ returns-in_ok-weight-in-Property-clause-made g c told store =
     let pairs = c.in-Property.pairs in
     let part = subst (λ (list : List Pair). MakesPart g.S.Reads.tells (changes_of (mutations.Property list) c.deref-in-Property.result.now) any_replies weight s t c.args.names.now.names n) c.as_slice.ensures c.in_ok-weight-in-Property.ensures.part in
     let whole = subst (λ (list : List Item). MakesPart g.S.Reads.tells (changes_of (mutations.Property pairs) list) any_replies weight s t c.args.names.now.names n) c.deref-in-Property.ensures.value part in
-    subst (λ (m : Mutation). MakesMutation m results results c.told_weight-in-Property.result s t n) (sym c.in-Property.is) (values_made results results results weight c.told_weight-in-Property.result c.told_weight-in-Property.ensures.is s t c.args.names.now.names n pairs whole told store)
+    subst (λ (m : Mutation). MakesMutation m results results c.told_weight-in-Property.result s t n) (sym c.in-Property.is)
+    (values_made results results results weight c.told_weight-in-Property.result c.told_weight-in-Property.ensures.is s t c.args.names.now.names n pairs whole told store)
 
 pub returns-in_ok-weight-in-Drop-clause-made : goal.returns-in_ok-weight-in-Drop-clause-made
 returns-in_ok-weight-in-Drop-clause-made g c told store =
@@ -70,8 +71,10 @@ returns-in_ok-weight-in-Drop-clause-made g c told store =
     let weight = c.in_ok-weight-in-Drop.weight in
     let n = c.args.names.now.names in
     let shown = c.new.result.items in
-    let part = subst (λ (list : List Item). MakesPart g.S.Reads.tells (changes_of mutations.Drop list) any_replies weight s t n n) c.deref-in-Drop.ensures.value c.in_ok-weight-in-Drop.ensures.part in
-    subst (λ (m : Mutation). MakesMutation m c.args.items.items shown c.told_weight-in-Drop.result s t n) (sym c.in-Drop.is) (drops_made c.args.items.items shown shown weight c.told_weight-in-Drop.result c.told_weight-in-Drop.ensures.is s t n n c.new.ensures.items part told store)
+    let part = subst (λ (list : List Item). MakesPart g.S.Reads.tells (changes_of mutations.Drop list) any_replies weight s t n n) c.deref-in-Drop.ensures.value
+    c.in_ok-weight-in-Drop.ensures.part in
+    subst (λ (m : Mutation). MakesMutation m c.args.items.items shown c.told_weight-in-Drop.result s t n) (sym c.in-Drop.is)
+    (drops_made c.args.items.items shown shown weight c.told_weight-in-Drop.result c.told_weight-in-Drop.ensures.is s t n n c.new.ensures.items part told store)
 
 -- ---- why it is refused, by the space as it is left
 

@@ -7,5 +7,6 @@ use Rattle.graph_ops.proofs.mutating.set_each.Given as goal
 
 abbrev pub invariant-loop-item : goal.invariant-loop-item
 invariant-loop-item g l =
-    IsMaking g.S.Reads.tells (g.S.Reads.onward l.fn.space l.space) (changes_of (mutations.Property l.pairs) (take l.item-index l.items)) any_replies l.weight (g.S.Reads.state l.fn.space) (g.S.Reads.state l.space) l.fn.names.names l.names.names (g.S.Reads.faults l.fn.space)
+    IsMaking g.S.Reads.tells (g.S.Reads.onward l.fn.space l.space) (changes_of (mutations.Property l.pairs) (take l.item-index l.items)) any_replies l.weight
+    (g.S.Reads.state l.fn.space) (g.S.Reads.state l.space) l.fn.names.names l.names.names (g.S.Reads.faults l.fn.space)
     (g.S.Reads.faults l.space)

@@ -41,14 +41,18 @@ use Rattle.graph_ops.specs.Causes.{AsksRoom, IsCaused, IsStillCaused}
 use Rattle.graph_ops.proofs.Causes.{broken_left, entry_caused, failure_caused, line_node, put_caused, room_caused}
 use Rattle.graph_ops.specs.Damage.{BlamesEntries, IsAsFound, IsBroken, IsOfIndex, KeepsButNames}
 use Rattle.graph_ops.proofs.EntriesFaults.{names_leave, other_leaves}
-use Rattle.graph_ops.proofs.Adding.{index_beside, line_blamed, lists_before, lists_broken, names_harm_no_lists, no_lists_then, node_damage, node_harms_no_lists, room_blamed}
+use Rattle.graph_ops.proofs.Adding.{index_beside, line_blamed, lists_before, lists_broken, names_harm_no_lists}
+use Rattle.graph_ops.proofs.Adding.{no_lists_then, node_damage, node_harms_no_lists, room_blamed}
 use Rattle.graph_ops.proofs.Broken.{blames_both, blames_more}
 use Rattle.graph_ops.proofs.DiskCauses.{change_cause_passed, later_on}
 use Rattle.graph_ops.proofs.IndexBeside.{index_written, kinds_beside, touched_beside}
 use Rattle.graph_ops.proofs.NodeEntries.{added_made, entries, entries_refused, keys_once, listed, node_low, pairs_then, prepared_read, room_then, whole_before}
 use Rattle.rec_bytes.proofs.Causes.{never_ok, ok_cause}
 use Rattle.graph_ops.proofs.node_adding.add_node.Goals as goal
-use Rattle.graph_ops.proofs.node_adding.add_node.Goals.{After-enter_values, After-listed_pairs, After-put_properties, In_err-enter_values, In_err-id, In_err-listed, In_err-put_properties, In_ok-id, In_ok-listed, After-entry_count-entries}
+use Rattle.graph_ops.proofs.node_adding.add_node.Goals.{After-enter_values, After-listed_pairs, After-put_properties}
+use Rattle.graph_ops.proofs.node_adding.add_node.Goals.{In_err-enter_values, In_err-id, In_err-listed}
+use Rattle.graph_ops.proofs.node_adding.add_node.Goals.{In_err-put_properties, In_ok-id, In_ok-listed}
+use Rattle.graph_ops.proofs.node_adding.add_node.Goals.{After-entry_count-entries}
 use Rattle.graph_ops.proofs.node_adding.add_node.Given.{Over}
 
 -- ---- no room for a node
@@ -56,7 +60,8 @@ pub returns-in_err-test_room-clause-refused : goal.returns-in_err-test_room-clau
 returns-in_err-test_room-clause-refused g c tells whole =
     let store = midway _ _ whole in
     let s = g.S.Reads.state c.args.space.now in
-    fault_exit (λ f. f) (IsRefusal s.shape.limit (graph_in s) (commands.Node c.args.label.now c.args.pairs.now)) c.in_err-test_room.field-0.0 c.from_residual.result c.from_residual.ensures.1
+    fault_exit (λ f. f) (IsRefusal s.shape.limit (graph_in s) (commands.Node c.args.label.now c.args.pairs.now)) c.in_err-test_room.field-0.0
+    c.from_residual.result c.from_residual.ensures.1
     (full_refused s c.args.names.now.names c.args.label.now c.args.pairs.now store c.in_err-test_room.field-0.0 c.in_err-test_room.ensures.full)
 
 pub returns-in_err-test_room-clause-full : goal.returns-in_err-test_room-clause-full
@@ -75,7 +80,8 @@ returns-in_err-prepared-clause-refused g c tells whole =
     (line_refused s c.args.label.now c.as_slice-pairs.result.now (not_full s c.args.names.now.names store c.in_ok-test_room.ensures.room) c.in_err-prepared.field-0.0 (c.in_err-prepared.ensures.refused tells store)))
 
 pub returns-in_err-prepared-clause-full : goal.returns-in_err-prepared-clause-full
-returns-in_err-prepared-clause-full g c whole full = let store = midway _ _ whole in absurd (not_full (g.S.Reads.state c.args.space.now) c.args.names.now.names store c.in_ok-test_room.ensures.room full)
+returns-in_err-prepared-clause-full g c whole full = let store = midway _ _ whole in
+    absurd (not_full (g.S.Reads.state c.args.space.now) c.args.names.now.names store c.in_ok-test_room.ensures.room full)
 
 -- ---- the pairs that have an index
 module _ (g : Over) (c : After-listed_pairs g) where
@@ -96,14 +102,16 @@ module _ (g : Over) (c : After-listed_pairs g) where
   beside_names tells = subst (λ (y : State). KeepsButNames before y) (sym c.listed_pairs.ensures.same) (c.in_ok-prepared.ensures.stays tells)
 
   nodes_meta : g.S.Reads.tells → meta_of at_read format.nodes_file ≡ meta_of before format.nodes_file
-  nodes_meta tells = subst (λ (y : State). meta_of y format.nodes_file ≡ meta_of before format.nodes_file) (sym c.listed_pairs.ensures.same) (c.in_ok-prepared.ensures.metas tells).nodes
+  nodes_meta tells = subst (λ (y : State). meta_of y format.nodes_file ≡ meta_of before format.nodes_file) (sym c.listed_pairs.ensures.same)
+      (c.in_ok-prepared.ensures.metas tells).nodes
 
   index_meta : g.S.Reads.tells → meta_of at_read format.index_file ≡ meta_of before format.index_file
   index_meta tells = index_beside before at_read (beside_names tells)
 
   abbrev at_hand : g.S.Reads.tells → IsMidway before c.args.names.now.names
       → IsPrepared before at_read c.prepare.new.names.names c.args.label.now c.as_slice-pairs.result.now c.in_ok-prepared.prepared
-  at_hand tells store = prepared_read before read_from at_read c.prepare.new.names.names c.args.label.now c.as_slice-pairs.result.now c.in_ok-prepared.prepared c.listed_pairs.ensures.same (c.in_ok-prepared.ensures.prepared tells store)
+  at_hand tells store = prepared_read before read_from at_read c.prepare.new.names.names c.args.label.now c.as_slice-pairs.result.now c.in_ok-prepared.prepared
+      c.listed_pairs.ensures.same (c.in_ok-prepared.ensures.prepared tells store)
 
   room_there : g.S.Reads.tells → HasRoom at_read format.nodes_file 1
   room_there tells = room_still before at_read format.nodes_file 1 (ap (λ (m : Meta). m.live) (nodes_meta tells)) same_shape c.in_ok-test_room.ensures.room
@@ -112,13 +120,16 @@ module _ (g : Over) (c : In_ok-listed g) (tells : g.S.Reads.tells) (whole : IsSt
   abbrev back : After-listed_pairs g
   back = (goal.at.In_ok-listed g c).After-listed_pairs
 
-  listed_is : c.in_ok-listed.listed.items ≡ listed (before g back) (at_read g back) c.args.names.now.names c.prepare.new.names.names c.args.label.now c.as_slice-pairs.result.now c.in_ok-prepared.prepared whole (at_hand g back tells (midway _ _ whole))
-  listed_is = subst (λ (y : State). (store : IsIndexed y.records y.shape) → c.in_ok-listed.listed.items ≡ map (pair_of y.records) store.indexes.definitions) (sym c.listed_pairs.ensures.same)
+  listed_is : c.in_ok-listed.listed.items ≡ listed (before g back) (at_read g back) c.args.names.now.names c.prepare.new.names.names c.args.label.now
+      c.as_slice-pairs.result.now c.in_ok-prepared.prepared whole (at_hand g back tells (midway _ _ whole))
+  listed_is = subst (λ (y : State). (store : IsIndexed y.records y.shape) → c.in_ok-listed.listed.items ≡ map (pair_of y.records) store.indexes.definitions)
+      (sym c.listed_pairs.ensures.same)
       (λ store. c.in_ok-listed.ensures.listed tells (wanted_in (read_from g back).records) store.indexes store.store)
       (whole_before (before g back) (at_read g back) c.args.names.now.names c.prepare.new.names.names c.args.label.now c.as_slice-pairs.result.now c.in_ok-prepared.prepared whole (at_hand g back tells (midway _ _ whole))).store
 
 -- where they are read without the rules
-listed_outside : (g : Over) (c : In_err-listed g) → g.S.Reads.tells → IsStore (g.S.Reads.state c.args.space.now) c.args.names.now.names → IsOutside c.in_err-listed.field-0.0
+listed_outside : (g : Over) (c : In_err-listed g) → g.S.Reads.tells → IsStore (g.S.Reads.state c.args.space.now) c.args.names.now.names
+    → IsOutside c.in_err-listed.field-0.0
 listed_outside g c tells whole =
     let z = g.S.Reads.state c.prepare.new.space in
     let hand = c.in_ok-prepared.ensures.prepared tells (midway _ _ whole) in
@@ -128,7 +139,8 @@ pub returns-in_err-listed-clause-refused : goal.returns-in_err-listed-clause-ref
 returns-in_err-listed-clause-refused g c tells whole =
     let s = g.S.Reads.state c.args.space.now in
     let command = commands.Node c.args.label.now c.args.pairs.now in
-    fault_exit (λ f. f) (IsRefusal s.shape.limit (graph_in s) command) c.in_err-listed.field-0.0 c.from_residual-in_err-listed.result c.from_residual-in_err-listed.ensures.1
+    fault_exit (λ f. f) (IsRefusal s.shape.limit (graph_in s) command) c.in_err-listed.field-0.0 c.from_residual-in_err-listed.result
+    c.from_residual-in_err-listed.ensures.1
     (outside_refused change_reasons s.shape.limit (graph_in s) command c.in_err-listed.field-0.0 (listed_outside g (goal.at.returns-in_err-listed-clause-refused g c).In_err-listed tells whole))
 
 pub returns-in_err-listed-clause-full : goal.returns-in_err-listed-clause-full
@@ -178,16 +190,19 @@ returns-in_err-listed-clause-damaged g c tells =
     let u = g.S.Reads.state c.listed_pairs.new.space in
     let after = (goal.at.returns-in_err-listed-clause-damaged g c).After-listed_pairs in
     let fault = c.in_err-listed.field-0.0 in
-    fault_exit (λ f. f) (BlamesEntries s u (1 < maps.len (with_pairs no_properties c.args.pairs.now))) c.in_err-listed.field-0.0 c.from_residual-in_err-listed.result c.from_residual-in_err-listed.ensures.1
+    fault_exit (λ f. f) (BlamesEntries s u (1 < maps.len (with_pairs no_properties c.args.pairs.now))) c.in_err-listed.field-0.0
+    c.from_residual-in_err-listed.result c.from_residual-in_err-listed.ensures.1
     (blames_more _ _ (λ damage k. inr ((k.0, subst (λ (y : State). IsBroken y damage) (sym c.listed_pairs.ensures.same) k.1), inl (names_leave s u (beside_names g after tells) damage k.0))) fault (blames_both IsOfIndex (IsBroken z) fault (c.in_err-listed.ensures.names tells) (c.in_err-listed.ensures.damaged tells)))
 
 pub returns-in_err-listed-clause-cause : goal.returns-in_err-listed-clause-cause
 returns-in_err-listed-clause-cause g c =
-    change_cause_passed _ _ _ c.from_residual-in_err-listed.result c.in_err-listed.field-0.0 c.in_ok-prepared.ensures.cause.later c.in_err-listed.ensures.cause c.from_residual-in_err-listed.ensures.1
+    change_cause_passed _ _ _ c.from_residual-in_err-listed.result c.in_err-listed.field-0.0 c.in_ok-prepared.ensures.cause.later c.in_err-listed.ensures.cause
+    c.from_residual-in_err-listed.ensures.1
 
 -- ---- no room for its entries
 entries_are : (g : Over) (c : After-entry_count-entries g) (tells : g.S.Reads.tells) (whole : IsStore (g.S.Reads.state c.args.space.now) c.args.names.now.names)
-    → c.entry_count-entries.result ≡ entries (g.S.Reads.state c.args.space.now) (g.S.Reads.state c.listed_pairs.new.space) c.args.names.now.names c.prepare.new.names.names c.args.label.now c.as_slice-pairs.result.now c.in_ok-prepared.prepared whole
+    → c.entry_count-entries.result ≡ entries (g.S.Reads.state c.args.space.now) (g.S.Reads.state c.listed_pairs.new.space) c.args.names.now.names
+    c.prepare.new.names.names c.args.label.now c.as_slice-pairs.result.now c.in_ok-prepared.prepared whole
     (at_hand g (goal.at.After-entry_count-entries g c).After-listed_pairs tells (midway _ _ whole))
 entries_are g c tells whole =
     let into = c.deref.ensures.value ∙ listed_is g (goal.at.After-entry_count-entries g c).In_ok-listed tells whole in
@@ -200,10 +215,12 @@ returns-in_err-test_room-2-clause-refused g c tells whole =
     let s = g.S.Reads.state c.args.space.now in
     let u = g.S.Reads.state c.listed_pairs.new.space in
     let fault = c.in_err-test_room-2.field-0.0 in
-    subst (λ l. IfErr c.from_residual-in_err-test_room-2.result (IsRefusal s.shape.limit (graph_in s) (commands.Node c.args.label.now l))) c.as_slice-pairs.ensures
+    subst (λ l. IfErr c.from_residual-in_err-test_room-2.result (IsRefusal s.shape.limit (graph_in s) (commands.Node c.args.label.now l)))
+    c.as_slice-pairs.ensures
     (fault_exit (λ f. f) (IsRefusal s.shape.limit (graph_in s) (commands.Node c.args.label.now c.as_slice-pairs.result.now)) fault c.from_residual-in_err-test_room-2.result c.from_residual-in_err-test_room-2.ensures.1
     (entries_refused s u c.args.names.now.names c.prepare.new.names.names c.args.label.now c.as_slice-pairs.result.now c.in_ok-prepared.prepared whole (at_hand g at.After-listed_pairs tells store)
-    (not_full s c.args.names.now.names store c.in_ok-test_room.ensures.room) fault (subst (λ n. LacksRoom u format.index_file n fault) (entries_are g at.After-entry_count-entries tells whole) c.in_err-test_room-2.ensures.full)))
+    (not_full s c.args.names.now.names store c.in_ok-test_room.ensures.room) fault
+    (subst (λ n. LacksRoom u format.index_file n fault) (entries_are g at.After-entry_count-entries tells whole) c.in_err-test_room-2.ensures.full)))
 
 pub returns-in_err-test_room-2-clause-full : goal.returns-in_err-test_room-2-clause-full
 returns-in_err-test_room-2-clause-full g c whole full = absurd (not_full (g.S.Reads.state c.args.space.now) c.args.names.now.names (midway _ _ whole) c.in_ok-test_room.ensures.room full)
@@ -216,7 +233,8 @@ returns-in_err-test_room-2-clause-counts g c tells whole =
     (room_counted s u format.index_file c.entry_count-entries.result (index_meta g (goal.at.returns-in_err-test_room-2-clause-counts g c).After-listed_pairs tells) c.in_err-test_room-2.field-0.0 c.in_err-test_room-2.ensures.full)
 
 -- the indexes have at most one entry for each property
-asked : (g : Over) (c : After-entry_count-entries g) (records : Records) (now : List (List ℕ)) → AsksRoom (commands.Node c.args.label.now c.as_slice-pairs.result.now) records now format.index_file c.entry_count-entries.result
+asked : (g : Over) (c : After-entry_count-entries g) (records : Records) (now : List (List ℕ))
+    → AsksRoom (commands.Node c.args.label.now c.as_slice-pairs.result.now) records now format.index_file c.entry_count-entries.result
 asked g c records now = inr (inr (
   refl,
   ⊎_elim
@@ -255,7 +273,8 @@ pub returns-in_err-test_room-2-clause-damaged : goal.returns-in_err-test_room-2-
 returns-in_err-test_room-2-clause-damaged g c tells =
     let s = g.S.Reads.state c.args.space.now in
     let u = g.S.Reads.state c.listed_pairs.new.space in
-    fault_exit (λ f. f) (BlamesEntries s u (1 < maps.len (with_pairs no_properties c.args.pairs.now))) c.in_err-test_room-2.field-0.0 c.from_residual-in_err-test_room-2.result c.from_residual-in_err-test_room-2.ensures.1
+    fault_exit (λ f. f) (BlamesEntries s u (1 < maps.len (with_pairs no_properties c.args.pairs.now))) c.in_err-test_room-2.field-0.0
+    c.from_residual-in_err-test_room-2.result c.from_residual-in_err-test_room-2.ensures.1
     (room_blamed _ u format.index_file c.entry_count-entries.result c.in_err-test_room-2.field-0.0 c.in_err-test_room-2.ensures.full)
 
 pub returns-in_err-test_room-2-clause-refused_writes : goal.returns-in_err-test_room-2-clause-refused_writes
@@ -263,7 +282,8 @@ returns-in_err-test_room-2-clause-refused_writes g c = on_any_err _ _ (more_writ
 
 -- ---- the node's record
 -- only the machine can fail
-node_outside : (g : Over) (c : In_err-id g) → g.S.Reads.tells → IsMidway (g.S.Reads.state c.args.space.now) c.args.names.now.names → IsOutside c.in_err-id.field-0.0
+node_outside : (g : Over) (c : In_err-id g) → g.S.Reads.tells → IsMidway (g.S.Reads.state c.args.space.now) c.args.names.now.names
+    → IsOutside c.in_err-id.field-0.0
 node_outside g c tells store =
     let kept = (at_hand g (goal.at.In_err-id g c).After-listed_pairs tells store).kept in
     c.in_err-id.ensures.sound tells c.prepare.new.names.names kept.store
@@ -274,11 +294,13 @@ returns-in_err-id-clause-refused g c tells whole =
     let store = midway _ _ whole in
     let s = g.S.Reads.state c.args.space.now in
     let command = commands.Node c.args.label.now c.args.pairs.now in
-    fault_exit (λ f. f) (IsRefusal s.shape.limit (graph_in s) command) c.in_err-id.field-0.0 c.from_residual-in_err-id.result c.from_residual-in_err-id.ensures.1
+    fault_exit (λ f. f) (IsRefusal s.shape.limit (graph_in s) command) c.in_err-id.field-0.0 c.from_residual-in_err-id.result
+    c.from_residual-in_err-id.ensures.1
     (outside_refused change_reasons s.shape.limit (graph_in s) command c.in_err-id.field-0.0 (node_outside g (goal.at.returns-in_err-id-clause-refused g c).In_err-id tells store))
 
 pub returns-in_err-id-clause-full : goal.returns-in_err-id-clause-full
-returns-in_err-id-clause-full g c whole full = let store = midway _ _ whole in absurd (not_full (g.S.Reads.state c.args.space.now) c.args.names.now.names store c.in_ok-test_room.ensures.room full)
+returns-in_err-id-clause-full g c whole full = let store = midway _ _ whole in
+    absurd (not_full (g.S.Reads.state c.args.space.now) c.args.names.now.names store c.in_ok-test_room.ensures.room full)
 
 pub returns-in_err-id-clause-leaves : goal.returns-in_err-id-clause-leaves
 returns-in_err-id-clause-leaves g c tells =
@@ -291,7 +313,9 @@ pub returns-in_err-id-clause-refused_writes : goal.returns-in_err-id-clause-refu
 returns-in_err-id-clause-refused_writes g c = on_any_err _ _ (more_written (omega arith) (then_written c.prepare.ensures.few_writes (then_written (none_written _ _ c.listed_pairs.ensures.same) c.in_err-id.ensures.err_writes)))
 
 -- ---- its properties
-puts : (g : Over) (c : In_ok-id g) → g.S.Reads.tells → IsMidway (g.S.Reads.state c.args.space.now) c.args.names.now.names → PutsNode (g.S.Reads.state c.listed_pairs.new.space) (g.S.Reads.state c.put_node.new.space) c.prepare.new.names.names c.in_ok-prepared.prepared.label c.args.label.now c.in_ok-id.id
+puts : (g : Over) (c : In_ok-id g) → g.S.Reads.tells → IsMidway (g.S.Reads.state c.args.space.now) c.args.names.now.names
+    → PutsNode (g.S.Reads.state c.listed_pairs.new.space) (g.S.Reads.state c.put_node.new.space) c.prepare.new.names.names c.in_ok-prepared.prepared.label
+    c.args.label.now c.in_ok-id.id
 puts g c tells store =
     let hand = at_hand g (goal.at.In_ok-id g c).After-listed_pairs tells store in
     c.in_ok-id.ensures.put tells c.prepare.new.names.names c.args.label.now hand.kept.store hand.label_is
@@ -300,14 +324,17 @@ can : (g : Over) (c : After-put_properties g) → g.S.Reads.tells → IsMidway (
     → CanPut (g.S.Reads.state c.put_node.new.space) c.prepare.new.names.names (targets.Node c.in_ok-id.id) c.as_slice-pairs.result.now c.deref-3.result.now
 can g c tells store =
     let at = goal.at.After-put_properties g c in
-    subst (CanPut (g.S.Reads.state c.put_node.new.space) c.prepare.new.names.names (targets.Node c.in_ok-id.id) c.as_slice-pairs.result.now) (sym c.deref-3.ensures.0)
+    subst (CanPut (g.S.Reads.state c.put_node.new.space) c.prepare.new.names.names (targets.Node c.in_ok-id.id) c.as_slice-pairs.result.now)
+    (sym c.deref-3.ensures.0)
     (can_put (g.S.Reads.state c.args.space.now) (g.S.Reads.state c.listed_pairs.new.space) (g.S.Reads.state c.put_node.new.space) c.args.names.now.names c.prepare.new.names.names c.args.label.now c.as_slice-pairs.result.now c.in_ok-id.id c.in_ok-prepared.prepared store
     (at_hand g at.After-listed_pairs tells store) (puts g at.In_ok-id tells store) ((g.met.S.Reads.onward_shape _ _ c.put_node.ensures.onward)))
 
-properties_outside : (g : Over) (c : In_err-put_properties g) → g.S.Reads.tells → IsMidway (g.S.Reads.state c.args.space.now) c.args.names.now.names → IsOutside c.in_err-put_properties.field-0.0
+properties_outside : (g : Over) (c : In_err-put_properties g) → g.S.Reads.tells → IsMidway (g.S.Reads.state c.args.space.now) c.args.names.now.names
+    → IsOutside c.in_err-put_properties.field-0.0
 properties_outside g c tells store =
     let at = goal.at.In_err-put_properties g c in
-    c.in_err-put_properties.ensures.sound tells c.prepare.new.names.names (targets.Node c.in_ok-id.id) c.node_owner.ensures (can g at.After-put_properties tells store)
+    c.in_err-put_properties.ensures.sound tells c.prepare.new.names.names (targets.Node c.in_ok-id.id) c.node_owner.ensures
+    (can g at.After-put_properties tells store)
     (subst (λ l. HasPropertyRoom (g.S.Reads.state c.put_node.new.space) (length l) (assigned_blocks c.as_slice-pairs.result.now l)) (sym c.deref-3.ensures.0)
     (put_room (g.S.Reads.state c.args.space.now) (g.S.Reads.state c.listed_pairs.new.space) (g.S.Reads.state c.put_node.new.space) c.args.names.now.names c.prepare.new.names.names c.args.label.now c.as_slice-pairs.result.now c.in_ok-id.id c.in_ok-prepared.prepared store
     (at_hand g at.After-listed_pairs tells store) (puts g at.In_ok-id tells store) ((g.met.S.Reads.onward_shape _ _ c.put_node.ensures.onward))))
@@ -317,17 +344,20 @@ returns-in_err-put_properties-clause-refused g c tells whole =
     let store = midway _ _ whole in
     let s = g.S.Reads.state c.args.space.now in
     let command = commands.Node c.args.label.now c.args.pairs.now in
-    fault_exit (λ f. f) (IsRefusal s.shape.limit (graph_in s) command) c.in_err-put_properties.field-0.0 c.from_residual-in_err-put_properties.result c.from_residual-in_err-put_properties.ensures.1
+    fault_exit (λ f. f) (IsRefusal s.shape.limit (graph_in s) command) c.in_err-put_properties.field-0.0 c.from_residual-in_err-put_properties.result
+    c.from_residual-in_err-put_properties.ensures.1
     (outside_refused change_reasons s.shape.limit (graph_in s) command c.in_err-put_properties.field-0.0 (properties_outside g (goal.at.returns-in_err-put_properties-clause-refused g c).In_err-put_properties tells store))
 
 pub returns-in_err-put_properties-clause-full : goal.returns-in_err-put_properties-clause-full
-returns-in_err-put_properties-clause-full g c whole full = let store = midway _ _ whole in absurd (not_full (g.S.Reads.state c.args.space.now) c.args.names.now.names store c.in_ok-test_room.ensures.room full)
+returns-in_err-put_properties-clause-full g c whole full = let store = midway _ _ whole in
+    absurd (not_full (g.S.Reads.state c.args.space.now) c.args.names.now.names store c.in_ok-test_room.ensures.room full)
 
 pub returns-in_err-put_properties-clause-leaves : goal.returns-in_err-put_properties-clause-leaves
 returns-in_err-put_properties-clause-leaves g c tells =
     let s = g.S.Reads.state c.args.space.now in
     let w = g.S.Reads.state c.put_properties.new.space in
-    fault_exit (λ f. f) (LeavesSpace s w) c.in_err-put_properties.field-0.0 c.from_residual-in_err-put_properties.result c.from_residual-in_err-put_properties.ensures.1
+    fault_exit (λ f. f) (LeavesSpace s w) c.in_err-put_properties.field-0.0 c.from_residual-in_err-put_properties.result
+    c.from_residual-in_err-put_properties.ensures.1
     (late_leaves s w c.in_err-put_properties.field-0.0 (c.in_err-put_properties.ensures.late tells))
 
 pub returns-in_err-put_properties-clause-refused_writes : goal.returns-in_err-put_properties-clause-refused_writes
@@ -372,18 +402,21 @@ module _ (g : Over) (c : After-enter_values g) where
   entered_many = (λ i. length (indexed_of ((c.deref-4.ensures.value ∙ sym c.deref.ensures.value) i) c.in_ok-prepared.prepared.label ((c.deref-5.ensures.0 ∙ sym c.deref-2.ensures.0) i))) ∙ sym c.entry_count-entries.ensures.is
 
   few_entries : c.entry_count-entries.result ≤ 32
-  few_entries = let a = c.entry_count-entries.ensures.few in let b = ap length c.deref-2.ensures.0 in let few = c.in_ok-prepared.ensures.few in omega (arith, a, b, few)
+  few_entries = let a = c.entry_count-entries.ensures.few in let b = ap length c.deref-2.ensures.0 in let few = c.in_ok-prepared.ensures.few in
+      omega (arith, a, b, few)
 
   written : WritesAtMost (1 + c.in_ok-prepared.prepared.weight) s w
   written =
       let n = ap length c.deref-3.ensures.0 in
       let b = ap (assigned_blocks pairs) c.deref-3.ensures.0 in
       let k = c.in_ok-prepared.ensures.weight in
-      let owned = subst (λ (o : Owner). WritesBeside o.key (length c.deref-3.result.now + assigned_blocks pairs c.deref-3.result.now) v w) c.node_owner.ensures c.in_ok-put_properties.ensures.writes in
+      let owned = subst (λ (o : Owner). WritesBeside o.key (length c.deref-3.result.now + assigned_blocks pairs c.deref-3.result.now) v w) c.node_owner.ensures
+      c.in_ok-put_properties.ensures.writes in
       more_written (omega (arith, n, b, k)) (then_written c.in_ok-prepared.ensures.writes (then_written (none_written _ _ c.listed_pairs.ensures.same) (beside_written refl (beside_then c.in_ok-id.ensures.writes owned))))
 
   all_written : WritesAtMost (1 + c.in_ok-prepared.prepared.weight + 3 * c.entry_count-entries.result) s x
-  all_written = let e = entered_many in more_written (omega (arith, e)) (then_written written (index_written (3 * length (indexed_of c.deref-4.result.now c.in_ok-prepared.prepared.label c.deref-5.result.now)) w x c.enter_values.ensures.touches))
+  all_written = let e = entered_many in more_written (omega (arith, e))
+      (then_written written (index_written (3 * length (indexed_of c.deref-4.result.now c.in_ok-prepared.prepared.label c.deref-5.result.now)) w x c.enter_values.ensures.touches))
 
   same_then : v.shape ≡ u.shape
   same_then = g.met.S.Reads.onward_shape _ _ c.put_node.ensures.onward
@@ -402,7 +435,8 @@ module _ (g : Over) (c : After-enter_values g) where
     can_there = can g (goal.at.After-enter_values g c).After-put_properties tells mid_store
 
     put : PutsPairs v w names (targets.Node id) (pairs_of names pairs items)
-    put = subst (λ l. PutsPairs v w names (targets.Node id) (pairs_of names pairs l)) c.deref-3.ensures.0 (c.in_ok-put_properties.ensures.put tells names (targets.Node id) c.node_owner.ensures can_there)
+    put = subst (λ l. PutsPairs v w names (targets.Node id) (pairs_of names pairs l)) c.deref-3.ensures.0
+        (c.in_ok-put_properties.ensures.put tells names (targets.Node id) c.node_owner.ensures can_there)
 
     given : GivesValues v w id pairs items
     given = subst (λ l. GivesValues v w id pairs l) c.deref-3.ensures.0 (c.in_ok-put_properties.ensures.values tells names id c.node_owner.ensures can_there)
@@ -427,17 +461,20 @@ module _ (g : Over) (c : After-enter_values g) where
     fits_then = subst (λ n. HasRoom w format.index_file n) (sym (entered_many ∙ many))
         (room_then s u c.args.names.now.names names c.args.label.now pairs c.in_ok-prepared.prepared whole hand v id put_there same_then w put given (g.met.S.Reads.onward_shape _ _ c.put_properties.ensures.onward) fits)
 
-entries_outside : (g : Over) (c : In_err-enter_values g) → g.S.Reads.tells → IsStore (g.S.Reads.state c.args.space.now) c.args.names.now.names → IsOutside c.in_err-enter_values.field-0.0
+entries_outside : (g : Over) (c : In_err-enter_values g) → g.S.Reads.tells → IsStore (g.S.Reads.state c.args.space.now) c.args.names.now.names
+    → IsOutside c.in_err-enter_values.field-0.0
 entries_outside g c tells whole =
     let after = (goal.at.In_err-enter_values g c).After-enter_values in
     let v = g.S.Reads.state c.put_node.new.space in
-    c.in_err-enter_values.ensures.sound tells (wanted_in v.records) (pairs_here g after tells whole) (low g after tells whole) (put_there g after tells whole).lacks (once g after tells whole) (fits_then g after tells whole)
+    c.in_err-enter_values.ensures.sound tells (wanted_in v.records) (pairs_here g after tells whole) (low g after tells whole)
+    (put_there g after tells whole).lacks (once g after tells whole) (fits_then g after tells whole)
 
 pub returns-in_err-enter_values-clause-refused : goal.returns-in_err-enter_values-clause-refused
 returns-in_err-enter_values-clause-refused g c tells whole =
     let s = g.S.Reads.state c.args.space.now in
     let command = commands.Node c.args.label.now c.args.pairs.now in
-    fault_exit (λ f. f) (IsRefusal s.shape.limit (graph_in s) command) c.in_err-enter_values.field-0.0 c.from_residual-in_err-enter_values.result c.from_residual-in_err-enter_values.ensures.1
+    fault_exit (λ f. f) (IsRefusal s.shape.limit (graph_in s) command) c.in_err-enter_values.field-0.0 c.from_residual-in_err-enter_values.result
+    c.from_residual-in_err-enter_values.ensures.1
     (outside_refused change_reasons s.shape.limit (graph_in s) command c.in_err-enter_values.field-0.0 (entries_outside g (goal.at.returns-in_err-enter_values-clause-refused g c).In_err-enter_values tells whole))
 
 pub returns-in_err-enter_values-clause-counts : goal.returns-in_err-enter_values-clause-counts
@@ -453,7 +490,8 @@ pub returns-in_err-enter_values-clause-leaves : goal.returns-in_err-enter_values
 returns-in_err-enter_values-clause-leaves g c tells =
     let s = g.S.Reads.state c.args.space.now in
     let x = g.S.Reads.state c.enter_values.new.space in
-    fault_exit (λ f. f) (LeavesSpace s x) c.in_err-enter_values.field-0.0 c.from_residual-in_err-enter_values.result c.from_residual-in_err-enter_values.ensures.1
+    fault_exit (λ f. f) (LeavesSpace s x) c.in_err-enter_values.field-0.0 c.from_residual-in_err-enter_values.result
+    c.from_residual-in_err-enter_values.ensures.1
     (late_leaves s x c.in_err-enter_values.field-0.0 (c.in_err-enter_values.ensures.late tells))
 
 pub returns-in_err-enter_values-clause-damaged : goal.returns-in_err-enter_values-clause-damaged
@@ -465,9 +503,12 @@ returns-in_err-enter_values-clause-damaged g c tells =
     let w = g.S.Reads.state c.put_properties.new.space in
     let x = g.S.Reads.state c.enter_values.new.space in
     let fault = c.in_err-enter_values.field-0.0 in
-    fault_exit (λ f. f) (BlamesEntries s x (1 < maps.len (with_pairs no_properties c.args.pairs.now))) fault c.from_residual-in_err-enter_values.result c.from_residual-in_err-enter_values.ensures.1
+    fault_exit (λ f. f) (BlamesEntries s x (1 < maps.len (with_pairs no_properties c.args.pairs.now))) fault c.from_residual-in_err-enter_values.result
+    c.from_residual-in_err-enter_values.ensures.1
     (blames_more _ _ (λ damage told.
-    let left : IsAsFound s w damage = c.in_ok-put_properties.ensures.beside tells damage told.0.0 ∙ other_leaves u v format.nodes_file (λ e. omega arith) (λ e. omega arith) (c.in_ok-id.ensures.beside tells) damage told.0.0 ∙ names_leave s u (beside_names g after tells) damage told.0.0 in
+    let left : IsAsFound s w damage = c.in_ok-put_properties.ensures.beside tells damage told.0.0
+    ∙ other_leaves u v format.nodes_file (λ e. omega arith) (λ e. omega arith) (c.in_ok-id.ensures.beside tells) damage told.0.0
+    ∙ names_leave s u (beside_names g after tells) damage told.0.0 in
     inr (
       told.0,
       ⊎_elim (λ found. inl (found ∙ left)) (λ more. inr (⊎_elim
@@ -519,7 +560,8 @@ returns-in_err-enter_values-clause-still g c tells =
     subst (λ l. IfErr c.from_residual-in_err-enter_values.result (IsStillCaused (commands.Node c.args.label.now l) x names now)) c.as_slice-pairs.ensures
     (fault_exit (λ f. f) (IsStillCaused command x names now) fault c.from_residual-in_err-enter_values.result c.from_residual-in_err-enter_values.ensures.1
     (record {
-      caused = entry_caused command x x names now (inr (refl, given_any g (goal.at.returns-in_err-enter_values-clause-still g c).In_err-enter_values)) fault (c.in_err-enter_values.ensures.full tells);
+      caused = entry_caused command x x names now (inr (refl, given_any g (goal.at.returns-in_err-enter_values-clause-still g c).In_err-enter_values)) fault
+          (c.in_err-enter_values.ensures.full tells);
       damaged = blames_more _ _ (λ damage entry. entry.1) fault (c.in_err-enter_values.ensures.blames tells);
     }))
 
@@ -544,11 +586,13 @@ returns-clause-made g c tells whole =
     let here = pairs_here g after tells whole in
     let lacks = (put_there g after tells whole).lacks in
     let e = c.in_ok-enter_values.ensures in
-    subst (λ l. MakesChange (commands.Node c.args.label.now l) (NodeMade id) (1 + prepared.weight + 3 * c.entry_count-entries.result) s x names) c.as_slice-pairs.ensures
+    subst (λ l. MakesChange (commands.Node c.args.label.now l) (NodeMade id) (1 + prepared.weight + 3 * c.entry_count-entries.result) s x names)
+    c.as_slice-pairs.ensures
     (added_made s u c.args.names.now.names names c.args.label.now pairs prepared whole (hand g after tells whole) v id (put_there g after tells whole) (same_then g after) w (put g after tells whole) (given g after tells whole)
     x (touched_beside _ w x tells c.enter_values.ensures.touches) (e.graph tells (wanted_in v.records) here (low g after tells whole) lacks (once g after tells whole)) (e.keeps tells (wanted_in v.records) here (low g after tells whole) lacks (once g after tells whole))
     (subst (λ l. AreIndexed x.records (with_assigned (wanted_in v.records) prepared.label id pairs l)) c.deref-5.ensures.0 (e.entered tells (wanted_in v.records) here (low g after tells whole) lacks (once g after tells whole)))
-    (not_full s c.args.names.now.names (midway _ _ whole) c.in_ok-test_room.ensures.room) (fits g after tells whole) (1 + prepared.weight + 3 * c.entry_count-entries.result) (ap (λ n. 1 + prepared.weight + 3 * n) (many g after tells whole)))
+    (not_full s c.args.names.now.names (midway _ _ whole) c.in_ok-test_room.ensures.room) (fits g after tells whole)
+    (1 + prepared.weight + 3 * c.entry_count-entries.result) (ap (λ n. 1 + prepared.weight + 3 * n) (many g after tells whole)))
 
 -- its properties and entries leave it sparse
 pub returns-clause-sparse : goal.returns-clause-sparse
@@ -559,7 +603,8 @@ returns-clause-sparse g c tells whole =
     let x = g.S.Reads.state c.enter_values.new.space in
     let id = c.in_ok-id.id in
     ap (λ (f : ℕ → ℕ). f id) (kinds_beside w.records x.records (touched_beside _ w x tells c.enter_values.ensures.touches) format.nodes_file refl (λ e. omega arith))
-    ∙ kind_kept v.records w.records (targets.Node id) (put g after tells whole).keeps format.nodes_file (record { no_properties = λ e. omega arith; no_strings = λ e. omega arith }) (λ e. omega arith) id ∙ (put_there g after tells whole).sparse
+    ∙ kind_kept v.records w.records (targets.Node id) (put g after tells whole).keeps format.nodes_file
+    (record { no_properties = λ e. omega arith; no_strings = λ e. omega arith }) (λ e. omega arith) id ∙ (put_there g after tells whole).sparse
 
 pub returns-clause-full : goal.returns-clause-full
 returns-clause-full g c whole full = absurd (not_full (g.S.Reads.state c.args.space.now) c.args.names.now.names (midway _ _ whole) c.in_ok-test_room.ensures.room full)
@@ -592,18 +637,21 @@ returns-clause-unindexed g c tells bare =
     let label = c.in_ok-prepared.prepared.label in
     let k = c.in_ok-prepared.ensures.weighs in
     let none = c.in_ok-listed.ensures.none (ap (λ (m : Meta). m.live) (index_beside s z (c.in_ok-prepared.ensures.stays tells)) ∙ bare) in
-    let n = c.entry_count-entries.ensures.is ∙ ap (λ l. length (indexed_of l label c.deref-2.result.now)) (c.deref.ensures.value ∙ none) ∙ none_listed label c.deref-2.result.now in
+    let n = c.entry_count-entries.ensures.is ∙ ap (λ l. length (indexed_of l label c.deref-2.result.now)) (c.deref.ensures.value ∙ none)
+    ∙ none_listed label c.deref-2.result.now in
     subst (λ l. 1 + c.in_ok-prepared.prepared.weight + 3 * c.entry_count-entries.result ≡ 1 + properties_weight (with_pairs no_properties l) + (length c.prepare.new.names.names - length c.args.names.now.names)) c.as_slice-pairs.ensures (omega (arith, k, n))
 
 -- ---- what refusals count
 pub returns-in_err-test_room-clause-counts : goal.returns-in_err-test_room-clause-counts
 returns-in_err-test_room-clause-counts g c tells store =
     let s = g.S.Reads.state c.args.space.now in
-    fault_exit (λ f. f) (IsCounted s) c.in_err-test_room.field-0.0 c.from_residual.result c.from_residual.ensures.1 (room_counted s s format.nodes_file 1 refl c.in_err-test_room.field-0.0 c.in_err-test_room.ensures.full)
+    fault_exit (λ f. f) (IsCounted s) c.in_err-test_room.field-0.0 c.from_residual.result c.from_residual.ensures.1
+    (room_counted s s format.nodes_file 1 refl c.in_err-test_room.field-0.0 c.in_err-test_room.ensures.full)
 
 pub returns-in_err-prepared-clause-counts : goal.returns-in_err-prepared-clause-counts
 returns-in_err-prepared-clause-counts g c tells store =
-    fault_exit (λ f. f) (IsCounted (g.S.Reads.state c.args.space.now)) c.in_err-prepared.field-0.0 c.from_residual-in_err-prepared.result c.from_residual-in_err-prepared.ensures.1 (c.in_err-prepared.ensures.counts tells)
+    fault_exit (λ f. f) (IsCounted (g.S.Reads.state c.args.space.now)) c.in_err-prepared.field-0.0 c.from_residual-in_err-prepared.result
+    c.from_residual-in_err-prepared.ensures.1 (c.in_err-prepared.ensures.counts tells)
 
 pub returns-in_err-id-clause-counts : goal.returns-in_err-id-clause-counts
 returns-in_err-id-clause-counts g c tells whole =
@@ -616,7 +664,8 @@ pub returns-in_err-put_properties-clause-counts : goal.returns-in_err-put_proper
 returns-in_err-put_properties-clause-counts g c tells whole =
     let store = midway _ _ whole in
     let s = g.S.Reads.state c.args.space.now in
-    fault_exit (λ f. f) (IsCounted s) c.in_err-put_properties.field-0.0 c.from_residual-in_err-put_properties.result c.from_residual-in_err-put_properties.ensures.1
+    fault_exit (λ f. f) (IsCounted s) c.in_err-put_properties.field-0.0 c.from_residual-in_err-put_properties.result
+    c.from_residual-in_err-put_properties.ensures.1
     (outside_counted s c.in_err-put_properties.field-0.0 (properties_outside g (goal.at.returns-in_err-put_properties-clause-counts g c).In_err-put_properties tells store))
 
 -- ---- why it is refused over any records
@@ -658,7 +707,8 @@ returns-in_err-put_properties-clause-caused g c tells =
     let pairs = c.as_slice-pairs.result.now in
     let items = c.in_ok-prepared.prepared.assigned.items in
     let needs = c.in_ok-prepared.ensures.needs in
-    let told = subst (λ l. IsPutCause t (length l) (assigned_blocks pairs l) c.in_err-put_properties.field-0.0) c.deref-3.ensures.0 (c.in_err-put_properties.ensures.caused tells) in
+    let told = subst (λ l. IsPutCause t (length l) (assigned_blocks pairs l) c.in_err-put_properties.field-0.0) c.deref-3.ensures.0
+    (c.in_err-put_properties.ensures.caused tells) in
     subst (λ l. IfErr c.from_residual-in_err-put_properties.result (IsCaused (commands.Node c.args.label.now l) s t names now)) c.as_slice-pairs.ensures
     (fault_exit (λ f. f) (IsCaused (commands.Node c.args.label.now pairs) s t names now) c.in_err-put_properties.field-0.0 c.from_residual-in_err-put_properties.result c.from_residual-in_err-put_properties.ensures.1
     (put_caused (commands.Node c.args.label.now pairs) s t names now pairs (length items) (assigned_blocks pairs items) needs.0 needs.1 (λ file any. inl any) c.in_err-put_properties.field-0.0 told))
@@ -667,13 +717,15 @@ returns-in_err-put_properties-clause-caused g c tells =
 pub returns-in_err-test_room-clause-damaged : goal.returns-in_err-test_room-clause-damaged
 returns-in_err-test_room-clause-damaged g c tells =
     let s = g.S.Reads.state c.args.space.now in
-    fault_exit (λ f. f) (BlamesEntries s s (1 < maps.len (with_pairs no_properties c.args.pairs.now))) c.in_err-test_room.field-0.0 c.from_residual.result c.from_residual.ensures.1
+    fault_exit (λ f. f) (BlamesEntries s s (1 < maps.len (with_pairs no_properties c.args.pairs.now))) c.in_err-test_room.field-0.0 c.from_residual.result
+    c.from_residual.ensures.1
     (room_blamed _ s format.nodes_file 1 c.in_err-test_room.field-0.0 c.in_err-test_room.ensures.full)
 
 pub returns-in_err-prepared-clause-damaged : goal.returns-in_err-prepared-clause-damaged
 returns-in_err-prepared-clause-damaged g c tells =
     let s = g.S.Reads.state c.args.space.now in
-    fault_exit (λ f. f) (BlamesEntries s (g.S.Reads.state c.prepare.new.space) (1 < maps.len (with_pairs no_properties c.args.pairs.now))) c.in_err-prepared.field-0.0 c.from_residual-in_err-prepared.result c.from_residual-in_err-prepared.ensures.1
+    fault_exit (λ f. f) (BlamesEntries s (g.S.Reads.state c.prepare.new.space) (1 < maps.len (with_pairs no_properties c.args.pairs.now)))
+    c.in_err-prepared.field-0.0 c.from_residual-in_err-prepared.result c.from_residual-in_err-prepared.ensures.1
     (line_blamed _ s c.args.names.now.names c.args.label.now c.as_slice-pairs.result.now c.in_err-prepared.field-0.0 (c.in_err-prepared.ensures.caused tells))
 
 pub returns-in_err-id-clause-damaged : goal.returns-in_err-id-clause-damaged
@@ -681,7 +733,8 @@ returns-in_err-id-clause-damaged g c tells =
     let s = g.S.Reads.state c.args.space.now in
     let u = g.S.Reads.state c.listed_pairs.new.space in
     let after = (goal.at.returns-in_err-id-clause-damaged g c).After-listed_pairs in
-    fault_exit (λ f. f) (BlamesEntries s (g.S.Reads.state c.put_node.new.space) (1 < maps.len (with_pairs no_properties c.args.pairs.now))) c.in_err-id.field-0.0 c.from_residual-in_err-id.result c.from_residual-in_err-id.ensures.1
+    fault_exit (λ f. f) (BlamesEntries s (g.S.Reads.state c.put_node.new.space) (1 < maps.len (with_pairs no_properties c.args.pairs.now)))
+    c.in_err-id.field-0.0 c.from_residual-in_err-id.result c.from_residual-in_err-id.ensures.1
     (blames_more _ _ (λ damage told. inl (node_damage s u (same_shape g after) (beside_names g after tells) damage told)) c.in_err-id.field-0.0 (c.in_err-id.ensures.damaged tells))
 
 pub returns-in_err-put_properties-clause-damaged : goal.returns-in_err-put_properties-clause-damaged
@@ -690,21 +743,27 @@ returns-in_err-put_properties-clause-damaged g c tells =
     let u = g.S.Reads.state c.listed_pairs.new.space in
     let after = (goal.at.returns-in_err-put_properties-clause-damaged g c).After-listed_pairs in
     let v = g.S.Reads.state c.put_node.new.space in
-    let harmless = no_lists_then s u v (names_harm_no_lists s u (same_shape g after) (beside_names g after tells)) (node_harms_no_lists u v (g.met.S.Reads.onward_shape _ _ c.put_node.ensures.onward) (c.in_ok-id.ensures.beside tells)) in
-    fault_exit (λ f. f) (BlamesEntries s (g.S.Reads.state c.put_properties.new.space) (1 < maps.len (with_pairs no_properties c.args.pairs.now))) c.in_err-put_properties.field-0.0 c.from_residual-in_err-put_properties.result c.from_residual-in_err-put_properties.ensures.1
+    let harmless = no_lists_then s u v (names_harm_no_lists s u (same_shape g after) (beside_names g after tells))
+    (node_harms_no_lists u v (g.met.S.Reads.onward_shape _ _ c.put_node.ensures.onward) (c.in_ok-id.ensures.beside tells)) in
+    fault_exit (λ f. f) (BlamesEntries s (g.S.Reads.state c.put_properties.new.space) (1 < maps.len (with_pairs no_properties c.args.pairs.now)))
+    c.in_err-put_properties.field-0.0 c.from_residual-in_err-put_properties.result c.from_residual-in_err-put_properties.ensures.1
     (blames_more _ _ (λ damage told. inl (lists_broken s damage (lists_before s v harmless damage told))) c.in_err-put_properties.field-0.0 (c.in_err-put_properties.ensures.damaged tells))
 
 pub returns-in_err-prepared-clause-cause : goal.returns-in_err-prepared-clause-cause
 returns-in_err-prepared-clause-cause g c =
-    change_cause_passed _ _ _ c.from_residual-in_err-prepared.result c.in_err-prepared.field-0.0 (omega arith) c.in_err-prepared.ensures.cause c.from_residual-in_err-prepared.ensures.1
+    change_cause_passed _ _ _ c.from_residual-in_err-prepared.result c.in_err-prepared.field-0.0 (omega arith) c.in_err-prepared.ensures.cause
+    c.from_residual-in_err-prepared.ensures.1
 
 pub returns-in_err-id-clause-cause : goal.returns-in_err-id-clause-cause
 returns-in_err-id-clause-cause g c =
-    change_cause_passed _ _ _ c.from_residual-in_err-id.result c.in_err-id.field-0.0 (later_on c.in_ok-prepared.ensures.cause.later c.in_ok-listed.ensures.cause.later) c.in_err-id.ensures.cause c.from_residual-in_err-id.ensures.1
+    change_cause_passed _ _ _ c.from_residual-in_err-id.result c.in_err-id.field-0.0
+    (later_on c.in_ok-prepared.ensures.cause.later c.in_ok-listed.ensures.cause.later) c.in_err-id.ensures.cause c.from_residual-in_err-id.ensures.1
 
 pub returns-in_err-put_properties-clause-cause : goal.returns-in_err-put_properties-clause-cause
 returns-in_err-put_properties-clause-cause g c =
-    change_cause_passed _ _ _ c.from_residual-in_err-put_properties.result c.in_err-put_properties.field-0.0 (later_on (later_on c.in_ok-prepared.ensures.cause.later c.in_ok-listed.ensures.cause.later) c.in_ok-id.ensures.cause.later) c.in_err-put_properties.ensures.cause c.from_residual-in_err-put_properties.ensures.1
+    change_cause_passed _ _ _ c.from_residual-in_err-put_properties.result c.in_err-put_properties.field-0.0
+    (later_on (later_on c.in_ok-prepared.ensures.cause.later c.in_ok-listed.ensures.cause.later) c.in_ok-id.ensures.cause.later)
+    c.in_err-put_properties.ensures.cause c.from_residual-in_err-put_properties.ensures.1
 
 -- ---- and by the space as it is left alone
 

@@ -35,7 +35,8 @@ took g c tells = ap (λ (s : State). s.shape) (c.in_ok-id.ensures.ok tells) ∙ 
 
 pub returns-clause-put : goal.returns-clause-put
 returns-clause-put g c tells names text store at =
-    puts_node (g.S.Reads.state c.args.space.now) (g.S.Reads.state c.take.new.space) (g.S.Reads.state c.save.new.space) names c.in_ok-id.id c.args.label text store at
+    puts_node (g.S.Reads.state c.args.space.now) (g.S.Reads.state c.take.new.space) (g.S.Reads.state c.save.new.space) names c.in_ok-id.id c.args.label text
+    store at
     (c.in_ok-id.ensures.taken tells) c.in_ok-id.ensures.small (took g (goal.at.returns-clause-put g c).In_ok-id tells)
     (c.in_ok-save.ensures.ok ∙ ap (λ (r : NodeRow). after_put (g.S.Reads.state c.take.new.space) (node_key r.id) (node_record r)) c.new_row.ensures)
 
@@ -50,10 +51,12 @@ returns-clause-writes g c =
 
 pub returns-in_err-id-clause-failure : goal.returns-in_err-id-clause-failure
 returns-in_err-id-clause-failure g c tells room =
-    fault_exit of_take IsFailure c.in_err-id.field-0.0 c.from_residual.result c.from_residual.ensures.1 (take_fails (g.S.Reads.state c.args.space.now) format.nodes_file c.in_err-id.field-0.0 room (c.in_err-id.ensures.refused tells))
+    fault_exit of_take IsFailure c.in_err-id.field-0.0 c.from_residual.result c.from_residual.ensures.1
+    (take_fails (g.S.Reads.state c.args.space.now) format.nodes_file c.in_err-id.field-0.0 room (c.in_err-id.ensures.refused tells))
 
 pub returns-in_err-save-clause-failure : goal.returns-in_err-save-clause-failure
-returns-in_err-save-clause-failure g c tells room = fault_exit of_space IsFailure c.in_err-save.field-0.0 c.from_residual-in_err-save.result c.from_residual-in_err-save.ensures.1 (space_fails c.in_err-save.field-0.0)
+returns-in_err-save-clause-failure g c tells room = fault_exit of_space IsFailure c.in_err-save.field-0.0 c.from_residual-in_err-save.result
+    c.from_residual-in_err-save.ensures.1 (space_fails c.in_err-save.field-0.0)
 
 pub returns-in_err-id-clause-err_writes : goal.returns-in_err-id-clause-err_writes
 returns-in_err-id-clause-err_writes g c = read_exit _ 1 _ _ c.in_err-id.ensures.err
@@ -66,33 +69,39 @@ returns-in_err-save-clause-err_writes g c =
 pub returns-in_err-id-clause-damaged : goal.returns-in_err-id-clause-damaged
 returns-in_err-id-clause-damaged g c tells =
     let s = g.S.Reads.state c.args.space.now in
-    fault_exit of_take (IfBlames (IsTakeDamage s format.nodes_file)) c.in_err-id.field-0.0 c.from_residual.result c.from_residual.ensures.1 (take_blamed s format.nodes_file c.in_err-id.field-0.0 (c.in_err-id.ensures.refused tells))
+    fault_exit of_take (IfBlames (IsTakeDamage s format.nodes_file)) c.in_err-id.field-0.0 c.from_residual.result c.from_residual.ensures.1
+    (take_blamed s format.nodes_file c.in_err-id.field-0.0 (c.in_err-id.ensures.refused tells))
 
 pub returns-in_err-save-clause-damaged : goal.returns-in_err-save-clause-damaged
 returns-in_err-save-clause-damaged g c tells =
     let s = g.S.Reads.state c.args.space.now in
-    fault_exit of_space (IfBlames (IsTakeDamage s format.nodes_file)) c.in_err-save.field-0.0 c.from_residual-in_err-save.result c.from_residual-in_err-save.ensures.1 (space_blamed _ c.in_err-save.field-0.0)
+    fault_exit of_space (IfBlames (IsTakeDamage s format.nodes_file)) c.in_err-save.field-0.0 c.from_residual-in_err-save.result
+    c.from_residual-in_err-save.ensures.1 (space_blamed _ c.in_err-save.field-0.0)
 
 pub returns-clause-beside : goal.returns-clause-beside
 returns-clause-beside g c tells =
     let s = g.S.Reads.state c.args.space.now in
     let t = g.S.Reads.state c.take.new.space in
-    beside_put s t (g.S.Reads.state c.save.new.space) format.nodes_file c.in_ok-id.id (node_record (new_row c.in_ok-id.id c.args.label)) (c.in_ok-id.ensures.ok tells)
+    beside_put s t (g.S.Reads.state c.save.new.space) format.nodes_file c.in_ok-id.id (node_record (new_row c.in_ok-id.id c.args.label))
+    (c.in_ok-id.ensures.ok tells)
     (c.in_ok-save.ensures.ok ∙ ap (λ (r : NodeRow). after_put t (node_key r.id) (node_record r)) c.new_row.ensures)
 
 pub returns-in_err-save-clause-cause : goal.returns-in_err-save-clause-cause
 returns-in_err-save-clause-cause g c =
-    space_cause_passed _ _ _ c.from_residual-in_err-save.result c.in_err-save.field-0.0 c.in_ok-id.ensures.cause.later c.in_err-save.ensures.cause c.from_residual-in_err-save.ensures.1
+    space_cause_passed _ _ _ c.from_residual-in_err-save.result c.in_err-save.field-0.0 c.in_ok-id.ensures.cause.later c.in_err-save.ensures.cause
+    c.from_residual-in_err-save.ensures.1
 
 pub returns-in_err-id-clause-still : goal.returns-in_err-id-clause-still
 returns-in_err-id-clause-still g c tells =
     let s = g.S.Reads.state c.args.space.now in
     let t = g.S.Reads.state c.take.new.space in
-    fault_exit of_take (BlamesBroken t) c.in_err-id.field-0.0 c.from_residual.result c.from_residual.ensures.1 (take_blamed_still s t c.in_err-id.field-0.0 (c.in_err-id.ensures.damaged tells) c.in_err-id.ensures.err)
+    fault_exit of_take (BlamesBroken t) c.in_err-id.field-0.0 c.from_residual.result c.from_residual.ensures.1
+    (take_blamed_still s t c.in_err-id.field-0.0 (c.in_err-id.ensures.damaged tells) c.in_err-id.ensures.err)
 
 pub returns-in_err-save-clause-still : goal.returns-in_err-save-clause-still
 returns-in_err-save-clause-still g c tells =
-    fault_exit of_space (BlamesBroken (g.S.Reads.state c.save.new.space)) c.in_err-save.field-0.0 c.from_residual-in_err-save.result c.from_residual-in_err-save.ensures.1 (space_blamed _ c.in_err-save.field-0.0)
+    fault_exit of_space (BlamesBroken (g.S.Reads.state c.save.new.space)) c.in_err-save.field-0.0 c.from_residual-in_err-save.result
+    c.from_residual-in_err-save.ensures.1 (space_blamed _ c.in_err-save.field-0.0)
 
 pub returns-in_err-id-clause-put : goal.returns-in_err-id-clause-put
 returns-in_err-id-clause-put g c _ = never_ok c.from_residual.result _ _ c.from_residual.ensures.1

@@ -21,7 +21,8 @@ use Rattle.graph_ops.proofs.Deleting.{node_joined, node_lacked}
 use Rattle.graph_ops.proofs.Elements.{node_loaded, node_missing, same_both, same_node, used_of}
 use Rattle.graph_ops.specs.Owners.{owner_of}
 use Rattle.prop_store.specs.Owner.{IsInUse}
-use Rattle.graph_ops.proofs.Broken.{blames_both, blames_more, drop_cause, entry_cause, entry_left, held_cause, node_broken, node_cause, node_in_use, unwritten_left}
+use Rattle.graph_ops.proofs.Broken.{blames_both, blames_more, drop_cause, entry_cause, entry_left, held_cause}
+use Rattle.graph_ops.proofs.Broken.{node_broken, node_cause, node_in_use, unwritten_left}
 use Rattle.graph_ops.specs.Causes.{IsCaused, IsStillCaused}
 use Rattle.graph_ops.proofs.Causes.{any_blamed, broken_left, caused_left, failure_caused}
 use Rattle.graph_ops.proofs.Adding.{space_blamed}
@@ -72,7 +73,8 @@ returns-then-node-ne0-clause-refused g c tells whole =
 pub returns-in_err-node-clause-found : goal.returns-in_err-node-clause-found
 returns-in_err-node-clause-found g c tells =
     let s = g.S.Reads.state c.args.space.now in
-    fault_exit of_row (IsDeleteCause s (g.S.Reads.state c.load.new.space) c.args.id) c.in_err-node.field-0.0 c.from_residual.result c.from_residual.ensures.1 (node_cause s (g.S.Reads.state c.load.new.space) c.args.id c.in_err-node.field-0.0 (c.in_err-node.ensures.damaged tells))
+    fault_exit of_row (IsDeleteCause s (g.S.Reads.state c.load.new.space) c.args.id) c.in_err-node.field-0.0 c.from_residual.result c.from_residual.ensures.1
+    (node_cause s (g.S.Reads.state c.load.new.space) c.args.id c.in_err-node.field-0.0 (c.in_err-node.ensures.damaged tells))
 
 same : (g : Over) (c : After-load g) → SameButReads (g.S.Reads.state c.args.space.now) (g.S.Reads.state c.load.new.space)
 same g c = subst (SameButReads (g.S.Reads.state c.args.space.now)) (sym c.load.ensures.state) (same_node (g.S.Reads.state c.args.space.now) c.args.id)
@@ -120,7 +122,8 @@ returns-in_err-held-clause-refused g c tells whole =
     let s = g.S.Reads.state c.args.space.now in
     let m = g.S.Reads.state c.load.new.space in
     let command = commands.Delete (targets.Node c.args.id) in
-    fault_exit (λ f. f) (IsRefusal s.shape.limit (graph_in s) command) c.in_err-held.field-0.0 c.from_residual-in_err-held.result c.from_residual-in_err-held.ensures.1
+    fault_exit (λ f. f) (IsRefusal s.shape.limit (graph_in s) command) c.in_err-held.field-0.0 c.from_residual-in_err-held.result
+    c.from_residual-in_err-held.ensures.1
     (outside_refused change_reasons s.shape.limit (graph_in s) command c.in_err-held.field-0.0 (c.in_err-held.ensures.sound tells (whole_read s m c.args.names.now.names (loaded g after) whole).store (used g after tells m (loaded g after))))
 
 pub returns-in_err-held-clause-found : goal.returns-in_err-held-clause-found
@@ -150,7 +153,8 @@ returns-in_err-dropped-clause-refused g c tells whole =
     let after = (goal.at.returns-in_err-dropped-clause-refused g c).After-drop_all in
     let s = g.S.Reads.state c.args.space.now in
     let n = g.S.Reads.state c.held_values.new.space in
-    fault_exit of_fault (IsRefusal s.shape.limit (graph_in s) (commands.Delete (targets.Node c.args.id))) c.in_err-dropped.field-0.0 c.from_residual-in_err-dropped.result c.from_residual-in_err-dropped.ensures.1
+    fault_exit of_fault (IsRefusal s.shape.limit (graph_in s) (commands.Delete (targets.Node c.args.id))) c.in_err-dropped.field-0.0
+    c.from_residual-in_err-dropped.result c.from_residual-in_err-dropped.ensures.1
     (prop_refused s.shape.limit (graph_in s) (commands.Delete (targets.Node c.args.id)) c.in_err-dropped.field-0.0
     (c.in_err-dropped.ensures.sound tells (subst (HasElement n) (sym c.node_owner.ensures) (element g after tells whole))))
 
@@ -167,7 +171,8 @@ returns-in_err-dropped-clause-found g c tells =
     (c.in_err-dropped.ensures.damaged tells (subst (IsInUse n.records) (sym c.node_owner.ensures) (subst (λ (z : State). IsInUse z.records (owner_of (targets.Node c.args.id))) (sym (read g after)) used))))
 
 -- the node's record, those of its properties and their blocks
-written : (g : Over) (c : After-give g) → WritesAtMost (1 + c.in_ok-dropped.dropped.properties + c.in_ok-dropped.dropped.blocks) (g.S.Reads.state c.args.space.now) (g.S.Reads.state c.give.new.space)
+written : (g : Over) (c : After-give g) → WritesAtMost (1 + c.in_ok-dropped.dropped.properties + c.in_ok-dropped.dropped.blocks)
+    (g.S.Reads.state c.args.space.now) (g.S.Reads.state c.give.new.space)
 written g c =
     let s = g.S.Reads.state c.args.space.now in
     let n = g.S.Reads.state c.held_values.new.space in
@@ -176,7 +181,8 @@ written g c =
     let key = key_in format.nodes_file c.args.id in
     let count = c.in_ok-dropped.dropped.properties + c.in_ok-dropped.dropped.blocks in
     let drops = subst (λ (o : Owner). WritesBeside o.key count n u) c.node_owner.ensures c.in_ok-dropped.ensures.writes in
-    let gives = this_written key u t (key ∷ meta_key_of format.nodes_file ∷ []) (λ q i. ⊎_elim (λ e. inl e) (λ j. inr (⊎_elim (λ e. among_metas format.nodes_file q refl e) (λ e. absurd e) j)) i) c.give.ensures.writes in
+    let gives = this_written key u t (key ∷ meta_key_of format.nodes_file ∷ [])
+    (λ q i. ⊎_elim (λ e. inl e) (λ j. inr (⊎_elim (λ e. among_metas format.nodes_file q refl e) (λ e. absurd e) j)) i) c.give.ensures.writes in
     more_written (omega arith) (then_written (none_written s n (read g (goal.at.After-give g c).After-held_values)) (beside_written refl (beside_then drops gives)))
 
 pub returns-clause-writes : goal.returns-clause-writes
@@ -188,10 +194,12 @@ pub returns-in_err-node-clause-refused_writes : goal.returns-in_err-node-clause-
 returns-in_err-node-clause-refused_writes g c = read_exit _ 785 _ _ (same g (goal.at.returns-in_err-node-clause-refused_writes g c).After-load)
 
 pub returns-in_default-clause-refused_writes : goal.returns-in_default-clause-refused_writes
-returns-in_default-clause-refused_writes g c = more_written (omega arith) (none_written _ _ (same g (goal.at.returns-in_default-clause-refused_writes g c).After-load))
+returns-in_default-clause-refused_writes g c = more_written (omega arith)
+    (none_written _ _ (same g (goal.at.returns-in_default-clause-refused_writes g c).After-load))
 
 pub returns-then-node-ne0-clause-refused_writes : goal.returns-then-node-ne0-clause-refused_writes
-returns-then-node-ne0-clause-refused_writes g c = more_written (omega arith) (none_written _ _ (same g (goal.at.returns-then-node-ne0-clause-refused_writes g c).After-load))
+returns-then-node-ne0-clause-refused_writes g c = more_written (omega arith)
+    (none_written _ _ (same g (goal.at.returns-then-node-ne0-clause-refused_writes g c).After-load))
 
 pub returns-in_err-dropped-clause-refused_writes : goal.returns-in_err-dropped-clause-refused_writes
 returns-in_err-dropped-clause-refused_writes g c =
@@ -213,7 +221,8 @@ returns-in_err-entries-clause-refused_writes g c =
     on_any_err _ _ (more_written (omega arith) (then_written (written g (goal.at.returns-in_err-entries-clause-refused_writes g c).After-give) (index_written 48 _ _ c.leave_values.ensures.at_most)))
 
 pub returns-clause-light : goal.returns-clause-light
-returns-clause-light g c = let p = c.in_ok-dropped.ensures.few_properties in let b = c.in_ok-dropped.ensures.few_blocks in let e = c.in_ok-entries.ensures.few in omega arith
+returns-clause-light g c = let p = c.in_ok-dropped.ensures.few_properties in let b = c.in_ok-dropped.ensures.few_blocks in let e =
+    c.in_ok-entries.ensures.few in omega arith
 
 -- ---- its entries leave the indexes
 
@@ -246,23 +255,31 @@ module _ (g : Over) (c : After-leave_values g) (tells : g.S.Reads.tells) (whole 
   there = record { store = here.store.store; used = used_here }
 
   drops : DropsAll (n g held_at) u (owner_of (targets.Node c.args.id)) dropped
-  drops = subst (λ (o : Owner). HasElement (n g held_at) o → DropsAll (n g held_at) u o dropped) c.node_owner.ensures (c.in_ok-dropped.ensures.dropped tells) there
+  drops = subst (λ (o : Owner). HasElement (n g held_at) o → DropsAll (n g held_at) u o dropped) c.node_owner.ensures (c.in_ok-dropped.ensures.dropped tells)
+      there
 
-  alone : DropsAllAlone (n g held_at) u (owner_of (targets.Node c.args.id)) (listed_at (n g held_at) (owner_of (targets.Node c.args.id)) owned_here there) dropped
-  alone = subst (λ (o : Owner). (es : List Property) → OwnsProperties (n g held_at) o es → DropsAllAlone (n g held_at) u o es dropped) c.node_owner.ensures (c.in_ok-dropped.ensures.alone tells)
-      (listed_at (n g held_at) (owner_of (targets.Node c.args.id)) owned_here there) (owns_listed (n g held_at) (owner_of (targets.Node c.args.id)) owned_here there)
+  alone : DropsAllAlone (n g held_at) u (owner_of (targets.Node c.args.id)) (listed_at (n g held_at) (owner_of (targets.Node c.args.id)) owned_here there)
+      dropped
+  alone = subst (λ (o : Owner). (es : List Property) → OwnsProperties (n g held_at) o es → DropsAllAlone (n g held_at) u o es dropped) c.node_owner.ensures
+      (c.in_ok-dropped.ensures.alone tells)
+      (listed_at (n g held_at) (owner_of (targets.Node c.args.id)) owned_here there)
+      (owns_listed (n g held_at) (owner_of (targets.Node c.args.id)) owned_here there)
 
   between : AreIndexed t.records (wanted_in (n g held_at).records)
-  between = gone_between (n g held_at) u t c.args.names.now.names c.args.id here used_here (lone g held_at tells (n g held_at) (read g held_at)) dropped owned_here drops (g.met.S.Reads.onward_shape _ _ c.drop_all.ensures.onward) (g.met.S.Reads.onward_shape _ _ c.give.ensures.onward) (c.in_ok-give.ensures.given tells)
+  between = gone_between (n g held_at) u t c.args.names.now.names c.args.id here used_here (lone g held_at tells (n g held_at) (read g held_at)) dropped
+      owned_here drops (g.met.S.Reads.onward_shape _ _ c.drop_all.ensures.onward) (g.met.S.Reads.onward_shape _ _ c.give.ensures.onward)
+      (c.in_ok-give.ensures.given tells)
 
   keeps : KeepsStore t
   keeps = (gone_left (n g held_at) u t c.args.names.now.names c.args.id here used_here (lone g held_at tells (n g held_at) (read g held_at)) dropped owned_here drops (g.met.S.Reads.onward_shape _ _ c.drop_all.ensures.onward) (g.met.S.Reads.onward_shape _ _ c.give.ensures.onward) (c.in_ok-give.ensures.given tells)).store
 
   -- the values that were held
-  held_is : c.in_ok-held.held.items ≡ held_of (n g held_at).records (label_at (n g held_at).records c.args.id) c.args.id (map (pair_of (n g held_at).records) here.store.indexes.definitions)
+  held_is : c.in_ok-held.held.items ≡ held_of (n g held_at).records (label_at (n g held_at).records c.args.id) c.args.id
+      (map (pair_of (n g held_at).records) here.store.indexes.definitions)
   held_is = subst (λ (z : State). (store : IsIndexed z.records z.shape) → c.in_ok-held.held.items ≡ held_of z.records (label_at z.records c.args.id) c.args.id (map (pair_of z.records) store.indexes.definitions)) (sym c.held_values.ensures.same)
       (λ store. c.in_ok-held.ensures.held tells (record { store = store.store; indexes = store.indexes }) (used g held_at tells (m g held_at) (loaded g held_at)) (label g held_at tells (m g held_at) (loaded g held_at))
-      ∙ ap (λ l. held_of (m g held_at).records l c.args.id (map (pair_of (m g held_at).records) store.indexes.definitions)) (label g held_at tells (m g held_at) (loaded g held_at))) here.store
+      ∙ ap (λ l. held_of (m g held_at).records l c.args.id (map (pair_of (m g held_at).records) store.indexes.definitions))
+      (label g held_at tells (m g held_at) (loaded g held_at))) here.store
 
 pub returns-in_err-entries-clause-refused : goal.returns-in_err-entries-clause-refused
 returns-in_err-entries-clause-refused g c tells whole =
@@ -270,7 +287,8 @@ returns-in_err-entries-clause-refused g c tells whole =
     let s = g.S.Reads.state c.args.space.now in
     let n = g.S.Reads.state c.held_values.new.space in
     let command = commands.Delete (targets.Node c.args.id) in
-    fault_exit (λ f. f) (IsRefusal s.shape.limit (graph_in s) command) c.in_err-entries.field-0.0 c.from_residual-in_err-entries.result c.from_residual-in_err-entries.ensures.1
+    fault_exit (λ f. f) (IsRefusal s.shape.limit (graph_in s) command) c.in_err-entries.field-0.0 c.from_residual-in_err-entries.result
+    c.from_residual-in_err-entries.ensures.1
     (outside_refused change_reasons s.shape.limit (graph_in s) command c.in_err-entries.field-0.0 (c.in_err-entries.ensures.sound tells (wanted_in n.records) (between g after tells whole) (keeps g after tells whole)))
 
 pub returns-in_err-entries-clause-found : goal.returns-in_err-entries-clause-found
@@ -286,8 +304,10 @@ returns-in_err-entries-clause-found g c tells =
     let owner = owner_file c.node_owner.result (targets.Node c.args.id) c.node_owner.ensures in
     fault_exit (λ f. f) (IsDeleteCause s v c.args.id) fault c.from_residual-in_err-entries.result c.from_residual-in_err-entries.ensures.1
     (entry_cause s v c.args.id fault c.in_err-entries.ensures.failure (blames_more _ _ (λ damage told.
-    let left : IsAsFound s e damage = other_leaves d e format.nodes_file (λ z. omega arith) (λ z. omega arith) (given_beside d e format.nodes_file c.args.id (c.in_ok-give.ensures.stays tells)) damage told.0.0
-    ∙ properties_leave g.S.Reads.tells _ _ n d c.node_owner.result owner tells c.drop_all.ensures.at_most damage told.0.0 ∙ reads_leave s n (read g after) damage told.0.0 in
+    let left : IsAsFound s e damage = other_leaves d e format.nodes_file (λ z. omega arith) (λ z. omega arith)
+    (given_beside d e format.nodes_file c.args.id (c.in_ok-give.ensures.stays tells)) damage told.0.0
+    ∙ properties_leave g.S.Reads.tells _ _ n d c.node_owner.result owner tells c.drop_all.ensures.at_most damage told.0.0
+    ∙ reads_leave s n (read g after) damage told.0.0 in
     let several = subst (λ (z : State). HasIndexes z.records) (loaded g after) in
     (told.0, ⊎_elim (λ found. inl (found ∙ left)) (λ more. inr (several (c.in_ok-held.ensures.several tells (let len = ap length c.deref.ensures.value in omega (arith, more, len))))) told.1)) fault
     (blames_both _ _ fault (c.in_err-entries.ensures.blames tells) (c.in_err-entries.ensures.untouched tells))))
@@ -303,11 +323,14 @@ returns-clause-made g c tells whole =
     let names = c.args.names.now.names in
     let e = c.in_ok-entries.ensures in
     let items = c.deref.result.now in
-    made_read s n v names (commands.Delete (targets.Node c.args.id)) Done (1 + c.in_ok-dropped.dropped.properties + c.in_ok-dropped.dropped.blocks + c.in_ok-entries.entries) (read g held)
+    made_read s n v names (commands.Delete (targets.Node c.args.id)) Done
+    (1 + c.in_ok-dropped.dropped.properties + c.in_ok-dropped.dropped.blocks + c.in_ok-entries.entries) (read g held)
     (gone_made n (g.S.Reads.state c.drop_all.new.space) t names c.args.id (here g after tells whole) (used_here g after tells whole) (lone g held tells n (read g held)) c.in_ok-dropped.dropped (owned_here g after tells whole) (drops g after tells whole)
-    (g.met.S.Reads.onward_shape _ _ c.drop_all.ensures.onward) (g.met.S.Reads.onward_shape _ _ c.give.ensures.onward) (c.in_ok-give.ensures.given tells) (alone g after tells whole)
+    (g.met.S.Reads.onward_shape _ _ c.drop_all.ensures.onward) (g.met.S.Reads.onward_shape _ _ c.give.ensures.onward) (c.in_ok-give.ensures.given tells)
+    (alone g after tells whole)
     v (touched_beside c.in_ok-entries.entries t v tells e.touches) (e.graph tells (wanted_in n.records) (between g after tells whole) (keeps g after tells whole)) (e.keeps tells (wanted_in n.records) (between g after tells whole) (keeps g after tells whole))
-    items (c.deref.ensures.value ∙ held_is g after tells whole) (e.left tells (wanted_in n.records) (between g after tells whole) (keeps g after tells whole)) c.in_ok-entries.entries e.weight)
+    items (c.deref.ensures.value ∙ held_is g after tells whole) (e.left tells (wanted_in n.records) (between g after tells whole) (keeps g after tells whole))
+    c.in_ok-entries.entries e.weight)
 
 pub returns-clause-kinds : goal.returns-clause-kinds
 returns-clause-kinds g c tells whole x ne =
@@ -316,8 +339,10 @@ returns-clause-kinds g c tells whole x ne =
     let n = g.S.Reads.state c.held_values.new.space in
     let t = g.S.Reads.state c.give.new.space in
     let v = g.S.Reads.state c.leave_values.new.space in
-    gone_kinds n (g.S.Reads.state c.drop_all.new.space) t c.args.names.now.names c.args.id (here g after tells whole) (used_here g after tells whole) (lone g held tells n (read g held)) c.in_ok-dropped.dropped (owned_here g after tells whole) (drops g after tells whole)
-    (g.met.S.Reads.onward_shape _ _ c.drop_all.ensures.onward) (g.met.S.Reads.onward_shape _ _ c.give.ensures.onward) (c.in_ok-give.ensures.given tells) v (touched_beside c.in_ok-entries.entries t v tells c.in_ok-entries.ensures.touches) x ne
+    gone_kinds n (g.S.Reads.state c.drop_all.new.space) t c.args.names.now.names c.args.id (here g after tells whole) (used_here g after tells whole)
+    (lone g held tells n (read g held)) c.in_ok-dropped.dropped (owned_here g after tells whole) (drops g after tells whole)
+    (g.met.S.Reads.onward_shape _ _ c.drop_all.ensures.onward) (g.met.S.Reads.onward_shape _ _ c.give.ensures.onward) (c.in_ok-give.ensures.given tells) v
+    (touched_beside c.in_ok-entries.entries t v tells c.in_ok-entries.ensures.touches) x ne
     ∙ ap (λ (z : State). kind_at z.records format.nodes_file x) (read g held)
 
 pub returns-in_err-held-clause-caused : goal.returns-in_err-held-clause-caused
@@ -335,7 +360,8 @@ returns-in_err-entries-clause-caused g c tells =
     let s = g.S.Reads.state c.args.space.now in
     let t = g.S.Reads.state c.leave_values.new.space in
     let names = c.args.names.now.names in
-    fault_exit (λ f. f) (IsCaused command s t names names) c.in_err-entries.field-0.0 c.from_residual-in_err-entries.result c.from_residual-in_err-entries.ensures.1
+    fault_exit (λ f. f) (IsCaused command s t names names) c.in_err-entries.field-0.0 c.from_residual-in_err-entries.result
+    c.from_residual-in_err-entries.ensures.1
     (failure_caused command s t names names c.in_err-entries.field-0.0 c.in_err-entries.ensures.failure)
 
 pub returns-in_err-held-clause-still : goal.returns-in_err-held-clause-still
@@ -344,7 +370,8 @@ returns-in_err-held-clause-still g c tells =
     let names = c.args.names.now.names in
     let command = commands.Delete (targets.Node c.args.id) in
     let fault = c.in_err-held.field-0.0 in
-    fault_exit (λ f. f) (IsStillCaused command t names names) fault c.from_residual-in_err-held.result c.from_residual-in_err-held.ensures.1 (record { caused = failure_caused command t t names names fault c.in_err-held.ensures.failure; damaged = any_blamed _ (λ damage. tt) fault })
+    fault_exit (λ f. f) (IsStillCaused command t names names) fault c.from_residual-in_err-held.result c.from_residual-in_err-held.ensures.1
+    (record { caused = failure_caused command t t names names fault c.in_err-held.ensures.failure; damaged = any_blamed _ (λ damage. tt) fault })
 
 pub returns-in_err-entries-clause-still : goal.returns-in_err-entries-clause-still
 returns-in_err-entries-clause-still g c tells =
@@ -352,23 +379,29 @@ returns-in_err-entries-clause-still g c tells =
     let names = c.args.names.now.names in
     let command = commands.Delete (targets.Node c.args.id) in
     let fault = c.in_err-entries.field-0.0 in
-    fault_exit (λ f. f) (IsStillCaused command t names names) fault c.from_residual-in_err-entries.result c.from_residual-in_err-entries.ensures.1 (record { caused = failure_caused command t t names names fault c.in_err-entries.ensures.failure; damaged = any_blamed _ (λ damage. tt) fault })
+    fault_exit (λ f. f) (IsStillCaused command t names names) fault c.from_residual-in_err-entries.result c.from_residual-in_err-entries.ensures.1
+    (record { caused = failure_caused command t t names names fault c.in_err-entries.ensures.failure; damaged = any_blamed _ (λ damage. tt) fault })
 
 pub returns-in_err-held-clause-cause : goal.returns-in_err-held-clause-cause
 returns-in_err-held-clause-cause g c =
-    change_cause_passed _ _ _ c.from_residual-in_err-held.result c.in_err-held.field-0.0 c.in_ok-node.ensures.cause.later c.in_err-held.ensures.cause c.from_residual-in_err-held.ensures.1
+    change_cause_passed _ _ _ c.from_residual-in_err-held.result c.in_err-held.field-0.0 c.in_ok-node.ensures.cause.later c.in_err-held.ensures.cause
+    c.from_residual-in_err-held.ensures.1
 
 pub returns-in_err-dropped-clause-cause : goal.returns-in_err-dropped-clause-cause
 returns-in_err-dropped-clause-cause g c =
-    fault_cause_passed _ _ _ c.from_residual-in_err-dropped.result c.in_err-dropped.field-0.0 (later_on c.in_ok-node.ensures.cause.later c.in_ok-held.ensures.cause.later) c.in_err-dropped.ensures.cause c.from_residual-in_err-dropped.ensures.1
+    fault_cause_passed _ _ _ c.from_residual-in_err-dropped.result c.in_err-dropped.field-0.0
+    (later_on c.in_ok-node.ensures.cause.later c.in_ok-held.ensures.cause.later) c.in_err-dropped.ensures.cause c.from_residual-in_err-dropped.ensures.1
 
 pub returns-in_err-give-clause-cause : goal.returns-in_err-give-clause-cause
 returns-in_err-give-clause-cause g c =
-    space_cause_passed _ _ _ c.from_residual-in_err-give.result c.in_err-give.field-0.0 (later_on (later_on c.in_ok-node.ensures.cause.later c.in_ok-held.ensures.cause.later) c.in_ok-dropped.ensures.cause.later) c.in_err-give.ensures.cause c.from_residual-in_err-give.ensures.1
+    space_cause_passed _ _ _ c.from_residual-in_err-give.result c.in_err-give.field-0.0
+    (later_on (later_on c.in_ok-node.ensures.cause.later c.in_ok-held.ensures.cause.later) c.in_ok-dropped.ensures.cause.later) c.in_err-give.ensures.cause
+    c.from_residual-in_err-give.ensures.1
 
 pub returns-in_err-entries-clause-cause : goal.returns-in_err-entries-clause-cause
 returns-in_err-entries-clause-cause g c =
-    change_cause_passed _ _ _ c.from_residual-in_err-entries.result c.in_err-entries.field-0.0 (later_on (later_on (later_on c.in_ok-node.ensures.cause.later c.in_ok-held.ensures.cause.later) c.in_ok-dropped.ensures.cause.later) c.in_ok-give.ensures.cause.later) c.in_err-entries.ensures.cause c.from_residual-in_err-entries.ensures.1
+    change_cause_passed _ _ _ c.from_residual-in_err-entries.result c.in_err-entries.field-0.0
+    (later_on (later_on (later_on c.in_ok-node.ensures.cause.later c.in_ok-held.ensures.cause.later) c.in_ok-dropped.ensures.cause.later) c.in_ok-give.ensures.cause.later) c.in_err-entries.ensures.cause c.from_residual-in_err-entries.ensures.1
 
 -- ---- the space goes on
 
@@ -383,10 +416,12 @@ pub returns-in_err-give-clause-onward : goal.returns-in_err-give-clause-onward
 returns-in_err-give-clause-onward g c = gone_on g (goal.at.returns-in_err-give-clause-onward g c).After-give
 
 pub returns-in_err-entries-clause-onward : goal.returns-in_err-entries-clause-onward
-returns-in_err-entries-clause-onward g c = g.met.S.Reads.further_onward c.args.space.now c.give.new.space c.leave_values.new.space (gone_on g (goal.at.returns-in_err-entries-clause-onward g c).After-give) c.leave_values.ensures.onward
+returns-in_err-entries-clause-onward g c = g.met.S.Reads.further_onward c.args.space.now c.give.new.space c.leave_values.new.space
+    (gone_on g (goal.at.returns-in_err-entries-clause-onward g c).After-give) c.leave_values.ensures.onward
 
 pub returns-clause-onward : goal.returns-clause-onward
-returns-clause-onward g c = g.met.S.Reads.further_onward c.args.space.now c.give.new.space c.leave_values.new.space (gone_on g (goal.at.returns-clause-onward g c).After-give) c.leave_values.ensures.onward
+returns-clause-onward g c = g.met.S.Reads.further_onward c.args.space.now c.give.new.space c.leave_values.new.space
+    (gone_on g (goal.at.returns-clause-onward g c).After-give) c.leave_values.ensures.onward
 
 -- ---- why it is refused over any records
 pub returns-in_err-node-clause-caused : goal.returns-in_err-node-clause-caused
@@ -411,7 +446,8 @@ returns-in_err-dropped-clause-caused g c tells =
     let s = g.S.Reads.state c.args.space.now in
     let t = g.S.Reads.state c.drop_all.new.space in
     let names = c.args.names.now.names in
-    fault_exit of_fault (IsCaused command s t names names) c.in_err-dropped.field-0.0 c.from_residual-in_err-dropped.result c.from_residual-in_err-dropped.ensures.1
+    fault_exit of_fault (IsCaused command s t names names) c.in_err-dropped.field-0.0 c.from_residual-in_err-dropped.result
+    c.from_residual-in_err-dropped.ensures.1
     (failure_caused command s t names names (of_fault c.in_err-dropped.field-0.0) (fault_fails c.in_err-dropped.field-0.0))
 
 pub returns-in_err-give-clause-caused : goal.returns-in_err-give-clause-caused
@@ -431,7 +467,8 @@ returns-in_err-node-clause-still g c tells =
     let names = c.args.names.now.names in
     let command = commands.Delete (targets.Node c.args.id) in
     let fault = of_row c.in_err-node.field-0.0 in
-    fault_exit of_row (IsStillCaused command t names names) c.in_err-node.field-0.0 c.from_residual.result c.from_residual.ensures.1 (record { caused = failure_caused command t t names names fault (row_fails c.in_err-node.field-0.0); damaged = any_blamed _ (λ damage. tt) fault })
+    fault_exit of_row (IsStillCaused command t names names) c.in_err-node.field-0.0 c.from_residual.result c.from_residual.ensures.1
+    (record { caused = failure_caused command t t names names fault (row_fails c.in_err-node.field-0.0); damaged = any_blamed _ (λ damage. tt) fault })
 
 pub returns-in_err-dropped-clause-still : goal.returns-in_err-dropped-clause-still
 returns-in_err-dropped-clause-still g c tells =
@@ -439,7 +476,8 @@ returns-in_err-dropped-clause-still g c tells =
     let names = c.args.names.now.names in
     let command = commands.Delete (targets.Node c.args.id) in
     let fault = of_fault c.in_err-dropped.field-0.0 in
-    fault_exit of_fault (IsStillCaused command t names names) c.in_err-dropped.field-0.0 c.from_residual-in_err-dropped.result c.from_residual-in_err-dropped.ensures.1 (record { caused = failure_caused command t t names names fault (fault_fails c.in_err-dropped.field-0.0); damaged = any_blamed _ (λ damage. tt) fault })
+    fault_exit of_fault (IsStillCaused command t names names) c.in_err-dropped.field-0.0 c.from_residual-in_err-dropped.result
+    c.from_residual-in_err-dropped.ensures.1 (record { caused = failure_caused command t t names names fault (fault_fails c.in_err-dropped.field-0.0); damaged = any_blamed _ (λ damage. tt) fault })
 
 pub returns-in_err-give-clause-still : goal.returns-in_err-give-clause-still
 returns-in_err-give-clause-still g c tells =
@@ -447,7 +485,8 @@ returns-in_err-give-clause-still g c tells =
     let names = c.args.names.now.names in
     let command = commands.Delete (targets.Node c.args.id) in
     let fault = of_space c.in_err-give.field-0.0 in
-    fault_exit of_space (IsStillCaused command t names names) c.in_err-give.field-0.0 c.from_residual-in_err-give.result c.from_residual-in_err-give.ensures.1 (record { caused = failure_caused command t t names names fault (space_fails c.in_err-give.field-0.0); damaged = any_blamed _ (λ damage. tt) fault })
+    fault_exit of_space (IsStillCaused command t names names) c.in_err-give.field-0.0 c.from_residual-in_err-give.result c.from_residual-in_err-give.ensures.1
+    (record { caused = failure_caused command t t names names fault (space_fails c.in_err-give.field-0.0); damaged = any_blamed _ (λ damage. tt) fault })
 
 pub returns-in_default-clause-still : goal.returns-in_default-clause-still
 returns-in_default-clause-still g c tells =
@@ -502,7 +541,8 @@ returns-in_err-dropped-clause-broken g c tells =
 
 pub returns-in_err-give-clause-broken : goal.returns-in_err-give-clause-broken
 returns-in_err-give-clause-broken g c tells =
-    fault_exit of_space (BlamesBroken (g.S.Reads.state c.give.new.space)) c.in_err-give.field-0.0 c.from_residual-in_err-give.result c.from_residual-in_err-give.ensures.1 (space_blamed _ c.in_err-give.field-0.0)
+    fault_exit of_space (BlamesBroken (g.S.Reads.state c.give.new.space)) c.in_err-give.field-0.0 c.from_residual-in_err-give.result
+    c.from_residual-in_err-give.ensures.1 (space_blamed _ c.in_err-give.field-0.0)
 
 pub returns-in_err-entries-clause-broken : goal.returns-in_err-entries-clause-broken
 returns-in_err-entries-clause-broken g c tells =

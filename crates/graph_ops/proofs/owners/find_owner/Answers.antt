@@ -34,41 +34,49 @@ returns-in-None-2-clause-refused g c tells names store =
 
 pub returns-in-Some-clause-in_use : goal.returns-in-Some-clause-in_use
 returns-in-Some-clause-in_use g c tells =
-    node_in_use (g.R.Reads.state c.args.space.now) c.args.target c.in-Node.id c.in-Some.field-0 c.in-Node.is (sym c.in-Some.is ∙ c.in_ok-load-in-Node.ensures.found tells)
+    node_in_use (g.R.Reads.state c.args.space.now) c.args.target c.in-Node.id c.in-Some.field-0 c.in-Node.is
+    (sym c.in-Some.is ∙ c.in_ok-load-in-Node.ensures.found tells)
 
 pub returns-in-Some-2-clause-in_use : goal.returns-in-Some-2-clause-in_use
 returns-in-Some-2-clause-in_use g c tells =
-    rel_in_use (g.R.Reads.state c.args.space.now) c.args.target c.in-Edge.id c.in-Some-2.field-0 c.in-Edge.is (sym c.in-Some-2.is ∙ c.in_ok-load-in-Edge.ensures.found tells)
+    rel_in_use (g.R.Reads.state c.args.space.now) c.args.target c.in-Edge.id c.in-Some-2.field-0 c.in-Edge.is
+    (sym c.in-Some-2.is ∙ c.in_ok-load-in-Edge.ensures.found tells)
 
 -- ---- and one that can't be read is damaged
 
 pub returns-in_err-load-in-Node-clause-damaged : goal.returns-in_err-load-in-Node-clause-damaged
 returns-in_err-load-in-Node-clause-damaged g c tells =
     let s = g.R.Reads.state c.args.space.now in
-    fault_exit of_row (BlamesBroken s) c.in_err-load-in-Node.field-0.0 c.from_residual.result c.from_residual.ensures.1 (node_broken s c.in-Node.id c.in_err-load-in-Node.field-0.0 (c.in_err-load-in-Node.ensures.damaged tells))
+    fault_exit of_row (BlamesBroken s) c.in_err-load-in-Node.field-0.0 c.from_residual.result c.from_residual.ensures.1
+    (node_broken s c.in-Node.id c.in_err-load-in-Node.field-0.0 (c.in_err-load-in-Node.ensures.damaged tells))
 
 pub returns-in_err-load-in-Edge-clause-damaged : goal.returns-in_err-load-in-Edge-clause-damaged
 returns-in_err-load-in-Edge-clause-damaged g c tells =
     let s = g.R.Reads.state c.args.space.now in
-    fault_exit of_row (BlamesBroken s) c.in_err-load-in-Edge.field-0.0 c.from_residual-in_err-load-in-Edge.result c.from_residual-in_err-load-in-Edge.ensures.1 (rel_broken s c.in-Edge.id c.in_err-load-in-Edge.field-0.0 (c.in_err-load-in-Edge.ensures.damaged tells))
+    fault_exit of_row (BlamesBroken s) c.in_err-load-in-Edge.field-0.0 c.from_residual-in_err-load-in-Edge.result c.from_residual-in_err-load-in-Edge.ensures.1
+    (rel_broken s c.in-Edge.id c.in_err-load-in-Edge.field-0.0 (c.in_err-load-in-Edge.ensures.damaged tells))
 
 pub returns-in_err-load-in-Node-clause-missing : goal.returns-in_err-load-in-Node-clause-missing
-returns-in_err-load-in-Node-clause-missing g c = fault_exit of_row MayMiss c.in_err-load-in-Node.field-0.0 c.from_residual.result c.from_residual.ensures.1 (row_misses c.in_err-load-in-Node.field-0.0)
+returns-in_err-load-in-Node-clause-missing g c = fault_exit of_row MayMiss c.in_err-load-in-Node.field-0.0 c.from_residual.result c.from_residual.ensures.1
+    (row_misses c.in_err-load-in-Node.field-0.0)
 
 pub returns-in_err-load-in-Edge-clause-missing : goal.returns-in_err-load-in-Edge-clause-missing
-returns-in_err-load-in-Edge-clause-missing g c = fault_exit of_row MayMiss c.in_err-load-in-Edge.field-0.0 c.from_residual-in_err-load-in-Edge.result c.from_residual-in_err-load-in-Edge.ensures.1 (row_misses c.in_err-load-in-Edge.field-0.0)
+returns-in_err-load-in-Edge-clause-missing g c = fault_exit of_row MayMiss c.in_err-load-in-Edge.field-0.0 c.from_residual-in_err-load-in-Edge.result
+    c.from_residual-in_err-load-in-Edge.ensures.1 (row_misses c.in_err-load-in-Edge.field-0.0)
 
 -- ---- why it isn't found
 
 pub returns-in_err-load-in-Node-clause-absent : goal.returns-in_err-load-in-Node-clause-absent
 returns-in_err-load-in-Node-clause-absent g c tells =
     let s = g.R.Reads.state c.args.space.now in
-    fault_exit of_row (IsAbsent s c.args.target) c.in_err-load-in-Node.field-0.0 c.from_residual.result c.from_residual.ensures.1 (node_absent s c.args.target c.in-Node.id c.in_err-load-in-Node.field-0.0 (c.in_err-load-in-Node.ensures.damaged tells))
+    fault_exit of_row (IsAbsent s c.args.target) c.in_err-load-in-Node.field-0.0 c.from_residual.result c.from_residual.ensures.1
+    (node_absent s c.args.target c.in-Node.id c.in_err-load-in-Node.field-0.0 (c.in_err-load-in-Node.ensures.damaged tells))
 
 pub returns-in_err-load-in-Edge-clause-absent : goal.returns-in_err-load-in-Edge-clause-absent
 returns-in_err-load-in-Edge-clause-absent g c tells =
     let s = g.R.Reads.state c.args.space.now in
-    fault_exit of_row (IsAbsent s c.args.target) c.in_err-load-in-Edge.field-0.0 c.from_residual-in_err-load-in-Edge.result c.from_residual-in_err-load-in-Edge.ensures.1 (edge_absent s c.args.target c.in-Edge.id c.in_err-load-in-Edge.field-0.0 (c.in_err-load-in-Edge.ensures.damaged tells))
+    fault_exit of_row (IsAbsent s c.args.target) c.in_err-load-in-Edge.field-0.0 c.from_residual-in_err-load-in-Edge.result
+    c.from_residual-in_err-load-in-Edge.ensures.1 (edge_absent s c.args.target c.in-Edge.id c.in_err-load-in-Edge.field-0.0 (c.in_err-load-in-Edge.ensures.damaged tells))
 
 pub returns-in_err-load-in-Node-clause-owner : goal.returns-in_err-load-in-Node-clause-owner
 returns-in_err-load-in-Node-clause-owner g c = never_ok c.from_residual.result _ _ c.from_residual.ensures.1

@@ -47,7 +47,8 @@ room g c lacks all = absurd (let e = c.in_ok-label.ensures.full all lacks in cc)
 pub assign_pairs-requires-clause-names : goal.assign_pairs-requires-clause-names
 assign_pairs-requires-clause-names g c =
     let at = (goal.at.assign_pairs-requires-clause-names g c).In_ok-label in
-    held_name c.args.names.now.names c.as_bytes.result.now c.intern.new.self.names c.count-known.ensures.are_names c.in_ok-label.ensures.names (short g at) (room g at)
+    held_name c.args.names.now.names c.as_bytes.result.now c.intern.new.self.names c.count-known.ensures.are_names c.in_ok-label.ensures.names (short g at)
+    (room g at)
 
 pub returns-in_err-assigned-clause-refused : goal.returns-in_err-assigned-clause-refused
 returns-in_err-assigned-clause-refused g c tells store =
@@ -57,13 +58,15 @@ returns-in_err-assigned-clause-refused g c tells store =
     (assign_refused_by s c.args.names.now.names c.intern.new.self.names c.args.label.now c.args.pairs.now store (uses g (goal.at.returns-in_err-assigned-clause-refused g c).In_ok-label) c.in_err-assigned.field-0.0 c.in_err-assigned.ensures.refused)
 
 -- the elements are kept
-kept : (g : Over) (c : In_ok-assigned g) → g.S.Reads.tells → IsMidway (g.S.Reads.state c.args.space.now) c.args.names.now.names → KeepsElements (g.S.Reads.state c.args.space.now) (g.S.Reads.state c.assign_pairs.new.space) c.assign_pairs.new.names.names
+kept : (g : Over) (c : In_ok-assigned g) → g.S.Reads.tells → IsMidway (g.S.Reads.state c.args.space.now) c.args.names.now.names
+    → KeepsElements (g.S.Reads.state c.args.space.now) (g.S.Reads.state c.assign_pairs.new.space) c.assign_pairs.new.names.names
 kept g c tells store =
     let at = (goal.at.In_ok-assigned g c).In_ok-label in
     let s = g.S.Reads.state c.args.space.now in
     let t = g.S.Reads.state c.intern.new.space in
     let u = g.S.Reads.state c.assign_pairs.new.space in
-    let first = keeps_interned s t c.args.names.now.names c.intern.new.self.names c.as_bytes.result.now (c.in_ok-label.ensures.ok tells) c.in_ok-label.ensures.names (short g at) (room g at) store in
+    let first = keeps_interned s t c.args.names.now.names c.intern.new.self.names c.as_bytes.result.now (c.in_ok-label.ensures.ok tells)
+    c.in_ok-label.ensures.names (short g at) (room g at) store in
     keeps_then s t u c.intern.new.self.names c.assign_pairs.new.names.names first (c.in_ok-assigned.ensures.kept tells first.store)
 
 pub returns-in_err-blocks-clause-refused : goal.returns-in_err-blocks-clause-refused
@@ -86,8 +89,10 @@ returns-clause-prepared g c tells store =
     let u = g.S.Reads.state c.assign_pairs.new.space in
     let pairs = c.args.pairs.now in
     let items = c.in_ok-assigned.assigned.items in
-    prepared_is s c.args.names.now.names c.intern.new.self.names c.args.label.now pairs store (uses g (goal.at.returns-clause-prepared g c).In_ok-label) u c.assign_pairs.new.names.names items
-    c.in_ok-assigned.ensures.uses (kept g at tells store) c.in_ok-assigned.ensures.assigned c.in_ok-assigned.ensures.few c.in_ok-assigned.ensures.held.few _ refl (c.in_ok-label.ensures.number ∙ ap (λ l. Some l) c.as_bytes.ensures)
+    prepared_is s c.args.names.now.names c.intern.new.self.names c.args.label.now pairs store (uses g (goal.at.returns-clause-prepared g c).In_ok-label) u
+    c.assign_pairs.new.names.names items
+    c.in_ok-assigned.ensures.uses (kept g at tells store) c.in_ok-assigned.ensures.assigned c.in_ok-assigned.ensures.few c.in_ok-assigned.ensures.held.few _
+    refl (c.in_ok-label.ensures.number ∙ ap (λ l. Some l) c.as_bytes.ensures)
     (subst (λ l. HasPropertyRoom u (length l) (assigned_blocks pairs l)) c.deref.ensures.0 c.in_ok-blocks.ensures.room)
     (let n = c.len.ensures.value in let b = c.in_ok-blocks.ensures.blocks ∙ ap (assigned_blocks pairs) c.deref.ensures.0 in let k = c.count-known.ensures.value in let m = c.count.ensures.value in omega arith)
 
@@ -201,7 +206,8 @@ pub returns-in_err-assigned-clause-caused : goal.returns-in_err-assigned-clause-
 returns-in_err-assigned-clause-caused g c tells =
     let s = g.S.Reads.state c.args.space.now in
     let old = c.args.names.now.names in
-    fault_exit (λ f. f) (IsLineCause s old c.args.label.now c.args.pairs.now) c.in_err-assigned.field-0.0 c.from_residual-in_err-assigned.result c.from_residual-in_err-assigned.ensures.1
+    fault_exit (λ f. f) (IsLineCause s old c.args.label.now c.args.pairs.now) c.in_err-assigned.field-0.0 c.from_residual-in_err-assigned.result
+    c.from_residual-in_err-assigned.ensures.1
     (assign_caused s old c.intern.new.self.names c.args.label.now c.args.pairs.now (uses g (goal.at.returns-in_err-assigned-clause-caused g c).In_ok-label) c.in_err-assigned.field-0.0 c.in_err-assigned.ensures.refused c.in_err-assigned.ensures.counts)
 
 pub returns-in_err-blocks-clause-caused : goal.returns-in_err-blocks-clause-caused
@@ -214,7 +220,8 @@ returns-in_err-blocks-clause-caused g c tells =
     let pairs = c.args.pairs.now in
     let items = c.in_ok-assigned.assigned.items in
     let fault = c.in_err-blocks.field-0.0 in
-    let metas = metas_then (metas_interned s t old c.intern.new.self.names c.as_bytes.result.now (c.in_ok-label.ensures.ok tells) c.in_ok-label.ensures.names) (c.in_ok-assigned.ensures.metas tells) in
+    let metas = metas_then (metas_interned s t old c.intern.new.self.names c.as_bytes.result.now (c.in_ok-label.ensures.ok tells) c.in_ok-label.ensures.names)
+    (c.in_ok-assigned.ensures.metas tells) in
     let shape = (g.met.S.Reads.onward_shape _ _ c.assign_pairs.ensures.onward) ∙ (g.met.S.Reads.onward_shape _ _ c.intern.ensures.onward) in
     fault_exit (λ f. f) (IsLineCause s old c.args.label.now pairs) fault c.from_residual-in_err-blocks.result c.from_residual-in_err-blocks.ensures.1
     (reserve_caused s u old c.args.label.now pairs shape (length items) (assigned_blocks pairs items) (length-assigned names pairs items c.in_ok-assigned.ensures.assigned) (blocks-assigned names pairs items c.in_ok-assigned.ensures.assigned) metas fault
@@ -232,11 +239,13 @@ returns-in_err-label-clause-cause g c =
 
 pub returns-in_err-assigned-clause-cause : goal.returns-in_err-assigned-clause-cause
 returns-in_err-assigned-clause-cause g c =
-    change_cause_passed _ _ _ c.from_residual-in_err-assigned.result c.in_err-assigned.field-0.0 c.in_ok-label.ensures.cause.later c.in_err-assigned.ensures.cause c.from_residual-in_err-assigned.ensures.1
+    change_cause_passed _ _ _ c.from_residual-in_err-assigned.result c.in_err-assigned.field-0.0 c.in_ok-label.ensures.cause.later
+    c.in_err-assigned.ensures.cause c.from_residual-in_err-assigned.ensures.1
 
 pub returns-in_err-blocks-clause-cause : goal.returns-in_err-blocks-clause-cause
 returns-in_err-blocks-clause-cause g c =
-    reserve_refusal_cause _ _ c.from_residual-in_err-blocks.result c.in_err-blocks.field-0.0 c.in_err-blocks.ensures.refused (later_on c.in_ok-label.ensures.cause.later c.in_ok-assigned.ensures.cause.later) c.from_residual-in_err-blocks.ensures.1
+    reserve_refusal_cause _ _ c.from_residual-in_err-blocks.result c.in_err-blocks.field-0.0 c.in_err-blocks.ensures.refused
+    (later_on c.in_ok-label.ensures.cause.later c.in_ok-assigned.ensures.cause.later) c.from_residual-in_err-blocks.ensures.1
 
 -- ---- and by the space as it is left
 
@@ -251,7 +260,8 @@ pub returns-in_err-assigned-clause-still : goal.returns-in_err-assigned-clause-s
 returns-in_err-assigned-clause-still g c tells =
     let t = g.S.Reads.state c.assign_pairs.new.space in
     let old = c.args.names.now.names in
-    fault_exit (λ f. f) (IsLineCause t old c.args.label.now c.args.pairs.now) c.in_err-assigned.field-0.0 c.from_residual-in_err-assigned.result c.from_residual-in_err-assigned.ensures.1
+    fault_exit (λ f. f) (IsLineCause t old c.args.label.now c.args.pairs.now) c.in_err-assigned.field-0.0 c.from_residual-in_err-assigned.result
+    c.from_residual-in_err-assigned.ensures.1
     (assign_caused t old c.intern.new.self.names c.args.label.now c.args.pairs.now (uses g (goal.at.returns-in_err-assigned-clause-still g c).In_ok-label) c.in_err-assigned.field-0.0 c.in_err-assigned.ensures.refused c.in_err-assigned.ensures.counts)
 
 pub returns-in_err-blocks-clause-still : goal.returns-in_err-blocks-clause-still

@@ -39,7 +39,8 @@ use Rattle.rec_bytes.specs.Space.{SameButReads, State}
 use Rattle.graph_ops.proofs.EntriesFaults.{held_value, other_leaves, owner_file, properties_leave}
 use Rattle.graph_ops.proofs.Broken.{blames_both, blames_more, interned_in_use, interned_read, key_blamed, value_blamed}
 use Rattle.graph_ops.proofs.Adding.{interned_beside, met_beside}
-use Rattle.graph_ops.proofs.Causes.{absent_caused, broken_left, caused_left, entry_caused, failure_caused, intern_blamed, key_caused, set_blamed, set_cause_map, set_caused}
+use Rattle.graph_ops.proofs.Causes.{absent_caused, broken_left, caused_left, entry_caused, failure_caused}
+use Rattle.graph_ops.proofs.Causes.{intern_blamed, key_caused, set_blamed, set_cause_map, set_caused}
 use Rattle.graph_ops.proofs.DiskCauses.{change_cause_passed, intern_cause_passed, later_on, set_cause_passed}
 use Rattle.graph_ops.proofs.Elements.{same_both}
 use Rattle.plain_graph.specs.Refusals.{change_reasons}
@@ -74,7 +75,8 @@ pub returns-in_err-owner-clause-refused : goal.returns-in_err-owner-clause-refus
 returns-in_err-owner-clause-refused g c tells whole =
     let store = midway _ _ whole in
     let s = g.S.Reads.state c.args.space.now in
-    fault_exit (λ f. f) (IsRefusal s.shape.limit (graph_in s) (commands.Set c.args.target c.args.key.now c.args.value.now)) c.in_err-owner.field-0.0 c.from_residual.result c.from_residual.ensures.1
+    fault_exit (λ f. f) (IsRefusal s.shape.limit (graph_in s) (commands.Set c.args.target c.args.key.now c.args.value.now)) c.in_err-owner.field-0.0
+    c.from_residual.result c.from_residual.ensures.1
     (set_missing s.shape.limit (graph_in s) c.args.target c.args.key.now c.args.value.now c.in_err-owner.field-0.0 (c.in_err-owner.ensures.refused tells c.args.names.now.names store))
 
 pub returns-in_err-number-clause-refused : goal.returns-in_err-number-clause-refused
@@ -82,7 +84,8 @@ returns-in_err-number-clause-refused g c tells whole =
     let store = midway _ _ whole in
     let s = g.S.Reads.state c.args.space.now in
     let old = c.args.names.now.names in
-    fault_exit of_intern (IsRefusal s.shape.limit (graph_in s) (commands.Set c.args.target c.args.key.now c.args.value.now)) c.in_err-number.field-0.0 c.from_residual-in_err-number.result c.from_residual-in_err-number.ensures.1
+    fault_exit of_intern (IsRefusal s.shape.limit (graph_in s) (commands.Set c.args.target c.args.key.now c.args.value.now)) c.in_err-number.field-0.0
+    c.from_residual-in_err-number.result c.from_residual-in_err-number.ensures.1
     (set_unnamed s old c.args.target c.args.key.now c.args.value.now store (c.in_ok-owner.ensures.there tells) c.in_err-number.field-0.0
     (subst (λ k. IsFullFault old k c.in_err-number.field-0.0) c.as_bytes.ensures c.in_err-number.ensures.full_only))
 
@@ -109,33 +112,41 @@ module _ (g : Over) (c : After-indexed_value g) (tells : g.S.Reads.tells) (store
   store_found = store_read (g.S.Reads.state c.args.space.now) (g.S.Reads.state c.find_owner.new.space) c.args.names.now.names c.find_owner.ensures.state store
 
   there : has_element (graph_in (g.S.Reads.state c.find_owner.new.space)) c.args.target ≡ true
-  there = there_read (g.S.Reads.state c.args.space.now) (g.S.Reads.state c.find_owner.new.space) c.args.target c.find_owner.ensures.state (c.in_ok-owner.ensures.there tells)
+  there = there_read (g.S.Reads.state c.args.space.now) (g.S.Reads.state c.find_owner.new.space) c.args.target c.find_owner.ensures.state
+      (c.in_ok-owner.ensures.there tells)
 
   kept : KeepsElements (g.S.Reads.state c.find_owner.new.space) (g.S.Reads.state c.intern.new.space) c.intern.new.self.names
-  kept = keeps_interned (g.S.Reads.state c.find_owner.new.space) (g.S.Reads.state c.intern.new.space) c.args.names.now.names c.intern.new.self.names c.args.key.now
+  kept = keeps_interned (g.S.Reads.state c.find_owner.new.space) (g.S.Reads.state c.intern.new.space) c.args.names.now.names c.intern.new.self.names
+      c.args.key.now
       (subst (λ k. g.S.Reads.state c.intern.new.space ≡ interned (g.S.Reads.state c.find_owner.new.space) c.args.names.now.names k) (text_is g c) (c.in_ok-number.ensures.ok tells))
       (uses g c) c.requires.0 (room g c) store_found
 
   -- so it is after the value that was there was read
   kept_then : KeepsElements (g.S.Reads.state c.find_owner.new.space) (g.S.Reads.state c.indexed_value.new.space) c.intern.new.self.names
-  kept_then = kept_read (g.S.Reads.state c.find_owner.new.space) (g.S.Reads.state c.intern.new.space) (g.S.Reads.state c.indexed_value.new.space) c.intern.new.self.names c.indexed_value.ensures.same kept
+  kept_then = kept_read (g.S.Reads.state c.find_owner.new.space) (g.S.Reads.state c.intern.new.space) (g.S.Reads.state c.indexed_value.new.space)
+      c.intern.new.self.names c.indexed_value.ensures.same kept
 
   known : HasKey (g.S.Reads.state c.indexed_value.new.space) c.in_ok-owner.owner c.in_ok-number.number
   known = set_known (g.S.Reads.state c.find_owner.new.space) c.args.names.now.names c.args.target c.args.key.now c.args.value.now store_found there
-      (g.S.Reads.state c.indexed_value.new.space) c.intern.new.self.names c.in_ok-number.number c.in_ok-owner.owner c.in_ok-owner.ensures.owner (uses g c) kept_then (few g c) (at g c)
+      (g.S.Reads.state c.indexed_value.new.space) c.intern.new.self.names c.in_ok-number.number c.in_ok-owner.owner c.in_ok-owner.ensures.owner (uses g c)
+      kept_then (few g c) (at g c)
 
   refused : (fault : SetFault) → IsSetRefusal (g.S.Reads.state c.indexed_value.new.space) c.in_ok-owner.owner c.in_ok-number.number c.args.value.now fault
-      → IsRefusal (g.S.Reads.state c.args.space.now).shape.limit (graph_in (g.S.Reads.state c.args.space.now)) (commands.Set c.args.target c.args.key.now c.args.value.now) (of_set fault)
-  refused fault why = subst (λ z. IsRefusal z.shape.limit (graph_in z) (commands.Set c.args.target c.args.key.now c.args.value.now) (of_set fault)) c.find_owner.ensures.state
+      → IsRefusal (g.S.Reads.state c.args.space.now).shape.limit (graph_in (g.S.Reads.state c.args.space.now))
+      (commands.Set c.args.target c.args.key.now c.args.value.now) (of_set fault)
+  refused fault why = subst (λ z. IsRefusal z.shape.limit (graph_in z) (commands.Set c.args.target c.args.key.now c.args.value.now) (of_set fault))
+      c.find_owner.ensures.state
       (set_refused (g.S.Reads.state c.find_owner.new.space) c.args.names.now.names c.args.target c.args.key.now c.args.value.now store_found there
-      (g.S.Reads.state c.indexed_value.new.space) c.intern.new.self.names c.in_ok-number.number c.in_ok-owner.owner c.in_ok-owner.ensures.owner (uses g c) kept_then (few g c) (at g c) fault why)
+      (g.S.Reads.state c.indexed_value.new.space) c.intern.new.self.names c.in_ok-number.number c.in_ok-owner.owner c.in_ok-owner.ensures.owner (uses g c)
+      kept_then (few g c) (at g c) fault why)
 
 -- the element was read, and the key has its record
 key_written : (g : Over) (c : After-intern g) → WritesAtMost 1 (g.S.Reads.state c.args.space.now) (g.S.Reads.state c.intern.new.space)
 key_written g c = then_written (none_written _ _ c.find_owner.ensures.state) (one_written _ _ _ c.intern.ensures.writes)
 
 -- the value that an index may have is read of a store with all rules
-full_before : (g : Over) (c : After-indexed_value g) → g.S.Reads.tells → IsStore (g.S.Reads.state c.args.space.now) c.args.names.now.names → IsStore (g.S.Reads.state c.intern.new.space) c.intern.new.self.names
+full_before : (g : Over) (c : After-indexed_value g) → g.S.Reads.tells → IsStore (g.S.Reads.state c.args.space.now) c.args.names.now.names
+    → IsStore (g.S.Reads.state c.intern.new.space) c.intern.new.self.names
 full_before g c tells whole =
     let s = g.S.Reads.state c.args.space.now in
     let m = g.S.Reads.state c.find_owner.new.space in
@@ -158,7 +169,8 @@ returns-in_err-held-clause-refused g c tells whole =
     let i = g.S.Reads.state c.intern.new.space in
     let command = commands.Set c.args.target c.args.key.now c.args.value.now in
     let here = full_before g after tells whole in
-    fault_exit (λ f. f) (IsRefusal s.shape.limit (graph_in s) command) c.in_err-held.field-0.0 c.from_residual-in_err-held.result c.from_residual-in_err-held.ensures.1
+    fault_exit (λ f. f) (IsRefusal s.shape.limit (graph_in s) command) c.in_err-held.field-0.0 c.from_residual-in_err-held.result
+    c.from_residual-in_err-held.ensures.1
     (outside_refused change_reasons s.shape.limit (graph_in s) command c.in_err-held.field-0.0 (c.in_err-held.ensures.sound tells (wanted_in i.records) here.store.indexes here.store.store (used_before g after tells)))
 
 pub returns-in_err-held-clause-caused : goal.returns-in_err-held-clause-caused
@@ -183,14 +195,16 @@ returns-in_err-held-clause-refused_writes g c = on_any_err _ _ (more_written (om
 
 pub returns-in_err-held-clause-cause : goal.returns-in_err-held-clause-cause
 returns-in_err-held-clause-cause g c =
-    change_cause_passed _ _ _ c.from_residual-in_err-held.result c.in_err-held.field-0.0 (later_on c.in_ok-owner.ensures.cause.later c.in_ok-number.ensures.cause.later) c.in_err-held.ensures.cause c.from_residual-in_err-held.ensures.1
+    change_cause_passed _ _ _ c.from_residual-in_err-held.result c.in_err-held.field-0.0
+    (later_on c.in_ok-owner.ensures.cause.later c.in_ok-number.ensures.cause.later) c.in_err-held.ensures.cause c.from_residual-in_err-held.ensures.1
 
 pub returns-in_err-released-clause-refused : goal.returns-in_err-released-clause-refused
 returns-in_err-released-clause-refused g c tells whole =
     let store = midway _ _ whole in
     let s = g.S.Reads.state c.args.space.now in
     let after = (goal.at.returns-in_err-released-clause-refused g c).After-indexed_value in
-    fault_exit of_set (IsRefusal s.shape.limit (graph_in s) (commands.Set c.args.target c.args.key.now c.args.value.now)) c.in_err-released.field-0.0 c.from_residual-in_err-released.result c.from_residual-in_err-released.ensures.1
+    fault_exit of_set (IsRefusal s.shape.limit (graph_in s) (commands.Set c.args.target c.args.key.now c.args.value.now)) c.in_err-released.field-0.0
+    c.from_residual-in_err-released.result c.from_residual-in_err-released.ensures.1
     (refused g after tells store c.in_err-released.field-0.0 (c.in_err-released.ensures.refused tells (known g after tells store)))
 
 pub returns-in_err-released-clause-leaves : goal.returns-in_err-released-clause-leaves
@@ -220,7 +234,8 @@ returns-clause-light g c =
     omega arith
 
 -- what the weight is
-weight_is : (known now blocks old new of released entries held : ℕ) → known ≡ old → now ≡ new → blocks ≡ of → entries ≡ held → 2 + blocks + released + (now - known) + entries ≡ 2 + of + released + (new - old) + held
+weight_is : (known now blocks old new of released entries held : ℕ) → known ≡ old → now ≡ new → blocks ≡ of → entries ≡ held
+    → 2 + blocks + released + (now - known) + entries ≡ 2 + of + released + (new - old) + held
 weight_is known now blocks old new of released entries held a b e h = omega arith
 
 -- ---- the value and its entries
@@ -261,9 +276,11 @@ module _ (g : Over) (c : After-change_entry g) where
     full_then = whole_read i n new c.indexed_value.ensures.same (full_before g after tells whole)
 
     sets : SetsValue n u (owner_of c.args.target) c.in_ok-number.number c.args.value.now c.in_ok-released.released
-    sets = subst (λ (o : Owner). SetsValue n u o c.in_ok-number.number c.args.value.now c.in_ok-released.released) c.in_ok-owner.ensures.owner (c.in_ok-released.ensures.set tells (known g after tells mid))
+    sets = subst (λ (o : Owner). SetsValue n u o c.in_ok-number.number c.args.value.now c.in_ok-released.released) c.in_ok-owner.ensures.owner
+        (c.in_ok-released.ensures.set tells (known g after tells mid))
 
-    alone : SetsAlone n u (owner_of c.args.target) (listed_at n (owner_of c.args.target) owned element) c.in_ok-number.number c.args.value.now c.in_ok-released.released
+    alone : SetsAlone n u (owner_of c.args.target) (listed_at n (owner_of c.args.target) owned element) c.in_ok-number.number c.args.value.now
+        c.in_ok-released.released
     alone = subst (λ (o : Owner). (es : List Property) → OwnsProperties n o es → IsKnownKey n c.in_ok-number.number → SetsAlone n u o es c.in_ok-number.number c.args.value.now c.in_ok-released.released) c.in_ok-owner.ensures.owner (c.in_ok-released.ensures.alone tells)
         (listed_at n (owner_of c.args.target) owned element) (owns_listed n (owner_of c.args.target) owned element) (known g after tells mid).known
 
@@ -272,10 +289,12 @@ module _ (g : Over) (c : After-change_entry g) where
 
     is_held : IsIndexedValue n.records (map (pair_of n.records) full_then.store.indexes.definitions) c.args.target c.in_ok-number.number c.in_ok-held.held
     is_held = subst (λ (z : State). (ix : AreIndexed z.records (wanted_in z.records)) → IsIndexedValue z.records (map (pair_of z.records) ix.definitions) c.args.target c.in_ok-number.number c.in_ok-held.held) (sym c.indexed_value.ensures.same)
-        (λ ix. c.in_ok-held.ensures.held tells (wanted_in i.records) ix (full_before g after tells whole).store.store (used_before g after tells)) full_then.store.indexes
+        (λ ix. c.in_ok-held.ensures.held tells (wanted_in i.records) ix (full_before g after tells whole).store.store (used_before g after tells))
+        full_then.store.indexes
 
 -- the node of the value that was held was given out
-node_low : (g : Over) (c : After-change_entry g) (tells : g.S.Reads.tells) → IsStore (g.S.Reads.state c.args.space.now) c.args.names.now.names → IfSome c.in_ok-held.held (λ h. h.node < high (g.S.Reads.state c.set.new.space).records format.nodes_file)
+node_low : (g : Over) (c : After-change_entry g) (tells : g.S.Reads.tells) → IsStore (g.S.Reads.state c.args.space.now) c.args.names.now.names
+    → IfSome c.in_ok-held.held (λ h. h.node < high (g.S.Reads.state c.set.new.space).records format.nodes_file)
 node_low g c tells whole =
     let n = g.S.Reads.state c.indexed_value.new.space in
     let change = sets g c tells whole in
@@ -313,11 +332,13 @@ returns-clause-made g c tells whole =
       graph = entries.graph tells (wanted_in n.records) indexed change.changes.store;
       idle = c.change_entry.ensures.idle;
       keeps = entries.keeps tells (wanted_in n.records) indexed change.changes.store (node_low g after tells whole);
-      indexed = entries.changed tells (wanted_in n.records) indexed change.changes.store (wants_held n.records target number (map (pair_of n.records) ready.store.indexes.definitions) held (is_held g after tells whole));
+      indexed = entries.changed tells (wanted_in n.records) indexed change.changes.store
+          (wants_held n.records target number (map (pair_of n.records) ready.store.indexes.definitions) held (is_held g after tells whole));
     } in
     made_read s m v new (commands.Set target key value) Done weight c.find_owner.ensures.state
     (set_any m old target key value (store_found g back tells mid) (there g back tells mid) n u v new number (uses g back) (kept_then g back tells mid) (few g back) (at g back)
-    ready (owned g after) (element g after tells whole) c.in_ok-released.released change (g.met.S.Reads.onward_shape _ _ c.set.ensures.onward) (alone g after tells whole) held made (is_held g after tells whole)
+    ready (owned g after) (element g after tells whole) c.in_ok-released.released change (g.met.S.Reads.onward_shape _ _ c.set.ensures.onward)
+    (alone g after tells whole) held made (is_held g after tells whole)
     (g.met.S.Reads.onward_shape _ _ c.change_entry.ensures.onward) weight
     (weight_is c.count-known.result c.count.result c.block_count.result (length old) (length new) (blocks_of value) c.in_ok-released.released c.in_ok-entries.entries (old_weight held + new_weight held) c.count-known.ensures.value c.count.ensures.value c.block_count.ensures.is entries.weight))
 
@@ -331,7 +352,9 @@ returns-clause-writes g c =
     let old = c.args.names.now.names in
     let new = c.intern.new.self.names in
     let named = name_written m t old new c.as_bytes.result.now c.in_ok-number.ensures.names (λ k. (c.intern.ensures.known k).1) c.intern.ensures.writes in
-    let weight = weight_is c.count-known.result c.count.result c.block_count.result (length old) (length new) (blocks_of c.args.value.now) c.in_ok-released.released c.in_ok-entries.entries c.in_ok-entries.entries c.count-known.ensures.value c.count.ensures.value c.block_count.ensures.is refl in
+    let weight = weight_is c.count-known.result c.count.result c.block_count.result (length old) (length new) (blocks_of c.args.value.now)
+    c.in_ok-released.released c.in_ok-entries.entries c.in_ok-entries.entries c.count-known.ensures.value c.count.ensures.value c.block_count.ensures.is
+    refl in
     more_written (omega arith) (then_written (none_written s m c.find_owner.ensures.state) (then_written named (then_written (none_written _ _ c.indexed_value.ensures.same)
     (then_written c.in_ok-released.ensures.writes (index_written c.in_ok-entries.entries u v c.in_ok-entries.ensures.touches)))))
 
@@ -340,7 +363,8 @@ returns-clause-writes g c =
 pub returns-in_err-owner-clause-counts : goal.returns-in_err-owner-clause-counts
 returns-in_err-owner-clause-counts g c tells =
     let shape = (g.S.Reads.state c.args.space.now).shape in
-    fault_exit (λ f. f) (IsSetCount shape) c.in_err-owner.field-0.0 c.from_residual.result c.from_residual.ensures.1 (element_exact shape c.in_err-owner.field-0.0 c.in_err-owner.ensures.missing)
+    fault_exit (λ f. f) (IsSetCount shape) c.in_err-owner.field-0.0 c.from_residual.result c.from_residual.ensures.1
+    (element_exact shape c.in_err-owner.field-0.0 c.in_err-owner.ensures.missing)
 
 pub returns-in_err-number-clause-counts : goal.returns-in_err-number-clause-counts
 returns-in_err-number-clause-counts g c tells =
@@ -352,7 +376,8 @@ pub returns-in_err-released-clause-counts : goal.returns-in_err-released-clause-
 returns-in_err-released-clause-counts g c tells =
     let s = g.S.Reads.state c.args.space.now in
     let t = g.S.Reads.state c.set.new.space in
-    let shape : t.shape ≡ s.shape = g.met.S.Reads.onward_shape _ _ c.set.ensures.onward ∙ g.met.S.Reads.onward_shape _ _ c.indexed_value.ensures.onward ∙ g.met.S.Reads.onward_shape _ _ c.intern.ensures.onward ∙ g.met.S.Reads.onward_shape _ _ c.find_owner.ensures.onward in
+    let shape : t.shape ≡ s.shape = g.met.S.Reads.onward_shape _ _ c.set.ensures.onward ∙ g.met.S.Reads.onward_shape _ _ c.indexed_value.ensures.onward
+    ∙ g.met.S.Reads.onward_shape _ _ c.intern.ensures.onward ∙ g.met.S.Reads.onward_shape _ _ c.find_owner.ensures.onward in
     fault_exit of_set (IsSetCount s.shape) c.in_err-released.field-0.0 c.from_residual-in_err-released.result c.from_residual-in_err-released.ensures.1
     (subst (λ (h : Shape). IsSetCount h (of_set c.in_err-released.field-0.0)) shape (set_exact _ _ _ t c.in_err-released.field-0.0 (c.in_err-released.ensures.caused tells)))
 
@@ -405,14 +430,16 @@ pub returns-in_err-owner-clause-damaged : goal.returns-in_err-owner-clause-damag
 returns-in_err-owner-clause-damaged g c tells =
     let s = g.S.Reads.state c.args.space.now in
     let named = interned s c.args.names.now.names c.args.key.now in
-    fault_exit (λ f. f) (BlamesGiven s named (g.S.Reads.state c.find_owner.new.space) (HasValue s c.args.target c.args.names.now.names c.args.key.now)) c.in_err-owner.field-0.0 c.from_residual.result c.from_residual.ensures.1
+    fault_exit (λ f. f) (BlamesGiven s named (g.S.Reads.state c.find_owner.new.space) (HasValue s c.args.target c.args.names.now.names c.args.key.now))
+    c.in_err-owner.field-0.0 c.from_residual.result c.from_residual.ensures.1
     (blames_more _ _ (λ damage broken. inl broken) c.in_err-owner.field-0.0 (c.in_err-owner.ensures.damaged tells))
 
 pub returns-in_err-number-clause-damaged : goal.returns-in_err-number-clause-damaged
 returns-in_err-number-clause-damaged g c tells =
     let s = g.S.Reads.state c.args.space.now in
     let named = interned s c.args.names.now.names c.args.key.now in
-    fault_exit of_intern (BlamesGiven s named (g.S.Reads.state c.intern.new.space) (HasValue s c.args.target c.intern.new.self.names c.args.key.now)) c.in_err-number.field-0.0 c.from_residual-in_err-number.result c.from_residual-in_err-number.ensures.1
+    fault_exit of_intern (BlamesGiven s named (g.S.Reads.state c.intern.new.space) (HasValue s c.args.target c.intern.new.self.names c.args.key.now))
+    c.in_err-number.field-0.0 c.from_residual-in_err-number.result c.from_residual-in_err-number.ensures.1
     (key_blamed s named (g.S.Reads.state c.intern.new.space) _ c.in_err-number.field-0.0)
 
 pub returns-in_err-released-clause-damaged : goal.returns-in_err-released-clause-damaged
@@ -426,19 +453,25 @@ returns-in_err-released-clause-damaged g c tells =
     let named = interned s names key in
     let is = subst (λ k. t ≡ interned m names k) (text_is g after) (c.in_ok-number.ensures.ok tells) in
     let v = g.S.Reads.state c.indexed_value.new.space in
-    let same = same_both named t v (subst (SameButReads named) (sym is) (interned_read s m names key c.find_owner.ensures.state)) c.indexed_value.ensures.same in
+    let same = same_both named t v (subst (SameButReads named) (sym is) (interned_read s m names key c.find_owner.ensures.state))
+    c.indexed_value.ensures.same in
     let used = subst (λ (z : State). IsInUse z.records (owner_of c.args.target)) (sym c.find_owner.ensures.state) (c.in_ok-owner.ensures.in_use tells) in
-    let kept = subst (λ (z : State). IsInUse z.records (owner_of c.args.target)) (sym c.indexed_value.ensures.same) (subst (λ (z : State). IsInUse z.records (owner_of c.args.target)) (sym is) (interned_in_use m names key c.args.target used)) in
-    fault_exit of_set (BlamesGiven s named (g.S.Reads.state c.set.new.space) (HasValue s c.args.target c.intern.new.self.names c.args.key.now)) c.in_err-released.field-0.0 c.from_residual-in_err-released.result c.from_residual-in_err-released.ensures.1
+    let kept = subst (λ (z : State). IsInUse z.records (owner_of c.args.target)) (sym c.indexed_value.ensures.same)
+    (subst (λ (z : State). IsInUse z.records (owner_of c.args.target)) (sym is) (interned_in_use m names key c.args.target used)) in
+    fault_exit of_set (BlamesGiven s named (g.S.Reads.state c.set.new.space) (HasValue s c.args.target c.intern.new.self.names c.args.key.now))
+    c.in_err-released.field-0.0 c.from_residual-in_err-released.result c.from_residual-in_err-released.ensures.1
     (value_blamed s named v (g.S.Reads.state c.set.new.space) _ same c.in_err-released.field-0.0 (c.in_err-released.ensures.damaged tells (subst (IsInUse v.records) (sym c.in_ok-owner.ensures.owner) kept)))
 
 pub returns-in_err-number-clause-cause : goal.returns-in_err-number-clause-cause
 returns-in_err-number-clause-cause g c =
-    intern_cause_passed _ _ _ c.from_residual-in_err-number.result c.in_err-number.field-0.0 c.in_ok-owner.ensures.cause.later c.in_err-number.ensures.cause c.from_residual-in_err-number.ensures.1
+    intern_cause_passed _ _ _ c.from_residual-in_err-number.result c.in_err-number.field-0.0 c.in_ok-owner.ensures.cause.later c.in_err-number.ensures.cause
+    c.from_residual-in_err-number.ensures.1
 
 pub returns-in_err-released-clause-cause : goal.returns-in_err-released-clause-cause
 returns-in_err-released-clause-cause g c =
-    set_cause_passed _ _ _ c.from_residual-in_err-released.result c.in_err-released.field-0.0 (later_on (later_on c.in_ok-owner.ensures.cause.later c.in_ok-number.ensures.cause.later) c.in_ok-held.ensures.cause.later) c.in_err-released.ensures.cause c.from_residual-in_err-released.ensures.1
+    set_cause_passed _ _ _ c.from_residual-in_err-released.result c.in_err-released.field-0.0
+    (later_on (later_on c.in_ok-owner.ensures.cause.later c.in_ok-number.ensures.cause.later) c.in_ok-held.ensures.cause.later)
+    c.in_err-released.ensures.cause c.from_residual-in_err-released.ensures.1
 
 -- ---- and by the space as it is left alone
 
@@ -451,7 +484,8 @@ returns-in_err-owner-clause-still g c tells =
     let fault = c.in_err-owner.field-0.0 in
     fault_exit (λ f. f) (IsStillCaused command t names names) fault c.from_residual.result c.from_residual.ensures.1
     (record {
-      caused = caused_left command s t t names names c.find_owner.ensures.state fault (absent_caused command s t names names c.args.target (λ id e. e) (λ id e. e) fault (c.in_err-owner.ensures.absent tells));
+      caused = caused_left command s t t names names c.find_owner.ensures.state fault
+          (absent_caused command s t names names c.args.target (λ id e. e) (λ id e. e) fault (c.in_err-owner.ensures.absent tells));
       damaged = broken_left s t c.find_owner.ensures.state fault (c.in_err-owner.ensures.damaged tells);
     })
 
@@ -464,7 +498,8 @@ returns-in_err-number-clause-still g c tells =
     let fault = c.in_err-number.field-0.0 in
     fault_exit of_intern (IsStillCaused command t names now) fault c.from_residual-in_err-number.result c.from_residual-in_err-number.ensures.1
     (record {
-      caused = key_caused t t names now c.args.target c.args.key.now c.args.value.now fault (subst (λ k. IsFullFault names k fault) c.as_bytes.ensures c.in_err-number.ensures.full_only);
+      caused = key_caused t t names now c.args.target c.args.key.now c.args.value.now fault
+          (subst (λ k. IsFullFault names k fault) c.as_bytes.ensures c.in_err-number.ensures.full_only);
       damaged = intern_blamed _ fault;
     })
 
@@ -485,14 +520,17 @@ returns-in_err-released-clause-still g c tells =
     let fault = c.in_err-released.field-0.0 in
     let numbered = c.in_ok-number.ensures.number ∙ ap (λ k. Some k) c.as_bytes.ensures in
     let why : IsSetCause (IsCrowded t.records owner number) (LacksMet t.records owner number) blocks t fault
-    = set_cause_map _ _ _ _ (λ k. subst (λ (z : State). IsCrowded z.records owner number) (sym k.1) k.0) (λ k. subst (λ (z : State). LacksMet z.records owner number) (sym k.1) k.0) blocks t fault (c.in_err-released.ensures.caused tells) in
+    = set_cause_map _ _ _ _ (λ k. subst (λ (z : State). IsCrowded z.records owner number) (sym k.1) k.0)
+    (λ k. subst (λ (z : State). LacksMet z.records owner number) (sym k.1) k.0) blocks t fault (c.in_err-released.ensures.caused tells) in
     let is = subst (λ k. n ≡ interned m names k) (text_is g after) (c.in_ok-number.ensures.ok tells) in
     let used = subst (λ (z : State). IsInUse z.records (owner_of target)) (sym c.find_owner.ensures.state) (c.in_ok-owner.ensures.in_use tells) in
     let v = g.S.Reads.state c.indexed_value.new.space in
-    let kept = subst (λ (z : State). IsInUse z.records (owner_of target)) (sym c.indexed_value.ensures.same) (subst (λ (z : State). IsInUse z.records (owner_of target)) (sym is) (interned_in_use m names key target used)) in
+    let kept = subst (λ (z : State). IsInUse z.records (owner_of target)) (sym c.indexed_value.ensures.same)
+    (subst (λ (z : State). IsInUse z.records (owner_of target)) (sym is) (interned_in_use m names key target used)) in
     fault_exit of_set (IsStillCaused command t names now) fault c.from_residual-in_err-released.result c.from_residual-in_err-released.ensures.1
     (record {
-      caused = set_caused t t names now target key c.args.value.now number numbered t.records refl fault (subst (λ (o : Owner). IsSetCause (IsCrowded t.records o number) (LacksMet t.records o number) blocks t fault) c.in_ok-owner.ensures.owner why);
+      caused = set_caused t t names now target key c.args.value.now number numbered t.records refl fault
+          (subst (λ (o : Owner). IsSetCause (IsCrowded t.records o number) (LacksMet t.records o number) blocks t fault) c.in_ok-owner.ensures.owner why);
       damaged = set_blamed t fault (c.in_err-released.ensures.still tells (subst (IsInUse v.records) (sym c.in_ok-owner.ensures.owner) kept));
     })
 
@@ -507,7 +545,8 @@ returns-in_err-entries-clause-leaves g c tells =
 
 pub returns-in_err-entries-clause-cause : goal.returns-in_err-entries-clause-cause
 returns-in_err-entries-clause-cause g c =
-    change_cause_passed _ _ _ c.from_residual-in_err-entries.result c.in_err-entries.field-0.0 (later_on (later_on (later_on c.in_ok-owner.ensures.cause.later c.in_ok-number.ensures.cause.later) c.in_ok-held.ensures.cause.later) c.in_ok-released.ensures.cause.later)
+    change_cause_passed _ _ _ c.from_residual-in_err-entries.result c.in_err-entries.field-0.0
+    (later_on (later_on (later_on c.in_ok-owner.ensures.cause.later c.in_ok-number.ensures.cause.later) c.in_ok-held.ensures.cause.later) c.in_ok-released.ensures.cause.later)
     c.in_err-entries.ensures.cause c.from_residual-in_err-entries.ensures.1
 
 pub returns-in_err-held-clause-damaged : goal.returns-in_err-held-clause-damaged
@@ -520,8 +559,10 @@ returns-in_err-held-clause-damaged g c tells =
     let names = c.args.names.now.names in
     let key = c.args.key.now in
     let named = interned s names key in
-    let same : SameButReads named t = subst (SameButReads named) (sym (subst (λ k. t ≡ interned m names k) (text_is g after) (c.in_ok-number.ensures.ok tells))) (interned_read s m names key c.find_owner.ensures.state) in
-    fault_exit (λ f. f) (BlamesGiven s named v (HasValue s c.args.target c.intern.new.self.names c.args.key.now)) c.in_err-held.field-0.0 c.from_residual-in_err-held.result c.from_residual-in_err-held.ensures.1
+    let same : SameButReads named t = subst (SameButReads named) (sym (subst (λ k. t ≡ interned m names k) (text_is g after) (c.in_ok-number.ensures.ok tells)))
+    (interned_read s m names key c.find_owner.ensures.state) in
+    fault_exit (λ f. f) (BlamesGiven s named v (HasValue s c.args.target c.intern.new.self.names c.args.key.now)) c.in_err-held.field-0.0
+    c.from_residual-in_err-held.result c.from_residual-in_err-held.ensures.1
     (blames_more _ _ (λ damage broken. inr (inl (subst (λ (z : State). IsBroken z damage) same broken))) c.in_err-held.field-0.0 (c.in_err-held.ensures.damaged tells (used_before g after tells)))
 
 pub returns-in_err-entries-clause-damaged : goal.returns-in_err-entries-clause-damaged
@@ -542,11 +583,14 @@ returns-in_err-entries-clause-damaged g c tells =
     = met_beside m.records t.records c.args.target beside ∙ ap (λ (z : State). properties_met z.records (owner_of c.args.target)) c.find_owner.ensures.state in
     let met = subst (λ ps. IfSome c.in_ok-held.held (λ h. h.value ≡ value_of ps c.in_ok-number.number)) lead (c.in_ok-held.ensures.met tells) in
     let fault = c.in_err-entries.field-0.0 in
-    fault_exit (λ f. f) (BlamesGiven s named v (HasValue s c.args.target c.intern.new.self.names c.args.key.now)) fault c.from_residual-in_err-entries.result c.from_residual-in_err-entries.ensures.1
+    fault_exit (λ f. f) (BlamesGiven s named v (HasValue s c.args.target c.intern.new.self.names c.args.key.now)) fault c.from_residual-in_err-entries.result
+    c.from_residual-in_err-entries.ensures.1
     (blames_more _ _ (λ damage told.
     let read : IsAsFound s m damage = ap (λ (z : State). z.records (key_in damage.file damage.id)) c.find_owner.ensures.state in
     let later : IsAsFound t n damage = ap (λ (z : State). z.records (key_in damage.file damage.id)) c.indexed_value.ensures.same in
-    let left : IsAsFound s u damage = properties_leave g.S.Reads.tells _ _ n u c.in_ok-owner.owner (owner_file c.in_ok-owner.owner c.args.target c.in_ok-owner.ensures.owner) tells c.set.ensures.at_most damage told.0.0 ∙ later ∙ other_leaves m t format.names_file (λ e. omega arith) (λ e. omega arith) beside damage told.0.0 ∙ read in
+    let left : IsAsFound s u damage = properties_leave g.S.Reads.tells _ _ n u c.in_ok-owner.owner
+    (owner_file c.in_ok-owner.owner c.args.target c.in_ok-owner.ensures.owner) tells c.set.ensures.at_most damage told.0.0 ∙ later
+    ∙ other_leaves m t format.names_file (λ e. omega arith) (λ e. omega arith) beside damage told.0.0 ∙ read in
     inr (inr (told.0, ⊎_elim (λ found. inl (found ∙ left)) (λ some. inr (held_value s c.args.target c.intern.new.self.names c.in_ok-number.number key c.in_ok-held.held (at g after) met some)) told.1))) fault
     (blames_both _ _ fault (c.in_err-entries.ensures.blames tells) (c.in_err-entries.ensures.untouched tells)))
 
@@ -601,7 +645,8 @@ returns-in_err-entries-clause-caused g c tells =
     let names = c.args.names.now.names in
     let now = c.intern.new.self.names in
     let node = of_node g (goal.at.returns-in_err-entries-clause-caused g c).In_err-entries in
-    fault_exit (λ f. f) (IsCaused (commands.Set c.args.target c.args.key.now c.args.value.now) s t names now) c.in_err-entries.field-0.0 c.from_residual-in_err-entries.result c.from_residual-in_err-entries.ensures.1
+    fault_exit (λ f. f) (IsCaused (commands.Set c.args.target c.args.key.now c.args.value.now) s t names now) c.in_err-entries.field-0.0
+    c.from_residual-in_err-entries.result c.from_residual-in_err-entries.ensures.1
     (entry_caused (commands.Set c.args.target c.args.key.now c.args.value.now) s t names now (inr (refl, node)) c.in_err-entries.field-0.0 (c.in_err-entries.ensures.full tells))
 
 pub returns-in_err-entries-clause-still : goal.returns-in_err-entries-clause-still
@@ -611,9 +656,11 @@ returns-in_err-entries-clause-still g c tells =
     let now = c.intern.new.self.names in
     let fault = c.in_err-entries.field-0.0 in
     let node = of_node g (goal.at.returns-in_err-entries-clause-still g c).In_err-entries in
-    fault_exit (λ f. f) (IsStillCaused (commands.Set c.args.target c.args.key.now c.args.value.now) t names now) fault c.from_residual-in_err-entries.result c.from_residual-in_err-entries.ensures.1
+    fault_exit (λ f. f) (IsStillCaused (commands.Set c.args.target c.args.key.now c.args.value.now) t names now) fault c.from_residual-in_err-entries.result
+    c.from_residual-in_err-entries.ensures.1
     (record {
-      caused = entry_caused (commands.Set c.args.target c.args.key.now c.args.value.now) t t names now (inr (refl, node)) fault (c.in_err-entries.ensures.full tells);
+      caused = entry_caused (commands.Set c.args.target c.args.key.now c.args.value.now) t t names now (inr (refl, node)) fault
+          (c.in_err-entries.ensures.full tells);
       damaged = blames_more _ _ (λ damage entry. entry.1) fault (c.in_err-entries.ensures.blames tells);
     })
 
@@ -621,7 +668,9 @@ pub returns-in_err-entries-clause-counts : goal.returns-in_err-entries-clause-co
 returns-in_err-entries-clause-counts g c tells =
     let s = g.S.Reads.state c.args.space.now in
     let t = g.S.Reads.state c.change_entry.new.space in
-    let shape : t.shape ≡ s.shape = g.met.S.Reads.onward_shape _ _ c.change_entry.ensures.onward ∙ g.met.S.Reads.onward_shape _ _ c.set.ensures.onward ∙ g.met.S.Reads.onward_shape _ _ c.indexed_value.ensures.onward ∙ g.met.S.Reads.onward_shape _ _ c.intern.ensures.onward ∙ g.met.S.Reads.onward_shape _ _ c.find_owner.ensures.onward in
+    let shape : t.shape ≡ s.shape = g.met.S.Reads.onward_shape _ _ c.change_entry.ensures.onward ∙ g.met.S.Reads.onward_shape _ _ c.set.ensures.onward
+    ∙ g.met.S.Reads.onward_shape _ _ c.indexed_value.ensures.onward ∙ g.met.S.Reads.onward_shape _ _ c.intern.ensures.onward
+    ∙ g.met.S.Reads.onward_shape _ _ c.find_owner.ensures.onward in
     fault_exit (λ f. f) (IsSetCount s.shape) c.in_err-entries.field-0.0 c.from_residual-in_err-entries.result c.from_residual-in_err-entries.ensures.1
     (subst (λ (h : Shape). IsSetCount h c.in_err-entries.field-0.0) shape (entry_exact t c.in_err-entries.field-0.0 (c.in_err-entries.ensures.full tells)))
 
@@ -645,12 +694,14 @@ returns-in_err-entries-clause-refused g c tells whole =
     let command = commands.Set target key value in
     let fault = c.in_err-entries.field-0.0 in
     let why = c.in_err-entries.ensures.refused tells (wanted_in n.records) (between g after tells whole) change.changes.store
-    (wants_held n.records target number (map (pair_of n.records) ready.store.indexes.definitions) held (is_held g after tells whole)) (node_low g after tells whole) in
+    (wants_held n.records target number (map (pair_of n.records) ready.store.indexes.definitions) held (is_held g after tells whole))
+    (node_low g after tells whole) in
     fault_exit (λ f. f) (IsRefusal s.shape.limit (graph_in s) command) fault c.from_residual-in_err-entries.result c.from_residual-in_err-entries.ensures.1
     (⊎_elim (λ outside. outside_refused change_reasons s.shape.limit (graph_in s) command fault outside)
     (λ (k : LacksValue held × LacksRoom u format.index_file 1 fault). subst (λ (z : State). IsRefusal z.shape.limit (graph_in z) command fault) c.find_owner.ensures.state
     (set_entry_refused m old target key value (store_found g back tells mid) (there g back tells mid) n u c.intern.new.self.names number (uses g back) (kept_then g back tells mid) (few g back) (at g back)
-    ready (owned g after) (element g after tells whole) c.in_ok-released.released change (g.met.S.Reads.onward_shape _ _ c.set.ensures.onward) held (is_held g after tells whole) fault k.0 k.1)) why)
+    ready (owned g after) (element g after tells whole) c.in_ok-released.released change (g.met.S.Reads.onward_shape _ _ c.set.ensures.onward) held
+    (is_held g after tells whole) fault k.0 k.1)) why)
 
 pub returns-in_err-owner-clause-made : goal.returns-in_err-owner-clause-made
 returns-in_err-owner-clause-made g c _ = never_ok c.from_residual.result _ _ c.from_residual.ensures.1

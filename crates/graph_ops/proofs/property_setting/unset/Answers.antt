@@ -52,14 +52,16 @@ pub returns-in_err-owner-clause-refused : goal.returns-in_err-owner-clause-refus
 returns-in_err-owner-clause-refused g c tells whole =
     let store = midway _ _ whole in
     let s = g.S.Reads.state c.args.space.now in
-    fault_exit (λ f. f) (IsRefusal s.shape.limit (graph_in s) (commands.Unset c.args.target c.args.key.now)) c.in_err-owner.field-0.0 c.from_residual.result c.from_residual.ensures.1
+    fault_exit (λ f. f) (IsRefusal s.shape.limit (graph_in s) (commands.Unset c.args.target c.args.key.now)) c.in_err-owner.field-0.0 c.from_residual.result
+    c.from_residual.ensures.1
     (unset_missing s.shape.limit (graph_in s) c.args.target c.args.key.now c.in_err-owner.field-0.0 (c.in_err-owner.ensures.refused tells c.args.names.now.names store))
 
 -- ---- what is damaged
 
 pub returns-in_err-owner-clause-damaged : goal.returns-in_err-owner-clause-damaged
 returns-in_err-owner-clause-damaged g c tells =
-    fault_exit (λ f. f) (BlamesUnset (g.S.Reads.state c.args.space.now) (g.S.Reads.state c.find_owner.new.space)) c.in_err-owner.field-0.0 c.from_residual.result c.from_residual.ensures.1 (blames_more _ _ (λ damage broken. inl broken) c.in_err-owner.field-0.0 (c.in_err-owner.ensures.damaged tells))
+    fault_exit (λ f. f) (BlamesUnset (g.S.Reads.state c.args.space.now) (g.S.Reads.state c.find_owner.new.space)) c.in_err-owner.field-0.0
+    c.from_residual.result c.from_residual.ensures.1 (blames_more _ _ (λ damage broken. inl broken) c.in_err-owner.field-0.0 (c.in_err-owner.ensures.damaged tells))
 
 -- ---- why it is refused over any records
 pub returns-in_err-owner-clause-caused : goal.returns-in_err-owner-clause-caused
@@ -82,7 +84,8 @@ returns-in_err-owner-clause-still g c tells =
     let fault = c.in_err-owner.field-0.0 in
     fault_exit (λ f. f) (IsStillCaused command t names names) fault c.from_residual.result c.from_residual.ensures.1
     (record {
-      caused = caused_left command s t t names names c.find_owner.ensures.state fault (absent_caused command s t names names c.args.target (λ id e. e) (λ id e. e) fault (c.in_err-owner.ensures.absent tells));
+      caused = caused_left command s t t names names c.find_owner.ensures.state fault
+          (absent_caused command s t names names c.args.target (λ id e. e) (λ id e. e) fault (c.in_err-owner.ensures.absent tells));
       damaged = any_blamed _ (λ damage. tt) fault;
     })
 
@@ -136,7 +139,8 @@ returns-in_err-held-clause-refused g c tells whole =
     let s = g.S.Reads.state c.args.space.now in
     let command = commands.Unset c.args.target c.args.key.now in
     let here = found g after tells whole in
-    fault_exit (λ f. f) (IsRefusal s.shape.limit (graph_in s) command) c.in_err-held.field-0.0 c.from_residual-in_err-held.result c.from_residual-in_err-held.ensures.1
+    fault_exit (λ f. f) (IsRefusal s.shape.limit (graph_in s) command) c.in_err-held.field-0.0 c.from_residual-in_err-held.result
+    c.from_residual-in_err-held.ensures.1
     (outside_refused change_reasons s.shape.limit (graph_in s) command c.in_err-held.field-0.0 (c.in_err-held.ensures.sound tells (wanted_in (g.S.Reads.state c.find_owner.new.space).records) here.store.indexes here.store.store (used_then g after tells)))
 
 pub returns-in_err-held-clause-caused : goal.returns-in_err-held-clause-caused
@@ -154,11 +158,13 @@ returns-in_err-held-clause-still g c tells =
     let names = c.args.names.now.names in
     let command = commands.Unset c.args.target c.args.key.now in
     let fault = c.in_err-held.field-0.0 in
-    fault_exit (λ f. f) (IsStillCaused command t names names) fault c.from_residual-in_err-held.result c.from_residual-in_err-held.ensures.1 (record { caused = failure_caused command t t names names fault c.in_err-held.ensures.failure; damaged = any_blamed _ (λ damage. tt) fault })
+    fault_exit (λ f. f) (IsStillCaused command t names names) fault c.from_residual-in_err-held.result c.from_residual-in_err-held.ensures.1
+    (record { caused = failure_caused command t t names names fault c.in_err-held.ensures.failure; damaged = any_blamed _ (λ damage. tt) fault })
 
 pub returns-in_err-held-clause-cause : goal.returns-in_err-held-clause-cause
 returns-in_err-held-clause-cause g c =
-    change_cause_passed _ _ _ c.from_residual-in_err-held.result c.in_err-held.field-0.0 c.in_ok-owner.ensures.cause.later c.in_err-held.ensures.cause c.from_residual-in_err-held.ensures.1
+    change_cause_passed _ _ _ c.from_residual-in_err-held.result c.in_err-held.field-0.0 c.in_ok-owner.ensures.cause.later c.in_err-held.ensures.cause
+    c.from_residual-in_err-held.ensures.1
 
 -- ---- the value that is taken away
 
@@ -168,7 +174,8 @@ returns-in_err-released-clause-refused g c tells whole =
     let s = g.S.Reads.state c.args.space.now in
     let n = g.S.Reads.state c.indexed_value.new.space in
     let names = c.args.names.now.names in
-    fault_exit of_fault (IsRefusal s.shape.limit (graph_in s) (commands.Unset c.args.target c.args.key.now)) c.in_err-released.field-0.0 c.from_residual-in_err-released.result c.from_residual-in_err-released.ensures.1
+    fault_exit of_fault (IsRefusal s.shape.limit (graph_in s) (commands.Unset c.args.target c.args.key.now)) c.in_err-released.field-0.0
+    c.from_residual-in_err-released.result c.from_residual-in_err-released.ensures.1
     (prop_refused s.shape.limit (graph_in s) (commands.Unset c.args.target c.args.key.now) c.in_err-released.field-0.0
     (c.in_err-released.ensures.sound tells
     (has_key n names c.args.target c.args.key.now (midway n names (store g after tells whole)) (there g after tells whole) c.in_ok-owner.owner c.in-Some.number c.in_ok-owner.ensures.owner (at g after))))
@@ -179,7 +186,8 @@ returns-in_err-released-clause-damaged g c tells =
     let s = g.S.Reads.state c.args.space.now in
     let n = g.S.Reads.state c.indexed_value.new.space in
     let used = subst (λ (z : State). IsInUse z.records (owner_of c.args.target)) (sym c.indexed_value.ensures.same) (used_then g after tells) in
-    fault_exit of_fault (BlamesUnset s (g.S.Reads.state c.unset.new.space)) c.in_err-released.field-0.0 c.from_residual-in_err-released.result c.from_residual-in_err-released.ensures.1
+    fault_exit of_fault (BlamesUnset s (g.S.Reads.state c.unset.new.space)) c.in_err-released.field-0.0 c.from_residual-in_err-released.result
+    c.from_residual-in_err-released.ensures.1
     (blames_more _ _ (λ damage broken. inl broken) (of_fault c.in_err-released.field-0.0) (read_broken s n (read g after) c.in_err-released.field-0.0 (c.in_err-released.ensures.damaged tells (subst (IsInUse n.records) (sym c.in_ok-owner.ensures.owner) used))))
 
 pub returns-in_err-released-clause-caused : goal.returns-in_err-released-clause-caused
@@ -188,7 +196,8 @@ returns-in_err-released-clause-caused g c tells =
     let t = g.S.Reads.state c.unset.new.space in
     let names = c.args.names.now.names in
     let command = commands.Unset c.args.target c.args.key.now in
-    fault_exit of_fault (IsCaused command s t names names) c.in_err-released.field-0.0 c.from_residual-in_err-released.result c.from_residual-in_err-released.ensures.1
+    fault_exit of_fault (IsCaused command s t names names) c.in_err-released.field-0.0 c.from_residual-in_err-released.result
+    c.from_residual-in_err-released.ensures.1
     (failure_caused command s t names names (of_fault c.in_err-released.field-0.0) (fault_fails c.in_err-released.field-0.0))
 
 pub returns-in_err-released-clause-still : goal.returns-in_err-released-clause-still
@@ -197,11 +206,13 @@ returns-in_err-released-clause-still g c tells =
     let names = c.args.names.now.names in
     let command = commands.Unset c.args.target c.args.key.now in
     let fault = of_fault c.in_err-released.field-0.0 in
-    fault_exit of_fault (IsStillCaused command t names names) c.in_err-released.field-0.0 c.from_residual-in_err-released.result c.from_residual-in_err-released.ensures.1 (record { caused = failure_caused command t t names names fault (fault_fails c.in_err-released.field-0.0); damaged = any_blamed _ (λ damage. tt) fault })
+    fault_exit of_fault (IsStillCaused command t names names) c.in_err-released.field-0.0 c.from_residual-in_err-released.result
+    c.from_residual-in_err-released.ensures.1 (record { caused = failure_caused command t t names names fault (fault_fails c.in_err-released.field-0.0); damaged = any_blamed _ (λ damage. tt) fault })
 
 pub returns-in_err-released-clause-cause : goal.returns-in_err-released-clause-cause
 returns-in_err-released-clause-cause g c =
-    fault_cause_passed _ _ _ c.from_residual-in_err-released.result c.in_err-released.field-0.0 (later_on c.in_ok-owner.ensures.cause.later c.in_ok-held.ensures.cause.later) c.in_err-released.ensures.cause c.from_residual-in_err-released.ensures.1
+    fault_cause_passed _ _ _ c.from_residual-in_err-released.result c.in_err-released.field-0.0
+    (later_on c.in_ok-owner.ensures.cause.later c.in_ok-held.ensures.cause.later) c.in_err-released.ensures.cause c.from_residual-in_err-released.ensures.1
 
 pub returns-in_default-2-clause-made : goal.returns-in_default-2-clause-made
 returns-in_default-2-clause-made g c tells whole =
@@ -234,14 +245,18 @@ module _ (g : Over) (c : After-leave_entry g) where
     removes : RemovesValue (n g back) u (owner_of c.args.target) c.in-Some.number c.in-Some-2.released
     removes =
         let here = midway (n g back) c.args.names.now.names (store g back tells whole) in
-        let known = has_key (n g back) c.args.names.now.names c.args.target c.args.key.now here (there g back tells whole) c.in_ok-owner.owner c.in-Some.number c.in_ok-owner.ensures.owner (at g back) in
-        subst (λ (o : Owner). RemovesValue (n g back) u o c.in-Some.number c.in-Some-2.released) c.in_ok-owner.ensures.owner (subst (UnsetsValue (n g back) u c.in_ok-owner.owner c.in-Some.number) c.in-Some-2.is (c.in_ok-released.ensures.unset tells known))
+        let known = has_key (n g back) c.args.names.now.names c.args.target c.args.key.now here (there g back tells whole) c.in_ok-owner.owner c.in-Some.number
+        c.in_ok-owner.ensures.owner (at g back) in
+        subst (λ (o : Owner). RemovesValue (n g back) u o c.in-Some.number c.in-Some-2.released) c.in_ok-owner.ensures.owner
+        (subst (UnsetsValue (n g back) u c.in_ok-owner.owner c.in-Some.number) c.in-Some-2.is (c.in_ok-released.ensures.unset tells known))
 
-    alone : RemovesAlone (n g back) u (owner_of c.args.target) (listed_at (n g back) (owner_of c.args.target) owned (element g back tells whole)) c.in-Some.number c.in-Some-2.released
+    alone : RemovesAlone (n g back) u (owner_of c.args.target) (listed_at (n g back) (owner_of c.args.target) owned (element g back tells whole))
+        c.in-Some.number c.in-Some-2.released
     alone =
         let es = listed_at (n g back) (owner_of c.args.target) owned (element g back tells whole) in
         let unsets = subst (λ (o : Owner). (es : List Property) → OwnsProperties (n g back) o es → UnsetsAlone (n g back) u o es c.in-Some.number c.in_ok-released.field-0) c.in_ok-owner.ensures.owner (c.in_ok-released.ensures.alone tells) in
-        subst (UnsetsAlone (n g back) u (owner_of c.args.target) es c.in-Some.number) c.in-Some-2.is (unsets es (owns_listed (n g back) (owner_of c.args.target) owned (element g back tells whole)))
+        subst (UnsetsAlone (n g back) u (owner_of c.args.target) es c.in-Some.number) c.in-Some-2.is
+        (unsets es (owns_listed (n g back) (owner_of c.args.target) owned (element g back tells whole)))
 
     between : AreIndexed u.records (wanted_in (n g back).records)
     between = indexes_between (n g back) u (owner_of c.args.target) removes.changes (store g back tells whole).store.indexes
@@ -253,7 +268,8 @@ returns-in_err-entries-clause-refused g c tells whole =
     let n = g.S.Reads.state c.indexed_value.new.space in
     let command = commands.Unset c.args.target c.args.key.now in
     let change = removes g after tells whole in
-    fault_exit (λ f. f) (IsRefusal s.shape.limit (graph_in s) command) c.in_err-entries.field-0.0 c.from_residual-in_err-entries.result c.from_residual-in_err-entries.ensures.1
+    fault_exit (λ f. f) (IsRefusal s.shape.limit (graph_in s) command) c.in_err-entries.field-0.0 c.from_residual-in_err-entries.result
+    c.from_residual-in_err-entries.ensures.1
     (outside_refused change_reasons s.shape.limit (graph_in s) command c.in_err-entries.field-0.0 (c.in_err-entries.ensures.sound tells (wanted_in n.records) (between g after tells whole) change.changes.store))
 
 pub returns-in_err-entries-clause-caused : goal.returns-in_err-entries-clause-caused
@@ -262,7 +278,8 @@ returns-in_err-entries-clause-caused g c tells =
     let t = g.S.Reads.state c.leave_entry.new.space in
     let names = c.args.names.now.names in
     let command = commands.Unset c.args.target c.args.key.now in
-    fault_exit (λ f. f) (IsCaused command s t names names) c.in_err-entries.field-0.0 c.from_residual-in_err-entries.result c.from_residual-in_err-entries.ensures.1
+    fault_exit (λ f. f) (IsCaused command s t names names) c.in_err-entries.field-0.0 c.from_residual-in_err-entries.result
+    c.from_residual-in_err-entries.ensures.1
     (failure_caused command s t names names c.in_err-entries.field-0.0 c.in_err-entries.ensures.failure)
 
 pub returns-in_err-entries-clause-still : goal.returns-in_err-entries-clause-still
@@ -271,11 +288,14 @@ returns-in_err-entries-clause-still g c tells =
     let names = c.args.names.now.names in
     let command = commands.Unset c.args.target c.args.key.now in
     let fault = c.in_err-entries.field-0.0 in
-    fault_exit (λ f. f) (IsStillCaused command t names names) fault c.from_residual-in_err-entries.result c.from_residual-in_err-entries.ensures.1 (record { caused = failure_caused command t t names names fault c.in_err-entries.ensures.failure; damaged = any_blamed _ (λ damage. tt) fault })
+    fault_exit (λ f. f) (IsStillCaused command t names names) fault c.from_residual-in_err-entries.result c.from_residual-in_err-entries.ensures.1
+    (record { caused = failure_caused command t t names names fault c.in_err-entries.ensures.failure; damaged = any_blamed _ (λ damage. tt) fault })
 
 pub returns-in_err-entries-clause-cause : goal.returns-in_err-entries-clause-cause
 returns-in_err-entries-clause-cause g c =
-    change_cause_passed _ _ _ c.from_residual-in_err-entries.result c.in_err-entries.field-0.0 (later_on (later_on c.in_ok-owner.ensures.cause.later c.in_ok-held.ensures.cause.later) c.in_ok-released.ensures.cause.later) c.in_err-entries.ensures.cause c.from_residual-in_err-entries.ensures.1
+    change_cause_passed _ _ _ c.from_residual-in_err-entries.result c.in_err-entries.field-0.0
+    (later_on (later_on c.in_ok-owner.ensures.cause.later c.in_ok-held.ensures.cause.later) c.in_ok-released.ensures.cause.later)
+    c.in_err-entries.ensures.cause c.from_residual-in_err-entries.ensures.1
 
 pub returns-clause-made : goal.returns-clause-made
 returns-clause-made g c tells whole =
