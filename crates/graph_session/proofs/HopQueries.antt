@@ -1,5 +1,5 @@
 -- What the line of a hop at one vertex reads.
-use Rattle.std.proofs.Common.{◌≡◌, ◌⊎◌, ℕ, None, List, inl, inr, ⊎_elim, refl, sym, ap, ◌∙◌, subst}
+use Rattle.std.proofs.Common.{◌≡◌, ◌⊎◌, ℕ, None, List, inl, inr, ⊎_elim, sym, subst}
 use Rattle.plain_graph.specs.declared.query.Hop.{Hop}
 use Rattle.plain_graph.specs.declared.query.Query.{Query}
 use Rattle.prop_store.specs.Reading.{ReadsAtMost}

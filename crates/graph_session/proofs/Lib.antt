@@ -19,6 +19,7 @@ pub mod Held
 pub mod HopQueries
 pub mod IndexQuestions
 pub mod IndexesTold
+pub mod Jobs
 pub mod Judged
 pub mod Judging
 pub mod Knowing

@@ -16,12 +16,12 @@ use Rattle.store_rules.specs.Graph.{graph_of, names_of}
 use Rattle.store_rules.specs.Indexes.{IsIndexed}
 use Rattle.store_rules.specs.Views.{Records}
 use Rattle.graph_session.specs.Answer.{Settles}
-use Rattle.graph_session.specs.Console.{ConsoleView, IsAt, SessionView}
+use Rattle.graph_session.specs.Console.{IsAt, SessionView}
 use Rattle.graph_session.specs.DiskUse.{UsesDisk}
 use Rattle.graph_session.specs.Effects.{Stays}
 use Rattle.graph_session.specs.Exchange.{CarriesKind, CarriesOut, LeavesKind, LeavesOpen, told_fault}
 use Rattle.traversal_run.specs.Reading.{IsNamedStore}
-use Rattle.graph_session.specs.MayStep.{IsServed, MayTell}
+use Rattle.graph_session.specs.MayStep.{MayTell}
 use Rattle.graph_session.specs.Questions.{GivesReading, Means, ShowsAll}
 use Rattle.graph_session.specs.Refusals.{IsReached, SpellsOnly}
 use Rattle.graph_session.specs.State.{IsSpared, State, seen}
@@ -45,11 +45,6 @@ asks-none command asks (inr (inr e)) = subst IsQuestion e asks
 pub asks-one : (command : Command) → IsQuestion command → ¬ NeedsOne command
 asks-one command asks (inl e) = subst IsQuestion e asks
 asks-one command asks (inr e) = subst IsQuestion e asks
-
--- it is served only where the console is live
-pub asks-live : (console : ConsoleView) (command : Command) → IsQuestion command → IsServed console command → console.health ≡ healths.Live
-asks-live console command asks (inl live) = live
-asks-live console command asks (inr e) = absurd (subst IsQuestion e asks)
 
 -- ---- what it is told
 

@@ -1,5 +1,5 @@
 -- A draft of a line's changes, by what each call said of it, and why there is none.
-use Rattle.std.proofs.Common.{◌≡◌, ◌∙◌, ◌+◌, ◌<◌, ◌≤◌, ℕ, Option, List, ◌++◌, append_assoc, refl, sym, ap, subst, arith}
+use Rattle.std.proofs.Common.{◌≡◌, ◌∙◌, ◌+◌, ◌<◌, ◌≤◌, ℕ, IfErr, IfOk, Err, Ok, Option, Result, List, ◌++◌, append_assoc, refl, sym, ap, subst, arith}
 use Rattle.std.proofs.Math.Nat.{min-eq_left}
 use Rattle.fault_count.specs.Cause.{Rose}
 use Rattle.disk_model.specs.declared.disk.Disk.{Ghosts}
@@ -22,11 +22,13 @@ use Rattle.store_rules.specs.Writes.{WritesAtMost}
 use Rattle.txn_core.specs.OnlyReading.{only_reads_base_on}
 use Rattle.txn_core.specs.Store as store
 use Rattle.graph_ops.specs.Change.{IsRefusal, IsRefusedBy, MakesChange, full_of}
+use Rattle.graph_ops.specs.ChangeFault.{HasChangeCause}
 use Rattle.graph_ops.specs.Mutating.{IsListRefusal, MakesMutation, most_told}
 use Rattle.graph_ops.specs.Store.{IsStore, graph_in}
 use Rattle.graph_ops.specs.declared.change_fault.ChangeFault.{ChangeFault}
 use Rattle.graph_ops.specs.declared.change_fault.ChangeFault.TheVariants as faults
-use Rattle.graph_session.specs.Drafting.{HasStore, IsStopped, MakesLine, OnlyDrafts, answer_for}
+use Rattle.graph_session.specs.Answering.{reply_of}
+use Rattle.graph_session.specs.Drafting.{Drafts, HasStore, IsStopped, MakesLine, OnlyDrafts, answer_for, drafted_by}
 use Rattle.graph_session.specs.MayStep.{TellsMade}
 use Rattle.graph_session.specs.declared.answer.Answer.{Answer}
 use Rattle.graph_session.specs.declared.session.Session.{Session}
@@ -63,7 +65,7 @@ change-made command reply weight old new names made light = record {
 }
 
 -- so is its draft
-pub change-drafts : {tells : Type 0} (command : Command) (reply : Reply) {weight : ℕ} {old new : Space} {before after : List (List ℕ)} → TellsMade command reply → (tells → IsStore old before → MakesChange command reply weight old new after) → weight + start_weight ≤ most_weight → WritesAtMost weight old new
+change-drafts : {tells : Type 0} (command : Command) (reply : Reply) {weight : ℕ} {old new : Space} {before after : List (List ℕ)} → TellsMade command reply → (tells → IsStore old before → MakesChange command reply weight old new after) → weight + start_weight ≤ most_weight → WritesAtMost weight old new
     → TellsMade command reply × (tells → IsStore old before → MakesLine command reply weight old new after) × (weight < most_told → WritesAtMost weight old new)
 change-drafts command reply {weight = weight} {old = old} {new = new} {after = after} tells made light writes = (tells, λ told has. change-made command reply weight old new after (made told has) light, λ few. writes)
 
@@ -177,6 +179,18 @@ module _ {D : Type 0} {g : Ghosts D} (command : Command) (old : Session D g) (no
       by (faults.Damaged damage) why rose = why
 
   -- by that of one that makes a single change
-  pub fault-stopped : (fault : ChangeFault) → (g.tells_reads → HasStore old → IsRefusal (store.state_of old.store).shape.limit (graph_in (store.state_of old.store)) command fault)
+  fault-stopped : (fault : ChangeFault) → (g.tells_reads → HasStore old → IsRefusal (store.state_of old.store).shape.limit (graph_in (store.state_of old.store)) command fault)
       → (fault ≡ faults.Disk → Rose (g.faults old.store.base.disk.now) (g.faults now)) → (answer : Answer) → answer ≡ answer_for fault → IsStopped command old now answer
   fault-stopped fault why rose answer is = change-stopped fault (λ told has. change-refused (store.state_of old.store).shape.limit (graph_in (store.state_of old.store)) command fault (why told has)) rose answer is
+
+-- ---- a call that makes a single change
+
+module _ {D : Type 0} {g : Ghosts D} {T : Type 0} (answer : T → Answer) (weight : T → ℕ) (command : Command) (tells : (made : T) → TellsMade command (reply_of (answer made))) {old new : Session D g} (only : OnlyDrafts old new) where
+  -- what it says, as a draft
+  pub drafts-call : (outcome : Result T ChangeFault)
+      → (g.tells_reads → IfOk outcome (λ made. HasStore old → MakesChange command (reply_of (answer made)) (weight made) (store.state_of old.store) (store.state_of new.store) new.names.names))
+      → IfOk outcome (λ made. weight made + start_weight ≤ most_weight) → IfOk outcome (λ made. WritesAtMost (weight made) (store.state_of old.store) (store.state_of new.store))
+      → (g.tells_reads → HasStore old → IfErr outcome (IsRefusal (store.state_of old.store).shape.limit (graph_in (store.state_of old.store)) command))
+      → HasChangeCause (g.faults old.store.base.disk.now) (g.faults new.store.base.disk.now) outcome → Drafts command old new (drafted_by answer weight outcome)
+  drafts-call (Ok made) makes light writes refused cause = change-drafts command (reply_of (answer made)) (tells made) (λ told has. makes told has) light writes
+  drafts-call (Err fault) makes light writes refused cause = fault-stopped command old new.store.base.disk.now fault (λ told has. refused told has) (λ is. cause.disk (ap Err is)) (answer_for fault) refl

@@ -5,7 +5,6 @@ use Rattle.disk_model.specs.declared.disk.Disk.{Ghosts as DiskGhosts}
 use Rattle.disk_model.proofs.Spans.{OnlyNow, only_reads_none}
 use Rattle.stream_io.specs.Lines.{Whole}
 use Rattle.stream_io.specs.declared.streams.Sink.{Ghosts as SinkGhosts}
-use Rattle.plain_graph.specs.Kinds.{AreOfReaders, AreQuestions, Kind, Question}
 use Rattle.plain_graph.specs.Lines.{IsQuestion, kind_of}
 use Rattle.plain_graph.specs.Reply.{Refused, Reply, marked_text}
 use Rattle.plain_graph.specs.declared.command.Command.{Command}
@@ -34,6 +33,7 @@ use Rattle.graph_session.specs.Verdicts.{Judges, SeesRecords}
 use Rattle.graph_session.specs.declared.health.Health.TheVariants as healths
 use Rattle.graph_session.specs.declared.turn.Turn.{Turn}
 use Rattle.graph_session.proofs.Answering.{exchange, onward-none}
+use Rattle.graph_session.proofs.Jobs.{asks-read}
 use Rattle.graph_session.proofs.Judged.{JudgesCommand, judges-parsed}
 use Rattle.graph_session.proofs.Knowing.{reads-known}
 use Rattle.graph_session.proofs.ReaderLines.{settles-asks, settles-refuses, settles-release, settles-snapshot}
@@ -67,15 +67,10 @@ seen-through : {D : Type 0} (view : SharedView D) (reader : ℕ) → IsReader re
 seen-through view zero seven records seen = absurd (omega (arith, seven.first))
 seen-through view (suc one) seven records seen = seen
 
--- questions are also those of sessions that read
-reads-of_readers : (kind : Kind) → AreQuestions kind → AreOfReaders kind
-reads-of_readers Question reads = tt
-reads-of_readers kind reads = absurd reads
-
 -- a question is not refused before a snapshot is looked at, where one is open
 question-served : {D : Type 0} (view : SharedView D) {reader : ℕ} → IsReader reader → {command : Command} → IsQuestion command → (records : Records) → SeesRecords view reader records → view.session.console.health ≡ healths.Live → (why : Refusal)
     → ¬ RefusesReader reader view command why
-question-served view seven {command = command} asks records seen live why (inl (other, told)) = other (reads-of_readers (kind_of command) asks)
+question-served view seven {command = command} asks records seen live why (inl (other, told)) = other (asks-read (kind_of command) asks)
 question-served view seven asks records seen live why (inr (reads, inl (failed, told))) = let clash : healths.Failed ≡ healths.Live = sym failed ∙ live in cc
 question-served view seven asks records seen live why (inr (reads, inr (alive, inl (snaps, opened, told)))) = subst IsQuestion snaps asks
 question-served view {reader = reader} seven asks records seen live why (inr (reads, inr (alive, inr (inl (other, absent, told))))) =

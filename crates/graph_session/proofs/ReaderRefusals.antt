@@ -80,12 +80,6 @@ suits-snapshot state command (inl (is, other)) snaps = other
 suits-snapshot state command (inr (inl (is, other))) snaps = let clash : commands.Release ≡ commands.Snapshot = sym is ∙ snaps in cc
 suits-snapshot state command (inr (inr (asks, opened))) snaps = absurd (subst IsQuestion snaps asks)
 
--- where it serves another command, that asks a question, and one is open
-pub suits-question : (state : SnapState) (command : Command) → SuitsSnapshot state command → command ≢ commands.Snapshot → command ≢ commands.Release → IsQuestion command × (state ≡ states.Open)
-suits-question state command (inl (is, other)) unsnapped kept = absurd (unsnapped is)
-suits-question state command (inr (inl (is, other))) unsnapped kept = absurd (kept is)
-suits-question state command (inr (inr suits)) unsnapped kept = suits
-
 -- the test of a snapshot's reader is that of its number
 own-any : (reader : ℕ) (snapshots : List Snapshot) → list_any (is_of reader) snapshots ≡ list_any (nat_eq reader) (snapshot_readers snapshots)
 own-any reader [] = refl

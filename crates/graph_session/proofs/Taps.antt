@@ -1,9 +1,9 @@
 -- What a line leaves in the set that takes the records of its transaction.
-use Rattle.std.proofs.Common.{◌≡◌, ◌≢◌, ◌∙◌, ◌+◌, ◌≤◌, Bool, true, false, Option, None, Some, List, ℕ, [], ◌∷◌, Ok, Err, Result, inl, inr, refl, sym, ap, subst, true≢false}
+use Rattle.std.proofs.Common.{◌≡◌, ◌≢◌, ◌∙◌, Bool, true, false, Option, None, Some, List, ℕ, Ok, Err, Result, inl, inr, refl, sym, ap, subst, true≢false}
 use Rattle.disk_model.specs.declared.disk.Disk.{Ghosts as DiskGhosts}
 use Rattle.stream_io.specs.Lines.{InputLine, Whole}
 use Rattle.stream_io.specs.declared.streams.Sink.{Ghosts as SinkGhosts}
-use Rattle.plain_graph.specs.Changes.{IsChange, most_weight, start_weight}
+use Rattle.plain_graph.specs.Changes.{IsChange}
 use Rattle.plain_graph.specs.Lines.{IsQuestion, kind_of}
 use Rattle.plain_graph.specs.Kinds.{AreChanges, AreQuestions, Blanks, Bound, Change, Ending, Kind, Question, Sight, Upkeep}
 use Rattle.plain_graph.specs.Reply.{Reply}
@@ -11,13 +11,12 @@ use Rattle.plain_graph.specs.declared.command.Command.{Command}
 use Rattle.plain_graph.specs.declared.command.Command.TheVariants as commands
 use Rattle.plain_graph.specs.declared.refusal.Refusal.{Refusal}
 use Rattle.rec_bytes.specs.declared.shape.Shape.{Shape}
-use Rattle.rec_bytes.specs.Pairs.{Held, Pairs, merged}
+use Rattle.rec_bytes.specs.Pairs.{Held, Pairs}
 use Rattle.rec_bytes.specs.Space.{laid_over}
 use Rattle.gremlin_parse.specs.Lines.{Spells}
 use Rattle.gremlin_parse.specs.Tags.{session_of}
 use Rattle.gremlin_parse.specs.declared.line_fault.LineFault.{LineFault}
 use Rattle.txn_core.specs.Shipped.{AllShip}
-use Rattle.txn_core.specs.Store.{committed}
 use Rattle.txn_core.proofs.StoreRecords.{committed-beneath, committed-read}
 use Rattle.graph_session.specs.Answer.{AnswersLine, Terminal}
 use Rattle.graph_session.specs.Answering.{reply_of}
@@ -27,8 +26,8 @@ use Rattle.graph_session.specs.Refusals.{SpellsOnly, refusal_of}
 use Rattle.graph_session.specs.Session.{view}
 use Rattle.graph_session.specs.Settling.{told_by, told_of}
 use Rattle.graph_session.specs.SharedExchange.{IsOfSnapshots}
-use Rattle.graph_session.specs.SnapshotEffects.{AreWeighed, Confirms, WritesAlone}
-use Rattle.graph_session.specs.TapEnds.{AreTapped, TapsAlone, TapsChange, TapsCommit}
+use Rattle.graph_session.specs.SnapshotEffects.{Confirms, WritesAlone}
+use Rattle.graph_session.specs.TapEnds.{TapsAlone, TapsChange, TapsCommit}
 use Rattle.graph_session.specs.Tapping.{Acknowledges, EndsOne, HasRoom, HasWritten, IsEmpty, IsTapped, Takes, Taps, TapsAnswer, TapsCommand}
 use Rattle.graph_session.specs.declared.answer.Answer.{Answer}
 use Rattle.graph_session.specs.declared.changing.Begun.{Begun}

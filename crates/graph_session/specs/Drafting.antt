@@ -27,6 +27,7 @@ use Rattle.txn_core.specs.Store.{committed, drafted, state_of, working}
 use Rattle.graph_ops.specs.Change.{full_of}
 use Rattle.graph_ops.specs.Mutating.{most_told}
 use Rattle.graph_ops.specs.Store.{IsStore, graph_in}
+use Rattle.graph_ops.specs.declared.added.Added.{Added}
 use Rattle.graph_ops.specs.declared.change_fault.ChangeFault.{ChangeFault}
 use Rattle.graph_ops.specs.declared.change_fault.ChangeFault.TheVariants as faults
 use Rattle.graph_session.specs.Answering.{reply_of}
@@ -52,6 +53,28 @@ answer_for (faults.PropsFull count) = answers.Refused refusals.TooManyProperties
 answer_for faults.Memory = answers.NoMemory
 answer_for faults.Disk = answers.DiskFailed
 answer_for (faults.Damaged damage) = answers.Damaged damage
+
+-- What a call that changes gives as a draft: its answer and its weight, or the answer of its fault.
+abbrev pub drafted_by :
+    {T : Type 0} → (T → Answer) → (T → ℕ) → Result T ChangeFault → Result Drafted Answer
+drafted_by answer weight (Ok made) = Ok (record { answer = answer made; weight = weight made })
+drafted_by answer weight (Err fault) = Err (answer_for fault)
+
+-- a new node
+abbrev pub drafted_node : Result Added ChangeFault → Result Drafted Answer
+drafted_node outcome =
+    drafted_by (λ (added : Added). answers.NodeMade added.id) (λ (added : Added). added.weight)
+    outcome
+
+-- a new edge
+abbrev pub drafted_edge : Result Added ChangeFault → Result Drafted Answer
+drafted_edge outcome =
+    drafted_by (λ (added : Added). answers.EdgeMade added.id) (λ (added : Added). added.weight)
+    outcome
+
+-- a change whose answer has nothing of its own
+abbrev pub drafted_done : Result ℕ ChangeFault → Result Drafted Answer
+drafted_done outcome = drafted_by (λ (weight : ℕ). answers.Done) (λ (weight : ℕ). weight) outcome
 
 -- the answer of one whose reading part was not read to its end
 abbrev pub answer_for_read : Fault → Answer

@@ -8,6 +8,7 @@ pub mod Effects
 pub mod Exchange
 pub mod IndexLists
 pub mod IndexResults
+pub mod Jobs
 pub mod Known
 pub mod LineBuffer
 pub mod MayStep

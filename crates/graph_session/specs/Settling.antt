@@ -1,22 +1,25 @@
 -- What a call says that settles a line of a command.
-use Rattle.std.specs.Prelude.{◌≡◌, Bool, ℕ, Option, None, Some, List}
+use Rattle.std.specs.Prelude.{◌≡◌, ◌⊎◌, Bool, ℕ, Option, None, Some, List}
 use Rattle.disk_model.specs.declared.disk.Disk.{Ghosts}
 use Rattle.stream_io.specs.Lines.{Whole}
 use Rattle.plain_graph.specs.Kinds.{AreSilent}
 use Rattle.plain_graph.specs.Lines.{kind_of}
 use Rattle.plain_graph.specs.Reply.{Reply, mark_text}
 use Rattle.plain_graph.specs.declared.command.Command.{Command}
+use Rattle.graph_session.specs.declared.job.Act.{Act}
+use Rattle.graph_session.specs.declared.job.Act.TheVariants as acts
 use Rattle.plain_graph.specs.declared.refusal.Refusal.{Refusal}
 use Rattle.gremlin_parse.specs.Tags.{session_named, session_of}
 use Rattle.gremlin_parse.specs.declared.line_fault.LineFault.{LineFault}
 use Rattle.graph_session.specs.declared.answer.Answer.{Answer}
 use Rattle.graph_session.specs.declared.answer.Answer.TheVariants as answers
 use Rattle.graph_session.specs.Answer.{Settles}
-use Rattle.graph_session.specs.Console.{HasNoDraft, IsAt, Onward, SessionView}
+use Rattle.graph_session.specs.Console.{ConsoleView, HasNoDraft, IsAt, Onward, SessionView}
 use Rattle.graph_session.specs.Known.{as_known}
 use Rattle.graph_session.specs.MayStep.{IsServed, MayAnswer}
 use Rattle.graph_session.specs.Refusals.{SpellsOnly, refusal_of}
 use Rattle.graph_session.specs.State.{State}
+use Rattle.graph_session.specs.declared.health.Health.TheVariants as healths
 
 -- the answer of a line that spells no command: want of memory, or a refusal
 abbrev pub told_by : Option Refusal → Answer
@@ -36,6 +39,10 @@ pub record IsParsed (line : List ℕ) (session : ℕ) (command : Command) (mark 
 -- a command that gets a reply
 abbrev pub IsLoud : Command → Type 0
 IsLoud command = ¬ AreSilent (kind_of command)
+
+-- a session that the disk has failed does no act but `reopen`
+abbrev pub ServesAct : ConsoleView → Act → Type 0
+ServesAct console act = (console.health ≡ healths.Live) ⊎ (act ≡ acts.Reopen)
 
 -- A session settles each line that spells just this command, from each state that it is at. What it
 -- does over any disk is said beside it.

@@ -1,5 +1,5 @@
 -- What a line that reads a snapshot is answered with, over any committed space.
-use Rattle.std.specs.Prelude.{◌≡◌, ◌≢◌, ℕ, ◌≤◌, List}
+use Rattle.std.specs.Prelude.{◌≢◌, ℕ, ◌≤◌, List}
 use Rattle.fault_count.specs.Cause.{Rose}
 use Rattle.stream_io.specs.declared.streams.Sink.{Ghosts as SinkGhosts}
 use Rattle.plain_graph.specs.Reply.{Reply, marked_text}

@@ -3,8 +3,8 @@ ghost use Rattle.std.specs.List.{AllByRecursion};
 ghost use Rattle.plain_graph.specs.Forms.{IsShown};
 ghost use Rattle.plain_graph.specs.LineChanges.{read_items};
 ghost use Rattle.plain_graph.specs.Lines.{HasForm};
+ghost use Rattle.graph_session.specs.Jobs.{change_command};
 ghost use Rattle.plain_graph.specs.declared.command.Command.TheVariants as commands;
-ghost use Rattle.plain_graph.specs.declared.command.Target.TheVariants as targets;
 ghost use Rattle.plain_graph.specs.declared.mutation.Mutation.{Mutation as AMutation};
 ghost use Rattle.plain_graph.proofs.LineLaws.{HasIndexOf};
 ghost use Rattle.rec_bytes.specs.Pairs.{merged};
@@ -16,12 +16,14 @@ ghost use Rattle.graph_ops.specs.Change.{full_of};
 ghost use Rattle.graph_ops.specs.Store.{graph_in};
 ghost use Rattle.graph_session.specs.Answering.{reply_of};
 ghost use Rattle.graph_session.specs.Drafting.{answer_for};
+ghost use Rattle.graph_session.specs.Drafting.{drafted_done, drafted_edge, drafted_node};
 ghost use Rattle.graph_session.specs.Settling.{SettlesCommand};
 ghost use Rattle.graph_session.specs.SnapshotEffects.{KeepsOlds};
 ghost use Rattle.graph_session.specs.Tapping.{HasRoom, Takes, TapsCommand};
 ghost use Rattle.graph_session.specs.declared.health.Health.TheVariants as healths;
 
 use crate::answer::Answer;
+use crate::change::Change;
 use crate::results::Results;
 use crate::tapping::forget;
 use crate::unknown::answer_of_lookup;
@@ -32,9 +34,7 @@ use graph_ops::{
     Added, ChangeFault, Mutated, add_edge, add_node, delete_edge, delete_node, index, mutate, set,
     unset,
 };
-use plain_graph::{
-    Item, MOST_WEIGHT, Mutation, Pairs, Query, Refusal, START_WEIGHT, Target, Text, Value,
-};
+use plain_graph::{Item, MOST_WEIGHT, Mutation, Query, Refusal, START_WEIGHT, Target};
 use rec_bytes::{Fault, INDEX, NODES, PROPERTIES, RELATIONSHIPS, WriteSet};
 use std::alloc::AllocError;
 use traversal_run::items_of;
@@ -77,168 +77,21 @@ impl<'d, D: Disk> Session<'d, D> {
     ghost use Rattle.graph_session.specs.Session.{HaveSameDisk, shared_view, view};
     ghost use Rattle.graph_session.specs.TapEnds.{TapsAlone, TapsChange, TapsCommit};
 
-    /// Makes a node, in the open transaction or else as a transaction by itself.
-    pub(crate) fn make_node(
-        &mut self,
-        label: &Text,
-        pairs: &Pairs,
-        tap: &mut Option<WriteSet>,
-    ) -> Answer
-        requires form { HasForm (commands.Node label.now pairs.now) }
+    /// Makes a change, in the open transaction or else as a transaction by itself.
+    pub(crate) fn change(&mut self, change: Change<'_>, tap: &mut Option<WriteSet>) -> Answer
+        requires form { HasForm (change_command change) }
         requires room { HasRoom tap.old }
         requires live { self.old.health ≡ healths.Live }
-        ensures settles { SettlesCommand D.Disk (commands.Node label.now pairs.now)
+        ensures settles { SettlesCommand D.Disk (change_command change.entry)
             (view self.old) (view self.new) (reply_of result) }
-        ensures keeps { KeepsOlds D.Disk (commands.Node label.now pairs.now)
+        ensures keeps { KeepsOlds D.Disk (change_command change.entry)
             (shared_view self.old) (reply_of result) (shared_view self.new) }
-        ensures taps { Takes (TapsCommand D.Disk (commands.Node label.now pairs.now)
+        ensures taps { Takes (TapsCommand D.Disk (change_command change.entry)
             (view self.old) (reply_of result) (view self.new)) tap.old tap.new }
         ensures same_disk { HaveSameDisk self.old self.new }
     {
         let begun = self.begin_change();
-        let drafted = self.draft_node(label, pairs);
-        self.end_change(begun, drafted, tap)
-    }
-
-    /// Makes an edge, as `make_node` makes a node.
-    pub(crate) fn make_edge(
-        &mut self,
-        from: u32,
-        label: &Text,
-        to: u32,
-        pairs: &Pairs,
-        tap: &mut Option<WriteSet>,
-    ) -> Answer
-        requires form { HasForm (commands.Edge from label.now to pairs.now) }
-        requires room { HasRoom tap.old }
-        requires live { self.old.health ≡ healths.Live }
-        ensures settles { SettlesCommand D.Disk (commands.Edge from label.now to pairs.now)
-            (view self.old) (view self.new) (reply_of result) }
-        ensures keeps { KeepsOlds D.Disk (commands.Edge from label.now to pairs.now)
-            (shared_view self.old) (reply_of result) (shared_view self.new) }
-        ensures taps { Takes (TapsCommand D.Disk (commands.Edge from label.now to pairs.now)
-            (view self.old) (reply_of result) (view self.new)) tap.old tap.new }
-        ensures same_disk { HaveSameDisk self.old self.new }
-    {
-        let begun = self.begin_change();
-        let drafted = self.draft_edge(from, label, to, pairs);
-        self.end_change(begun, drafted, tap)
-    }
-
-    /// Gives an element a value for a key.
-    pub(crate) fn set_value(
-        &mut self,
-        target: Target,
-        key: &Text,
-        value: &Value,
-        tap: &mut Option<WriteSet>,
-    ) -> Answer
-        requires form { HasForm (commands.Set target key.now value.now) }
-        requires room { HasRoom tap.old }
-        requires live { self.old.health ≡ healths.Live }
-        ensures settles { SettlesCommand D.Disk (commands.Set target key.now value.now)
-            (view self.old) (view self.new) (reply_of result) }
-        ensures keeps { KeepsOlds D.Disk (commands.Set target key.now value.now)
-            (shared_view self.old) (reply_of result) (shared_view self.new) }
-        ensures taps { Takes (TapsCommand D.Disk (commands.Set target key.now value.now)
-            (view self.old) (reply_of result) (view self.new)) tap.old tap.new }
-        ensures same_disk { HaveSameDisk self.old self.new }
-    {
-        let begun = self.begin_change();
-        let drafted = self.draft_value(target, key, value);
-        self.end_change(begun, drafted, tap)
-    }
-
-    /// Takes the value of a key from an element.
-    pub(crate) fn unset_value(
-        &mut self,
-        target: Target,
-        key: &Text,
-        tap: &mut Option<WriteSet>,
-    ) -> Answer
-        requires room { HasRoom tap.old }
-        requires live { self.old.health ≡ healths.Live }
-        ensures settles { SettlesCommand D.Disk (commands.Unset target key.now)
-            (view self.old) (view self.new) (reply_of result) }
-        ensures keeps { KeepsOlds D.Disk (commands.Unset target key.now)
-            (shared_view self.old) (reply_of result) (shared_view self.new) }
-        ensures taps { Takes (TapsCommand D.Disk (commands.Unset target key.now)
-            (view self.old) (reply_of result) (view self.new)) tap.old tap.new }
-        ensures same_disk { HaveSameDisk self.old self.new }
-    {
-        let begun = self.begin_change();
-        let drafted = self.draft_no_value(target, key);
-        self.end_change(begun, drafted, tap)
-    }
-
-    /// Deletes a node or an edge.
-    pub(crate) fn delete(&mut self, target: Target, tap: &mut Option<WriteSet>) -> Answer
-        requires room { HasRoom tap.old }
-        requires live { self.old.health ≡ healths.Live }
-        ensures settles { SettlesCommand D.Disk (commands.Delete target)
-            (view self.old) (view self.new) (reply_of result) }
-        ensures keeps { KeepsOlds D.Disk (commands.Delete target)
-            (shared_view self.old) (reply_of result) (shared_view self.new) }
-        ensures taps { Takes (TapsCommand D.Disk (commands.Delete target)
-            (view self.old) (reply_of result) (view self.new)) tap.old tap.new }
-        ensures same_disk { HaveSameDisk self.old self.new }
-    {
-        let begun = self.begin_change();
-        match target {
-            Target::Node(id) => {
-                let drafted = self.draft_deletion(id);
-                self.end_change(begun, drafted, tap)
-            }
-            Target::Edge(id) => {
-                let drafted = self.draft_edge_deletion(id);
-                self.end_change(begun, drafted, tap)
-            }
-        }
-    }
-
-    /// Makes an index, as `make_node` makes a node.
-    pub(crate) fn make_index(
-        &mut self,
-        label: &Text,
-        key: &Text,
-        tap: &mut Option<WriteSet>,
-    ) -> Answer
-        requires form { HasForm (commands.Index label.now key.now) }
-        requires room { HasRoom tap.old }
-        requires live { self.old.health ≡ healths.Live }
-        ensures settles { SettlesCommand D.Disk (commands.Index label.now key.now)
-            (view self.old) (view self.new) (reply_of result) }
-        ensures keeps { KeepsOlds D.Disk (commands.Index label.now key.now)
-            (shared_view self.old) (reply_of result) (shared_view self.new) }
-        ensures taps { Takes (TapsCommand D.Disk (commands.Index label.now key.now)
-            (view self.old) (reply_of result) (view self.new)) tap.old tap.new }
-        ensures same_disk { HaveSameDisk self.old self.new }
-    {
-        let begun = self.begin_change();
-        let drafted = self.draft_index(label, key);
-        self.end_change(begun, drafted, tap)
-    }
-
-    /// Makes the changes of a mutating query, as `make_node` makes a node.
-    pub(crate) fn mutate(
-        &mut self,
-        reading: &Option<Query>,
-        mutation: &Mutation,
-        tap: &mut Option<WriteSet>,
-    ) -> Answer
-        requires form { HasForm (commands.Mutate reading.now mutation.now) }
-        requires room { HasRoom tap.old }
-        requires live { self.old.health ≡ healths.Live }
-        ensures settles { SettlesCommand D.Disk (commands.Mutate reading.now mutation.now)
-            (view self.old) (view self.new) (reply_of result) }
-        ensures keeps { KeepsOlds D.Disk (commands.Mutate reading.now mutation.now)
-            (shared_view self.old) (reply_of result) (shared_view self.new) }
-        ensures taps { Takes (TapsCommand D.Disk (commands.Mutate reading.now mutation.now)
-            (view self.old) (reply_of result) (view self.new)) tap.old tap.new }
-        ensures same_disk { HaveSameDisk self.old self.new }
-    {
-        let begun = self.begin_change();
-        let drafted = self.draft_mutation(reading, mutation);
+        let drafted = self.draft(change);
         self.end_change(begun, drafted, tap)
     }
 
@@ -276,120 +129,51 @@ impl<'d, D: Disk> Session<'d, D> {
         }
     }
 
-    // A new node in the draft.
-    fn draft_node(&mut self, label: &Text, pairs: &Pairs) -> Result<Drafted, Answer>
-        requires { HasForm (commands.Node label.now pairs.now) }
+    // The change in the draft.
+    fn draft(&mut self, change: Change<'_>) -> Result<Drafted, Answer>
+        requires { HasForm (change_command change) }
         ensures only { OnlyDrafts self.old self.new }
-        ensures drafts { Drafts (commands.Node label.now pairs.now) self.old self.new result }
+        ensures drafts { Drafts (change_command change.entry) self.old self.new result }
     {
-        match add_node(self.alloc, &mut self.store, &mut self.names, label, pairs) {
-            Ok(Added { id, weight }) => Ok(Drafted {
-                answer: Answer::NodeMade(id),
-                weight,
-            }),
-            Err(fault) => Err(answer_of(fault)),
+        match change {
+            Change::Node { label, pairs } => {
+                drafted_node(add_node(self.alloc, &mut self.store, &mut self.names, label, pairs))
+            }
+            Change::Edge {
+                from,
+                label,
+                to,
+                pairs,
+            } => drafted_edge(add_edge(&mut self.store, &mut self.names, from, label, to, pairs)),
+            Change::Set { target, key, value } => drafted_done(set(
+                self.alloc,
+                &mut self.store,
+                &mut self.names,
+                target,
+                key,
+                value,
+            )),
+            Change::Unset { target, key } => {
+                drafted_done(unset(self.alloc, &mut self.store, &self.names, target, key))
+            }
+            Change::Delete(target) => self.draft_deletion(target),
+            Change::Index { label, key } => {
+                drafted_done(index(self.alloc, &mut self.store, &mut self.names, label, key))
+            }
+            Change::Mutate { reading, mutation } => self.draft_mutation(reading, mutation),
         }
     }
 
-    // A new edge in the draft.
-    fn draft_edge(
-        &mut self,
-        from: u32,
-        label: &Text,
-        to: u32,
-        pairs: &Pairs,
-    ) -> Result<Drafted, Answer>
-        requires { HasForm (commands.Edge from label.now to pairs.now) }
+    // A deleted element in the draft.
+    fn draft_deletion(&mut self, target: Target) -> Result<Drafted, Answer>
         ensures only { OnlyDrafts self.old self.new }
-        ensures drafts { Drafts (commands.Edge from label.now to pairs.now)
-            self.old self.new result }
+        ensures drafts { Drafts (commands.Delete target) self.old self.new result }
     {
-        match add_edge(&mut self.store, &mut self.names, from, label, to, pairs) {
-            Ok(Added { id, weight }) => Ok(Drafted {
-                answer: Answer::EdgeMade(id),
-                weight,
-            }),
-            Err(fault) => Err(answer_of(fault)),
-        }
-    }
-
-    // A value of a property in the draft.
-    fn draft_value(&mut self, target: Target, key: &Text, value: &Value) -> Result<Drafted, Answer>
-        requires { HasForm (commands.Set target key.now value.now) }
-        ensures only { OnlyDrafts self.old self.new }
-        ensures drafts { Drafts (commands.Set target key.now value.now)
-            self.old self.new result }
-    {
-        match set(
-            self.alloc,
-            &mut self.store,
-            &mut self.names,
-            target,
-            key,
-            value,
-        ) {
-            Ok(weight) => Ok(Drafted {
-                answer: Answer::Done,
-                weight,
-            }),
-            Err(fault) => Err(answer_of(fault)),
-        }
-    }
-
-    // A property taken away in the draft.
-    fn draft_no_value(&mut self, target: Target, key: &Text) -> Result<Drafted, Answer>
-        ensures only { OnlyDrafts self.old self.new }
-        ensures drafts { Drafts (commands.Unset target key.now) self.old self.new result }
-    {
-        match unset(self.alloc, &mut self.store, &self.names, target, key) {
-            Ok(weight) => Ok(Drafted {
-                answer: Answer::Done,
-                weight,
-            }),
-            Err(fault) => Err(answer_of(fault)),
-        }
-    }
-
-    // A deleted edge in the draft.
-    fn draft_edge_deletion(&mut self, id: u32) -> Result<Drafted, Answer>
-        ensures only { OnlyDrafts self.old self.new }
-        ensures drafts { Drafts (commands.Delete (targets.Edge id)) self.old self.new result }
-    {
-        match delete_edge(&mut self.store, &self.names, id) {
-            Ok(weight) => Ok(Drafted {
-                answer: Answer::Done,
-                weight,
-            }),
-            Err(fault) => Err(answer_of(fault)),
-        }
-    }
-
-    // A deleted node in the draft.
-    fn draft_deletion(&mut self, id: u32) -> Result<Drafted, Answer>
-        ensures only { OnlyDrafts self.old self.new }
-        ensures drafts { Drafts (commands.Delete (targets.Node id)) self.old self.new result }
-    {
-        match delete_node(self.alloc, &mut self.store, &self.names, id) {
-            Ok(weight) => Ok(Drafted {
-                answer: Answer::Done,
-                weight,
-            }),
-            Err(fault) => Err(answer_of(fault)),
-        }
-    }
-
-    // An index in the draft.
-    fn draft_index(&mut self, label: &Text, key: &Text) -> Result<Drafted, Answer>
-        requires { HasForm (commands.Index label.now key.now) }
-        ensures only { OnlyDrafts self.old self.new }
-        ensures drafts { Drafts (commands.Index label.now key.now) self.old self.new result }
-    {
-        match index(self.alloc, &mut self.store, &mut self.names, label, key) {
-            Ok(weight) => Ok(Drafted {
-                answer: Answer::Done,
-                weight,
-            }),
-            Err(fault) => Err(answer_of(fault)),
+        match target {
+            Target::Node(id) => {
+                drafted_done(delete_node(self.alloc, &mut self.store, &self.names, id))
+            }
+            Target::Edge(id) => drafted_done(delete_edge(&mut self.store, &self.names, id)),
         }
     }
 
@@ -576,6 +360,45 @@ fn keep<D: Disk>(store: &mut Store<'_, D>) -> Result<(), AllocError>
         return Err(AllocError);
     }
     store.keep()
+}
+
+// A new node that is drafted, or why it isn't.
+fn drafted_node(outcome: Result<Added, ChangeFault>) -> Result<Drafted, Answer>
+    ensures { result ≡ drafted_node outcome }
+{
+    match outcome {
+        Ok(Added { id, weight }) => Ok(Drafted {
+            answer: Answer::NodeMade(id),
+            weight,
+        }),
+        Err(fault) => Err(answer_of(fault)),
+    }
+}
+
+// The same of a new edge.
+fn drafted_edge(outcome: Result<Added, ChangeFault>) -> Result<Drafted, Answer>
+    ensures { result ≡ drafted_edge outcome }
+{
+    match outcome {
+        Ok(Added { id, weight }) => Ok(Drafted {
+            answer: Answer::EdgeMade(id),
+            weight,
+        }),
+        Err(fault) => Err(answer_of(fault)),
+    }
+}
+
+// The same of a change whose answer has nothing of its own.
+fn drafted_done(outcome: Result<u32, ChangeFault>) -> Result<Drafted, Answer>
+    ensures { result ≡ drafted_done outcome }
+{
+    match outcome {
+        Ok(weight) => Ok(Drafted {
+            answer: Answer::Done,
+            weight,
+        }),
+        Err(fault) => Err(answer_of(fault)),
+    }
 }
 
 // The answer of a change that is refused.

@@ -5,11 +5,14 @@
 #![tactic(auto)]
 
 mod answer;
+mod change;
 mod changing;
 mod giving;
 mod health;
+mod job;
 mod line_buffer;
 mod opening;
+mod question;
 mod questions;
 mod reading;
 mod results;

@@ -1,12 +1,10 @@
 //! The lines of sessions that read.
 
-ghost use Rattle.std.specs.Prelude.{◌≡◌, ◌≢◌, IfNone, IfSome, IsTrue, List, ℕ};
-ghost use Rattle.std.specs.Prelude.{◌↔◌};
+ghost use Rattle.std.specs.Prelude.{◌≡◌, ◌≢◌, ◌≤◌, IfNone, IfSome, List, ℕ};
 ghost use Rattle.stream_io.specs.Lines.{Whole};
-ghost use Rattle.plain_graph.specs.Kinds.{AreOfReaders};
-ghost use Rattle.plain_graph.specs.Lines.{HasForm, kind_of};
-ghost use Rattle.plain_graph.specs.declared.command.Command.TheVariants as commands;
-ghost use Rattle.recovery.specs.Finding.{IsCareful};
+ghost use Rattle.graph_session.specs.Jobs.{question_command, sight_command};
+ghost use Rattle.plain_graph.specs.Lines.{HasForm, IsQuestion};
+ghost use Rattle.plain_graph.specs.declared.command.Command.{Command};
 ghost use Rattle.snap_store.specs.Layers.{SameSights};
 ghost use Rattle.snap_store.specs.Snaps.{IsReader, state_of};
 ghost use Rattle.snap_store.specs.declared.snap_state.SnapState.TheVariants as states;
@@ -14,76 +12,112 @@ ghost use Rattle.graph_session.specs.Answer.{AnswersLine};
 ghost use Rattle.graph_session.specs.Answering.{reply_of};
 ghost use Rattle.graph_session.specs.ReaderAnswers.{LacksSnapshot, MayRelease, MaySnap};
 ghost use Rattle.graph_session.specs.ReaderAnswers.{RefusesReader, ServesReader, SuitsSnapshot};
-ghost use Rattle.graph_session.specs.Settling.{IsLoud, IsParsed};
+ghost use Rattle.graph_session.specs.Settling.{IsParsed};
+ghost use Rattle.graph_session.specs.declared.health.Health.TheVariants as healths;
 
 use crate::answer::Answer;
 use crate::giving::give_answer;
+use crate::job::Sight;
+use crate::question::Question;
+use crate::session::WRITER;
 use crate::sight_reading::read_store;
 use crate::{Health, Session, Turn};
 use disk_model::Disk;
-use plain_graph::{Command, Refusal};
+use plain_graph::Refusal;
 use snap_store::SnapState;
 use stream_io::Sink;
 
 impl<'d, D: Disk> Session<'d, D> {
     ghost use Rattle.graph_session.specs.Session.{HaveSameDisk, shared_view, view, with_sink};
 
-    /// Answers a line of a session that reads, of a command that gets a reply.
-    pub(crate) fn serve_reader<K: Sink>(
+    /// Answers a line about a snapshot, which only sessions that read have.
+    pub(crate) fn serve_sight<K: Sink>(
         &mut self,
-        reader: u8,
-        command: &Command,
+        session: u8,
+        sight: Sight,
         mark: &[u8],
         output: &mut K,
     ) -> Turn
-        requires form { HasForm command.now }
-        requires loud { IsLoud command.now }
-        requires reader { IsReader reader }
-        ensures answers { (line : List ℕ) → IsParsed line reader command.now mark.now
+        requires session { session ≤ 7 }
+        ensures answers { (line : List ℕ) → IsParsed line session (sight_command sight) mark.now
             → AnswersLine D.Disk K.Sink (Whole line)
             (with_sink self.old output.old) (with_sink self.new output.new) result }
-        ensures careful { command.now ≡ commands.Reopen
-            → IsCareful D.Disk (view self.old).disk (view self.new).disk }
         ensures same_disk { HaveSameDisk self.old self.new }
     {
-        if let Some(why) = self.refuses_reader(reader, command) {
+        if session == WRITER {
+            return give_answer(output, mark, Answer::Refused(Refusal::Writer));
+        }
+        if let Some(why) = self.refuses_sight(session, sight) {
             return give_answer(output, mark, Answer::Refused(why));
         }
-        match command {
-            Command::Snapshot => {
-                let answer = self.take_snapshot(reader);
+        match sight {
+            Sight::Snapshot => {
+                let answer = self.take_snapshot(session);
                 give_answer(output, mark, answer)
             }
-            Command::Release => {
-                let answer = self.release_snapshot(reader);
+            Sight::Release => {
+                let answer = self.release_snapshot(session);
                 give_answer(output, mark, answer)
             }
-            question => read_store(
-                self.alloc,
-                &mut self.store,
-                &self.snaps,
-                reader,
-                &self.names,
-                question,
-                mark,
-                output,
-            ),
         }
     }
 
-    // Why the command is refused before a snapshot is looked at, if it is.
-    fn refuses_reader(&self, reader: u8, command: &Command) -> Option<Refusal>
-        requires loud { IsLoud command.now }
+    /// Answers a line that reads what the snapshot of a session shows.
+    pub(crate) fn read_snapshot<K: Sink>(
+        &mut self,
+        reader: u8,
+        question: Question<'_>,
+        mark: &[u8],
+        output: &mut K,
+    ) -> Turn
+        requires form { HasForm (question_command question) }
         requires reader { IsReader reader }
-        ensures refused { IfSome result (RefusesReader reader (shared_view self.now) command.now) }
-        ensures served { IfNone result (ServesReader reader (shared_view self.now) command.now) }
+        ensures answers { (line : List ℕ)
+            → IsParsed line reader (question_command question.entry) mark.now
+            → AnswersLine D.Disk K.Sink (Whole line)
+            (with_sink self.old output.old) (with_sink self.new output.new) result }
+        ensures same_disk { HaveSameDisk self.old self.new }
     {
-        if !is_of_readers(command) {
-            return Some(Refusal::ReadOnly);
+        if let Some(why) = self.refuses_reading(reader) {
+            return give_answer(output, mark, Answer::Refused(why));
         }
+        read_store(
+            self.alloc,
+            &mut self.store,
+            &self.snaps,
+            reader,
+            &self.names,
+            question,
+            mark,
+            output,
+        )
+    }
+
+    // Why a line about the reader's snapshot is refused, if it is.
+    fn refuses_sight(&self, reader: u8, sight: Sight) -> Option<Refusal>
+        requires { IsReader reader }
+        ensures refused { IfSome result
+            (RefusesReader reader (shared_view self.now) (sight_command sight)) }
+        ensures served { IfNone result
+            (ServesReader reader (shared_view self.now) (sight_command sight)) }
+    {
         match self.health {
             Health::Failed => Some(Refusal::Failed),
-            Health::Live => lacked_snapshot(command, self.snaps.state(reader)),
+            Health::Live => lacked_sight(sight, self.snaps.state(reader)),
+        }
+    }
+
+    // Why a line that reads is refused, if it is; else the reader's snapshot is open.
+    fn refuses_reading(&self, reader: u8) -> Option<Refusal>
+        requires { IsReader reader }
+        ensures refused { IfSome result (λ why. (command : Command) → IsQuestion command
+            → RefusesReader reader (shared_view self.now) command why) }
+        ensures live { IfNone result (self.now.health ≡ healths.Live) }
+        ensures open { IfNone result (state_of self.now.snaps reader ≡ states.Open) }
+    {
+        match self.health {
+            Health::Failed => Some(Refusal::Failed),
+            Health::Live => lacked_reading(self.snaps.state(reader)),
         }
     }
 
@@ -115,40 +149,32 @@ impl<'d, D: Disk> Session<'d, D> {
     }
 }
 
-// Whether the command is also one of sessions that read.
-fn is_of_readers(command: &Command) -> bool
-    ensures { IsTrue result ↔ AreOfReaders (kind_of command.now) }
+// Why a snapshot in this state is neither taken nor released, if it isn't.
+fn lacked_sight(sight: Sight, state: SnapState) -> Option<Refusal>
+    ensures lacks { IfSome result (LacksSnapshot state (sight_command sight)) }
+    ensures suits { IfNone result (SuitsSnapshot state (sight_command sight)) }
 {
-    match command {
-        Command::Begin | Command::Commit | Command::Rollback => false,
-        Command::Checkpoint | Command::Reopen => false,
-        Command::Node { .. } | Command::Edge { .. } => false,
-        Command::Set { .. } | Command::Unset { .. } | Command::Delete(_) => false,
-        Command::Index { .. } | Command::Mutate { .. } => false,
-        _ => true,
+    match sight {
+        Sight::Snapshot => match state {
+            SnapState::Open => Some(Refusal::SnapshotOpen),
+            SnapState::Absent | SnapState::Ended => None,
+        },
+        Sight::Release => match state {
+            SnapState::Absent => Some(Refusal::NoSnapshot),
+            SnapState::Open | SnapState::Ended => None,
+        },
     }
 }
 
-// Why a snapshot in this state doesn't serve the command, if it doesn't.
-fn lacked_snapshot(command: &Command, state: SnapState) -> Option<Refusal>
-    requires loud { IsLoud command.now }
-    requires reads { AreOfReaders (kind_of command.now) }
-    ensures lacks { IfSome result (LacksSnapshot state command.now) }
-    ensures suits { IfNone result (SuitsSnapshot state command.now) }
+// Why a snapshot in this state isn't read, if it isn't open.
+fn lacked_reading(state: SnapState) -> Option<Refusal>
+    ensures lacks { IfSome result (λ why. (command : Command) → IsQuestion command
+        → LacksSnapshot state command why) }
+    ensures open { IfNone result (state ≡ states.Open) }
 {
-    match command {
-        Command::Snapshot => match state {
-            SnapState::Open => Some(Refusal::SnapshotOpen),
-            _ => None,
-        },
-        Command::Release => match state {
-            SnapState::Absent => Some(Refusal::NoSnapshot),
-            _ => None,
-        },
-        _ => match state {
-            SnapState::Absent => Some(Refusal::NoSnapshot),
-            SnapState::Ended => Some(Refusal::SnapshotEnded),
-            SnapState::Open => None,
-        },
+    match state {
+        SnapState::Absent => Some(Refusal::NoSnapshot),
+        SnapState::Ended => Some(Refusal::SnapshotEnded),
+        SnapState::Open => None,
     }
 }

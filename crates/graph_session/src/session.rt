@@ -2,13 +2,9 @@ ghost use Rattle.std.specs.Prelude.{
   ◌≡◌,
   ◌≢◌,
   ◌≤◌,
-  ◌↔◌,
   [],
-  IfNone,
-  IfSome,
   IsTrue,
   List,
-  OnSome,
   false,
   ℕ,
 };
@@ -17,20 +13,22 @@ ghost use Rattle.recovery.specs.Finding.{IsCareful};
 ghost use Rattle.graph_session.specs.Answer.{AnswersLine};
 ghost use Rattle.graph_session.specs.Answering.{reply_of};
 ghost use Rattle.graph_session.specs.Console.{HasNoDraft};
-ghost use Rattle.graph_session.specs.MayStep.{IsServed};
-ghost use Rattle.graph_session.specs.Settling.{IsLoud, IsParsed, SettlesCommand, told_of};
-ghost use Rattle.graph_session.specs.SharedExchange.{IsOfSnapshots};
+ghost use Rattle.graph_session.specs.Settling.{IsParsed, ServesAct, SettlesCommand, told_of};
 ghost use Rattle.graph_session.specs.SnapshotEffects.{KeepsOlds};
 ghost use Rattle.graph_session.specs.Tapping.{AllShip-prop, HasRoom, Takes, TapsAnswer};
 ghost use Rattle.graph_session.specs.Tapping.{TapsCommand, TapsLine};
 ghost use Rattle.txn_core.specs.Shipped.{AllShip};
 ghost use Rattle.gremlin_parse.specs.Lines.{Spells};
-ghost use Rattle.plain_graph.specs.Lines.{HasForm, IsQuestion};
+ghost use Rattle.graph_session.specs.Jobs.{act_command, question_command};
+ghost use Rattle.plain_graph.specs.Lines.{HasForm};
 ghost use Rattle.plain_graph.specs.declared.command.Command.TheVariants as commands;
+ghost use Rattle.graph_session.specs.declared.job.Act.TheVariants as acts;
 ghost use Rattle.graph_session.specs.declared.health.Health.TheVariants as healths;
 
 use crate::answer::Answer;
 use crate::giving::give_answer;
+use crate::job::{Act, Job};
+use crate::question::Question;
 use crate::questions::answer_question;
 use crate::{Health, Turn};
 use disk_model::Disk;
@@ -45,7 +43,7 @@ use stream_io::Sink;
 use txn_core::Store;
 
 /// The session that writes. The others only read.
-const WRITER: u8 = 0;
+pub(crate) const WRITER: u8 = 0;
 
 /// The sessions over a disk: one that writes, and seven that read snapshots.
 #[derive(Drop)]
@@ -182,137 +180,114 @@ impl<'d, D: Disk> Session<'d, D> {
             → IsCareful D.Disk (view self.old).disk (view self.new).disk }
         ensures same_disk { HaveSameDisk self.old self.new }
     {
-        match command {
-            Command::Blank => Turn::Go,
-            Command::Quit => Turn::Quit,
-            other => self.serve(session, other, mark, output, tap),
+        match Job::of(command) {
+            Job::Blank => Turn::Go,
+            Job::Quit => Turn::Quit,
+            Job::Sight(sight) => self.serve_sight(session, sight, mark, output),
+            Job::Act(act) => self.serve_act(session, act, mark, output, tap),
+            Job::Question(question) => self.serve_question(session, question, mark, output),
         }
     }
 
-    // Answers a line of a command that gets a reply.
-    fn serve<K: Sink>(
+    // Answers a line that asks for an act, which only the session that writes may do.
+    fn serve_act<K: Sink>(
         &mut self,
         session: u8,
-        command: &Command,
+        act: Act<'_>,
         mark: &[u8],
         output: &mut K,
         tap: &mut Option<WriteSet>,
     ) -> Turn
         requires room { HasRoom tap.old }
-        requires form { HasForm command.now }
-        requires loud { IsLoud command.now }
+        requires form { HasForm (act_command act) }
         requires session { session ≤ 7 }
-        ensures answers { (line : List ℕ) → IsParsed line session command.now mark.now
+        ensures answers { (line : List ℕ)
+            → IsParsed line session (act_command act.entry) mark.now
             → TapsAnswer D.Disk K.Sink (Whole line)
             (with_sink self.old output.old) (with_sink self.new output.new) result
             tap.old tap.new }
-        ensures careful { command.now ≡ commands.Reopen
+        ensures careful { act_command act.entry ≡ commands.Reopen
             → IsCareful D.Disk (view self.old).disk (view self.new).disk }
         ensures same_disk { HaveSameDisk self.old self.new }
     {
-        if session == WRITER {
-            self.serve_writer(command, mark, output, tap)
-        } else {
-            self.serve_reader(session, command, mark, output)
+        if session != WRITER {
+            return give_answer(output, mark, Answer::Refused(Refusal::ReadOnly));
         }
-    }
-
-    // Answers it for the session that writes.
-    fn serve_writer<K: Sink>(
-        &mut self,
-        command: &Command,
-        mark: &[u8],
-        output: &mut K,
-        tap: &mut Option<WriteSet>,
-    ) -> Turn
-        requires room { HasRoom tap.old }
-        requires form { HasForm command.now }
-        requires loud { IsLoud command.now }
-        ensures answers { (line : List ℕ) → IsParsed line 0 command.now mark.now
-            → TapsAnswer D.Disk K.Sink (Whole line)
-            (with_sink self.old output.old) (with_sink self.new output.new) result
-            tap.old tap.new }
-        ensures careful { command.now ≡ commands.Reopen
-            → IsCareful D.Disk (view self.old).disk (view self.new).disk }
-        ensures same_disk { HaveSameDisk self.old self.new }
-    {
-        if is_of_snapshots(command) {
-            return give_answer(output, mark, Answer::Refused(Refusal::Writer));
-        }
-        if self.refuses(command) {
+        if self.refuses(act) {
             return give_answer(output, mark, Answer::Refused(Refusal::Failed));
         }
-        match self.settle(command, tap) {
-            Some(answer) => give_answer(output, mark, answer),
-            None => answer_question(
-                self.alloc,
-                &mut self.store,
-                &self.names,
-                command,
-                mark,
-                output,
-            ),
-        }
+        let answer = self.settle(act, tap);
+        give_answer(output, mark, answer)
     }
 
-    // Whether the disk has failed the session, which then refuses the command.
-    fn refuses(&self, command: &Command) -> bool
+    // Whether the disk has failed the session, which then refuses the act.
+    fn refuses(&self, act: Act<'_>) -> bool
         ensures yes { IsTrue result → (self.now.health ≡ healths.Failed)
-            × (command.now ≢ commands.Reopen) }
-        ensures no { result ≡ false → IsServed (view self.now).console command.now }
+            × (act.entry ≢ acts.Reopen) }
+        ensures no { result ≡ false → ServesAct (view self.now).console act.entry }
     {
-        !matches!(command, Command::Reopen) && matches!(self.health, Health::Failed)
+        !matches!(act, Act::Reopen) && matches!(self.health, Health::Failed)
     }
 
-    // Carries out a command that is no question; of one it is none, and nothing is done. It has no
-    // sink: what is said of the disk at its return holds before a byte of the reply is given.
-    fn settle(&mut self, command: &Command, tap: &mut Option<WriteSet>) -> Option<Answer>
+    // Carries out an act. It has no sink: what is said of the disk at its return holds before a
+    // byte of the reply is given.
+    fn settle(&mut self, act: Act<'_>, tap: &mut Option<WriteSet>) -> Answer
         requires room { HasRoom tap.old }
-        requires served { IsServed (view self.old).console command.now }
-        requires form { HasForm command.now }
-        requires loud { IsLoud command.now }
-        requires writes { ¬ IsOfSnapshots command.now }
-        ensures settles { IfSome result (λ answer. SettlesCommand D.Disk command.now
-            (view self.old) (view self.new) (reply_of answer)) }
-        ensures keeps { IfSome result (λ answer. KeepsOlds D.Disk command.now
-            (shared_view self.old) (reply_of answer) (shared_view self.new)) }
-        ensures taps { IfSome result (λ answer. Takes (TapsCommand D.Disk command.now
-            (view self.old) (reply_of answer) (view self.new)) tap.old tap.new) }
-        ensures untapped { IfNone result (tap.new ≡ tap.old) }
-        ensures told { OnSome result (¬ IsQuestion command.now) }
-        ensures asked { IfNone result (IsQuestion command.now × (self.new ≡ self.old)) }
-        ensures careful { command.now ≡ commands.Reopen
+        requires served { ServesAct (view self.old).console act }
+        requires form { HasForm (act_command act) }
+        ensures settles { SettlesCommand D.Disk (act_command act.entry)
+            (view self.old) (view self.new) (reply_of result) }
+        ensures keeps { KeepsOlds D.Disk (act_command act.entry)
+            (shared_view self.old) (reply_of result) (shared_view self.new) }
+        ensures taps { Takes (TapsCommand D.Disk (act_command act.entry)
+            (view self.old) (reply_of result) (view self.new)) tap.old tap.new }
+        ensures careful { act_command act.entry ≡ commands.Reopen
             → IsCareful D.Disk (view self.old).disk (view self.new).disk }
         ensures same_disk { HaveSameDisk self.old self.new }
     {
-        match command {
-            Command::Begin => Some(self.begin()),
-            Command::Commit => Some(self.commit(tap)),
-            Command::Rollback => Some(self.rollback()),
-            Command::Checkpoint => Some(self.checkpoint()),
-            Command::Reopen => Some(self.reopen()),
-            Command::Node { label, pairs } => Some(self.make_node(label, pairs, tap)),
-            Command::Edge {
-                from,
-                label,
-                to,
-                pairs,
-            } => Some(self.make_edge(*from, label, *to, pairs, tap)),
-            Command::Set { target, key, value } => Some(self.set_value(*target, key, value, tap)),
-            Command::Unset { target, key } => Some(self.unset_value(*target, key, tap)),
-            Command::Delete(target) => Some(self.delete(*target, tap)),
-            Command::Index { label, key } => Some(self.make_index(label, key, tap)),
-            Command::Mutate { reading, mutation } => Some(self.mutate(reading, mutation, tap)),
-            _ => None,
+        match act {
+            Act::Begin => self.begin(),
+            Act::Commit => self.commit(tap),
+            Act::Rollback => self.rollback(),
+            Act::Checkpoint => self.checkpoint(),
+            Act::Reopen => self.reopen(),
+            Act::Change(change) => self.change(change, tap),
         }
     }
-}
 
-// Whether the command takes a snapshot or releases one, which only sessions that read have.
-fn is_of_snapshots(command: &Command) -> bool
-    ensures { IsTrue result ↔ IsOfSnapshots command.now }
-{
-    matches!(command, Command::Snapshot | Command::Release)
+    // Answers a line that reads the graph.
+    fn serve_question<K: Sink>(
+        &mut self,
+        session: u8,
+        question: Question<'_>,
+        mark: &[u8],
+        output: &mut K,
+    ) -> Turn
+        requires form { HasForm (question_command question) }
+        requires session { session ≤ 7 }
+        ensures answers { (line : List ℕ)
+            → IsParsed line session (question_command question.entry) mark.now
+            → AnswersLine D.Disk K.Sink (Whole line)
+            (with_sink self.old output.old) (with_sink self.new output.new) result }
+        ensures same_disk { HaveSameDisk self.old self.new }
+    {
+        if session != WRITER {
+            return self.read_snapshot(session, question, mark, output);
+        }
+        match self.health {
+            Health::Failed => give_answer(output, mark, Answer::Refused(Refusal::Failed)),
+            Health::Live => {
+                answer_question(
+                    self.alloc,
+                    &mut self.store,
+                    &self.names,
+                    question,
+                    mark,
+                    output,
+                )
+            }
+        }
+    }
 }
 
 // The answer of a line that spells no command.

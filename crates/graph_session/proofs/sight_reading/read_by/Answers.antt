@@ -1,5 +1,6 @@
 use Rattle.std.proofs.Common.{◌≡◌, ◌≢◌, ◌≤◌, ◌∙◌, ap, rules, subst, sym}
 use Rattle.fault_count.specs.Cause.{Rose}
+use Rattle.graph_session.specs.Jobs.{question_command}
 use Rattle.rec_bytes.specs.Space.{State}
 use Rattle.snap_store.specs.declared.view.View.{View}
 use Rattle.store_rules.specs.Graph.{graph_of}
@@ -14,11 +15,11 @@ lent : {R : Type 0} (P : R → R → Type 0) (old was now new : R) → old ≡ w
 lent P old was now new first last holds = subst (λ x. P was x) (sym last) (subst (λ x. P x now) first holds)
 
 pub returns-clause-gives : goal.returns-clause-gives
-returns-clause-gives g c = λ asks.
-    let given = c.answer_question.ensures asks in
+returns-clause-gives g c =
+    let given = c.answer_question.ensures in
     let name = sym c.view-view.ensures.same_space ∙ sym given.read.onward.same in
     let names = c.args.names.now.names in
-    let command = c.args.command.now in
+    let command = question_command c.args.question in
     record {
       reply = given.reply;
       form = given.form;
@@ -31,13 +32,13 @@ returns-clause-gives g c = λ asks.
     }
 
 pub returns-clause-onward : goal.returns-clause-onward
-returns-clause-onward g c = λ asks.
-    let given = c.answer_question.ensures asks in
+returns-clause-onward g c =
+    let given = c.answer_question.ensures in
     let name = sym c.view-view.ensures.same_space ∙ sym given.read.onward.same in
     lent g.R.Reads.onward _ _ _ _ c.view-view.ensures.committed (search rules) given.read.onward.beneath
 
 pub returns-clause-idle : goal.returns-clause-idle
-returns-clause-idle g c = λ asks spared.
-    let given = c.answer_question.ensures asks in
+returns-clause-idle g c = λ spared.
+    let given = c.answer_question.ensures in
     let name = sym c.view-view.ensures.same_space ∙ sym given.read.onward.same in
     lent (λ old new. new ≡ old) _ _ _ _ c.view-view.ensures.committed (search rules) (ap (λ (view : View _). view.committed.now) (given.idle spared))

@@ -26,17 +26,17 @@ given_back g {tells = tells} {sink = sink} {seen = seen} {shape = shape} {names 
     back (λ disk. GivesSight tells sink seen shape names command mark (counts was (g.faults disk)) before after turn)
 
 pub returns-clause-gives : goal.returns-clause-gives
-returns-clause-gives g c = λ asks.
-    let name = sym (c.read_by.ensures.onward asks).same in
-    given_back g.D.Disk _ _ (search (rules, disk_back)) (c.read_by.ensures.gives asks)
+returns-clause-gives g c =
+    let name = sym c.read_by.ensures.onward.same in
+    given_back g.D.Disk _ _ (search (rules, disk_back)) c.read_by.ensures.gives
 
 pub returns-clause-onward : goal.returns-clause-onward
-returns-clause-onward g c = λ asks.
-    let read = c.read_by.ensures.onward asks in
+returns-clause-onward g c =
+    let read = c.read_by.ensures.onward in
     let name = sym read.same in
     back (λ (s : Store _ _). OnlyReadsStore c.args.store.now s) _ _ (search rules) read.reads
 
 pub returns-clause-idle : goal.returns-clause-idle
-returns-clause-idle g c = λ asks spared.
-    let name = sym (c.read_by.ensures.onward asks).same in
-    back (λ (s : Store _ _). s ≡ c.args.store.now) _ _ (search rules) (ap (λ (space : Committed _ _). space.store.now) (c.read_by.ensures.idle asks spared))
+returns-clause-idle g c = λ spared.
+    let name = sym c.read_by.ensures.onward.same in
+    back (λ (s : Store _ _). s ≡ c.args.store.now) _ _ (search rules) (ap (λ (space : Committed _ _). space.store.now) (c.read_by.ensures.idle spared))

@@ -1,13 +1,31 @@
-use Rattle.std.proofs.Common.{Err, ap, refl}
-use Rattle.plain_graph.specs.Reply.{Done}
+use Rattle.std.proofs.Common.{ℕ, [], refl, sym}
+use Rattle.std.proofs.lemmas.List.{append-nil}
 use Rattle.plain_graph.specs.declared.command.Command.TheVariants as commands
 use Rattle.plain_graph.specs.declared.command.Target.TheVariants as targets
-use Rattle.graph_session.proofs.LineDrafts.{change-drafts, fault-stopped}
+use Rattle.graph_session.specs.declared.answer.Answer.TheVariants as answers
+use Rattle.graph_session.proofs.LineDrafts.{drafts-call}
 use Rattle.graph_session.proofs.session.Session.draft_deletion.Goals as goal
 
-pub returns-in-Ok-clause-drafts : goal.returns-in-Ok-clause-drafts
-returns-in-Ok-clause-drafts g c = change-drafts (commands.Delete (targets.Node c.args.id)) Done refl (λ told has. c.in-Ok.ensures.made told has) c.in-Ok.ensures.light c.in-Ok.ensures.writes
+pub returns-in-Node-clause-only : goal.returns-in-Node-clause-only
+returns-in-Node-clause-only g c =
+    let met = c.delete_node.ensures in
+    record { base = met.onward; weight = refl; health = refl; snaps = refl; brought = ([], sym (append-nil c.args.self.now.names.names)); later = met.cause.later }
 
-pub returns-in-Err-clause-drafts : goal.returns-in-Err-clause-drafts
-returns-in-Err-clause-drafts g c =
-    fault-stopped (commands.Delete (targets.Node c.args.id)) c.args.self.now c.delete_node.new.space.base.disk.now c.in-Err.fault (λ told has. c.in-Err.ensures.refused told has) (λ e. c.in-Err.ensures.cause.disk (ap Err e)) c.answer_of.result c.answer_of.ensures
+pub returns-in-Node-clause-drafts : goal.returns-in-Node-clause-drafts
+returns-in-Node-clause-drafts g c =
+    let met = c.delete_node.ensures in
+    rw (c.in-Node.is, c.drafted_done.ensures)
+    (drafts-call (λ (weight : ℕ). answers.Done) (λ (weight : ℕ). weight) (commands.Delete (targets.Node c.in-Node.id)) (λ weight. refl) (returns-in-Node-clause-only g c) c.delete_node.result (λ told. met.made told) met.light met.writes
+    (λ told has. met.refused told has) met.cause)
+
+pub returns-in-Edge-clause-only : goal.returns-in-Edge-clause-only
+returns-in-Edge-clause-only g c =
+    let met = c.delete_edge.ensures in
+    record { base = met.onward; weight = refl; health = refl; snaps = refl; brought = ([], sym (append-nil c.args.self.now.names.names)); later = met.cause.later }
+
+pub returns-in-Edge-clause-drafts : goal.returns-in-Edge-clause-drafts
+returns-in-Edge-clause-drafts g c =
+    let met = c.delete_edge.ensures in
+    rw (c.in-Edge.is, c.drafted_done-in-Edge.ensures)
+    (drafts-call (λ (weight : ℕ). answers.Done) (λ (weight : ℕ). weight) (commands.Delete (targets.Edge c.in-Edge.id)) (λ weight. refl) (returns-in-Edge-clause-only g c) c.delete_edge.result (λ told. met.made told) met.light met.writes
+    (λ told has. met.refused told has) met.cause)
