@@ -19,19 +19,23 @@ abbrev pub IsViewed : {D : Type 0} → DiskGhosts D → SharedView D → List Ex
 IsViewed disk session run view = IsViewedAs disk session view
 
 -- a turn carries it on
-pub walks_on : {D : Type 0} (disk : DiskGhosts D) (new : SharedView D) (run : List Exchange) (view : SharedView D) → Carries (over_disk disk) run view (IsViewedAs disk new) (IsViewed disk new)
+pub walks_on : {D : Type 0} (disk : DiskGhosts D) (new : SharedView D) (run : List Exchange) (view : SharedView D)
+    → Carries (over_disk disk) run view (IsViewedAs disk new) (IsViewed disk new)
 walks_on disk new run view = record { on = λ x last step comes. comes; stays = λ comes. comes }
 
 -- what a turn says from the view that the session has, it says from the one that the run has come to
-pub turn_from : {S K D : Type 0} (source : SourceGhosts S) (sink : SinkGhosts K) (disk : DiskGhosts D) (exit : Option Exit) (old new : Loop S K D) → TurnsOver source sink disk exit old new
+pub turn_from : {S K D : Type 0} (source : SourceGhosts S) (sink : SinkGhosts K) (disk : DiskGhosts D) (exit : Option Exit) (old new : Loop S K D)
+    → TurnsOver source sink disk exit old new
     → (view : SharedView D) → IsViewedAs disk old.session view → source.tells → sink.tells
     → TurnSays (over_disk disk) view (IsViewedAs disk new.session) (progress source sink disk old) (progress source sink disk new) exit
 turn_from {D = D} source sink disk exit old new turns view viewed s k =
-    subst (λ (v : SharedView D). TurnSays (over_disk disk) v (IsViewedAs disk new.session) (progress source sink disk old) (progress source sink disk new) exit) (sym viewed.is)
+    subst (λ (v : SharedView D). TurnSays (over_disk disk) v (IsViewedAs disk new.session) (progress source sink disk old) (progress source sink disk new) exit)
+    (sym viewed.is)
     (turns viewed.state viewed.is_at s k)
 
 -- What a session served from the view that opening left is served by the program that opened it, with what then holds at the end.
-pub walks_opened : {D : Type 0} (disk : DiskGhosts D) (options : RunOptions) (old new : D) (first : SharedView D) → OpensSession disk (config_for options) old first
+pub walks_opened : {D : Type 0} (disk : DiskGhosts D) (options : RunOptions) (old new : D) (first : SharedView D)
+    → OpensSession disk (config_for options) old first
     → ((run : List Exchange) (last : SharedView D) → last.session.disk ≡ new → EndsOver disk old new first run last)
     → (exit : Exit) (old_taken new_taken input left : List ℕ) → Writes old_taken new_taken (Serves (terms_on disk first new) exit input left)
     → Writes old_taken new_taken (Serves (terms_over disk options old new) exit input left)

@@ -14,15 +14,18 @@ use Rattle.graph_console.specs.declared.exit.Exit.{Exit}
 use Rattle.graph_console.specs.declared.exit.Exit.TheVariants as exits
 
 -- a value that is given or left out lies in its range
-given_within : (name : List ℕ) (low high : ℕ) (n : Option ℕ) (words : List (List ℕ)) (other : ℕ) → low ≤ other → other ≤ high → Gives name low high n words → (low ≤ unwrap_or n other) × (unwrap_or n other ≤ high)
+given_within : (name : List ℕ) (low high : ℕ) (n : Option ℕ) (words : List (List ℕ)) (other : ℕ) → low ≤ other → other ≤ high → Gives name low high n words
+    → (low ≤ unwrap_or n other) × (unwrap_or n other ≤ high)
 given_within name low high None words other least most gives = (least, most)
 given_within name low high (Some n) words other least most gives = (gives.number.least, gives.number.most)
 
-within_allowed : (threshold limit : ℕ) → 2 ≤ threshold → threshold ≤ 200 → 16 ≤ limit → limit ≤ 16777216 → is_allowed (record { threshold = threshold; limit = limit }) ≡ true
+within_allowed : (threshold limit : ℕ) → 2 ≤ threshold → threshold ≤ 200 → 16 ≤ limit → limit ≤ 16777216
+    → is_allowed (record { threshold = threshold; limit = limit }) ≡ true
 within_allowed threshold limit low high least most = grind (arith, nat_tests)
 
 -- a store may have the shape that a run asks for
-pub run_allowed : (words : List (List ℕ)) (options : RunOptions) (asked : Asked) → AsksFor words asked → asked ≡ Run options → is_allowed (shape_of (config_for options)) ≡ true
+pub run_allowed : (words : List (List ℕ)) (options : RunOptions) (asked : Asked) → AsksFor words asked → asked ≡ Run options
+    → is_allowed (shape_of (config_for options)) ≡ true
 run_allowed words options asked asks is =
     let run : AsksForRun words options = subst (λ (a : Asked). AsksFor words a) is asks in
     let threshold = given_within _ 2 200 options.threshold run.threshold_words 50 (omega arith) (omega arith) run.threshold in
@@ -70,7 +73,8 @@ pub follow-not_sample : (a b : SampleOptions) (asked : Asked) → Follow a ≡ a
 follow-not_sample a b asked one two = cc
 
 -- words that ask for either don't ask for a run
-pub asks-not_run : (words : List (List ℕ)) (run : RunOptions) (asked : Asked) → ((other : Asked) → AsksFor words other → other ≡ asked) → asked ≡ Run run → ¬ AskForSample words
+pub asks-not_run : (words : List (List ℕ)) (run : RunOptions) (asked : Asked) → ((other : Asked) → AsksFor words other → other ≡ asked) → asked ≡ Run run
+    → ¬ AskForSample words
 asks-not_run words run asked only is (options, inl asks) = sample-not_run options run asked (only (Sample options) asks) is
 asks-not_run words run asked only is (options, inr asks) = follow-not_run options run asked (only (Follow options) asks) is
 
@@ -80,7 +84,8 @@ asks-nothing words none (options, inl asks) = none (Sample options) asks
 asks-nothing words none (options, inr asks) = none (Follow options) asks
 
 -- a sample ends in no other way
-pub other_exit : (exit : Exit) → IsSampleExit exit → (¬ (exit ≡ exits.Usage)) × (¬ (exit ≡ exits.InputFault)) × (¬ (exit ≡ exits.DiskFault)) × (¬ (exit ≡ exits.StoreFailed))
+pub other_exit : (exit : Exit) → IsSampleExit exit → (¬ (exit ≡ exits.Usage)) × (¬ (exit ≡ exits.InputFault)) × (¬ (exit ≡ exits.DiskFault))
+    × (¬ (exit ≡ exits.StoreFailed))
 other_exit exit (inl done) = (λ is. cc, λ is. cc, λ is. cc, λ is. cc)
 other_exit exit (inr (inl lacks)) = (λ is. cc, λ is. cc, λ is. cc, λ is. cc)
 other_exit exit (inr (inr fails)) = (λ is. cc, λ is. cc, λ is. cc, λ is. cc)

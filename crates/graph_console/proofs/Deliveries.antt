@@ -1,5 +1,6 @@
 -- What a delivery makes of a follower that has come through the sender's first shipments.
-use Rattle.std.proofs.Common.{◌≡◌, ◌∙◌, ℕ, zero, suc, ◌+◌, ◌*◌, ◌<◌, ◌≤◌, nat_eq, nat_le, Bool, true, false, cond, inr, List, Some, Result, Ok, Err, IfOk, length, ap, sym, subst, arith, refl}
+use Rattle.std.proofs.Common.{◌≡◌, ◌∙◌, ℕ, zero, suc, ◌+◌, ◌*◌, ◌<◌, ◌≤◌, nat_eq, nat_le, Bool, true, false, cond, inr}
+use Rattle.std.proofs.Common.{List, Some, Result, Ok, Err, IfOk, length, ap, sym, subst, arith, refl}
 use Rattle.std.specs.List.{slice_get}
 use Rattle.std.proofs.lemmas.Bool.Decides.{nat_tests}
 use Rattle.std.proofs.lemmas.Option.{slice_get_within}
@@ -41,7 +42,8 @@ deliver_gap number so_far high =
 
 -- ---- a delivery
 
-module _ {D : Type 0} (g : Ghosts D) (shape : Shape) (sent : List (List ℕ)) (is : IsSent shape sent) (place : ℕ) (bytes : List ℕ) (got : slice_get sent place ≡ Some bytes)
+module _ {D : Type 0} (g : Ghosts D) (shape : Shape) (sent : List (List ℕ)) (is : IsSent shape sent) (place : ℕ) (bytes : List ℕ)
+    (got : slice_get sent place ≡ Some bytes)
     (so_far : Delivered) (old new : View D) (reads : g.tells_reads) (has : HasTaken g shape sent so_far old) (same_shape : new.shape ≡ old.shape) where
   number_is : number_of bytes ≡ place + 1
   number_is = (is.each place bytes got).1
@@ -58,19 +60,22 @@ module _ {D : Type 0} (g : Ghosts D) (shape : Shape) (sent : List (List ℕ)) (i
         (subst (λ (content : Files). Redoes content old.records) (sym same_reads) has.stored);
   }
 
-  pub takes_old : number_of bytes ≤ old.have → IsUnchanged g old new → (record so_far { old = so_far.old + 1 } ≡ deliver (place + 1) so_far) × HasTaken g shape sent (record so_far { old = so_far.old + 1 }) new
+  pub takes_old : number_of bytes ≤ old.have → IsUnchanged g old new → (record so_far { old = so_far.old + 1 } ≡ deliver (place + 1) so_far)
+      × HasTaken g shape sent (record so_far { old = so_far.old + 1 }) new
   takes_old low same =
       let have = has.have in
       let number = number_is in
       (sym (deliver_old (place + 1) so_far (omega arith)), unchanged (so_far.old + 1) so_far.gap same)
 
-  pub takes_gap : old.have + 1 < number_of bytes → IsUnchanged g old new → (record so_far { gap = so_far.gap + 1 } ≡ deliver (place + 1) so_far) × HasTaken g shape sent (record so_far { gap = so_far.gap + 1 }) new
+  pub takes_gap : old.have + 1 < number_of bytes → IsUnchanged g old new → (record so_far { gap = so_far.gap + 1 } ≡ deliver (place + 1) so_far)
+      × HasTaken g shape sent (record so_far { gap = so_far.gap + 1 }) new
   takes_gap high same =
       let have = has.have in
       let number = number_is in
       (sym (deliver_gap (place + 1) so_far (omega arith)), unchanged so_far.old (so_far.gap + 1) same)
 
-  pub takes_next : IsNextFor old bytes → HasApplied g bytes old new → (record so_far { applied = so_far.applied + 1 } ≡ deliver (place + 1) so_far) × HasTaken g shape sent (record so_far { applied = so_far.applied + 1 }) new
+  pub takes_next : IsNextFor old bytes → HasApplied g bytes old new → (record so_far { applied = so_far.applied + 1 } ≡ deliver (place + 1) so_far)
+      × HasTaken g shape sent (record so_far { applied = so_far.applied + 1 }) new
   takes_next next applied =
       let have = has.have in
       let number = number_is in
@@ -93,10 +98,12 @@ module _ {D : Type 0} (g : Ghosts D) (shape : Shape) (sent : List (List ℕ)) (i
 -- ---- an opening
 
 -- a follower that is opened on a disk of zeros has none
-pub opens_none : {D : Type 0} (g : Ghosts D) (config : Config) (sent : List (List ℕ)) (old : D) (new : View D) → g.tells_reads → IsSent (shape_of config) sent → IsZeros (g.reads old) → IsOpened g config old new
+pub opens_none : {D : Type 0} (g : Ghosts D) (config : Config) (sent : List (List ℕ)) (old : D) (new : View D) → g.tells_reads → IsSent (shape_of config) sent
+    → IsZeros (g.reads old) → IsOpened g config old new
     → HasTaken g (shape_of config) sent none_delivered new
 opens_none g config sent old new reads is zeros opened =
-    let found = opens_as config sent (g.reads old) 0 new.shape new.records is (omega arith) (inr (refl, zeros_blank (g.reads old) zeros)) (opened.opens reads) in
+    let found = opens_as config sent (g.reads old) 0 new.shape new.records is (omega arith) (inr (refl, zeros_blank (g.reads old) zeros))
+    (opened.opens reads) in
     record {
       shape_is = found.1;
       have = opened.have reads ∙ ap number_in found.0 ∙ number_in-follower_records (shape_of config) sent 0 (omega arith);
@@ -125,24 +132,29 @@ reaches (suc n) so_far = by (deliver_first n so_far) (reaches n so_far)
 -- ---- a loop of deliveries
 
 -- The follower still takes shipments, so many were delivered since it was as it was first, and this came of them.
-pub record HasDelivered {D : Type 0} (g : Ghosts D) (sent : List (List ℕ)) (first : Delivered) (start : View D) (counted : ℕ) (all delivered : Delivered) (now : View D) : Type 0 where
+pub record HasDelivered {D : Type 0} (g : Ghosts D) (sent : List (List ℕ)) (first : Delivered) (start : View D) (counted : ℕ) (all delivered : Delivered)
+    (now : View D) : Type 0 where
   pub live : now.live ≡ true
   pub count : count_delivered delivered ≡ counted
-  pub delivers : g.tells_reads → (shape : Shape) → IsSent shape sent → HasTaken g shape sent first start → (delivered ≡ all) × HasTaken g shape sent delivered now
+  pub delivers : g.tells_reads → (shape : Shape) → IsSent shape sent → HasTaken g shape sent first start → (delivered ≡ all)
+      × HasTaken g shape sent delivered now
 
 -- one delivery more
-pub delivered_more : {D : Type 0} (g : Ghosts D) (sent : List (List ℕ)) (first : Delivered) (start : View D) (counted counted_next : ℕ) (all all_next : Delivered) (so_far delivered : Delivered) (now next : View D) (place : ℕ) (bytes : List ℕ)
-    → HasDelivered g sent first start counted all so_far now → slice_get sent place ≡ Some bytes → counted_next ≡ counted + 1 → all_next ≡ deliver (place + 1) all → next.live ≡ true → count_delivered delivered ≡ count_delivered so_far + 1
+pub delivered_more : {D : Type 0} (g : Ghosts D) (sent : List (List ℕ)) (first : Delivered) (start : View D) (counted counted_next : ℕ)
+    (all all_next : Delivered) (so_far delivered : Delivered) (now next : View D) (place : ℕ) (bytes : List ℕ)
+    → HasDelivered g sent first start counted all so_far now → slice_get sent place ≡ Some bytes → counted_next ≡ counted + 1
+    → all_next ≡ deliver (place + 1) all → next.live ≡ true → count_delivered delivered ≡ count_delivered so_far + 1
     → (g.tells_reads → (shape : Shape) (sent : List (List ℕ)) (place : ℕ) → IsSent shape sent → slice_get sent place ≡ Some bytes → HasTaken g shape sent so_far now → (delivered ≡ deliver (place + 1) so_far) × HasTaken g shape sent delivered next)
     → HasDelivered g sent first start counted_next all_next delivered next
-delivered_more g sent first start counted counted_next all all_next so_far delivered now next place bytes before got counted_is all_is live count takes = record {
-  live = live;
-  count = count ∙ ap (λ (n : ℕ). n + 1) before.count ∙ sym counted_is;
-  delivers = λ reads shape is has.
-      let until = before.delivers reads shape is has in
-      let one = takes reads shape sent place is got until.1 in
-      (one.0 ∙ ap (deliver (place + 1)) until.0 ∙ sym all_is, one.1);
-}
+delivered_more g sent first start counted counted_next all all_next so_far delivered now next place bytes before got counted_is all_is live count takes =
+    record {
+      live = live;
+      count = count ∙ ap (λ (n : ℕ). n + 1) before.count ∙ sym counted_is;
+      delivers = λ reads shape is has.
+          let until = before.delivers reads shape is has in
+          let one = takes reads shape sent place is got until.1 in
+          (one.0 ∙ ap (deliver (place + 1)) until.0 ∙ sym all_is, one.1);
+    }
 
 pub one_more : (n : ℕ) → n + 1 ≡ suc n
 one_more n = omega arith
@@ -166,7 +178,8 @@ unfolding deliver_first
 no_first so_far = refl
 
 -- a follower that was delivered all of them has all of them
-pub has_all : {D : Type 0} (g : Ghosts D) (shape : Shape) (sent : List (List ℕ)) (drawn delivered : Delivered) (now : View D) → delivered ≡ deliver_first (length sent) drawn → HasTaken g shape sent delivered now
+pub has_all : {D : Type 0} (g : Ghosts D) (shape : Shape) (sent : List (List ℕ)) (drawn delivered : Delivered) (now : View D)
+    → delivered ≡ deliver_first (length sent) drawn → HasTaken g shape sent delivered now
     → Redoes (g.reads now.disk) (follower_records shape sent (length sent))
 has_all g shape sent drawn delivered now all has =
     let least : length sent ≤ (deliver_first (length sent) drawn).applied = reaches (length sent) drawn in
@@ -176,7 +189,8 @@ has_all g shape sent drawn delivered now all has =
     subst (Redoes (g.reads now.disk)) (has.records ∙ ap (follower_records shape sent) number) has.stored
 
 -- all deliveries, from an opening on
-pub takes_all : {D E : Type 0} (g : Ghosts D) (config : Config) (sent : List (List ℕ)) (x : ℕ) (old : D) (opened new : View D) (result : Result Delivered E) → IsOpened g config old opened
+pub takes_all : {D E : Type 0} (g : Ghosts D) (config : Config) (sent : List (List ℕ)) (x : ℕ) (old : D) (opened new : View D) (result : Result Delivered E)
+    → IsOpened g config old opened
     → (g.tells_reads → (shape : Shape) → IsSent shape sent → HasTaken g shape sent none_delivered opened → IfOk result (λ delivered. (delivered ≡ all_delivered (length sent) x) × HasTaken g shape sent delivered new))
     → IfOk result (TakesAll g (shape_of config) sent x old new.disk)
 takes_all g config sent x old opened new (Ok delivered) opens takes = λ reads is zeros.

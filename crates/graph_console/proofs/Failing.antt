@@ -52,7 +52,8 @@ module _ (old new : State) (live : old.standing ≡ Live) where
       by Change done = changed_live command reply done
       by Question done = stays_live done.4
 
-  stopped_live : (x : Exchange) (lines : List (List ℕ)) (fault : Fault) → Stops old x.line x.disk_failed lines fault new → (told_in fault ≡ 1) ⊎ (new.standing ≡ Live)
+  stopped_live : (x : Exchange) (lines : List (List ℕ)) (fault : Fault) → Stops old x.line x.disk_failed lines fault new → (told_in fault ≡ 1)
+      ⊎ (new.standing ≡ Live)
   stopped_live x lines replies.PastCount stops = inr (stays_live stops.4)
   stopped_live x lines replies.NoMemory stops = inr (stays_live stops.1)
   stopped_live x lines replies.DiskFailed stops = inl refl
@@ -69,13 +70,15 @@ module _ (old new : State) (live : old.standing ≡ Live) where
       by reply s = inr (carried_live s.1 reply s.3)
 
 -- so does a step of the console of all sessions: a line of a session that reads fails no console
-shared_told : (old new : SharedState) → old.writer.standing ≡ Live → (x : Exchange) → SharedStep old x new → (told_fault x.reply ≡ 1) ⊎ (new.writer.standing ≡ Live)
+shared_told : (old new : SharedState) → old.writer.standing ≡ Live → (x : Exchange) → SharedStep old x new → (told_fault x.reply ≡ 1)
+    ⊎ (new.writer.standing ≡ Live)
 shared_told old new live x step = elim (writes_or_stays old x new step) [
   | inl writes ↦ step_told old.writer new.writer live x writes.1
   | inr stays ↦ inr (stays_live old.writer new.writer live stays.1)
 ]
 
-run_told : (tells : Type 0) → tells → (first : SharedState) (run : List Exchange) (last : SharedState) → Run tells first run last → first.writer.standing ≡ Live → (1 ≤ told_faults run) ⊎ (last.writer.standing ≡ Live)
+run_told : (tells : Type 0) → tells → (first : SharedState) (run : List Exchange) (last : SharedState) → Run tells first run last → first.writer.standing ≡ Live
+    → (1 ≤ told_faults run) ⊎ (last.writer.standing ≡ Live)
 run_told tells told first [] last same live = inr (ap (λ (s : SharedState). s.writer.standing) same ∙ live)
 run_told tells told first (x ∷ later) last steps live = elim (shared_told first steps.0 live x (steps.1.step told)) [
   | inl one ↦ inl (omega (arith, one))
@@ -96,5 +99,6 @@ pub failed_rose : {D : Type 0} (g : Ghosts D) (options : RunOptions) (old new : 
 failed_rose g options old new told exit before after input left serves is =
     let r = (subst (λ (x : Exit). Writes before after (Serves (terms_for g options old new) x input left)) is serves).2 in
     let counted : 1 ≤ told_faults r.run =
-    ⊎_elim (λ one. one) (λ live. absurd (live-not_failed r.last.writer.standing live r.says.0)) (run_told g.tells_reads told r.first r.run r.last r.steps r.begins.writer.live) in
+    ⊎_elim (λ one. one) (λ live. absurd (live-not_failed r.last.writer.standing live r.says.0))
+    (run_told g.tells_reads told r.first r.run r.last r.steps r.begins.writer.live) in
     count_rose (g.faults old) (g.faults new) (told_faults r.run) counted r.arrives.counts

@@ -25,7 +25,8 @@ use Rattle.graph_console.specs.declared.exit.Exit.TheVariants.{Done, NoMemory, O
 use Rattle.graph_console.specs.declared.follow.delivered.Delivered.{Delivered}
 
 -- it lacks memory
-pub lacks_follow : (tells : Type 0) (options : SampleOptions) (old new : List ℕ) (exit : Exit) → ((exit ≡ NoMemory) × (new ≡ old ++ fault_line WantOfMemory)) ⊎ ((exit ≡ OutputFault) × TakesFront old new (fault_line WantOfMemory))
+pub lacks_follow : (tells : Type 0) (options : SampleOptions) (old new : List ℕ) (exit : Exit) → ((exit ≡ NoMemory) × (new ≡ old ++ fault_line WantOfMemory))
+    ⊎ ((exit ≡ OutputFault) × TakesFront old new (fault_line WantOfMemory))
     → Writes old new (Follows tells options exit)
 lacks_follow tells options old new exit (inl lacks) = (fault_line WantOfMemory, lacks.1, subst (λ (e : Exit). Follows tells options e (fault_line WantOfMemory)) (sym lacks.0) refl)
 lacks_follow tells options old new exit (inr fails) = let written : List ℕ = take fails.1.0 (fault_line WantOfMemory) in (
@@ -36,7 +37,8 @@ lacks_follow tells options old new exit (inr fails) = let written : List ℕ = t
 )
 
 -- it writes its text
-pub ends_follow : (tells : Type 0) (options : SampleOptions) (text old new : List ℕ) (exit : Exit) → EndsFollow tells options text → ((exit ≡ Done) × (new ≡ old ++ text)) ⊎ ((exit ≡ OutputFault) × TakesFront old new text)
+pub ends_follow : (tells : Type 0) (options : SampleOptions) (text old new : List ℕ) (exit : Exit) → EndsFollow tells options text
+    → ((exit ≡ Done) × (new ≡ old ++ text)) ⊎ ((exit ≡ OutputFault) × TakesFront old new text)
     → Writes old new (Follows tells options exit)
 ends_follow tells options text old new exit ends (inl all) = (text, all.1, subst (λ (e : Exit). Follows tells options e text) (sym all.0) ends)
 ends_follow tells options text old new exit ends (inr fails) = let written : List ℕ = take fails.1.0 text in (
@@ -49,13 +51,17 @@ ends_follow tells options text old new exit ends (inr fails) = let written : Lis
 -- ---- its text
 
 -- a disk with all shipments of a sender stands for the sender's graph
-all_stands : (shape : Shape) (sent : List (List ℕ)) (content : Files) → IsSent shape sent → Redoes content (follower_records shape sent (length sent)) → Stands content shape (sent_graph shape sent (length sent))
-all_stands shape sent content is redoes = newest-stands content shape (sent_graph shape sent (length sent)) (taken_stands shape sent (length sent) content is (omega arith) (inl redoes))
+all_stands : (shape : Shape) (sent : List (List ℕ)) (content : Files) → IsSent shape sent → Redoes content (follower_records shape sent (length sent))
+    → Stands content shape (sent_graph shape sent (length sent))
+all_stands shape sent content is redoes = newest-stands content shape (sent_graph shape sent (length sent))
+    (taken_stands shape sent (length sent) content is (omega arith) (inl redoes))
 
 -- what comes of the deliveries, and the counts of the follower's graph, where the disk has all shipments
-pub follow_text : (tells : Type 0) (options : SampleOptions) (x : ℕ) (sent : List (List ℕ)) (delivered : Delivered) (content : Files) (text : List ℕ) → SendsSample tells options x sent
+pub follow_text : (tells : Type 0) (options : SampleOptions) (x : ℕ) (sent : List (List ℕ)) (delivered : Delivered) (content : Files) (text : List ℕ)
+    → SendsSample tells options x sent
     → (delivered ≡ all_delivered (length sent) x) × Redoes content (follower_records (shape_of (sample_config options)) sent (length sent))
-    → ((shape : Shape) (graph : Graph) → Stands content shape graph → text ≡ delivered_line delivered ++ text_line (counts_text (counts_of graph))) → EndsFollow tells options text
+    → ((shape : Shape) (graph : Graph) → Stands content shape graph → text ≡ delivered_line delivered ++ text_line (counts_text (counts_of graph)))
+    → EndsFollow tells options text
 follow_text tells options x sent delivered content text sends taken told =
     let shape = shape_of (sample_config options) in
     let graph : Graph = sent_graph shape sent (length sent) in

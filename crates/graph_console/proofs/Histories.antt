@@ -18,7 +18,8 @@ adds_last old x new graphs (inl adds) = sym (ap (last_graph old.committed) adds.
 adds_last old x new graphs (inr (inl adds)) = sym (ap (last_graph old.committed) adds.2)
 adds_last old x new graphs (inr (inr adds)) = adds.1 ∙ sym (ap (last_graph old.committed) adds.2)
 
-pub transactions_last : (tells : Type 0) (first : SharedState) (run : List Exchange) (last : SharedState) (graphs : List Graph) → Transactions tells first run last graphs → last.writer.committed ≡ last_graph first.writer.committed graphs
+pub transactions_last : (tells : Type 0) (first : SharedState) (run : List Exchange) (last : SharedState) (graphs : List Graph)
+    → Transactions tells first run last graphs → last.writer.committed ≡ last_graph first.writer.committed graphs
 transactions_last tells first [] last graphs made = ap (λ (s : SharedState). s.writer.committed) made.0 ∙ sym (ap (last_graph first.writer.committed) made.1)
 transactions_last tells first (x ∷ later) last graphs made =
     let next : SharedState = made.0 in
@@ -27,6 +28,7 @@ transactions_last tells first (x ∷ later) last graphs made =
     ∙ sym (last_more first.writer.committed made.2 made.3)
     ∙ sym (ap (last_graph first.writer.committed) made.6)
 
-pub transactions_run : (tells : Type 0) (first : SharedState) (run : List Exchange) (last : SharedState) (graphs : List Graph) → Transactions tells first run last graphs → Run tells first run last
+pub transactions_run : (tells : Type 0) (first : SharedState) (run : List Exchange) (last : SharedState) (graphs : List Graph)
+    → Transactions tells first run last graphs → Run tells first run last
 transactions_run tells first [] last graphs made = made.0
 transactions_run tells first (x ∷ later) last graphs made = (made.0, made.1, transactions_run tells made.0 later last made.3 made.5)

@@ -47,7 +47,8 @@ module _ {D : Type 0} (g : Ghosts D) (laws : Laws g) (start : Graph) where
   settled events disk has had = record { now = has; meanwhile = λ image left. had image (laws.only disk image laws.images left) }
 
   -- a run begins with the graph that what is read stands for
-  begun : (events : List (Event D)) (w : World D) → IsKept g start events w → (options : RunOptions) (first : SharedState) → StartsRun g w.disk (config_for options) first → MayHave g false start events first.writer.committed
+  begun : (events : List (Event D)) (w : World D) → IsKept g start events w → (options : RunOptions) (first : SharedState)
+      → StartsRun g w.disk (config_for options) first → MayHave g false start events first.writer.committed
   begun events w kept options first starts =
       let read = kept.now (g.reads w.disk) (laws.read_is_image w.disk) in
       subst (λ (graph : Graph). MayHave g false start events graph) (sym (starts.writer.same laws.reads read.0 read.1 read.2)) read.3
@@ -62,7 +63,8 @@ module _ {D : Type 0} (g : Ghosts D) (laws : Laws g) (start : Graph) where
         meanwhile = λ image left. inside image ((may.2.crash (laws.reads, laws.images)).each image left);
       }
     where
-      inside : (image : Files) → g.may_leave w.disk image ⊎ IsAdmittedInRun g.tells_reads first run last image → IsLeft g true start (Runs options first run last now ∷ events) image
+      inside : (image : Files) → g.may_leave w.disk image ⊎ IsAdmittedInRun g.tells_reads first run last image
+          → IsLeft g true start (Runs options first run last now ∷ events) image
       inside image (inl old) = let was = kept.now image old in (was.0, was.1, was.2, inl was.3)
       inside image (inr by) = (by.0.writer.shape, by.2.0, by.2.2, inr (begun events w kept options first may.0, by.0, by.1, by.2.1))
   on events w kept (Refuses options why now) may = record {
@@ -76,16 +78,21 @@ module _ {D : Type 0} (g : Ghosts D) (laws : Laws g) (start : Graph) where
       moments : AtEachMoment g w.disk now (LeavesOldOrSame (g.reads w.disk) (g.may_leave w.disk) (config_for options))
       moments = may.crash (laws.reads, laws.images) (stands-recoverable (g.reads w.disk) read.0 read.1 read.2)
 
-      back : (image : Files) → LeavesOldOrSame (g.reads w.disk) (g.may_leave w.disk) (config_for options) image → (shape : Shape) × (graph : Graph) × Stands image shape graph × MayHave g false start events graph
+      back : (image : Files) → LeavesOldOrSame (g.reads w.disk) (g.may_leave w.disk) (config_for options) image → (shape : Shape) × (graph : Graph)
+          × Stands image shape graph × MayHave g false start events graph
       back image (inl old) = kept.now image old
-      back image (inr made) = left_same (g.reads w.disk) image (config_for options) read.0 read.1 (λ (graph : Graph). MayHave g false start events graph) read.2 read.3 made
-  on events w kept (Stops now) may = settled (Stops now ∷ events) now (λ image left. kept.now image (may image left)) (λ image left. kept.now image (may image left))
+      back image (inr made) = left_same (g.reads w.disk) image (config_for options) read.0 read.1 (λ (graph : Graph). MayHave g false start events graph) read.2
+          read.3 made
+  on events w kept (Stops now) may = settled (Stops now ∷ events) now (λ image left. kept.now image (may image left))
+      (λ image left. kept.now image (may image left))
   on events w kept (Stops_inside now) may =
       settled (Stops_inside now ∷ events) now (λ image left. kept.meanwhile image (may image left)) (λ image left. kept.meanwhile image (may image left))
 
   -- after each list of events
-  pub keeps_always : (shape : Shape) (disk : D) → ((image : Files) → g.may_leave disk image → Stands image shape start) → (events : List (Event D)) (end : World D) → Happen g (start_of g disk) events end → IsKept g start events end
+  pub keeps_always : (shape : Shape) (disk : D) → ((image : Files) → g.may_leave disk image → Stands image shape start)
+      → (events : List (Event D)) (end : World D) → Happen g (start_of g disk) events end → IsKept g start events end
   keeps_always shape disk stands [] end same =
       subst (λ (w : World D). IsKept g start [] w) (sym same) (settled [] disk (λ image left. (shape, start, stands image left, refl)) (λ image left. (shape, start, stands image left, refl)))
   keeps_always shape disk stands (event ∷ earlier) end happen =
-      subst (λ (w : World D). IsKept g start (event ∷ earlier) w) (sym happen.3) (on earlier happen.0 (keeps_always shape disk stands earlier happen.0 happen.1) event happen.2)
+      subst (λ (w : World D). IsKept g start (event ∷ earlier) w) (sym happen.3)
+      (on earlier happen.0 (keeps_always shape disk stands earlier happen.0 happen.1) event happen.2)

@@ -85,11 +85,13 @@ module _ {D : Type 0} (disk : Ghosts D) where
     stays-read : (space : Key → Rec) (old new : D) → Redoes (disk.reads old) space → OnlyReads disk old new → StaysAsItWas disk old new space
     stays-read space old new redoes reads = record {
       read = Redoes-kept space (disk.reads old) (disk.reads new) redoes reads.keeps;
-      crash = λ images. at_each_moment_weaker disk old new (disk.may_leave old) (λ left. disk.may_leave old left ⊎ Redoes left space) (reads.time images) (λ content was. inl was);
+      crash = λ images. at_each_moment_weaker disk old new (disk.may_leave old) (λ left. disk.may_leave old left ⊎ Redoes left space) (reads.time images)
+          (λ content was. inl was);
     }
 
     -- one stretch after the other
-    pub stays-on : (space : Key → Rec) (first old new : D) → StaysAsItWas disk first old space → StaysAsItWas disk old new space → StaysAsItWas disk first new space
+    pub stays-on : (space : Key → Rec) (first old new : D) → StaysAsItWas disk first old space → StaysAsItWas disk old new space
+        → StaysAsItWas disk first new space
     stays-on space first old new before more =
         let P : Files → Type 0 = λ left. disk.may_leave first left ⊎ Redoes left space in
         record {
@@ -126,7 +128,8 @@ module _ {D : Type 0} (disk : Ghosts D) where
       failed-read is failed reads = inr (inr (told-failed reply is), space, failed-records failed space (stays-read space old.disk new.disk has.read reads).read)
 
       -- or has the one or the other
-      failed-either : reply ≡ Faulted [] DiskFailed → new.console.health ≡ healths.Failed → (a b : Key → Rec) → Redoes (disk.reads new.disk) a ⊎ Redoes (disk.reads new.disk) b → Ends
+      failed-either : reply ≡ Faulted [] DiskFailed → new.console.health ≡ healths.Failed → (a b : Key → Rec) → Redoes (disk.reads new.disk) a
+          ⊎ Redoes (disk.reads new.disk) b → Ends
       failed-either is failed a b (inl redoes) = inr (inr (told-failed reply is), a, failed-records failed a redoes)
       failed-either is failed a b (inr redoes) = inr (inr (told-failed reply is), b, failed-records failed b redoes)
 
@@ -157,7 +160,8 @@ module _ {D : Type 0} (disk : Ghosts D) where
               stays = record {
                 read = subst (λ (s : Key → Rec). Redoes (disk.reads new.disk) s) same (brought.stored.read told);
                 crash = λ images.
-                    at_each_moment_weaker disk old.disk new.disk (λ left. Redoes left old.console.committed) (λ left. disk.may_leave old.disk left ⊎ Redoes left space) (leaves (told, images))
+                    at_each_moment_weaker disk old.disk new.disk (λ left. Redoes left old.console.committed)
+                    (λ left. disk.may_leave old.disk left ⊎ Redoes left space) (leaves (told, images))
                     (λ content redoes. inr (subst (λ (s : Key → Rec). Redoes content s) same redoes));
               };
               committed = λ live. brought.committed told ∙ same;
@@ -193,7 +197,8 @@ module _ {D : Type 0} (disk : Ghosts D) where
         change-records command spelled change (inr (inr (inr (inr (fault, inr (closed, inr (inr (now, from, doubt)))))))) =
             failed-either fault.0 doubt.health old.console.committed now (doubt.stored.read told)
 
-        answer-records : (kind : Kind) (command : Command) → kind_of command ≡ kind → SpellsLine line command → IsServed old.console command → MayAnswerKind disk old reply new kind command → Ends
+        answer-records : (kind : Kind) (command : Command) → kind_of command ≡ kind → SpellsLine line command → IsServed old.console command
+            → MayAnswerKind disk old reply new kind command → Ends
         answer-records Blanks command is spelled served may = absurd may
         answer-records Ending command is spelled served may = absurd may
         answer-records Bound command is spelled served may = bound-records command spelled may
@@ -214,7 +219,8 @@ module _ {D : Type 0} (disk : Ghosts D) where
       same-view : new ≡ old → EndsRecords space line old.session reply new.session
       same-view same = none-called (ap (λ (v : SharedView D). v.session) same)
 
-      reader-records : (reader : ℕ) (command : Command) → MayServeReader disk reader old reply new command → EndsRecords space line old.session reply new.session
+      reader-records : (reader : ℕ) (command : Command) → MayServeReader disk reader old reply new command
+          → EndsRecords space line old.session reply new.session
       reader-records reader command (inl (is, inl taken)) = none-called taken.2
       reader-records reader command (inl (is, inr lacks)) = same-view lacks.1
       reader-records reader command (inr (inl (is, released))) = none-called released.3
@@ -234,7 +240,8 @@ module _ {D : Type 0} (disk : Ghosts D) where
     -- ---- over a run
 
     -- after any lines there are some records
-    pub run-records : (first : SharedView D) (run : List Exchange) (last : SharedView D) → RunBy (StepsOver disk) first run last → (space : Key → Rec) → HasRecords space first.session
+    pub run-records : (first : SharedView D) (run : List Exchange) (last : SharedView D) → RunBy (StepsOver disk) first run last → (space : Key → Rec)
+        → HasRecords space first.session
         → (other : Key → Rec) × HasRecords other last.session
     run-records first [] last same space has = (space, subst (λ (v : SharedView D). HasRecords space v.session) (sym same) has)
     run-records first (x ∷ later) last steps space has = elim (line-records space x.line first x.reply steps.0 has steps.1.may) [
@@ -242,15 +249,18 @@ module _ {D : Type 0} (disk : Ghosts D) where
       | inr loud ↦ run-records steps.0 later last steps.2 loud.1 loud.2
     ]
 
-    quiet-not_loud : (line : InputLine) (old : SessionView D) (reply : Reply) → ¬ Acknowledges old.console.is_open line reply → told_fault reply ≡ 0 → ¬ IsLoud line old reply
+    quiet-not_loud : (line : InputLine) (old : SessionView D) (reply : Reply) → ¬ Acknowledges old.console.is_open line reply → told_fault reply ≡ 0
+        → ¬ IsLoud line old reply
     quiet-not_loud line old reply none untold (inl acknowledges) = none acknowledges
     quiet-not_loud line old reply none untold (inr tells) = tells untold
 
     -- after quiet ones they are the same
-    pub quiet-records : (first : SharedView D) (run : List Exchange) (last : SharedView D) → RunBy (StepsQuietly disk) first run last → (space : Key → Rec) → HasRecords space first.session
+    pub quiet-records : (first : SharedView D) (run : List Exchange) (last : SharedView D) → RunBy (StepsQuietly disk) first run last → (space : Key → Rec)
+        → HasRecords space first.session
         → StaysAsItWas disk first.session.disk last.session.disk space
     quiet-records first [] last same space has =
-        subst (λ (v : SharedView D). StaysAsItWas disk first.session.disk v.session.disk space) (sym same) (stays-read space first.session.disk first.session.disk has.read (only_reads_none disk first.session.disk only))
+        subst (λ (v : SharedView D). StaysAsItWas disk first.session.disk v.session.disk space) (sym same)
+        (stays-read space first.session.disk first.session.disk has.read (only_reads_none disk first.session.disk only))
     quiet-records first (x ∷ later) last steps space has = elim (line-records space x.line first x.reply steps.0 has steps.1.step.may) [
       | inl keeps ↦
           stays-on space first.session.disk steps.0.session.disk last.session.disk keeps.stays
@@ -259,7 +269,8 @@ module _ {D : Type 0} (disk : Ghosts D) where
     ]
 
     -- records that a view has are those that what is read redoes to
-    pub same-has : (space other : Key → Rec) (session : SessionView D) → HasRecords other session → Redoes (disk.reads session.disk) space → HasRecords space session
+    pub same-has : (space other : Key → Rec) (session : SessionView D) → HasRecords other session → Redoes (disk.reads session.disk) space
+        → HasRecords space session
     same-has space other session has redoes = record {
       read = redoes;
       committed = λ live. has.committed live ∙ Redoes-unique (disk.reads session.disk) other space has.read redoes;
@@ -267,11 +278,13 @@ module _ {D : Type 0} (disk : Ghosts D) where
 
     -- ---- over a run that opened its store
 
-    module _ (config : Config) (old new : D) (first : SharedView D) (starts : OpensSession disk config old first) (run : List Exchange) (last : SharedView D) (left : last.session.disk ≡ new) where
+    module _ (config : Config) (old new : D) (first : SharedView D) (starts : OpensSession disk config old first) (run : List Exchange) (last : SharedView D)
+        (left : last.session.disk ≡ new) where
       begun : HasRecords first.session.console.committed first.session
       begun = record { read = starts.stored told; committed = λ live. refl }
 
-      kept-from : (view : SharedView D) (by : RunComesBy (StepsOver disk) first run last view) → RunBy (StepsQuietly disk) view by.later last → (space : Key → Rec) → Redoes (disk.reads view.session.disk) space
+      kept-from : (view : SharedView D) (by : RunComesBy (StepsOver disk) first run last view) → RunBy (StepsQuietly disk) view by.later last
+          → (space : Key → Rec) → Redoes (disk.reads view.session.disk) space
           → StaysAsItWas disk view.session.disk new space
       kept-from view by quiet space redoes =
           let at = run-records first by.before view by.leads first.session.console.committed begun in
@@ -280,7 +293,8 @@ module _ {D : Type 0} (disk : Ghosts D) where
 
       module _ (shape : Shape) (made : IsStore (disk.reads old) shape) where
         -- what opening committed are the store's records in the newest version
-        opened-records : store.Opens (disk.reads old) config first.session.console.shape first.session.console.committed → first.session.console.committed ≡ raised shape made.space
+        opened-records : store.Opens (disk.reads old) config first.session.console.shape first.session.console.committed
+            → first.session.console.committed ≡ raised shape made.space
         opened-records (inl (unmade, shape_is, space_is)) = absurd (none_made (disk.reads old) shape unmade made)
         opened-records (inr (before, redoes, has, suits, is)) =
             is
@@ -288,7 +302,8 @@ module _ {D : Type 0} (disk : Ghosts D) where
             ∙ ap (λ (records : Key → Rec). raised shape records) (Redoes-unique (disk.reads old) before made.space redoes made.redoes)
 
         -- and what a crash left meanwhile are they
-        opened-left : (content : Files) → LeavesOldOrSame (disk.reads old) (disk.may_leave old) config content → disk.may_leave old content ⊎ IsOldOrRaised shape made.space content
+        opened-left : (content : Files) → LeavesOldOrSame (disk.reads old) (disk.may_leave old) config content → disk.may_leave old content
+            ⊎ IsOldOrRaised shape made.space content
         opened-left content (inl was) = inl was
         opened-left content (inr (inl (unmade, stands))) = absurd (none_made (disk.reads old) shape unmade made)
         opened-left content (inr (inr (there, other, found, is))) =
@@ -299,22 +314,28 @@ module _ {D : Type 0} (disk : Ghosts D) where
         abbrev WasOrIs : Files → Type 0
         WasOrIs content = disk.may_leave old content ⊎ IsOldOrRaised shape made.space content
 
-        none-lost : RunBy (StepsQuietly disk) first run last → IsOldOrRaised shape made.space (disk.reads new) × (disk.tells_images → AtEachMoment disk old new WasOrIs)
+        none-lost : RunBy (StepsQuietly disk) first run last → IsOldOrRaised shape made.space (disk.reads new)
+            × (disk.tells_images → AtEachMoment disk old new WasOrIs)
         none-lost quiet =
             let committed : first.session.console.committed ≡ raised shape made.space = opened-records (starts.records told) in
             let stays : StaysAsItWas disk first.session.disk new first.session.console.committed =
-            subst (λ (now : D). StaysAsItWas disk first.session.disk now first.session.console.committed) left (quiet-records first run last quiet first.session.console.committed begun) in (
+            subst (λ (now : D). StaysAsItWas disk first.session.disk now first.session.console.committed) left
+            (quiet-records first run last quiet first.session.console.committed begun) in (
               inr (subst (λ (records : Key → Rec). Redoes (disk.reads new) records) committed stays.read),
               λ images.
                   let opening : AtEachMoment disk old first.session.disk WasOrIs =
-                  at_each_moment_weaker disk old first.session.disk (LeavesOldOrSame (disk.reads old) (disk.may_leave old) config) WasOrIs (starts.opens.crash (told, images) (starts.opens.recoverable told)) opened-left in
-                  at_each_moment_on disk old first.session.disk new WasOrIs (λ content. disk.may_leave first.session.disk content ⊎ Redoes content first.session.console.committed) opening (stays.crash images)
+                  at_each_moment_weaker disk old first.session.disk (LeavesOldOrSame (disk.reads old) (disk.may_leave old) config) WasOrIs
+                  (starts.opens.crash (told, images) (starts.opens.recoverable told)) opened-left in
+                  at_each_moment_on disk old first.session.disk new WasOrIs
+                  (λ content. disk.may_leave first.session.disk content ⊎ Redoes content first.session.console.committed) opening (stays.crash images)
                   (λ content h.
-                  ⊎_elim (λ was. at_each_moment_now disk old first.session.disk WasOrIs counts images opening content was) (λ redoes. inr (inr (subst (λ (records : Key → Rec). Redoes content records) committed redoes))) h),
+                  ⊎_elim (λ was. at_each_moment_now disk old first.session.disk WasOrIs counts images opening content was)
+                  (λ redoes. inr (inr (subst (λ (records : Key → Rec). Redoes content records) committed redoes))) h),
             )
 
 -- what holds at the end of a run over any disk
-pub ends_over : {D : Type 0} (disk : Ghosts D) → OnlyNow disk → CountsNow disk → (config : Config) (old new : D) (first : SharedView D) → OpensSession disk config old first
+pub ends_over : {D : Type 0} (disk : Ghosts D) → OnlyNow disk → CountsNow disk → (config : Config) (old new : D) (first : SharedView D)
+    → OpensSession disk config old first
     → (run : List Exchange) (last : SharedView D) → last.session.disk ≡ new → EndsOver disk old new first run last
 ends_over disk only counts config old new first starts run last left = record {
   left = left;

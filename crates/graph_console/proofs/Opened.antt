@@ -27,12 +27,15 @@ use Rattle.graph_console.specs.declared.exit.Exit.TheVariants as exits
 use Rattle.graph_console.proofs.Runs.{counts_within}
 
 -- a content that the first state admits is admitted in each run that begins with it
-admitted_first : (tells : Type 0) (first : SharedState) (run : List Exchange) (last : SharedState) → Run tells first run last → (content : Files) → IsAdmitted first.writer content → IsAdmittedInRun tells first run last content
+admitted_first : (tells : Type 0) (first : SharedState) (run : List Exchange) (last : SharedState) → Run tells first run last → (content : Files)
+    → IsAdmitted first.writer content → IsAdmittedInRun tells first run last content
 admitted_first tells first run last steps content is = (first, record { before = []; later = run; run_is = refl; leads = refl; goes_on = steps }, is)
 
 -- what opening left, and what the run left after it
-leaves_from : {D : Type 0} (g : Ghosts D) (old opened new : D) (first : SharedState) (run : List Exchange) (last : SharedState) → Run g.tells_reads first run last
-    → AtEachMoment g old opened (λ content. g.may_leave old content ⊎ IsAdmitted first.writer content) → ((content : Files) → g.may_leave opened content → IsAdmitted first.writer content)
+leaves_from : {D : Type 0} (g : Ghosts D) (old opened new : D) (first : SharedState) (run : List Exchange) (last : SharedState)
+    → Run g.tells_reads first run last
+    → AtEachMoment g old opened (λ content. g.may_leave old content ⊎ IsAdmitted first.writer content)
+    → ((content : Files) → g.may_leave opened content → IsAdmitted first.writer content)
     → AtEachMoment g opened new (λ content. g.may_leave opened content ⊎ IsAdmittedInRun g.tells_reads first run last content)
     → AtEachMoment g old new (λ content. g.may_leave old content ⊎ IsAdmittedInRun g.tells_reads first run last content)
 leaves_from g old opened new first run last steps opening opens serving =
@@ -74,7 +77,8 @@ module _ {V : Type 0} {course : Course V} (terms wider : Terms course) (begins :
   serves_wider exits.InputTooLong input left written s = runs_wider _ s
 
 -- What a session served is served by the program that opened it.
-pub serves_opened : {D : Type 0} (g : Ghosts D) (options : RunOptions) (old : D) (session : SessionView D) (new : D) → LeavesByOpening g (config_for options) old session.disk → g.faults old ≤ g.faults session.disk → HoldsGraph g old
+pub serves_opened : {D : Type 0} (g : Ghosts D) (options : RunOptions) (old : D) (session : SessionView D) (new : D)
+    → LeavesByOpening g (config_for options) old session.disk → g.faults old ≤ g.faults session.disk → HoldsGraph g old
     → (state : State) → StartsAs g old (config_for options) state → IsAt g session state → (exit : Exit) (old_taken new_taken input left : List ℕ)
     → Writes old_taken new_taken (Serves (terms_from g (begins_with state) session.disk new) exit input left)
     → Writes old_taken new_taken (Serves (terms_for g options old new) exit input left)
@@ -107,7 +111,8 @@ module _ {V : Type 0} {course : Course V} (terms : Terms course) where
   reason_serves (faults.Damaged damage) is input left = (faults.Damaged damage, is, refl, refl)
   reason_serves (faults.ConfigDiffers stored asked) is input left = (faults.ConfigDiffers stored asked, is, refl, refl)
 
-  pub serves_unopened : (why : OpenFault) → terms.unopened why → (old new : List ℕ) (result : Exit) (input left : List ℕ) → WritesLine (line_of why) (exit_of why) result old new
+  pub serves_unopened : (why : OpenFault) → terms.unopened why → (old new : List ℕ) (result : Exit) (input left : List ℕ)
+      → WritesLine (line_of why) (exit_of why) result old new
       → Writes old new (Serves terms result input left)
   serves_unopened why is old new result input left (inl whole) =
       (line_of why, whole.1, subst (λ (exit : Exit). Serves terms exit input left (line_of why)) (sym whole.0) (reason_serves why is input left))
@@ -124,7 +129,8 @@ unopened-not_output result failed (inr (inr (inl (stored, asked, is)))) = cc
 unopened-not_output result failed (inr (inr (inr is))) = cc
 
 -- a program with the exit of a reason wrote the whole line of it
-pub ends_unopened : (P : OpenFault → Type 0) (why : OpenFault) → P why → (old new : List ℕ) (result : Exit) → IsUnopenedExit result → WritesLine (line_of why) (exit_of why) result old new
+pub ends_unopened : (P : OpenFault → Type 0) (why : OpenFault) → P why → (old new : List ℕ) (result : Exit) → IsUnopenedExit result
+    → WritesLine (line_of why) (exit_of why) result old new
     → Writes old new (EndsUnopened P result)
 ends_unopened P why is old new result ends (inl whole) = (line_of why, whole.1, (why, is, sym whole.0, refl))
 ends_unopened P why is old new result ends (inr failed) = absurd (unopened-not_output result failed.0 ends)
@@ -164,7 +170,8 @@ sound_for shape config faults.Memory only result (inl ends) = (λ is. cc (ends, 
 sound_for shape config faults.Disk only result (inl ends) = (λ is. cc (ends, is), λ stored asked is. absurd (cc (ends, is)))
 sound_for shape config faults.NotAStore only result (inl ends) = absurd only
 sound_for shape config (faults.Damaged damage) only result (inl ends) = absurd only
-sound_for shape config (faults.ConfigDiffers found given) only result (inl ends) = (λ is. cc (ends, is), λ stored asked is. let same = differs_same found stored given asked result ends is in (sym same.0 ∙ only.0, only.2))
+sound_for shape config (faults.ConfigDiffers found given) only result (inl ends) =
+    (λ is. cc (ends, is), λ stored asked is. let same = differs_same found stored given asked result ends is in (sym same.0 ∙ only.0, only.2))
 
 -- the exit of a failed disk comes of that reason
 pub disk_failed : (why : OpenFault) (result : Exit) {rose : Type 0} → EndsFor why result rose → result ≡ exits.DiskFault → why ≡ faults.Disk
@@ -189,16 +196,19 @@ pub at_equal : {T : Type 0} (P : T → Type 0) (x y : T) → P x → y ≡ x →
 at_equal P x y holds same = subst P (sym same) holds
 
 -- that of another shape comes of one that is asked for
-pub asked_other : (why : OpenFault) (result : Exit) {rose : Type 0} → EndsFor why result rose → (stored : Shape) (asked : Config) → result ≡ exits.ConfigDiffers stored asked → why ≡ faults.ConfigDiffers stored asked
+pub asked_other : (why : OpenFault) (result : Exit) {rose : Type 0} → EndsFor why result rose → (stored : Shape) (asked : Config)
+    → result ≡ exits.ConfigDiffers stored asked → why ≡ faults.ConfigDiffers stored asked
 asked_other why result (inr failed) stored asked is = absurd (cc (failed.0, is))
 asked_other faults.Memory result (inl ends) stored asked is = absurd (cc (ends, is))
 asked_other faults.Disk result (inl ends) stored asked is = absurd (cc (ends, is))
 asked_other faults.NotAStore result (inl ends) stored asked is = absurd (cc (ends, is))
 asked_other (faults.Damaged damage) result (inl ends) stored asked is = absurd (cc (ends, is))
-asked_other (faults.ConfigDiffers found given) result (inl ends) stored asked is = let same = differs_same found stored given asked result ends is in cc (same.0, same.1)
+asked_other (faults.ConfigDiffers found given) result (inl ends) stored asked is = let same = differs_same found stored given asked result ends is in
+    cc (same.0, same.1)
 
 -- and then the disk has a store of that shape
-pub other_shape : {D : Type 0} (g : Ghosts D) (config : Config) (old new : D) (why : OpenFault) (stored : Shape) (asked : Config) → IsUnopened g config old new why → g.tells_reads → why ≡ faults.ConfigDiffers stored asked
+pub other_shape : {D : Type 0} (g : Ghosts D) (config : Config) (old new : D) (why : OpenFault) (stored : Shape) (asked : Config)
+    → IsUnopened g config old new why → g.tells_reads → why ≡ faults.ConfigDiffers stored asked
     → HasOtherShape g config old new stored asked
 other_shape g config old new why stored asked unopened told is =
     let u = subst (IsUnopened g config old new) is unopened in

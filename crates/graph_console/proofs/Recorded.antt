@@ -1,5 +1,6 @@
 -- Each run has the list of its transactions: a console that failed holds the committed graph and at most one more.
-use Rattle.std.proofs.Common.{◌≡◌, ◌≢◌, ◌⊎◌, ⊎_elim, ◌∙◌, ℕ, zero, suc, Bool, true, false, is_some, List, [], ◌∷◌, ◌++◌, Contains, inl, inr, refl, sym, ap, subst, arith}
+use Rattle.std.proofs.Common.{◌≡◌, ◌≢◌, ◌⊎◌, ⊎_elim, ◌∙◌, ℕ, zero, suc, Bool, true, false, is_some, List, [], ◌∷◌, ◌++◌}
+use Rattle.std.proofs.Common.{Contains, inl, inr, refl, sym, ap, subst, arith}
 use Rattle.stream_io.specs.Lines.{InputLine}
 use Rattle.plain_graph.specs.Changes.{IsChange}
 use Rattle.plain_graph.specs.Graph.{Graph}
@@ -10,7 +11,9 @@ use Rattle.plain_graph.specs.Reply.{Fault, Reply}
 use Rattle.plain_graph.specs.declared.command.Command.{Command}
 use Rattle.plain_graph.specs.declared.command.Command.TheVariants as commands
 use Rattle.plain_graph.specs.declared.refusal.Refusal.TheVariants as refusals
-use Rattle.graph_session.specs.Exchange.{CarriesKind, CarriesOut, ConsoleStep, Exchange, KeepsStore, LeavesBound, LeavesChange, LeavesKind, LeavesOpen, LeavesStore, MakesChange, MovesBound, Stops}
+use Rattle.graph_session.specs.Exchange.{CarriesKind, CarriesOut, ConsoleStep, Exchange, KeepsStore, LeavesBound}
+use Rattle.graph_session.specs.Exchange.{LeavesChange, LeavesKind, LeavesOpen, LeavesStore, MakesChange, MovesBound}
+use Rattle.graph_session.specs.Exchange.{Stops}
 use Rattle.graph_session.specs.Refusals.{IsAccepted}
 use Rattle.graph_session.specs.SharedExchange.{SharedStep}
 use Rattle.graph_session.specs.SnapshotEffects.{Confirms}
@@ -35,7 +38,8 @@ abbrev IsWell : State → Type 0
 IsWell state = OpensWith state.committed state.standing
 
 -- a graph that is admitted is the committed one, or the second that was left open
-first_or_second : (graph committed : Graph) (standing : Standing) → OpensWith committed standing → Contains (graphs_from committed standing) graph → (graph ≡ committed) ⊎ IsSecondOf standing graph
+first_or_second : (graph committed : Graph) (standing : Standing) → OpensWith committed standing → Contains (graphs_from committed standing) graph
+    → (graph ≡ committed) ⊎ IsSecondOf standing graph
 first_or_second graph committed Live well (zero, low, is) = inl (sym is)
 first_or_second graph committed Live well (suc k, low, is) = absurd (omega (arith, low))
 first_or_second graph committed (Failed []) well has = absurd well
@@ -70,7 +74,8 @@ module _ (old : State) (well : IsWell old) (line : InputLine) (own : IsOfWriter 
   replied reply = record { line = line; disk_failed = disk_failed; reply = reply }
 
   -- no transaction is acknowledged, and the committed graph stays
-  quiet : {mid : State} (reply : Reply) → ¬ AcknowledgesFrom old (replied reply) → new ≡ mid → mid.committed ≡ old.committed → IsWell mid → Goes old (replied reply) new
+  quiet : {mid : State} (reply : Reply) → ¬ AcknowledgesFrom old (replied reply) → new ≡ mid → mid.committed ≡ old.committed → IsWell mid
+      → Goes old (replied reply) new
   quiet {mid} reply none is committed mid_well = record {
     graphs = [];
     adds = inr (inr (none, ap (λ (s : State). s.committed) is ∙ committed, refl));
@@ -106,18 +111,21 @@ module _ (old : State) (well : IsWell old) (line : InputLine) (own : IsOfWriter 
         not_silent (inl blank) = apart commands.Blank no_blanks blank
         not_silent (inr quit) = apart commands.Quit no_end quit
 
-    change_goes : (reply : Reply) → kind_of command ≡ Change → IsAccepted old line → Confirms reply → MakesChange old command reply new → Goes old (replied reply) new
+    change_goes : (reply : Reply) → kind_of command ≡ Change → IsAccepted old line → Confirms reply → MakesChange old command reply new
+        → Goes old (replied reply) new
     change_goes reply is accepted told (inl (transaction, opened, graph, weight, changes, weighs, same)) =
         quiet reply (other reply (apart commands.Commit (λ e. let clash : Change ≡ Bound = sym is ∙ e in cc)) (λ closed change. let clash : false ≡ true = sym closed ∙ ap is_some opened in cc)) same refl well
     change_goes reply is accepted told (inr (closed, graph, changes, same)) =
-        let live = live_at accepted (λ e. let clash : Change ≡ Blanks = sym is ∙ e in cc) (λ e. let clash : Change ≡ Ending = sym is ∙ e in cc) (λ e. let clash : Change ≡ Upkeep = sym is ∙ e in cc) in
+        let live = live_at accepted (λ e. let clash : Change ≡ Blanks = sym is ∙ e in cc) (λ e. let clash : Change ≡ Ending = sym is ∙ e in cc)
+        (λ e. let clash : Change ≡ Upkeep = sym is ∙ e in cc) in
         acknowledged reply (own, told, inr (ap is_some closed, command, subst AreChanges (sym is) tt, spelled)) same (subst (OpensWith graph) (sym live) tt)
 
     question_goes : (reply : Reply) → kind_of command ≡ Question → new ≡ old → Goes old (replied reply) new
     question_goes reply is same =
         quiet reply (other reply (apart commands.Commit (λ e. let clash : Question ≡ Bound = sym is ∙ e in cc)) (λ closed change. let clash : AreChanges Question = subst AreChanges is change in absurd clash)) same refl well
 
-  bound_goes : (command : Command) (reply : Reply) → SpellsLine line command → IsAccepted old line → Confirms reply → MovesBound old command reply new → Goes old (replied reply) new
+  bound_goes : (command : Command) (reply : Reply) → SpellsLine line command → IsAccepted old line → Confirms reply → MovesBound old command reply new
+      → Goes old (replied reply) new
   bound_goes commands.Begin reply spelled accepted told done =
       quiet reply (other commands.Begin spelled reply (λ commit. let clash : commands.Commit ≡ commands.Begin = line_agrees line commands.Begin commands.Commit spelled commit in cc) (λ closed change. change)) done.1 refl well
   bound_goes commands.Commit reply spelled accepted told done =
@@ -130,22 +138,26 @@ module _ (old : State) (well : IsWell old) (line : InputLine) (own : IsOfWriter 
   -- `reopen` finds the committed graph, or the second that was left open
   reopen_goes : (reply : Reply) → SpellsLine line commands.Reopen → Confirms reply → KeepsStore old commands.Reopen reply new → Goes old (replied reply) new
   reopen_goes reply spelled told (done, graph, admits, is) =
-      let none : ¬ AcknowledgesFrom old (replied reply) = other commands.Reopen spelled reply (apart commands.Reopen spelled commands.Commit (λ e. cc)) (λ closed change. change) in
+      let none : ¬ AcknowledgesFrom old (replied reply) = other commands.Reopen spelled reply (apart commands.Reopen spelled commands.Commit (λ e. cc))
+      (λ closed change. change) in
       ⊎_elim
       (λ (first : graph ≡ old.committed). quiet reply none is first tt)
       (λ (second : IsSecondOf old.standing graph).
-      let finds : FindsSecond old (replied reply) new = (own, told, spelled, subst (IsSecondOf old.standing) (sym (ap (λ (s : State). s.committed) is)) second) in
+      let finds : FindsSecond old (replied reply) new = (own, told, spelled, subst (IsSecondOf old.standing) (sym (ap (λ (s : State). s.committed) is)) second)
+      in
       let goes : Goes old (replied reply) new = record { graphs = new.committed ∷ []; adds = inr (inl (none, finds, refl)); well = subst IsWell (sym is) tt } in
       goes)
       (first_or_second graph old.committed old.standing well admits)
 
   upkeep_goes : (command : Command) (reply : Reply) → SpellsLine line command → Confirms reply → KeepsStore old command reply new → Goes old (replied reply) new
   upkeep_goes commands.Checkpoint reply spelled told done =
-      quiet reply (other commands.Checkpoint spelled reply (apart commands.Checkpoint spelled commands.Commit (λ e. cc)) (λ closed change. change)) done.1 refl well
+      quiet reply (other commands.Checkpoint spelled reply (apart commands.Checkpoint spelled commands.Commit (λ e. cc)) (λ closed change. change)) done.1 refl
+      well
   upkeep_goes commands.Reopen reply spelled told done = reopen_goes reply spelled told done
   upkeep_goes command reply spelled told never = absurd never
 
-  done_goes : (command : Command) (reply : Reply) → IsAccepted old line → SpellsLine line command → Confirms reply → CarriesOut old command reply new → Goes old (replied reply) new
+  done_goes : (command : Command) (reply : Reply) → IsAccepted old line → SpellsLine line command → Confirms reply → CarriesOut old command reply new
+      → Goes old (replied reply) new
   done_goes command reply accepted spelled told done = by (kind_of command) refl done
     where
       by : (kind : Kind) → kind_of command ≡ kind → CarriesKind kind old command reply new → Goes old (replied reply) new
@@ -211,7 +223,8 @@ shared_goes old well x new step = elim (writes_or_stays old x new step) [
   | inr stays ↦ record { graphs = []; adds = inr (inr (stays.0, ap (λ (s : State). s.committed) stays.1, refl)); well = subst IsWell (sym stays.1) well }
 ]
 
-run_recorded : (tells : Type 0) → tells → (first : SharedState) → IsWell first.writer → (run : List Exchange) (last : SharedState) → Run tells first run last → (graphs : List Graph) × Transactions tells first run last graphs
+run_recorded : (tells : Type 0) → tells → (first : SharedState) → IsWell first.writer → (run : List Exchange) (last : SharedState) → Run tells first run last
+    → (graphs : List Graph) × Transactions tells first run last graphs
 run_recorded tells told first well [] last same = ([], (same, refl))
 run_recorded tells told first well (x ∷ later) last steps =
     let goes = shared_goes first well x steps.0 (steps.1.step told) in
@@ -219,5 +232,6 @@ run_recorded tells told first well (x ∷ later) last steps =
     (goes.graphs ++ rest.0, (steps.0, steps.1, goes.graphs, rest.0, goes.adds, rest.1, refl))
 
 -- a run from a console that has not failed
-pub transactions_of : (tells : Type 0) → tells → (first : SharedState) (run : List Exchange) (last : SharedState) → first.writer.standing ≡ Live → Run tells first run last → (graphs : List Graph) × Transactions tells first run last graphs
+pub transactions_of : (tells : Type 0) → tells → (first : SharedState) (run : List Exchange) (last : SharedState) → first.writer.standing ≡ Live
+    → Run tells first run last → (graphs : List Graph) × Transactions tells first run last graphs
 transactions_of tells told first run last live steps = run_recorded tells told first (subst (OpensWith first.writer.committed) (sym live) tt) run last steps

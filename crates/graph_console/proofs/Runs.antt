@@ -1,5 +1,7 @@
 -- A run of the console, as far as the program's loop has come.
-use Rattle.std.proofs.Common.{◌≡◌, ◌≢◌, ◌⊎◌, ⊎_elim, inl, inr, ℕ, ◌+◌, ◌-◌, ◌^◌, ◌<◌, ◌≤◌, Bool, true, false, List, [], ◌∷◌, ◌++◌, length, take, map, refl, sym, ◌∙◌, ap, subst, arith, append_assoc, length-append, Some, cond}
+use Rattle.std.proofs.Common.{◌≡◌, ◌≢◌, ◌⊎◌, ⊎_elim, inl, inr, ℕ, ◌+◌, ◌-◌, ◌^◌, ◌<◌, ◌≤◌, Bool, true, false, List, []}
+use Rattle.std.proofs.Common.{◌∷◌, ◌++◌, length, take, map, refl, sym, ◌∙◌, ap, subst, arith, append_assoc}
+use Rattle.std.proofs.Common.{length-append, Some, cond}
 use Rattle.std.proofs.lemmas.Bool.{cases_lt}
 use Rattle.std.proofs.lemmas.List.{append-nil, map_push}
 use Rattle.std.proofs.lemmas.Grind.{flat_map-append}
@@ -18,11 +20,14 @@ use Rattle.graph_console.specs.Run.{CountsRises, Course, RunBy, exchange_text, r
 use Rattle.graph_console.specs.Program.{RunTo, Serves, ServesAll, ServesEnded, Terms, Writes}
 use Rattle.graph_console.specs.Serve.{TurnSays, Exchanges, Ends, Breaks, Progress, bytes_ahead}
 use Rattle.graph_console.specs.declared.exit.Exit.{Exit}
-use Rattle.graph_console.specs.declared.exit.Exit.TheVariants.{Done, StoreFailed, Usage, InputFault, OutputFault, NoMemory, BadFiles, ConfigDiffers, DiskFault, InputTooLong}
+use Rattle.graph_console.specs.declared.exit.Exit.TheVariants.{Done, StoreFailed, Usage, InputFault, OutputFault}
+use Rattle.graph_console.specs.declared.exit.Exit.TheVariants.{NoMemory, BadFiles, ConfigDiffers, DiskFault}
+use Rattle.graph_console.specs.declared.exit.Exit.TheVariants.{InputTooLong}
 use Rattle.graph_console.proofs.LineLaws.{piece_first, piece_alone, pieces_joined, lines-piece, lines-last}
 
 -- one step more
-pub run_on : {V : Type 0} (Step : V → Exchange → V → Type 0) (first middle last : V) (run : List Exchange) (x : Exchange) → RunBy Step first run middle → Step middle x last → RunBy Step first (run ++ x ∷ []) last
+pub run_on : {V : Type 0} (Step : V → Exchange → V → Type 0) (first middle last : V) (run : List Exchange) (x : Exchange) → RunBy Step first run middle
+    → Step middle x last → RunBy Step first (run ++ x ∷ []) last
 run_on {V} Step first middle last [] x steps step = (last, subst (λ (s : V). Step s x last) steps step, refl)
 run_on Step first middle last (y ∷ run) x steps step = (steps.0, steps.1, run_on Step steps.0 middle last run x steps.2 step)
 
@@ -65,7 +70,8 @@ told_failed : (x : Exchange) → Blames x → (told_fault x.reply ≡ 0) ⊎ ((t
 told_failed x blames = ⊎_elim (λ none. inl none) (λ one. inr (one, blames (λ none. cc))) (told_once x.reply)
 
 -- a count rises by one at least where a fault is told
-count_on : (failed : Bool) (told total before middle after : ℕ) → (told ≡ 0) ⊎ ((told ≡ 1) × (failed ≡ true)) → (total + before ≤ middle) ⊎ (2 ^ 64 - 1 ≤ middle) → (failed ≡ true → Rose middle after) → middle ≤ after
+count_on : (failed : Bool) (told total before middle after : ℕ) → (told ≡ 0) ⊎ ((told ≡ 1) × (failed ≡ true)) → (total + before ≤ middle)
+    ⊎ (2 ^ 64 - 1 ≤ middle) → (failed ≡ true → Rose middle after) → middle ≤ after
     → ((total + told) + before ≤ after) ⊎ (2 ^ 64 - 1 ≤ after)
 count_on failed told total before middle after is (inr last) counted later = inr (omega arith)
 count_on failed told total before middle after (inl none) (inl counts) counted later = inl (omega arith)
@@ -74,14 +80,16 @@ count_on failed told total before middle after (inr one) (inl counts) counted la
     elim (cases_lt middle after) [ inl below ↦ inl (omega (arith, one.0)) | inr not_below ↦ inr (omega arith) ]
 
 -- a count that kept up with a run keeps up with it and one exchange more
-counts_on : (before middle after : ℕ) (run : List Exchange) (x : Exchange) → Blames x → CountsRises before middle run → (x.disk_failed ≡ true → Rose middle after) → middle ≤ after
+counts_on : (before middle after : ℕ) (run : List Exchange) (x : Exchange) → Blames x → CountsRises before middle run
+    → (x.disk_failed ≡ true → Rose middle after) → middle ≤ after
     → CountsRises before after (run ++ x ∷ [])
 counts_on before middle after run x blames counts counted later =
     subst (λ (n : ℕ). (n + before ≤ after) ⊎ (2 ^ 64 - 1 ≤ after)) (sym (told_faults_on run x))
     (count_on x.disk_failed (told_fault x.reply) (told_faults run) before middle after (told_failed x blames) counts counted later)
 
 -- a count that kept up with a run keeps up with it later, and from an earlier one on
-pub counts_within : (earlier before middle after : ℕ) (run : List Exchange) → earlier ≤ before → CountsRises before middle run → middle ≤ after → CountsRises earlier after run
+pub counts_within : (earlier before middle after : ℕ) (run : List Exchange) → earlier ≤ before → CountsRises before middle run → middle ≤ after
+    → CountsRises earlier after run
 counts_within earlier before middle after run begins (inl counts) later = inl (omega arith)
 counts_within earlier before middle after run begins (inr last) later = inr (omega arith)
 
@@ -109,13 +117,15 @@ pub record EndsSource (old new : Progress) : Type 0 where
   pub none_left : HasNoneLeft old.reader old.left → HasNoneLeft new.reader new.left
 
 -- an input of whose end the source has told has fewer than 2^30 bytes
-short_input : (start old new : Progress) → (old.reader.ended ≡ true → length start.left < 2 ^ 30) → old.reader.taken + length old.left ≡ length start.left → new.reader.taken + length new.left ≡ old.reader.taken + length old.left
+short_input : (start old new : Progress) → (old.reader.ended ≡ true → length start.left < 2 ^ 30) → old.reader.taken + length old.left ≡ length start.left
+    → new.reader.taken + length new.left ≡ old.reader.taken + length old.left
     → EndsSource old new → HasNoneLeft old.reader old.left → new.reader.ended ≡ true → length start.left < 2 ^ 30
 short_input start old new was_short so_far counted source was_none ended = by old.reader.ended refl
   where
     by : (b : Bool) → old.reader.ended ≡ b → length start.left < 2 ^ 30
     by true is = was_short is
-    by false is = let none : length new.left ≡ 0 = ap length (source.none_left was_none ended) in omega (arith, none, so_far, counted, source.below_limit is ended)
+    by false is = let none : length new.left ≡ 0 = ap length (source.none_left was_none ended) in
+        omega (arith, none, so_far, counted, source.below_limit is ended)
 
 -- A run from the first state has come from the start to here, and to a state that the session is at.
 pub record Serving {V : Type 0} (course : Course V) (first : V) (is_at : List Exchange → V → Type 0) (start now : Progress) : Type 0 where
@@ -135,7 +145,8 @@ pub record Serving {V : Type 0} (course : Course V) (first : V) (is_at : List Ex
 fresh_ahead : (reader : Reading) (left : List ℕ) → reader.ended ≡ false → reader.held ≡ [] → ahead reader left ≡ left
 fresh_ahead reader left goes_on none = ap (λ (b : Bool). cond b reader.held (reader.held ++ left)) goes_on ∙ ap (λ (bs : List ℕ). bs ++ left) none
 
-pub serving_first : {V : Type 0} (course : Course V) (first : V) (is_at : List Exchange → V → Type 0) (start : Progress) → is_at [] first → IsFresh start.reader → Serving course first is_at start start
+pub serving_first : {V : Type 0} (course : Course V) (first : V) (is_at : List Exchange → V → Type 0) (start : Progress) → is_at [] first → IsFresh start.reader
+    → Serving course first is_at start start
 serving_first course first is_at start at_first fresh =
     let same = fresh_ahead start.reader start.left fresh.ended fresh.held in
     record {
@@ -154,16 +165,18 @@ serving_first course first is_at start at_first fresh =
     }
 
 -- A turn that comes to a state carries on what is said of the run so far: by its line, or without one.
-pub record Carries {V : Type 0} (course : Course V) (run : List Exchange) (state : V) (comes_to : V → Type 0) (is_at : List Exchange → V → Type 0) : Type 0 where
-  pub on : (x : Exchange) (last : V) → course.step state x last → comes_to last → is_at (run ++ x ∷ []) last
-  pub stays : comes_to state → is_at run state
+pub record Carries {V : Type 0} (course : Course V) (run : List Exchange) (state : V) (comes_to : V → Type 0) (is_at : List Exchange → V → Type 0) : Type 0
+  where
+    pub on : (x : Exchange) (last : V) → course.step state x last → comes_to last → is_at (run ++ x ∷ []) last
+    pub stays : comes_to state → is_at run state
 
 -- What is said of the whole run: its end, by the state that the session is then at and by the disk's count.
 abbrev Closes : {V : Type 0} → (List Exchange → V → Type 0) → (List Exchange → V → Type 0) → ℕ → ℕ → Type 0
 Closes {V} is_at ends before after = (run : List Exchange) (last : V) → is_at run last → CountsRises before after run → ends run last
 
 -- What is served when a line's exchange has come to its end.
-module _ {V : Type 0} (course : Course V) (blamed : AllBlame course) (first : V) (old_is_at is_at : List Exchange → V → Type 0) (comes_to : V → Type 0) (start old new : Progress) (s : Serving course first old_is_at start old) (carries : Carries course s.run s.state comes_to is_at)
+module _ {V : Type 0} (course : Course V) (blamed : AllBlame course) (first : V) (old_is_at is_at : List Exchange → V → Type 0) (comes_to : V → Type 0)
+    (start old new : Progress) (s : Serving course first old_is_at start old) (carries : Carries course s.run s.state comes_to is_at)
     (says : V → Exchange → Type 0) (e : Exchanges course s.state comes_to old new says) where
   abbrev run_after : List Exchange
   run_after = s.run ++ e.exchange ∷ []
@@ -222,7 +235,8 @@ module _ {V : Type 0} (course : Course V) (blamed : AllBlame course) (first : V)
     | inr at_end ↦ absurd (cc (at_end.3, new_goes_on))
   ]
 
-  pub serving_on : ¬ IsQuit e.exchange.line → new.taken ≡ old.taken ++ exchange_text e.exchange → old.faults ≤ new.faults → (new.reader.ended ≡ false → old.reader.ended ≡ false)
+  pub serving_on : ¬ IsQuit e.exchange.line → new.taken ≡ old.taken ++ exchange_text e.exchange → old.faults ≤ new.faults
+      → (new.reader.ended ≡ false → old.reader.ended ≡ false)
       → new.reader.taken + length new.left ≡ old.reader.taken + length old.left → EndsSource old new → Serving course first is_at start new
   serving_on not_quit text later stays counted source = record {
     run = run_after;
@@ -239,7 +253,8 @@ module _ {V : Type 0} (course : Course V) (blamed : AllBlame course) (first : V)
     counts = counts_after later;
   }
 
-  module _ (terms : Terms course) (begins : terms.starts first) (closes : Closes is_at (terms.ends first) start.faults new.faults) (later : old.faults ≤ new.faults) where
+  module _ (terms : Terms course) (begins : terms.starts first) (closes : Closes is_at (terms.ends first) start.faults new.faults)
+      (later : old.faults ≤ new.faults) where
     -- the run with this exchange ends so
     closed : (P : List Exchange → V → Type 0) → P run_after e.after → RunTo terms P
     closed P says_so = record {
@@ -273,10 +288,12 @@ module _ {V : Type 0} (course : Course V) (blamed : AllBlame course) (first : V)
       ),
     )
 
-    pub serves_short : ¬ IsQuit e.exchange.line → TakesFront old.taken new.taken (exchange_text e.exchange) → Writes start.taken new.taken (Serves terms OutputFault start.left new.left)
+    pub serves_short : ¬ IsQuit e.exchange.line → TakesFront old.taken new.taken (exchange_text e.exchange)
+        → Writes start.taken new.taken (Serves terms OutputFault start.left new.left)
     serves_short not_quit front = let written : List ℕ = run_text s.run ++ take front.0 (exchange_text e.exchange) in (
       written,
-      front.2 ∙ ap (λ (text : List ℕ). text ++ take front.0 (exchange_text e.exchange)) s.text ∙ append_assoc start.taken (run_text s.run) (take front.0 (exchange_text e.exchange)),
+      front.2 ∙ ap (λ (text : List ℕ). text ++ take front.0 (exchange_text e.exchange)) s.text
+          ∙ append_assoc start.taken (run_text s.run) (take front.0 (exchange_text e.exchange)),
       inl (closed (λ run last. AreFirstOf (lines_of start.left) (run_lines run) × NoQuit (run_lines run) × LacksEnd run written) (
         (lines_of (bytes_ahead new), all_lines),
         no_quit_after not_quit,
@@ -285,78 +302,86 @@ module _ {V : Type 0} (course : Course V) (blamed : AllBlame course) (first : V)
     )
 
 -- What is served when the run ends without a line, in a state that the session is still at.
-module _ {V : Type 0} (course : Course V) (first : V) (old_is_at is_at : List Exchange → V → Type 0) (comes_to : V → Type 0) (start old new : Progress) (s : Serving course first old_is_at start old) (carries : Carries course s.run s.state comes_to is_at) (arrives : comes_to s.state)
-    (terms : Terms course) (begins : terms.starts first) (closes : Closes is_at (terms.ends first) start.faults new.faults) (later : old.faults ≤ new.faults) where
-  -- the run so far ends so
-  closed_here : (P : List Exchange → V → Type 0) → P s.run s.state → RunTo terms P
-  closed_here P says_so = record {
-    first = first;
-    begins = begins;
-    run = s.run;
-    last = s.state;
-    steps = s.steps;
-    arrives = closes s.run s.state (carries.stays arrives) (counts_within start.faults start.faults old.faults new.faults s.run (omega arith) s.counts later);
-    says = says_so;
-  }
-
-  pub serves_end : (health : Health) → course.health s.state ≡ health → bytes_ahead old ≡ [] → new.taken ≡ old.taken → length start.left < 2 ^ 30
-      → Writes start.taken new.taken (ServesAll terms health start.left)
-  serves_end health ends_so none same short = let all = sym (append-nil (run_lines s.run)) ∙ ap (λ (bs : List ℕ). run_lines s.run ++ lines_of bs) (sym none) ∙ s.lines in (
-    run_text s.run,
-    same ∙ s.text,
-    closed_here (λ run last. (course.health last ≡ health) × AreUpToQuit (lines_of start.left) (run_lines run) × (NoQuit (run_lines run) → length start.left < 2 ^ 30) × (run_text s.run ≡ run_text run))
-        (ends_so, inl (subst NoQuit all s.no_quit, all), (λ none. short), refl),
-  )
-
-  module _ (b : Breaks course s.state comes_to old new) where
-    boundary : Boundary start.left (bytes_ahead old) (run_lines s.run)
-    boundary = s.boundary b.stops.had_not_ended
-
-    left_ahead : bytes_ahead new ≡ new.left
-    left_ahead = fresh_ahead new.reader new.left b.stops.has_not_ended b.stops.none_held
-
-    input_is_taken : start.left ≡ (boundary.used ++ b.drops.piece) ++ new.left
-    input_is_taken =
-        boundary.input_is
-        ∙ ap (λ (bs : List ℕ). boundary.used ++ bs) (b.drops.split ∙ ap (λ (bs : List ℕ). b.drops.piece ++ bs) left_ahead)
-        ∙ sym (append_assoc boundary.used b.drops.piece new.left)
-
-    abbrev serves_ended : ServesEnded start.left new.left s.run
-    serves_ended = record {
-      taken = boundary.used ++ b.drops.piece;
-      input_is = input_is_taken;
-      lines =
-          sym boundary.lines_are
-          ∙ ap (map line_of) (sym (append-nil (pieces_of boundary.used).ended))
-          ∙ ap (λ (ps : Pieces). map line_of ((pieces_of boundary.used).ended ++ ps.ended)) (sym (piece_alone b.drops.piece b.drops.no_newline))
-          ∙ ap (λ (ps : Pieces). map line_of ps.ended) (sym (pieces_joined b.drops.piece boundary.used boundary.no_rest));
-      no_quit = s.no_quit;
+module _ {V : Type 0} (course : Course V) (first : V) (old_is_at is_at : List Exchange → V → Type 0) (comes_to : V → Type 0) (start old new : Progress)
+    (s : Serving course first old_is_at start old) (carries : Carries course s.run s.state comes_to is_at) (arrives : comes_to s.state)
+    (terms : Terms course) (begins : terms.starts first) (closes : Closes is_at (terms.ends first) start.faults new.faults) (later : old.faults ≤ new.faults)
+  where
+    -- the run so far ends so
+    closed_here : (P : List Exchange → V → Type 0) → P s.run s.state → RunTo terms P
+    closed_here P says_so = record {
+      first = first;
+      begins = begins;
+      run = s.run;
+      last = s.state;
+      steps = s.steps;
+      arrives = closes s.run s.state (carries.stays arrives) (counts_within start.faults start.faults old.faults new.faults s.run (omega arith) s.counts later);
+      says = says_so;
     }
 
-    pub serves_fault : Writes start.taken new.taken (Serves terms InputFault start.left new.left)
-    serves_fault = (
-      run_text s.run,
-      b.output ∙ s.text,
-      closed_here (λ run last. ServesEnded start.left new.left run × (run_text s.run ≡ run_text run)) (serves_ended, refl),
-    )
-
-    pub serves_too_long : new.reader.taken ≡ 2 ^ 30 → new.reader.taken + length new.left ≡ old.reader.taken + length old.left → Writes start.taken new.taken (Serves terms InputTooLong start.left new.left)
-    serves_too_long limit counted =
-        let all = boundary.used ++ b.drops.piece in
-        let size : length start.left ≡ length all + length new.left = ap length input_is_taken ∙ length-append all new.left in (
+    pub serves_end : (health : Health) → course.health s.state ≡ health → bytes_ahead old ≡ [] → new.taken ≡ old.taken → length start.left < 2 ^ 30
+        → Writes start.taken new.taken (ServesAll terms health start.left)
+    serves_end health ends_so none same short = let all = sym (append-nil (run_lines s.run)) ∙ ap (λ (bs : List ℕ). run_lines s.run ++ lines_of bs) (sym none)
+        ∙ s.lines in (
           run_text s.run,
-          b.output ∙ s.text,
-          closed_here (λ run last. (ended : ServesEnded start.left new.left run) × (length ended.taken ≡ 2 ^ 30) × (run_text s.run ≡ run_text run)) (serves_ended, omega (arith, size, limit, counted, s.counted), refl),
+          same ∙ s.text,
+          closed_here (λ run last. (course.health last ≡ health) × AreUpToQuit (lines_of start.left) (run_lines run) × (NoQuit (run_lines run) → length start.left < 2 ^ 30) × (run_text s.run ≡ run_text run))
+              (ends_so, inl (subst NoQuit all s.no_quit, all), (λ none. short), refl),
         )
 
+    module _ (b : Breaks course s.state comes_to old new) where
+      boundary : Boundary start.left (bytes_ahead old) (run_lines s.run)
+      boundary = s.boundary b.stops.had_not_ended
+
+      left_ahead : bytes_ahead new ≡ new.left
+      left_ahead = fresh_ahead new.reader new.left b.stops.has_not_ended b.stops.none_held
+
+      input_is_taken : start.left ≡ (boundary.used ++ b.drops.piece) ++ new.left
+      input_is_taken =
+          boundary.input_is
+          ∙ ap (λ (bs : List ℕ). boundary.used ++ bs) (b.drops.split ∙ ap (λ (bs : List ℕ). b.drops.piece ++ bs) left_ahead)
+          ∙ sym (append_assoc boundary.used b.drops.piece new.left)
+
+      abbrev serves_ended : ServesEnded start.left new.left s.run
+      serves_ended = record {
+        taken = boundary.used ++ b.drops.piece;
+        input_is = input_is_taken;
+        lines =
+            sym boundary.lines_are
+            ∙ ap (map line_of) (sym (append-nil (pieces_of boundary.used).ended))
+            ∙ ap (λ (ps : Pieces). map line_of ((pieces_of boundary.used).ended ++ ps.ended)) (sym (piece_alone b.drops.piece b.drops.no_newline))
+            ∙ ap (λ (ps : Pieces). map line_of ps.ended) (sym (pieces_joined b.drops.piece boundary.used boundary.no_rest));
+        no_quit = s.no_quit;
+      }
+
+      pub serves_fault : Writes start.taken new.taken (Serves terms InputFault start.left new.left)
+      serves_fault = (
+        run_text s.run,
+        b.output ∙ s.text,
+        closed_here (λ run last. ServesEnded start.left new.left run × (run_text s.run ≡ run_text run)) (serves_ended, refl),
+      )
+
+      pub serves_too_long : new.reader.taken ≡ 2 ^ 30 → new.reader.taken + length new.left ≡ old.reader.taken + length old.left
+          → Writes start.taken new.taken (Serves terms InputTooLong start.left new.left)
+      serves_too_long limit counted =
+          let all = boundary.used ++ b.drops.piece in
+          let size : length start.left ≡ length all + length new.left = ap length input_is_taken ∙ length-append all new.left in (
+            run_text s.run,
+            b.output ∙ s.text,
+            closed_here (λ run last. (ended : ServesEnded start.left new.left run) × (length ended.taken ≡ 2 ^ 30) × (run_text s.run ≡ run_text run))
+                (serves_ended, omega (arith, size, limit, counted, s.counted), refl),
+          )
+
 -- What a turn that ends the run has served.
-module _ {V : Type 0} (course : Course V) (blamed : AllBlame course) (first : V) (old_is_at is_at : List Exchange → V → Type 0) (comes_to : V → Type 0) (start old new : Progress) (s : Serving course first old_is_at start old) (carries : Carries course s.run s.state comes_to is_at)
+module _ {V : Type 0} (course : Course V) (blamed : AllBlame course) (first : V) (old_is_at is_at : List Exchange → V → Type 0) (comes_to : V → Type 0)
+    (start old new : Progress) (s : Serving course first old_is_at start old) (carries : Carries course s.run s.state comes_to is_at)
     (terms : Terms course) (begins : terms.starts first) (closes : Closes is_at (terms.ends first) start.faults new.faults) (later : old.faults ≤ new.faults)
     (counted : new.reader.taken + length new.left ≡ old.reader.taken + length old.left) (source : EndsSource old new) where
   serves_all : (health : Health) → Ends course s.state comes_to old new health
       → Writes start.taken new.taken (ServesAll terms health start.left)
-  serves_all health (inl at_end) = serves_end course first old_is_at is_at comes_to start old new s carries at_end.2 terms begins closes later health at_end.1 at_end.0 at_end.3 (short_input start old new s.short s.counted counted source s.none_left at_end.4)
-  serves_all health (inr quits) = serves_quit course blamed first old_is_at is_at comes_to start old new s carries _ quits terms begins closes later health quits.more.1 quits.more.0 quits.more.2
+  serves_all health (inl at_end) = serves_end course first old_is_at is_at comes_to start old new s carries at_end.2 terms begins closes later health at_end.1
+      at_end.0 at_end.3 (short_input start old new s.short s.counted counted source s.none_left at_end.4)
+  serves_all health (inr quits) = serves_quit course blamed first old_is_at is_at comes_to start old new s carries _ quits terms begins closes later health
+      quits.more.1 quits.more.0 quits.more.2
 
   pub served : (exit : Exit) → TurnSays course s.state comes_to old new (Some exit)
       → Writes start.taken new.taken (Serves terms exit start.left new.left)
@@ -364,9 +389,11 @@ module _ {V : Type 0} (course : Course V) (blamed : AllBlame course) (first : V)
   served StoreFailed says = serves_all Failed says
   served Usage says = absurd says
   served InputFault says = serves_fault course first old_is_at is_at comes_to start old new s carries says.arrives terms begins closes later says
-  served OutputFault says = serves_short course blamed first old_is_at is_at comes_to start old new s carries _ says terms begins closes later says.more.0 says.more.1
+  served OutputFault says = serves_short course blamed first old_is_at is_at comes_to start old new s carries _ says terms begins closes later says.more.0
+      says.more.1
   served NoMemory says = absurd says
   served BadFiles says = absurd says
   served (ConfigDiffers stored asked) says = absurd says
   served DiskFault says = absurd says
-  served InputTooLong says = serves_too_long course first old_is_at is_at comes_to start old new s carries says.0.arrives terms begins closes later says.0 says.1 counted
+  served InputTooLong says = serves_too_long course first old_is_at is_at comes_to start old new s carries says.0.arrives terms begins closes later says.0
+      says.1 counted

@@ -30,16 +30,19 @@ unmade_zeros content all = record {
   blank = λ file is_file. ap (λ (bytes : List ℕ). let r : Rec = record { bytes = bytes } in r) (bytes_from-zeros (content 0) (all 0) 64 _);
 }
 
-state_is : (state : State) (threshold limit : ℕ) (graph : Graph) → state.shape.threshold ≡ threshold → state.shape.limit ≡ limit → state.committed ≡ graph → state.open_one ≡ None → state.standing ≡ Live
+state_is : (state : State) (threshold limit : ℕ) (graph : Graph) → state.shape.threshold ≡ threshold → state.shape.limit ≡ limit → state.committed ≡ graph
+    → state.open_one ≡ None → state.standing ≡ Live
     → state ≡ record { shape = record { threshold = threshold; limit = limit }; committed = graph; open_one = None; standing = Live }
 state_is state threshold limit graph of_threshold of_limit of_graph closed live = rw (← of_threshold, ← of_limit, ← of_graph, ← closed, ← live)
 
 -- a session over a disk without a store begins with the one that a sample asks for
-pub opens_empty : {D : Type 0} (g : Ghosts D) (options : SampleOptions) (config : Config) (old : D) (new : SharedView D) → config ≡ sample_config options → g.tells_reads → IsUnmade (g.reads old) → Opens g config old new.session
+pub opens_empty : {D : Type 0} (g : Ghosts D) (options : SampleOptions) (config : Config) (old : D) (new : SharedView D) → config ≡ sample_config options
+    → g.tells_reads → IsUnmade (g.reads old) → Opens g config old new.session
     → (g.tells_reads → Redoes (g.reads new.session.disk) new.session.console.committed) → new.held ≡ no_snapshots → IsSharedAt g new (sample_store options)
 opens_empty g options config old new asked told unmade opens stored none =
     let shape : Shape = record { threshold = 50; limit = options.count + 16 } in
-    let begins = (subst (λ (c : Config). Opens g c old new.session) asked opens).begins true (λ _. record { shape = shape; graph = empty_graph; stands = inl (unmade, refl) }) in
+    let begins = (subst (λ (c : Config). Opens g c old new.session) asked opens).begins true
+    (λ _. record { shape = shape; graph = empty_graph; stands = inl (unmade, refl) }) in
     subst (λ (state : State). IsSharedAt g new (begins_with state))
     (state_is begins.0 50 (options.count + 16) empty_graph begins.1.suits.0 begins.1.suits.1 (begins.1.same told shape empty_graph (inl (unmade, refl))) begins.1.closed begins.1.live)
     (opens-shared g new begins.0 begins.2 stored begins.1.closed none)

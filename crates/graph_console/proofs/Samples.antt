@@ -1,5 +1,6 @@
 -- A sample as far as it has come: turns, and then lines.
-use Rattle.std.proofs.Common.{◌<◌, suc, get_or, drop-cons, ◌≡◌, ◌⊎◌, inl, inr, ℕ, ◌+◌, false, List, [], ◌∷◌, ◌++◌, Some, length, map, take, drop, refl, sym, ◌∙◌, ap, subst, arith, append_assoc, length-append}
+use Rattle.std.proofs.Common.{◌<◌, suc, get_or, drop-cons, ◌≡◌, ◌⊎◌, inl, inr, ℕ, ◌+◌, false, List, [], ◌∷◌, ◌++◌, Some}
+use Rattle.std.proofs.Common.{length, map, take, drop, refl, sym, ◌∙◌, ap, subst, arith, append_assoc, length-append}
 use Rattle.std.proofs.lemmas.List.{append-nil, map_push, take-append-drop, take_more}
 use Rattle.std.specs.List.{AllByRecursion}
 use Rattle.disk_model.specs.declared.disk.Disk.{Ghosts as DiskGhosts}
@@ -14,19 +15,22 @@ use Rattle.graph_session.specs.SnapshotEffects.{SharedView}
 use Rattle.graph_session.specs.Snapshots.{SharedState}
 use Rattle.graph_console.specs.Program.{Writes}
 use Rattle.graph_console.specs.Run.{Run, exchange_text, run_text}
-use Rattle.graph_console.specs.Sample.{Adds, EndsSample, LacksMemory, SampleState, Samples, TakesTurn, TakesTurns, last_lines, sample_store, sample_start, tells_failure, turn}
+use Rattle.graph_console.specs.Sample.{Adds, EndsSample, LacksMemory, SampleState, Samples, TakesTurn, TakesTurns}
+use Rattle.graph_console.specs.Sample.{last_lines, sample_store, sample_start, tells_failure, turn}
 use Rattle.graph_console.specs.Sampling.{AnswersWell, Asks, SampledTo, TookTurns}
 use Rattle.graph_console.specs.declared.exit.Exit.{Exit}
 use Rattle.graph_console.specs.declared.exit.Exit.TheVariants.{NoMemory, OutputFault}
 use Rattle.graph_console.proofs.Runs.{run_lines_on, run_on, run_text_on}
 
 -- one turn more
-pub turns_on : (first middle last : SampleState) (run : List Exchange) (x : Exchange) → TakesTurns first run middle → TakesTurn middle x last → TakesTurns first (run ++ x ∷ []) last
+pub turns_on : (first middle last : SampleState) (run : List Exchange) (x : Exchange) → TakesTurns first run middle → TakesTurn middle x last
+    → TakesTurns first (run ++ x ∷ []) last
 turns_on first middle last [] x turns one = (last, subst (λ (s : SampleState). TakesTurn s x last) turns one, refl)
 turns_on first middle last (y ∷ run) x turns one = (turns.0, turns.1, turns_on turns.0 middle last run x turns.2 one)
 
 -- no turn was taken
-unfoldable pub no_turns : {D : Type 0} (disk : DiskGhosts D) (options : SampleOptions) (now : SharedView D) → IsSharedAt disk now (sample_store options) → TookTurns disk options 0 (sample_start options.seed) now
+unfoldable pub no_turns : {D : Type 0} (disk : DiskGhosts D) (options : SampleOptions) (now : SharedView D) → IsSharedAt disk now (sample_store options)
+    → TookTurns disk options 0 (sample_start options.seed) now
 no_turns disk options now is_at = record {
   run = [];
   last = sample_store options;
@@ -37,8 +41,10 @@ no_turns disk options now is_at = record {
 }
 
 -- a turn was taken, whose line was answered well
-unfoldable pub turn_more : {D : Type 0} (disk : DiskGhosts D) (options : SampleOptions) (turns : ℕ) (sample next : SampleState) (old new : SharedView D) (text : List ℕ) → TookTurns disk options turns sample old
-    → ((state : SharedState) → IsSharedAt disk old state → AnswersWell disk (turn sample).line text state new) → Adds text (turn sample).after next → TookTurns disk options (turns + 1) next new
+unfoldable pub turn_more : {D : Type 0} (disk : DiskGhosts D) (options : SampleOptions) (turns : ℕ) (sample next : SampleState) (old new : SharedView D)
+    (text : List ℕ) → TookTurns disk options turns sample old
+    → ((state : SharedState) → IsSharedAt disk old state → AnswersWell disk (turn sample).line text state new) → Adds text (turn sample).after next
+    → TookTurns disk options (turns + 1) next new
 turn_more disk options turns sample next old new text took answers adds =
     let a : AnswersWell disk (turn sample).line text took.last new = answers took.last took.is_at in
     let one : TakesTurn sample a.exchange next = record {
@@ -104,7 +110,8 @@ module _ {D : Type 0} {disk : DiskGhosts D} {options : SampleOptions} where
   }
 
   -- one line more was answered well
-  pub sampled_on : (asked : List (List ℕ)) (line reply text : List ℕ) (old new : SharedView D) (s : SampledTo disk options asked old text) → AnswersWell disk line reply s.last new
+  pub sampled_on : (asked : List (List ℕ)) (line reply text : List ℕ) (old new : SharedView D) (s : SampledTo disk options asked old text)
+      → AnswersWell disk line reply s.last new
       → SampledTo disk options (asked ++ line ∷ []) new (text ++ reply)
   sampled_on asked line reply text old new s a = record {
     answered = s.answered ++ a.exchange ∷ [];
@@ -120,7 +127,8 @@ module _ {D : Type 0} {disk : DiskGhosts D} {options : SampleOptions} where
           ∙ ap (λ (lines : List InputLine). lines ++ a.exchange.line ∷ []) s.run.lines
           ∙ ap (λ (l : InputLine). map Whole asked ++ l ∷ []) a.line_is
           ∙ sym (map_push Whole asked line);
-      well = all_on (λ x. tells_failure (exchange_text x) ≡ false) s.answered a.exchange s.run.well (subst (λ (t : List ℕ). tells_failure t ≡ false) (sym a.text_is) a.well);
+      well = all_on (λ x. tells_failure (exchange_text x) ≡ false) s.answered a.exchange s.run.well
+          (subst (λ (t : List ℕ). tells_failure t ≡ false) (sym a.text_is) a.well);
     };
     is_at = a.is_at;
     text_is =
@@ -134,7 +142,8 @@ module _ {D : Type 0} {disk : DiskGhosts D} {options : SampleOptions} where
   ends_sample now text s = record { answered = s.answered; last = s.last; run = s.run; text = s.text_is }
 
   -- another line is to be asked, and memory lacks
-  lacks_next : (asked : List (List ℕ)) (line : List ℕ) (later : List (List ℕ)) (now : SharedView D) (text : List ℕ) → last_lines ≡ asked ++ line ∷ later → SampledTo disk options asked now text
+  lacks_next : (asked : List (List ℕ)) (line : List ℕ) (later : List (List ℕ)) (now : SharedView D) (text : List ℕ) → last_lines ≡ asked ++ line ∷ later
+      → SampledTo disk options asked now text
       → LacksMemory disk.tells_reads options (text ++ fault_line WantOfMemory)
   lacks_next asked line later now text all s = record {
     turns = options.count;
@@ -154,26 +163,30 @@ module _ {D : Type 0} {disk : DiskGhosts D} {options : SampleOptions} where
   begins_ending asked (line ∷ later) now text all s = (text ++ fault_line WantOfMemory, inr (lacks_next asked line later now text all s), fault_line WantOfMemory, refl)
 
   -- the sample ends in this line
-  pub ends_in_line : (asked : List (List ℕ)) (line : List ℕ) (later : List (List ℕ)) (old new : SharedView D) (text : List ℕ) (first old_taken new_taken : List ℕ) (exit : Exit) → last_lines ≡ asked ++ line ∷ later
-      → (s : SampledTo disk options asked old text) → old_taken ≡ first ++ text → Asks disk line s.last new old_taken new_taken (Some exit) → Writes first new_taken (Samples disk.tells_reads options exit)
+  pub ends_in_line : (asked : List (List ℕ)) (line : List ℕ) (later : List (List ℕ)) (old new : SharedView D) (text : List ℕ)
+      (first old_taken new_taken : List ℕ) (exit : Exit) → last_lines ≡ asked ++ line ∷ later
+      → (s : SampledTo disk options asked old text) → old_taken ≡ first ++ text → Asks disk line s.last new old_taken new_taken (Some exit)
+      → Writes first new_taken (Samples disk.tells_reads options exit)
   ends_in_line asked line later old new text first old_taken new_taken exit all s taken (inl lacks) = let written : List ℕ = text ++ fault_line WantOfMemory in (
     written,
     lacks.1 ∙ ap (λ (t : List ℕ). t ++ fault_line WantOfMemory) taken ∙ append_assoc first text (fault_line WantOfMemory),
     subst (λ (e : Exit). Samples disk.tells_reads options e written) (sym lacks.0) (lacks_next asked line later old text all s),
   )
-  ends_in_line asked line later old new text first old_taken new_taken exit all s taken (inr (fails, inl front)) = let written : List ℕ = text ++ take front.0 (fault_line WantOfMemory) in (
-    written,
-    front.2 ∙ ap (λ (t : List ℕ). t ++ take front.0 (fault_line WantOfMemory)) taken ∙ append_assoc first text (take front.0 (fault_line WantOfMemory)),
-    subst (λ (e : Exit). Samples disk.tells_reads options e written) (sym fails) (
-      text ++ fault_line WantOfMemory,
-      inr (lacks_next asked line later old text all s),
-      drop front.0 (fault_line WantOfMemory),
-      split_front text (fault_line WantOfMemory) front.0,
-    ),
-  )
+  ends_in_line asked line later old new text first old_taken new_taken exit all s taken (inr (fails, inl front)) = let written : List ℕ =
+      text ++ take front.0 (fault_line WantOfMemory) in (
+        written,
+        front.2 ∙ ap (λ (t : List ℕ). t ++ take front.0 (fault_line WantOfMemory)) taken ∙ append_assoc first text (take front.0 (fault_line WantOfMemory)),
+        subst (λ (e : Exit). Samples disk.tells_reads options e written) (sym fails) (
+          text ++ fault_line WantOfMemory,
+          inr (lacks_next asked line later old text all s),
+          drop front.0 (fault_line WantOfMemory),
+          split_front text (fault_line WantOfMemory) front.0,
+        ),
+      )
   ends_in_line asked line later old new text first old_taken new_taken exit all s taken (inr (fails, inr (reply, answers, front))) =
       let written : List ℕ = text ++ take front.0 reply in
-      let begins = begins_ending (asked ++ line ∷ []) later new (text ++ reply) (all ∙ sym (append_assoc asked (line ∷ []) later)) (sampled_on asked line reply text old new s answers) in (
+      let begins = begins_ending (asked ++ line ∷ []) later new (text ++ reply) (all ∙ sym (append_assoc asked (line ∷ []) later))
+      (sampled_on asked line reply text old new s answers) in (
         written,
         front.2 ∙ ap (λ (t : List ℕ). t ++ take front.0 reply) taken ∙ append_assoc first text (take front.0 reply),
         subst (λ (e : Exit). Samples disk.tells_reads options e written) (sym fails) (
@@ -185,7 +198,8 @@ module _ {D : Type 0} {disk : DiskGhosts D} {options : SampleOptions} where
       )
 
 -- A sample that lacks memory before it writes anything ends with that line, or with a prefix of it.
-pub ends_first : (tells : Type 0) (options : SampleOptions) (old new : List ℕ) (exit : Exit) → ((exit ≡ NoMemory) × (new ≡ old ++ fault_line WantOfMemory)) ⊎ ((exit ≡ OutputFault) × TakesFront old new (fault_line WantOfMemory))
+pub ends_first : (tells : Type 0) (options : SampleOptions) (old new : List ℕ) (exit : Exit) → ((exit ≡ NoMemory) × (new ≡ old ++ fault_line WantOfMemory))
+    ⊎ ((exit ≡ OutputFault) × TakesFront old new (fault_line WantOfMemory))
     → Writes old new (Samples tells options exit)
 ends_first tells options old new exit (inl lacks) =
     (fault_line WantOfMemory, lacks.1, subst (λ (e : Exit). Samples tells options e (fault_line WantOfMemory)) (sym lacks.0) (lacks_first tells options))

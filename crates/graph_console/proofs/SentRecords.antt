@@ -1,5 +1,6 @@
 -- What a session has committed is what it has sent.
-use Rattle.std.proofs.Common.{◌≡◌, ◌⊎◌, ⊎_elim, ◌∙◌, ℕ, zero, suc, ◌+◌, ◌≤◌, ◌<◌, ◌^◌, true, None, Some, List, [], ◌∷◌, ◌++◌, length, take, ap, inl, inr, refl, sym, subst, arith, append_assoc, length-append}
+use Rattle.std.proofs.Common.{◌≡◌, ◌⊎◌, ⊎_elim, ◌∙◌, ℕ, zero, suc, ◌+◌, ◌≤◌, ◌<◌, ◌^◌, true, None, Some, List, [], ◌∷◌}
+use Rattle.std.proofs.Common.{◌++◌, length, take, ap, inl, inr, refl, sym, subst, arith, append_assoc, length-append}
 use Rattle.std.specs.List.{slice_get}
 use Rattle.std.proofs.lemmas.List.{append-nil, take-append-le}
 use Rattle.disk_model.specs.declared.disk.Disk.{Ghosts as DiskGhosts}
@@ -49,12 +50,14 @@ use Rattle.graph_console.specs.Sending.{HasSent, HasSentMore, OpensSession, Send
 -- ---- one shipment more
 
 module _ (bytes : List ℕ) where
-  got_more : (sent : List (List ℕ)) (i : ℕ) (found : List ℕ) → slice_get (sent ++ bytes ∷ []) i ≡ Some found → (slice_get sent i ≡ Some found) ⊎ ((i ≡ length sent) × (found ≡ bytes))
+  got_more : (sent : List (List ℕ)) (i : ℕ) (found : List ℕ) → slice_get (sent ++ bytes ∷ []) i ≡ Some found → (slice_get sent i ≡ Some found)
+      ⊎ ((i ≡ length sent) × (found ≡ bytes))
   got_more [] zero found is = inr (refl, cc)
   got_more [] (suc i) found is = absurd cc
   got_more (first ∷ later) zero found is = inl is
   got_more (first ∷ later) (suc i) found is =
-      ⊎_elim (λ (got : slice_get later i ≡ Some found). inl got) (λ (last : (i ≡ length later) × (found ≡ bytes)). inr (ap suc last.0, last.1)) (got_more later i found is)
+      ⊎_elim (λ (got : slice_get later i ≡ Some found). inl got) (λ (last : (i ≡ length later) × (found ≡ bytes)). inr (ap suc last.0, last.1))
+      (got_more later i found is)
 
   got_last : (sent : List (List ℕ)) → slice_get (sent ++ bytes ∷ []) (length sent) ≡ Some bytes
   got_last [] = refl
@@ -64,7 +67,8 @@ module _ (bytes : List ℕ) where
   records_before : (shape : Shape) (sent : List (List ℕ)) (j : ℕ) → j ≤ length sent → sender_records shape (sent ++ bytes ∷ []) j ≡ sender_records shape sent j
   records_before shape sent j le = ap (laid_all (new_records shape)) (take-append-le j sent (bytes ∷ []) le)
 
-  records_after : (shape : Shape) (sent : List (List ℕ)) → sender_records shape (sent ++ bytes ∷ []) (length sent + 1) ≡ laid_over (sender_records shape sent (length sent)) (writes_of bytes)
+  records_after : (shape : Shape) (sent : List (List ℕ)) → sender_records shape (sent ++ bytes ∷ []) (length sent + 1) ≡ laid_over
+      (sender_records shape sent (length sent)) (writes_of bytes)
   records_after shape sent =
       sender_records-more shape (sent ++ bytes ∷ []) (length sent) bytes (got_last sent)
       ∙ ap (λ (records : Key → Rec). laid_over records (writes_of bytes)) (records_before shape sent (length sent) (omega arith))
@@ -103,18 +107,22 @@ none_sent shape well = record {
   stored = λ j le. let none : j ≡ 0 = omega (arith, le) in subst (λ (n : ℕ). IsIndexed (sender_records shape [] n) shape) (sym none) well;
 }
 
-state_is : (state : State) (shape : Shape) (graph : Graph) → state.shape ≡ shape → state.committed ≡ graph → state.open_one ≡ None → state.standing ≡ Live → state ≡ record { shape = shape; committed = graph; open_one = None; standing = Live }
+state_is : (state : State) (shape : Shape) (graph : Graph) → state.shape ≡ shape → state.committed ≡ graph → state.open_one ≡ None → state.standing ≡ Live
+    → state ≡ record { shape = shape; committed = graph; open_one = None; standing = Live }
 state_is state shape graph of_shape of_graph closed live = rw (← of_shape, ← of_graph, ← closed, ← live)
 
-module _ {D : Type 0} (g : DiskGhosts D) (told : g.tells_reads) (config : Config) (disk : D) (new : SharedView D) (allowed : is_allowed (shape_of config) ≡ true) (zero : IsZeros (g.reads disk)) (opened : OpensSession g config disk new) where
+module _ {D : Type 0} (g : DiskGhosts D) (told : g.tells_reads) (config : Config) (disk : D) (new : SharedView D)
+    (allowed : is_allowed (shape_of config) ≡ true) (zero : IsZeros (g.reads disk)) (opened : OpensSession g config disk new) where
   unmade : IsUnmade (g.reads disk)
   unmade = (zeros_blank (g.reads disk) zero).unmade
 
   -- what is committed is a new store
   new-records : (shape : Shape) (records : Key → Rec) → store.Opens (g.reads disk) config shape records → records ≡ new_records (shape_of config)
   new-records shape records (inl (none, shape_is, is)) =
-      is ∙ ap (store.made_over (g.reads disk)) shape_is ∙ ap (λ (before : Key → Rec). laid_over before (creation_pairs (shape_of config))) (zeros_blank (g.reads disk) zero).records
-  new-records shape records (inr (before, redoes, made, suits, is)) = absurd (none_made (g.reads disk) shape unmade (record { space = before; redoes = redoes; made = made }))
+      is ∙ ap (store.made_over (g.reads disk)) shape_is ∙ ap (λ (before : Key → Rec). laid_over before (creation_pairs (shape_of config)))
+      (zeros_blank (g.reads disk) zero).records
+  new-records shape records (inr (before, redoes, made, suits, is)) = absurd
+      (none_made (g.reads disk) shape unmade (record { space = before; redoes = redoes; made = made }))
 
   committed-new : new.session.console.committed ≡ new_records (shape_of config)
   committed-new = new-records new.session.console.shape new.session.console.committed (opened.records told)
@@ -147,7 +155,8 @@ module _ {D : Type 0} (g : DiskGhosts D) (told : g.tells_reads) (config : Config
 -- ---- a line
 
 -- what a call says is a step
-pub tapped-steps : {D K : Type 0} (disk : DiskGhosts D) (sink : SinkGhosts K) (line : InputLine) (old new : Terminal D K) (turn : Turn) (tap : Pairs) (before : SharedState) (taps : TapsLine disk sink line old new turn tap)
+pub tapped-steps : {D K : Type 0} (disk : DiskGhosts D) (sink : SinkGhosts K) (line : InputLine) (old new : Terminal D K) (turn : Turn) (tap : Pairs)
+    (before : SharedState) (taps : TapsLine disk sink line old new turn tap)
     → IsSharedAt disk (shared_in old) before → Steps disk line (shared_in old) before taps.answers.reply (shared_in new) tap
 tapped-steps disk sink line old new turn tap before taps at = record {
   settles = taps.answers.settles true before at;
@@ -159,7 +168,8 @@ standing-live : (standing : Standing) → health_of standing ≡ healths.Live �
 standing-live Live live = refl
 standing-live (Failed graphs) failed = absurd cc
 
-module _ {D : Type 0} (g : DiskGhosts D) (told : g.tells_reads) (shape : Shape) (sent : List (List ℕ)) (line : InputLine) (old new : SharedView D) (before : SharedState) (reply : Reply) (tap : Pairs)
+module _ {D : Type 0} (g : DiskGhosts D) (told : g.tells_reads) (shape : Shape) (sent : List (List ℕ)) (line : InputLine) (old new : SharedView D)
+    (before : SharedState) (reply : Reply) (tap : Pairs)
     (was : HasSent g shape sent old before) (steps : Steps g line old before reply new tap) where
   abbrev after : SharedState
   after = steps.settles.shared.after
@@ -195,14 +205,16 @@ module _ {D : Type 0} (g : DiskGhosts D) (told : g.tells_reads) (shape : Shape) 
       → HasSent g shape sent new after
   goes_on-none none found = has-sent sent was.well (λ live. by live moves.leaves)
     where
-      by : after.writer.standing ≡ Live → LeavesRecords g line old.session reply new.session → new.session.console.committed ≡ sender_records shape sent (length sent)
+      by : after.writer.standing ≡ Live → LeavesRecords g line old.session reply new.session
+          → new.session.console.committed ≡ sender_records shape sent (length sent)
       by live (inl (health, same)) = same told ∙ was.committed (live-before (sym health ∙ live-after live))
       by live (inr (inl acknowledges)) = absurd (none acknowledges)
       by live (inr (inr (inl (reopens, confirms)))) = found reopens confirms
       by live (inr (inr (inr failed))) = let clash : healths.Failed ≡ healths.Live = sym failed ∙ live-after live in absurd cc
 
   -- and one that does
-  goes_on-more : Acknowledges old.session.console.is_open line reply → length tap ≤ most_shipped → length sent + 1 < 2 ^ 64 → HasSent g shape (sent ++ shipment_bytes (length sent + 1) tap ∷ []) new after
+  goes_on-more : Acknowledges old.session.console.is_open line reply → length tap ≤ most_shipped → length sent + 1 < 2 ^ 64
+      → HasSent g shape (sent ++ shipment_bytes (length sent + 1) tap ∷ []) new after
   goes_on-more acknowledges few small =
       let bytes = shipment_bytes (length sent + 1) tap in
       let was_live = acknowledges-live g line old reply new steps.may acknowledges in
@@ -218,14 +230,16 @@ module _ {D : Type 0} (g : DiskGhosts D) (told : g.tells_reads) (shape : Shape) 
       ∙ ap (laid_over (sender_records shape sent (length sent))) (sym (writes-back shape (length sent + 1) tap was.allowed small are))
       ∙ sym (records_after bytes shape sent) in
       let live : after.writer.standing ≡ Live = standing-live after.writer.standing (sym at-after.writer.health ∙ moves.live acknowledges.1 was_live) in
-      let well : IsIndexed new.session.console.committed shape = subst (IsIndexed new.session.console.committed) (at-after.writer.shape ∙ moves.shape ∙ shape-old) (at-after.writer.holds told live).committed in
+      let well : IsIndexed new.session.console.committed shape = subst (IsIndexed new.session.console.committed)
+      (at-after.writer.shape ∙ moves.shape ∙ shape-old) (at-after.writer.holds told live).committed in
       has-sent (sent ++ bytes ∷ [])
       (sent_more bytes shape sent was.well small (shipment-back shape (length sent + 1) tap was.allowed small are) (number-back shape (length sent + 1) tap was.allowed small are)
       (subst (λ (space : Key → Rec). IsIndexed space shape) records well))
       (λ still. records ∙ ap (sender_records shape (sent ++ bytes ∷ [])) (sym (long bytes sent)))
 
   pub goes_on-sent : (later : List (List ℕ)) → Sends line old reply new tap shape sent later → HasSent g shape later new after
-  goes_on-sent later (inl (acknowledges, few, small, is)) = subst (λ (all : List (List ℕ)). HasSent g shape all new after) (sym is) (goes_on-more acknowledges few small)
+  goes_on-sent later (inl (acknowledges, few, small, is)) = subst (λ (all : List (List ℕ)). HasSent g shape all new after) (sym is)
+      (goes_on-more acknowledges few small)
   goes_on-sent later (inr (none, is, found)) = subst (λ (all : List (List ℕ)). HasSent g shape all new after) (sym is) (goes_on-none none found)
 
   -- what was sent stays
@@ -236,11 +250,13 @@ module _ {D : Type 0} (g : DiskGhosts D) (told : g.tells_reads) (shape : Shape) 
 -- ---- a run
 
 -- the graphs of what was sent stay
-graphs-stay : (shape : Shape) (sent more all : List (List ℕ)) → all ≡ sent ++ more → (j : ℕ) → j ≤ length sent → sent_graph shape all j ≡ sent_graph shape sent j
+graphs-stay : (shape : Shape) (sent more all : List (List ℕ)) → all ≡ sent ++ more → (j : ℕ) → j ≤ length sent
+    → sent_graph shape all j ≡ sent_graph shape sent j
 graphs-stay shape sent more all is j le =
     ap (λ (l : List (List ℕ)). graph_of (laid_all (new_records shape) l)) (ap (λ (l : List (List ℕ)). take j l) is ∙ take-append-le j sent more le)
 
-pub ships-sent : {D : Type 0} (g : DiskGhosts D) → g.tells_reads → (shape : Shape) (lines : List (TappedLine D)) (first last : Sender D) → HasSent g shape first.sent first.view first.state → Ships g shape first lines last
+pub ships-sent : {D : Type 0} (g : DiskGhosts D) → g.tells_reads → (shape : Shape) (lines : List (TappedLine D)) (first last : Sender D)
+    → HasSent g shape first.sent first.view first.state → Ships g shape first lines last
     → HasSentMore g shape first last
 ships-sent {D = D} g told shape [] first last was is =
     let same : last.sent ≡ first.sent ++ [] = ap (λ (s : Sender D). s.sent) is ∙ sym (append-nil first.sent) in
@@ -255,7 +271,8 @@ ships-sent g told shape (x ∷ later) first last was (steps, state_is, sent, sen
     let here = subst (λ (state : SharedState). HasSent g shape sent x.view state) (sym state_is) next in
     let end = ships-sent g told shape later (record { view = x.view; state = x.state; sent = sent }) last here ships in
     let one = sends-more g told shape first.sent x.line first.view x.view first.state x.reply x.tap was steps sent sends in
-    let all : last.sent ≡ first.sent ++ (one.0 ++ end.more) = end.sent_is ∙ ap (λ (l : List (List ℕ)). l ++ end.more) one.1 ∙ append_assoc first.sent one.0 end.more in
+    let all : last.sent ≡ first.sent ++ (one.0 ++ end.more) = end.sent_is ∙ ap (λ (l : List (List ℕ)). l ++ end.more) one.1
+    ∙ append_assoc first.sent one.0 end.more in
     record {
       now = end.now;
       more = one.0 ++ end.more;

@@ -1,5 +1,6 @@
 -- The turns of a sample of each of which a shipment is made.
-use Rattle.std.proofs.Common.{◌≡◌, ◌≢◌, ◌∙◌, ℕ, zero, suc, ◌+◌, ◌<◌, ◌≤◌, ◌^◌, Bool, false, is_some, None, Some, List, [], ◌∷◌, ◌++◌, length, ap, sym, subst, inl, inr, refl, arith, length-append}
+use Rattle.std.proofs.Common.{◌≡◌, ◌≢◌, ◌∙◌, ℕ, zero, suc, ◌+◌, ◌<◌, ◌≤◌, ◌^◌, Bool, false, is_some, None, Some, List}
+use Rattle.std.proofs.Common.{[], ◌∷◌, ◌++◌, length, ap, sym, subst, inl, inr, refl, arith, length-append}
 use Rattle.disk_model.specs.declared.disk.Disk.{Ghosts as DiskGhosts}
 use Rattle.stream_io.specs.Lines.{InputLine, Whole}
 use Rattle.plain_graph.specs.Changes.{IsChange}
@@ -36,7 +37,8 @@ record IsAlone (line : InputLine) (reply : Reply) (old new : State) : Type 0 whe
   standing : new.standing ≡ old.standing
   closed : new.open_one ≡ None
 
-module _ (line : InputLine) (own : session_in line ≡ 0) (reply : Reply) (old new : State) (closed : old.open_one ≡ None) (told : ¬ Acknowledges false line reply → ⊥) where
+module _ (line : InputLine) (own : session_in line ≡ 0) (reply : Reply) (old new : State) (closed : old.open_one ≡ None)
+    (told : ¬ Acknowledges false line reply → ⊥) where
   -- a command that is neither a change nor `commit`
   neither : (command : Command) → SpellsLine line command → ¬ IsChange command → command ≢ commands.Commit → ⊥
   neither command spelled no_change no_commit = told (λ acknowledges. elim acknowledges.2 [
@@ -45,7 +47,8 @@ module _ (line : InputLine) (own : session_in line ≡ 0) (reply : Reply) (old n
   ])
 
   made : (command : Command) → SpellsLine line command → Confirms reply → IsChange command → MakesChange old command reply new → IsAlone line reply old new
-  made command spelled confirms change (inl (transaction, opened, graph, weight, changes, weighs, same)) = let clash : None ≡ Some transaction = sym closed ∙ opened in cc
+  made command spelled confirms change (inl (transaction, opened, graph, weight, changes, weighs, same)) = let clash : None ≡ Some transaction = sym closed
+      ∙ opened in cc
   made command spelled confirms change (inr (none, graph, changes, same)) = record {
     acknowledges = (own, confirms, inr (refl, command, change, spelled));
     standing = ap (λ (s : State). s.standing) same;
@@ -78,7 +81,8 @@ module _ (line : InputLine) (own : session_in line ≡ 0) (reply : Reply) (old n
 
 module _ (line : InputLine) (own : session_in line ≡ 0) (failed : Bool) (old new : State) (closed : old.open_one ≡ None) where
   -- the step of the console, reply by reply
-  stepped : (reply : Reply) → (¬ Acknowledges false line reply → ⊥) → ConsoleStep old (record { line = line; disk_failed = failed; reply = reply }) new → IsAlone line reply old new
+  stepped : (reply : Reply) → (¬ Acknowledges false line reply → ⊥) → ConsoleStep old (record { line = line; disk_failed = failed; reply = reply }) new
+      → IsAlone line reply old new
   stepped replies.Silent told step = absurd (told (λ acknowledges. acknowledges.1))
   stepped (replies.Faulted lines fault) told step = absurd (told (λ acknowledges. acknowledges.1))
   stepped (replies.Refused why) told step = absurd (told (λ acknowledges. acknowledges.1))
@@ -89,8 +93,10 @@ module _ (line : InputLine) (own : session_in line ≡ 0) (failed : Bool) (old n
 
 -- a line of any session
 shared_step : (line : InputLine) (failed : Bool) (reply : Reply) (old new : SharedState) → old.writer.open_one ≡ None → (¬ Acknowledges false line reply → ⊥)
-    → (session : ℕ) → session_in line ≡ session → step_of session old (record { line = line; disk_failed = failed; reply = reply }) new → IsAlone line reply old.writer new.writer
-shared_step line failed reply old new closed told (suc reader) is step = absurd (told (λ acknowledges. let clash : 0 ≡ suc reader = sym acknowledges.0 ∙ is in cc))
+    → (session : ℕ) → session_in line ≡ session → step_of session old (record { line = line; disk_failed = failed; reply = reply }) new
+    → IsAlone line reply old.writer new.writer
+shared_step line failed reply old new closed told (suc reader) is step =
+    absurd (told (λ acknowledges. let clash : 0 ≡ suc reader = sym acknowledges.0 ∙ is in cc))
 shared_step line failed reply old new closed told zero is (inl refused) = absurd (told (λ acknowledges. subst Confirms refused.1 acknowledges.1))
 shared_step line failed reply old new closed told zero is (inr step) = stepped line is failed old.writer new.writer closed reply told step.1.0
 
@@ -98,7 +104,8 @@ shared_step line failed reply old new closed told zero is (inr step) = stepped l
 
 module _ {D : Type 0} (g : DiskGhosts D) where
   -- no line was asked
-  pub none_sent : (options : SampleOptions) (now : SharedView D) → HasSent g (shape_of (sample_config options)) [] now (sample_store options) → HasSentTurns g options 0 (sample_start options.seed) [] now
+  pub none_sent : (options : SampleOptions) (now : SharedView D) → HasSent g (shape_of (sample_config options)) [] now (sample_store options)
+      → HasSentTurns g options 0 (sample_start options.seed) [] now
   unfolding no_turns
   none_sent options now sends = record {
     took = no_turns g options now sends.is_at;
@@ -109,15 +116,19 @@ module _ {D : Type 0} (g : DiskGhosts D) where
   }
 
   -- the shipment of one more was made
-  pub sent_more : (options : SampleOptions) (turns : ℕ) (sample next : SampleState) (sent : List (List ℕ)) (old new : SharedView D) (text : List ℕ) (tap : Pairs) → g.tells_reads → turns < 2 ^ 32
+  pub sent_more : (options : SampleOptions) (turns : ℕ) (sample next : SampleState) (sent : List (List ℕ)) (old new : SharedView D) (text : List ℕ)
+      (tap : Pairs) → g.tells_reads → turns < 2 ^ 32
       → ((sent later : List (List ℕ)) (line : InputLine) (old new : SharedView D) (before : SharedState) (reply : Reply) (tap : Pairs) → HasSent g (shape_of (sample_config options)) sent old before
-      → (steps : Steps g line old before reply new tap) → Sends line old reply new tap (shape_of (sample_config options)) sent later → HasSent g (shape_of (sample_config options)) later new steps.settles.shared.after)
-      → HasSentTurns g options turns sample sent old → AnswersTapped g (turn sample).line text old new tap → Adds text (turn sample).after next → tap ≢ [] → length tap ≤ most_shipped
+      → (steps : Steps g line old before reply new tap) → Sends line old reply new tap (shape_of (sample_config options)) sent later
+      → HasSent g (shape_of (sample_config options)) later new steps.settles.shared.after)
+      → HasSentTurns g options turns sample sent old → AnswersTapped g (turn sample).line text old new tap → Adds text (turn sample).after next → tap ≢ []
+      → length tap ≤ most_shipped
       → HasSentTurns g options (turns + 1) next (sent ++ shipment_bytes (length sent + 1) tap ∷ []) new
   unfolding turn_more
   sent_more options turns sample next sent old new text tap reads few goes_on has answers adds some fits = record {
     took = turn_more g options turns sample next old new text has.took well adds;
-    sends = goes_on sent (sent ++ shipment_bytes (length sent + 1) tap ∷ []) line old new has.took.last answers.reply tap has.sends steps (inl (acknowledges, fits, omega (arith, many), refl));
+    sends = goes_on sent (sent ++ shipment_bytes (length sent + 1) tap ∷ []) line old new has.took.last answers.reply tap has.sends steps
+        (inl (acknowledges, fits, omega (arith, many), refl));
     many = length-append sent (shipment_bytes (length sent + 1) tap ∷ []) ∙ ap (λ (n : ℕ). n + 1) has.many;
     live = alone.standing ∙ has.live;
     closed = alone.closed;
@@ -139,7 +150,8 @@ module _ {D : Type 0} (g : DiskGhosts D) where
       told none = some (steps.taps.empty (subst (λ (b : Bool). ¬ Acknowledges b line answers.reply) (sym not_open) none))
 
       alone : IsAlone line answers.reply has.took.last.writer steps.settles.shared.after.writer
-      alone = shared_step line steps.settles.shared.disk_failed answers.reply has.took.last steps.settles.shared.after has.closed told (session_in line) refl (steps.settles.shared.step reads)
+      alone = shared_step line steps.settles.shared.disk_failed answers.reply has.took.last steps.settles.shared.after has.closed told (session_in line) refl
+          (steps.settles.shared.step reads)
 
       acknowledges : Acknowledges old.session.console.is_open line answers.reply
       acknowledges = subst (λ (b : Bool). Acknowledges b line answers.reply) (sym not_open) alone.acknowledges
@@ -158,7 +170,8 @@ module _ {D : Type 0} (g : DiskGhosts D) where
           }
 
   -- all lines were asked
-  pub sends_sample : (options : SampleOptions) (sample : SampleState) (sent : List (List ℕ)) (now : SharedView D) → HasSentTurns g options options.count sample sent now → SendsSample g.tells_reads options sample.x sent
+  pub sends_sample : (options : SampleOptions) (sample : SampleState) (sent : List (List ℕ)) (now : SharedView D)
+      → HasSentTurns g options options.count sample sent now → SendsSample g.tells_reads options sample.x sent
   sends_sample options sample sent now has = record {
     run = has.took.run;
     last = has.took.last;

@@ -28,10 +28,12 @@ module _ (old : SharedState) (x : Exchange) (new : SharedState) where
       by (replies.Refused why) s = same_writer s.1
 
   -- The session that writes takes a step of its console, in a line of its own; or its console stays, and no transaction is acknowledged.
-  pub writes_or_stays : SharedStep old x new → (IsOfWriter x.line × ConsoleStep old.writer x new.writer) ⊎ ((¬ AcknowledgesFrom old.writer x) × (new.writer ≡ old.writer))
+  pub writes_or_stays : SharedStep old x new → (IsOfWriter x.line × ConsoleStep old.writer x new.writer)
+      ⊎ ((¬ AcknowledgesFrom old.writer x) × (new.writer ≡ old.writer))
   writes_or_stays step = by (session_in x.line) refl step
     where
-      by : (session : ℕ) → session_in x.line ≡ session → step_of session old x new → (IsOfWriter x.line × ConsoleStep old.writer x new.writer) ⊎ ((¬ AcknowledgesFrom old.writer x) × (new.writer ≡ old.writer))
+      by : (session : ℕ) → session_in x.line ≡ session → step_of session old x new → (IsOfWriter x.line × ConsoleStep old.writer x new.writer)
+          ⊎ ((¬ AcknowledgesFrom old.writer x) × (new.writer ≡ old.writer))
       by zero own (inl refused) = inr (λ acknowledges. subst Confirms refused.1 acknowledges.1, same_writer refused.2)
       by zero own (inr writes) = inl (own, writes.1.0)
       by (suc reader) other reads = inr (

@@ -48,7 +48,8 @@ stats_only : SpellsOnly stats_bytes commands.Stats
 stats_only = record {
   spelled = stats_spelled;
   only = λ other spelled. line_agrees stats_line commands.Stats other stats_spelled spelled;
-  no_fault = no_fault_of stats_bytes stats_bytes stats_bytes commands.Stats refl stats_takes (tail_after commands.Stats stats_bytes stats_bytes stats_takes (spelled_loosely stats_bytes commands.Stats stats_spelled)) (tt, (tt, tt));
+  no_fault = no_fault_of stats_bytes stats_bytes stats_bytes commands.Stats refl stats_takes
+      (tail_after commands.Stats stats_bytes stats_bytes stats_takes (spelled_loosely stats_bytes commands.Stats stats_spelled)) (tt, (tt, tt));
 }
 
 is_stats : (command : Command) → SpellsLine stats_line command → command ≡ commands.Stats
@@ -76,17 +77,20 @@ module _ (old new : State) (failed : Bool) (live : old.standing ≡ Live) (close
       (reached old stats_only (inl (λ is. subst IsFailed live is)) (λ needs. elim needs [ inl e ↦ cc | inr (inl e) ↦ cc | inr (inr e) ↦ cc ]) (λ needs. elim needs [ inl e ↦ cc | inr e ↦ cc ])))
       step.0
 
-  told : (reply : Reply) → IsDone old (record { line = stats_line; disk_failed = failed; reply = reply }) new → reply ≡ replies.Told [] (counts_text (counts_of old.committed))
+  told : (reply : Reply) → IsDone old (record { line = stats_line; disk_failed = failed; reply = reply }) new
+      → reply ≡ replies.Told [] (counts_text (counts_of old.committed))
   told reply done =
       let carries : CarriesOut old commands.Stats reply new = subst (λ (c : Command). CarriesOut old c reply new) (is_stats done.1 done.2) done.3 in
       carries.3
       ∙ ap (λ (r : Reading). replies.Told r.lines r.last) carries.1
       ∙ ap (λ (g : Graph). replies.Told [] (counts_text (counts_of g))) (ap (seen_by old.committed) closed)
 
-  text_told : (reply : Reply) → IsDone old (record { line = stats_line; disk_failed = failed; reply = reply }) new → marked_text [] reply ≡ text_line (counts_text (counts_of old.committed))
+  text_told : (reply : Reply) → IsDone old (record { line = stats_line; disk_failed = failed; reply = reply }) new
+      → marked_text [] reply ≡ text_line (counts_text (counts_of old.committed))
   text_told reply done = ap (marked_text []) (told reply done)
 
-  stopped : (lines : List (List ℕ)) (fault : Fault) → Stops old stats_line failed lines fault new → tells_failure (marked_text [] (replies.Faulted lines fault)) ≡ false → ⊥
+  stopped : (lines : List (List ℕ)) (fault : Fault) → Stops old stats_line failed lines fault new
+      → tells_failure (marked_text [] (replies.Faulted lines fault)) ≡ false → ⊥
   stopped lines replies.PastCount stops well =
       let past = subst (λ (c : Command). ShowsPast (seen old) c lines) (is_stats stops.1 stops.2) stops.3 in
       let is_past : false ≡ true = sym (ap (λ (r : Reading). r.is_past) past.1) ∙ past.2 in
@@ -95,7 +99,8 @@ module _ (old new : State) (failed : Bool) (live : old.standing ≡ Live) (close
   stopped lines replies.DiskFailed stops well = let clash : true ≡ false = sym (disk_failure_told (flat_map (marked_line []) lines)) ∙ well in cc
   stopped lines (replies.DamagedRecord file id) stops well = stops
 
-  console_tells : (reply : Reply) → ConsoleStep old (record { line = stats_line; disk_failed = failed; reply = reply }) new → tells_failure (marked_text [] reply) ≡ false
+  console_tells : (reply : Reply) → ConsoleStep old (record { line = stats_line; disk_failed = failed; reply = reply }) new
+      → tells_failure (marked_text [] reply) ≡ false
       → marked_text [] reply ≡ text_line (counts_text (counts_of old.committed))
   console_tells replies.Silent (inl blank, same) well = let clash : commands.Blank ≡ commands.Stats = is_stats commands.Blank blank in cc
   console_tells replies.Silent (inr quit, same) well = let clash : commands.Quit ≡ commands.Stats = is_stats commands.Quit quit in cc
@@ -107,21 +112,27 @@ module _ (old new : State) (failed : Bool) (live : old.standing ≡ Live) (close
   console_tells (replies.Refused why) step well = absurd (not_refused why step)
 
 -- a console that is live and has no open transaction tells the counts of its graph
-pub stats_told : (old new : SharedState) (failed : Bool) (reply : Reply) → old.writer.standing ≡ Live → old.writer.open_one ≡ None → SharedStep old (record { line = stats_line; disk_failed = failed; reply = reply }) new
+pub stats_told : (old new : SharedState) (failed : Bool) (reply : Reply) → old.writer.standing ≡ Live → old.writer.open_one ≡ None
+    → SharedStep old (record { line = stats_line; disk_failed = failed; reply = reply }) new
     → tells_failure (marked_text [] reply) ≡ false → marked_text [] reply ≡ text_line (counts_text (counts_of old.writer.committed))
-stats_told old new failed reply live closed (inl (inl snapshot, refused, same)) well = let clash : commands.Snapshot ≡ commands.Stats = is_stats commands.Snapshot snapshot in cc
-stats_told old new failed reply live closed (inl (inr release, refused, same)) well = let clash : commands.Release ≡ commands.Stats = is_stats commands.Release release in cc
+stats_told old new failed reply live closed (inl (inl snapshot, refused, same)) well = let clash : commands.Snapshot ≡ commands.Stats =
+    is_stats commands.Snapshot snapshot in cc
+stats_told old new failed reply live closed (inl (inr release, refused, same)) well = let clash : commands.Release ≡ commands.Stats =
+    is_stats commands.Release release in cc
 stats_told old new failed reply live closed (inr (other, step)) well = console_tells old.writer new.writer failed live closed reply step.0 well
 
 -- the answer of such a console is its counts
-pub answers_stats : {D : Type 0} (disk : DiskGhosts D) (state : SharedState) (text : List ℕ) (now : SharedView D) → disk.tells_reads → state.writer.standing ≡ Live → state.writer.open_one ≡ None → AnswersWell disk (codes "stats") text state now
+pub answers_stats : {D : Type 0} (disk : DiskGhosts D) (state : SharedState) (text : List ℕ) (now : SharedView D) → disk.tells_reads
+    → state.writer.standing ≡ Live → state.writer.open_one ≡ None → AnswersWell disk (codes "stats") text state now
     → text ≡ text_line (counts_text (counts_of state.writer.committed))
 answers_stats disk state text now reads live closed a = by a.exchange.line a.line_is a.exchange.reply refl
   where
-    by : (line : InputLine) → line ≡ stats_line → (reply : Reply) → a.exchange ≡ record { line = line; disk_failed = a.exchange.disk_failed; reply = reply } → text ≡ text_line (counts_text (counts_of state.writer.committed))
+    by : (line : InputLine) → line ≡ stats_line → (reply : Reply) → a.exchange ≡ record { line = line; disk_failed = a.exchange.disk_failed; reply = reply }
+        → text ≡ text_line (counts_text (counts_of state.writer.committed))
     by line line_is reply exchange_is =
         let x : Exchange = record { line = stats_line; disk_failed = a.exchange.disk_failed; reply = reply } in
         let same : a.exchange ≡ x = exchange_is ∙ ap (λ (l : InputLine). record { line = l; disk_failed = a.exchange.disk_failed; reply = reply }) line_is in
         let text_is : exchange_text x ≡ text = ap exchange_text (sym same) ∙ a.text_is in
         let step : SharedStep state x a.after = subst (λ (y : Exchange). SharedStep state y a.after) same (a.step.step reads) in
-        sym text_is ∙ stats_told state a.after a.exchange.disk_failed reply live closed step (subst (λ (t : List ℕ). tells_failure t ≡ false) (sym text_is) a.well)
+        sym text_is ∙ stats_told state a.after a.exchange.disk_failed reply live closed step
+        (subst (λ (t : List ℕ). tells_failure t ≡ false) (sym text_is) a.well)

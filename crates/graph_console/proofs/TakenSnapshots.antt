@@ -1,5 +1,6 @@
 -- A snapshot that is open at the end of a run was taken in it, and sees the graph that was committed then.
-use Rattle.std.proofs.Common.{◌≡◌, ◌≢◌, ◌⊎◌, ⊎_elim, ◌∙◌, inl, inr, ℕ, zero, suc, Bool, true, false, cond, not, ◌||◌, nat_eq, List, [], ◌∷◌, ◌++◌, filter, map, refl, sym, ap, subst}
+use Rattle.std.proofs.Common.{◌≡◌, ◌≢◌, ◌⊎◌, ⊎_elim, ◌∙◌, inl, inr, ℕ, zero, suc, Bool, true, false, cond, not, ◌||◌}
+use Rattle.std.proofs.Common.{nat_eq, List, [], ◌∷◌, ◌++◌, filter, map, refl, sym, ap, subst}
 use Rattle.std.specs.List.{AllByRecursion, list_any}
 use Rattle.plain_graph.specs.Graph.{Graph}
 use Rattle.plain_graph.specs.Reply as replies
@@ -16,20 +17,24 @@ use Rattle.graph_console.specs.TakenSnapshots.{HasTaken, MovesSnapshot, TakesSna
 
 -- ---- snapshots in a list
 
-sees_heavier : (weight : ℕ) (snapshots : List Snapshot) (reader : ℕ) (graph : Graph) → SeesAmong (map (heavier weight) snapshots) reader graph → SeesAmong snapshots reader graph
+sees_heavier : (weight : ℕ) (snapshots : List Snapshot) (reader : ℕ) (graph : Graph) → SeesAmong (map (heavier weight) snapshots) reader graph
+    → SeesAmong snapshots reader graph
 sees_heavier weight [] reader graph never = never
 sees_heavier weight (snapshot ∷ younger) reader graph (inl first) = inl first
 sees_heavier weight (snapshot ∷ younger) reader graph (inr later) = inr (sees_heavier weight younger reader graph later)
 
 -- one that outlives a transaction was there before it
-sees_outliving : (weight : ℕ) (snapshots : List Snapshot) (ended : List ℕ) (new : Readers) → Outlive weight snapshots ended new → (reader : ℕ) (graph : Graph) → Sees new reader graph → SeesAmong snapshots reader graph
+sees_outliving : (weight : ℕ) (snapshots : List Snapshot) (ended : List ℕ) (new : Readers) → Outlive weight snapshots ended new → (reader : ℕ) (graph : Graph)
+    → Sees new reader graph → SeesAmong snapshots reader graph
 sees_outliving weight [] ended new is reader graph sees = subst (λ (readers : Readers). Sees readers reader graph) is sees
 sees_outliving weight (oldest ∷ younger) ended new (inl all) reader graph sees =
     sees_heavier weight (oldest ∷ younger) reader graph (subst (λ (readers : Readers). Sees readers reader graph) all sees)
-sees_outliving weight (oldest ∷ younger) ended new (inr ends) reader graph sees = inr (sees_outliving weight younger (oldest.reader ∷ ended) new ends.1 reader graph sees)
+sees_outliving weight (oldest ∷ younger) ended new (inr ends) reader graph sees =
+    inr (sees_outliving weight younger (oldest.reader ∷ ended) new ends.1 reader graph sees)
 
 -- one of a list with one more at its end
-sees_end : (snapshots : List Snapshot) (last : Snapshot) (reader : ℕ) (graph : Graph) → SeesAmong (snapshots ++ last ∷ []) reader graph → SeesAmong snapshots reader graph ⊎ ((last.reader ≡ reader) × (last.graph ≡ graph))
+sees_end : (snapshots : List Snapshot) (last : Snapshot) (reader : ℕ) (graph : Graph) → SeesAmong (snapshots ++ last ∷ []) reader graph
+    → SeesAmong snapshots reader graph ⊎ ((last.reader ≡ reader) × (last.graph ≡ graph))
 sees_end [] last reader graph (inl is) = inr is
 sees_end [] last reader graph (inr never) = absurd never
 sees_end (snapshot ∷ younger) last reader graph (inl is) = inl (inl is)
@@ -39,12 +44,14 @@ abbrev others : ℕ → List Snapshot → List Snapshot
 others gone snapshots = filter (λ (snapshot : Snapshot). not (is_of gone snapshot)) snapshots
 
 -- one that is left when a reader's are gone is another reader's
-sees_left : (gone : ℕ) (snapshots : List Snapshot) (reader : ℕ) (graph : Graph) → SeesAmong (others gone snapshots) reader graph → SeesAmong snapshots reader graph × (reader ≢ gone)
+sees_left : (gone : ℕ) (snapshots : List Snapshot) (reader : ℕ) (graph : Graph) → SeesAmong (others gone snapshots) reader graph
+    → SeesAmong snapshots reader graph × (reader ≢ gone)
 sees_left gone [] reader graph never = absurd never
 sees_left gone (snapshot ∷ younger) reader graph sees = by (nat_eq snapshot.reader gone) refl (sees_left gone younger reader graph) sees
   where
     by : (t : Bool) → nat_eq snapshot.reader gone ≡ t → (SeesAmong (others gone younger) reader graph → SeesAmong younger reader graph × (reader ≢ gone))
-        → SeesAmong (cond (not t) (snapshot ∷ others gone younger) (others gone younger)) reader graph → SeesAmong (snapshot ∷ younger) reader graph × (reader ≢ gone)
+        → SeesAmong (cond (not t) (snapshot ∷ others gone younger) (others gone younger)) reader graph → SeesAmong (snapshot ∷ younger) reader graph
+        × (reader ≢ gone)
     by true e later s = (inr (later s).0, (later s).1)
     by false e later (inl is) = (inl is, λ same. other_number snapshot.reader gone e (is.0 ∙ same))
     by false e later (inr s) = (inr (later s).0, (later s).1)
@@ -52,7 +59,8 @@ sees_left gone (snapshot ∷ younger) reader graph sees = by (nat_eq snapshot.re
 -- who sees a graph has a snapshot
 open_of : (snapshots : List Snapshot) (reader : ℕ) (graph : Graph) → SeesAmong snapshots reader graph → list_any (is_of reader) snapshots ≡ true
 open_of [] reader graph never = absurd never
-open_of (snapshot ∷ younger) reader graph (inl is) = ap (λ (b : Bool). b || list_any (is_of reader) younger) (ap (λ (n : ℕ). nat_eq n reader) is.0 ∙ own_number reader)
+open_of (snapshot ∷ younger) reader graph (inl is) = ap (λ (b : Bool). b || list_any (is_of reader) younger)
+    (ap (λ (n : ℕ). nat_eq n reader) is.0 ∙ own_number reader)
 open_of (snapshot ∷ younger) reader graph (inr later) = or_right (is_of reader snapshot) (list_any (is_of reader) younger) (open_of younger reader graph later)
 
 -- ---- in a step
@@ -68,7 +76,8 @@ module _ (old : SharedState) (x : Exchange) (new : SharedState) (reader : ℕ) (
   writer_since : WriterStep old x new → Sees new.readers reader graph → HasSince
   writer_since (inl refused) sees = inl (sees_as old refused.2 sees, λ moves. let clash : replies.Refused refusals.Writer ≡ replies.Done = sym refused.1 ∙ moves.2 in cc)
   writer_since (inr writes) sees = inl (
-    ⊎_elim (λ ends. sees_outliving ends.0 old.readers.open_ones old.readers.ended new.readers ends.3 reader graph sees) (λ same. subst (λ (readers : Readers). Sees readers reader graph) same.1 sees) writes.1.1,
+    ⊎_elim (λ ends. sees_outliving ends.0 old.readers.open_ones old.readers.ended new.readers ends.3 reader graph sees)
+        (λ same. subst (λ (readers : Readers). Sees readers reader graph) same.1 sees) writes.1.1,
     λ moves. writes.0 moves.1,
   )
 
@@ -109,7 +118,8 @@ module _ (old : SharedState) (x : Exchange) (new : SharedState) (reader : ℕ) (
 -- ---- in a run
 
 -- it was open at the start and has been since, or was taken in the run
-taken_in : (tells : Type 0) → tells → (first : SharedState) (run : List Exchange) (last : SharedState) → Run tells first run last → (reader : ℕ) (graph : Graph) → Sees last.readers reader graph
+taken_in : (tells : Type 0) → tells → (first : SharedState) (run : List Exchange) (last : SharedState) → Run tells first run last → (reader : ℕ) (graph : Graph)
+    → Sees last.readers reader graph
     → (Sees first.readers reader graph × AllByRecursion (λ (x : Exchange). ¬ MovesSnapshot reader x) run) ⊎ HasTaken tells first run reader graph
 taken_in tells told first [] last same reader graph sees = inl (subst (λ (s : SharedState). Sees s.readers reader graph) same sees, tt)
 taken_in tells told first (x ∷ later) last steps reader graph sees = elim (taken_in tells told steps.0 later last steps.2 reader graph sees) [
@@ -130,7 +140,9 @@ taken_in tells told first (x ∷ later) last steps reader graph sees = elim (tak
   })
 ]
 
-pub taken_since : (tells : Type 0) → tells → (first : SharedState) (run : List Exchange) (last : SharedState) → first.readers ≡ no_readers → Run tells first run last
+pub taken_since : (tells : Type 0) → tells → (first : SharedState) (run : List Exchange) (last : SharedState) → first.readers ≡ no_readers
+    → Run tells first run last
     → (reader : ℕ) (graph : Graph) → Sees last.readers reader graph → HasTaken tells first run reader graph
 taken_since tells told first run last none steps reader graph sees =
-    ⊎_elim (λ kept. absurd (subst (λ (readers : Readers). Sees readers reader graph) none kept.0)) (λ has. has) (taken_in tells told first run last steps reader graph sees)
+    ⊎_elim (λ kept. absurd (subst (λ (readers : Readers). Sees readers reader graph) none kept.0)) (λ has. has)
+    (taken_in tells told first run last steps reader graph sees)

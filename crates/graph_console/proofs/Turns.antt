@@ -26,7 +26,8 @@ use Rattle.graph_console.specs.Serve.{Exchanges, IsViewedAs, Progress, TurnSays,
 
 -- The line was answered by a step of the course from this state, and its reply given to the sink. The session comes to the state
 -- after it, and has this health.
-pub record Answers {V : Type 0} (course : Course V) (comes_to : V → Type 0) (line : InputLine) (old_faults new_faults : ℕ) (old_taken new_taken : List ℕ) (health : Health) (turn : Turn) (before : V) : Type 0 where
+pub record Answers {V : Type 0} (course : Course V) (comes_to : V → Type 0) (line : InputLine) (old_faults new_faults : ℕ) (old_taken new_taken : List ℕ)
+    (health : Health) (turn : Turn) (before : V) : Type 0 where
   pub reply : Reply
   pub disk_failed : Bool
   pub after : V
@@ -37,7 +38,8 @@ pub record Answers {V : Type 0} (course : Course V) (comes_to : V → Type 0) (l
   pub text : Delivers turn old_taken new_taken (marked_text (mark_in line) reply)
   pub quit : (turn ≡ Quit) ↔ IsQuit line
 
-module _ {D K : Type 0} {disk : DiskGhosts D} {sink : SinkGhosts K} (told : sink.tells) {line : InputLine} {old new : Terminal D K} {turn : Turn} (answers : AnswersLine disk sink line old new turn) where
+module _ {D K : Type 0} {disk : DiskGhosts D} {sink : SinkGhosts K} (told : sink.tells) {line : InputLine} {old new : Terminal D K} {turn : Turn}
+    (answers : AnswersLine disk sink line old new turn) where
   -- from each state of all sessions that the session is at
   pub answers_at : (known : Bool) (state : SharedState) → IsSharedAt (as_known known disk) (shared_in old) state
       → Answers (shared_course (as_known known disk).tells_reads) (SharedComesTo (as_known known disk) (shared_in old) (shared_in new) state) line
@@ -57,7 +59,8 @@ module _ {D K : Type 0} {disk : DiskGhosts D} {sink : SinkGhosts K} (told : sink
   -- over any disk from the view that it has
   pub answers_over : (state : SharedState) → IsSharedAt (as_known false disk) (shared_in old) state
       → Answers (over_disk disk) (IsViewedAs disk (shared_in new)) line
-      (disk.faults old.session.disk) (disk.faults new.session.disk) (sink.taken old.output) (sink.taken new.output) new.session.console.health turn (shared_in old)
+      (disk.faults old.session.disk) (disk.faults new.session.disk) (sink.taken old.output) (sink.taken new.output) new.session.console.health turn
+      (shared_in old)
   answers_over state at = let s = (answers.settles false state at).shared in record {
     reply = answers.reply;
     disk_failed = s.disk_failed;
@@ -85,10 +88,12 @@ module _ {V : Type 0} {course : Course V} {comes_to : V → Type 0} {line : Inpu
     more = more;
   }
 
-  pub says_after : (turn : Turn) → Answers course comes_to line old.faults new.faults old.taken new.taken health turn before → TurnSays course before comes_to old new (exit_after_turn turn health)
+  pub says_after : (turn : Turn) → Answers course comes_to line old.faults new.faults old.taken new.taken health turn before
+      → TurnSays course before comes_to old new (exit_after_turn turn health)
   says_after turn a = by turn health a a.health_is
     where
-      by : (t : Turn) (h : Health) (answer : Answers course comes_to line old.faults new.faults old.taken new.taken health t before) → course.health answer.after ≡ h
+      by : (t : Turn) (h : Health) (answer : Answers course comes_to line old.faults new.faults old.taken new.taken health t before)
+          → course.health answer.after ≡ h
           → TurnSays course before comes_to old new (exit_after_turn t h)
       by Go h answer is = exchange_of Go _ answer (λ is_quit. absurd (cc (answer.quit.1 is_quit)), answer.text)
       by Quit Live answer is = inr (exchange_of Quit _ answer (answer.quit.0 refl, is, answer.text))
@@ -96,14 +101,16 @@ module _ {V : Type 0} {course : Course V} {comes_to : V → Type 0} {line : Inpu
       by SinkFault h answer is = exchange_of SinkFault _ answer (λ is_quit. absurd (cc (answer.quit.1 is_quit)), answer.text)
 
 -- a session that is not called stays at its state
-pub comes_none : {D : Type 0} (disk : DiskGhosts D) → OnlyNow disk → (session : SharedView D) (state : SharedState) → IsSharedAt disk session state → SharedComesTo disk session session state state
+pub comes_none : {D : Type 0} (disk : DiskGhosts D) → OnlyNow disk → (session : SharedView D) (state : SharedState) → IsSharedAt disk session state
+    → SharedComesTo disk session session state state
 comes_none disk only session state is_at = record {
   is_at = is_at;
   crash = (comes-stays is_at.writer (stays-none {g = disk} only session.session is_at.writer.no_draft)).crash;
 }
 
 -- at the end of the input the run ends in the session's health
-pub says_at_end : {V : Type 0} (course : Course V) (before : V) (comes_to : V → Type 0) (old new : Progress) (health : Health) → bytes_ahead old ≡ [] → health ≡ course.health before → comes_to before → new.taken ≡ old.taken → new.reader.ended ≡ true
+pub says_at_end : {V : Type 0} (course : Course V) (before : V) (comes_to : V → Type 0) (old new : Progress) (health : Health) → bytes_ahead old ≡ []
+    → health ≡ course.health before → comes_to before → new.taken ≡ old.taken → new.reader.ended ≡ true
     → TurnSays course before comes_to old new (Some (exit_at_end health))
 says_at_end course before comes_to old new Live none is at same ended = inl (none, cc, at, same, ended)
 says_at_end course before comes_to old new Failed none is at same ended = inl (none, cc, at, same, ended)

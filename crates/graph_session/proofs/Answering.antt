@@ -45,7 +45,8 @@ IsGood (Refused why) = ⊥
 abbrev pub exchange : InputLine → Bool → Reply → Exchange
 exchange line disk_failed reply = record { line = line; disk_failed = disk_failed; reply = reply }
 
-good-step : (old new : State) (line : InputLine) (disk_failed : Bool) (reply : Reply) → IsGood reply → IsDone old (exchange line disk_failed reply) new → ConsoleStep old (exchange line disk_failed reply) new
+good-step : (old new : State) (line : InputLine) (disk_failed : Bool) (reply : Reply) → IsGood reply → IsDone old (exchange line disk_failed reply) new
+    → ConsoleStep old (exchange line disk_failed reply) new
 good-step old new line disk_failed Silent good done = absurd good
 good-step old new line disk_failed Done good done = done
 good-step old new line disk_failed (NodeMade id) good done = done
@@ -77,7 +78,8 @@ module _ {D : Type 0} {g : DiskGhosts D} {old new : SessionView D} where
   module _ {line : InputLine} {before : State} where
     -- the disk is not blamed
     pub settles-given : (reply : Reply) (after : State) → ComesTo g old new before after → told_fault reply ≡ 0
-        → (g.tells_reads → ConsoleStep before (exchange line false reply) after) → UsesDisk g line before reply old.disk new.disk → Settles g line old new before reply
+        → (g.tells_reads → ConsoleStep before (exchange line false reply) after) → UsesDisk g line before reply old.disk new.disk
+        → Settles g line old new before reply
     settles-given reply after arrives quiet step uses = record {
       after = after;
       arrives = arrives;
@@ -89,18 +91,21 @@ module _ {D : Type 0} {g : DiskGhosts D} {old new : SessionView D} where
 
     -- the command was carried out
     pub settles-done : (reply : Reply) (after : State) → IsGood reply → ComesTo g old new before after
-        → (g.tells_reads → IsDone before (exchange line false reply) after) → UsesDisk g line before reply old.disk new.disk → Settles g line old new before reply
+        → (g.tells_reads → IsDone before (exchange line false reply) after) → UsesDisk g line before reply old.disk new.disk
+        → Settles g line old new before reply
     settles-done reply after good arrives done uses =
         settles-given reply after arrives (good-told reply good) (λ told. good-step before after line false reply good (done told)) uses
 
     -- the disk failed
     pub settles-fault : (reply : Reply) (after : State) → ComesTo g old new before after → Rose (g.faults old.disk) (g.faults new.disk)
-        → (g.tells_reads → ConsoleStep before (exchange line true reply) after) → UsesDisk g line before reply old.disk new.disk → Settles g line old new before reply
+        → (g.tells_reads → ConsoleStep before (exchange line true reply) after) → UsesDisk g line before reply old.disk new.disk
+        → Settles g line old new before reply
     settles-fault reply after arrives rose step uses =
         record { after = after; arrives = arrives; disk_failed = true; counted = λ e. rose; step = record { step = step; blames = λ blames. refl }; uses = uses }
 
     -- a refused line changes nothing
-    pub settles-refused : IsAt g old before → Stays g old new → (why : Refusal) → (g.tells_reads → IsRefused before line why) → UsesDisk g line before (Refused why) old.disk new.disk
+    pub settles-refused : IsAt g old before → Stays g old new → (why : Refusal) → (g.tells_reads → IsRefused before line why)
+        → UsesDisk g line before (Refused why) old.disk new.disk
         → Settles g line old new before (Refused why)
     settles-refused at stays why is uses = settles-given (Refused why) before (comes-stays at stays) refl (λ told. (is told, refl)) uses
 
@@ -110,7 +115,8 @@ module _ {D : Type 0} {g : DiskGhosts D} {old new : SessionView D} where
     settles-memory at stays may uses = settles-given (Faulted [] NoMemory) before (comes-stays at stays) refl (λ told. (may, refl, inl refl)) uses
 
     -- where the disk tells what it reads no record is damaged
-    pub settles-damaged : (file id : ℕ) (after : State) → ComesTo g old new before after → (g.tells_reads → ⊥) → UsesDisk g line before (Faulted [] (DamagedRecord file id)) old.disk new.disk
+    pub settles-damaged : (file id : ℕ) (after : State) → ComesTo g old new before after → (g.tells_reads → ⊥)
+        → UsesDisk g line before (Faulted [] (DamagedRecord file id)) old.disk new.disk
         → Settles g line old new before (Faulted [] (DamagedRecord file id))
     settles-damaged file id after arrives sound uses = settles-given (Faulted [] (DamagedRecord file id)) after arrives refl (λ told. absurd (sound told)) uses
 
@@ -119,14 +125,16 @@ module _ {D : Type 0} {g : DiskGhosts D} (only : OnlyNow g) {session : SessionVi
   pub onward-none : Onward g session session
   onward-none = record { disk_later = omega arith }
 
-  pub settles-refused_at_once : {line : InputLine} {before : State} → IsAt g session before → (why : Refusal) → (g.tells_reads → IsRefused before line why) → Settles g line session session before (Refused why)
+  pub settles-refused_at_once : {line : InputLine} {before : State} → IsAt g session before → (why : Refusal) → (g.tells_reads → IsRefused before line why)
+      → Settles g line session session before (Refused why)
   settles-refused_at_once at why is = settles-refused at (stays-none only session at.no_draft) why is (uses-none only session.disk)
 
 -- ---- a line of whichever session
 
 module _ {D : Type 0} {g : DiskGhosts D} {line : InputLine} {state : SharedState} {reply : Reply} where
   -- a line of the session that writes, which asks for no snapshot
-  pub settles-written : {old new : SharedView D} → session_in line ≡ 0 → ¬ AsksForSnapshot line → UsesDisk g line state.writer reply old.session.disk new.session.disk → SettlesShared SharedConsoleStep g line old new state reply
+  pub settles-written : {old new : SharedView D} → session_in line ≡ 0 → ¬ AsksForSnapshot line
+      → UsesDisk g line state.writer reply old.session.disk new.session.disk → SettlesShared SharedConsoleStep g line old new state reply
       → SettlesLine g line old new state reply
   settles-written {old = old} {new = new} writes none uses shares = record {
     shared = record {
@@ -141,7 +149,8 @@ module _ {D : Type 0} {g : DiskGhosts D} {line : InputLine} {state : SharedState
   }
 
   -- a line that changes nothing and makes no call of the disk
-  pub settles-unchanged : OnlyNow g → {view : SharedView D} → IsSharedAt g view state → told_fault reply ≡ 0 → SharedStep state (exchange line false reply) state → SettlesLine g line view view state reply
+  pub settles-unchanged : OnlyNow g → {view : SharedView D} → IsSharedAt g view state → told_fault reply ≡ 0
+      → SharedStep state (exchange line false reply) state → SettlesLine g line view view state reply
   settles-unchanged only {view = view} at quiet step = record {
     shared = record {
       after = state;
@@ -182,7 +191,8 @@ module _ {D K : Type 0} {g : DiskGhosts D} {sink : SinkGhosts K} {line : InputLi
     refl,
   )
 
-  pub answers-given : (reply : Reply) → Gives sink (marked_text (mark_in line) reply) old.output new.output turn → ¬ IsQuit line → Onward g old.session new.session
+  pub answers-given : (reply : Reply) → Gives sink (marked_text (mark_in line) reply) old.output new.output turn → ¬ IsQuit line
+      → Onward g old.session new.session
       → (HasNoDraft old.session → MayStepAs g (session_in line) line (shared_in old) reply (shared_in new)) → JudgesLine g line (shared_in old) reply
       → ((known : Bool) (state : SharedState) → IsSharedAt (as_known known g) (shared_in old) state → SettlesLine (as_known known g) line (shared_in old) (shared_in new) state reply) → AnswersLine g sink line old new turn
   answers-given reply gives runs onward may judges settles = (given-with reply gives runs onward may judges settles).0
@@ -195,7 +205,8 @@ delivers-nothing SinkFault text goes = absurd (goes refl)
 
 module _ {D K : Type 0} {g : DiskGhosts D} (only : OnlyNow g) {sink : SinkGhosts K} {line : InputLine} where
   -- the line gets no reply
-  pub answers-silent : {terminal : Terminal D K} {turn : Turn} → turn ≢ SinkFault → ((turn ≡ Quit) ↔ IsQuit line) → MayStepAs g (session_in line) line (shared_in terminal) Silent (shared_in terminal) → ¬ AsksQuestion line
+  pub answers-silent : {terminal : Terminal D K} {turn : Turn} → turn ≢ SinkFault → ((turn ≡ Quit) ↔ IsQuit line)
+      → MayStepAs g (session_in line) line (shared_in terminal) Silent (shared_in terminal) → ¬ AsksQuestion line
       → ((state : SharedState) → SharedStep state (exchange line false Silent) state) → AnswersLine g sink line terminal terminal turn
   answers-silent {terminal = terminal} {turn = turn} goes quit may unasked step = record {
     reply = Silent;
@@ -210,15 +221,21 @@ module _ {D K : Type 0} {g : DiskGhosts D} (only : OnlyNow g) {sink : SinkGhosts
   }
 
   -- it gets one, and changes nothing
-  pub unchanged-with : {session : SessionView D} {held : Snapshots} {before after : K} {turn : Turn} (reply : Reply) → told_fault reply ≡ 0 → Gives sink (marked_text (mark_in line) reply) before after turn → ¬ IsQuit line
-      → MayStepAs g (session_in line) line (record { session = session; held = held }) reply (record { session = session; held = held }) → JudgesLine g line (record { session = session; held = held }) reply
+  pub unchanged-with : {session : SessionView D} {held : Snapshots} {before after : K} {turn : Turn} (reply : Reply) → told_fault reply ≡ 0
+      → Gives sink (marked_text (mark_in line) reply) before after turn → ¬ IsQuit line
+      → MayStepAs g (session_in line) line (record { session = session; held = held }) reply (record { session = session; held = held })
+      → JudgesLine g line (record { session = session; held = held }) reply
       → ((known : Bool) (state : SharedState) → IsSharedAt (as_known known g) (record { session = session; held = held }) state → SharedStep state (exchange line false reply) state)
-      → AnswersWith g sink line (record { session = session; held = held; output = before }) (record { session = session; held = held; output = after }) turn reply
+      → AnswersWith g sink line (record { session = session; held = held; output = before }) (record { session = session; held = held; output = after }) turn
+      reply
   unchanged-with reply quiet gives runs may judges step =
-      given-with {line = line} reply gives runs (onward-none only) (λ none. may) judges (λ known state at. settles-unchanged {g = as_known known g} only at quiet (step known state at))
+      given-with {line = line} reply gives runs (onward-none only) (λ none. may) judges
+      (λ known state at. settles-unchanged {g = as_known known g} only at quiet (step known state at))
 
-  pub answers-unchanged : {session : SessionView D} {held : Snapshots} {before after : K} {turn : Turn} (reply : Reply) → told_fault reply ≡ 0 → Gives sink (marked_text (mark_in line) reply) before after turn → ¬ IsQuit line
-      → MayStepAs g (session_in line) line (record { session = session; held = held }) reply (record { session = session; held = held }) → JudgesLine g line (record { session = session; held = held }) reply
+  pub answers-unchanged : {session : SessionView D} {held : Snapshots} {before after : K} {turn : Turn} (reply : Reply) → told_fault reply ≡ 0
+      → Gives sink (marked_text (mark_in line) reply) before after turn → ¬ IsQuit line
+      → MayStepAs g (session_in line) line (record { session = session; held = held }) reply (record { session = session; held = held })
+      → JudgesLine g line (record { session = session; held = held }) reply
       → ((known : Bool) (state : SharedState) → IsSharedAt (as_known known g) (record { session = session; held = held }) state → SharedStep state (exchange line false reply) state)
       → AnswersLine g sink line (record { session = session; held = held; output = before }) (record { session = session; held = held; output = after }) turn
   answers-unchanged reply quiet gives runs may judges step = (unchanged-with reply quiet gives runs may judges step).0

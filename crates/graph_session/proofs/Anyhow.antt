@@ -143,7 +143,8 @@ module _ {D : Type 0} {g : Ghosts D} {reply : Reply} (old new : SharedView D) wh
       unasked : ¬ IsQuestion command → ¬ AsksQuestion (Whole line)
       unasked none (c, spelled, asks) = none (subst IsQuestion (only.only c spelled) asks)
 
-      kept : ¬ IsQuestion command → (written : Pairs) → IsWrittenBy g old reply new (Whole line) written → KeepsFor g old reply new written → MayEnd g old reply new (Whole line)
+      kept : ¬ IsQuestion command → (written : Pairs) → IsWrittenBy g old reply new (Whole line) written → KeepsFor g old reply new written
+          → MayEnd g old reply new (Whole line)
       kept none written by done = inr (done.ends, unasked none, written, by, done.ended, done.held (length written) (omega arith))
 
       bound : (c : Command) → command ≡ c → ¬ IsQuestion command → KeepsBound g old reply new c → MayEnd g old reply new (Whole line)
@@ -164,11 +165,13 @@ module _ {D : Type 0} {g : Ghosts D} {reply : Reply} (old new : SharedView D) wh
       by Sight is same = inl same
       by Change is (inl (same, none)) = inl same
       by Change is (inr (closed, written, writes, committed, done)) =
-          kept (λ asks. subst AreQuestions is asks) written (inr (uncommitted is, closed, start_weight + writes.more, writes.weighed, writes.light, committed)) done
+          kept (λ asks. subst AreQuestions is asks) written (inr (uncommitted is, closed, start_weight + writes.more, writes.weighed, writes.light, committed))
+          done
       by Question is same = inl same
 
   -- a line of the session that writes, which asks for no snapshot
-  pub may-write : {line : InputLine} (session : ℕ) → session ≡ 0 → ¬ AsksForSnapshot line → MayStep g line old.session reply new.session → MayEnd g old reply new line → MayStepAs g session line old reply new
+  pub may-write : {line : InputLine} (session : ℕ) → session ≡ 0 → ¬ AsksForSnapshot line → MayStep g line old.session reply new.session
+      → MayEnd g old reply new line → MayStepAs g session line old reply new
   may-write {line = line} session writes apart may ends = subst (λ (n : ℕ). MayStepAs g n line old reply new) (sym writes) (inr (apart, may, ends))
 
 shared_none : {D : Type 0} (old new : SharedView D) → HasNoDraft old.session → new ≡ old → HasNoDraft new.session

@@ -14,7 +14,8 @@ use Rattle.graph_session.proofs.Moves.{seen_as}
 
 module _ {D : Type 0} {g : Ghosts D} where
   -- calls that only read and leave no draft leave the session as it was
-  pub stays-over : (s t : Store D g) → OnlyReadsBase s.base t.base → t.draft.pairs ≡ [] → (health : Health) (weight : ℕ) (names : List (List ℕ)) → Stays g (seen_as s health weight names) (seen_as t health weight names)
+  pub stays-over : (s t : Store D g) → OnlyReadsBase s.base t.base → t.draft.pairs ≡ [] → (health : Health) (weight : ℕ) (names : List (List ℕ))
+      → Stays g (seen_as s health weight names) (seen_as t health weight names)
   stays-over s t reads none health weight names = record {
     beneath = record {
       shape = reads.shape;

@@ -49,7 +49,8 @@ use Rattle.txn_core.proofs.Finding.{opens-recoverable}
 use Rattle.txn_core.proofs.StoreRecords.{committed-read, drafted-none, working-none, working-read}
 use Rattle.graph_session.specs.Console.{IsAt, SessionView}
 use Rattle.graph_session.specs.Known.{as_known}
-use Rattle.graph_session.specs.Opening.{IsUnopened, LeavesByOpening, LeavesOldOrSame, LeavesRefused, Opens, RefusesContent, StandsForOne, Starts, StartsAs, unloaded}
+use Rattle.graph_session.specs.Opening.{IsUnopened, LeavesByOpening, LeavesOldOrSame, LeavesRefused, Opens}
+use Rattle.graph_session.specs.Opening.{RefusesContent, StandsForOne, Starts, StartsAs, unloaded}
 use Rattle.graph_session.specs.State.{Live, State}
 use Rattle.graph_session.specs.declared.health.Health.TheVariants as healths
 use Rattle.graph_session.proofs.Knowing.{on_disk-known, told_of}
@@ -71,15 +72,18 @@ zeros-rest = refl
 
 -- a new store keeps all rules: no transaction was taken over where none was made
 new-indexed : (content : Files) (shape : Shape) → IsUnmade content → is_allowed shape ≡ true → IsIndexed (made_over content shape) shape
-new-indexed content shape unmade allowed = new_indexed (record_at content) shape allowed (ap (λ (r : Rec). zeros_from taken_rest r) (unmade.blank taken_id (omega arith)) ∙ zeros-rest)
+new-indexed content shape unmade allowed = new_indexed (record_at content) shape allowed
+    (ap (λ (r : Rec). zeros_from taken_rest r) (unmade.blank taken_id (omega arith)) ∙ zeros-rest)
 
-new-store : (content : Files) (config : Config) (shape : Shape) (space : Key → Rec) → IsUnmade content → is_allowed (shape_of config) ≡ true → shape ≡ shape_of config → space ≡ made_over content shape → IsIndexed space shape
+new-store : (content : Files) (config : Config) (shape : Shape) (space : Key → Rec) → IsUnmade content → is_allowed (shape_of config) ≡ true
+    → shape ≡ shape_of config → space ≡ made_over content shape → IsIndexed space shape
 new-store content config shape space unmade allowed shape_is space_is =
     subst (λ (records : Key → Rec). IsIndexed records shape) (sym space_is)
     (subst (λ (s : Shape). IsIndexed (made_over content s) s) (sym shape_is) (new-indexed content (shape_of config) unmade allowed))
 
 -- The records that a content that stands for a graph redoes to are those of its store.
-found-store : (content : Files) (shape other : Shape) (before : Key → Rec) (graph : Graph) → Redoes content before → finding.IsMade before shape → Stands content other graph → IsIndexedIn before shape
+found-store : (content : Files) (shape other : Shape) (before : Key → Rec) (graph : Graph) → Redoes content before → finding.IsMade before shape
+    → Stands content other graph → IsIndexedIn before shape
 found-store content shape other before graph redoes found (inl unmade) = absurd (unmade-not_found content shape before unmade.0 redoes found)
 found-store content shape other before graph redoes found (inr made) =
     let same : made.space ≡ before = Redoes-unique content made.space before made.redoes redoes in
@@ -87,7 +91,8 @@ found-store content shape other before graph redoes found (inr made) =
     subst (λ (s : Shape). IsIndexedIn before s) shapes (subst (λ (records : Key → Rec). IsIndexedIn records other) same made.store)
 
 -- The store that is opened keeps all rules, where the content stands for a graph.
-opened-store : (content : Files) (config : Config) (shape : Shape) (space : Key → Rec) → is_allowed (shape_of config) ≡ true → opening.Opens content config shape space
+opened-store : (content : Files) (config : Config) (shape : Shape) (space : Key → Rec) → is_allowed (shape_of config) ≡ true
+    → opening.Opens content config shape space
     → (other : Shape) (graph : Graph) → Stands content other graph → IsIndexed space shape
 opened-store content config shape space allowed (inl new) other graph stands = new-store content config shape space new.0 allowed new.1 new.2
 opened-store content config shape space allowed (inr (before, redoes, found, suits, is)) other graph stands =
@@ -97,7 +102,8 @@ opened-store content config shape space allowed (inr (before, redoes, found, sui
 abbrev pub beginning : Shape → (Key → Rec) → State
 beginning shape space = record { shape = shape; committed = graph_of space; open_one = None; standing = Live }
 
-opened-starts : (content : Files) (config : Config) (shape : Shape) (space : Key → Rec) → opening.Opens content config shape space → (other : Shape) (graph : Graph) → Stands content other graph
+opened-starts : (content : Files) (config : Config) (shape : Shape) (space : Key → Rec) → opening.Opens content config shape space
+    → (other : Shape) (graph : Graph) → Stands content other graph
     → Starts content config (beginning shape space)
 opened-starts content config shape space (inl new) other graph stands = inl (new.0, new.1, ap graph_of new.2 ∙ new_store_empty (record_at content) shape)
 opened-starts content config shape space (inr (before, redoes, found, suits, is)) other graph stands =
@@ -132,13 +138,16 @@ left-new content images config allowed unmade left (inr (inr redoes)) =
 
 -- What is left at each moment, where the opening of the store says it.
 pub record LeavesStore {D : Type 0} (g : Ghosts D) (config : Config) (old new : D) : Type 0 where
-  pub made : g.tells_reads → g.tells_images → (space : Key → Rec) (shape : Shape) → Redoes (g.reads old) space → finding.IsMade space shape → AtEachMoment g old new (λ left. g.may_leave old left ⊎ IsOldOrRaised shape space left)
-  pub blank : g.tells_reads → g.tells_images → IsUnmade (g.reads old) → AtEachMoment g old new (λ left. g.may_leave old left ⊎ IsOldOrNew (g.reads old) (shape_of config) left)
+  pub made : g.tells_reads → g.tells_images → (space : Key → Rec) (shape : Shape) → Redoes (g.reads old) space → finding.IsMade space shape
+      → AtEachMoment g old new (λ left. g.may_leave old left ⊎ IsOldOrRaised shape space left)
+  pub blank : g.tells_reads → g.tells_images → IsUnmade (g.reads old) → AtEachMoment g old new
+      (λ left. g.may_leave old left ⊎ IsOldOrNew (g.reads old) (shape_of config) left)
 
 module _ {D : Type 0} (g : Ghosts D) (config : Config) (old : D) where
   pub opening-leaves : (new : D) → is_allowed (shape_of config) ≡ true → LeavesStore g config old new → LeavesByOpening g config old new
   opening-leaves new allowed leaves told (space, redoes, inl unmade) =
-      at_each_moment_weaker g old new (λ left. g.may_leave old left ⊎ IsOldOrNew (g.reads old) (shape_of config) left) (LeavesOldOrSame (g.reads old) (g.may_leave old) config)
+      at_each_moment_weaker g old new (λ left. g.may_leave old left ⊎ IsOldOrNew (g.reads old) (shape_of config) left)
+      (LeavesOldOrSame (g.reads old) (g.may_leave old) config)
       (leaves.blank told.0 told.1 unmade) (left-new (g.reads old) (g.may_leave old) config allowed unmade)
   opening-leaves new allowed leaves told (space, redoes, inr (shape, made)) =
       at_each_moment_weaker g old new (λ left. g.may_leave old left ⊎ IsOldOrRaised shape space left) (LeavesOldOrSame (g.reads old) (g.may_leave old) config)
@@ -146,7 +155,8 @@ module _ {D : Type 0} (g : Ghosts D) (config : Config) (old : D) where
 
   -- and by calls that only read
   loading-leaves : (mid new : D) → CountsNow g → LeavesByOpening g config old mid → OnlyReads g mid new → LeavesByOpening g config old new
-  loading-leaves mid new counts leaves reads told one = at_each_moment_read g old mid new (LeavesOldOrSame (g.reads old) (g.may_leave old) config) counts told.1 (leaves told one) reads
+  loading-leaves mid new counts leaves reads told one = at_each_moment_read g old mid new (LeavesOldOrSame (g.reads old) (g.may_leave old) config) counts told.1
+      (leaves told one) reads
 
 -- ---- why there is no session
 
@@ -157,7 +167,8 @@ want-only shape config refusals.NotAStore want = want
 want-only shape config (refusals.Damaged damage) want = want
 want-only shape config (refusals.ConfigDiffers stored asked) want = absurd want
 
-pub opening-sound : (content : Files) (config : Config) (why : OpenFault) → ((space : Key → Rec) (shape : Shape) → Redoes content space → finding.IsMade space shape → OnlyDiffers shape config why) → (IsUnmade content → IsWant why)
+pub opening-sound : (content : Files) (config : Config) (why : OpenFault)
+    → ((space : Key → Rec) (shape : Shape) → Redoes content space → finding.IsMade space shape → OnlyDiffers shape config why) → (IsUnmade content → IsWant why)
     → (shape : Shape) (graph : Graph) → Stands content shape graph → OnlyDiffers shape config why
 opening-sound content config why sound blank shape graph (inl unmade) = want-only shape config why (blank unmade.0)
 opening-sound content config why sound blank shape graph (inr made) = sound made.space shape made.redoes made.store.made
@@ -173,11 +184,13 @@ IsNameDamage-raised shape space = pick (nat_lt (version_of (space own_key)) newe
     pick true damage (WrongText id low form text) = WrongText id low form text
     pick true damage (SameText id earlier low form less same) = SameText id earlier low form less same
 
-load-refuses : (T : Type 0) (content : Files) (config : Config) (shape : Shape) (space : Key → Rec) (fault : Fault) → is_allowed (shape_of config) ≡ true → opening.Opens content config shape space
+load-refuses : (T : Type 0) (content : Files) (config : Config) (shape : Shape) (space : Key → Rec) (fault : Fault) → is_allowed (shape_of config) ≡ true
+    → opening.Opens content config shape space
     → IsLoadFault space fault → (AreLoadable space → NotDamaged {T = T} (Err fault)) → RefusesContent content config (unloaded fault)
 load-refuses T content config shape space Memory allowed opens is sound = inl tt
 load-refuses T content config shape space Disk allowed opens is sound = inl tt
-load-refuses T content config shape space (Damaged damage) allowed (inl new) is sound = absurd (sound (loadable space shape (new-store content config shape space new.0 allowed new.1 new.2)))
+load-refuses T content config shape space (Damaged damage) allowed (inl new) is sound =
+    absurd (sound (loadable space shape (new-store content config shape space new.0 allowed new.1 new.2)))
 load-refuses T content config shape space (Damaged damage) allowed (inr (before, redoes, found, suits, same)) is sound =
     inr (damage, refl, before, redoes, IsNameDamage-raised shape before damage (subst (λ (records : Key → Rec). IsNameDamage records damage) same is))
 
@@ -241,19 +254,23 @@ module _ {D : Type 0} (g : Ghosts D) where
         };
         known = λ told failed. absurd failed;
         reads = λ told. redone-held state space (g.reads session.disk) (own-one state space refl (begins.store told) refl) (begins.stored.read told);
-        images = λ told. all-admitted state space (g.may_leave session.disk) (own-one state space refl (begins.store told.0) refl) (begins.stored.images told.0 told.1);
+        images = λ told. all-admitted state space (g.may_leave session.disk) (own-one state space refl (begins.store told.0) refl)
+            (begins.stored.images told.0 told.1);
       }
 
-  begins-starts : (config : Config) (old : D) (shape : Shape) (space : Key → Rec) → Suits config shape → (g.tells_reads → opening.Opens (g.reads old) config shape space) → (g.tells_reads → StandsForOne g old)
+  begins-starts : (config : Config) (old : D) (shape : Shape) (space : Key → Rec) → Suits config shape
+      → (g.tells_reads → opening.Opens (g.reads old) config shape space) → (g.tells_reads → StandsForOne g old)
       → StartsAs g old config (beginning shape space)
   begins-starts config old shape space suits opens stands =
-      let starts : g.tells_reads → Starts (g.reads old) config (beginning shape space) = λ told. let one = stands told in opened-starts (g.reads old) config shape space (opens told) one.shape one.graph one.stands in
+      let starts : g.tells_reads → Starts (g.reads old) config (beginning shape space) = λ told. let one = stands told in
+      opened-starts (g.reads old) config shape space (opens told) one.shape one.graph one.stands in
       record {
         live = refl;
         closed = refl;
         suits = suits;
         starts = starts;
-        same = λ told other graph stands. Stands-only (g.reads old) shape other (graph_of space) graph (starts-stands (g.reads old) config (beginning shape space) (starts told)) stands;
+        same = λ told other graph stands. Stands-only (g.reads old) shape other (graph_of space) graph
+            (starts-stands (g.reads old) config (beginning shape space) (starts told)) stands;
       }
 
 -- What the opening of a store says of it.
@@ -270,19 +287,24 @@ pub record OpensStore {D : Type 0} (g : Ghosts D) (config : Config) (old : D) (s
   pub clean : g.tells_reads → IsClean (g.reads old) → OnlyReads g old store.base.disk.now
   pub later : g.faults old ≤ g.faults store.base.disk.now
 
-module _ {D : Type 0} {g : Ghosts D} (counts : CountsNow g) (config : Config) (old : D) (opened loaded : Store D g) (opens : OpensStore g config old opened) (reads : OnlyReadsBase opened.base loaded.base)
+module _ {D : Type 0} {g : Ghosts D} (counts : CountsNow g) (config : Config) (old : D) (opened loaded : Store D g) (opens : OpensStore g config old opened)
+    (reads : OnlyReadsBase opened.base loaded.base)
     (later : g.faults opened.base.disk.now ≤ g.faults loaded.base.disk.now) where
   loaded-leaves : LeavesByOpening g config old loaded.base.disk.now
-  loaded-leaves = loading-leaves g config old opened.base.disk.now loaded.base.disk.now counts (opening-leaves g config old opened.base.disk.now opens.allowed opens.leaves) reads.disk
+  loaded-leaves = loading-leaves g config old opened.base.disk.now loaded.base.disk.now counts
+      (opening-leaves g config old opened.base.disk.now opens.allowed opens.leaves) reads.disk
 
   loaded-clean : g.tells_reads → IsClean (g.reads old) → OnlyReads g old loaded.base.disk.now
   loaded-clean told clean = only_reads_on g old opened.base.disk.now loaded.base.disk.now (opens.clean told clean) reads.disk
 
-  store-of : (known : Bool) → ((as_known known g).tells_reads → StandsForOne (as_known known g) old) → (as_known known g).tells_reads → IsIndexed (committed opened) opened.base.shape
-  store-of known stands told = let one = stands told in opened-store (g.reads old) config opened.base.shape (committed opened) opens.allowed (opens.opened (told_of known g told)) one.shape one.graph one.stands
+  store-of : (known : Bool) → ((as_known known g).tells_reads → StandsForOne (as_known known g) old) → (as_known known g).tells_reads
+      → IsIndexed (committed opened) opened.base.shape
+  store-of known stands told = let one = stands told in opened-store (g.reads old) config opened.base.shape (committed opened) opens.allowed
+      (opens.opened (told_of known g told)) one.shape one.graph one.stands
 
   -- The records of a store whose names are damaged stay, but for the version.
-  refused-leaves : (found : IsStore (g.reads old) opened.base.shape) → committed opened ≡ raised opened.base.shape found.space → g.tells_reads → LeavesRefused g old loaded.base.disk.now
+  refused-leaves : (found : IsStore (g.reads old) opened.base.shape) → committed opened ≡ raised opened.base.shape found.space → g.tells_reads
+      → LeavesRefused g old loaded.base.disk.now
   refused-leaves found is told =
       let shape = opened.base.shape in
       inr (
@@ -298,12 +320,16 @@ module _ {D : Type 0} {g : Ghosts D} (counts : CountsNow g) (config : Config) (o
   names-refused T Disk refusal sound told opens_as = absurd refusal
   names-refused T (Damaged damage) refusal sound told (inl new) =
       absurd (sound (loadable (committed opened) opened.base.shape (new-store (g.reads old) config opened.base.shape (committed opened) new.0 opens.allowed new.1 new.2)))
-  names-refused T (Damaged damage) refusal sound told (inr (before, redoes, found, suits, is)) = refused-leaves (record { space = before; redoes = redoes; made = found }) is told
+  names-refused T (Damaged damage) refusal sound told (inr (before, redoes, found, suits, is)) =
+      refused-leaves (record { space = before; redoes = redoes; made = found }) is told
 
   -- The names were loaded.
-  pub loaded-opens : (session : SessionView D) → session.console.shape ≡ loaded.base.shape → session.console.health ≡ healths.Live → session.console.is_live ≡ loaded.base.live
-      → session.console.is_open ≡ loaded.base.in_transaction → session.console.draft ≡ loaded.draft.pairs → session.console.committed ≡ committed loaded → session.console.working ≡ working loaded
-      → (g.tells_reads → session.console.names ≡ names_of (state_of opened).records) → session.disk ≡ loaded.base.disk.now → state_of loaded ≡ after_names (state_of opened)
+  pub loaded-opens : (session : SessionView D) → session.console.shape ≡ loaded.base.shape → session.console.health ≡ healths.Live
+      → session.console.is_live ≡ loaded.base.live
+      → session.console.is_open ≡ loaded.base.in_transaction → session.console.draft ≡ loaded.draft.pairs → session.console.committed ≡ committed loaded
+      → session.console.working ≡ working loaded
+      → (g.tells_reads → session.console.names ≡ names_of (state_of opened).records) → session.disk ≡ loaded.base.disk.now
+      → state_of loaded ≡ after_names (state_of opened)
       → Opens g config old session
   loaded-opens session shape health live closed draft same_committed same_working names disk state = record {
     begins = λ known stands. (
@@ -330,13 +356,17 @@ module _ {D : Type 0} {g : Ghosts D} (counts : CountsNow g) (config : Config) (o
   }
 
   -- They were not.
-  pub loaded-refused : (T : Type 0) (disk : D) (why : OpenFault) (fault : Fault) → disk ≡ loaded.base.disk.now → why ≡ unloaded fault → (g.tells_reads → IsLoadFault (state_of opened).records fault)
-      → (g.tells_reads → AreLoadable (state_of opened).records → NotDamaged {T = T} (Err fault)) → (fault ≡ Disk → Rose (g.faults opened.base.disk.now) (g.faults loaded.base.disk.now)) → IsUnopened g config old disk why
+  pub loaded-refused : (T : Type 0) (disk : D) (why : OpenFault) (fault : Fault) → disk ≡ loaded.base.disk.now → why ≡ unloaded fault
+      → (g.tells_reads → IsLoadFault (state_of opened).records fault)
+      → (g.tells_reads → AreLoadable (state_of opened).records → NotDamaged {T = T} (Err fault))
+      → (fault ≡ Disk → Rose (g.faults opened.base.disk.now) (g.faults loaded.base.disk.now)) → IsUnopened g config old disk why
   loaded-refused T disk why fault disk_is why_is damaged sound cause =
       let same : drafted opened ≡ committed opened = drafted-none opened opens.draft ∙ working-none opened.base opens.own in
-      let right : g.tells_reads → AreLoadable (committed opened) → NotDamaged {T = T} (Err fault) = λ told loads. sound told (subst (λ (records : Key → Rec). AreLoadable records) (sym same) loads) in
+      let right : g.tells_reads → AreLoadable (committed opened) → NotDamaged {T = T} (Err fault) = λ told loads.
+      sound told (subst (λ (records : Key → Rec). AreLoadable records) (sym same) loads) in
       let is : IsUnopened g config old loaded.base.disk.now (unloaded fault) = record {
-        refused = λ told. load-refuses T (g.reads old) config opened.base.shape (committed opened) fault opens.allowed (opens.opened told) (subst (λ (records : Key → Rec). IsLoadFault records fault) same (damaged told)) (right told);
+        refused = λ told. load-refuses T (g.reads old) config opened.base.shape (committed opened) fault opens.allowed (opens.opened told)
+            (subst (λ (records : Key → Rec). IsLoadFault records fault) same (damaged told)) (right told);
         sound = λ told shape graph stands.
             load-sound T shape config fault (right told (loadable (committed opened) opened.base.shape (opened-store (g.reads old) config opened.base.shape (committed opened) opens.allowed (opens.opened told) shape graph stands)));
         crash = loaded-leaves;

@@ -15,13 +15,17 @@ use Rattle.graph_session.specs.declared.session.Session.{Session}
 use Rattle.graph_session.proofs.Finishing.{settles-finish}
 use Rattle.graph_session.proofs.FinishingAlone.{settles-finish_alone}
 
-module _ {D : Type 0} {g : Ghosts D} {command : Command} (change : IsChange command) {old : Session D g} (live : old.health ≡ healths.Live) {mid then : Session D g} (new : Session D g) (begun : Begun) where
+module _ {D : Type 0} {g : Ghosts D} {command : Command} (change : IsChange command) {old : Session D g} (live : old.health ≡ healths.Live)
+    {mid then : Session D g} (new : Session D g) (begun : Begun) where
   -- what is drafted settles the line
-  pub settles-change : BeginsChange old mid begun → OnlyDrafts mid then → (drafted : Result Drafted Answer) → Drafts command mid then drafted → (answer : Answer) → EndsChange begun drafted then new answer
+  pub settles-change : BeginsChange old mid begun → OnlyDrafts mid then → (drafted : Result Drafted Answer) → Drafts command mid then drafted
+      → (answer : Answer) → EndsChange begun drafted then new answer
       → SettlesCommand g command (view old) (view new) (reply_of answer)
   settles-change (counts, inl (within, opened, same)) only drafted drafts answer (inl (is, ends)) =
-      settles-finish new live opened (subst (λ (s : Session D g). OnlyDrafts s then) same only) change begun.names counts drafted answer (subst (λ (s : Session D g). Drafts command s then drafted) same drafts) ends
+      settles-finish new live opened (subst (λ (s : Session D g). OnlyDrafts s then) same only) change begun.names counts drafted answer
+      (subst (λ (s : Session D g). Drafts command s then drafted) same drafts) ends
   settles-change (counts, inl (within, opened, same)) only drafted drafts answer (inr (is, ends)) = absurd (true≢false (sym is ∙ within))
   settles-change (counts, inr (alone, begins)) only drafted drafts answer (inl (is, ends)) = absurd (true≢false (sym alone ∙ is))
   settles-change (counts, inr (alone, begins)) only drafted drafts answer (inr (is, ends)) =
-      settles-finish_alone old new live begins.closed begins.idle begins.same begins.own begins.draft begins.names begins.health only change begun.names counts drafted answer drafts ends
+      settles-finish_alone old new live begins.closed begins.idle begins.same begins.own begins.draft begins.names begins.health only change begun.names counts
+      drafted answer drafts ends

@@ -59,7 +59,8 @@ carries-change old new command reply change makes = by (kind_of command) change
     by Change is = makes
     by Question is = absurd is
 
-leaves-change : (old new : State) (line : List ℕ) (command : Command) → IsChange command → LeavesChange old (Whole line) command new → LeavesOpen old (Whole line) command new
+leaves-change : (old new : State) (line : List ℕ) (command : Command) → IsChange command → LeavesChange old (Whole line) command new
+    → LeavesOpen old (Whole line) command new
 leaves-change old new line command change leaves = by (kind_of command) change
   where
     by : (kind : Kind) → AreChanges kind → LeavesKind kind old (Whole line) command new
@@ -84,11 +85,13 @@ with_change state graph weight = opening state (Some (record { graph = graph; we
 abbrev pub changed : State → Graph → State
 changed state graph = record state { committed = graph }
 
-module _ {D : Type 0} {g : Ghosts D} {old : SessionView D} {state : State} (at : IsAt g old state) (live : old.console.health ≡ healths.Live) {line : List ℕ} {command : Command} (only : SpellsOnly line command)
+module _ {D : Type 0} {g : Ghosts D} {old : SessionView D} {state : State} (at : IsAt g old state) (live : old.console.health ≡ healths.Live) {line : List ℕ}
+    {command : Command} (only : SpellsOnly line command)
     (change : IsChange command) where
   -- the graph is looked at
   pub change-reached : IsReached state (Whole line)
-  change-reached = reached state only (inl (not_failed at live)) (λ needs. absurd (change-none command change needs)) (λ needs. absurd (change-one command change needs))
+  change-reached = reached state only (inl (not_failed at live)) (λ needs. absurd (change-none command change needs))
+      (λ needs. absurd (change-one command change needs))
 
 module _ {D : Type 0} {g : Ghosts D} {old : SessionView D} {state : State} (at : IsAt g old state) (live : old.console.health ≡ healths.Live) where
   alone-one : (now : Key → Rec) → (g.tells_reads → IsIndexed now state.shape) → g.tells_reads → IsOneOf (changed state (graph_of now)) now
@@ -99,7 +102,8 @@ module _ {D : Type 0} {g : Ghosts D} {old : SessionView D} {state : State} (at :
 
 module _ {D : Type 0} {g : Ghosts D} {old new : SessionView D} {state : State} (at : IsAt g old state) (live : old.console.health ≡ healths.Live) where
   module _ (transaction : Transaction) (is : state.open_one ≡ Some transaction) where
-    keeps-at : (weight : ℕ) → Keeps g old new weight → (g.tells_reads → IsGrown state new.console.working new.console.names) → IsAt g new (with_change state (graph_of new.console.working) (transaction.weight + weight))
+    keeps-at : (weight : ℕ) → Keeps g old new weight → (g.tells_reads → IsGrown state new.console.working new.console.names)
+        → IsAt g new (with_change state (graph_of new.console.working) (transaction.weight + weight))
     keeps-at weight keeps grown = record {
       shape = at.shape ∙ sym keeps.beneath.shape;
       health = keeps.health ∙ at.health;
@@ -124,13 +128,16 @@ module _ {D : Type 0} {g : Ghosts D} {old new : SessionView D} {state : State} (
     }
 
     -- a change in the open transaction
-    pub settles-kept : {line : List ℕ} {command : Command} → SpellsOnly line command → IsChange command → (reply : Reply) → IsGood reply → (weight : ℕ) → Keeps g old new weight
+    pub settles-kept : {line : List ℕ} {command : Command} → SpellsOnly line command → IsChange command → (reply : Reply) → IsGood reply → (weight : ℕ)
+        → Keeps g old new weight
         → (g.tells_reads → IsGrown state new.console.working new.console.names) → (g.tells_reads → IsAccepted state (Whole line))
-        → (g.tells_reads → LineChanges state.shape.limit transaction.graph command reply (graph_of new.console.working)) → (g.tells_reads → LineWeighs state.shape.limit state.shape.threshold transaction.graph command weight)
+        → (g.tells_reads → LineChanges state.shape.limit transaction.graph command reply (graph_of new.console.working))
+        → (g.tells_reads → LineWeighs state.shape.limit state.shape.threshold transaction.graph command weight)
         → Settles g (Whole line) old new state reply
     settles-kept {line = line} {command = command} only change reply good weight keeps grown accepted changes weighs =
         let after = with_change state (graph_of new.console.working) (transaction.weight + weight) in
-        settles-done {line = Whole line} {before = state} reply after good (record { is_at = keeps-at weight keeps grown; crash = crash-kept at after new.disk keeps.beneath.disk })
+        settles-done {line = Whole line} {before = state} reply after good
+        (record { is_at = keeps-at weight keeps grown; crash = crash-kept at after new.disk keeps.beneath.disk })
         (λ told. (
           accepted told,
           command,
@@ -140,7 +147,8 @@ module _ {D : Type 0} {g : Ghosts D} {old new : SessionView D} {state : State} (
         (uses-reads state only (change-needs command change) (change-reached at live only change) keeps.beneath.disk)
 
     -- the disk failed as the change was made in the open transaction, which stays as it was
-    pub settles-change_fault : {line : List ℕ} {command : Command} → SpellsOnly line command → IsChange command → Stays g old new → Rose (g.faults old.disk) (g.faults new.disk)
+    pub settles-change_fault : {line : List ℕ} {command : Command} → SpellsOnly line command → IsChange command → Stays g old new
+        → Rose (g.faults old.disk) (g.faults new.disk)
         → Settles g (Whole line) old new state (Faulted [] DiskFailed)
     settles-change_fault {line = line} {command = command} only change stays rose =
         settles-fault {line = Whole line} {before = state} (Faulted [] DiskFailed) state (comes-stays at stays) rose
@@ -149,7 +157,8 @@ module _ {D : Type 0} {g : Ghosts D} {old new : SessionView D} {state : State} (
 
   module _ (closed : old.console.is_open ≡ false) where
     -- the disk failed before anything of a change alone was written
-    pub settles-alone_read_fault : {line : List ℕ} {command : Command} → SpellsOnly line command → IsChange command → FailsDrafted g old new → Rose (g.faults old.disk) (g.faults new.disk)
+    pub settles-alone_read_fault : {line : List ℕ} {command : Command} → SpellsOnly line command → IsChange command → FailsDrafted g old new
+        → Rose (g.faults old.disk) (g.faults new.disk)
         → Settles g (Whole line) old new state (Faulted [] DiskFailed)
     settles-alone_read_fault {line = line} {command = command} only change fails rose =
         settles-fault {line = Whole line} {before = state} (Faulted [] DiskFailed) (stopped state) (comes-fails at live fails) rose
@@ -157,7 +166,8 @@ module _ {D : Type 0} {g : Ghosts D} {old new : SessionView D} {state : State} (
         (uses-reads state only (change-needs command change) (change-reached at live only change) fails.disk)
 
     module _ (now : Key → Rec) where
-      alone-crash : (after : State) → CommitsFrom g old new now → (g.tells_reads → IsOneOf after now) → TellsAll g → AtEachMoment g old.disk new.disk (IsAdmittedByEither state after)
+      alone-crash : (after : State) → CommitsFrom g old new now → (g.tells_reads → IsOneOf after now) → TellsAll g
+          → AtEachMoment g old.disk new.disk (IsAdmittedByEither state after)
       alone-crash after from one told =
           at_each_moment_on g old.disk from.mid new.disk (IsAdmittedByEither state after) _ (crash-kept at after from.mid from.reads told) (from.crash told)
           (λ left. either-admitted state after old.console.committed now left (committed-one at live told.0) (one told.0))
@@ -182,17 +192,22 @@ module _ {D : Type 0} {g : Ghosts D} {old new : SessionView D} {state : State} (
               brought = ([], (grown told).named ∙ sym (append-nil (graph_of now).names));
             };
         known = λ told failed. absurd (not_failed at live failed);
-        reads = λ told. redone-held (changed state (graph_of now)) now (g.reads new.disk) (alone-one at live now (λ told. (grown told).store) told) (commits.stored.read told);
-        images = λ told. all-admitted (changed state (graph_of now)) now (g.may_leave new.disk) (alone-one at live now (λ told. (grown told).store) told.0) (commits.stored.images told);
+        reads = λ told. redone-held (changed state (graph_of now)) now (g.reads new.disk) (alone-one at live now (λ told. (grown told).store) told)
+            (commits.stored.read told);
+        images = λ told. all-admitted (changed state (graph_of now)) now (g.may_leave new.disk) (alone-one at live now (λ told. (grown told).store) told.0)
+            (commits.stored.images told);
       }
 
       -- a change alone is committed
-      pub settles-alone : {line : List ℕ} {command : Command} → SpellsOnly line command → IsChange command → (reply : Reply) → IsGood reply → CommitsFrom g old new now → CommitsAlone g old new now
-          → (g.tells_reads → IsGrown state now new.console.names) → (g.tells_reads → IsAccepted state (Whole line)) → (g.tells_reads → LineChanges state.shape.limit state.committed command reply (graph_of now))
+      pub settles-alone : {line : List ℕ} {command : Command} → SpellsOnly line command → IsChange command → (reply : Reply) → IsGood reply
+          → CommitsFrom g old new now → CommitsAlone g old new now
+          → (g.tells_reads → IsGrown state now new.console.names) → (g.tells_reads → IsAccepted state (Whole line))
+          → (g.tells_reads → LineChanges state.shape.limit state.committed command reply (graph_of now))
           → Settles g (Whole line) old new state reply
       settles-alone {line = line} {command = command} only change reply good from commits grown accepted changes =
           let after = changed state (graph_of now) in
-          settles-done {line = Whole line} {before = state} reply after good (record { is_at = commits_alone-at grown commits; crash = alone-crash after from (alone-one at live now (λ told. (grown told).store)) })
+          settles-done {line = Whole line} {before = state} reply after good
+          (record { is_at = commits_alone-at grown commits; crash = alone-crash after from (alone-one at live now (λ told. (grown told).store)) })
           (λ told. (accepted told, command, only.spelled, carries-change state after command reply change (inr (is_closed at closed, graph_of now, changes told, refl))))
           (uses-writes state only (change-needs command change) (change-reached at live only change) (inl (is_closed at closed, command, change, only.spelled)) (good-changed reply good))
 
@@ -211,19 +226,23 @@ module _ {D : Type 0} {g : Ghosts D} {old new : SessionView D} {state : State} (
             (begin-more new.console.names old.console.names state.committed.names left.brought had.brought)
             (begin-all new.console.names (graph_of now).names (grown told).named);
         reads = λ told.
-            either-held (in_doubt state (graph_of now)) old.console.committed now (g.reads new.disk) (first-one at live told (graph_of now)) (doubt-one at live now (λ told. (grown told).store) told) (left.stored.read told);
+            either-held (in_doubt state (graph_of now)) old.console.committed now (g.reads new.disk) (first-one at live told (graph_of now))
+            (doubt-one at live now (λ told. (grown told).store) told) (left.stored.read told);
         images = λ told image leaves.
             held-admitted (in_doubt state (graph_of now)) image
             (either-held (in_doubt state (graph_of now)) old.console.committed now image (first-one at live told.0 (graph_of now)) (doubt-one at live now (λ told. (grown told).store) told.0) (left.stored.images told image leaves));
       }
 
       -- the disk failed as a change alone was committed
-      pub settles-alone_fault : {line : List ℕ} {command : Command} → SpellsOnly line command → IsChange command → (reply : Reply) → CommitsFrom g old new now → IsAloneInDoubt g old new now
-          → (g.tells_reads → IsGrown state now new.console.names) → (g.tells_reads → IsAccepted state (Whole line)) → (g.tells_reads → LineChanges state.shape.limit state.committed command reply (graph_of now))
+      pub settles-alone_fault : {line : List ℕ} {command : Command} → SpellsOnly line command → IsChange command → (reply : Reply) → CommitsFrom g old new now
+          → IsAloneInDoubt g old new now
+          → (g.tells_reads → IsGrown state now new.console.names) → (g.tells_reads → IsAccepted state (Whole line))
+          → (g.tells_reads → LineChanges state.shape.limit state.committed command reply (graph_of now))
           → Rose (g.faults old.disk) (g.faults new.disk) → Settles g (Whole line) old new state (Faulted [] DiskFailed)
       settles-alone_fault {line = line} {command = command} only change reply from left grown accepted changes rose =
           let after = in_doubt state (graph_of now) in
-          settles-fault {line = Whole line} {before = state} (Faulted [] DiskFailed) after (record { is_at = in_doubt-at grown left; crash = alone-crash after from (doubt-one at live now (λ told. (grown told).store)) }) rose
+          settles-fault {line = Whole line} {before = state} (Faulted [] DiskFailed) after
+          (record { is_at = in_doubt-at grown left; crash = alone-crash after from (doubt-one at live now (λ told. (grown told).store)) }) rose
           (λ told. (
             refl,
             change-reached at live only change,

@@ -16,7 +16,8 @@ use Rattle.graph_session.specs.State.{IsSpared, State}
 use Rattle.graph_session.proofs.Spelling.{spells-same}
 
 -- the first of conditions of which none holds
-pub none-first : (conditions : List Condition) (state : State) (line : InputLine) (why : Refusal) → NoneHolds conditions state line → ¬ FirstHolds conditions state line why
+pub none-first : (conditions : List Condition) (state : State) (line : InputLine) (why : Refusal) → NoneHolds conditions state line
+    → ¬ FirstHolds conditions state line why
 none-first [] state line why none first = first
 none-first (condition ∷ later) state line why none (inl holds) = none.0 why holds
 none-first (condition ∷ later) state line why none (inr more) = none-first later state line why none.1 more.1
@@ -57,19 +58,20 @@ module _ {D : Type 0} {g : Ghosts D} {line : InputLine} {before : State} {reply 
   uses-none only_now disk = uses-same disk disk (only_reads_none g disk only_now) refl
 
 -- a line that is not refused before the graph is looked at
-module _ (state : State) {line : List ℕ} {command : Command} (only : SpellsOnly line command) (needs : NeedsDisk command) (reach : IsReached state (Whole line)) where
-  needs-disk : ¬ NeedsNoDisk state (Whole line)
-  needs-disk (inl (why, first)) = none-first early_order state (Whole line) why reach first
-  needs-disk (inr (inl (inl h))) = subst NeedsDisk (spells-same only commands.Blank h) needs
-  needs-disk (inr (inl (inr h))) = subst NeedsDisk (spells-same only commands.Quit h) needs
-  needs-disk (inr (inr (inl h))) = subst NeedsDisk (spells-same only commands.Begin h) needs
-  needs-disk (inr (inr (inr (inl h)))) = subst NeedsDisk (spells-same only commands.Rollback h) needs
-  needs-disk (inr (inr (inr (inr h)))) = subst NeedsDisk (spells-same only commands.Stats h) needs
+module _ (state : State) {line : List ℕ} {command : Command} (only : SpellsOnly line command) (needs : NeedsDisk command) (reach : IsReached state (Whole line))
+  where
+    needs-disk : ¬ NeedsNoDisk state (Whole line)
+    needs-disk (inl (why, first)) = none-first early_order state (Whole line) why reach first
+    needs-disk (inr (inl (inl h))) = subst NeedsDisk (spells-same only commands.Blank h) needs
+    needs-disk (inr (inl (inr h))) = subst NeedsDisk (spells-same only commands.Quit h) needs
+    needs-disk (inr (inr (inl h))) = subst NeedsDisk (spells-same only commands.Begin h) needs
+    needs-disk (inr (inr (inr (inl h)))) = subst NeedsDisk (spells-same only commands.Rollback h) needs
+    needs-disk (inr (inr (inr (inr h)))) = subst NeedsDisk (spells-same only commands.Stats h) needs
 
-  module _ {D : Type 0} {g : Ghosts D} {reply : Reply} {old new : D} where
-    pub uses-reads : OnlyReads g old new → UsesDisk g (Whole line) state reply old new
-    uses-reads reads = record { no_write = λ none. reads; no_change = λ tells. reads; no_call = λ idle. absurd (needs-disk idle) }
+    module _ {D : Type 0} {g : Ghosts D} {reply : Reply} {old new : D} where
+      pub uses-reads : OnlyReads g old new → UsesDisk g (Whole line) state reply old new
+      uses-reads reads = record { no_write = λ none. reads; no_change = λ tells. reads; no_call = λ idle. absurd (needs-disk idle) }
 
-    -- it may have been written
-    pub uses-writes : MayWrite state (Whole line) → ¬ TellsNoChange reply → UsesDisk g (Whole line) state reply old new
-    uses-writes may changed = record { no_write = λ none. absurd (none may); no_change = λ tells. absurd (changed tells); no_call = λ idle. absurd (needs-disk idle) }
+      -- it may have been written
+      pub uses-writes : MayWrite state (Whole line) → ¬ TellsNoChange reply → UsesDisk g (Whole line) state reply old new
+      uses-writes may changed = record { no_write = λ none. absurd (none may); no_change = λ tells. absurd (changed tells); no_call = λ idle. absurd (needs-disk idle) }

@@ -30,7 +30,8 @@ use Rattle.graph_session.specs.declared.turn.Turn.{Turn}
 use Rattle.graph_session.specs.declared.turn.Turn.TheVariants as turns
 use Rattle.graph_session.proofs.Anyhow.{keeps-end, may-served, may-write}
 use Rattle.graph_session.proofs.Answering.{AnswersWith, answers-silent, answers-unchanged, given-with, settles-written, unchanged-with}
-use Rattle.graph_session.proofs.AtOnce.{apart-only, asks-only, may-silent, may-turn_away, may-unanswered, may-writer, step-fault, step-memory, step-refused, step-silent, step-writer}
+use Rattle.graph_session.proofs.AtOnce.{apart-only, asks-only, may-silent, may-turn_away, may-unanswered, may-writer}
+use Rattle.graph_session.proofs.AtOnce.{step-fault, step-memory, step-refused, step-silent, step-writer}
 use Rattle.graph_session.proofs.Conditions.{failed-refused, long-refused}
 use Rattle.graph_session.proofs.Judged.{JudgesCommand, judges-failed, judges-memory, judges-none, judges-parsed, unasked}
 use Rattle.graph_session.proofs.SharedSettling.{settles-shared}
@@ -49,7 +50,8 @@ refused-other fault why is e = absurd (clash (sym (ap refusal_of e) ∙ is))
     clash same = cc
 
 -- a line with a fault spells no command that needs no memory
-pub spells-none : (line : List ℕ) (fault : LineFault) → (fault ≢ faults.Memory → (command : Command) → ¬ Spells line command) → (fault ≡ faults.Memory → (command : Command) → NeedsNoMemory command → ¬ Spells line command)
+pub spells-none : (line : List ℕ) (fault : LineFault) → (fault ≢ faults.Memory → (command : Command) → ¬ Spells line command)
+    → (fault ≡ faults.Memory → (command : Command) → NeedsNoMemory command → ¬ Spells line command)
     → (command : Command) → NeedsNoMemory command → ¬ Spells line command
 spells-none line faults.Memory none memory command needs = memory refl command needs
 spells-none line _ none memory command needs = none (λ e. cc) command
@@ -71,14 +73,19 @@ sight-unasked command (inl is) asks = subst IsQuestion is asks
 sight-unasked command (inr is) asks = subst IsQuestion is asks
 
 -- the reply has the line's mark
-pub given-marked : {K : Type 0} {sink : SinkGhosts K} {line : List ℕ} {session : ℕ} {command : Command} {mark : List ℕ} → IsParsed line session command mark → {before after : K} {turn : Turn} (reply : Reply)
+pub given-marked : {K : Type 0} {sink : SinkGhosts K} {line : List ℕ} {session : ℕ} {command : Command} {mark : List ℕ} → IsParsed line session command mark
+    → {before after : K} {turn : Turn} (reply : Reply)
     → Gives sink (marked_text mark reply) before after turn → Gives sink (marked_text (mark_in (Whole line)) reply) before after turn
-given-marked {sink = sink} parsed {before = before} {after = after} {turn = turn} reply gives = subst (λ (m : List ℕ). Gives sink (marked_text m reply) before after turn) (sym parsed.mark_is) gives
+given-marked {sink = sink} parsed {before = before} {after = after} {turn = turn} reply gives =
+    subst (λ (m : List ℕ). Gives sink (marked_text m reply) before after turn) (sym parsed.mark_is) gives
 
-module _ {D K : Type 0} {g : DiskGhosts D} {sink : SinkGhosts K} {line : List ℕ} {session : ℕ} {command : Command} {mark : List ℕ} (parsed : IsParsed line session command mark) where
+module _ {D K : Type 0} {g : DiskGhosts D} {sink : SinkGhosts K} {line : List ℕ} {session : ℕ} {command : Command} {mark : List ℕ}
+    (parsed : IsParsed line session command mark) where
   -- a command that was settled, and whose reply was given
-  pub settled-with : {old new : Terminal D K} {turn : Turn} (reply : Reply) → session ≡ 0 → IsLoud command → ¬ IsOfSnapshots command → IsServed old.session.console command → SettlesCommand g command old.session new.session reply
-      → KeepsOlds g command (shared_in old) reply (shared_in new) → JudgesCommand g session command (shared_in old) reply → Gives sink (marked_text mark reply) old.output new.output turn → AnswersWith g sink (Whole line) old new turn reply
+  pub settled-with : {old new : Terminal D K} {turn : Turn} (reply : Reply) → session ≡ 0 → IsLoud command → ¬ IsOfSnapshots command
+      → IsServed old.session.console command → SettlesCommand g command old.session new.session reply
+      → KeepsOlds g command (shared_in old) reply (shared_in new) → JudgesCommand g session command (shared_in old) reply
+      → Gives sink (marked_text mark reply) old.output new.output turn → AnswersWith g sink (Whole line) old new turn reply
   settled-with {old = old} {new = new} reply writes loud apart served settles keeps judges gives =
       let first = parsed.session_is ∙ writes in
       let none = apart-only parsed.only apart in
@@ -89,17 +96,21 @@ module _ {D K : Type 0} {g : DiskGhosts D} {sink : SinkGhosts K} {line : List �
       let done = settles.settles known line state.writer parsed.only served at.writer in
       settles-written {line = Whole line} first none done.uses (settles-shared known parsed.only at served done (settles.may at.writer.no_draft) keeps))
 
-module _ {D K : Type 0} (g : DiskGhosts D) (only_now : OnlyNow g) (sink : SinkGhosts K) {session : SessionView D} {held : Snapshots} {before after : K} {turn : Turn} {line : List ℕ} {named : ℕ} {command : Command} {mark : List ℕ}
+module _ {D K : Type 0} (g : DiskGhosts D) (only_now : OnlyNow g) (sink : SinkGhosts K) {session : SessionView D} {held : Snapshots} {before after : K}
+    {turn : Turn} {line : List ℕ} {named : ℕ} {command : Command} {mark : List ℕ}
     (parsed : IsParsed line named command mark) (writes : named ≡ 0) (loud : IsLoud command) where
   -- the disk has failed the session
-  pub failed-with : session.console.health ≡ healths.Failed → ¬ IsOfSnapshots command → command ≢ commands.Reopen → Gives sink (marked_text mark (Refused refusals.Failed)) before after turn
-      → AnswersWith g sink (Whole line) (record { session = session; held = held; output = before }) (record { session = session; held = held; output = after }) turn (Refused refusals.Failed)
+  pub failed-with : session.console.health ≡ healths.Failed → ¬ IsOfSnapshots command → command ≢ commands.Reopen
+      → Gives sink (marked_text mark (Refused refusals.Failed)) before after turn
+      → AnswersWith g sink (Whole line) (record { session = session; held = held; output = before }) (record { session = session; held = held; output = after })
+      turn (Refused refusals.Failed)
   failed-with failed apart again gives =
       let only = parsed.only in
       let mute = loud-not_mute command loud in
       let first = parsed.session_is ∙ writes in
       let none = apart-only only apart in
-      unchanged-with {g = g} only_now {line = Whole line} (Refused refusals.Failed) refl (given-marked parsed (Refused refusals.Failed) gives) (quit-only only (λ e. mute (inr e)))
+      unchanged-with {g = g} only_now {line = Whole line} (Refused refusals.Failed) refl (given-marked parsed (Refused refusals.Failed) gives)
+      (quit-only only (λ e. mute (inr e)))
       (may-turn_away g (record { session = session; held = held }) (session_of line) first (Whole line) (Refused refusals.Failed) none
       (inr (inr (refl, failed, (λ silent. mute (silent-mute only silent)), λ spells. again (spells-same only commands.Reopen spells)))))
       (judges-failed g (record { session = session; held = held }) (Whole line) (Refused refusals.Failed) failed)
@@ -107,12 +118,15 @@ module _ {D K : Type 0} (g : DiskGhosts D) (only_now : OnlyNow g) (sink : SinkGh
 
   -- it has no snapshots
   pub answers-writer : IsOfSnapshots command → Gives sink (marked_text mark (Refused refusals.Writer)) before after turn
-      → AnswersLine g sink (Whole line) (record { session = session; held = held; output = before }) (record { session = session; held = held; output = after }) turn
+      → AnswersLine g sink (Whole line) (record { session = session; held = held; output = before }) (record { session = session; held = held; output = after })
+      turn
   answers-writer about gives =
       let first = parsed.session_is ∙ writes in
       let asks = asks-only parsed.only about in
-      answers-unchanged {g = g} only_now {line = Whole line} (Refused refusals.Writer) refl (given-marked parsed (Refused refusals.Writer) gives) (quit-only parsed.only (λ e. loud-not_mute command loud (inr e)))
-      (may-writer g (record { session = session; held = held }) (session_of line) first (Whole line) asks) (judges-none g (record { session = session; held = held }) (Whole line) (Refused refusals.Writer) (unasked parsed.only (sight-unasked command about)))
+      answers-unchanged {g = g} only_now {line = Whole line} (Refused refusals.Writer) refl (given-marked parsed (Refused refusals.Writer) gives)
+      (quit-only parsed.only (λ e. loud-not_mute command loud (inr e)))
+      (may-writer g (record { session = session; held = held }) (session_of line) first (Whole line) asks)
+      (judges-none g (record { session = session; held = held }) (Whole line) (Refused refusals.Writer) (unasked parsed.only (sight-unasked command about)))
       (λ known state at. step-writer (session_of line) first state (Whole line) asks)
 
 -- ---- a line of whichever session
@@ -130,14 +144,17 @@ quit-apart (inr e) = cc
 
 module _ {D K : Type 0} (g : DiskGhosts D) (only_now : OnlyNow g) (sink : SinkGhosts K) where
   module _ {line : List ℕ} {terminal : Terminal D K} where
-    silent_line : {command : Command} {turn : Turn} → SpellsOnly line command → ¬ IsOfSnapshots command → ¬ IsQuestion command → turn ≢ turns.SinkFault → IsSilent (Whole line) → ((turn ≡ turns.Quit) ↔ IsQuit (Whole line)) → AnswersLine g sink (Whole line) terminal terminal turn
+    silent_line : {command : Command} {turn : Turn} → SpellsOnly line command → ¬ IsOfSnapshots command → ¬ IsQuestion command → turn ≢ turns.SinkFault
+        → IsSilent (Whole line) → ((turn ≡ turns.Quit) ↔ IsQuit (Whole line)) → AnswersLine g sink (Whole line) terminal terminal turn
     silent_line only apart reads goes silent quit =
         let none = apart-only only apart in
-        answers-silent {g = g} only_now {line = Whole line} goes quit (may-silent g (shared_in terminal) (session_of line) (Whole line) none silent) (unasked only reads) (λ state. step-silent (session_of line) state (Whole line) none silent)
+        answers-silent {g = g} only_now {line = Whole line} goes quit (may-silent g (shared_in terminal) (session_of line) (Whole line) none silent)
+        (unasked only reads) (λ state. step-silent (session_of line) state (Whole line) none silent)
 
     -- a line of blanks
     pub answers-blank : SpellsOnly line commands.Blank → AnswersLine g sink (Whole line) terminal terminal turns.Go
-    answers-blank only = silent_line only blank-apart (λ asks. asks) (λ e. cc) (inl only.spelled) ((λ e. cc), λ h. absurd (blank-not_quit (only.only commands.Quit h)))
+    answers-blank only = silent_line only blank-apart (λ asks. asks) (λ e. cc) (inl only.spelled)
+        ((λ e. cc), λ h. absurd (blank-not_quit (only.only commands.Quit h)))
 
     -- the end of the run
     pub answers-quit : SpellsOnly line commands.Quit → AnswersLine g sink (Whole line) terminal terminal turns.Quit
@@ -157,19 +174,24 @@ module _ {D K : Type 0} (g : DiskGhosts D) (only_now : OnlyNow g) (sink : SinkGh
         long-apart (inl h) = h
         long-apart (inr h) = h
 
-    module _ (line : List ℕ) (fault : LineFault) (none : fault ≢ faults.Memory → (command : Command) → ¬ Spells line command) (memory : fault ≡ faults.Memory → (command : Command) → NeedsNoMemory command → ¬ Spells line command) where
+    module _ (line : List ℕ) (fault : LineFault) (none : fault ≢ faults.Memory → (command : Command) → ¬ Spells line command)
+        (memory : fault ≡ faults.Memory → (command : Command) → NeedsNoMemory command → ¬ Spells line command) where
       -- the line spells no command
-      pub fault-with : (fault ≢ faults.Memory → IsLeftmostFault line fault) → Gives sink (marked_text (mark_in (Whole line)) (reply_of (told_of fault))) before after turn
-          → AnswersWith g sink (Whole line) (record { session = session; held = held; output = before }) (record { session = session; held = held; output = after }) turn (reply_of (told_of fault))
+      pub fault-with : (fault ≢ faults.Memory → IsLeftmostFault line fault)
+          → Gives sink (marked_text (mark_in (Whole line)) (reply_of (told_of fault))) before after turn
+          → AnswersWith g sink (Whole line) (record { session = session; held = held; output = before })
+          (record { session = session; held = held; output = after }) turn (reply_of (told_of fault))
       fault-with leftmost gives = by (refusal_of fault) refl gives
         where
           by : (told : Option Refusal) → refusal_of fault ≡ told → Gives sink (marked_text (mark_in (Whole line)) (reply_of (told_by told))) before after turn
-              → AnswersWith g sink (Whole line) (record { session = session; held = held; output = before }) (record { session = session; held = held; output = after }) turn (reply_of (told_by told))
+              → AnswersWith g sink (Whole line) (record { session = session; held = held; output = before })
+              (record { session = session; held = held; output = after }) turn (reply_of (told_by told))
           by None is given =
               let lacks = lacks-memory line (memory (memory-only fault is)) in
               let apart = fault-apart line (spells-none line fault none memory) in
               unchanged-with {g = g} only_now {line = Whole line} (Faulted [] NoMemory) refl given (spells-none line fault none memory commands.Quit tt)
-              (may-unanswered g (record { session = session; held = held }) (session_of line) (Whole line) (Faulted [] NoMemory) apart (inr (refl, lacks))) (judges-memory g (record { session = session; held = held }) (Whole line))
+              (may-unanswered g (record { session = session; held = held }) (session_of line) (Whole line) (Faulted [] NoMemory) apart (inr (refl, lacks)))
+              (judges-memory g (record { session = session; held = held }) (Whole line))
               (λ known state at. step-memory (session_of line) state (Whole line) apart lacks)
           by (Some why) is given =
               let first = leftmost (refused-other fault why is) in

@@ -20,7 +20,8 @@ abbrev pub edge_lines : List ℕ → ℕ → List EdgeRow → List (List ℕ)
 edge_lines label n rows = map item_line (items_of label (take n rows))
 
 -- The lines of the first rows were gathered. The edge that is written next has the name of the type.
-pub record IsGiving {K : Type 0} (sink : Ghosts K) (mark : List ℕ) (before after : K) (held : MarkedLines) (label : List ℕ) (edge : Item) (n : ℕ) (rows : List EdgeRow) : Type 0 where
+pub record IsGiving {K : Type 0} (sink : Ghosts K) (mark : List ℕ) (before after : K) (held : MarkedLines) (label : List ℕ) (edge : Item) (n : ℕ)
+    (rows : List EdgeRow) : Type 0 where
   pub has : HasLines sink mark before after held (edge_lines label n rows)
   pub named : IsEdge label edge
 
@@ -28,42 +29,54 @@ abbrev row_at : List EdgeRow → ℕ → EdgeRow
 row_at rows n = get_or rows n (record { id = 0; label = 0; from = 0; to = 0 })
 
 -- one more
-items-more : (label : List ℕ) (rows : List EdgeRow) (n : ℕ) → n < length rows → items_of label (take (n + 1) rows) ≡ items_of label (take n rows) ++ item_of label (row_at rows n) ∷ []
+items-more : (label : List ℕ) (rows : List EdgeRow) (n : ℕ) → n < length rows
+    → items_of label (take (n + 1) rows) ≡ items_of label (take n rows) ++ item_of label (row_at rows n) ∷ []
 items-more label rows n lt =
-    ap (λ (m : ℕ). items_of label (take m rows)) (add-one n) ∙ ap (items_of label) (take-suc rows n (record { id = 0; label = 0; from = 0; to = 0 }) lt) ∙ map-append (item_of label) (take n rows) (row_at rows n ∷ [])
+    ap (λ (m : ℕ). items_of label (take m rows)) (add-one n) ∙ ap (items_of label) (take-suc rows n (record { id = 0; label = 0; from = 0; to = 0 }) lt)
+    ∙ map-append (item_of label) (take n rows) (row_at rows n ∷ [])
 
-lines-more : (label : List ℕ) (rows : List EdgeRow) (n : ℕ) → n < length rows → edge_lines label (n + 1) rows ≡ edge_lines label n rows ++ item_line (item_of label (row_at rows n)) ∷ []
-lines-more label rows n lt = ap (map item_line) (items-more label rows n lt) ∙ map-append item_line (items_of label (take n rows)) (item_of label (row_at rows n) ∷ [])
+lines-more : (label : List ℕ) (rows : List EdgeRow) (n : ℕ) → n < length rows
+    → edge_lines label (n + 1) rows ≡ edge_lines label n rows ++ item_line (item_of label (row_at rows n)) ∷ []
+lines-more label rows n lt = ap (map item_line) (items-more label rows n lt)
+    ∙ map-append item_line (items_of label (take n rows)) (item_of label (row_at rows n) ∷ [])
 
 -- the lines of the first rows are the first lines
 first-rows : (label : List ℕ) (rows : List EdgeRow) (n : ℕ) → AreFirst (edge_lines label n rows) (map item_line (items_of label rows))
 first-rows label rows n =
-    lines-first item_line (items_of label (take n rows)) (items_of label rows) (items_of label (drop n rows), sym (map-append (item_of label) (take n rows) (drop n rows)) ∙ ap (items_of label) (take-append-drop n rows))
+    lines-first item_line (items_of label (take n rows)) (items_of label rows)
+    (items_of label (drop n rows), sym (map-append (item_of label) (take n rows) (drop n rows)) ∙ ap (items_of label) (take-append-drop n rows))
 
 -- no line yet
-pub giving-none : {K : Type 0} {sink : Ghosts K} (mark : List ℕ) (k : K) (label : List ℕ) (rows : List EdgeRow) (id number from to : ℕ) → IsGiving sink mark k k (no_lines mark) label (item_of label (record { id = id; label = number; from = from; to = to })) 0 rows
+pub giving-none : {K : Type 0} {sink : Ghosts K} (mark : List ℕ) (k : K) (label : List ℕ) (rows : List EdgeRow) (id number from to : ℕ)
+    → IsGiving sink mark k k (no_lines mark) label (item_of label (record { id = id; label = number; from = from; to = to })) 0 rows
 giving-none mark k label rows id number from to = record { has = lines-none mark k; named = (record { id = id; label = number; from = from; to = to }, refl) }
 
-module _ {K : Type 0} {sink : Ghosts K} {mark : List ℕ} {before after : K} {held : MarkedLines} {label : List ℕ} {edge : Item} {n : ℕ} {rows : List EdgeRow} (giving : IsGiving sink mark before after held label edge n rows) where
+module _ {K : Type 0} {sink : Ghosts K} {mark : List ℕ} {before after : K} {held : MarkedLines} {label : List ℕ} {edge : Item} {n : ℕ} {rows : List EdgeRow}
+    (giving : IsGiving sink mark before after held label edge n rows) where
   module _ (lt : n < length rows) (item : Item) (is : item ≡ item_of label (row_at rows n)) (new : MarkedLines) (then : K) where
-    adds-row : (turn : Turn) → AddsLine sink (result_text item) held new after then turn → AddsLine sink (text_line (item_line (item_of label (row_at rows n)))) held new after then turn
+    adds-row : (turn : Turn) → AddsLine sink (result_text item) held new after then turn
+        → AddsLine sink (text_line (item_line (item_of label (row_at rows n)))) held new after then turn
     adds-row turn adds = subst (λ (x : Item). AddsLine sink (result_text x) held new after then turn) is adds
 
     -- the line of one more
     pub giving-more : AddsLine sink (result_text item) held new after then Go → IsGiving sink mark before then new label item (n + 1) rows
     giving-more adds = record {
-      has = subst (λ (lines : List (List ℕ)). HasLines sink mark before then new lines) (sym (lines-more label rows n lt)) (lines-add giving.has (item_line (item_of label (row_at rows n))) new then (adds-row Go adds));
+      has = subst (λ (lines : List (List ℕ)). HasLines sink mark before then new lines) (sym (lines-more label rows n lt))
+          (lines-add giving.has (item_line (item_of label (row_at rows n))) new then (adds-row Go adds));
       named = (row_at rows n, is);
     }
 
     -- the sink failed
-    pub giving-stop : (turn : Turn) → AddsLine sink (result_text item) held new after then turn → turn ≢ Go → Gives sink (marked_text mark (Told (map item_line (items_of label rows)) end_text)) before then turn
+    pub giving-stop : (turn : Turn) → AddsLine sink (result_text item) held new after then turn → turn ≢ Go
+        → Gives sink (marked_text mark (Told (map item_line (items_of label rows)) end_text)) before then turn
     giving-stop turn adds stops =
         lines-stop_in giving.has (map item_line (items_of label rows)) end_text (item_line (item_of label (row_at rows n)))
-        (subst (λ (lines : List (List ℕ)). AreFirst lines (map item_line (items_of label rows))) (lines-more label rows n lt) (first-rows label rows (n + 1))) new then turn (adds-row turn adds) stops
+        (subst (λ (lines : List (List ℕ)). AreFirst lines (map item_line (items_of label rows))) (lines-more label rows n lt) (first-rows label rows (n + 1)))
+        new then turn (adds-row turn adds) stops
 
   -- all have lines
-  pub giving-end : n ≤ length rows → length rows ≤ n → (then : K) (turn : Turn) → Gives sink (held.bytes ++ (held.mark ++ text_line end_text)) after then turn → Gives sink (marked_text mark (Told (map item_line (items_of label rows)) end_text)) before then turn
+  pub giving-end : n ≤ length rows → length rows ≤ n → (then : K) (turn : Turn) → Gives sink (held.bytes ++ (held.mark ++ text_line end_text)) after then turn
+      → Gives sink (marked_text mark (Told (map item_line (items_of label rows)) end_text)) before then turn
   giving-end low high then turn gives =
       let same : n ≡ length rows = omega (arith, low, high) in
       subst (λ (lines : List (List ℕ)). Gives sink (marked_text mark (Told lines end_text)) before then turn)

@@ -1,5 +1,7 @@
 -- The edges of a type at a node, by their rows.
-use Rattle.std.proofs.Common.{◌≡◌, ◌<◌, ◌≤◌, ◌∙◌, ℕ, zero, suc, nat_eq, Bool, true, false, ◌&&◌, ◌||◌, cond, Option, None, Some, Result, Ok, Err, IfOk, List, [], ◌∷◌, ◌++◌, length, map, slice_get, Contains, IfNone, IfSome, unwrap_or, true≢false, refl, sym, ap, subst, ⊎_elim, arith}
+use Rattle.std.proofs.Common.{◌≡◌, ◌<◌, ◌≤◌, ◌∙◌, ℕ, zero, suc, nat_eq, Bool, true, false, ◌&&◌, ◌||◌, cond, Option}
+use Rattle.std.proofs.Common.{None, Some, Result, Ok, Err, IfOk, List, [], ◌∷◌, ◌++◌, length, map, slice_get, Contains}
+use Rattle.std.proofs.Common.{IfNone, IfSome, unwrap_or, true≢false, refl, sym, ap, subst, ⊎_elim, arith}
 use Rattle.std.specs.List.{AllByRecursion, filter}
 use borrow.Author.Tests.{eqb-true}
 use Rattle.std.proofs.lemmas.Bool.{cases_lt}
@@ -38,7 +40,8 @@ gets-same : (s t : State) (count : ℕ) → t ≡ after_gets count s → SameBut
 gets-same s t count is = subst (SameButReads s) (sym is) (same-gets count s)
 
 -- so the space was only read
-pub is_read-gets : {R : Type 0} (space : SpaceGhosts R) {a b : R} (count : ℕ) → space.state b ≡ after_gets count (space.state a) → space.onward a b → space.faults a ≤ space.faults b → IsRead space a b
+pub is_read-gets : {R : Type 0} (space : SpaceGhosts R) {a b : R} (count : ℕ) → space.state b ≡ after_gets count (space.state a) → space.onward a b
+    → space.faults a ≤ space.faults b → IsRead space a b
 is_read-gets space {a = a} {b = b} count is onward later = record { same = gets-same (space.state a) (space.state b) count is; onward = onward; later = later }
 
 -- ---- the number of a type
@@ -49,7 +52,8 @@ stands-one records number text finds = λ x lt. ap (λ (b : Bool). b || false) (
 -- a number after those of the store is that of no name
 finds-past : (records : Records) (number : ℕ) (text : List ℕ) → name_count records ≤ number → FindsName records None text → FindsName records (Some number) text
 finds-past records number text past none = λ x lt.
-    same_tests (nat_eq x number) (is_text text (name_at records x)) (λ e. let same = eqb-true x number e in absurd (omega (arith, same, lt, past))) (λ e. absurd (true≢false (sym (none x lt ∙ e))))
+    same_tests (nat_eq x number) (is_text text (name_at records x)) (λ e. let same = eqb-true x number e in absurd (omega (arith, same, lt, past)))
+    (λ e. absurd (true≢false (sym (none x lt ∙ e))))
 
 module _ (records : Records) (shape : Shape) (names : List (List ℕ)) (store : IsNamedStore records shape names) (text : List ℕ) where
   pub stands-found : (number : ℕ) → AreDistinct names → slice_get names number ≡ Some text → StandFor records (number ∷ []) (text ∷ [])
@@ -62,7 +66,8 @@ module _ (records : Records) (shape : Shape) (names : List (List ℕ)) (store : 
   stands-unknown unknown = stands-one records (length names) text (finds-past records (length names) text (names_enough records shape names store) (finds_unknown records shape names store text unknown))
 
   -- the number that is taken for the text
-  pub stands-number : AreDistinct names → (found : Option ℕ) (count : ℕ) → IfSome found (λ number. slice_get names number ≡ Some text) → IfNone found (¬ Contains names text) → count ≡ length names
+  pub stands-number : AreDistinct names → (found : Option ℕ) (count : ℕ) → IfSome found (λ number. slice_get names number ≡ Some text)
+      → IfNone found (¬ Contains names text) → count ≡ length names
       → StandFor records (unwrap_or found count ∷ []) (text ∷ [])
   stands-number once (Some number) count some none is = stands-found number once some
   stands-number once None count some none is = subst (λ (number : ℕ). StandFor records (number ∷ []) (text ∷ [])) (sym is) (stands-unknown none)
@@ -84,7 +89,8 @@ filtered : (test : Edge → Bool) (P : Edge → Type 0) → ((edge : Edge) → t
 filtered test P holds [] = tt
 filtered test P holds (edge ∷ edges) = by (filtered test P holds edges) (test edge) refl
   where
-    by : AllByRecursion P (filter test edges) → (passes : Bool) → test edge ≡ passes → AllByRecursion P (cond passes (edge ∷ filter test edges) (filter test edges))
+    by : AllByRecursion P (filter test edges) → (passes : Bool) → test edge ≡ passes
+        → AllByRecursion P (cond passes (edge ∷ filter test edges) (filter test edges))
     by later true is = (holds edge is, later)
     by later false is = later
 
@@ -107,7 +113,8 @@ module _ (graph : Graph) (label : List ℕ) (id : ℕ) where
   edges_at-labels directions.Incoming = entering-labels
   edges_at-labels directions.Both = all-append (HasLabel label) (leaving graph (label ∷ []) id) (entering graph (label ∷ []) id) leaving-labels entering-labels
 
-items-rows : (records : Records) (label : List ℕ) (rows : List EdgeRow) (edges : List Edge) → AreRowsOf records rows edges → AllByRecursion (HasLabel label) edges → items_of label rows ≡ map edge_item edges
+items-rows : (records : Records) (label : List ℕ) (rows : List EdgeRow) (edges : List Edge) → AreRowsOf records rows edges
+    → AllByRecursion (HasLabel label) edges → items_of label rows ≡ map edge_item edges
 items-rows records label [] [] are named = refl
 items-rows records label [] (edge ∷ edges) are named = absurd are
 items-rows records label (row ∷ rows) [] are named = absurd are
@@ -117,7 +124,8 @@ items-rows records label (row ∷ rows) (edge ∷ edges) are named = λ i. same 
     same = λ i. items.Edge (are.0.id i) (sym named.0 i) (are.0.from i) (are.0.to i)
 
 -- the rows of a type's number are the edges of its text
-pub items-expansion : (records : Records) (shape : Shape) (names : List (List ℕ)) → IsNamedStore records shape names → (number : ℕ) (label : List ℕ) → StandFor records (number ∷ []) (label ∷ []) → (direction : Direction) (id : ℕ) (rows : List EdgeRow)
+pub items-expansion : (records : Records) (shape : Shape) (names : List (List ℕ)) → IsNamedStore records shape names → (number : ℕ) (label : List ℕ)
+    → StandFor records (number ∷ []) (label ∷ []) → (direction : Direction) (id : ℕ) (rows : List EdgeRow)
     → rows ≡ rows_at direction (number ∷ []) id (rows_of records) → items_of label rows ≡ expansion (graph_of records) id direction label
 items-expansion records shape names store number label stand direction id rows is =
     ap (items_of label) is
@@ -125,7 +133,8 @@ items-expansion records shape names store number label stand direction id rows i
     (rows_at_are records shape store.store (number ∷ []) (label ∷ []) stand id direction) (edges_at-labels (graph_of records) label id direction)
 
 -- and there are as many rows as edges, of a type or of all
-pub rows-degree : (records : Records) (shape : Shape) → IsWellFormed records shape → (numbers : List ℕ) (label : Option (List ℕ)) → StandFor records numbers (types_of label) → (direction : Direction) (id : ℕ)
+pub rows-degree : (records : Records) (shape : Shape) → IsWellFormed records shape → (numbers : List ℕ) (label : Option (List ℕ))
+    → StandFor records numbers (types_of label) → (direction : Direction) (id : ℕ)
     → length (rows_at direction numbers id (rows_of records)) ≡ degree_at (graph_of records) id direction label
 rows-degree records shape store numbers label stand direction id =
     sym (AllZip-long (IsRowOf records) (rows_at direction numbers id (rows_of records)) (edges_at (graph_of records) direction (types_of label) id) (rows_at_are records shape store numbers (types_of label) stand id direction))

@@ -30,7 +30,8 @@ module _ {D : Type 0} {g : Ghosts D} {old : SessionView D} {state : State} (at :
   stopped-admitted : (content : Files) → IsAdmitted state content → IsAdmitted (stopped state) content
   stopped-admitted content had = (had.0, stopped-admits had.0 had.1, had.2)
 
-module _ {D : Type 0} {g : Ghosts D} {old new : SessionView D} {state : State} (at : IsAt g old state) (live : old.console.health ≡ healths.Live) (fails : FailsDrafted g old new) where
+module _ {D : Type 0} {g : Ghosts D} {old new : SessionView D} {state : State} (at : IsAt g old state) (live : old.console.health ≡ healths.Live)
+    (fails : FailsDrafted g old new) where
   fails-at : IsAt g new (stopped state)
   fails-at = record {
     shape = at.shape ∙ sym fails.ends.shape;

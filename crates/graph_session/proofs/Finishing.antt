@@ -52,7 +52,8 @@ use Rattle.graph_session.proofs.Weights.{told-least, told-whole}
 
 module _ {D : Type 0} {g : Ghosts D} where
   -- a change that was not made
-  module _ {old new : SessionView D} {state : State} (at : IsAt g old state) (live : old.console.health ≡ healths.Live) {line : List ℕ} {command : Command} (spelled : SpellsOnly line command)
+  module _ {old new : SessionView D} {state : State} (at : IsAt g old state) (live : old.console.health ≡ healths.Live) {line : List ℕ} {command : Command}
+      (spelled : SpellsOnly line command)
       (change : IsChange command) (stays : Stays g old new) where
     pub unmade-uses : {reply : Reply} → UsesDisk g (Whole line) state reply old.disk new.disk
     unmade-uses = uses-reads state spelled (change-needs command change) (change-reached at live spelled change) stays.beneath.disk
@@ -62,12 +63,14 @@ module _ {D : Type 0} {g : Ghosts D} where
 
 module _ {D : Type 0} {g : Ghosts D} where
   -- the store, and the graph that a line sees
-  module _ (known : Bool) (old : Session D g) {state : State} (at : IsAt (as_known known g) (view old) state) (live : old.health ≡ healths.Live) (told : (as_known known g).tells_reads) where
+  module _ (known : Bool) (old : Session D g) {state : State} (at : IsAt (as_known known g) (view old) state) (live : old.health ≡ healths.Live)
+      (told : (as_known known g).tells_reads) where
     pub has-store : HasStore old
     has-store =
         let none : drafted old.store ≡ working old.store = drafted-none old.store at.no_draft in
         record {
-          store = subst (λ (shape : Shape). IsIndexed (drafted old.store) shape) at.shape (subst (λ (records : Key → Rec). IsIndexed records state.shape) (sym none) (held at live told).working);
+          store = subst (λ (shape : Shape). IsIndexed (drafted old.store) shape) at.shape
+              (subst (λ (records : Key → Rec). IsIndexed records state.shape) (sym none) (held at live told).working);
           names = names-working at live told ∙ ap names_of (sym none);
         }
 
@@ -75,8 +78,10 @@ module _ {D : Type 0} {g : Ghosts D} where
     has-sees = record { shape = at.shape; graph = sym (held at live told).working_graph ∙ ap graph_of (sym (drafted-none old.store at.no_draft)) }
 
   -- no change was drafted
-  module _ (known : Bool) {old new : SessionView D} {state : State} (at : IsAt (as_known known g) old state) (live : old.console.health ≡ healths.Live) {line : List ℕ} {command : Command} (spelled : SpellsOnly line command)
-      (change : IsChange command) (base : Session D g) (now : D) (has : (as_known known g).tells_reads → HasStore base) (sees : (as_known known g).tells_reads → Sees (state_of base.store) state) where
+  module _ (known : Bool) {old new : SessionView D} {state : State} (at : IsAt (as_known known g) old state) (live : old.console.health ≡ healths.Live)
+      {line : List ℕ} {command : Command} (spelled : SpellsOnly line command)
+      (change : IsChange command) (base : Session D g) (now : D) (has : (as_known known g).tells_reads → HasStore base)
+      (sees : (as_known known g).tells_reads → Sees (state_of base.store) state) where
     pub settles-stopped : (why : Answer) → IsStopped command base now why → (¬ (why ≡ answers.DiskFailed) → Stays g old new)
         → (why ≡ answers.DiskFailed → Rose (g.faults base.store.base.disk.now) (g.faults now) → Settles (as_known known g) (Whole line) old new state (Faulted [] DiskFailed)) → Settles (as_known known g) (Whole line) old new state (reply_of why)
     settles-stopped answers.Done stopped stays fault = absurd stopped
@@ -93,7 +98,8 @@ module _ {D : Type 0} {g : Ghosts D} where
         (unmade-uses at live spelled change (stays-known known (stays (λ e. cc))))
 
   -- a change in the open transaction
-  module _ {old mid : Session D g} (new : Session D g) (live : old.health ≡ healths.Live) (opened : old.store.base.in_transaction ≡ true) (only : OnlyDrafts old mid) where
+  module _ {old mid : Session D g} (new : Session D g) (live : old.health ≡ healths.Live) (opened : old.store.base.in_transaction ≡ true)
+      (only : OnlyDrafts old mid) where
     stays-discarded : (count : ℕ) → count ≡ length old.names.names → Discards count mid new → Stays g (view old) (view new)
     stays-discarded count counts drops = record {
       beneath = record {
@@ -126,7 +132,8 @@ module _ {D : Type 0} {g : Ghosts D} where
       brought = (only.brought.0, kept.names ∙ only.brought.1);
     }
 
-    module _ (known : Bool) {command : Command} (change : IsChange command) {line : List ℕ} {state : State} (spelled : SpellsOnly line command) (at : IsAt (as_known known g) (view old) state) (made : Drafted)
+    module _ (known : Bool) {command : Command} (change : IsChange command) {line : List ℕ} {state : State} (spelled : SpellsOnly line command)
+        (at : IsAt (as_known known g) (view old) state) (made : Drafted)
         (has : g.tells_reads → HasStore old → HasDraft command old mid made) (transaction : Transaction) (is : state.open_one ≡ Some transaction) where
       has-draft : (as_known known g).tells_reads → HasDraft command old mid made
       has-draft told = has (told_of known g told) (has-store known old at live told)
@@ -136,7 +143,8 @@ module _ {D : Type 0} {g : Ghosts D} where
 
       -- what the line weighs in the graph that it sees, and no other number
       weighs-it : (told : (as_known known g).tells_reads) → WeighsIn state command (has-draft told).total
-      weighs-it told = sees-as (has-sees known old at live told) (λ shape graph. LineWeighs shape.limit shape.threshold graph command (has-draft told).total) (has-draft told).weighs
+      weighs-it told = sees-as (has-sees known old at live told) (λ shape graph. LineWeighs shape.limit shape.threshold graph command (has-draft told).total)
+          (has-draft told).weighs
 
       weighs-only : (told : (as_known known g).tells_reads) (other : ℕ) → WeighsIn state command other → other ≡ (has-draft told).total
       weighs-only told = sees-as (has-sees known old at live told) (λ shape graph. (other : ℕ) → LineWeighs shape.limit shape.threshold graph command other → other ≡ (has-draft told).total) (has-draft told).only
@@ -149,7 +157,8 @@ module _ {D : Type 0} {g : Ghosts D} where
       before-it : weight_before state.open_one ≡ mid.weight
       before-it = ap weight_before is ∙ sym (at.weight transaction is) ∙ sym only.weight
 
-      settles-full : Stays g (view old) (view new) → most_weight < mid.weight + made.weight → Settles (as_known known g) (Whole line) (view old) (view new) state (reply_of (answers.Refused refusals.TransactionFull))
+      settles-full : Stays g (view old) (view new) → most_weight < mid.weight + made.weight
+          → Settles (as_known known g) (Whole line) (view old) (view new) state (reply_of (answers.Refused refusals.TransactionFull))
       settles-full stays more =
           settles-refused at (stays-known known stays) refusals.TransactionFull
           (λ told.
@@ -157,9 +166,11 @@ module _ {D : Type 0} {g : Ghosts D} where
           (let a = before-it in let least = told-least (has-draft told).total made.weight (has-draft told).told in omega (arith, a, least, more)))
           (unmade-uses at live spelled change (stays-known known stays))
 
-      settles-made : TellsChange command made.answer → KeepsDraft made.weight mid new → Settles (as_known known g) (Whole line) (view old) (view new) state (reply_of made.answer)
+      settles-made : TellsChange command made.answer → KeepsDraft made.weight mid new
+          → Settles (as_known known g) (Whole line) (view old) (view new) state (reply_of made.answer)
       settles-made tells kept =
-          settles-kept at live transaction is spelled change (reply_of made.answer) (made-good command (reply_of made.answer) tells) made.weight (keeps-known known (keeps-kept made.weight kept))
+          settles-kept at live transaction is spelled change (reply_of made.answer) (made-good command (reply_of made.answer) tells) made.weight
+          (keeps-known known (keeps-kept made.weight kept))
           (λ told. record {
             store =
                 subst (λ (shape : Shape). IsIndexed (working new.store) shape) (only.base.shape ∙ sym at.shape)
@@ -170,7 +181,8 @@ module _ {D : Type 0} {g : Ghosts D} where
           accepted state spelled (change-reached at live spelled change) (is-free told)
           (weight-light state command (has-draft told).total (weighs-only told) (let a = before-it in let same = whole told in let fits = kept.fits in omega (arith, a, same, fits))))
           (λ told.
-          subst (λ (limit : ℕ). LineChanges limit transaction.graph command (reply_of made.answer) (graph_of (working new.store))) (ap (λ (shape : Shape). shape.limit) (sym at.shape))
+          subst (λ (limit : ℕ). LineChanges limit transaction.graph command (reply_of made.answer) (graph_of (working new.store)))
+          (ap (λ (shape : Shape). shape.limit) (sym at.shape))
           (subst (λ (graph : Graph). LineChanges old.store.base.shape.limit graph command (reply_of made.answer) (graph_of (working new.store))) (same-graph told)
           (subst (λ (records : Key → Rec). LineChanges old.store.base.shape.limit (graph_in (state_of old.store)) command (reply_of made.answer) (graph_of records)) (sym kept.working) (has-draft told).changes)))
           (λ told.
@@ -185,11 +197,13 @@ module _ {D : Type 0} {g : Ghosts D} where
     later-on disk same = subst (λ (now : D). g.faults old.store.base.disk.now ≤ g.faults now) (sym same) only.later
 
     module _ {command : Command} (change : IsChange command) (count : ℕ) (counts : count ≡ length old.names.names) where
-      settles-unmade : (known : Bool) {line : List ℕ} {state : State} → SpellsOnly line command → IsAt (as_known known g) (view old) state → (why : Answer) → IsStopped command old mid.store.base.disk.now why → Discards count mid new
+      settles-unmade : (known : Bool) {line : List ℕ} {state : State} → SpellsOnly line command → IsAt (as_known known g) (view old) state → (why : Answer)
+          → IsStopped command old mid.store.base.disk.now why → Discards count mid new
           → Settles (as_known known g) (Whole line) (view old) (view new) state (reply_of why)
       settles-unmade known {state = state} spelled at why stopped drops =
           let stays = stays-discarded count counts drops in
-          settles-stopped known at live spelled change old mid.store.base.disk.now (has-store known old at live) (has-sees known old at live) why stopped (λ other. stays)
+          settles-stopped known at live spelled change old mid.store.base.disk.now (has-store known old at live) (has-sees known old at live) why stopped
+          (λ other. stays)
           (λ is rose. let one = is_open at opened in settles-change_fault at live one.0 one.1 spelled change (stays-known known stays)
           (subst (λ (disk : D). Rose (g.faults old.store.base.disk.now) (g.faults disk)) (sym drops.beneath.disk) rose))
 
@@ -198,7 +212,8 @@ module _ {D : Type 0} {g : Ghosts D} where
       settles-finish (Ok made) answer drafts (inl (told_so, kept)) = record {
         settles = λ known line state spelled served at.
             let one = is_open at opened in
-            subst (λ (a : Answer). Settles (as_known known g) (Whole line) (view old) (view new) state (reply_of a)) (sym told_so) (settles-made known change spelled at made drafts.1 one.0 one.1 drafts.0 kept);
+            subst (λ (a : Answer). Settles (as_known known g) (Whole line) (view old) (view new) state (reply_of a)) (sym told_so)
+            (settles-made known change spelled at made drafts.1 one.0 one.1 drafts.0 kept);
         may = λ none.
             subst (λ (a : Answer). MayAnswer g command (view old) (reply_of a) (view new)) (sym told_so)
             (may-change g (view old) (reply_of made.answer) (view new) command change
@@ -226,7 +241,8 @@ module _ {D : Type 0} {g : Ghosts D} where
       }
       settles-finish (Err why) answer drafts (told_so, drops) = record {
         settles = λ known line state spelled served at.
-            subst (λ (a : Answer). Settles (as_known known g) (Whole line) (view old) (view new) state (reply_of a)) (sym told_so) (settles-unmade known spelled at why drafts drops);
+            subst (λ (a : Answer). Settles (as_known known g) (Whole line) (view old) (view new) state (reply_of a)) (sym told_so)
+            (settles-unmade known spelled at why drafts drops);
         may = λ none.
             let stays = stays-discarded count counts drops in
             subst (λ (a : Answer). MayAnswer g command (view old) (reply_of a) (view new)) (sym told_so)

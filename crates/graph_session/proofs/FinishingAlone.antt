@@ -1,5 +1,6 @@
 -- A change that is a transaction by itself, from its draft to its reply.
-use Rattle.std.proofs.Common.{◌≡◌, ◌⊎◌, ◌∙◌, ◌+◌, ◌<◌, ◌≤◌, ℕ, IsTrue, Bool, false, Ok, Err, Result, List, [], ◌++◌, length, take, inl, inr, true≢false, refl, sym, ap, subst, arith}
+use Rattle.std.proofs.Common.{◌≡◌, ◌⊎◌, ◌∙◌, ◌+◌, ◌<◌, ◌≤◌, ℕ, IsTrue, Bool, false, Ok, Err, Result, List, [], ◌++◌}
+use Rattle.std.proofs.Common.{length, take, inl, inr, true≢false, refl, sym, ap, subst, arith}
 use Rattle.std.proofs.lemmas.List.{nil_from_length}
 use Rattle.fault_count.specs.Cause.{Rose}
 use Rattle.disk_model.specs.Spans.{AtEachMoment, OnlyReads}
@@ -25,7 +26,9 @@ use Rattle.txn_core.proofs.StoreRecords.{committed-beneath, committed-read, draf
 use Rattle.graph_session.specs.Answer.{Settles}
 use Rattle.graph_session.specs.Answering.{reply_of}
 use Rattle.graph_session.specs.Console.{IsAt}
-use Rattle.graph_session.specs.Drafting.{Closes, CommitsRecords, DoubtsRecords, Drafts, DropsAlone, DropsRecords, EndsCommit, FinishesAlone, HasDraft, HasStore, IsStopped, OnlyDrafts, TellsChange, TriesCommit}
+use Rattle.graph_session.specs.Drafting.{Closes, CommitsRecords, DoubtsRecords, Drafts, DropsAlone, DropsRecords}
+use Rattle.graph_session.specs.Drafting.{EndsCommit, FinishesAlone, HasDraft, HasStore, IsStopped, OnlyDrafts}
+use Rattle.graph_session.specs.Drafting.{TellsChange, TriesCommit}
 use Rattle.graph_session.specs.Effects.{CommitsAlone, CommitsFrom, Ends, FailsDrafted, FailsRead, IsAloneInDoubt, Stays}
 use Rattle.graph_session.specs.Known.{as_known}
 use Rattle.graph_session.specs.MayStep.{HasFailedChange, MayAnswer, TellsDiskFault}
@@ -51,8 +54,10 @@ use Rattle.graph_session.proofs.States.{is_closed}
 use Rattle.graph_session.proofs.Streams.{Rose-from}
 use Rattle.graph_session.proofs.Weights.{told-least, told-whole}
 
-module _ {D : Type 0} {g : Ghosts D} {begun mid : Session D g} (old new : Session D g) (live : old.health ≡ healths.Live) (closed : old.store.base.in_transaction ≡ false) (idle : length old.store.base.own.pairs ≡ 0)
-    (same : SameBeneath old.store.base begun.store.base) (own : begun.store.base.own.pairs ≡ []) (draft : begun.store.draft.pairs ≡ []) (names : begun.names.names ≡ old.names.names) (health : begun.health ≡ old.health)
+module _ {D : Type 0} {g : Ghosts D} {begun mid : Session D g} (old new : Session D g) (live : old.health ≡ healths.Live)
+    (closed : old.store.base.in_transaction ≡ false) (idle : length old.store.base.own.pairs ≡ 0)
+    (same : SameBeneath old.store.base begun.store.base) (own : begun.store.base.own.pairs ≡ []) (draft : begun.store.draft.pairs ≡ [])
+    (names : begun.names.names ≡ old.names.names) (health : begun.health ≡ old.health)
     (only : OnlyDrafts begun mid) where
   pub drafted-begun : drafted begun.store ≡ committed old.store
   drafted-begun = drafted-none begun.store draft ∙ working-none begun.store.base own ∙ committed-beneath old.store.base begun.store.base same
@@ -111,7 +116,8 @@ module _ {D : Type 0} {g : Ghosts D} {begun mid : Session D g} (old new : Sessio
       weight = λ is. absurd (true≢false (sym is ∙ closed));
       names = names-dropped;
       written = drops.closes.own ∙ sym (nil_from_length old.store.base.own.pairs idle);
-      working = λ told. working-none new.store.base drops.closes.own ∙ committed-dropped ∙ sym (working-none old.store.base (nil_from_length old.store.base.own.pairs idle));
+      working = λ told. working-none new.store.base drops.closes.own ∙ committed-dropped
+          ∙ sym (working-none old.store.base (nil_from_length old.store.base.own.pairs idle));
     }
 
     fails-dropped : answer ≡ answers.DiskFailed → FailsRead g (view old) (view new)
@@ -123,33 +129,39 @@ module _ {D : Type 0} {g : Ghosts D} {begun mid : Session D g} (old new : Sessio
       disk = disk-dropped;
     }
 
-    rose-dropped : Rose (g.faults begun.store.base.disk.now) (g.faults mid.store.base.disk.now) → Rose (g.faults old.store.base.disk.now) (g.faults new.store.base.disk.now)
+    rose-dropped : Rose (g.faults begun.store.base.disk.now) (g.faults mid.store.base.disk.now)
+        → Rose (g.faults old.store.base.disk.now) (g.faults new.store.base.disk.now)
     rose-dropped rose =
-        subst (λ (disk : D). Rose (g.faults old.store.base.disk.now) (g.faults disk)) (sym drops.beneath.disk) (subst (λ (disk : D). Rose (g.faults disk) (g.faults mid.store.base.disk.now)) same.disk rose)
+        subst (λ (disk : D). Rose (g.faults old.store.base.disk.now) (g.faults disk)) (sym drops.beneath.disk)
+        (subst (λ (disk : D). Rose (g.faults disk) (g.faults mid.store.base.disk.now)) same.disk rose)
 
     later-dropped : g.faults old.store.base.disk.now ≤ g.faults new.store.base.disk.now
     later-dropped = subst (λ (disk : D). g.faults old.store.base.disk.now ≤ g.faults disk) (sym drops.beneath.disk) later-mid
 
-    may-unmade : (command : Command) → IsChange command → IsStopped command begun mid.store.base.disk.now answer → MayAnswer g command (view old) (reply_of answer) (view new)
+    may-unmade : (command : Command) → IsChange command → IsStopped command begun mid.store.base.disk.now answer
+        → MayAnswer g command (view old) (reply_of answer) (view new)
     may-unmade command change stopped =
         may-change g (view old) (reply_of answer) (view new) command change
         (may-stopped command begun mid.store.base.disk.now answer stopped stays-dropped (λ is rose. (rose-dropped rose, inr (closed, inl (fails-dropped is)))))
 
-    unmade-alone : (known : Bool) {command : Command} → IsChange command → {line : List ℕ} {state : State} → SpellsOnly line command → IsAt (as_known known g) (view old) state → IsStopped command begun mid.store.base.disk.now answer
+    unmade-alone : (known : Bool) {command : Command} → IsChange command → {line : List ℕ} {state : State} → SpellsOnly line command
+        → IsAt (as_known known g) (view old) state → IsStopped command begun mid.store.base.disk.now answer
         → Settles (as_known known g) (Whole line) (view old) (view new) state (reply_of answer)
     unmade-alone known change spelled at stopped =
         settles-stopped known at live spelled change begun mid.store.base.disk.now (has-begun known at) (sees-begun known at) answer stopped stays-dropped
         (λ is rose. settles-alone_read_fault at live closed spelled change (fails-drafted (fails_read-known known (fails-dropped is))) (rose-dropped rose))
 
   -- a drafted change in the graph that the line sees
-  module _ (made : Drafted) (known : Bool) {command : Command} (change : IsChange command) (has : g.tells_reads → HasStore begun → HasDraft command begun mid made) {line : List ℕ} {state : State} (spelled : SpellsOnly line command)
+  module _ (made : Drafted) (known : Bool) {command : Command} (change : IsChange command)
+      (has : g.tells_reads → HasStore begun → HasDraft command begun mid made) {line : List ℕ} {state : State} (spelled : SpellsOnly line command)
       (at : IsAt (as_known known g) (view old) state) where
     alone-draft : (as_known known g).tells_reads → HasDraft command begun mid made
     alone-draft told = has (told_of known g told) (has-begun known at told)
 
     -- what the line weighs, and no other number
     alone-weighs : (told : (as_known known g).tells_reads) → WeighsIn state command (alone-draft told).total
-    alone-weighs told = sees-as (sees-begun known at told) (λ shape graph. LineWeighs shape.limit shape.threshold graph command (alone-draft told).total) (alone-draft told).weighs
+    alone-weighs told = sees-as (sees-begun known at told) (λ shape graph. LineWeighs shape.limit shape.threshold graph command (alone-draft told).total)
+        (alone-draft told).weighs
 
     alone-only : (told : (as_known known g).tells_reads) (other : ℕ) → WeighsIn state command other → other ≡ (alone-draft told).total
     alone-only told = sees-as (sees-begun known at told) (λ shape graph. (other : ℕ) → LineWeighs shape.limit shape.threshold graph command other → other ≡ (alone-draft told).total) (alone-draft told).only
@@ -161,7 +173,8 @@ module _ {D : Type 0} {g : Ghosts D} {begun mid : Session D g} (old new : Sessio
     alone-before = ap weight_before (is_closed at closed)
 
     -- it weighs more than a transaction may
-    full-alone : Stays g (view old) (view new) → most_weight < start_weight + made.weight → Settles (as_known known g) (Whole line) (view old) (view new) state (reply_of (answers.Refused refusals.TransactionFull))
+    full-alone : Stays g (view old) (view new) → most_weight < start_weight + made.weight
+        → Settles (as_known known g) (Whole line) (view old) (view new) state (reply_of (answers.Refused refusals.TransactionFull))
     full-alone stays more =
         settles-refused at (stays-known known stays) refusals.TransactionFull
         (λ told.
@@ -191,7 +204,8 @@ module _ {D : Type 0} {g : Ghosts D} {begun mid : Session D g} (old new : Sessio
     ends-mid : Closes mid new → Ends (view old) (view new)
     ends-mid closes = record { shape = closes.same.shape ∙ shape-mid; is_open = closes.in_transaction; no_draft = closes.draft }
 
-    rose-mid : Rose (g.faults mid.store.base.disk.now) (g.faults new.store.base.disk.now) → Rose (g.faults old.store.base.disk.now) (g.faults new.store.base.disk.now)
+    rose-mid : Rose (g.faults mid.store.base.disk.now) (g.faults new.store.base.disk.now)
+        → Rose (g.faults old.store.base.disk.now) (g.faults new.store.base.disk.now)
     rose-mid rose = Rose-from (g.faults old.store.base.disk.now) (g.faults mid.store.base.disk.now) (g.faults new.store.base.disk.now) later-mid rose
 
     commits-mid : CommitsRecords (drafted mid.store) mid new → CommitsAlone g (view old) (view new) (drafted mid.store)
@@ -206,7 +220,8 @@ module _ {D : Type 0} {g : Ghosts D} {begun mid : Session D g} (old new : Sessio
 
     doubts-mid : DoubtsRecords (drafted mid.store) mid new → IsAloneInDoubt g (view old) (view new) (drafted mid.store)
     doubts-mid doubts =
-        let stored = stored-either new.store.base.disk.now (committed mid.store) (drafted mid.store) (committed old.store) (drafted mid.store) committed-mid refl doubts.stored in
+        let stored = stored-either new.store.base.disk.now (committed mid.store) (drafted mid.store) (committed old.store) (drafted mid.store) committed-mid
+        refl doubts.stored in
         record {
           ends = ends-mid doubts.closes;
           health = doubts.health;
@@ -235,11 +250,13 @@ module _ {D : Type 0} {g : Ghosts D} {begun mid : Session D g} (old new : Sessio
             subst (λ (a : Answer). MayAnswer g command (view old) (reply_of a) (view new)) (sym is)
             (may-change g (view old) (reply_of answers.DiskFailed) (view new) command change (inr (inr (inr (inr (fails failed))))))
           where
-            fails : DropsRecords mid new ⊎ DoubtsRecords (drafted mid.store) mid new → TellsDiskFault g (view old) (reply_of answers.DiskFailed) (view new) × HasFailedChange g (view old) (view new)
+            fails : DropsRecords mid new ⊎ DoubtsRecords (drafted mid.store) mid new → TellsDiskFault g (view old) (reply_of answers.DiskFailed) (view new)
+                × HasFailedChange g (view old) (view new)
             fails (inl drops) = ((refl, rose-mid drops.rose), inr (closed, inr (inl (drops-mid drops))))
             fails (inr doubts) = ((refl, rose-mid doubts.rose), inr (closed, inr (inr (drafted mid.store, from-mid, doubts-mid doubts))))
 
-    module _ (known : Bool) {command : Command} (change : IsChange command) (tells : TellsChange command made.answer) (has : g.tells_reads → HasStore begun → HasDraft command begun mid made) {line : List ℕ} {state : State}
+    module _ (known : Bool) {command : Command} (change : IsChange command) (tells : TellsChange command made.answer)
+        (has : g.tells_reads → HasStore begun → HasDraft command begun mid made) {line : List ℕ} {state : State}
         (spelled : SpellsOnly line command) (at : IsAt (as_known known g) (view old) state) where
       draft-told : (as_known known g).tells_reads → HasDraft command begun mid made
       draft-told = alone-draft made known change has spelled at
@@ -247,9 +264,11 @@ module _ {D : Type 0} {g : Ghosts D} {begun mid : Session D g} (old new : Sessio
       alone-store : (as_known known g).tells_reads → IsIndexed (drafted mid.store) state.shape
       alone-store told = subst (λ (shape : Shape). IsIndexed (drafted mid.store) shape) (shape-mid ∙ sym at.shape) (draft-told told).store.store
 
-      alone-changes : (as_known known g).tells_reads → LineChanges state.shape.limit state.committed command (reply_of made.answer) (graph_of (drafted mid.store))
+      alone-changes : (as_known known g).tells_reads → LineChanges state.shape.limit state.committed command (reply_of made.answer)
+          (graph_of (drafted mid.store))
       alone-changes told =
-          subst (λ (limit : ℕ). LineChanges limit state.committed command (reply_of made.answer) (graph_of (drafted mid.store))) (ap (λ (shape : Shape). shape.limit) (same.shape ∙ sym at.shape))
+          subst (λ (limit : ℕ). LineChanges limit state.committed command (reply_of made.answer) (graph_of (drafted mid.store)))
+          (ap (λ (shape : Shape). shape.limit) (same.shape ∙ sym at.shape))
           (subst (λ (graph : Graph). LineChanges begun.store.base.shape.limit graph command (reply_of made.answer) (graph_of (drafted mid.store))) (begun-graph known at told) (draft-told told).changes)
 
       settles-tried : Settles (as_known known g) (Whole line) (view old) (view new) state (reply_of answer)
@@ -284,7 +303,8 @@ module _ {D : Type 0} {g : Ghosts D} {begun mid : Session D g} (old new : Sessio
         let stays = stays-dropped count counts answer drops (λ failed. let clash : answers.Refused refusals.TransactionFull ≡ answers.DiskFailed = sym is ∙ failed in cc) in
         record {
           settles = λ known line state spelled served at.
-              subst (λ (a : Answer). Settles (as_known known g) (Whole line) (view old) (view new) state (reply_of a)) (sym is) (full-alone made known change drafts.1 spelled at stays more);
+              subst (λ (a : Answer). Settles (as_known known g) (Whole line) (view old) (view new) state (reply_of a)) (sym is)
+              (full-alone made known change drafts.1 spelled at stays more);
           may = λ none.
               subst (λ (a : Answer). MayAnswer g command (view old) (reply_of a) (view new)) (sym is)
               (may-change g (view old) (reply_of (answers.Refused refusals.TransactionFull)) (view new) command change (inr (inl ((refusals.TransactionFull, refl), stays))));
@@ -294,7 +314,8 @@ module _ {D : Type 0} {g : Ghosts D} {begun mid : Session D g} (old new : Sessio
         let stays = stays-dropped count counts answer drops (λ failed. let clash : answers.NoMemory ≡ answers.DiskFailed = sym is ∙ failed in cc) in
         record {
           settles = λ known line state spelled served at.
-              subst (λ (a : Answer). Settles (as_known known g) (Whole line) (view old) (view new) state (reply_of a)) (sym is) (unmade-memory at live spelled change (stays-known known stays));
+              subst (λ (a : Answer). Settles (as_known known g) (Whole line) (view old) (view new) state (reply_of a)) (sym is)
+              (unmade-memory at live spelled change (stays-known known stays));
           may = λ none.
               subst (λ (a : Answer). MayAnswer g command (view old) (reply_of a) (view new)) (sym is)
               (may-change g (view old) (reply_of answers.NoMemory) (view new) command change (inr (inr (inl (refl, stays)))));
@@ -302,7 +323,9 @@ module _ {D : Type 0} {g : Ghosts D} {begun mid : Session D g} (old new : Sessio
         }
     settles-finish_alone (Err why) answer drafts (is, drops) = record {
       settles = λ known line state spelled served at.
-          unmade-alone count counts answer drops known change spelled at (subst (λ (a : Answer). IsStopped command begun mid.store.base.disk.now a) (sym is) drafts);
-      may = λ none. may-unmade count counts answer drops command change (subst (λ (a : Answer). IsStopped command begun mid.store.base.disk.now a) (sym is) drafts);
+          unmade-alone count counts answer drops known change spelled at
+          (subst (λ (a : Answer). IsStopped command begun mid.store.base.disk.now a) (sym is) drafts);
+      may = λ none. may-unmade count counts answer drops command change
+          (subst (λ (a : Answer). IsStopped command begun mid.store.base.disk.now a) (sym is) drafts);
       onward = record { disk_later = later-dropped count counts answer drops };
     }

@@ -1,5 +1,6 @@
 -- The lines of the indexes of a graph, by the definitions of its store.
-use Rattle.std.proofs.Common.{◌≡◌, ◌∙◌, ◌+◌, ◌*◌, ◌<◌, ◌≤◌, ℕ, zero, suc, Bool, true, false, ◌||◌, if◌then◌else◌, cond, Option, None, Some, List, [], ◌∷◌, ◌++◌, append_assoc, get_or, map, refl, sym, ap, arith}
+use Rattle.std.proofs.Common.{◌≡◌, ◌∙◌, ◌+◌, ◌*◌, ◌<◌, ◌≤◌, ℕ, zero, suc, Bool, true, false, ◌||◌, if◌then◌else◌, cond}
+use Rattle.std.proofs.Common.{Option, None, Some, List, [], ◌∷◌, ◌++◌, append_assoc, get_or, map, refl, sym, ap, arith}
 use Rattle.std.specs.List.{flat_map}
 use Rattle.std.proofs.Math.Nat.{suc-mul}
 use Rattle.std.proofs.lemmas.Grind.{flat_map-append}
@@ -60,7 +61,8 @@ module _ (s : Records) (shape : Shape) (names : List (List ℕ)) (store : IsName
 
   one-row : (l k : ℕ) → l < count → k < count → map line_of (option_list (row l k)) ≡ map line (option_list (if_test test (l * count + k)))
   one-row l k l_low k_low =
-      ap (λ (b : Bool). map line_of (option_list (if b then Some (index_at s l k) else None))) (defined_among s _ store.indexes l k ∙ sym (taken-among l k l_low k_low definitions))
+      ap (λ (b : Bool). map line_of (option_list (if b then Some (index_at s l k) else None)))
+      (defined_among s _ store.indexes l k ∙ sym (taken-among l k l_low k_low definitions))
       ∙ by (test (l * count + k))
     where
       by : (b : Bool) → map line_of (option_list (if b then Some (index_at s l k) else None)) ≡ map line (option_list (cond b (Some (l * count + k)) None))
@@ -69,7 +71,8 @@ module _ (s : Records) (shape : Shape) (names : List (List ℕ)) (store : IsName
 
   -- those of a label, after those before it
   label-rows : (l j : ℕ) → l < count → j ≤ count → map line (ids test (l * count)) ++ map line_of (collect (row l) j) ≡ map line (ids test (l * count + j))
-  label-rows l zero l_low le = let same : l * count ≡ l * count + zero = omega arith in append-nil (map line (ids test (l * count))) ∙ ap (λ (n : ℕ). map line (ids test n)) same
+  label-rows l zero l_low le = let same : l * count ≡ l * count + zero = omega arith in append-nil (map line (ids test (l * count)))
+      ∙ ap (λ (n : ℕ). map line (ids test n)) same
   label-rows l (suc j) l_low le =
       ap (λ (lines : List (List ℕ)). map line (ids test (l * count)) ++ lines) (map-append line_of (collect (row l) j) (option_list (row l j)))
       ∙ sym (append_assoc (map line (ids test (l * count))) (map line_of (collect (row l) j)) (map line_of (option_list (row l j))))

@@ -30,7 +30,8 @@ length-names records = length-rows (λ x. text_of (rec_at records names_file x))
 pub take-brought : {E : Type 0} (names more : List E) (count : ℕ) → count ≡ length names → take count (names ++ more) ≡ names
 take-brought names more count same = ap (λ n. take n (names ++ more)) same ∙ take-append_seam names more
 
-module _ {D : Type 0} {g : Ghosts D} {session : SessionView D} {state : State} (at : IsAt g session state) (live : session.console.health ≡ healths.Live) (told : g.tells_reads) where
+module _ {D : Type 0} {g : Ghosts D} {session : SessionView D} {state : State} (at : IsAt g session state) (live : session.console.health ≡ healths.Live)
+    (told : g.tells_reads) where
   pub held : HoldsGraphs session.console state
   held = at.holds told (is_live at live)
 
@@ -49,5 +50,7 @@ module _ {D : Type 0} {g : Ghosts D} {session : SessionView D} {state : State} (
   -- as many names as the last commit had
   pub names-cut : take (high session.console.committed names_file) session.console.names ≡ state.committed.names
   names-cut =
-      let count : high session.console.committed names_file ≡ length state.committed.names = sym (length-names session.console.committed) ∙ ap (λ (graph : Graph). length graph.names) held.committed_graph in
-      ap (take (high session.console.committed names_file)) held.brought.1 ∙ take-brought state.committed.names held.brought.0 (high session.console.committed names_file) count
+      let count : high session.console.committed names_file ≡ length state.committed.names = sym (length-names session.console.committed)
+      ∙ ap (λ (graph : Graph). length graph.names) held.committed_graph in
+      ap (take (high session.console.committed names_file)) held.brought.1
+      ∙ take-brought state.committed.names held.brought.0 (high session.console.committed names_file) count

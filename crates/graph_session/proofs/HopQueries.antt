@@ -30,9 +30,11 @@ module _ {R : Type 0} (space : SpaceGhosts R) (names : List (List ℕ)) (query :
   -- nothing was read
   pub line-unread : (now : R) → ((id : ℕ) (hop : Hop) → IsHopQuery query id hop → now ≡ old) → HopLine space names query old now
   line-unread now same id hop is shown tells store =
-      subst (λ (r : R). ReadsAtMost (reads_for_hop (space.state old).records hop id) (space.state old) (space.state r)) (sym (same id hop is)) (reads_none (reads_for_hop (space.state old).records hop id) (space.state old))
+      subst (λ (r : R). ReadsAtMost (reads_for_hop (space.state old).records hop id) (space.state old) (space.state r)) (sym (same id hop is))
+      (reads_none (reads_for_hop (space.state old).records hop id) (space.state old))
 
-  pub goes-first : (now : R) (run : Run) → ((id : ℕ) (hop : Hop) → IsHopQuery query id hop → now ≡ old) → ((id : ℕ) (hop : Hop) → IsHopQuery query id hop → IsHop run id hop) → HopGoes space names query old now run
+  pub goes-first : (now : R) (run : Run) → ((id : ℕ) (hop : Hop) → IsHopQuery query id hop → now ≡ old)
+      → ((id : ℕ) (hop : Hop) → IsHopQuery query id hop → IsHop run id hop) → HopGoes space names query old now run
   goes-first now run same begins id hop is shown = inl (same id hop is, begins id hop is)
 
   -- where the line ends
@@ -51,7 +53,8 @@ module _ {R : Type 0} (space : SpaceGhosts R) (names : List (List ℕ)) (query :
         subst (λ (r : R). ReadsAtMost (reads_for_hop (space.state r).records hop id) (space.state r) (space.state next)) here.0
         ((hops id hop here.1).0 tells (subst (λ (r : R). IsNamedStore (space.state r).records (space.state r).shape names) (sym here.0) store)))
         (λ (made : HopCost space names old now hop id × IsReady run).
-        subst (λ (r : R). ReadsAtMost (reads_for_hop (space.state old).records hop id) (space.state old) (space.state r)) (sym (given made.1).0) (made.0 tells store)) (goes id hop is shown)
+        subst (λ (r : R). ReadsAtMost (reads_for_hop (space.state old).records hop id) (space.state old) (space.state r)) (sym (given made.1).0)
+        (made.0 tells store)) (goes id hop is shown)
 
     ready-next : (id : ℕ) (hop : Hop) → IsHopQuery query id hop → query.maps ≡ None → IfItem answer (λ item. IsReady new)
     ready-next id hop is shown =
@@ -61,7 +64,8 @@ module _ {R : Type 0} (space : SpaceGhosts R) (names : List (List ℕ)) (query :
     -- and its line was gathered, with no read
     pub line-shown : (last : R) → (query.maps ≡ None → last ≡ next) → HopLine space names query old last
     line-shown last unread id hop is shown tells store =
-        subst (λ (r : R). ReadsAtMost (reads_for_hop (space.state old).records hop id) (space.state old) (space.state r)) (sym (unread shown)) (line-next id hop is shown tells store)
+        subst (λ (r : R). ReadsAtMost (reads_for_hop (space.state old).records hop id) (space.state old) (space.state r)) (sym (unread shown))
+        (line-next id hop is shown tells store)
 
     pub goes-on : (last : R) → (query.maps ≡ None → last ≡ next) → (IfItem answer (λ item. IsReady new) → IsReady new) → HopGoes space names query old last new
     goes-on last unread item id hop is shown = inr (line-shown last unread id hop is shown, item (ready-next id hop is shown))

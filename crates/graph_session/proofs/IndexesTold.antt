@@ -19,7 +19,8 @@ pub asks-indexes : Asks commands.ViewIndexes
 asks-indexes = record { question = tt; unspared = indexes-unspared; unchecked = λ e. cc; reading = listed []; formed = ([], refl) }
 
 -- each line is that of an index
-pub lines-formed : (names : List (List ℕ)) (count : ℕ) (pairs : List IndexPair) → (indexes : List Index) × (listed (index_lines names count pairs) ≡ listed (map line_of indexes))
+pub lines-formed : (names : List (List ℕ)) (count : ℕ) (pairs : List IndexPair) → (indexes : List Index)
+    × (listed (index_lines names count pairs) ≡ listed (map line_of indexes))
 lines-formed names count pairs = (map at (ids (is_taken count pairs) (count * count)), ap listed (by (ids (is_taken count pairs) (count * count))))
   where
     at : ℕ → Index

@@ -16,7 +16,8 @@ use Rattle.graph_session.specs.declared.health.Health.TheVariants as healths
 -- the same, of the reply to a command of the session of this number
 abbrev pub JudgesCommand : {D : Type 0} → Ghosts D → ℕ → Command → SharedView D → Reply → Type 0
 JudgesCommand g session command old reply =
-    g.tells_reads → old.session.console.health ≡ healths.Live → IsQuestion command → (records : Records) → SeesRecords old session records → Judges records old.session.console.shape command reply
+    g.tells_reads → old.session.console.health ≡ healths.Live → IsQuestion command → (records : Records) → SeesRecords old session records
+    → Judges records old.session.console.shape command reply
 
 module _ {D : Type 0} (g : Ghosts D) (old : SharedView D) where
   -- a line that asks no question
@@ -32,10 +33,12 @@ module _ {D : Type 0} (g : Ghosts D) (old : SharedView D) where
   judges-memory line told live command spelled asks records sees = record { verdict = λ is. (refl, tt); blames = tt }
 
   -- a line of one command
-  pub judges-parsed : {line : List ℕ} {session : ℕ} {command : Command} {mark : List ℕ} → IsParsed line session command mark → (reply : Reply) → JudgesCommand g session command old reply → JudgesLine g (Whole line) old reply
+  pub judges-parsed : {line : List ℕ} {session : ℕ} {command : Command} {mark : List ℕ} → IsParsed line session command mark → (reply : Reply)
+      → JudgesCommand g session command old reply → JudgesLine g (Whole line) old reply
   judges-parsed parsed reply judges told live command spelled asks records sees =
       let is = parsed.only.only command spelled in
-      subst (λ (c : Command). Judges records old.session.console.shape c reply) (sym is) (judges told live (subst IsQuestion is asks) records (subst (λ (n : ℕ). SeesRecords old n records) parsed.session_is sees))
+      subst (λ (c : Command). Judges records old.session.console.shape c reply) (sym is)
+      (judges told live (subst IsQuestion is asks) records (subst (λ (n : ℕ). SeesRecords old n records) parsed.session_is sees))
 
 -- a command that is no question leaves none asked by its line
 pub unasked : {line : List ℕ} {command : Command} → SpellsOnly line command → ¬ IsQuestion command → ¬ AsksQuestion (Whole line)

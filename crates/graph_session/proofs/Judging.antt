@@ -26,9 +26,11 @@ check-spared (inl spared) = spared
 check-spared (inr (inl e)) = cc
 check-spared (inr (inr e)) = cc
 
-module _ {R K : Type 0} {space : SpaceGhosts R} {sink : SinkGhosts K} (names : List (List ℕ)) {a b : R} (read : IsRead space a b) {mark : List ℕ} {before after : K} {turn : Turn} where
+module _ {R K : Type 0} {space : SpaceGhosts R} {sink : SinkGhosts K} (names : List (List ℕ)) {a b : R} (read : IsRead space a b) {mark : List ℕ}
+    {before after : K} {turn : Turn} where
   -- the records keep the rules
-  pub gives-sound : (space.tells → IsIndexed (space.state a).records (space.state a).shape) → Gives sink (marked_text mark (Told [] sound_text)) before after turn → GivesReading space sink names commands.Check mark a b before after turn
+  pub gives-sound : (space.tells → IsIndexed (space.state a).records (space.state a).shape)
+      → Gives sink (marked_text mark (Told [] sound_text)) before after turn → GivesReading space sink names commands.Check mark a b before after turn
   gives-sound keeps gives = record {
     reply = Told [] sound_text;
     form = (one_line sound_text, inl refl, refl, refl);
@@ -43,7 +45,8 @@ module _ {R K : Type 0} {space : SpaceGhosts R} {sink : SinkGhosts K} (names : L
   -- a rule is broken, so it is no store that stands for a graph
   pub gives-broken : (damage : Damage) → (space.tells → IsLeastBroken (space.state a).records (space.state a).shape 1 damage)
       → (space.tells → IsIndexed (space.state a).records (space.state a).shape → verdicts.Broken damage ≡ verdicts.Sound)
-      → Gives sink (marked_text mark (Told [] (broken_text damage.file damage.id damage.rule))) before after turn → GivesReading space sink names commands.Check mark a b before after turn
+      → Gives sink (marked_text mark (Told [] (broken_text damage.file damage.id damage.rule))) before after turn
+      → GivesReading space sink names commands.Check mark a b before after turn
   gives-broken damage least breaks gives = record {
     reply = Told [] (broken_text damage.file damage.id damage.rule);
     form = (one_line (broken_text damage.file damage.id damage.rule), inr (damage.file, damage.id, damage.rule, refl), refl, refl);
@@ -56,7 +59,8 @@ module _ {R K : Type 0} {space : SpaceGhosts R} {sink : SinkGhosts K} (names : L
   }
 
   -- no verdict was found
-  pub gives-memory : Gives sink (marked_text mark (Faulted [] NoMemory)) before after turn → GivesReading space sink names commands.Check mark a b before after turn
+  pub gives-memory : Gives sink (marked_text mark (Faulted [] NoMemory)) before after turn
+      → GivesReading space sink names commands.Check mark a b before after turn
   gives-memory gives = record {
     reply = Faulted [] NoMemory;
     form = (check-spared, one_line sound_text, inl refl, tt, ([], refl));
@@ -68,7 +72,8 @@ module _ {R K : Type 0} {space : SpaceGhosts R} {sink : SinkGhosts K} (names : L
     idle = λ spared. absurd (check-spared spared);
   }
 
-  pub gives-disk : Rose (space.faults a) (space.faults b) → Gives sink (marked_text mark (Faulted [] DiskFailed)) before after turn → GivesReading space sink names commands.Check mark a b before after turn
+  pub gives-disk : Rose (space.faults a) (space.faults b) → Gives sink (marked_text mark (Faulted [] DiskFailed)) before after turn
+      → GivesReading space sink names commands.Check mark a b before after turn
   gives-disk rose gives = record {
     reply = Faulted [] DiskFailed;
     form = (check-spared, one_line sound_text, inl refl, tt, ([], refl));
@@ -81,7 +86,8 @@ module _ {R K : Type 0} {space : SpaceGhosts R} {sink : SinkGhosts K} (names : L
   }
 
 -- what is counted, of which no record is read
-pub gives-counts : {R K : Type 0} {space : SpaceGhosts R} {sink : SinkGhosts K} (names : List (List ℕ)) {a : R} → IsRead space a a → {mark : List ℕ} {before after : K} {turn : Turn} → (counts : Counts)
+pub gives-counts : {R K : Type 0} {space : SpaceGhosts R} {sink : SinkGhosts K} (names : List (List ℕ)) {a : R} → IsRead space a a
+    → {mark : List ℕ} {before after : K} {turn : Turn} → (counts : Counts)
     → (IsWellFormed (space.state a).records (space.state a).shape → counts ≡ counts_of (graph_of (space.state a).records))
     → Gives sink (marked_text mark (Told [] (counts_text counts))) before after turn → GivesReading space sink names commands.Stats mark a a before after turn
 gives-counts names read counts are gives = record {

@@ -20,7 +20,8 @@ use Rattle.snap_store.specs.Snaps.{Snapshots}
 use Rattle.txn_core.specs.Base.{SameBeneath}
 use Rattle.txn_core.specs.Store.{committed, drafted, state_of}
 use Rattle.graph_session.specs.Answering.{reply_of}
-use Rattle.graph_session.specs.Drafting.{BeginsChange, Drafts, EndsChange, EndsCommit, Finishes, FinishesAlone, HasStore, IsStopped, IsUnkeptAlone, OnlyDrafts, TriesCommit}
+use Rattle.graph_session.specs.Drafting.{BeginsChange, Drafts, EndsChange, EndsCommit, Finishes, FinishesAlone}
+use Rattle.graph_session.specs.Drafting.{HasStore, IsStopped, IsUnkeptAlone, OnlyDrafts, TriesCommit}
 use Rattle.graph_session.specs.MayStep.{TellsMade}
 use Rattle.graph_session.specs.Session.{shared_view, view}
 use Rattle.graph_session.specs.SnapshotEffects.{AreWeighed, Confirms, KeepsChange, KeepsKind, KeepsOlds, SharedView, WritesAlone}
@@ -36,7 +37,8 @@ use Rattle.graph_session.proofs.Weighing.{weighed-kept, weighed-start}
 use Rattle.graph_session.proofs.Weights.{told-whole}
 
 -- what is said of a change by its kind
-keeps-kind : {D : Type 0} (g : Ghosts D) (old : SharedView D) (reply : Reply) (new : SharedView D) (command : Command) → IsChange command → KeepsChange g old reply new command
+keeps-kind : {D : Type 0} (g : Ghosts D) (old : SharedView D) (reply : Reply) (new : SharedView D) (command : Command) → IsChange command
+    → KeepsChange g old reply new command
     → KeepsKind g old reply new (kind_of command) command
 keeps-kind g old reply new command change kept = by (kind_of command) change
   where
@@ -50,12 +52,14 @@ keeps-kind g old reply new command change kept = by (kind_of command) change
     by Question is = absurd is
 
 -- a line that reads keeps nothing
-pub keeps-read : {D : Type 0} {g : Ghosts D} {command : Command} {reply : Reply} (old new : SharedView D) → IsQuestion command → new.held ≡ old.held → new.session.console.is_open ≡ old.session.console.is_open
+pub keeps-read : {D : Type 0} {g : Ghosts D} {command : Command} {reply : Reply} (old new : SharedView D) → IsQuestion command → new.held ≡ old.held
+    → new.session.console.is_open ≡ old.session.console.is_open
     → new.session.console.written ≡ old.session.console.written → new.session.console.weight ≡ old.session.console.weight → KeepsOlds g command old reply new
 keeps-read {g = g} {command = command} {reply = reply} old new asks same opened written weight = record {
   held = by (kind_of command) asks;
   weighed = λ none weighed open_now.
-      subst (λ n. AreWeighed new.session.console.written n) (sym weight) (subst (λ (pairs : Pairs). AreWeighed pairs old.session.console.weight) (sym written) (weighed (sym opened ∙ open_now)));
+      subst (λ n. AreWeighed new.session.console.written n) (sym weight)
+      (subst (λ (pairs : Pairs). AreWeighed pairs old.session.console.weight) (sym written) (weighed (sym opened ∙ open_now)));
 }
   where
     by : (kind : Kind) → AreQuestions kind → KeepsKind g old reply new kind command
@@ -77,7 +81,8 @@ made-confirmed (commands.Index label key) reply tells = subst Confirms (sym tell
 made-confirmed (commands.Mutate reading mutation) reply tells = subst Confirms (sym tells.1) tt
 made-confirmed _ reply tells = absurd tells
 
-pub stopped-unconfirmed : {D : Type 0} {g : Ghosts D} (command : Command) (base : Session D g) (now : D) (why : Answer) → IsStopped command base now why → ¬ Confirms (reply_of why)
+pub stopped-unconfirmed : {D : Type 0} {g : Ghosts D} (command : Command) (base : Session D g) (now : D) (why : Answer) → IsStopped command base now why
+    → ¬ Confirms (reply_of why)
 stopped-unconfirmed command base now answers.Done stopped = absurd stopped
 stopped-unconfirmed command base now (answers.NodeMade id) stopped = absurd stopped
 stopped-unconfirmed command base now (answers.EdgeMade id) stopped = absurd stopped
@@ -103,7 +108,8 @@ module _ {D : Type 0} {g : Ghosts D} {command : Command} (change : IsChange comm
     keeps-dropped answer snaps own weight = record {
       held = keeps-kind g (shared_view old) (reply_of answer) (shared_view new) command change (inl (snaps ∙ only.snaps, inl opened));
       weighed = λ none weighed open_now.
-          subst (λ n. AreWeighed new.store.base.own.pairs n) (sym (weight ∙ only.weight)) (subst (λ (written : Pairs). AreWeighed written old.weight) (sym (own ∙ own-mid only)) (weighed opened));
+          subst (λ n. AreWeighed new.store.base.own.pairs n) (sym (weight ∙ only.weight))
+          (subst (λ (written : Pairs). AreWeighed written old.weight) (sym (own ∙ own-mid only)) (weighed opened));
     }
 
     pub keeps-finish : (count : ℕ) (result : Result Drafted Answer) (answer : Answer) → Drafts command old mid result → Finishes result count mid new answer
@@ -120,15 +126,20 @@ module _ {D : Type 0} {g : Ghosts D} {command : Command} (change : IsChange comm
     keeps-finish count (Err why) answer drafts (is, drops) = keeps-dropped answer drops.snaps drops.own drops.weight
 
   -- a change by itself
-  module _ {begun mid : Session D g} (old new : Session D g) (live : old.health ≡ healths.Live) (closed : old.store.base.in_transaction ≡ false) (idle : length old.store.base.own.pairs ≡ 0)
-      (same : SameBeneath old.store.base begun.store.base) (own : begun.store.base.own.pairs ≡ []) (draft : begun.store.draft.pairs ≡ []) (names : begun.names.names ≡ old.names.names) (health : begun.health ≡ old.health)
+  module _ {begun mid : Session D g} (old new : Session D g) (live : old.health ≡ healths.Live) (closed : old.store.base.in_transaction ≡ false)
+      (idle : length old.store.base.own.pairs ≡ 0)
+      (same : SameBeneath old.store.base begun.store.base) (own : begun.store.base.own.pairs ≡ []) (draft : begun.store.draft.pairs ≡ [])
+      (names : begun.names.names ≡ old.names.names) (health : begun.health ≡ old.health)
       (snaps : begun.snaps ≡ old.snaps) (only : OnlyDrafts begun mid) where
-    weighs-alone : (made : Drafted) → start_weight + made.weight ≤ most_weight → Drafts command begun mid (Ok made) → g.tells_reads → IsIndexed (committed old.store) old.store.base.shape
-        → old.names.names ≡ names_of (committed old.store) → LineWeighs old.store.base.shape.limit old.store.base.shape.threshold (graph_of (committed old.store)) command made.weight
+    weighs-alone : (made : Drafted) → start_weight + made.weight ≤ most_weight → Drafts command begun mid (Ok made) → g.tells_reads
+        → IsIndexed (committed old.store) old.store.base.shape
+        → old.names.names ≡ names_of (committed old.store) → LineWeighs old.store.base.shape.limit old.store.base.shape.threshold
+        (graph_of (committed old.store)) command made.weight
     weighs-alone made light drafts told store named =
         let is = drafted-begun old new live closed idle same own draft names health only in
         let has : HasStore begun = record {
-          store = subst (λ (shape : Shape). IsIndexed (drafted begun.store) shape) (sym same.shape) (subst (λ (records : Key → Rec). IsIndexed records old.store.base.shape) (sym is) store);
+          store = subst (λ (shape : Shape). IsIndexed (drafted begun.store) shape) (sym same.shape)
+              (subst (λ (records : Key → Rec). IsIndexed records old.store.base.shape) (sym is) store);
           names = names ∙ named ∙ ap names_of (sym is);
         } in
         let made_line = drafts.1 told has in
@@ -138,14 +149,16 @@ module _ {D : Type 0} {g : Ghosts D} {command : Command} (change : IsChange comm
         subst (λ (shape : Shape). LineWeighs shape.limit shape.threshold (graph_of (committed old.store)) command made.weight) same.shape
         (subst (λ (records : Key → Rec). LineWeighs begun.store.base.shape.limit begun.store.base.shape.threshold (graph_of records) command made.weight) is weighs)
 
-    weighed-alone : (made : Drafted) → start_weight + made.weight ≤ most_weight → Drafts command begun mid (Ok made) → AreWeighed (merged mid.store.base.own.pairs mid.store.draft.pairs) (start_weight + made.weight)
+    weighed-alone : (made : Drafted) → start_weight + made.weight ≤ most_weight → Drafts command begun mid (Ok made)
+        → AreWeighed (merged mid.store.base.own.pairs mid.store.draft.pairs) (start_weight + made.weight)
     weighed-alone made light drafts =
         subst (λ (written : Pairs). AreWeighed (merged written mid.store.draft.pairs) (start_weight + made.weight)) (sym (own-mid only ∙ own))
         (weighed-kept [] mid.store.draft.pairs start_weight made.weight (state_of begun.store) (state_of mid.store) weighed-start (λ key. ap (λ (pairs : Pairs). is_some (find_pair pairs key)) draft) (λ key. refl)
         (drafts.2 (omega (arith, light))))
 
     -- what it has written by itself
-    pub writes-alone : (made : Drafted) → start_weight + made.weight ≤ most_weight → Drafts command begun mid (Ok made) → WritesAlone g command (view old) (merged mid.store.base.own.pairs mid.store.draft.pairs)
+    pub writes-alone : (made : Drafted) → start_weight + made.weight ≤ most_weight → Drafts command begun mid (Ok made)
+        → WritesAlone g command (view old) (merged mid.store.base.own.pairs mid.store.draft.pairs)
     writes-alone made light drafts = record {
       more = made.weight;
       weighed = weighed-alone made light drafts;
@@ -153,7 +166,8 @@ module _ {D : Type 0} {g : Ghosts D} {command : Command} (change : IsChange comm
       weighs = λ told store named. weighs-alone made light drafts told store named;
     }
 
-    keeps-tried : (made : Drafted) (answer : Answer) → start_weight + made.weight ≤ most_weight → Drafts command begun mid (Ok made) → TriesCommit (drafted mid.store) (merged mid.store.base.own.pairs mid.store.draft.pairs) mid new made.answer answer
+    keeps-tried : (made : Drafted) (answer : Answer) → start_weight + made.weight ≤ most_weight → Drafts command begun mid (Ok made)
+        → TriesCommit (drafted mid.store) (merged mid.store.base.own.pairs mid.store.draft.pairs) mid new made.answer answer
         → KeepsOlds g command (shared_view old) (reply_of answer) (shared_view new)
     keeps-tried made answer light drafts tries = record {
       held = keeps-kind g (shared_view old) (reply_of answer) (shared_view new) command change (inr (
@@ -181,7 +195,8 @@ module _ {D : Type 0} {g : Ghosts D} {command : Command} (change : IsChange comm
         is_committed told (inl (is, commits)) confirms =
             commits.committed told
             ∙ tries.writes
-            ∙ ap (λ (records : Key → Rec). laid_over records (merged mid.store.base.own.pairs mid.store.draft.pairs)) (committed-mid old new live closed idle same own draft names health only)
+            ∙ ap (λ (records : Key → Rec). laid_over records (merged mid.store.base.own.pairs mid.store.draft.pairs))
+            (committed-mid old new live closed idle same own draft names health only)
         is_committed told (inr (is, failed)) confirms = absurd (subst (λ (a : Answer). Confirms (reply_of a)) is confirms)
 
         closes : EndsCommit (drafted mid.store) mid new made.answer answer → new.store.base.in_transaction ≡ false
@@ -189,7 +204,8 @@ module _ {D : Type 0} {g : Ghosts D} {command : Command} (change : IsChange comm
         closes (inr (is, inl drops)) = drops.closes.in_transaction
         closes (inr (is, inr doubts)) = doubts.closes.in_transaction
 
-    pub keeps-finish_alone : (count : ℕ) → count ≡ length old.names.names → (result : Result Drafted Answer) (answer : Answer) → Drafts command begun mid result → FinishesAlone result count mid new answer
+    pub keeps-finish_alone : (count : ℕ) → count ≡ length old.names.names → (result : Result Drafted Answer) (answer : Answer) → Drafts command begun mid result
+        → FinishesAlone result count mid new answer
         → KeepsOlds g command (shared_view old) (reply_of answer) (shared_view new)
     keeps-finish_alone count counts (Ok made) answer drafts (inl (light, tries)) = keeps-tried made answer light drafts tries
     keeps-finish_alone count counts (Ok made) answer drafts (inr (unkept, drops)) = record {
@@ -215,13 +231,17 @@ module _ {D : Type 0} {g : Ghosts D} {command : Command} (change : IsChange comm
       weighed = λ none weighed opened. absurd (true≢false (sym opened ∙ drops.closes.in_transaction));
     }
 
-module _ {D : Type 0} {g : Ghosts D} {command : Command} (change : IsChange command) {old : Session D g} (live : old.health ≡ healths.Live) {mid then : Session D g} (new : Session D g) (begun : Begun) where
+module _ {D : Type 0} {g : Ghosts D} {command : Command} (change : IsChange command) {old : Session D g} (live : old.health ≡ healths.Live)
+    {mid then : Session D g} (new : Session D g) (begun : Begun) where
   -- what is drafted keeps the old records
-  pub keeps-change : BeginsChange old mid begun → OnlyDrafts mid then → (drafted : Result Drafted Answer) → Drafts command mid then drafted → (answer : Answer) → EndsChange begun drafted then new answer
+  pub keeps-change : BeginsChange old mid begun → OnlyDrafts mid then → (drafted : Result Drafted Answer) → Drafts command mid then drafted → (answer : Answer)
+      → EndsChange begun drafted then new answer
       → KeepsOlds g command (shared_view old) (reply_of answer) (shared_view new)
   keeps-change (counts, inl (within, opened, same)) only drafted drafts answer (inl (is, ends)) =
-      keeps-finish change new opened (subst (λ (s : Session D g). OnlyDrafts s then) same only) begun.names drafted answer (subst (λ (s : Session D g). Drafts command s then drafted) same drafts) ends
+      keeps-finish change new opened (subst (λ (s : Session D g). OnlyDrafts s then) same only) begun.names drafted answer
+      (subst (λ (s : Session D g). Drafts command s then drafted) same drafts) ends
   keeps-change (counts, inl (within, opened, same)) only drafted drafts answer (inr (is, ends)) = absurd (true≢false (sym is ∙ within))
   keeps-change (counts, inr (alone, begins)) only drafted drafts answer (inl (is, ends)) = absurd (true≢false (sym alone ∙ is))
   keeps-change (counts, inr (alone, begins)) only drafted drafts answer (inr (is, ends)) =
-      keeps-finish_alone change old new live begins.closed begins.idle begins.same begins.own begins.draft begins.names begins.health begins.snaps only begun.names counts drafted answer drafts ends
+      keeps-finish_alone change old new live begins.closed begins.idle begins.same begins.own begins.draft begins.names begins.health begins.snaps only
+      begun.names counts drafted answer drafts ends

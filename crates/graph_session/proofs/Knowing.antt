@@ -9,7 +9,9 @@ use Rattle.recovery.specs.Finding.{IsCareful}
 use Rattle.txn_core.specs.Kept.{IsOnDisk}
 use Rattle.txn_core.specs.Opening.{StaysAsItWas}
 use Rattle.graph_session.specs.Console.{SessionView, TellsAll}
-use Rattle.graph_session.specs.Effects.{IsStored, Begins, Commits, CommitsAlone, CommitsFrom, Drops, FailsDrafted, FailsRead, IsAloneInDoubt, IsBrought, IsFound, IsLeftOpen, IsLost, IsStopped, Keeps, KeepsBeneath, Stays}
+use Rattle.graph_session.specs.Effects.{IsStored, Begins, Commits, CommitsAlone, CommitsFrom, Drops, FailsDrafted}
+use Rattle.graph_session.specs.Effects.{FailsRead, IsAloneInDoubt, IsBrought, IsFound, IsLeftOpen, IsLost, IsStopped}
+use Rattle.graph_session.specs.Effects.{Keeps, KeepsBeneath, Stays}
 use Rattle.graph_session.specs.Known.{TellsIf, as_known}
 use Rattle.graph_session.specs.Opening.{IsUnopened, LeavesByOpening, LeavesRefused}
 use Rattle.txn_core.specs.declared.config.Config.{Config}
@@ -26,7 +28,8 @@ told_of known g told = told_by known g.tells_reads told
 pub told_all : (known : Bool) {D : Type 0} (g : Ghosts D) → TellsAll (as_known known g) → TellsAll g
 told_all known g told = (told_by known g.tells_reads told.0, told.1)
 
-pub leaves-known : (known : Bool) {D : Type 0} (g : Ghosts D) (config : Config) (old new : D) → LeavesByOpening g config old new → LeavesByOpening (as_known known g) config old new
+pub leaves-known : (known : Bool) {D : Type 0} (g : Ghosts D) (config : Config) (old new : D) → LeavesByOpening g config old new
+    → LeavesByOpening (as_known known g) config old new
 leaves-known known g config old new x told recoverable = x (told_all known g told) recoverable
 
 module _ (known : Bool) {D : Type 0} {g : Ghosts D} where
@@ -88,7 +91,8 @@ module _ (known : Bool) {D : Type 0} {g : Ghosts D} where
   fails_drafted-known x = record { ends = x.ends; health = x.health; live = x.live; brought = x.brought; disk = reads-known x.disk }
 
   pub careful-known : {old new : D} → IsCareful g old new → IsCareful (as_known known g) old new
-  careful-known {old = old} {new = new} x told = ⊎_elim (λ (reads : OnlyReads g old new). inl (reads-known reads)) (λ store. inr store) (x (told_of known g told))
+  careful-known {old = old} {new = new} x told = ⊎_elim (λ (reads : OnlyReads g old new). inl (reads-known reads)) (λ store. inr store)
+      (x (told_of known g told))
 
   pub refused-known : (old new : D) → LeavesRefused g old new → LeavesRefused (as_known known g) old new
   refused-known old new (inl reads) = inl (reads-known reads)

@@ -26,7 +26,8 @@ known-one names a graph (zero, low, is) one = begin-of names a graph is one
 known-one names a graph (suc k, low, is) one = absurd (omega (arith, low))
 
 -- two are
-pub known-two : (names : List (List ℕ)) (a b graph : Graph) → Contains (a ∷ b ∷ []) graph → BeginWith names a.names → BeginWith names b.names → BeginWith names graph.names
+pub known-two : (names : List (List ℕ)) (a b graph : Graph) → Contains (a ∷ b ∷ []) graph → BeginWith names a.names → BeginWith names b.names
+    → BeginWith names graph.names
 known-two names a b graph (zero, low, is) one other = begin-of names a graph is one
 known-two names a b graph (suc zero, low, is) one other = begin-of names b graph is other
 known-two names a b graph (suc (suc k), low, is) one other = absurd (omega (arith, low))

@@ -36,24 +36,29 @@ use Rattle.graph_session.proofs.Weights.{Weighs-only}
 
 -- ---- single changes
 
-change-changes : (limit : ℕ) (old : Graph) (command : Command) (reply : Reply) (new : Graph) → Changes limit old command reply new → LineChanges limit old command reply new
+change-changes : (limit : ℕ) (old : Graph) (command : Command) (reply : Reply) (new : Graph) → Changes limit old command reply new
+    → LineChanges limit old command reply new
 change-changes limit old (commands.Mutate reading mutation) reply new changes = absurd changes
 change-changes limit old command reply new changes = changes
 
-change-weighs : (limit threshold : ℕ) (graph : Graph) (command : Command) (weight : ℕ) → Weighs threshold graph command weight → LineWeighs limit threshold graph command weight
+change-weighs : (limit threshold : ℕ) (graph : Graph) (command : Command) (weight : ℕ) → Weighs threshold graph command weight
+    → LineWeighs limit threshold graph command weight
 change-weighs limit threshold graph (commands.Mutate reading mutation) weight weighs = absurd weighs
 change-weighs limit threshold graph command weight weighs = weighs
 
-change-only : (limit threshold : ℕ) (graph : Graph) (command : Command) (weight : ℕ) → Weighs threshold graph command weight → (other : ℕ) → LineWeighs limit threshold graph command other → other ≡ weight
+change-only : (limit threshold : ℕ) (graph : Graph) (command : Command) (weight : ℕ) → Weighs threshold graph command weight → (other : ℕ)
+    → LineWeighs limit threshold graph command other → other ≡ weight
 change-only limit threshold graph (commands.Mutate reading mutation) weight weighs other also = absurd weighs
 change-only limit threshold graph command weight weighs other also = Weighs-only threshold graph command other weight also weighs
 
-change-unrefused : (limit threshold : ℕ) (graph : Graph) (command : Command) (weight : ℕ) → Weighs threshold graph command weight → (why : Refusal) → ¬ first_refused limit graph command why
+change-unrefused : (limit threshold : ℕ) (graph : Graph) (command : Command) (weight : ℕ) → Weighs threshold graph command weight → (why : Refusal)
+    → ¬ first_refused limit graph command why
 change-unrefused limit threshold graph (commands.Mutate reading mutation) weight weighs why refused = absurd weighs
 change-unrefused limit threshold graph command weight weighs why refused = refused
 
 -- a single change that fits in a transaction is told whole
-pub change-made : (command : Command) (reply : Reply) (weight : ℕ) (old new : Space) (names : List (List ℕ)) → MakesChange command reply weight old new names → weight + start_weight ≤ most_weight → MakesLine command reply weight old new names
+pub change-made : (command : Command) (reply : Reply) (weight : ℕ) (old new : Space) (names : List (List ℕ)) → MakesChange command reply weight old new names
+    → weight + start_weight ≤ most_weight → MakesLine command reply weight old new names
 change-made command reply weight old new names made light = record {
   store = made.store;
   changes = change-changes old.shape.limit (graph_in old) command reply (graph_in new) made.changes;
@@ -61,16 +66,20 @@ change-made command reply weight old new names made light = record {
   weighs = change-weighs old.shape.limit old.shape.threshold (graph_in old) command weight made.weighs;
   only = change-only old.shape.limit old.shape.threshold (graph_in old) command weight made.weighs;
   told = sym (min-eq_left (omega (arith, light)));
-  free = change_free old.shape.limit (graph_in old) command (change-unrefused old.shape.limit old.shape.threshold (graph_in old) command weight made.weighs) made.free;
+  free = change_free old.shape.limit (graph_in old) command (change-unrefused old.shape.limit old.shape.threshold (graph_in old) command weight made.weighs)
+      made.free;
 }
 
 -- so is its draft
-change-drafts : {tells : Type 0} (command : Command) (reply : Reply) {weight : ℕ} {old new : Space} {before after : List (List ℕ)} → TellsMade command reply → (tells → IsStore old before → MakesChange command reply weight old new after) → weight + start_weight ≤ most_weight → WritesAtMost weight old new
+change-drafts : {tells : Type 0} (command : Command) (reply : Reply) {weight : ℕ} {old new : Space} {before after : List (List ℕ)} → TellsMade command reply
+    → (tells → IsStore old before → MakesChange command reply weight old new after) → weight + start_weight ≤ most_weight → WritesAtMost weight old new
     → TellsMade command reply × (tells → IsStore old before → MakesLine command reply weight old new after) × (weight < most_told → WritesAtMost weight old new)
-change-drafts command reply {weight = weight} {old = old} {new = new} {after = after} tells made light writes = (tells, λ told has. change-made command reply weight old new after (made told has) light, λ few. writes)
+change-drafts command reply {weight = weight} {old = old} {new = new} {after = after} tells made light writes =
+    (tells, λ told has. change-made command reply weight old new after (made told has) light, λ few. writes)
 
 -- one that is refused is a line that is
-pub change-refused : (limit : ℕ) (graph : Graph) (command : Command) (fault : ChangeFault) → IsRefusal limit graph command fault → IsRefusedBy line_reasons limit graph command fault
+pub change-refused : (limit : ℕ) (graph : Graph) (command : Command) (fault : ChangeFault) → IsRefusal limit graph command fault
+    → IsRefusedBy line_reasons limit graph command fault
 change-refused limit graph command (faults.NoNode id) why = change_first limit graph command (refusals.NoNode id) why
 change-refused limit graph command (faults.NoEdge id) why = change_first limit graph command (refusals.NoEdge id) why
 change-refused limit graph command (faults.HasRelationships id degree) why = change_first limit graph command (refusals.HasRelationships id) why
@@ -90,8 +99,10 @@ module _ (old mid : Space) (same : SameButReads old mid) where
   pub store-read : {names : List (List ℕ)} → IsStore old names → IsStore mid names
   store-read {names = names} has = subst (λ (space : Space). IsStore space names) (sym same) (record { store = has.store; names = has.names })
 
-  module _ (reading : Option Query) (mutation : Mutation) (there : HasIndexOf (graph_in old) reading) (items : List Item) (read : items ≡ read_items (graph_in old) reading) where
-    pub mutation-made : (shown : List Item) (weight : ℕ) (new : Space) (names : List (List ℕ)) → MakesMutation mutation items shown weight mid new names → MakesLine (commands.Mutate reading mutation) (mutated_reply shown) weight old new names
+  module _ (reading : Option Query) (mutation : Mutation) (there : HasIndexOf (graph_in old) reading) (items : List Item)
+      (read : items ≡ read_items (graph_in old) reading) where
+    pub mutation-made : (shown : List Item) (weight : ℕ) (new : Space) (names : List (List ℕ)) → MakesMutation mutation items shown weight mid new names
+        → MakesLine (commands.Mutate reading mutation) (mutated_reply shown) weight old new names
     mutation-made shown weight new names made =
         let asked =
         subst (λ (found : List Item). MakesMutation mutation found shown weight (record old { reads = mid.reads }) new names) read
@@ -106,16 +117,19 @@ module _ (old mid : Space) (same : SameButReads old mid) where
           free = mutation_free old.shape.limit (graph_in old) reading mutation there asked.2.free;
         }
 
-    pub mutation-refused : (fault : ChangeFault) → IsListRefusal mid.shape.limit (graph_in mid) (changes_of mutation items) fault → IsRefusedBy line_reasons old.shape.limit (graph_in old) (commands.Mutate reading mutation) fault
+    pub mutation-refused : (fault : ChangeFault) → IsListRefusal mid.shape.limit (graph_in mid) (changes_of mutation items) fault
+        → IsRefusedBy line_reasons old.shape.limit (graph_in old) (commands.Mutate reading mutation) fault
     mutation-refused fault why =
         by fault
         (subst (λ (found : List Item). IsListRefusal old.shape.limit (graph_in old) (changes_of mutation found) fault) read
         (subst (λ (space : Space). IsListRefusal space.shape.limit (graph_in space) (changes_of mutation items) fault) same why))
       where
-        first : (why : Refusal) → RefusesEach old.shape.limit (graph_in old) (asked_changes (graph_in old) reading mutation) why → FirstReason line_reasons old.shape.limit (graph_in old) (commands.Mutate reading mutation) why
+        first : (why : Refusal) → RefusesEach old.shape.limit (graph_in old) (asked_changes (graph_in old) reading mutation) why
+            → FirstReason line_reasons old.shape.limit (graph_in old) (commands.Mutate reading mutation) why
         first why = mutation_first old.shape.limit (graph_in old) reading mutation why there
 
-        by : (fault : ChangeFault) → IsListRefusal old.shape.limit (graph_in old) (asked_changes (graph_in old) reading mutation) fault → IsRefusedBy line_reasons old.shape.limit (graph_in old) (commands.Mutate reading mutation) fault
+        by : (fault : ChangeFault) → IsListRefusal old.shape.limit (graph_in old) (asked_changes (graph_in old) reading mutation) fault
+            → IsRefusedBy line_reasons old.shape.limit (graph_in old) (commands.Mutate reading mutation) fault
         by (faults.NoNode id) why = first (refusals.NoNode id) why
         by (faults.NoEdge id) why = first (refusals.NoEdge id) why
         by (faults.HasRelationships id degree) why = first (refusals.HasRelationships id) why
@@ -150,17 +164,20 @@ module _ {D : Type 0} {g : Ghosts D} {old mid new : Session D g} where
     later = let early = first.later in let late = more.later in omega (arith, early, late);
   }
 
-module _ {D : Type 0} {g : Ghosts D} (old mid : Session D g) (same : SameButReads (store.state_of old.store) (store.state_of mid.store)) (names : mid.names.names ≡ old.names.names) where
+module _ {D : Type 0} {g : Ghosts D} (old mid : Session D g) (same : SameButReads (store.state_of old.store) (store.state_of mid.store))
+    (names : mid.names.names ≡ old.names.names) where
   -- the store that was read
   pub has-read : HasStore old → HasStore mid
-  has-read has = subst (λ (known : List (List ℕ)). IsStore (store.state_of mid.store) known) (sym names) (store-read (store.state_of old.store) (store.state_of mid.store) same has)
+  has-read has = subst (λ (known : List (List ℕ)). IsStore (store.state_of mid.store) known) (sym names)
+      (store-read (store.state_of old.store) (store.state_of mid.store) same has)
 
 -- ---- why no change was drafted
 
 module _ {D : Type 0} {g : Ghosts D} (command : Command) (old : Session D g) (now : D) where
   -- by the fault of a call that changes
   pub change-stopped : (fault : ChangeFault) → (g.tells_reads → HasStore old → IsRefusedBy line_reasons (store.state_of old.store).shape.limit (graph_in (store.state_of old.store)) command fault)
-      → (fault ≡ faults.Disk → Rose (g.faults old.store.base.disk.now) (g.faults now)) → (answer : Answer) → answer ≡ answer_for fault → IsStopped command old now answer
+      → (fault ≡ faults.Disk → Rose (g.faults old.store.base.disk.now) (g.faults now)) → (answer : Answer) → answer ≡ answer_for fault
+      → IsStopped command old now answer
   change-stopped fault why rose answer is = subst (λ (a : Answer). IsStopped command old now a) (sym is) (by fault why rose)
     where
       by : (fault : ChangeFault) → (g.tells_reads → HasStore old → IsRefusedBy line_reasons (store.state_of old.store).shape.limit (graph_in (store.state_of old.store)) command fault)
@@ -180,17 +197,21 @@ module _ {D : Type 0} {g : Ghosts D} (command : Command) (old : Session D g) (no
 
   -- by that of one that makes a single change
   fault-stopped : (fault : ChangeFault) → (g.tells_reads → HasStore old → IsRefusal (store.state_of old.store).shape.limit (graph_in (store.state_of old.store)) command fault)
-      → (fault ≡ faults.Disk → Rose (g.faults old.store.base.disk.now) (g.faults now)) → (answer : Answer) → answer ≡ answer_for fault → IsStopped command old now answer
+      → (fault ≡ faults.Disk → Rose (g.faults old.store.base.disk.now) (g.faults now)) → (answer : Answer) → answer ≡ answer_for fault
+      → IsStopped command old now answer
   fault-stopped fault why rose answer is = change-stopped fault (λ told has. change-refused (store.state_of old.store).shape.limit (graph_in (store.state_of old.store)) command fault (why told has)) rose answer is
 
 -- ---- a call that makes a single change
 
-module _ {D : Type 0} {g : Ghosts D} {T : Type 0} (answer : T → Answer) (weight : T → ℕ) (command : Command) (tells : (made : T) → TellsMade command (reply_of (answer made))) {old new : Session D g} (only : OnlyDrafts old new) where
+module _ {D : Type 0} {g : Ghosts D} {T : Type 0} (answer : T → Answer) (weight : T → ℕ) (command : Command)
+    (tells : (made : T) → TellsMade command (reply_of (answer made))) {old new : Session D g} (only : OnlyDrafts old new) where
   -- what it says, as a draft
   pub drafts-call : (outcome : Result T ChangeFault)
       → (g.tells_reads → IfOk outcome (λ made. HasStore old → MakesChange command (reply_of (answer made)) (weight made) (store.state_of old.store) (store.state_of new.store) new.names.names))
-      → IfOk outcome (λ made. weight made + start_weight ≤ most_weight) → IfOk outcome (λ made. WritesAtMost (weight made) (store.state_of old.store) (store.state_of new.store))
+      → IfOk outcome (λ made. weight made + start_weight ≤ most_weight)
+      → IfOk outcome (λ made. WritesAtMost (weight made) (store.state_of old.store) (store.state_of new.store))
       → (g.tells_reads → HasStore old → IfErr outcome (IsRefusal (store.state_of old.store).shape.limit (graph_in (store.state_of old.store)) command))
       → HasChangeCause (g.faults old.store.base.disk.now) (g.faults new.store.base.disk.now) outcome → Drafts command old new (drafted_by answer weight outcome)
   drafts-call (Ok made) makes light writes refused cause = change-drafts command (reply_of (answer made)) (tells made) (λ told has. makes told has) light writes
-  drafts-call (Err fault) makes light writes refused cause = fault-stopped command old new.store.base.disk.now fault (λ told has. refused told has) (λ is. cause.disk (ap Err is)) (answer_for fault) refl
+  drafts-call (Err fault) makes light writes refused cause = fault-stopped command old new.store.base.disk.now fault (λ told has. refused told has)
+      (λ is. cause.disk (ap Err is)) (answer_for fault) refl

@@ -76,7 +76,8 @@ module _ {D : Type 0} (g : Ghosts D) (line : InputLine) (old : SessionView D) (r
     bound-moves commands.Commit spelled (inl refused) = moves-none refused.2
     bound-moves commands.Commit spelled (inr (opened, leaves, idle, inl (told, commits))) =
         moves-acknowledged commits.ends commits.health (own, subst Confirms (sym told) tt, inl spelled)
-    bound-moves commands.Commit spelled (inr (opened, leaves, idle, inr (fault, inl fails))) = moves-failed fails.ends fails.health (faulted-unconfirmed fault.0)
+    bound-moves commands.Commit spelled (inr (opened, leaves, idle, inr (fault, inl fails))) =
+        moves-failed fails.ends fails.health (faulted-unconfirmed fault.0)
     bound-moves commands.Commit spelled (inr (opened, leaves, idle, inr (fault, inr left))) = moves-failed left.ends left.health (faulted-unconfirmed fault.0)
     bound-moves commands.Rollback spelled (inl refused) = moves-none refused.2
     bound-moves commands.Rollback spelled (inr (told, opened, drops)) =
@@ -92,7 +93,8 @@ module _ {D : Type 0} (g : Ghosts D) (line : InputLine) (old : SessionView D) (r
     keep-moves commands.Reopen spelled (inr (closed, leaves, inl (told, found))) =
         record { shape = found.ends.shape; live = λ confirms live. found.health; leaves = inr (inr (inl (spelled, subst Confirms (sym told) tt))) }
     keep-moves commands.Reopen spelled (inr (closed, leaves, inr (inl (fault, lost)))) = moves-failed lost.ends lost.health (faulted-unconfirmed fault.0)
-    keep-moves commands.Reopen spelled (inr (closed, leaves, inr (inr (damage, is, lost, blames)))) = moves-failed lost.ends lost.health (faulted-unconfirmed is)
+    keep-moves commands.Reopen spelled (inr (closed, leaves, inr (inr (damage, is, lost, blames)))) =
+        moves-failed lost.ends lost.health (faulted-unconfirmed is)
     keep-moves _ spelled may = absurd may
 
     change-moves : (command : Command) → SpellsLine line command → IsChange command → MayChange g old reply new command → Moves g line old reply new
@@ -104,11 +106,15 @@ module _ {D : Type 0} (g : Ghosts D) (line : InputLine) (old : SessionView D) (r
     change-moves command spelled change (inr (inr (inl (lacks, stays)))) = moves-stays stays
     change-moves command spelled change (inr (inr (inr (inl (damage, stays))))) = moves-stays stays
     change-moves command spelled change (inr (inr (inr (inr (fault, inl (opened, stays)))))) = moves-stays stays
-    change-moves command spelled change (inr (inr (inr (inr (fault, inr (closed, inl fails)))))) = moves-failed fails.ends fails.health (faulted-unconfirmed fault.0)
-    change-moves command spelled change (inr (inr (inr (inr (fault, inr (closed, inr (inl fails))))))) = moves-failed fails.ends fails.health (faulted-unconfirmed fault.0)
-    change-moves command spelled change (inr (inr (inr (inr (fault, inr (closed, inr (inr (now, from, doubt)))))))) = moves-failed doubt.ends doubt.health (faulted-unconfirmed fault.0)
+    change-moves command spelled change (inr (inr (inr (inr (fault, inr (closed, inl fails)))))) =
+        moves-failed fails.ends fails.health (faulted-unconfirmed fault.0)
+    change-moves command spelled change (inr (inr (inr (inr (fault, inr (closed, inr (inl fails))))))) =
+        moves-failed fails.ends fails.health (faulted-unconfirmed fault.0)
+    change-moves command spelled change (inr (inr (inr (inr (fault, inr (closed, inr (inr (now, from, doubt)))))))) =
+        moves-failed doubt.ends doubt.health (faulted-unconfirmed fault.0)
 
-    answer-moves : (kind : Kind) (command : Command) → kind_of command ≡ kind → SpellsLine line command → MayAnswerKind g old reply new kind command → Moves g line old reply new
+    answer-moves : (kind : Kind) (command : Command) → kind_of command ≡ kind → SpellsLine line command → MayAnswerKind g old reply new kind command
+        → Moves g line old reply new
     answer-moves Blanks command is spelled may = absurd may
     answer-moves Ending command is spelled may = absurd may
     answer-moves Bound command is spelled may = bound-moves command spelled may
@@ -150,9 +156,11 @@ module _ {D : Type 0} (g : Ghosts D) (line : InputLine) (old : SharedView D) (re
   turned_away-unconfirmed (inr (inl (is, may_lack))) confirms = absurd (subst Confirms is confirms)
   turned_away-unconfirmed (inr (inr (is, failed, loud, other))) confirms = absurd (subst Confirms is confirms)
 
-  served-live : (command : Command) → SpellsLine line command → IsServed old.session.console command → Acknowledges old.session.console.is_open line reply → old.session.console.health ≡ healths.Live
+  served-live : (command : Command) → SpellsLine line command → IsServed old.session.console command → Acknowledges old.session.console.is_open line reply
+      → old.session.console.health ≡ healths.Live
   served-live command spelled (inl live) acknowledges = live
-  served-live command spelled (inr reopens) (own, confirms, inl commits) = let clash : commands.Commit ≡ commands.Reopen = line_agrees line command commands.Commit spelled commits ∙ reopens in cc
+  served-live command spelled (inr reopens) (own, confirms, inl commits) = let clash : commands.Commit ≡ commands.Reopen =
+      line_agrees line command commands.Commit spelled commits ∙ reopens in cc
   served-live command spelled (inr reopens) (own, confirms, inr (closed, other, change, spells)) =
       absurd (subst IsChange (line_agrees line command other spelled spells ∙ reopens) change)
 
@@ -162,5 +170,6 @@ module _ {D : Type 0} (g : Ghosts D) (line : InputLine) (old : SharedView D) (re
   writer-live (inr (apart, inr (inl away), ends)) acknowledges = absurd (turned_away-unconfirmed away.0 acknowledges.1)
   writer-live (inr (apart, inr (inr (command, spelled, served, may)), ends)) acknowledges = served-live command spelled served acknowledges
 
-  pub acknowledges-live : MayStepAs g (session_in line) line old reply new → Acknowledges old.session.console.is_open line reply → old.session.console.health ≡ healths.Live
+  pub acknowledges-live : MayStepAs g (session_in line) line old reply new → Acknowledges old.session.console.is_open line reply
+      → old.session.console.health ≡ healths.Live
   acknowledges-live may acknowledges = writer-live (subst (λ (session : ℕ). MayStepAs g session line old reply new) acknowledges.0 may) acknowledges

@@ -40,9 +40,11 @@ module _ {K : Type 0} {sink : SinkGhosts K} (mark : List ℕ) where
     later = omega arith;
   }
 
-module _ {K : Type 0} {sink : SinkGhosts K} {mark : List ℕ} {before after : K} {held : MarkedLines} {lines : List (List ℕ)} (has : HasLines sink mark before after held lines) where
+module _ {K : Type 0} {sink : SinkGhosts K} {mark : List ℕ} {before after : K} {held : MarkedLines} {lines : List (List ℕ)}
+    (has : HasLines sink mark before after held lines) where
   -- what is held of these lines, and one more
-  held-line : (given line : List ℕ) → given ++ held.bytes ≡ bytes_of mark lines → given ++ (held.bytes ++ (held.mark ++ text_line line)) ≡ bytes_of mark (lines ++ line ∷ [])
+  held-line : (given line : List ℕ) → given ++ held.bytes ≡ bytes_of mark lines
+      → given ++ (held.bytes ++ (held.mark ++ text_line line)) ≡ bytes_of mark (lines ++ line ∷ [])
   held-line given line is =
       sym (append_assoc given held.bytes (held.mark ++ text_line line))
       ∙ ap (λ (xs : List ℕ). xs ++ (held.mark ++ text_line line)) is
@@ -50,7 +52,8 @@ module _ {K : Type 0} {sink : SinkGhosts K} {mark : List ℕ} {before after : K}
       ∙ sym (bytes_of-more mark lines line)
 
   -- one more was gathered
-  pub lines-add : (line : List ℕ) (new : MarkedLines) (then : K) → AddsLine sink (text_line line) held new after then Go → HasLines sink mark before then new (lines ++ line ∷ [])
+  pub lines-add : (line : List ℕ) (new : MarkedLines) (then : K) → AddsLine sink (text_line line) held new after then Go
+      → HasLines sink mark before then new (lines ++ line ∷ [])
   lines-add line new then adds = record {
     given = λ told.
         let had = has.given told in
@@ -64,7 +67,8 @@ module _ {K : Type 0} {sink : SinkGhosts K} {mark : List ℕ} {before after : K}
   }
 
   -- a last text was given with what was held
-  pub lines-last : (text : List ℕ) (then : K) (turn : Turn) → Gives sink (held.bytes ++ (held.mark ++ text)) after then turn → Gives sink (bytes_of mark lines ++ (mark ++ text)) before then turn
+  pub lines-last : (text : List ℕ) (then : K) (turn : Turn) → Gives sink (held.bytes ++ (held.mark ++ text)) after then turn
+      → Gives sink (bytes_of mark lines ++ (mark ++ text)) before then turn
   lines-last text then turn gives = record {
     delivers = λ told.
         let had = has.given told in
@@ -79,13 +83,15 @@ module _ {K : Type 0} {sink : SinkGhosts K} {mark : List ℕ} {before after : K}
   }
 
   -- the sink failed at one more, whatever was to come after it
-  pub lines-stop : (line : List ℕ) (new : MarkedLines) (then : K) (turn : Turn) → AddsLine sink (text_line line) held new after then turn → turn ≢ Go → (more : List ℕ) → Gives sink (bytes_of mark (lines ++ line ∷ []) ++ more) before then turn
+  pub lines-stop : (line : List ℕ) (new : MarkedLines) (then : K) (turn : Turn) → AddsLine sink (text_line line) held new after then turn → turn ≢ Go
+      → (more : List ℕ) → Gives sink (bytes_of mark (lines ++ line ∷ []) ++ more) before then turn
   lines-stop line new then Go adds stops more = absurd (stops refl)
   lines-stop line new then Quit adds stops more = absurd (adds.adds.runs refl)
   lines-stop line new then SinkFault adds stops more = record {
     delivers = λ told.
         let had = has.given told in
-        let taken = takes-after (sink.taken before) (sink.taken after) (sink.taken then) had.0 (held.bytes ++ (held.mark ++ text_line line)) had.1 (adds.adds.gathers told) in
+        let taken = takes-after (sink.taken before) (sink.taken after) (sink.taken then) had.0 (held.bytes ++ (held.mark ++ text_line line)) had.1
+        (adds.adds.gathers told) in
         takes-more (sink.taken before) (sink.taken then) (bytes_of mark (lines ++ line ∷ [])) more
         (subst (λ (bytes : List ℕ). TakesFront (sink.taken before) (sink.taken then) bytes) (held-line had.0 line had.2) taken);
     goes = λ e. cc;
@@ -94,7 +100,8 @@ module _ {K : Type 0} {sink : SinkGhosts K} {mark : List ℕ} {before after : K}
   }
 
   -- the sink failed in the lines of an answer
-  pub lines-stop_in : (all : List (List ℕ)) (last : List ℕ) (line : List ℕ) → AreFirst (lines ++ line ∷ []) all → (new : MarkedLines) (then : K) (turn : Turn) → AddsLine sink (text_line line) held new after then turn → turn ≢ Go
+  pub lines-stop_in : (all : List (List ℕ)) (last : List ℕ) (line : List ℕ) → AreFirst (lines ++ line ∷ []) all → (new : MarkedLines) (then : K) (turn : Turn)
+      → AddsLine sink (text_line line) held new after then turn → turn ≢ Go
       → Gives sink (marked_text mark (Told all last)) before then turn
   lines-stop_in all last line first new then turn adds stops =
       subst (λ (text : List ℕ). Gives sink text before then turn)

@@ -34,7 +34,8 @@ use Rattle.graph_session.proofs.Conditions.{closed-refused, open-refused}
 use Rattle.graph_session.proofs.Knowing.{begins-known, brought-known, commits-known, drops-known, fails_read-known, left_open-known, stopped-known, told_all}
 use Rattle.graph_session.proofs.States.{is_open, not_failed, not_open}
 use Rattle.graph_session.proofs.Storage.{settles-checkpoint, settles-checkpoint_fault}
-use Rattle.graph_session.proofs.Transactions.{commit-open, rollback-open, settles-begin, settles-commit, settles-commit_fault, settles-commit_read_fault, settles-rollback}
+use Rattle.graph_session.proofs.Transactions.{commit-open, rollback-open, settles-begin, settles-commit}
+use Rattle.graph_session.proofs.Transactions.{settles-commit_fault, settles-commit_read_fault, settles-rollback}
 
 -- a session's view, from its parts
 abbrev pub seen_as : {D : Type 0} {g : Ghosts D} → Store D g → Health → ℕ → List (List ℕ) → SessionView D
@@ -58,7 +59,8 @@ module _ {D : Type 0} {g : Ghosts D} where
   stored-one : (disk : D) (space : Key → Rec) → IsOnDisk g disk (λ left. Redoes left space) → IsStored g disk (λ left. Redoes left space)
   stored-one disk space stored = record { read = stored.read; images = λ told image left. stored.images told.0 told.1 image left }
 
-  stored-either : (disk : D) (a b : Key → Rec) → IsOnDisk g disk (λ left. Redoes left a ⊎ Redoes left b) → IsStored g disk (λ left. Redoes left a ⊎ Redoes left b)
+  stored-either : (disk : D) (a b : Key → Rec) → IsOnDisk g disk (λ left. Redoes left a ⊎ Redoes left b)
+      → IsStored g disk (λ left. Redoes left a ⊎ Redoes left b)
   stored-either disk a b stored = record { read = stored.read; images = λ told image left. stored.images told.0 told.1 image left }
 
   -- a line that is refused at once, for a transaction that is open or none
@@ -66,7 +68,8 @@ module _ {D : Type 0} {g : Ghosts D} where
     pub refused-commit : old.console.is_open ≡ false → SettlesCommand g commands.Commit old old (Refused refusals.NoTransaction)
     refused-commit closed = record {
       settles = λ known line state only served at.
-          settles-refused_at_once {g = as_known known g} only_now at refusals.NoTransaction (λ told. closed-refused state only (inl (not_failed at live)) (inl refl) commit-open (not_open at closed));
+          settles-refused_at_once {g = as_known known g} only_now at refusals.NoTransaction
+          (λ told. closed-refused state only (inl (not_failed at live)) (inl refl) commit-open (not_open at closed));
       may = λ none. inl (refl, closed, refl);
       onward = record { disk_later = omega arith };
     }
@@ -74,30 +77,36 @@ module _ {D : Type 0} {g : Ghosts D} where
     pub refused-rollback : old.console.is_open ≡ false → SettlesCommand g commands.Rollback old old (Refused refusals.NoTransaction)
     refused-rollback closed = record {
       settles = λ known line state only served at.
-          settles-refused_at_once {g = as_known known g} only_now at refusals.NoTransaction (λ told. closed-refused state only (inl (not_failed at live)) (inr refl) rollback-open (not_open at closed));
+          settles-refused_at_once {g = as_known known g} only_now at refusals.NoTransaction
+          (λ told. closed-refused state only (inl (not_failed at live)) (inr refl) rollback-open (not_open at closed));
       may = λ none. inl (refl, closed, refl);
       onward = record { disk_later = omega arith };
     }
 
-  pub refused-begin : (only_now : OnlyNow g) (old : SessionView D) → old.console.health ≡ healths.Live → old.console.is_open ≡ true → SettlesCommand g commands.Begin old old (Refused refusals.TransactionOpen)
+  pub refused-begin : (only_now : OnlyNow g) (old : SessionView D) → old.console.health ≡ healths.Live → old.console.is_open ≡ true
+      → SettlesCommand g commands.Begin old old (Refused refusals.TransactionOpen)
   refused-begin only_now old live opened = record {
     settles = λ known line state only served at.
-        settles-refused_at_once {g = as_known known g} only_now at refusals.TransactionOpen (λ told. open-refused state only (inl (not_failed at live)) (inl refl) (is_open at opened));
+        settles-refused_at_once {g = as_known known g} only_now at refusals.TransactionOpen
+        (λ told. open-refused state only (inl (not_failed at live)) (inl refl) (is_open at opened));
     may = λ none. inl (refl, opened, refl);
     onward = record { disk_later = omega arith };
   }
 
-  pub refused-reopen : (only_now : OnlyNow g) (old : SessionView D) → old.console.is_open ≡ true → SettlesCommand g commands.Reopen old old (Refused refusals.TransactionOpen)
+  pub refused-reopen : (only_now : OnlyNow g) (old : SessionView D) → old.console.is_open ≡ true
+      → SettlesCommand g commands.Reopen old old (Refused refusals.TransactionOpen)
   refused-reopen only_now old opened = record {
     settles = λ known line state only served at.
-        settles-refused_at_once {g = as_known known g} only_now at refusals.TransactionOpen (λ told. open-refused state only (inr refl) (inr (inr refl)) (is_open at opened));
+        settles-refused_at_once {g = as_known known g} only_now at refusals.TransactionOpen
+        (λ told. open-refused state only (inr refl) (inr (inr refl)) (is_open at opened));
     may = λ none. inl (refl, opened, refl);
     onward = record { disk_later = omega arith };
   }
 
   module _ (only_now : OnlyNow g) (s t : Store D g) (same : SameBeneath s.base t.base) (draft : t.draft.pairs ≡ []) where
     -- the disk wasn't called
-    beneath : (health healthier : Health) (weight weigher : ℕ) (names named : List (List ℕ)) → KeepsBeneath g (seen_as s health weight names) (seen_as t healthier weigher named)
+    beneath : (health healthier : Health) (weight weigher : ℕ) (names named : List (List ℕ))
+        → KeepsBeneath g (seen_as s health weight names) (seen_as t healthier weigher named)
     beneath health healthier weight weigher names named = record {
       shape = same.shape;
       is_live = same.live;
@@ -122,7 +131,8 @@ module _ {D : Type 0} {g : Ghosts D} where
         working = λ told. working-none t.base own ∙ committed-beneath s.base t.base same;
       }
 
-      pub began : s.base.in_transaction ≡ false → t.base.in_transaction ≡ true → SettlesCommand g commands.Begin (seen_as s health weight names) (seen_as t health start_weight names) Done
+      pub began : s.base.in_transaction ≡ false → t.base.in_transaction ≡ true
+          → SettlesCommand g commands.Begin (seen_as s health weight names) (seen_as t health start_weight names) Done
       began closed opened = record {
         settles = λ known line state only served at. settles-begin at live only closed (begins-known known (begins opened));
         may = λ none. inr (refl, closed, begins opened);
@@ -136,12 +146,14 @@ module _ {D : Type 0} {g : Ghosts D} where
         same_disk = same.disk;
         health = refl;
         is_open = closed;
-        names = cut ∙ ap (λ (m : Meta). take m.high names) is ∙ ap (λ (records : Key → Rec). take (high records names_file) names) (drafted-none t draft ∙ working-none t.base own);
+        names = cut ∙ ap (λ (m : Meta). take m.high names) is ∙ ap (λ (records : Key → Rec). take (high records names_file) names)
+            (drafted-none t draft ∙ working-none t.base own);
         working = λ told. working-none t.base own ∙ committed-beneath s.base t.base same;
       }
 
       -- the names that were brought are cut
-      pub dropped : (named : List (List ℕ)) → s.base.in_transaction ≡ true → t.base.in_transaction ≡ false → (meta : Meta) → meta ≡ meta_of (state_of t) names_file → named ≡ take meta.high names
+      pub dropped : (named : List (List ℕ)) → s.base.in_transaction ≡ true → t.base.in_transaction ≡ false → (meta : Meta)
+          → meta ≡ meta_of (state_of t) names_file → named ≡ take meta.high names
           → SettlesCommand g commands.Rollback (seen_as s health weight names) (seen_as t health weight named) Done
       dropped named opened closed meta is cut = record {
         settles = λ known line state only served at. settles-rollback at live only opened (drops-known known (drops named closed meta is cut));
@@ -149,7 +161,8 @@ module _ {D : Type 0} {g : Ghosts D} where
         onward = record { disk_later = later };
       }
 
-  module _ (s t : Store D g) (same : SameStore s.base t.base) (closed : t.base.in_transaction ≡ false) (draft : t.draft.pairs ≡ []) (later_on : g.faults s.base.disk.now ≤ g.faults t.base.disk.now) where
+  module _ (s t : Store D g) (same : SameStore s.base t.base) (closed : t.base.in_transaction ≡ false) (draft : t.draft.pairs ≡ [])
+      (later_on : g.faults s.base.disk.now ≤ g.faults t.base.disk.now) where
     ends : (health healthier : Health) (weight : ℕ) (names : List (List ℕ)) → Ends (seen_as s health weight names) (seen_as t healthier weight names)
     ends health healthier weight names = record { shape = same.shape; is_open = closed; no_draft = draft }
 
@@ -168,11 +181,13 @@ module _ {D : Type 0} {g : Ghosts D} where
       }
 
       -- what the transaction had is committed
-      pub committed_one : t.base.own.pairs ≡ [] → IsWritten s.base t.base → (s.base.own.pairs ≡ [] → t.base.disk.now ≡ s.base.disk.now) → SettlesCommand g commands.Commit (seen_as s health weight names) (seen_as t health weight names) Done
+      pub committed_one : t.base.own.pairs ≡ [] → IsWritten s.base t.base → (s.base.own.pairs ≡ [] → t.base.disk.now ≡ s.base.disk.now)
+          → SettlesCommand g commands.Commit (seen_as s health weight names) (seen_as t health weight names) Done
       committed_one own written idle = record {
         settles = λ known line state only served at.
             let open_one = is_open at opened in
-            settles-commit at live open_one.0 open_one.1 only opened (λ told. let all = told_all known g told in crash all.0 all.1) (commits-known known (commits own written));
+            settles-commit at live open_one.0 open_one.1 only opened (λ told. let all = told_all known g told in crash all.0 all.1)
+            (commits-known known (commits own written));
         may = λ none. inr (opened, (λ told. crash told.0 told.1), (λ nothing. (refl, idle nothing)), inl (refl, commits own written));
         onward = record { disk_later = later_on };
       }
@@ -202,18 +217,21 @@ module _ {D : Type 0} {g : Ghosts D} where
       commit_failed (inr doubt) rose busy = record {
         settles = λ known line state only served at.
             let open_one = is_open at opened in
-            settles-commit_fault at live open_one.0 open_one.1 only opened (λ told. let all = told_all known g told in crash all.0 all.1) (left_open-known known (is_left_open doubt)) rose;
+            settles-commit_fault at live open_one.0 open_one.1 only opened (λ told. let all = told_all known g told in crash all.0 all.1)
+            (left_open-known known (is_left_open doubt)) rose;
         may = λ none. inr (opened, (λ told. crash told.0 told.1), (λ nothing. absurd (busy nothing)), inr ((refl, rose), inr (is_left_open doubt)));
         onward = record { disk_later = later_on };
       }
 
-  module _ (s t : Store D g) (same : SameStore s.base t.base) (was_closed : s.base.in_transaction ≡ false) (closed : t.base.in_transaction ≡ false) (draft : t.draft ≡ s.draft)
+  module _ (s t : Store D g) (same : SameStore s.base t.base) (was_closed : s.base.in_transaction ≡ false) (closed : t.base.in_transaction ≡ false)
+      (draft : t.draft ≡ s.draft)
       (later_on : g.faults s.base.disk.now ≤ g.faults t.base.disk.now) (crash : g.tells_reads → g.tells_images → AtEachMoment g s.base.disk.now t.base.disk.now (λ left. Redoes left (committed s)))
       (health : Health) (live : health ≡ healths.Live) (weight : ℕ) (names : List (List ℕ)) where
     no_draft : s.draft.pairs ≡ [] → t.draft.pairs ≡ []
     no_draft none = ap (λ (held : Held). held.pairs) draft ∙ none
 
-    is_brought : t.base.own ≡ s.base.own → length s.base.own.pairs ≡ 0 → IsCheckpointed s.base t.base → s.draft.pairs ≡ [] → IsBrought g (seen_as s health weight names) (seen_as t health weight names)
+    is_brought : t.base.own ≡ s.base.own → length s.base.own.pairs ≡ 0 → IsCheckpointed s.base t.base → s.draft.pairs ≡ []
+        → IsBrought g (seen_as s health weight names) (seen_as t health weight names)
     is_brought own none done undrafted = record {
       ends = record { shape = same.shape; is_open = closed; no_draft = no_draft undrafted };
       health = refl;
@@ -225,10 +243,12 @@ module _ {D : Type 0} {g : Ghosts D} where
     }
 
     -- all that is committed is in its files
-    pub brought : t.base.own ≡ s.base.own → length s.base.own.pairs ≡ 0 → IsCheckpointed s.base t.base → SettlesCommand g commands.Checkpoint (seen_as s health weight names) (seen_as t health weight names) Done
+    pub brought : t.base.own ≡ s.base.own → length s.base.own.pairs ≡ 0 → IsCheckpointed s.base t.base
+        → SettlesCommand g commands.Checkpoint (seen_as s health weight names) (seen_as t health weight names) Done
     brought own none done = record {
       settles = λ known line state only served at.
-          settles-checkpoint at live was_closed only (λ told. let all = told_all known g told in crash all.0 all.1) (brought-known known (is_brought own none done at.no_draft));
+          settles-checkpoint at live was_closed only (λ told. let all = told_all known g told in crash all.0 all.1)
+          (brought-known known (is_brought own none done at.no_draft));
       may = λ undrafted. inr (was_closed, (λ told. crash told.0 told.1), inl (refl, is_brought own none done undrafted));
       onward = record { disk_later = later_on };
     }
@@ -246,7 +266,8 @@ module _ {D : Type 0} {g : Ghosts D} where
         → SettlesCommand g commands.Checkpoint (seen_as s health weight names) (seen_as t healths.Failed weight names) (Faulted [] DiskFailed)
     stopped_so failed rose = record {
       settles = λ known line state only served at.
-          settles-checkpoint_fault at live was_closed only (λ told. let all = told_all known g told in crash all.0 all.1) (stopped-known known (is_stopped failed at.no_draft)) rose;
+          settles-checkpoint_fault at live was_closed only (λ told. let all = told_all known g told in crash all.0 all.1)
+          (stopped-known known (is_stopped failed at.no_draft)) rose;
       may = λ undrafted. inr (was_closed, (λ told. crash told.0 told.1), inr ((refl, rose), is_stopped failed undrafted));
       onward = record { disk_later = later_on };
     }

@@ -23,7 +23,8 @@ pub name-taken : (names : List (List ℕ)) (count id : ℕ) (text : List ℕ) �
 name-taken names count id text low is = get_or-take count names id [] low ∙ get_or_from_slice_get names id text [] is
 
 -- the first ones are those of the store
-pub names-first : (records : Records) (shape : Shape) (names : List (List ℕ)) → IsNamedStore records shape names → (count : ℕ) → count ≡ name_count records → take count names ≡ names_of records
+pub names-first : (records : Records) (shape : Shape) (names : List (List ℕ)) → IsNamedStore records shape names → (count : ℕ) → count ≡ name_count records
+    → take count names ≡ names_of records
 names-first records shape names store count is =
     (λ i. take (is i) (store.named i))
     ∙ ap (λ (n : ℕ). take n (names_of records ++ store.more)) (sym (length-names_of records))

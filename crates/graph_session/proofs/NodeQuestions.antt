@@ -89,16 +89,20 @@ asks-no_index command some graph = tt
 -- ---- faults
 
 -- which is said to be missing is the one of the line
-pub one-missing : (V : Type 0) (fault : ExpandFault) (node : ℕ) (graph : Graph) → TellsNode {T = V} (Err fault) node (has_node graph node) → (id : ℕ) → fault ≡ faults.NoNode id → LacksElement graph (At node) (refusals.NoNode id)
+pub one-missing : (V : Type 0) (fault : ExpandFault) (node : ℕ) (graph : Graph) → TellsNode {T = V} (Err fault) node (has_node graph node) → (id : ℕ)
+    → fault ≡ faults.NoNode id → LacksElement graph (At node) (refusals.NoNode id)
 one-missing V fault node graph tells id is =
     let lacks = subst (λ (f : ExpandFault). TellsNode {T = V} (Err f) node (has_node graph node)) is tells in
     (lacks.1, ap (λ (n : ℕ). refusals.NoNode n) lacks.0)
 
 -- or the first of the two that is
-pub end-missing : (V : Type 0) (fault : ExpandFault) (from to : ℕ) (graph : Graph) → TellsEnds {T = V} (Err fault) from to (has_node graph from) (has_node graph to) → (id : ℕ) → fault ≡ faults.NoNode id → LacksElement graph (Between from to) (refusals.NoNode id)
+pub end-missing : (V : Type 0) (fault : ExpandFault) (from to : ℕ) (graph : Graph)
+    → TellsEnds {T = V} (Err fault) from to (has_node graph from) (has_node graph to) → (id : ℕ) → fault ≡ faults.NoNode id
+    → LacksElement graph (Between from to) (refusals.NoNode id)
 end-missing V fault from to graph tells id is = by (subst (λ (f : ExpandFault). TellsEnds {T = V} (Err f) from to (has_node graph from) (has_node graph to)) is tells)
   where
-    by : ((id ≡ from) × (has_node graph from ≡ false)) ⊎ ((id ≡ to) × (has_node graph from ≡ true) × (has_node graph to ≡ false)) → LacksElement graph (Between from to) (refusals.NoNode id)
+    by : ((id ≡ from) × (has_node graph from ≡ false)) ⊎ ((id ≡ to) × (has_node graph from ≡ true) × (has_node graph to ≡ false))
+        → LacksElement graph (Between from to) (refusals.NoNode id)
     by (inl (same, missing)) = inl (missing, ap (λ (n : ℕ). refusals.NoNode n) same)
     by (inr (same, found, missing)) = inr (found, (missing, ap (λ (n : ℕ). refusals.NoNode n) same))
 
@@ -121,12 +125,14 @@ end-blamed s from to (faults.Damaged damage) told = told
 
 -- ---- what is given
 
-module _ {R K : Type 0} {space : SpaceGhosts R} {sink : SinkGhosts K} {names : List (List ℕ)} {command : Command} (asks : AsksElements command) {a b : R} (read : IsRead space a b) {mark : List ℕ} {before after : K} {turn : Turn} where
+module _ {R K : Type 0} {space : SpaceGhosts R} {sink : SinkGhosts K} {names : List (List ℕ)} {command : Command} (asks : AsksElements command) {a b : R}
+    (read : IsRead space a b) {mark : List ℕ} {before after : K} {turn : Turn} where
   -- the reading was told
   pub gives-told : (reading : Reading) → IsFormed command reading → reading.is_past ≡ false
       → OfStore space names a (λ graph. HasElements graph (asked_of command)) → OfStore space names a (λ graph. Shows graph command reading)
       → Gives sink (marked_text mark (Told reading.lines reading.last)) before after turn → GivesReading space sink names command mark a b before after turn
-  gives-told reading formed none has shows gives = asks-told (elements-asked asks) read reading formed none has (λ told store. asks-no_index command asks.some (graph_of (space.state a).records)) shows gives
+  gives-told reading formed none has shows gives = asks-told (elements-asked asks) read reading formed none has
+      (λ told store. asks-no_index command asks.some (graph_of (space.state a).records)) shows gives
 
   -- an element is missing
   pub gives-missing : (why : Refusal) → TellsMissing (asked_of command) why → OfStore space names a (λ graph. LacksElement graph (asked_of command) why)
@@ -140,7 +146,8 @@ module _ {R K : Type 0} {space : SpaceGhosts R} {sink : SinkGhosts K} {names : L
       → OfStore space names a (λ graph. (id : ℕ) → fault ≡ faults.NoNode id → LacksElement graph (asked_of command) (refusals.NoNode id))
       → (space.tells → BlamesBroken (space.state a) fault)
       → Gives sink (marked_text mark (reply_of (answer_for fault))) before after turn → GivesReading space sink names command mark a b before after turn
-  gives-unknown nodes (faults.NoNode id) rose missing blames gives = gives-missing (refusals.NoNode id) (tells-node (asked_of command) nodes id) (λ told store. missing told store id refl) gives
+  gives-unknown nodes (faults.NoNode id) rose missing blames gives = gives-missing (refusals.NoNode id) (tells-node (asked_of command) nodes id)
+      (λ told store. missing told store id refl) gives
   gives-unknown nodes faults.Memory rose missing blames gives = asks-memory (elements-asked asks) read gives
   gives-unknown nodes faults.Disk rose missing blames gives = asks-disk (elements-asked asks) read (rose refl) gives
   gives-unknown nodes (faults.Damaged damage) rose missing blames gives = asks-damaged (elements-asked asks) read damage (λ told. inl (blames told)) gives

@@ -25,7 +25,8 @@ use Rattle.graph_session.proofs.Stands.{admits-own}
 use Rattle.graph_session.proofs.States.{same_one}
 
 -- what redoes to the records of a made store, as they were or in the newest version, stands for its graph
-pub redone-made : (content left : Files) (shape : Shape) (graph : Graph) (space : Key → Rec) → IsMade content shape graph → Redoes content space → IsOldOrRaised shape space left → IsMade left shape graph
+pub redone-made : (content left : Files) (shape : Shape) (graph : Graph) (space : Key → Rec) → IsMade content shape graph → Redoes content space
+    → IsOldOrRaised shape space left → IsMade left shape graph
 redone-made content left shape graph space made redoes (inl same) = record {
   space = made.space;
   redoes = subst (λ (records : Key → Rec). Redoes left records) (Redoes-unique content space made.space redoes made.redoes) same;
@@ -40,7 +41,8 @@ redone-made content left shape graph space made redoes (inr newest) = record {
 }
 
 -- a content has a store of one shape
-pub store-shape : (content : Files) (shape : Shape) (graph : Graph) → IsMade content shape graph → (other : Shape) (store : IsStore content other) → other ≡ shape
+pub store-shape : (content : Files) (shape : Shape) (graph : Graph) → IsMade content shape graph → (other : Shape) (store : IsStore content other)
+    → other ≡ shape
 store-shape content shape graph made other store =
     let same : store.space ≡ made.space = Redoes-unique content store.space made.space store.redoes made.redoes in
     same_one other shape (sym store.made.own ∙ ap (λ (records : Key → Rec). shape_of_record (records own_key)) same ∙ made.store.made.own)
@@ -70,10 +72,12 @@ module _ {D : Type 0} (g : Ghosts D) (old : D) (config : Config) (state : State)
   starts-one : g.tells_reads → StandsForOne g old
   starts-one told = record { shape = state.shape; graph = state.committed; stands = starts-stands (g.reads old) config state (starts.starts told) }
 
-  pub opens_admitted : (opened : D) → LeavesByOpening g config old opened → TellsAll g → StandsForOne g old → AtEachMoment g old opened (λ left. g.may_leave old left ⊎ IsAdmitted state left)
+  pub opens_admitted : (opened : D) → LeavesByOpening g config old opened → TellsAll g → StandsForOne g old
+      → AtEachMoment g old opened (λ left. g.may_leave old left ⊎ IsAdmitted state left)
   opens_admitted opened leaves told stands =
       at_each_moment_weaker g old opened (LeavesOldOrSame (g.reads old) (g.may_leave old) config) (λ left. g.may_leave old left ⊎ IsAdmitted state left)
-      (leaves told (let one = starts-one told.0 in stands-recoverable (g.reads old) one.shape one.graph one.stands)) (leaves-admitted (g.reads old) (g.may_leave old) config state starts.live (starts.starts told.0))
+      (leaves told (let one = starts-one told.0 in stands-recoverable (g.reads old) one.shape one.graph one.stands))
+      (leaves-admitted (g.reads old) (g.may_leave old) config state starts.live (starts.starts told.0))
 
   -- it begins with the one graph that what the disk reads stands for
   pub starts_admitted : g.tells_reads → (other : State) → IsAdmitted other (g.reads old) → Admits other state.committed

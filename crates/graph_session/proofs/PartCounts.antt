@@ -39,6 +39,8 @@ counts_from-same f g h i j = cc
 
 -- what the meta records of a store say
 pub counts_are : (records : Key → Rec) (shape : Shape) → IsWellFormed records shape
-    → counts_from (meta_in records nodes_file).live (meta_in records relationships_file).live (meta_in records properties_file).live (meta_in records strings_file).live (high records names_file) ≡ counts_of (graph_of records)
+    → counts_from (meta_in records nodes_file).live (meta_in records relationships_file).live (meta_in records properties_file).live
+    (meta_in records strings_file).live (high records names_file) ≡ counts_of (graph_of records)
 counts_are records shape keeps =
-    counts_from-same (count_nodes records shape keeps) (count_edges records shape keeps) (count_properties records shape keeps) (count_blocks records shape keeps) (sym (length-names records))
+    counts_from-same (count_nodes records shape keeps) (count_edges records shape keeps) (count_properties records shape keeps)
+    (count_blocks records shape keeps) (sym (length-names records))

@@ -1,5 +1,8 @@
 -- The places of pairs: which comes next, and what they are.
-use Rattle.std.proofs.Common.{◌≡◌, ◌⊎◌, ◌∙◌, ◌+◌, ◌*◌, ◌/◌, ◌%◌, ◌<◌, ◌≤◌, inl, inr, ℕ, zero, suc, nat_eq, nat_lt, Bool, true, false, ◌&&◌, ◌||◌, if◌then◌else◌, cond, Option, None, Some, List, [], ◌∷◌, ◌++◌, append_assoc, length, get_or, take, map, add-one, true≢false, refl, sym, ap, subst, ⊎_elim, arith}
+use Rattle.std.proofs.Common.{◌≡◌, ◌⊎◌, ◌∙◌, ◌+◌, ◌*◌, ◌/◌, ◌%◌, ◌<◌, ◌≤◌, inl, inr, ℕ, zero, suc, nat_eq, nat_lt, Bool}
+use Rattle.std.proofs.Common.{true, false, ◌&&◌, ◌||◌, if◌then◌else◌, cond, Option, None, Some, List, [], ◌∷◌, ◌++◌}
+use Rattle.std.proofs.Common.{append_assoc, length, get_or, take, map, add-one, true≢false, refl, sym, ap, subst}
+use Rattle.std.proofs.Common.{⊎_elim, arith}
 use Rattle.std.proofs.Math.Nat.{div-mul-le_self, mod-lt, mul-le-mul_right, suc-mul}
 use Rattle.std.proofs.Math.Seq.{take-suc}
 use Rattle.std.proofs.lemmas.Bool.{cases_lt, eqb-true, ltb-true}
@@ -68,7 +71,8 @@ next-alike test other from None alike is = λ x low. alike x ∙ is x low
 next-alike test other from (Some place) alike is = (is.0, alike place ∙ is.1, λ x low lt. alike x ∙ is.2 x low lt)
 
 -- what is next among the first pairs, and one more
-pub next-more : (count from : ℕ) (pairs : List IndexPair) (n : ℕ) (d : IndexPair) → n < length pairs → (next : Option ℕ) → IsNext (with_place (is_taken count (take n pairs)) (place_of count (get_or pairs n d))) from next
+pub next-more : (count from : ℕ) (pairs : List IndexPair) (n : ℕ) (d : IndexPair) → n < length pairs → (next : Option ℕ)
+    → IsNext (with_place (is_taken count (take n pairs)) (place_of count (get_or pairs n d))) from next
     → IsNext (is_taken count (take (n + 1) pairs)) from next
 next-more count from pairs n d lt next =
     next-alike (with_place (is_taken count (take n pairs)) (place_of count (get_or pairs n d))) (is_taken count (take (n + 1) pairs)) from next
@@ -82,7 +86,8 @@ next-more count from pairs n d lt next =
 
 -- a pair of so many numbers
 lows : (count : ℕ) (pair : IndexPair) → (nat_lt pair.label count && nat_lt pair.key count) ≡ true → (pair.label < count) × (pair.key < count)
-lows count pair both = let parts = and_parts (nat_lt pair.label count) (nat_lt pair.key count) both in (ltb-true pair.label count parts.0, ltb-true pair.key count parts.1)
+lows count pair both = let parts = and_parts (nat_lt pair.label count) (nat_lt pair.key count) both in
+    (ltb-true pair.label count parts.0, ltb-true pair.key count parts.1)
 
 -- the place is below the square of the count
 square : (count label key : ℕ) → label < count → key < count → label * count + key < count * count
@@ -95,11 +100,14 @@ pub taken-below : (count : ℕ) (pairs : List IndexPair) (place : ℕ) → is_ta
 taken-below count [] place is = absurd (true≢false (sym is))
 taken-below count (pair ∷ pairs) place is = by (is_place (place_of count pair) place) refl (λ more. taken-below count pairs place more) is
   where
-    own : (low : Bool) → (nat_lt pair.label count && nat_lt pair.key count) ≡ low → is_place (if low then Some (pair.label * count + pair.key) else None) place ≡ true → place < count * count
-    own true both is = let low = lows count pair both in subst (λ (p : ℕ). p < count * count) (eqb-true (pair.label * count + pair.key) place is) (square count pair.label pair.key low.0 low.1)
+    own : (low : Bool) → (nat_lt pair.label count && nat_lt pair.key count) ≡ low
+        → is_place (if low then Some (pair.label * count + pair.key) else None) place ≡ true → place < count * count
+    own true both is = let low = lows count pair both in subst (λ (p : ℕ). p < count * count) (eqb-true (pair.label * count + pair.key) place is)
+        (square count pair.label pair.key low.0 low.1)
     own false both is = absurd (true≢false (sym is))
 
-    by : (b : Bool) → is_place (place_of count pair) place ≡ b → (is_taken count pairs place ≡ true → place < count * count) → (b || is_taken count pairs place) ≡ true → place < count * count
+    by : (b : Bool) → is_place (place_of count pair) place ≡ b → (is_taken count pairs place ≡ true → place < count * count)
+        → (b || is_taken count pairs place) ≡ true → place < count * count
     by true own_is later e = own (nat_lt pair.label count && nat_lt pair.key count) refl own_is
     by false own_is later e = later e
 
@@ -116,7 +124,8 @@ place-parts (suc n) place low = (omega arith, label (cases_lt (place / suc n) (s
         absurd (omega (arith, whole, square_le, low))
 
 -- a pair has the place of two numbers where these are its own
-pub pair-at : (count l k : ℕ) (pair : IndexPair) → l < count → k < count → is_place (place_of count pair) (l * count + k) ≡ (nat_eq pair.label l && nat_eq pair.key k)
+pub pair-at : (count l k : ℕ) (pair : IndexPair) → l < count → k < count
+    → is_place (place_of count pair) (l * count + k) ≡ (nat_eq pair.label l && nat_eq pair.key k)
 pair-at count l k pair l_low k_low = by (nat_lt pair.label count && nat_lt pair.key count) refl
   where
     same : pair.label ≡ l → pair.key ≡ k → (nat_eq pair.label l && nat_eq pair.key k) ≡ true
@@ -125,7 +134,8 @@ pair-at count l k pair l_low k_low = by (nat_lt pair.label count && nat_lt pair.
     parts : (nat_eq pair.label l && nat_eq pair.key k) ≡ true → (pair.label ≡ l) × (pair.key ≡ k)
     parts is = let both = and_parts (nat_eq pair.label l) (nat_eq pair.key k) is in (eqb-true pair.label l both.0, eqb-true pair.key k both.1)
 
-    by : (low : Bool) → (nat_lt pair.label count && nat_lt pair.key count) ≡ low → is_place (if low then Some (pair.label * count + pair.key) else None) (l * count + k) ≡ (nat_eq pair.label l && nat_eq pair.key k)
+    by : (low : Bool) → (nat_lt pair.label count && nat_lt pair.key count) ≡ low
+        → is_place (if low then Some (pair.label * count + pair.key) else None) (l * count + k) ≡ (nat_eq pair.label l && nat_eq pair.key k)
     by true both =
         let low = lows count pair both in
         same_truth (nat_eq (pair.label * count + pair.key) (l * count + k)) (nat_eq pair.label l && nat_eq pair.key k)
@@ -157,7 +167,8 @@ ids-skip test from (suc m) le none = ⊎_elim
 
 module _ (names : List (List ℕ)) (count : ℕ) (pairs : List IndexPair) where
   -- the line of the next place, after those before it
-  pub lines-next : (from place : ℕ) → IsNext (is_taken count pairs) from (Some place) → lines_below names count pairs (place + 1) ≡ lines_below names count pairs from ++ place_line names count place ∷ []
+  pub lines-next : (from place : ℕ) → IsNext (is_taken count pairs) from (Some place)
+      → lines_below names count pairs (place + 1) ≡ lines_below names count pairs from ++ place_line names count place ∷ []
   lines-next from place is =
       ap (lines_below names count pairs) (add-one place)
       ∙ ap (λ (b : Bool). map (place_line names count) (ids (is_taken count pairs) place ++ option_list (cond b (Some place) None))) is.1
@@ -165,7 +176,8 @@ module _ (names : List (List ℕ)) (count : ℕ) (pairs : List IndexPair) where
       ∙ map-append (place_line names count) (ids (is_taken count pairs) from) (place ∷ [])
 
   -- no line comes after the last one
-  pub lines-over : (from : ℕ) → from ≤ count * count → IsNext (is_taken count pairs) from None → lines_below names count pairs (count * count) ≡ lines_below names count pairs from
+  pub lines-over : (from : ℕ) → from ≤ count * count → IsNext (is_taken count pairs) from None
+      → lines_below names count pairs (count * count) ≡ lines_below names count pairs from
   lines-over from le is = ap (map (place_line names count)) (ids-skip (is_taken count pairs) from (count * count) le (λ x low lt. is x low))
 
   -- the lines so far are the first of all

@@ -40,10 +40,12 @@ pub record Asks (command : Command) : Type 0 where
 abbrev pub OfStore : {R : Type 0} → SpaceGhosts R → List (List ℕ) → R → (Graph → Type 0) → Type 0
 OfStore space names at P = space.tells → IsNamedStore (space.state at).records (space.state at).shape names → P (graph_of (space.state at).records)
 
-module _ {R K : Type 0} {space : SpaceGhosts R} {sink : SinkGhosts K} {names : List (List ℕ)} {command : Command} (asks : Asks command) {a b : R} (read : IsRead space a b) {mark : List ℕ} {before after : K} {turn : Turn} where
+module _ {R K : Type 0} {space : SpaceGhosts R} {sink : SinkGhosts K} {names : List (List ℕ)} {command : Command} (asks : Asks command) {a b : R}
+    (read : IsRead space a b) {mark : List ℕ} {before after : K} {turn : Turn} where
   -- the reading was told
   pub asks-told : (reading : Reading) → IsFormed command reading → reading.is_past ≡ false
-      → OfStore space names a (λ graph. HasElements graph (asked_of command)) → OfStore space names a (λ graph. HasAsked graph command) → OfStore space names a (λ graph. Shows graph command reading)
+      → OfStore space names a (λ graph. HasElements graph (asked_of command)) → OfStore space names a (λ graph. HasAsked graph command)
+      → OfStore space names a (λ graph. Shows graph command reading)
       → Gives sink (marked_text mark (Told reading.lines reading.last)) before after turn → GivesReading space sink names command mark a b before after turn
   asks-told reading formed none has there shows gives = record {
     reply = Told reading.lines reading.last;
@@ -60,7 +62,8 @@ module _ {R K : Type 0} {space : SpaceGhosts R} {sink : SinkGhosts K} {names : L
   }
 
   -- it was refused
-  pub asks-refused : (why : Refusal) → IsRefusable command → LacksAsked command why → OfStore space names a (λ graph. (limit : ℕ) → FirstReason change_reasons limit graph command why)
+  pub asks-refused : (why : Refusal) → IsRefusable command → LacksAsked command why
+      → OfStore space names a (λ graph. (limit : ℕ) → FirstReason change_reasons limit graph command why)
       → Gives sink (marked_text mark (Refused why)) before after turn → GivesReading space sink names command mark a b before after turn
   asks-refused why refusable lacks first gives = record {
     reply = Refused why;
@@ -87,7 +90,8 @@ module _ {R K : Type 0} {space : SpaceGhosts R} {sink : SinkGhosts K} {names : L
   }
 
   -- the disk failed
-  pub asks-disk : Rose (space.faults a) (space.faults b) → Gives sink (marked_text mark (Faulted [] DiskFailed)) before after turn → GivesReading space sink names command mark a b before after turn
+  pub asks-disk : Rose (space.faults a) (space.faults b) → Gives sink (marked_text mark (Faulted [] DiskFailed)) before after turn
+      → GivesReading space sink names command mark a b before after turn
   asks-disk rose gives = record {
     reply = Faulted [] DiskFailed;
     form = (asks.unspared, asks.reading, asks.formed, tt, (asks.reading.lines, refl));
@@ -101,12 +105,14 @@ module _ {R K : Type 0} {space : SpaceGhosts R} {sink : SinkGhosts K} {names : L
 
   -- a record breaks a rule, so it is no store
   pub asks-damaged : (damage : Damage) → (space.tells → BreaksAny (space.state a).records (space.state a).shape damage)
-      → Gives sink (marked_text mark (Faulted [] (DamagedRecord damage.file damage.id))) before after turn → GivesReading space sink names command mark a b before after turn
+      → Gives sink (marked_text mark (Faulted [] (DamagedRecord damage.file damage.id))) before after turn
+      → GivesReading space sink names command mark a b before after turn
   asks-damaged damage broken gives = record {
     reply = Faulted [] (DamagedRecord damage.file damage.id);
     form = (asks.unspared, asks.reading, asks.formed, asks.unchecked, (asks.reading.lines, refl));
     gives = gives;
-    means = λ told store. none_at_all (space.state a).records (space.state a).shape (record { store = store.store; indexes = store.indexes }) damage (broken told);
+    means = λ told store. none_at_all (space.state a).records (space.state a).shape (record { store = store.store; indexes = store.indexes }) damage
+        (broken told);
     judges = λ told. record { verdict = λ is. absurd (asks.unchecked is); blames = (damage.rule, broken told) };
     told = λ blames. absurd (blames refl);
     read = read;
@@ -114,7 +120,8 @@ module _ {R K : Type 0} {space : SpaceGhosts R} {sink : SinkGhosts K} {names : L
   }
 
   -- records were not read to their end
-  pub asks-unread : (fault : Fault) → (fault ≡ faults.Disk → Rose (space.faults a) (space.faults b)) → (space.tells → BlamesBroken (space.state a).records (space.state a).shape fault)
+  pub asks-unread : (fault : Fault) → (fault ≡ faults.Disk → Rose (space.faults a) (space.faults b))
+      → (space.tells → BlamesBroken (space.state a).records (space.state a).shape fault)
       → Gives sink (marked_text mark (reply_of (answer_for_read fault))) before after turn → GivesReading space sink names command mark a b before after turn
   asks-unread faults.Memory rose blames gives = asks-memory gives
   asks-unread faults.Disk rose blames gives = asks-disk (rose refl) gives

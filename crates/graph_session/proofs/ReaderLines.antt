@@ -53,7 +53,8 @@ use Rattle.graph_session.proofs.Staying.{crash-kept, stays-at}
 module _ {D : Type 0} {g : Ghosts D} {reader : ℕ} {line : List ℕ} {old new : SharedView D} {before : SharedState} (at : IsSharedAt g old before) where
   -- a line that only reads the disk, and doesn't blame it
   settles-quiet : (reply : Reply) (after : SharedState) → IsSharedAt g new after → OnlyReads g old.session.disk new.session.disk → told_fault reply ≡ 0
-      → (g.tells_reads → ReaderStep reader before (exchange (Whole line) false reply) after) → SettlesShared (ReaderStep reader) g (Whole line) old new before reply
+      → (g.tells_reads → ReaderStep reader before (exchange (Whole line) false reply) after)
+      → SettlesShared (ReaderStep reader) g (Whole line) old new before reply
   settles-quiet reply after is_at reads quiet step = record {
     after = after;
     arrives = record { is_at = is_at; crash = crash-kept at.writer after.writer new.session.disk reads };
@@ -63,13 +64,15 @@ module _ {D : Type 0} {g : Ghosts D} {reader : ℕ} {line : List ℕ} {old new :
     blames = λ blames. absurd (blames quiet);
   }
 
-module _ {D : Type 0} (g : Ghosts D) (only_now : OnlyNow g) (reader : ℕ) {line : List ℕ} {command : Command} (only : SpellsOnly line command) {old : SharedView D} {state : SharedState} (at : IsSharedAt g old state) where
+module _ {D : Type 0} (g : Ghosts D) (only_now : OnlyNow g) (reader : ℕ) {line : List ℕ} {command : Command} (only : SpellsOnly line command)
+    {old : SharedView D} {state : SharedState} (at : IsSharedAt g old state) where
   -- the disk was not called
   idle : OnlyReads g old.session.disk old.session.disk
   idle = only_reads_none g old.session.disk only_now
 
   -- a line that is refused before a snapshot is looked at
-  pub settles-refuses : IsLoud command → (why : Refusal) → RefusesReader reader old command why → SettlesShared (ReaderStep reader) g (Whole line) old old state (Refused why)
+  pub settles-refuses : IsLoud command → (why : Refusal) → RefusesReader reader old command why
+      → SettlesShared (ReaderStep reader) g (Whole line) old old state (Refused why)
   settles-refuses loud why refuses = settles-quiet at (Refused why) state at idle refl (λ told. (refuses-first at reader only loud why refuses, refl))
 
   -- the view with other snapshots
@@ -91,7 +94,8 @@ module _ {D : Type 0} (g : Ghosts D) (only_now : OnlyNow g) (reader : ℕ) {line
         writer = at.writer;
         stored = at.stored;
         weighed = at.weighed;
-        snapshots = holds-taken g old.held old.session.disk state at.snapshots reader low closed live at.writer.reads (λ committed. sees-taker old.held.open_ones reader committed closed)
+        snapshots = holds-taken g old.held old.session.disk state at.snapshots reader low closed live at.writer.reads
+            (λ committed. sees-taker old.held.open_ones reader committed closed)
             (λ other committed opened i q. sees-taken old.held.open_ones reader other committed q i);
       })
       idle refl (λ told. (serves-none at reader only served (inl is), inl ((subst (λ (c : Command). SpellsOnly line c) is only).spelled, refl)))
@@ -109,7 +113,8 @@ module _ {D : Type 0} (g : Ghosts D) (only_now : OnlyNow g) (reader : ℕ) {line
       by (inr (inr release)) = cc
 
   -- what becomes of `snapshot`
-  pub settles-snapshot : IsReader reader → ServesReader reader old command → command ≡ commands.Snapshot → state_of old.held reader ≢ states.Open → (reply : Reply) (new : SharedView D) → MaySnap g reader old reply new
+  pub settles-snapshot : IsReader reader → ServesReader reader old command → command ≡ commands.Snapshot → state_of old.held reader ≢ states.Open
+      → (reply : Reply) (new : SharedView D) → MaySnap g reader old reply new
       → SettlesShared (ReaderStep reader) g (Whole line) old new state reply
   settles-snapshot seven served is other reply new (inl (done, held, same)) =
       subst (λ (r : Reply). SettlesShared (ReaderStep reader) g (Whole line) old new state r) (sym done)
@@ -119,7 +124,8 @@ module _ {D : Type 0} (g : Ghosts D) (only_now : OnlyNow g) (reader : ℕ) {line
       (subst (λ (view : SharedView D). SettlesShared (ReaderStep reader) g (Whole line) old view state (Faulted [] NoMemory)) (sym same) (settles-lacks (snapshot-spared is)))
 
   -- and of `release`
-  pub settles-release : IsReader reader → ServesReader reader old command → command ≡ commands.Release → (reply : Reply) (new : SharedView D) → MayRelease g reader old reply new → SameSights old.held.open_ones new.held.open_ones
+  pub settles-release : IsReader reader → ServesReader reader old command → command ≡ commands.Release → (reply : Reply) (new : SharedView D)
+      → MayRelease g reader old reply new → SameSights old.held.open_ones new.held.open_ones
       → SettlesShared (ReaderStep reader) g (Whole line) old new state reply
   settles-release seven served is reply new (done, open_ones, ended, same) sights =
       let low : reader < 8 = omega (arith, seven.last) in
@@ -142,12 +148,15 @@ not_none n some none = grind (arith, nat_tests)
 is_some : (n : ℕ) → n ≢ 0 → nat_lt 0 n ≡ true
 is_some n some = grind (arith, nat_tests)
 
-module _ {D : Type 0} {g : Ghosts D} (known : Bool) (reader : ℕ) {line : List ℕ} {command : Command} (only : SpellsOnly line command) (asks : IsQuestion command) {old new : SharedView D} {state : SharedState}
-    (at : IsSharedAt (as_known known g) old state) (served : ServesReader reader old command) (opened : is_open reader old.held.open_ones ≡ true) (stays : Stays g old.session new.session) (same : new.held ≡ old.held) where
+module _ {D : Type 0} {g : Ghosts D} (known : Bool) (reader : ℕ) {line : List ℕ} {command : Command} (only : SpellsOnly line command)
+    (asks : IsQuestion command) {old new : SharedView D} {state : SharedState}
+    (at : IsSharedAt (as_known known g) old state) (served : ServesReader reader old command) (opened : is_open reader old.held.open_ones ≡ true)
+    (stays : Stays g old.session new.session) (same : new.held ≡ old.held) where
   weighed-on : IsWeighed new.session.console
   weighed-on opened_now =
       let was = sym stays.is_open ∙ opened_now in
-      subst (λ (pairs : Pairs). AreWeighed pairs new.session.console.weight) (sym stays.written) (subst (λ (n : ℕ). AreWeighed old.session.console.written n) (sym (stays.weight was)) (at.weighed was))
+      subst (λ (pairs : Pairs). AreWeighed pairs new.session.console.weight) (sym stays.written)
+      (subst (λ (n : ℕ). AreWeighed old.session.console.written n) (sym (stays.weight was)) (at.weighed was))
 
   -- what is read leaves the session at its state
   read-at : IsSharedAt (as_known known g) new state
@@ -163,7 +172,8 @@ module _ {D : Type 0} {g : Ghosts D} (known : Bool) (reader : ℕ) {line : List 
 
   -- the graph is looked at
   here-reached : (graph : Graph) → IsReached (console_of state.writer graph) (Whole line)
-  here-reached graph = reached (console_of state.writer graph) only (inl (not_failed at.writer served.0)) (λ needs. absurd (asks-none command asks needs)) (λ needs. absurd (asks-one command asks needs))
+  here-reached graph = reached (console_of state.writer graph) only (inl (not_failed at.writer served.0)) (λ needs. absurd (asks-none command asks needs))
+      (λ needs. absurd (asks-one command asks needs))
 
   read-step : (failed : Bool) (reply : Reply) → MayTell command reply → (told_fault reply ≢ 0 → failed ≡ true) → (told : (as_known known g).tells_reads)
       → Means (graph_of (own_records at served.0 told reader opened)) command reply → ReaderStep reader state (exchange (Whole line) failed reply) state
@@ -180,10 +190,12 @@ module _ {D : Type 0} {g : Ghosts D} (known : Bool) (reader : ℕ) {line : List 
         command,
         only.spelled,
         asks,
-        asked-step (console_of state.writer graph) only asks (here-reached graph) failed reply form blames (means-own at served.0 told reader opened command reply means),
+        asked-step (console_of state.writer graph) only asks (here-reached graph) failed reply form blames
+            (means-own at served.0 told reader opened command reply means),
       )
 
-      by : (r : Reply) → MayTell command r → Means graph command r → ReadsSnapshot state reader (exchange (Whole line) failed r) → ReaderStep reader state (exchange (Whole line) failed r) state
+      by : (r : Reply) → MayTell command r → Means graph command r → ReadsSnapshot state reader (exchange (Whole line) failed r)
+          → ReaderStep reader state (exchange (Whole line) failed r) state
       by Silent may meant reads = absurd may
       by Done may meant reads = absurd may
       by (NodeMade id) may meant reads = absurd may
@@ -203,6 +215,7 @@ module _ {D : Type 0} {g : Ghosts D} (known : Bool) (reader : ℕ) {line : List 
     arrives = record { is_at = read-at; crash = crash-kept at.writer state.writer new.session.disk (reads-known known stays.beneath.disk) };
     disk_failed = nat_lt 0 (told_fault reply);
     counted = λ failed. rose (not_none (told_fault reply) failed);
-    step = λ told. read-step (nat_lt 0 (told_fault reply)) reply form (is_some (told_fault reply)) told (means (told_of known g told) (own-named at served.0 told reader opened));
+    step = λ told. read-step (nat_lt 0 (told_fault reply)) reply form (is_some (told_fault reply)) told
+        (means (told_of known g told) (own-named at served.0 told reader opened));
     blames = is_some (told_fault reply);
   }

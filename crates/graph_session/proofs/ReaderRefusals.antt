@@ -19,7 +19,9 @@ use Rattle.graph_session.specs.ReaderAnswers.{LacksSnapshot, RefusesReader, Serv
 use Rattle.graph_session.specs.Refusals.{SpellsOnly, refused_by}
 use Rattle.graph_session.specs.Settling.{IsLoud}
 use Rattle.graph_session.specs.SharedConsole.{IsSharedAt, snapshot_readers}
-use Rattle.graph_session.specs.SharedRefusals.{FirstHoldsFor, NoneHoldsFor, ReaderCondition, no_snapshot, of_snapshot, of_snapshots, read_only, reader_early, reader_order, snapshot_ended, snapshot_open}
+use Rattle.graph_session.specs.SharedRefusals.{FirstHoldsFor, NoneHoldsFor, ReaderCondition, no_snapshot, of_snapshot}
+use Rattle.graph_session.specs.SharedRefusals.{of_snapshots, read_only, reader_early, reader_order, snapshot_ended}
+use Rattle.graph_session.specs.SharedRefusals.{snapshot_open}
 use Rattle.graph_session.specs.SnapshotEffects.{SharedView}
 use Rattle.graph_session.specs.Snapshots.{HasEnded, IsOpenFor, Sees, SeesAmong, SharedState, Snapshot, is_of}
 use Rattle.graph_session.specs.State.{IsSilent, SpellsLine}
@@ -84,7 +86,8 @@ suits-snapshot state command (inr (inr (asks, opened))) snaps = absurd (subst Is
 own-any : (reader : ℕ) (snapshots : List Snapshot) → list_any (is_of reader) snapshots ≡ list_any (nat_eq reader) (snapshot_readers snapshots)
 own-any reader [] = refl
 own-any reader (snapshot ∷ later) =
-    ap (λ (b : Bool). b || list_any (is_of reader) later) (symmetric snapshot.reader reader) ∙ ap (λ (b : Bool). nat_eq reader snapshot.reader || b) (own-any reader later)
+    ap (λ (b : Bool). b || list_any (is_of reader) later) (symmetric snapshot.reader reader)
+    ∙ ap (λ (b : Bool). nat_eq reader snapshot.reader || b) (own-any reader later)
 
 not_true : (b : Bool) → b ≡ false → ¬ (b ≡ true)
 not_true b is other = absurd (false≢true (sym is ∙ other))
@@ -123,13 +126,16 @@ module _ {D : Type 0} {g : Ghosts D} {view : SharedView D} {state : SharedState}
 
 -- ---- the reader's snapshot is one
 
-sees-any : (snapshots : List Snapshot) (reader : ℕ) (graph : Graph) → SeesAmong snapshots reader graph → list_any (nat_eq reader) (snapshot_readers snapshots) ≡ true
+sees-any : (snapshots : List Snapshot) (reader : ℕ) (graph : Graph) → SeesAmong snapshots reader graph
+    → list_any (nat_eq reader) (snapshot_readers snapshots) ≡ true
 sees-any [] reader graph sees = absurd sees
 sees-any (snapshot ∷ younger) reader graph (inl own) =
     ap (λ (b : Bool). b || list_any (nat_eq reader) (snapshot_readers younger)) (ap (nat_eq reader) own.0 ∙ own_number reader)
-sees-any (snapshot ∷ younger) reader graph (inr more) = or_right (nat_eq reader snapshot.reader) (list_any (nat_eq reader) (snapshot_readers younger)) (sees-any younger reader graph more)
+sees-any (snapshot ∷ younger) reader graph (inr more) = or_right (nat_eq reader snapshot.reader) (list_any (nat_eq reader) (snapshot_readers younger))
+    (sees-any younger reader graph more)
 
-sees-one : (snapshots : List Snapshot) → AreApart (snapshot_readers snapshots) → (reader : ℕ) (a b : Graph) → SeesAmong snapshots reader a → SeesAmong snapshots reader b → a ≡ b
+sees-one : (snapshots : List Snapshot) → AreApart (snapshot_readers snapshots) → (reader : ℕ) (a b : Graph) → SeesAmong snapshots reader a
+    → SeesAmong snapshots reader b → a ≡ b
 sees-one [] apart reader a b one other = absurd one
 sees-one (snapshot ∷ younger) apart reader a b (inl one) (inl other) = sym one.1 ∙ other.1
 sees-one (snapshot ∷ younger) apart reader a b (inl one) (inr more) =
@@ -139,20 +145,23 @@ sees-one (snapshot ∷ younger) apart reader a b (inr more) (inl other) =
 sees-one (snapshot ∷ younger) apart reader a b (inr more) (inr other) = sees-one younger apart.1 reader a b more other
 
 -- it sees one graph
-pub sees-only : {D : Type 0} {g : Ghosts D} {view : SharedView D} {state : SharedState} → IsSharedAt g view state → (reader : ℕ) (a b : Graph) → Sees state.readers reader a → Sees state.readers reader b → a ≡ b
+pub sees-only : {D : Type 0} {g : Ghosts D} {view : SharedView D} {state : SharedState} → IsSharedAt g view state → (reader : ℕ) (a b : Graph)
+    → Sees state.readers reader a → Sees state.readers reader b → a ≡ b
 sees-only {view = view} {state = state} at reader =
     sees-one state.readers.open_ones (subst AreApart at.snapshots.readers (apart-of view.held.open_ones at.snapshots.form.distinct)) reader
 
 -- ---- conditions one after the other
 
 -- none of two lists holds
-none-both : (front later : List ReaderCondition) (state : SharedState) (reader : ℕ) (line : List ℕ) → NoneHoldsFor front state reader (Whole line) → NoneHoldsFor later state reader (Whole line)
+none-both : (front later : List ReaderCondition) (state : SharedState) (reader : ℕ) (line : List ℕ) → NoneHoldsFor front state reader (Whole line)
+    → NoneHoldsFor later state reader (Whole line)
     → NoneHoldsFor (front ++ later) state reader (Whole line)
 none-both [] later state reader line none more = more
 none-both (condition ∷ front) later state reader line none more = (none.0, none-both front later state reader line none.1 more)
 
 -- the first of a list, where none of those before it holds
-first-after : (front later : List ReaderCondition) (state : SharedState) (reader : ℕ) (line : List ℕ) (why : Refusal) → NoneHoldsFor front state reader (Whole line)
+first-after : (front later : List ReaderCondition) (state : SharedState) (reader : ℕ) (line : List ℕ) (why : Refusal)
+    → NoneHoldsFor front state reader (Whole line)
     → FirstHoldsFor later state reader (Whole line) why → FirstHoldsFor (front ++ later) state reader (Whole line) why
 first-after [] later state reader line why none first = first
 first-after (condition ∷ front) later state reader line why none first = inr (none.0, first-after front later state reader line why none.1 first)
@@ -182,16 +191,20 @@ module _ (state : SharedState) (reader : ℕ) {line : List ℕ} {command : Comma
   not_ended (inr (inr opened)) why (closed, ended, snaps, releases, loud, told) = closed opened
 
   -- no reason refuses the command, whatever graph it sees
-  unreasoned : (reasons : List Reason) → ((graph : Graph) → NoReason reasons state.writer.shape.limit graph command) → NoneHoldsFor (of_snapshots reasons) state reader (Whole line)
+  unreasoned : (reasons : List Reason) → ((graph : Graph) → NoReason reasons state.writer.shape.limit graph command)
+      → NoneHoldsFor (of_snapshots reasons) state reader (Whole line)
   unreasoned [] free = tt
   unreasoned (reason ∷ later) free = (
-    λ why (graph, sees_it, (other, spelled, holds)). (free graph).0 why (subst (λ (c : Command). reason state.writer.shape.limit graph c why) (sym (spells-same only other spelled)) holds),
+    λ why (graph, sees_it, (other, spelled, holds)). (free graph).0 why
+        (subst (λ (c : Command). reason state.writer.shape.limit graph c why) (sym (spells-same only other spelled)) holds),
     unreasoned later (λ graph. (free graph).1),
   )
 
-module _ {D : Type 0} {g : Ghosts D} {view : SharedView D} {state : SharedState} (at : IsSharedAt g view state) (reader : ℕ) {line : List ℕ} {command : Command} (only : SpellsOnly line command) where
+module _ {D : Type 0} {g : Ghosts D} {view : SharedView D} {state : SharedState} (at : IsSharedAt g view state) (reader : ℕ) {line : List ℕ} {command : Command}
+    (only : SpellsOnly line command) where
   -- the first reason that the snapshot's graph has refuses the line
-  pub reasoned : (reasons : List Reason) (graph : Graph) → Sees state.readers reader graph → (why : Refusal) → FirstReason reasons state.writer.shape.limit graph command why
+  pub reasoned : (reasons : List Reason) (graph : Graph) → Sees state.readers reader graph → (why : Refusal)
+      → FirstReason reasons state.writer.shape.limit graph command why
       → FirstHoldsFor (of_snapshots reasons) state reader (Whole line) why
   reasoned [] graph sees_it why first = absurd first
   reasoned (reason ∷ later) graph sees_it why (inl holds) = inl (graph, sees_it, (command, only.spelled, holds))
@@ -211,7 +224,8 @@ module _ {D : Type 0} {g : Ghosts D} {view : SharedView D} {state : SharedState}
         by (inl is) = subst IsLoud is loud tt
         by (inr is) = subst IsLoud is loud tt
 
-    lacks-first : (why : Refusal) → AreOfReaders (kind_of command) → view.session.console.health ≡ healths.Live → LacksSnapshot (state_of view.held reader) command why
+    lacks-first : (why : Refusal) → AreOfReaders (kind_of command) → view.session.console.health ≡ healths.Live
+        → LacksSnapshot (state_of view.held reader) command why
         → FirstHoldsFor (snapshot_open ∷ no_snapshot ∷ snapshot_ended ∷ of_snapshots change_reasons) state reader (Whole line) why
     lacks-first why reads live (inl (is, opened, told)) = inl (spells state reader only commands.Snapshot is, is-opened at reader opened, told)
     lacks-first why reads live (inr (inl (other, absent, told))) =
@@ -270,7 +284,8 @@ module _ {D : Type 0} {g : Ghosts D} {view : SharedView D} {state : SharedState}
 
   -- none refuses a command that is served
   none-early : view.session.console.health ≡ healths.Live → AreOfReaders (kind_of command) → (command ≡ commands.Snapshot → ¬ IsOpenFor state.readers reader)
-      → (command ≡ commands.Snapshot) ⊎ IsOpenFor state.readers reader ⊎ HasEnded state.readers reader → (command ≡ commands.Snapshot) ⊎ (command ≡ commands.Release) ⊎ IsOpenFor state.readers reader
+      → (command ≡ commands.Snapshot) ⊎ IsOpenFor state.readers reader ⊎ HasEnded state.readers reader → (command ≡ commands.Snapshot)
+      ⊎ (command ≡ commands.Release) ⊎ IsOpenFor state.readers reader
       → NoneHoldsFor reader_early state reader (Whole line)
   none-early live reads closed one ended = (
     whole state.writer line,
@@ -306,18 +321,24 @@ module _ {D : Type 0} {g : Ghosts D} {view : SharedView D} {state : SharedState}
       none-early live (subst (λ (c : Command). AreOfReaders (kind_of c)) (sym is) tt)
       (λ snaps. let clash : commands.Release ≡ commands.Snapshot = sym is ∙ snaps in cc) (inr (has-some at reader other)) (inr (inl is))
   serves-early (live, inr (inr (asks, opened))) =
-      none-early live (asks-reads asks) (λ snaps. absurd (subst IsQuestion snaps asks)) (inr (inl (is-opened at reader opened))) (inr (inr (is-opened at reader opened)))
+      none-early live (asks-reads asks) (λ snaps. absurd (subst IsQuestion snaps asks)) (inr (inl (is-opened at reader opened)))
+      (inr (inr (is-opened at reader opened)))
 
   -- no reason refuses a command about a snapshot
-  pub serves-none : ServesReader reader view command → (command ≡ commands.Snapshot) ⊎ (command ≡ commands.Release) → NoneHoldsFor reader_order state reader (Whole line)
-  serves-none served about = none-both reader_early (of_snapshots change_reasons) state reader line (serves-early served) (unreasoned state reader only change_reasons (free about))
+  pub serves-none : ServesReader reader view command → (command ≡ commands.Snapshot) ⊎ (command ≡ commands.Release)
+      → NoneHoldsFor reader_order state reader (Whole line)
+  serves-none served about = none-both reader_early (of_snapshots change_reasons) state reader line (serves-early served)
+      (unreasoned state reader only change_reasons (free about))
     where
       free : (command ≡ commands.Snapshot) ⊎ (command ≡ commands.Release) → (graph : Graph) → NoReason change_reasons state.writer.shape.limit graph command
-      free (inl is) graph = subst (NoReason change_reasons state.writer.shape.limit graph) (sym is) (unchanging-free commands.Snapshot (λ h. h) state.writer.shape.limit graph tt tt)
-      free (inr is) graph = subst (NoReason change_reasons state.writer.shape.limit graph) (sym is) (unchanging-free commands.Release (λ h. h) state.writer.shape.limit graph tt tt)
+      free (inl is) graph = subst (NoReason change_reasons state.writer.shape.limit graph) (sym is)
+          (unchanging-free commands.Snapshot (λ h. h) state.writer.shape.limit graph tt tt)
+      free (inr is) graph = subst (NoReason change_reasons state.writer.shape.limit graph) (sym is)
+          (unchanging-free commands.Release (λ h. h) state.writer.shape.limit graph tt tt)
 
   -- a reason of the snapshot's graph refuses a command that is served
-  pub serves-refused : ServesReader reader view command → (graph : Graph) → Sees state.readers reader graph → (why : Refusal) → FirstReason change_reasons state.writer.shape.limit graph command why
+  pub serves-refused : ServesReader reader view command → (graph : Graph) → Sees state.readers reader graph → (why : Refusal)
+      → FirstReason change_reasons state.writer.shape.limit graph command why
       → FirstHoldsFor reader_order state reader (Whole line) why
   serves-refused served graph sees_it why first =
       first-after reader_early (of_snapshots change_reasons) state reader line why (serves-early served) (reasoned change_reasons graph sees_it why first)

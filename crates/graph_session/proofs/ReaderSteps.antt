@@ -35,25 +35,26 @@ use Rattle.graph_session.proofs.States.{is_live}
 
 -- ---- a line that reads, over the graph of a console
 
-module _ (state : State) {line : List ℕ} {command : Command} (only : SpellsOnly line command) (asks : IsQuestion command) (reach : IsReached state (Whole line)) where
-  pub asked-step : (failed : Bool) (reply : Reply) → MayTell command reply → (told_fault reply ≢ 0 → failed ≡ true) → Means (seen state) command reply
-      → ConsoleStep state (record { line = Whole line; disk_failed = failed; reply = reply }) state
-  asked-step failed Silent form blames means = absurd form
-  asked-step failed Done form blames means = absurd form
-  asked-step failed (NodeMade id) form blames means = absurd form
-  asked-step failed (EdgeMade id) form blames means = absurd form
-  asked-step failed (Told lines last) form blames means = (
-    idle-accepted state only (asks-unchanging command asks) (means.0 state.shape.limit) reach,
-    command,
-    only.spelled,
-    carries-told state command asks lines last means.1,
-  )
-  asked-step failed (Faulted lines PastCount) form blames means = (reach, command, only.spelled, means, refl)
-  asked-step failed (Faulted lines NoMemory) form blames means = ((λ spared. form.0 (spared-only only spared)), refl, inr (command, only.spelled, reach, means))
-  asked-step failed (Faulted lines DiskFailed) form blames means =
-      (blames (λ e. absurd (omega (arith, e))), reach, command, only.spelled, means, leaves-same state line command asks)
-  asked-step failed (Faulted lines (DamagedRecord file id)) form blames means = absurd means
-  asked-step failed (Refused why) form blames means = (single-refused state only reach why (means state.shape.limit), refl)
+module _ (state : State) {line : List ℕ} {command : Command} (only : SpellsOnly line command) (asks : IsQuestion command) (reach : IsReached state (Whole line))
+  where
+    pub asked-step : (failed : Bool) (reply : Reply) → MayTell command reply → (told_fault reply ≢ 0 → failed ≡ true) → Means (seen state) command reply
+        → ConsoleStep state (record { line = Whole line; disk_failed = failed; reply = reply }) state
+    asked-step failed Silent form blames means = absurd form
+    asked-step failed Done form blames means = absurd form
+    asked-step failed (NodeMade id) form blames means = absurd form
+    asked-step failed (EdgeMade id) form blames means = absurd form
+    asked-step failed (Told lines last) form blames means = (
+      idle-accepted state only (asks-unchanging command asks) (means.0 state.shape.limit) reach,
+      command,
+      only.spelled,
+      carries-told state command asks lines last means.1,
+    )
+    asked-step failed (Faulted lines PastCount) form blames means = (reach, command, only.spelled, means, refl)
+    asked-step failed (Faulted lines NoMemory) form blames means = ((λ spared. form.0 (spared-only only spared)), refl, inr (command, only.spelled, reach, means))
+    asked-step failed (Faulted lines DiskFailed) form blames means =
+        (blames (λ e. absurd (omega (arith, e))), reach, command, only.spelled, means, leaves-same state line command asks)
+    asked-step failed (Faulted lines (DamagedRecord file id)) form blames means = absurd means
+    asked-step failed (Refused why) form blames means = (single-refused state only reach why (means state.shape.limit), refl)
 
 -- ---- the reader's snapshot
 
@@ -64,7 +65,8 @@ pub record HasSnapshot (P : Snapshot → Type 0) (snapshots : List Snapshot) (re
   pub sees_it : SeesAmong snapshots reader snapshot.graph
   pub says : P snapshot
 
-find-snapshot : (P : Snapshot → Type 0) (snapshots : List Snapshot) (reader : ℕ) → list_any (nat_eq reader) (snapshot_readers snapshots) ≡ true → AllByRecursion P snapshots → HasSnapshot P snapshots reader
+find-snapshot : (P : Snapshot → Type 0) (snapshots : List Snapshot) (reader : ℕ) → list_any (nat_eq reader) (snapshot_readers snapshots) ≡ true
+    → AllByRecursion P snapshots → HasSnapshot P snapshots reader
 find-snapshot P [] reader has each = absurd (false≢true has)
 find-snapshot P (first ∷ later) reader has each = by (nat_eq reader first.reader) refl has (λ more. find-snapshot P later reader more each.1)
   where
@@ -73,7 +75,8 @@ find-snapshot P (first ∷ later) reader has each = by (nat_eq reader first.read
     by true e h more = let own = sym (same_number reader first.reader e) in record { snapshot = first; is_own = own; sees_it = inl (own, refl); says = each.0 }
     by false e h more = let found = more h in record { snapshot = found.snapshot; is_own = found.is_own; sees_it = inr found.sees_it; says = found.says }
 
-module _ {D : Type 0} {g : Ghosts D} {view : SharedView D} {state : SharedState} (at : IsSharedAt g view state) (live : view.session.console.health ≡ healths.Live) (told : g.tells_reads) (reader : ℕ)
+module _ {D : Type 0} {g : Ghosts D} {view : SharedView D} {state : SharedState} (at : IsSharedAt g view state)
+    (live : view.session.console.health ≡ healths.Live) (told : g.tells_reads) (reader : ℕ)
     (opened : is_open reader view.held.open_ones ≡ true) where
   -- What a snapshot sees over what is committed: a store of its graph, whose names are the first of the session's.
   abbrev pub IsSeen : Snapshot → Type 0
@@ -102,7 +105,8 @@ module _ {D : Type 0} {g : Ghosts D} {view : SharedView D} {state : SharedState}
   own-named =
       let had = at.writer.holds told (is_live at.writer live) in
       let begins = begin-on view.session.console.names state.writer.committed.names own-snapshot.snapshot.graph.names had.brought own-snapshot.says.1 in
-      let store = subst (λ (shape : Shape). IsIndexed own_records shape) at.writer.shape (subst (λ (records : Key → Rec). IsIndexed records state.writer.shape) seen-as own-snapshot.says.0.store) in
+      let store = subst (λ (shape : Shape). IsIndexed own_records shape) at.writer.shape
+      (subst (λ (records : Key → Rec). IsIndexed records state.writer.shape) seen-as own-snapshot.says.0.store) in
       record { store = store.store; indexes = store.indexes; more = begins.0; named = begins.1 ∙ ap (λ (graph : Graph). graph.names ++ begins.0) (sym own-graph) }
 
   -- what a reply means in the graph of the records it means in the snapshot's

@@ -5,7 +5,8 @@ use Rattle.plain_graph.specs.Graph.{Graph, Index, empty_graph, has_edge, has_nod
 use Rattle.plain_graph.specs.Indexes.{has_index}
 use Rattle.plain_graph.specs.LineChanges.{first_refused}
 use Rattle.plain_graph.specs.Lines.{Asked, At, AtEdge, Between, Nowhere, asked_of, index_of}
-use Rattle.plain_graph.specs.Refusals.{FirstReason, NoReason, change_reasons, lacks_edge, lacks_index, lacks_node, lacks_only, lacks_only_edge, lacks_source, lacks_target}
+use Rattle.plain_graph.specs.Refusals.{FirstReason, NoReason, change_reasons, lacks_edge, lacks_index, lacks_node}
+use Rattle.plain_graph.specs.Refusals.{lacks_only, lacks_only_edge, lacks_source, lacks_target}
 use Rattle.plain_graph.specs.declared.command.Command.{Command}
 use Rattle.plain_graph.specs.declared.command.Command.TheVariants as commands
 use Rattle.plain_graph.specs.declared.refusal.Refusal.{Refusal}
@@ -87,7 +88,8 @@ first_of_elements graph (AtEdge id) why lacks = inr (λ _ h. h, inr (λ _ h. h, 
 -- ---- all reasons, in their order: a reason more is one more place in these three
 
 -- Nothing refuses a line that changes nothing and whose elements and index are all there.
-pub unchanging-free : (command : Command) → ¬ IsChange command → (limit : ℕ) (graph : Graph) → HasElements graph (asked_of command) → HasAsked graph command → NoReason change_reasons limit graph command
+pub unchanging-free : (command : Command) → ¬ IsChange command → (limit : ℕ) (graph : Graph) → HasElements graph (asked_of command) → HasAsked graph command
+    → NoReason change_reasons limit graph command
 unchanging-free (commands.Node label pairs) idle limit graph has there = absurd (idle tt)
 unchanging-free (commands.Edge from label to pairs) idle limit graph has there = absurd (idle tt)
 unchanging-free (commands.Set target key value) idle limit graph has there = absurd (idle tt)
@@ -104,7 +106,8 @@ unchanging-unrefused (commands.Mutate reading mutation) idle limit graph why ref
 unchanging-unrefused command idle limit graph why refused = refused
 
 -- the reason that holds first of all
-lifted : (command : Command) → ¬ IsChange command → (limit : ℕ) (graph : Graph) (why : Refusal) → FirstOfElements graph (asked_of command) why → FirstReason change_reasons limit graph command why
+lifted : (command : Command) → ¬ IsChange command → (limit : ℕ) (graph : Graph) (why : Refusal) → FirstOfElements graph (asked_of command) why
+    → FirstReason change_reasons limit graph command why
 lifted (commands.Node label pairs) idle limit graph why first = absurd (idle tt)
 lifted (commands.Edge from label to pairs) idle limit graph why first = absurd (idle tt)
 lifted (commands.Set target key value) idle limit graph why first = absurd (idle tt)
@@ -114,14 +117,17 @@ lifted (commands.Index label key) idle limit graph why first = absurd (idle tt)
 lifted command idle limit graph why (inl source) = inr (λ _ h. h, inl source)
 lifted command idle limit graph why (inr (some, inl target)) = inr (λ _ h. h, inr (some, inl target))
 lifted command idle limit graph why (inr (some, inr (also, inl only))) = inr (λ _ h. h, inr (some, inr (also, inr (λ _ h. h, inl only))))
-lifted command idle limit graph why (inr (some, inr (also, inr (besides, edge)))) = inr (λ _ h. h, inr (some, inr (also, inr (λ _ h. h, inr (besides, inl edge)))))
+lifted command idle limit graph why (inr (some, inr (also, inr (besides, edge)))) =
+    inr (λ _ h. h, inr (some, inr (also, inr (λ _ h. h, inr (besides, inl edge)))))
 
 -- The first element that is missing refuses it.
-pub unchanging-refused : (command : Command) → ¬ IsChange command → (limit : ℕ) (graph : Graph) (why : Refusal) → LacksElement graph (asked_of command) why → FirstReason change_reasons limit graph command why
+pub unchanging-refused : (command : Command) → ¬ IsChange command → (limit : ℕ) (graph : Graph) (why : Refusal) → LacksElement graph (asked_of command) why
+    → FirstReason change_reasons limit graph command why
 unchanging-refused command idle limit graph why lacks = lifted command idle limit graph why (first_of_elements graph (asked_of command) why lacks)
 
 -- An index that is missing refuses a line that asks of it, and whose elements are all there.
-pub unindexed-refused : (command : Command) → ¬ IsChange command → (limit : ℕ) (graph : Graph) (why : Refusal) → HasElements graph (asked_of command) → lacks_index (index_of command) graph why → FirstReason change_reasons limit graph command why
+pub unindexed-refused : (command : Command) → ¬ IsChange command → (limit : ℕ) (graph : Graph) (why : Refusal) → HasElements graph (asked_of command)
+    → lacks_index (index_of command) graph why → FirstReason change_reasons limit graph command why
 unindexed-refused (commands.Node label pairs) idle limit graph why has lacks = absurd (idle tt)
 unindexed-refused (commands.Edge from label to pairs) idle limit graph why has lacks = absurd (idle tt)
 unindexed-refused (commands.Set target key value) idle limit graph why has lacks = absurd (idle tt)

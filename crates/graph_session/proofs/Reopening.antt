@@ -55,10 +55,12 @@ names-other : (records : Records) (names rest : List (List ℕ)) (damage : Damag
 names-other records names rest damage is other = NotDamaged-prefix records names rest (rows.Damaged damage) is other
 
 module _ {D : Type 0} {g : Ghosts D} where
-  module _ (counts : CountsNow g) (s t : Store D g) (same : SameStore s.base t.base) (was_closed : s.base.in_transaction ≡ false) (closed : t.base.in_transaction ≡ false) (draft : t.draft.pairs ≡ [])
+  module _ (counts : CountsNow g) (s t : Store D g) (same : SameStore s.base t.base) (was_closed : s.base.in_transaction ≡ false)
+      (closed : t.base.in_transaction ≡ false) (draft : t.draft.pairs ≡ [])
       (later_on : g.faults s.base.disk.now ≤ g.faults t.base.disk.now)
       (crash : g.tells_reads → g.tells_images → (space : Key → Rec) → Redoes (content s) space → AtEachMoment g s.base.disk.now t.base.disk.now (λ left. g.may_leave s.base.disk.now left ⊎ Redoes left space))
-      (read : g.tells_reads → (space : Key → Rec) → Redoes (content s) space → Redoes (content t) space) (clean : ReadsClean g s.base.disk.now t.base.disk.now) (health : Health) (weight : ℕ) (names : List (List ℕ)) where
+      (read : g.tells_reads → (space : Key → Rec) → Redoes (content s) space → Redoes (content t) space) (clean : ReadsClean g s.base.disk.now t.base.disk.now)
+      (health : Health) (weight : ℕ) (names : List (List ℕ)) where
     leaves : LeavesSame g s.base.disk.now t.base.disk.now
     leaves told space redoes = crash told.0 told.1 space redoes
 
@@ -69,15 +71,18 @@ module _ {D : Type 0} {g : Ghosts D} where
     lost-at_once = record { ends = record { shape = same.shape; is_open = closed; no_draft = draft }; health = refl; names = refl; read = read; clean = clean }
 
     -- the disk failed in the recovery
-    pub lost_disk : Rose (g.faults s.base.disk.now) (g.faults t.base.disk.now) → SettlesCommand g commands.Reopen (seen_as s health weight names) (seen_as t healths.Failed weight names) (Faulted [] DiskFailed)
+    pub lost_disk : Rose (g.faults s.base.disk.now) (g.faults t.base.disk.now)
+        → SettlesCommand g commands.Reopen (seen_as s health weight names) (seen_as t healths.Failed weight names) (Faulted [] DiskFailed)
     lost_disk rose = record { settles = λ known line state only served at. settles-reopen_fault {g = as_known known g} counts at was_closed only (leaves_known known) (lost-known known lost-at_once) rose; may = λ none. inr (was_closed, leaves, inr (inl ((refl, rose), lost-at_once))); onward = record { disk_later = later_on } }
 
     -- what is read was told to be no store of the newest version
     pub lost_damaged : (damage : Damage) → (g.tells_reads → (space : Key → Rec) → Redoes (content s) space → finding.IsMade space s.base.shape → ¬ IsOld space → ⊥)
         → (g.tells_reads → RefusesAgain (content s) s.base.shape (again_faults.Damaged damage))
-        → SettlesCommand g commands.Reopen (seen_as s health weight names) (seen_as t healths.Failed weight names) (Faulted [] (DamagedRecord damage.file damage.id))
+        → SettlesCommand g commands.Reopen (seen_as s health weight names) (seen_as t healths.Failed weight names)
+        (Faulted [] (DamagedRecord damage.file damage.id))
     lost_damaged damage sound refused = record {
-      settles = λ known line state only served at. settles-reopen_damaged {g = as_known known g} counts at was_closed only damage.file damage.id (leaves_known known) (lost-known known lost-at_once) (λ told. none known at told);
+      settles = λ known line state only served at. settles-reopen_damaged {g = as_known known g} counts at was_closed only damage.file damage.id
+          (leaves_known known) (lost-known known lost-at_once) (λ told. none known at told);
       may = λ undrafted. inr (was_closed, leaves, inr (inr (damage, refl, lost-at_once, λ told. inl (refused told))));
       onward = record { disk_later = later_on };
     }
@@ -88,7 +93,8 @@ module _ {D : Type 0} {g : Ghosts D} where
             sound (told_of known g told) had.space had.redoes (subst (λ (shape : Shape). finding.IsMade had.space shape) at.shape (newest-made had.space state.shape had.store.store.ranges))
             (newest-not_old had.space state.shape had.store.store.ranges)
 
-    module _ (own : t.base.own ≡ s.base.own) (no_own : length s.base.own.pairs ≡ 0) (recovered : IsRecovered s.base t.base) (u : Store D g) (reads : OnlyReadsBase t.base u.base) (no_draft : u.draft.pairs ≡ [])
+    module _ (own : t.base.own ≡ s.base.own) (no_own : length s.base.own.pairs ≡ 0) (recovered : IsRecovered s.base t.base) (u : Store D g)
+        (reads : OnlyReadsBase t.base u.base) (no_draft : u.draft.pairs ≡ [])
         (later_still : g.faults t.base.disk.now ≤ g.faults u.base.disk.now) where
       leaves_all : LeavesSame g s.base.disk.now u.base.disk.now
       leaves_all = leaves-same_read g s.base.disk.now t.base.disk.now u.base.disk.now counts leaves reads.disk
@@ -113,7 +119,8 @@ module _ {D : Type 0} {g : Ghosts D} where
       drafted-space told space redoes = drafted-none t draft ∙ working-none t.base no_own-now ∙ recovered.space told space redoes
 
       -- the name that is blamed is one of those that what was read redoes to
-      other-found : (damage : Damage) → (g.tells_reads → IsFirstOther (drafted t) names damage) → g.tells_reads → (space : Key → Rec) × Redoes (content s) space × IsFirstOther space names damage
+      other-found : (damage : Damage) → (g.tells_reads → IsFirstOther (drafted t) names damage) → g.tells_reads → (space : Key → Rec) × Redoes (content s) space
+          × IsFirstOther space names damage
       other-found damage blames told =
           let had = recovered.store told in
           (had.space, had.redoes, subst (λ (records : Records). IsFirstOther records names damage) (drafted-space told had.space had.redoes) (blames told))
@@ -121,7 +128,8 @@ module _ {D : Type 0} {g : Ghosts D} where
       far : g.faults s.base.disk.now ≤ g.faults u.base.disk.now
       far = omega (arith, later_on, later_still)
 
-      found : (healthier : Health) (weigher : ℕ) (named : List (List ℕ)) → IsNamed t named healthier → IsFound g (seen_as s health weight names) (seen_as u healthier weigher named)
+      found : (healthier : Health) (weigher : ℕ) (named : List (List ℕ)) → IsNamed t named healthier
+          → IsFound g (seen_as s health weight names) (seen_as u healthier weigher named)
       found healthier weigher named is = record {
         ends = ends healthier weigher named;
         health = is.live;
@@ -131,14 +139,17 @@ module _ {D : Type 0} {g : Ghosts D} where
         working = λ told. working-none u.base (ap (λ (held : Held). held.pairs) reads.own ∙ no_own-now);
         read = read_on;
         clean = clean_on;
-        images = λ told image left. subst (λ (space : Key → Rec). Redoes image space) (sym (committed-read t.base u.base reads)) (recovered.stored.images told.0 told.1 image (reads.disk.crash told.1 image left));
+        images = λ told image left. subst (λ (space : Key → Rec). Redoes image space) (sym (committed-read t.base u.base reads))
+            (recovered.stored.images told.0 told.1 image (reads.disk.crash told.1 image left));
       }
 
-      lost : (healthier : Health) (weigher : ℕ) (named : List (List ℕ)) → IsUnnamed names named healthier → IsLost g (seen_as s health weight names) (seen_as u healthier weigher named)
+      lost : (healthier : Health) (weigher : ℕ) (named : List (List ℕ)) → IsUnnamed names named healthier
+          → IsLost g (seen_as s health weight names) (seen_as u healthier weigher named)
       lost healthier weigher named is = record { ends = ends healthier weigher named; health = is.failed; names = is.same; read = read_on; clean = clean_on }
 
       -- the names in memory begin with those of the graph that the disk has
-      names-begin : (known : Bool) {state : State} → IsAt (as_known known g) (seen_as s health weight names) state → (as_known known g).tells_reads → BeginWith names (names_of (drafted t))
+      names-begin : (known : Bool) {state : State} → IsAt (as_known known g) (seen_as s health weight names) state → (as_known known g).tells_reads
+          → BeginWith names (names_of (drafted t))
       names-begin known at told =
           let had = at.reads told in
           subst (λ (first : List (List ℕ)). BeginWith names first)
@@ -149,7 +160,8 @@ module _ {D : Type 0} {g : Ghosts D} where
       pub named_again : (healthier : Health) (weigher : ℕ) (named : List (List ℕ)) (answer : Answer) → TakesNames t u names named healthier answer
           → SettlesCommand g commands.Reopen (seen_as s health weight names) (seen_as u healthier weigher named) (reply_of answer)
       named_again healthier weigher named answers.Done takes = record {
-        settles = λ known line state only served at. settles-reopen {g = as_known known g} at was_closed (found-known known (found healthier weigher named takes)) only (leaves_all_known known);
+        settles = λ known line state only served at. settles-reopen {g = as_known known g} at was_closed
+            (found-known known (found healthier weigher named takes)) only (leaves_all_known known);
         may = λ none. inr (was_closed, leaves_all, inl (refl, found healthier weigher named takes));
         onward = record { disk_later = far };
       }
@@ -159,14 +171,17 @@ module _ {D : Type 0} {g : Ghosts D} where
       named_again healthier weigher named (answers.Refused why) takes = absurd takes
       named_again healthier weigher named answers.NoMemory takes = absurd takes
       named_again healthier weigher named answers.DiskFailed takes = record {
-        settles = λ known line state only served at. settles-reopen_fault {g = as_known known g} counts at was_closed only (leaves_all_known known) (lost-known known (lost healthier weigher named takes.0)) (Rose-from (g.faults s.base.disk.now) (g.faults t.base.disk.now) (g.faults u.base.disk.now) later_on takes.1);
+        settles = λ known line state only served at. settles-reopen_fault {g = as_known known g} counts at was_closed only (leaves_all_known known)
+            (lost-known known (lost healthier weigher named takes.0)) (Rose-from (g.faults s.base.disk.now) (g.faults t.base.disk.now) (g.faults u.base.disk.now) later_on takes.1);
         may = λ none.
             inr (was_closed, leaves_all, inr (inl ((refl, Rose-from (g.faults s.base.disk.now) (g.faults t.base.disk.now) (g.faults u.base.disk.now) later_on takes.1), lost healthier weigher named takes.0)));
         onward = record { disk_later = far };
       }
       named_again healthier weigher named (answers.Damaged damage) takes = record {
         settles = λ known line state only served at.
-            settles-reopen_damaged {g = as_known known g} counts at was_closed only damage.file damage.id (leaves_all_known known) (lost-known known (lost healthier weigher named takes.0)) (λ told. let begins = names-begin known at told in names-other (drafted t) names begins.0 damage begins.1 (takes.1 (told_of known g told)));
+            settles-reopen_damaged {g = as_known known g} counts at was_closed only damage.file damage.id (leaves_all_known known)
+            (lost-known known (lost healthier weigher named takes.0))
+            (λ told. let begins = names-begin known at told in names-other (drafted t) names begins.0 damage begins.1 (takes.1 (told_of known g told)));
         may = λ none. inr (was_closed, leaves_all, inr (inr (damage, refl, lost healthier weigher named takes.0, λ told. inr (other-found damage takes.1 told))));
         onward = record { disk_later = far };
       }

@@ -36,7 +36,9 @@ use Rattle.graph_session.specs.declared.turn.Turn.TheVariants.{Go}
 use Rattle.graph_session.proofs.ListedLines.{HasLines, lines-add, lines-last, lines-none, lines-stop}
 use Rattle.graph_session.proofs.Questioned.{OfStore}
 use Rattle.graph_session.proofs.Reasons.{HasAsked}
-use Rattle.graph_session.proofs.WholeReplies.{BeginResults, all_lines, asks-query, lines-first, more_lines, query-all, query-stop, query-tell, reading_of, rest_of, results-more, results-none, whole-blames, whole-form, whole-means, whole-text, whole-told, whole_of}
+use Rattle.graph_session.proofs.WholeReplies.{BeginResults, all_lines, asks-query, lines-first, more_lines, query-all}
+use Rattle.graph_session.proofs.WholeReplies.{query-stop, query-tell, reading_of, rest_of, results-more, results-none}
+use Rattle.graph_session.proofs.WholeReplies.{whole-blames, whole-form, whole-means, whole-text, whole-told, whole_of}
 use Rattle.graph_session.proofs.Streams.{Rose-from}
 
 -- ---- spaces that were only read
@@ -76,7 +78,8 @@ first-first : (found : List Item) (item : Item) (coming : Stream) → with_first
 first-first found item coming = λ i. record { items = sym (append_assoc found (item ∷ []) coming.items) i; past = coming.past }
 
 -- Some results of a query were found, and the run has the others. Each that was found has a line.
-pub record IsRunning {R K : Type 0} (space : SpaceGhosts R) (sink : SinkGhosts K) (names : List (List ℕ)) (query : Query) (mark : List ℕ) (old now : R) (before after : K) (held : MarkedLines) (run : Run) : Type 0 where
+pub record IsRunning {R K : Type 0} (space : SpaceGhosts R) (sink : SinkGhosts K) (names : List (List ℕ)) (query : Query) (mark : List ℕ) (old now : R)
+    (before after : K) (held : MarkedLines) (run : Run) : Type 0 where
   pub found : List Item
   pub lines : List (List ℕ)
   pub formed : AreResults query.maps lines
@@ -88,8 +91,10 @@ pub record IsRunning {R K : Type 0} (space : SpaceGhosts R) (sink : SinkGhosts K
   pub has : HasLines sink mark before after held lines
 
 -- nothing was found yet
-pub running-first : {R K : Type 0} {space : SpaceGhosts R} {sink : SinkGhosts K} (names : List (List ℕ)) (query : Query) (mark : List ℕ) {old now : R} → IsRead space old now → (k : K) (run : Run)
-    → OfStore space names old (λ graph. to_come graph run ≡ meant graph query) → OfStore space names old (λ graph. HasAsked graph (commands.Query query)) → stopped_by run ≡ None
+pub running-first : {R K : Type 0} {space : SpaceGhosts R} {sink : SinkGhosts K} (names : List (List ℕ)) (query : Query) (mark : List ℕ) {old now : R}
+    → IsRead space old now → (k : K) (run : Run)
+    → OfStore space names old (λ graph. to_come graph run ≡ meant graph query) → OfStore space names old (λ graph. HasAsked graph (commands.Query query))
+    → stopped_by run ≡ None
     → IsRunning space sink names query mark old now k k (no_lines mark) run
 running-first names query mark read k run begins there goes = record {
   found = [];
@@ -103,7 +108,8 @@ running-first names query mark read k run begins there goes = record {
   has = lines-none mark k;
 }
 
-module _ {R K : Type 0} {space : SpaceGhosts R} {sink : SinkGhosts K} {names : List (List ℕ)} {query : Query} {mark : List ℕ} (further : (a b c : R) → space.onward a b → space.onward b c → space.onward a c) {old now : R} {before after : K}
+module _ {R K : Type 0} {space : SpaceGhosts R} {sink : SinkGhosts K} {names : List (List ℕ)} {query : Query} {mark : List ℕ}
+    (further : (a b c : R) → space.onward a b → space.onward b c → space.onward a c) {old now : R} {before after : K}
     {held : MarkedLines} {run : Run} (running : IsRunning space sink names query mark old now before after held run) where
   abbrev graph : Graph
   graph = graph_of (space.state old).records
@@ -117,7 +123,8 @@ module _ {R K : Type 0} {space : SpaceGhosts R} {sink : SinkGhosts K} {names : L
 
   -- what the run says of the records as they are now, it says of those at the start
   pub at_start : (P : Graph → Type 0) → OfStore space names now P → OfStore space names old P
-  at_start P says told store = subst (λ (records : Records). P (graph_of records)) (records-same (space.state old) (space.state now) running.read.same) (says told (named-now store))
+  at_start P says told store = subst (λ (records : Records). P (graph_of records)) (records-same (space.state old) (space.state now) running.read.same)
+      (says told (named-now store))
 
   -- the results so far, with what is still to come
   first-found : (coming : Stream) → to_come graph run ≡ coming → OfStore space names old (λ graph. meant graph query ≡ with_first running.found coming)
@@ -137,7 +144,8 @@ module _ {R K : Type 0} {space : SpaceGhosts R} {sink : SinkGhosts K} {names : L
     read-on = is_read-on space further old now next running.read reads
 
     -- all results were found
-    pub running-end : OfStore space names now (λ graph. to_come graph run ≡ stream []) → (then : K) (turn : Turn) → Gives sink (held.bytes ++ (held.mark ++ text_line end_text)) after then turn
+    pub running-end : OfStore space names now (λ graph. to_come graph run ≡ stream []) → (then : K) (turn : Turn)
+        → Gives sink (held.bytes ++ (held.mark ++ text_line end_text)) after then turn
         → GivesReading space sink names (commands.Query query) mark old next before then turn
     running-end ends then turn gives = record {
       reply = Told running.lines end_text;
@@ -154,9 +162,11 @@ module _ {R K : Type 0} {space : SpaceGhosts R} {sink : SinkGhosts K} {names : L
     }
 
     -- the run stopped with a fault
-    pub running-fault : (fault : Fault) → OfStore space names old (λ graph. MeansFault graph (commands.Query query) running.lines fault) → (told_in fault ≢ 0 → Rose (space.faults now) (space.faults next))
+    pub running-fault : (fault : Fault) → OfStore space names old (λ graph. MeansFault graph (commands.Query query) running.lines fault)
+        → (told_in fault ≢ 0 → Rose (space.faults now) (space.faults next))
         → (space.tells → TellsBroken (space.state old).records (space.state old).shape (Faulted running.lines fault)) → (then : K) (turn : Turn)
-        → Gives sink (held.bytes ++ (held.mark ++ fault_line fault)) after then turn → GivesReading space sink names (commands.Query query) mark old next before then turn
+        → Gives sink (held.bytes ++ (held.mark ++ fault_line fault)) after then turn
+        → GivesReading space sink names (commands.Query query) mark old next before then turn
     running-fault fault means rose broken then turn gives = record {
       reply = Faulted running.lines fault;
       form = query-stop query running.lines running.formed fault;
@@ -177,25 +187,32 @@ module _ {R K : Type 0} {space : SpaceGhosts R} {sink : SinkGhosts K} {names : L
   past-found passes told store = ap (λ (s : Stream). s.past) (running.coming told store) ∙ at_start (λ g. (to_come g run).past ≡ true) passes told store
 
   -- so a count passes in what the query asks for
-  pub shows-past : OfStore space names now (λ graph. (to_come graph run).past ≡ true) → OfStore space names old (λ graph. ShowsPast graph (commands.Query query) running.lines)
+  pub shows-past : OfStore space names now (λ graph. (to_come graph run).past ≡ true)
+      → OfStore space names old (λ graph. ShowsPast graph (commands.Query query) running.lines)
   shows-past passes told store = (reading_of graph query, refl, past-found passes told store, begin-lines told store)
 
   -- records were not read to their end
-  pub running-stopped : {next : R} → IsRead space now next → (fault : StopFault) → (fault ≡ faults.Disk → Rose (space.faults now) (space.faults next)) → (space.tells → BlamesBroken (space.state now).records (space.state now).shape fault)
-      → (then : K) (turn : Turn) → Gives sink (held.bytes ++ (held.mark ++ fault_line (stop_of fault))) after then turn → GivesReading space sink names (commands.Query query) mark old next before then turn
-  running-stopped reads faults.Memory rose blames then turn gives = running-fault reads NoMemory shows-some (λ told. absurd (told refl)) (λ told. tt) then turn gives
+  pub running-stopped : {next : R} → IsRead space now next → (fault : StopFault) → (fault ≡ faults.Disk → Rose (space.faults now) (space.faults next))
+      → (space.tells → BlamesBroken (space.state now).records (space.state now).shape fault)
+      → (then : K) (turn : Turn) → Gives sink (held.bytes ++ (held.mark ++ fault_line (stop_of fault))) after then turn
+      → GivesReading space sink names (commands.Query query) mark old next before then turn
+  running-stopped reads faults.Memory rose blames then turn gives = running-fault reads NoMemory shows-some (λ told. absurd (told refl)) (λ told. tt) then turn
+      gives
   running-stopped reads faults.Disk rose blames then turn gives = running-fault reads DiskFailed shows-some (λ told. rose refl) (λ told. tt) then turn gives
   running-stopped reads (faults.Damaged damage) rose blames then turn gives =
-      let broken : space.tells → Breaks (space.state old).records (space.state old).shape damage = λ told. blamed-same (space.state old) (space.state now) (faults.Damaged damage) running.read.same (blames told) in
+      let broken : space.tells → Breaks (space.state old).records (space.state old).shape damage = λ told.
+      blamed-same (space.state old) (space.state now) (faults.Damaged damage) running.read.same (blames told) in
       running-fault reads (DamagedRecord damage.file damage.id) (λ told store. absurd (none_broken (space.state old).records (space.state old).shape store.store damage (broken told)))
       (λ told. absurd (told refl)) (λ told. (damage.rule, inl (broken told))) then turn gives
 
   -- ---- one more result
 
-  module _ {mid : R} (comes-read : IsRead space now mid) (later : Run) (item : Item) (comes : OfStore space names now (λ graph. to_come graph run ≡ with_first (item ∷ []) (to_come graph later))) where
+  module _ {mid : R} (comes-read : IsRead space now mid) (later : Run) (item : Item)
+      (comes : OfStore space names now (λ graph. to_come graph run ≡ with_first (item ∷ []) (to_come graph later))) where
     found_more : OfStore space names old (λ graph. meant graph query ≡ with_first (running.found ++ item ∷ []) (to_come graph later))
     found_more told store =
-        first-found (with_first (item ∷ []) (to_come graph later)) (at_start (λ g. to_come g run ≡ with_first (item ∷ []) (to_come g later)) comes told store) told store
+        first-found (with_first (item ∷ []) (to_come graph later)) (at_start (λ g. to_come g run ≡ with_first (item ∷ []) (to_come g later)) comes told store)
+        told store
         ∙ first-first running.found item (to_come graph later)
 
     -- what is read until its line is gathered
@@ -211,12 +228,14 @@ module _ {R K : Type 0} {space : SpaceGhosts R} {sink : SinkGhosts K} {names : L
       shown-more told store =
           let same = is_read-on space further old now mid running.read comes-read in
           let line : adds.line ≡ line_of item
-          = subst (λ (records : Records). adds.line ≡ shown_line (graph_of records) query.maps item) (records-same (space.state old) (space.state mid) same.same)
+          = subst (λ (records : Records). adds.line ≡ shown_line (graph_of records) query.maps item)
+          (records-same (space.state old) (space.state mid) same.same)
           (adds.shown told (named-same (space.state old) (space.state mid) names same.same store)) in
           (λ i. running.shown told store i ++ line i ∷ []) ∙ sym (map-append line_of running.found (item ∷ []))
 
       -- a result was found, and its line gathered
-      pub running-on : {next : R} → IsRead space mid next → turn ≡ Go → stopped_by later ≡ None → IsRunning space sink names query mark old next before then new later
+      pub running-on : {next : R} → IsRead space mid next → turn ≡ Go → stopped_by later ≡ None
+          → IsRunning space sink names query mark old next before then new later
       running-on reads is goes = record {
         found = running.found ++ item ∷ [];
         lines = running.lines ++ adds.line ∷ [];
@@ -239,8 +258,10 @@ module _ {R K : Type 0} {space : SpaceGhosts R} {sink : SinkGhosts K} {names : L
           record {
             reply = whole_of past lines more;
             form = whole-form graph query lines found formed-more past;
-            gives = subst (λ (text : List ℕ). Gives sink text before then turn) (whole-text mark past lines more) (lines-stop running.has adds.line new then turn adds.adds stops (rest_of mark past more));
-            means = λ told store. whole-means graph query lines found (running.there told store) (shown-more told store) ((to_come graph later).items, sym (ap (λ (s : Stream). s.items) (found_more told store))) past refl;
+            gives = subst (λ (text : List ℕ). Gives sink text before then turn) (whole-text mark past lines more)
+                (lines-stop running.has adds.line new then turn adds.adds stops (rest_of mark past more));
+            means = λ told store. whole-means graph query lines found (running.there told store) (shown-more told store)
+                ((to_come graph later).items, sym (ap (λ (s : Stream). s.items) (found_more told store))) past refl;
             judges = λ told. record { verdict = λ is. cc; blames = whole-blames (space.state old).records (space.state old).shape past lines more };
             told = λ blames. absurd (blames (whole-told past lines more));
             read = read-to reads;
@@ -248,8 +269,10 @@ module _ {R K : Type 0} {space : SpaceGhosts R} {sink : SinkGhosts K} {names : L
           }
 
     -- its line was not known
-    pub running-unshown : {new : MarkedLines} {between then : K} {next : R} (fault : StopFault) → IsRead space mid next → AddsNone space mid next held new after between fault → (turn : Turn)
-        → Gives sink (new.bytes ++ (new.mark ++ fault_line (stop_of fault))) between then turn → GivesReading space sink names (commands.Query query) mark old next before then turn
+    pub running-unshown : {new : MarkedLines} {between then : K} {next : R} (fault : StopFault) → IsRead space mid next
+        → AddsNone space mid next held new after between fault → (turn : Turn)
+        → Gives sink (new.bytes ++ (new.mark ++ fault_line (stop_of fault))) between then turn
+        → GivesReading space sink names (commands.Query query) mark old next before then turn
     running-unshown {new = new} {between = between} {then = then} {next = next} fault reads none turn gives =
         running-stopped (is_read-on space further now mid next comes-read reads) fault
         (λ is. Rose-from (space.faults now) (space.faults mid) (space.faults next) comes-read.later (none.disk is))

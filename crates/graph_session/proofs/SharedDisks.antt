@@ -13,7 +13,8 @@ use Rattle.record_file.specs.Redone.{Redoes}
 use Rattle.record_file.proofs.Redone.{Redoes-kept}
 use Rattle.record_file.specs.Unique.{Redoes-unique}
 use Rattle.graph_session.specs.Console.{SessionView}
-use Rattle.graph_session.specs.Effects.{Begins, Commits, CommitsAlone, Drops, FailsDrafted, FailsRead, IsAloneInDoubt, IsBrought, IsFound, IsLeftOpen, IsLost, IsStopped, Keeps, KeepsBeneath, Stays}
+use Rattle.graph_session.specs.Effects.{Begins, Commits, CommitsAlone, Drops, FailsDrafted, FailsRead, IsAloneInDoubt}
+use Rattle.graph_session.specs.Effects.{IsBrought, IsFound, IsLeftOpen, IsLost, IsStopped, Keeps, KeepsBeneath, Stays}
 use Rattle.graph_session.specs.MayStep.{MayAnswerKind, MayBound, MayChange, MayKeep, MayRead}
 use Rattle.graph_session.specs.declared.health.Health.{Health}
 use Rattle.graph_session.specs.declared.health.Health.TheVariants as healths
@@ -36,7 +37,8 @@ module _ {D : Type 0} (g : Ghosts D) (old new : SessionView D) (told : g.tells_r
   only-same : OnlyReads g old.disk new.disk → ReadsSame
   only-same reads space redoes = Redoes-kept space (g.reads new.disk) (g.reads old.disk) redoes (same-back (g.reads old.disk) (g.reads new.disk) reads.keeps)
 
-  only-stored : OnlyReads g old.disk new.disk → new.console.committed ≡ old.console.committed → new.console.health ≡ old.console.health → IsStoredNow old → IsStoredNow new
+  only-stored : OnlyReads g old.disk new.disk → new.console.committed ≡ old.console.committed → new.console.health ≡ old.console.health → IsStoredNow old
+      → IsStoredNow new
   only-stored reads committed health stored = λ live.
       subst (λ (space : Key → Rec). Redoes (g.reads new.disk) space) (sym committed)
       (Redoes-kept old.console.committed (g.reads old.disk) (g.reads new.disk) (stored (sym health ∙ live)) reads.keeps)
@@ -93,7 +95,8 @@ module _ {D : Type 0} (g : Ghosts D) (old new : SessionView D) (told : g.tells_r
   -- what was read is found again
   module _ (space : Key → Rec) (was : Redoes (g.reads old.disk) space) where
     found-same : Redoes (g.reads new.disk) space → ReadsSame
-    found-same now other redoes = subst (λ (records : Key → Rec). Redoes (g.reads old.disk) records) (Redoes-unique (g.reads new.disk) space other now redoes) was
+    found-same now other redoes = subst (λ (records : Key → Rec). Redoes (g.reads old.disk) records) (Redoes-unique (g.reads new.disk) space other now redoes)
+        was
 
     pub quiet-found : IsFound g old new → IsQuiet
     quiet-found found = record {
@@ -119,7 +122,8 @@ module _ {D : Type 0} (g : Ghosts D) (old new : SessionView D) (told : g.tells_r
 
 -- ---- by the command
 
-module _ {D : Type 0} (g : Ghosts D) (old : SessionView D) (reply : Reply) (new : SessionView D) (told : g.tells_reads) (stored : IsStoredNow g old new told old) (was : (space : Key → Rec) × Redoes (g.reads old.disk) space) where
+module _ {D : Type 0} (g : Ghosts D) (old : SessionView D) (reply : Reply) (new : SessionView D) (told : g.tells_reads)
+    (stored : IsStoredNow g old new told old) (was : (space : Key → Rec) × Redoes (g.reads old.disk) space) where
   -- a command that keeps no old records
   quiet-bound : (command : Command) → ¬ (command ≡ commands.Commit) → MayBound g old reply new command → IsQuiet g old new told
   quiet-bound commands.Begin other (inl refused) = quiet-none g old new told refused.2 stored
@@ -129,7 +133,8 @@ module _ {D : Type 0} (g : Ghosts D) (old : SessionView D) (reply : Reply) (new 
   quiet-bound commands.Rollback other (inr done) = quiet-drops g old new told done.2 stored
   quiet-bound command other never = absurd never
 
-  quiet-keep : (command : Command) → (¬ (command ≡ commands.Reopen) → old.console.health ≡ healths.Live) → MayKeep g old reply new command → IsQuiet g old new told
+  quiet-keep : (command : Command) → (¬ (command ≡ commands.Reopen) → old.console.health ≡ healths.Live) → MayKeep g old reply new command
+      → IsQuiet g old new told
   quiet-keep commands.Checkpoint live (inl refused) = quiet-none g old new told refused.2 stored
   quiet-keep commands.Checkpoint live (inr (closed, leaves, inl done)) = quiet-brought g old new told done.1 (live (λ e. cc)) stored
   quiet-keep commands.Checkpoint live (inr (closed, leaves, inr failed)) = quiet-stopped g old new told failed.1 (live (λ e. cc)) stored
@@ -166,7 +171,8 @@ module _ {D : Type 0} (g : Ghosts D) (old : SessionView D) (reply : Reply) (new 
   same-open command is (inr (inr (inr (inr (fault, inl (opened, stays)))))) = (quiet-stays g old new told stays stored).same
   same-open command is (inr (inr (inr (inr (fault, inr (closed, failed)))))) = let clash : true ≡ false = sym is ∙ closed in cc
 
-  pub stored-answer : (kind : Kind) (command : Command) → (¬ (command ≡ commands.Reopen) → old.console.health ≡ healths.Live) → MayAnswerKind g old reply new kind command → IsStoredNow g old new told new
+  pub stored-answer : (kind : Kind) (command : Command) → (¬ (command ≡ commands.Reopen) → old.console.health ≡ healths.Live)
+      → MayAnswerKind g old reply new kind command → IsStoredNow g old new told new
   stored-answer Blanks command live never = absurd never
   stored-answer Ending command live never = absurd never
   stored-answer Bound commands.Commit live may = stored-commit may
@@ -185,10 +191,12 @@ module _ {D : Type 0} (g : Ghosts D) (old : SessionView D) (reply : Reply) (new 
   same-commit closed (inl refused) = (quiet-none g old new told refused.2 stored).same
   same-commit closed (inr done) = let clash : true ≡ false = sym done.0 ∙ closed in cc
 
-  pub same-keep : (command : Command) → (¬ (command ≡ commands.Reopen) → old.console.health ≡ healths.Live) → MayKeep g old reply new command → ReadsSame g old new told
+  pub same-keep : (command : Command) → (¬ (command ≡ commands.Reopen) → old.console.health ≡ healths.Live) → MayKeep g old reply new command
+      → ReadsSame g old new told
   same-keep command live may = (quiet-keep command live may).same
 
-  pub same-change : (command : Command) → (old.console.is_open ≡ true) ⊎ OnlyReads g old.disk new.disk → MayChange g old reply new command → ReadsSame g old new told
+  pub same-change : (command : Command) → (old.console.is_open ≡ true) ⊎ OnlyReads g old.disk new.disk → MayChange g old reply new command
+      → ReadsSame g old new told
   same-change command (inl opened) may = same-open command opened may
   same-change command (inr reads) may = only-same g old new told reads
 

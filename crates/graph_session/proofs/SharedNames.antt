@@ -16,7 +16,8 @@ use Rattle.plain_graph.specs.declared.command.Command.TheVariants as commands
 use Rattle.plain_graph.specs.declared.command.Target.TheVariants as targets
 use Rattle.graph_ops.proofs.LineNames.{uses_prefix}
 use Rattle.graph_session.specs.Console.{BeginWith}
-use Rattle.graph_session.specs.Exchange.{CarriesKind, ConsoleStep, IsDone, KeepsStore, LeavesBound, LeavesChange, LeavesKind, LeavesStore, MakesChange, MovesBound, Stops, failing}
+use Rattle.graph_session.specs.Exchange.{CarriesKind, ConsoleStep, IsDone, KeepsStore, LeavesBound, LeavesChange}
+use Rattle.graph_session.specs.Exchange.{LeavesKind, LeavesStore, MakesChange, MovesBound, Stops, failing}
 use Rattle.graph_session.specs.Refusals.{SpellsOnly}
 use Rattle.graph_session.specs.State.{Admits, Live, State, Transaction, admitted, graphs_from}
 use Rattle.graph_session.proofs.Known.{begin-all}
@@ -28,7 +29,8 @@ uses-begins old name new (inl known) = ([], known.1 ∙ sym (append-nil old))
 uses-begins old name new (inr fresh) = (name ∷ [], fresh.1)
 
 -- a change brings names, and takes none away
-changes-begins : (limit : ℕ) (old : Graph) (command : Command) (reply : Reply) (new : Graph) → Changes limit old command reply new → BeginWith new.names old.names
+changes-begins : (limit : ℕ) (old : Graph) (command : Command) (reply : Reply) (new : Graph) → Changes limit old command reply new
+    → BeginWith new.names old.names
 changes-begins limit old (commands.Node label pairs) reply new (id, is, adds) = uses_prefix old.names (label ∷ keys_in pairs) new.names adds.names
 changes-begins limit old (commands.Edge from label to pairs) reply new (id, is, adds) = uses_prefix old.names (label ∷ keys_in pairs) new.names adds.names
 changes-begins limit old (commands.Set target key value) reply new (is, sets) = uses-begins old.names key new.names sets.names
@@ -39,14 +41,17 @@ changes-begins limit old (commands.Index label key) reply new (is, adds) = uses_
 changes-begins limit old command reply new never = absurd never
 
 -- and so do changes one after the other
-each-begins : (limit : ℕ) (old : Graph) (commands : List Command) (replies : List Reply) (new : Graph) → ChangesEach limit old commands replies new → BeginWith new.names old.names
+each-begins : (limit : ℕ) (old : Graph) (commands : List Command) (replies : List Reply) (new : Graph) → ChangesEach limit old commands replies new
+    → BeginWith new.names old.names
 each-begins limit old [] replies new each = begin-all new.names old.names (ap (λ (graph : Graph). graph.names) each.1)
 each-begins limit old (command ∷ later) replies new (reply, rest, between, are, changes, more) =
     begin-on new.names between.names old.names (each-begins limit between later rest new more) (changes-begins limit old command reply between changes)
 
 -- and the line
-line-begins : (limit : ℕ) (old : Graph) (command : Command) (reply : Reply) (new : Graph) → LineChanges limit old command reply new → BeginWith new.names old.names
-line-begins limit old (commands.Mutate reading mutation) reply new (replies, is, each) = each-begins limit old (asked_changes old reading mutation) replies new each
+line-begins : (limit : ℕ) (old : Graph) (command : Command) (reply : Reply) (new : Graph) → LineChanges limit old command reply new
+    → BeginWith new.names old.names
+line-begins limit old (commands.Mutate reading mutation) reply new (replies, is, each) =
+    each-begins limit old (asked_changes old reading mutation) replies new each
 line-begins limit old command reply new changes = changes-begins limit old command reply new changes
 
 -- The shape stays, and each graph that is admitted has first the names of one that was.
@@ -68,10 +73,12 @@ module _ (old : State) where
   one-graph a one graph (zero, low, is) = subst (λ (found : Graph). (before : Graph) × Admits old before × BeginWith found.names before.names) is one
   one-graph a one graph (suc k, low, is) = absurd (omega (arith, low))
 
-  two-graphs : (a b : Graph) → (before : Graph) × Admits old before × BeginWith a.names before.names → (before : Graph) × Admits old before × BeginWith b.names before.names
+  two-graphs : (a b : Graph) → (before : Graph) × Admits old before × BeginWith a.names before.names → (before : Graph) × Admits old before
+      × BeginWith b.names before.names
       → (graph : Graph) → Contains (a ∷ b ∷ []) graph → (before : Graph) × Admits old before × BeginWith graph.names before.names
   two-graphs a b one other graph (zero, low, is) = subst (λ (found : Graph). (before : Graph) × Admits old before × BeginWith found.names before.names) is one
-  two-graphs a b one other graph (suc zero, low, is) = subst (λ (found : Graph). (before : Graph) × Admits old before × BeginWith found.names before.names) is other
+  two-graphs a b one other graph (suc zero, low, is) = subst (λ (found : Graph). (before : Graph) × Admits old before × BeginWith found.names before.names) is
+      other
   two-graphs a b one other graph (suc (suc k), low, is) = absurd (omega (arith, low))
 
   module _ (live : old.standing ≡ Live) where
@@ -83,7 +90,8 @@ module _ (old : State) where
     own = after-own old.committed (begin-all old.committed.names old.committed.names refl)
 
     -- it is committed
-    on-commit : {new : State} (graph : Graph) (open_one : Option Transaction) → BeginWith graph.names old.committed.names → new ≡ record old { committed = graph; open_one = open_one } → GoesOn old new
+    on-commit : {new : State} (graph : Graph) (open_one : Option Transaction) → BeginWith graph.names old.committed.names
+        → new ≡ record old { committed = graph; open_one = open_one } → GoesOn old new
     on-commit {new} graph open_one begins is =
         on-graphs (graph ∷ []) (ap (λ (s : State). s.shape) is)
         (ap admitted is ∙ ap (graphs_from graph) live) (one-graph graph (after-own graph begins))
@@ -92,13 +100,15 @@ module _ (old : State) where
     on-failing is = on-graphs (old.committed ∷ []) (ap (λ (s : State). s.shape) is) (ap admitted is) (one-graph old.committed own)
 
     on-doubt : {new : State} (graph : Graph) → BeginWith graph.names old.committed.names → new ≡ failing old (old.committed ∷ graph ∷ []) → GoesOn old new
-    on-doubt graph begins is = on-graphs (old.committed ∷ graph ∷ []) (ap (λ (s : State). s.shape) is) (ap admitted is) (two-graphs old.committed graph own (after-own graph begins))
+    on-doubt graph begins is = on-graphs (old.committed ∷ graph ∷ []) (ap (λ (s : State). s.shape) is) (ap admitted is)
+        (two-graphs old.committed graph own (after-own graph begins))
 
 -- An open transaction has first the committed graph's names.
 abbrev pub BringsNames : State → Type 0
 BringsNames state = (transaction : Transaction) → state.open_one ≡ Some transaction → BeginWith transaction.graph.names state.committed.names
 
-module _ (old : State) (line : List ℕ) (command : Command) (only : SpellsOnly line command) (served : (old.standing ≡ Live) ⊎ (command ≡ commands.Reopen)) (brings : BringsNames old) (new : State) where
+module _ (old : State) (line : List ℕ) (command : Command) (only : SpellsOnly line command) (served : (old.standing ≡ Live) ⊎ (command ≡ commands.Reopen))
+    (brings : BringsNames old) (new : State) where
   -- a command of another kind than `reopen` is served live
   live-by : ¬ (command ≡ commands.Reopen) → old.standing ≡ Live
   live-by other = by served
@@ -112,9 +122,11 @@ module _ (old : State) (line : List ℕ) (command : Command) (only : SpellsOnly 
   live-at c is other = live-by (λ e. other (is ∙ e))
 
   bound-goes : (c : Command) (reply : Reply) → c ≡ command → MovesBound old c reply new → GoesOn old new
-  bound-goes commands.Begin reply is done = subst (GoesOn old) (sym done.1) (record { shape = refl; names = λ graph admits. (graph, admits, begin-all graph.names graph.names refl) })
+  bound-goes commands.Begin reply is done = subst (GoesOn old) (sym done.1)
+      (record { shape = refl; names = λ graph admits. (graph, admits, begin-all graph.names graph.names refl) })
   bound-goes commands.Commit reply is done = on-commit old (live-at commands.Commit is (λ e. cc)) done.1.graph None (brings done.1 done.2) done.3
-  bound-goes commands.Rollback reply is done = subst (GoesOn old) (sym done.1) (record { shape = refl; names = λ graph admits. (graph, admits, begin-all graph.names graph.names refl) })
+  bound-goes commands.Rollback reply is done = subst (GoesOn old) (sym done.1)
+      (record { shape = refl; names = λ graph admits. (graph, admits, begin-all graph.names graph.names refl) })
   bound-goes c reply is never = absurd never
 
   kept-goes : (c : Command) (reply : Reply) → KeepsStore old c reply new → GoesOn old new
@@ -146,12 +158,14 @@ module _ (old : State) (line : List ℕ) (command : Command) (only : SpellsOnly 
 
   left-bound : (c : Command) → c ≡ command → LeavesBound old c new → GoesOn old new
   left-bound commands.Commit is (transaction, opened, inl left) = on-failing old (live-at commands.Commit is (λ e. cc)) left
-  left-bound commands.Commit is (transaction, opened, inr left) = on-doubt old (live-at commands.Commit is (λ e. cc)) transaction.graph (brings transaction opened) left
+  left-bound commands.Commit is (transaction, opened, inr left) = on-doubt old (live-at commands.Commit is (λ e. cc)) transaction.graph
+      (brings transaction opened) left
   left-bound c is never = absurd never
 
   left-store : (c : Command) → c ≡ command → LeavesStore old c new → GoesOn old new
   left-store commands.Checkpoint is left = on-failing old (live-at commands.Checkpoint is (λ e. cc)) left
-  left-store commands.Reopen is left = on-graphs old (admitted old) (ap (λ (s : State). s.shape) left) (ap admitted left) (λ graph admits. (graph, admits, begin-all graph.names graph.names refl))
+  left-store commands.Reopen is left = on-graphs old (admitted old) (ap (λ (s : State). s.shape) left) (ap admitted left)
+      (λ graph admits. (graph, admits, begin-all graph.names graph.names refl))
   left-store c is never = absurd never
 
   left-change : (c : Command) → c ≡ command → kind_of c ≡ Change → LeavesChange old (Whole line) c new → GoesOn old new

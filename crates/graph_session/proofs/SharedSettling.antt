@@ -38,7 +38,8 @@ use Rattle.graph_session.proofs.States.{is_closed, is_live, is_open}
 use Rattle.graph_session.proofs.Weighing.{length-weighed}
 
 -- only a change has a weight
-weighs-kind : (limit threshold : ℕ) (graph : Graph) (command : Command) (weight : ℕ) → LineWeighs limit threshold graph command weight → kind_of command ≡ Change
+weighs-kind : (limit threshold : ℕ) (graph : Graph) (command : Command) (weight : ℕ) → LineWeighs limit threshold graph command weight
+    → kind_of command ≡ Change
 weighs-kind limit threshold graph (commands.Node label pairs) weight weighs = refl
 weighs-kind limit threshold graph (commands.Edge from label to pairs) weight weighs = refl
 weighs-kind limit threshold graph (commands.Set target key value) weight weighs = refl
@@ -48,8 +49,10 @@ weighs-kind limit threshold graph (commands.Index label key) weight weighs = ref
 weighs-kind limit threshold graph (commands.Mutate reading mutation) weight weighs = refl
 weighs-kind limit threshold graph command weight never = absurd never
 
-module _ {D : Type 0} {g : Ghosts D} (known : Bool) {line : List ℕ} {command : Command} (only : SpellsOnly line command) {old new : SharedView D} {state : SharedState} {reply : Reply}
-    (at : IsSharedAt (as_known known g) old state) (served : IsServed old.session.console command) (settles : Settles (as_known known g) (Whole line) old.session new.session state.writer reply)
+module _ {D : Type 0} {g : Ghosts D} (known : Bool) {line : List ℕ} {command : Command} (only : SpellsOnly line command) {old new : SharedView D}
+    {state : SharedState} {reply : Reply}
+    (at : IsSharedAt (as_known known g) old state) (served : IsServed old.session.console command)
+    (settles : Settles (as_known known g) (Whole line) old.session new.session state.writer reply)
     (may : MayAnswer g command old.session reply new.session) (keeps : KeepsOlds g command old reply new) where
   served-state : (state.writer.standing ≡ Live) ⊎ (command ≡ commands.Reopen)
   served-state = by served
@@ -97,7 +100,8 @@ module _ {D : Type 0} {g : Ghosts D} (known : Bool) {line : List ℕ} {command :
           writer = settles.arrives.is_at;
           stored = stored;
           weighed = keeps.weighed at.writer.no_draft at.weighed;
-          snapshots = subst (λ held. HoldsSnapshots (as_known known g) held new.session.disk (record { writer = settles.after; readers = state.readers })) (sym same)
+          snapshots = subst (λ held. HoldsSnapshots (as_known known g) held new.session.disk (record { writer = settles.after; readers = state.readers }))
+              (sym same)
               (holds-still (as_known known g) old.held old.session.disk state at.snapshots new.session.disk settles.after (λ told. (goes told).shape) (λ told. (goes told).names) (λ told. reads told));
         };
         crash = settles.arrives.crash;
@@ -109,10 +113,14 @@ module _ {D : Type 0} {g : Ghosts D} (known : Bool) {line : List ℕ} {command :
     }
 
   -- old records were kept for a transaction of this weight
-  module _ (live : old.session.console.health ≡ healths.Live) (written : Pairs) (kept : KeepsFor g old reply new written) (weight : ℕ) (few : length written ≤ weight) (ends : (as_known known g).tells_reads → EndsOfWeight state.writer (Whole line) weight) where
-    after : HoldsAfter (as_known known g) old.held old.session.disk state at.snapshots new.session.disk settles.after (λ told. (goes told).shape) (λ told. (goes told).names) weight new.held
-    after = holds-kept (as_known known g) old.held old.session.disk state at.snapshots new.session.disk settles.after (λ told. (goes told).shape) (λ told. (goes told).names)
-        old.session.console.committed (λ told. at.stored told live) new.held (λ told. kept.sights (told_of known g told)) written kept.ended weight (kept.held weight few)
+  module _ (live : old.session.console.health ≡ healths.Live) (written : Pairs) (kept : KeepsFor g old reply new written) (weight : ℕ)
+      (few : length written ≤ weight) (ends : (as_known known g).tells_reads → EndsOfWeight state.writer (Whole line) weight) where
+    after : HoldsAfter (as_known known g) old.held old.session.disk state at.snapshots new.session.disk settles.after (λ told. (goes told).shape)
+        (λ told. (goes told).names) weight new.held
+    after = holds-kept (as_known known g) old.held old.session.disk state at.snapshots new.session.disk settles.after (λ told. (goes told).shape)
+        (λ told. (goes told).names)
+        old.session.console.committed (λ told. at.stored told live) new.held (λ told. kept.sights (told_of known g told)) written kept.ended weight
+        (kept.held weight few)
 
     settled-kept : SettlesShared SharedConsoleStep (as_known known g) (Whole line) old new state reply
     settled-kept = record {
@@ -139,13 +147,17 @@ module _ {D : Type 0} {g : Ghosts D} (known : Bool) {line : List ℕ} {command :
   ends-none commits changes weight (inr (closed, c, spelled, more, weighs, is)) confirms =
       changes (ap kind_of (sym (only.only c spelled)) ∙ weighs-kind state.writer.shape.limit state.writer.shape.threshold state.writer.committed c more weighs)
 
-  ends-closed : old.session.console.is_open ≡ false → command ≡ commands.Commit → (weight : ℕ) → EndsOfWeight state.writer (Whole line) weight → ¬ Confirms reply
-  ends-closed closed commit weight (inl (transaction, opened, spelled, is)) confirms = let clash : None ≡ Some transaction = sym (is_closed at.writer closed) ∙ opened in cc
+  ends-closed : old.session.console.is_open ≡ false → command ≡ commands.Commit → (weight : ℕ) → EndsOfWeight state.writer (Whole line) weight
+      → ¬ Confirms reply
+  ends-closed closed commit weight (inl (transaction, opened, spelled, is)) confirms = let clash : None ≡ Some transaction = sym (is_closed at.writer closed)
+      ∙ opened in cc
   ends-closed closed commit weight (inr (none, c, spelled, more, weighs, is)) confirms =
-      let clash : Bound ≡ Change = ap kind_of (sym commit ∙ sym (only.only c spelled)) ∙ weighs-kind state.writer.shape.limit state.writer.shape.threshold state.writer.committed c more weighs in cc
+      let clash : Bound ≡ Change = ap kind_of (sym commit ∙ sym (only.only c spelled))
+      ∙ weighs-kind state.writer.shape.limit state.writer.shape.threshold state.writer.committed c more weighs in cc
 
   ends-open : old.session.console.is_open ≡ true → kind_of command ≡ Change → (weight : ℕ) → EndsOfWeight state.writer (Whole line) weight → ¬ Confirms reply
-  ends-open opened change weight (inl (transaction, is_one, spelled, is)) confirms = let clash : Bound ≡ Change = ap kind_of (only.only commands.Commit spelled) ∙ change in cc
+  ends-open opened change weight (inl (transaction, is_one, spelled, is)) confirms = let clash : Bound ≡ Change = ap kind_of (only.only commands.Commit spelled)
+      ∙ change in cc
   ends-open opened change weight (inr (none, c, spelled, more, weighs, is)) confirms =
       let one = is_open at.writer opened in let clash : None ≡ Some one.0 = sym none ∙ one.1 in cc
 
@@ -154,7 +166,8 @@ module _ {D : Type 0} {g : Ghosts D} (known : Bool) {line : List ℕ} {command :
   of-bound : (c : Command) → c ≡ command → kind_of c ≡ Bound → KeepsKind g old reply new Bound c → MayAnswerKind g old.session reply new.session Bound c
       → SettlesShared SharedConsoleStep (as_known known g) (Whole line) old new state reply
   of-bound commands.Commit is kind (inl (same, closed)) answer =
-      settled-same same (λ told. same-commit g old.session reply new.session (told_of known g told) (at.stored told) (was told) closed answer) (ends-closed closed (sym is))
+      settled-same same (λ told. same-commit g old.session reply new.session (told_of known g told) (at.stored told) (was told) closed answer)
+      (ends-closed closed (sym is))
   of-bound commands.Commit is kind (inr (opened, kept)) answer =
       let one = is_open at.writer opened in
       settled-kept (served-live (λ e. let clash : commands.Commit ≡ commands.Reopen = is ∙ e in cc)) old.session.console.written kept old.session.console.weight
@@ -171,9 +184,11 @@ module _ {D : Type 0} {g : Ghosts D} (known : Bool) {line : List ℕ} {command :
   of-change : kind_of command ≡ Change → KeepsKind g old reply new Change command → MayAnswerKind g old.session reply new.session Change command
       → SettlesShared SharedConsoleStep (as_known known g) (Whole line) old new state reply
   of-change kind (inl (same, inl opened)) answer =
-      settled-same same (λ told. same-change g old.session reply new.session (told_of known g told) (at.stored told) (was told) command (inl opened) answer) (ends-open opened kind)
+      settled-same same (λ told. same-change g old.session reply new.session (told_of known g told) (at.stored told) (was told) command (inl opened) answer)
+      (ends-open opened kind)
   of-change kind (inl (same, inr (unconfirmed, reads))) answer =
-      settled-same same (λ told. same-change g old.session reply new.session (told_of known g told) (at.stored told) (was told) command (inr reads) answer) (λ weight ends. unconfirmed)
+      settled-same same (λ told. same-change g old.session reply new.session (told_of known g told) (at.stored told) (was told) command (inr reads) answer)
+      (λ weight ends. unconfirmed)
   of-change kind (inr (closed, written, writes, committed, kept)) answer =
       let live = served-live (λ e. let clash : Change ≡ Upkeep = sym kind ∙ ap kind_of e in cc) in
       settled-kept live written kept (start_weight + writes.more) (length-weighed written (start_weight + writes.more) writes.weighed)

@@ -20,7 +20,8 @@ use Rattle.graph_session.specs.Console.{BeginWith}
 use Rattle.graph_session.specs.SharedConsole.{AreOfSessions, HoldsSnapshots, ShowsGraph, snapshot_readers}
 use Rattle.graph_session.specs.Snapshots.{Outlives, Readers, SharedState, Snapshot}
 use Rattle.graph_session.specs.State.{Admits, State}
-use Rattle.graph_session.proofs.SnapshotLists.{AreApart, IsLeft, all-layers, all-left, all-open, all-readers, all_both, all_more, apart-of, distinct-of, outlives-with_room, width-with_room}
+use Rattle.graph_session.proofs.SnapshotLists.{AreApart, IsLeft, all-layers, all-left, all-open, all-readers, all_both}
+use Rattle.graph_session.proofs.SnapshotLists.{all_more, apart-of, distinct-of, outlives-with_room, width-with_room}
 
 -- The state admits graphs that have first the names of one that the other admits.
 abbrev pub NamesGoOn : Type 0 → State → State → Type 0
@@ -37,13 +38,15 @@ shows-on before after old new earlier later snapshot shape sight shows = record 
   graph = ap graph_of sight ∙ shows.graph;
 }
 
-module _ {D : Type 0} (g : Ghosts D) (held : Snapshots) (old : D) (state : SharedState) (holds : HoldsSnapshots g held old state) (new : D) (writer : State) (shape : g.tells_reads → writer.shape ≡ state.writer.shape)
+module _ {D : Type 0} (g : Ghosts D) (held : Snapshots) (old : D) (state : SharedState) (holds : HoldsSnapshots g held old state) (new : D) (writer : State)
+    (shape : g.tells_reads → writer.shape ≡ state.writer.shape)
     (names : NamesGoOn g.tells_reads state.writer writer) where
   names-on : (snapshots : List Snapshot) → (told : g.tells_reads) → ((graph : Graph) → Admits state.writer graph → AllByRecursion (λ (snapshot : Snapshot). BeginWith graph.names snapshot.graph.names) snapshots)
       → (graph : Graph) → Admits writer graph → AllByRecursion (λ (snapshot : Snapshot). BeginWith graph.names snapshot.graph.names) snapshots
   names-on snapshots told had graph admits =
       let found = names told graph admits in
-      all_more (λ (snapshot : Snapshot). BeginWith found.0.names snapshot.graph.names) (λ (snapshot : Snapshot). BeginWith graph.names snapshot.graph.names) snapshots
+      all_more (λ (snapshot : Snapshot). BeginWith found.0.names snapshot.graph.names) (λ (snapshot : Snapshot). BeginWith graph.names snapshot.graph.names)
+      snapshots
       (λ snapshot begins. begin-on graph.names found.0.names snapshot.graph.names found.2 begins) (had found.0 found.1)
 
   -- no old record was kept, and what is read of the disk is what was read
@@ -56,7 +59,8 @@ module _ {D : Type 0} (g : Ghosts D) (held : Snapshots) (old : D) (state : Share
     within = holds.within;
     shows = λ told committed redoes.
         all_more (ShowsGraph held.open_ones state.writer.shape committed) (ShowsGraph held.open_ones writer.shape committed) state.readers.open_ones
-        (λ snapshot shows. shows-on held.open_ones held.open_ones state.writer.shape writer.shape committed committed snapshot (shape told) refl shows) (holds.shows told committed (same told committed redoes));
+        (λ snapshot shows. shows-on held.open_ones held.open_ones state.writer.shape writer.shape committed committed snapshot (shape told) refl shows)
+        (holds.shows told committed (same told committed redoes));
     names = λ told. names-on state.readers.open_ones told (holds.names told);
   }
 
@@ -100,12 +104,14 @@ module _ {D : Type 0} (g : Ghosts D) (held : Snapshots) (old : D) (state : Share
         ended = λ reader. ap (λ (flags : List Bool). slice_index_or flags reader false) ends.ended ∙ left.flags reader;
         within = record {
           sums = risen weight holds.within.sums;
-          each = all-left (λ (snapshot : Snapshot). holds.within.sums snapshot.reader ≡ snapshot.sum) (λ (snapshot : Snapshot). risen weight holds.within.sums snapshot.reader ≡ snapshot.sum)
+          each = all-left (λ (snapshot : Snapshot). holds.within.sums snapshot.reader ≡ snapshot.sum)
+              (λ (snapshot : Snapshot). risen weight holds.within.sums snapshot.reader ≡ snapshot.sum)
               weight state.readers.open_ones state.readers.ended left.readers (λ snapshot is. ap (λ n. n + weight) is) holds.within.each left.outlive;
           covered = keeps.covered holds.within.sums holds.within.covered;
         };
         shows = λ told later redoes.
-            all_both (ShowsGraph held.open_ones state.writer.shape committed) (λ (snapshot : Snapshot). is_open snapshot.reader kept.open_ones ≡ true) (ShowsGraph kept.open_ones writer.shape later) left.readers.open_ones
+            all_both (ShowsGraph held.open_ones state.writer.shape committed) (λ (snapshot : Snapshot). is_open snapshot.reader kept.open_ones ≡ true)
+            (ShowsGraph kept.open_ones writer.shape later) left.readers.open_ones
             (λ snapshot shows is. shows-on held.open_ones kept.open_ones state.writer.shape writer.shape committed later snapshot (shape told) (sights told later redoes snapshot.reader is) shows)
             (all-left (ShowsGraph held.open_ones state.writer.shape committed) (ShowsGraph held.open_ones state.writer.shape committed) weight state.readers.open_ones state.readers.ended left.readers
             (λ snapshot shows. record { store = shows.store; graph = shows.graph }) (holds.shows told committed (stored told)) left.outlive)

@@ -1,5 +1,7 @@
 -- Snapshots beside the layers of their old records.
-use Rattle.std.proofs.Common.{◌≡◌, ◌≢◌, ⊎_elim, inl, inr, ℕ, ◌+◌, ◌<◌, Bool, true, false, cond, ◌||◌, nat_eq, List, [], ◌∷◌, ◌++◌, length, map, filter, slice_index_or, slice_set, refl, ap, sym, subst, ◌∙◌, arith}
+use Rattle.std.proofs.Common.{◌≡◌, ◌≢◌, ⊎_elim, inl, inr, ℕ, ◌+◌, ◌<◌, Bool, true, false, cond, ◌||◌, nat_eq, List, []}
+use Rattle.std.proofs.Common.{◌∷◌, ◌++◌, length, map, filter, slice_index_or, slice_set, refl, ap, sym, subst, ◌∙◌}
+use Rattle.std.proofs.Common.{arith}
 use mathlib.Core.Bool.{false≢true}
 use Rattle.std.proofs.lemmas.Bool.Decides.{nat_tests}
 use Rattle.std.proofs.lemmas.List.{get_or-set_other, get_or-set_same, length-set}
@@ -84,7 +86,8 @@ pub all-layers : (P : ℕ → Type 0) (layers : Layers) → AllByRecursion P (re
 all-layers P [] h = tt
 all-layers P (layer ∷ younger) h = (h.0, all-layers P younger h.1)
 
-pub all-snapshots : (P : ℕ → Type 0) (snapshots : List Snapshot) → AllByRecursion P (snapshot_readers snapshots) → AllByRecursion (λ (snapshot : Snapshot). P snapshot.reader) snapshots
+pub all-snapshots : (P : ℕ → Type 0) (snapshots : List Snapshot) → AllByRecursion P (snapshot_readers snapshots)
+    → AllByRecursion (λ (snapshot : Snapshot). P snapshot.reader) snapshots
 all-snapshots P [] h = tt
 all-snapshots P (snapshot ∷ later) h = (h.0, all-snapshots P later h.1)
 
@@ -100,7 +103,8 @@ opens (layer ∷ younger) = (
 -- and so has each snapshot beside them
 pub all-open : (layers : Layers) (snapshots : List Snapshot) → readers_of layers ≡ snapshot_readers snapshots
     → AllByRecursion (λ (snapshot : Snapshot). is_open snapshot.reader layers ≡ true) snapshots
-all-open layers snapshots same = all-snapshots (λ reader. is_open reader layers ≡ true) snapshots (subst (AllByRecursion (λ reader. is_open reader layers ≡ true)) same (opens layers))
+all-open layers snapshots same = all-snapshots (λ reader. is_open reader layers ≡ true) snapshots
+    (subst (AllByRecursion (λ reader. is_open reader layers ≡ true)) same (opens layers))
 
 -- ---- the flags of the readers whose snapshot has ended
 
@@ -128,7 +132,8 @@ heavier-readers weight [] = refl
 heavier-readers weight (snapshot ∷ later) = ap (λ xs. snapshot.reader ∷ xs) (heavier-readers weight later)
 
 -- none is left that wasn't there
-pub not-left : (count : ℕ) (layers : Layers) (flags : List Bool) (reader : ℕ) → is_open reader layers ≡ false → is_open reader (with_room count layers flags).open_ones ≡ false
+pub not-left : (count : ℕ) (layers : Layers) (flags : List Bool) (reader : ℕ) → is_open reader layers ≡ false
+    → is_open reader (with_room count layers flags).open_ones ≡ false
 not-left count [] flags reader closed = closed
 not-left count (layer ∷ younger) flags reader closed =
     by (lacks_room count (layer ∷ younger)) (not-left count younger (slice_set flags layer.reader true) reader)
@@ -164,7 +169,8 @@ outlives-with_room weight count (layer ∷ younger) (snapshot ∷ later) flags e
     set_length = length-set flags layer.reader true
 
     flagged : (reader : ℕ) → slice_index_or (slice_set flags layer.reader true) reader false ≡ (nat_eq reader snapshot.reader || list_any (nat_eq reader) ended)
-    flagged reader = flag-set flags layer.reader reader true few.0 ∙ at (nat_eq reader layer.reader) (nat_eq reader snapshot.reader) (ap (nat_eq reader) reader_is)
+    flagged reader = flag-set flags layer.reader reader true few.0 ∙ at (nat_eq reader layer.reader) (nat_eq reader snapshot.reader)
+        (ap (nat_eq reader) reader_is)
       where
         at : (s t : Bool) → s ≡ t → cond s true (slice_index_or flags reader false) ≡ (t || list_any (nat_eq reader) ended)
         at true true e = refl
@@ -195,7 +201,8 @@ outlives-with_room weight count (layer ∷ younger) (snapshot ∷ later) flags e
     }
 
 -- those that are left were there, with smaller sums
-pub all-left : (P Q : Snapshot → Type 0) (weight : ℕ) (snapshots : List Snapshot) (ended : List ℕ) (new : Readers) → ((snapshot : Snapshot) → P snapshot → Q (heavier weight snapshot))
+pub all-left : (P Q : Snapshot → Type 0) (weight : ℕ) (snapshots : List Snapshot) (ended : List ℕ) (new : Readers)
+    → ((snapshot : Snapshot) → P snapshot → Q (heavier weight snapshot))
     → AllByRecursion P snapshots → Outlive weight snapshots ended new → AllByRecursion Q new.open_ones
 all-left P Q weight [] ended new f h is = subst (λ (r : Readers). AllByRecursion Q r.open_ones) (sym is) tt
 all-left P Q weight (x ∷ xs) ended new f h is = ⊎_elim
@@ -213,6 +220,7 @@ width-with_room count (layer ∷ younger) flags =
     by (lacks_room count (layer ∷ younger)) (width-with_room count younger (slice_set flags layer.reader true))
   where
     by : (t : Bool) → length (with_room count younger (slice_set flags layer.reader true)).ended ≡ length (slice_set flags layer.reader true)
-        → length (cond t (with_room count younger (slice_set flags layer.reader true)) (record { open_ones = layer ∷ younger; ended = flags })).ended ≡ length flags
+        → length (cond t (with_room count younger (slice_set flags layer.reader true)) (record { open_ones = layer ∷ younger; ended = flags })).ended ≡ length
+        flags
     by true more = more ∙ length-set flags layer.reader true
     by false more = refl

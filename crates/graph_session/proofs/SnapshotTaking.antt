@@ -1,5 +1,7 @@
 -- A snapshot is taken, or released.
-use Rattle.std.proofs.Common.{◌≡◌, ℕ, zero, suc, ◌+◌, ◌<◌, Bool, true, false, cond, not, ◌||◌, nat_eq, replicate, None, is_some, List, [], ◌∷◌, ◌++◌, length, filter, slice_index_or, slice_set, refl, ap, sym, subst, ◌∙◌, arith}
+use Rattle.std.proofs.Common.{◌≡◌, ℕ, zero, suc, ◌+◌, ◌<◌, Bool, true, false, cond, not, ◌||◌, nat_eq, replicate, None}
+use Rattle.std.proofs.Common.{is_some, List, [], ◌∷◌, ◌++◌, length, filter, slice_index_or, slice_set, refl, ap, sym}
+use Rattle.std.proofs.Common.{subst, ◌∙◌, arith}
 use mathlib.Core.Bool.{false≢true}
 use Rattle.std.proofs.lemmas.Bool.Decides.{nat_tests}
 use Rattle.std.proofs.lemmas.List.{append-nil, length-set, map-append}
@@ -23,7 +25,9 @@ use Rattle.graph_session.specs.Snapshots.{SharedState, Snapshot, is_of, with_sna
 use Rattle.graph_session.specs.Stands.{HoldsAdmitted}
 use Rattle.graph_session.specs.State.{Live, State}
 use Rattle.graph_session.proofs.SnapshotLaws.{shows-on}
-use Rattle.graph_session.proofs.SnapshotLists.{AreApart, all-layers, all-open, all-readers, all_both, all_end, all_filtered, all_more, apart-of, flag-set, opens, own_number, same_number}
+use Rattle.graph_session.proofs.SnapshotLists.{AreApart, all-layers, all-open, all-readers, all_both, all_end}
+use Rattle.graph_session.proofs.SnapshotLists.{all_filtered, all_more, apart-of, flag-set, opens, own_number}
+use Rattle.graph_session.proofs.SnapshotLists.{same_number}
 use Rattle.graph_session.proofs.Stands.{admits-only}
 
 pub symmetric : (m n : ℕ) → nat_eq m n ≡ nat_eq n m
@@ -52,7 +56,8 @@ without-any r reader (x ∷ xs) = by (nat_eq x reader) (nat_eq r reader) refl re
     by : (u t : Bool) → nat_eq x reader ≡ u → nat_eq r reader ≡ t → cond (nat_eq r reader) false (list_any (nat_eq r) xs) ≡ list_any (nat_eq r) (but reader xs)
         → cond t false (nat_eq r x || list_any (nat_eq r) xs) ≡ list_any (nat_eq r) (cond (not u) (x ∷ but reader xs) (but reader xs))
     by true true e f later = ap (λ (t : Bool). cond t false (list_any (nat_eq r) xs)) (sym f) ∙ later
-    by true false e f later = ap (λ (b : Bool). b || list_any (nat_eq r) xs) (misses e f) ∙ ap (λ (t : Bool). cond t false (list_any (nat_eq r) xs)) (sym f) ∙ later
+    by true false e f later = ap (λ (b : Bool). b || list_any (nat_eq r) xs) (misses e f) ∙ ap (λ (t : Bool). cond t false (list_any (nat_eq r) xs)) (sym f)
+        ∙ later
     by false true e f later = sym (ap (λ (b : Bool). b || list_any (nat_eq r) (but reader xs)) (passes e f) ∙ sym later ∙ ap (λ (t : Bool). cond t false (list_any (nat_eq r) xs)) f)
     by false false e f later = ap (λ (b : Bool). nat_eq r x || b) (ap (λ (t : Bool). cond t false (list_any (nat_eq r) xs)) (sym f) ∙ later)
 
@@ -75,12 +80,14 @@ but-first reader x xs is none =
 but-other : (reader x : ℕ) (xs : List ℕ) → nat_eq reader x ≡ false → but reader (x ∷ xs) ≡ x ∷ but reader xs
 but-other reader x xs is = ap (λ (t : Bool). cond (not t) (x ∷ but reader xs) (but reader xs)) (symmetric x reader ∙ is)
 
-behind-readers : (reader : ℕ) (older : Layer) (layers : Layers) → AreApart (readers_of layers) → readers_of (released_behind reader older layers) ≡ older.reader ∷ but reader (readers_of layers)
+behind-readers : (reader : ℕ) (older : Layer) (layers : Layers) → AreApart (readers_of layers)
+    → readers_of (released_behind reader older layers) ≡ older.reader ∷ but reader (readers_of layers)
 behind-readers reader older [] apart = refl
 behind-readers reader older (layer ∷ younger) apart = by (nat_eq reader layer.reader) refl (behind-readers reader layer younger apart.1)
   where
     by : (t : Bool) → nat_eq reader layer.reader ≡ t → readers_of (released_behind reader layer younger) ≡ layer.reader ∷ but reader (readers_of younger)
-        → readers_of (cond t (joined older layer ∷ younger) (older ∷ released_behind reader layer younger)) ≡ older.reader ∷ but reader (layer.reader ∷ readers_of younger)
+        → readers_of (cond t (joined older layer ∷ younger) (older ∷ released_behind reader layer younger)) ≡ older.reader ∷ but reader
+        (layer.reader ∷ readers_of younger)
     by true e more = ap (λ xs. older.reader ∷ xs) (sym (but-first reader layer.reader (readers_of younger) e apart.0))
     by false e more = ap (λ xs. older.reader ∷ xs) (more ∙ sym (but-other reader layer.reader (readers_of younger) e))
 
@@ -88,11 +95,13 @@ pub released-readers : (reader : ℕ) (layers : Layers) → AreApart (readers_of
 released-readers reader [] apart = refl
 released-readers reader (layer ∷ younger) apart = by (nat_eq reader layer.reader) refl
   where
-    by : (t : Bool) → nat_eq reader layer.reader ≡ t → readers_of (cond t younger (released_behind reader layer younger)) ≡ but reader (layer.reader ∷ readers_of younger)
+    by : (t : Bool) → nat_eq reader layer.reader ≡ t → readers_of (cond t younger (released_behind reader layer younger)) ≡ but reader
+        (layer.reader ∷ readers_of younger)
     by true e = sym (but-first reader layer.reader (readers_of younger) e apart.0)
     by false e = behind-readers reader layer younger apart.1 ∙ sym (but-other reader layer.reader (readers_of younger) e)
 
-kept-readers : (reader : ℕ) (snapshots : List Snapshot) → but reader (snapshot_readers snapshots) ≡ snapshot_readers (filter (λ (snapshot : Snapshot). not (is_of reader snapshot)) snapshots)
+kept-readers : (reader : ℕ) (snapshots : List Snapshot) → but reader (snapshot_readers snapshots) ≡ snapshot_readers
+    (filter (λ (snapshot : Snapshot). not (is_of reader snapshot)) snapshots)
 kept-readers reader [] = refl
 kept-readers reader (snapshot ∷ later) = by (nat_eq snapshot.reader reader) (kept-readers reader later)
   where
@@ -108,7 +117,8 @@ total-end : (reader : ℕ) (layers : Layers) → total (layers ++ record { reade
 total-end reader [] = refl
 total-end reader (layer ∷ younger) = ap (λ n. length layer.kept + n) (total-end reader younger)
 
-covered-end : (old new : ℕ → ℕ) (reader : ℕ) (layers : Layers) → AllByRecursion (λ (layer : Layer). new layer.reader ≡ old layer.reader) layers → AreCovered old layers
+covered-end : (old new : ℕ → ℕ) (reader : ℕ) (layers : Layers) → AllByRecursion (λ (layer : Layer). new layer.reader ≡ old layer.reader) layers
+    → AreCovered old layers
     → AreCovered new (layers ++ record { reader = reader; kept = [] } ∷ [])
 covered-end old new reader [] same covered = (omega arith, tt)
 covered-end old new reader (layer ∷ younger) same covered =
@@ -127,13 +137,16 @@ all-opens layers = all-layers (λ reader. is_open reader layers ≡ true) layers
 
 -- ---- what the session keeps of them
 
-module _ {D : Type 0} (g : Ghosts D) (held : Snapshots) (disk : D) (state : SharedState) (holds : HoldsSnapshots g held disk state) (reader : ℕ) (low : reader < 8) where
-  flags-cleared : (ended : List Bool) → ended ≡ slice_set held.ended reader false → (r : ℕ) → slice_index_or ended r false ≡ list_any (nat_eq r) (without_reader reader state.readers.ended)
+module _ {D : Type 0} (g : Ghosts D) (held : Snapshots) (disk : D) (state : SharedState) (holds : HoldsSnapshots g held disk state) (reader : ℕ)
+    (low : reader < 8) where
+  flags-cleared : (ended : List Bool) → ended ≡ slice_set held.ended reader false → (r : ℕ)
+      → slice_index_or ended r false ≡ list_any (nat_eq r) (without_reader reader state.readers.ended)
   flags-cleared ended is r =
       ap (λ (flags : List Bool). slice_index_or flags r false) is ∙ flag-set held.ended reader r false (subst (λ n. reader < n) (sym holds.form.width) low)
       ∙ ap (λ (b : Bool). cond (nat_eq r reader) false b) (holds.ended r) ∙ without-any r reader state.readers.ended
 
-  module _ (closed : is_open reader held.open_ones ≡ false) (live : state.writer.standing ≡ Live) (stored : g.tells_reads → HoldsAdmitted state.writer (g.reads disk))
+  module _ (closed : is_open reader held.open_ones ≡ false) (live : state.writer.standing ≡ Live)
+      (stored : g.tells_reads → HoldsAdmitted state.writer (g.reads disk))
       (own : (committed : Key → Rec) → sees (taken reader held).open_ones reader committed ≡ committed)
       (sights : (other : ℕ) (committed : Key → Rec) → is_open other held.open_ones ≡ true → sees (taken reader held).open_ones other committed ≡ sees held.open_ones other committed) where
     abbrev snapshot : Snapshot
@@ -148,7 +161,8 @@ module _ {D : Type 0} (g : Ghosts D) (held : Snapshots) (disk : D) (state : Shar
     sums-other : (other : ℕ) → is_open other held.open_ones ≡ true → sums other ≡ holds.within.sums other
     sums-other other is = ap (λ (t : Bool). cond t 0 (holds.within.sums other)) (not-closed reader other held.open_ones closed is)
 
-    shows-own : (committed : Key → Rec) → g.tells_reads → Redoes (g.reads disk) committed → ShowsGraph (taken reader held).open_ones state.writer.shape committed snapshot
+    shows-own : (committed : Key → Rec) → g.tells_reads → Redoes (g.reads disk) committed
+        → ShowsGraph (taken reader held).open_ones state.writer.shape committed snapshot
     shows-own committed told redoes =
         let found = stored told in
         let same : committed ≡ found.2.space = Redoes-unique (g.reads disk) committed found.2.space redoes found.2.redoes in
@@ -188,7 +202,8 @@ module _ {D : Type 0} (g : Ghosts D) (held : Snapshots) (disk : D) (state : Shar
           ([], ap (λ (found : Graph). found.names) (admits-only state.writer graph live admits) ∙ sym (append-nil state.writer.committed.names));
     }
 
-  module _ (kept : Snapshots) (open_ones : kept.open_ones ≡ released reader held.open_ones) (ended : kept.ended ≡ slice_set held.ended reader false) (sights : SameSights held.open_ones kept.open_ones)
+  module _ (kept : Snapshots) (open_ones : kept.open_ones ≡ released reader held.open_ones) (ended : kept.ended ≡ slice_set held.ended reader false)
+      (sights : SameSights held.open_ones kept.open_ones)
       (covered : (sums : ℕ → ℕ) → AreCovered sums held.open_ones → AreCovered sums kept.open_ones) where
     order : readers_of kept.open_ones ≡ but reader (readers_of held.open_ones)
     order = ap readers_of open_ones ∙ released-readers reader held.open_ones (apart-of held.open_ones holds.form.distinct)
@@ -212,16 +227,19 @@ module _ {D : Type 0} (g : Ghosts D) (held : Snapshots) (disk : D) (state : Shar
       ended = flags-cleared kept.ended ended;
       within = record {
         sums = holds.within.sums;
-        each = all_filtered (λ (s : Snapshot). holds.within.sums s.reader ≡ s.sum) (λ (s : Snapshot). not (is_of reader s)) state.readers.open_ones holds.within.each;
+        each = all_filtered (λ (s : Snapshot). holds.within.sums s.reader ≡ s.sum) (λ (s : Snapshot). not (is_of reader s)) state.readers.open_ones
+            holds.within.each;
         covered = covered holds.within.sums holds.within.covered;
       };
       shows = λ told committed redoes.
-          all_both (λ (s : Snapshot). is_open s.reader kept.open_ones ≡ true) (ShowsGraph held.open_ones state.writer.shape committed) (ShowsGraph kept.open_ones state.writer.shape committed) left
+          all_both (λ (s : Snapshot). is_open s.reader kept.open_ones ≡ true) (ShowsGraph held.open_ones state.writer.shape committed)
+          (ShowsGraph kept.open_ones state.writer.shape committed) left
           (λ s is shows. shows-on held.open_ones kept.open_ones state.writer.shape state.writer.shape committed committed s refl (sights s.reader committed is) shows)
           (all-open kept.open_ones left same)
           (all_filtered (ShowsGraph held.open_ones state.writer.shape committed) (λ (s : Snapshot). not (is_of reader s)) state.readers.open_ones (holds.shows told committed redoes));
       names = λ told graph admits.
-          all_filtered (λ (s : Snapshot). BeginWith graph.names s.graph.names) (λ (s : Snapshot). not (is_of reader s)) state.readers.open_ones (holds.names told graph admits);
+          all_filtered (λ (s : Snapshot). BeginWith graph.names s.graph.names) (λ (s : Snapshot). not (is_of reader s)) state.readers.open_ones
+          (holds.names told graph admits);
     }
 
 -- ---- a session that is opened has none
@@ -231,7 +249,8 @@ none-flagged zero reader = refl
 none-flagged (suc n) zero = refl
 none-flagged (suc n) (suc reader) = none-flagged n reader
 
-pub holds-none : {D : Type 0} (g : Ghosts D) (disk : D) (writer : State) → HoldsSnapshots g no_snapshots disk (record { writer = writer; readers = record { open_ones = []; ended = [] } })
+pub holds-none : {D : Type 0} (g : Ghosts D) (disk : D) (writer : State)
+    → HoldsSnapshots g no_snapshots disk (record { writer = writer; readers = record { open_ones = []; ended = [] } })
 holds-none g disk writer = record {
   form = record { distinct = tt; few = tt; width = refl };
   readers = refl;
@@ -241,12 +260,14 @@ holds-none g disk writer = record {
   names = λ told graph admits. tt;
 }
 
-pub opens-shared : {D : Type 0} (g : Ghosts D) (view : SharedView D) (state : State) → IsAt g view.session state → (g.tells_reads → Redoes (g.reads view.session.disk) view.session.console.committed)
+pub opens-shared : {D : Type 0} (g : Ghosts D) (view : SharedView D) (state : State) → IsAt g view.session state
+    → (g.tells_reads → Redoes (g.reads view.session.disk) view.session.console.committed)
     → state.open_one ≡ None → view.held ≡ no_snapshots → IsSharedAt g view (record { writer = state; readers = record { open_ones = []; ended = [] } })
 opens-shared g view state at stored closed none = record {
   writer = at;
   stored = λ told live. stored told;
   weighed = λ opened. absurd (false≢true (sym (ap is_some closed) ∙ at.opened ∙ opened));
   snapshots =
-      subst (λ (held : Snapshots). HoldsSnapshots g held view.session.disk (record { writer = state; readers = record { open_ones = []; ended = [] } })) (sym none) (holds-none g view.session.disk state);
+      subst (λ (held : Snapshots). HoldsSnapshots g held view.session.disk (record { writer = state; readers = record { open_ones = []; ended = [] } }))
+      (sym none) (holds-none g view.session.disk state);
 }

@@ -31,17 +31,20 @@ pub redone-admitted : (state : State) (space : Key → Rec) (content : Files) �
 redone-admitted state space content one redoes = held-admitted state content (redone-held state space content one redoes)
 
 -- a content that redoes to one of two
-pub either-held : (state : State) (a b : Key → Rec) (content : Files) → IsOneOf state a → IsOneOf state b → Redoes content a ⊎ Redoes content b → HoldsAdmitted state content
+pub either-held : (state : State) (a b : Key → Rec) (content : Files) → IsOneOf state a → IsOneOf state b → Redoes content a ⊎ Redoes content b
+    → HoldsAdmitted state content
 either-held state a b content one other (inl redoes) = redone-held state a content one redoes
 either-held state a b content one other (inr redoes) = redone-held state b content other redoes
 
 -- in the midst of a change from the one to the other
-pub either-admitted : (before after : State) (a b : Key → Rec) (content : Files) → IsOneOf before a → IsOneOf after b → Redoes content a ⊎ Redoes content b → IsAdmittedByEither before after content
+pub either-admitted : (before after : State) (a b : Key → Rec) (content : Files) → IsOneOf before a → IsOneOf after b → Redoes content a ⊎ Redoes content b
+    → IsAdmittedByEither before after content
 either-admitted before after a b content one other (inl redoes) = inl (redone-admitted before a content one redoes)
 either-admitted before after a b content one other (inr redoes) = inr (redone-admitted after b content other redoes)
 
 -- images of one space
-pub all-admitted : (state : State) (space : Key → Rec) (images : Files → Type 0) → IsOneOf state space → ((image : Files) → images image → Redoes image space) → AreAdmitted state images
+pub all-admitted : (state : State) (space : Key → Rec) (images : Files → Type 0) → IsOneOf state space → ((image : Files) → images image → Redoes image space)
+    → AreAdmitted state images
 all-admitted state space images one redo image left = redone-admitted state space image one (redo image left)
 
 -- the committed graph of a live console is admitted

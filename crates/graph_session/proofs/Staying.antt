@@ -39,7 +39,8 @@ module _ {D : Type 0} {g : Ghosts D} where
     -- at each moment a crash leaves what the state before admits
     pub crash-kept : (after : State) (disk : D) → OnlyReads g old.disk disk → TellsAll g → AtEachMoment g old.disk disk (IsAdmittedByEither state after)
     crash-kept after disk reads told =
-        at_each_moment_weaker g old.disk disk (g.may_leave old.disk) (IsAdmittedByEither state after) (reads.time told.1) (λ image left. inl (at.images told image left))
+        at_each_moment_weaker g old.disk disk (g.may_leave old.disk) (IsAdmittedByEither state after) (reads.time told.1)
+        (λ image left. inl (at.images told image left))
 
     pub open_as : (transaction : Transaction) → state.open_one ≡ Some transaction → old.console.is_open ≡ true
     open_as transaction is = sym at.opened ∙ ap is_some is

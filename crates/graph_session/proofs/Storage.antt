@@ -54,9 +54,11 @@ module _ {D : Type 0} {g : Ghosts D} {old : SessionView D} {state : State} (at :
 
   checkpoint-crash : (after : State) (disk : D) → LeavesCommitted g old disk → TellsAll g → AtEachMoment g old.disk disk (IsAdmittedByEither state after)
   checkpoint-crash after disk leaves told =
-      at_each_moment_weaker g old.disk disk _ (IsAdmittedByEither state after) (leaves told) (λ left redoes. inl (redone-admitted state old.console.committed left (committed-one at live told.0) redoes))
+      at_each_moment_weaker g old.disk disk _ (IsAdmittedByEither state after) (leaves told)
+      (λ left redoes. inl (redone-admitted state old.console.committed left (committed-one at live told.0) redoes))
 
-module _ {D : Type 0} {g : Ghosts D} {old new : SessionView D} {state : State} (at : IsAt g old state) (live : old.console.health ≡ healths.Live) (closed : old.console.is_open ≡ false) where
+module _ {D : Type 0} {g : Ghosts D} {old new : SessionView D} {state : State} (at : IsAt g old state) (live : old.console.health ≡ healths.Live)
+    (closed : old.console.is_open ≡ false) where
   brought-at : IsBrought g old new → IsAt g new state
   brought-at brought = record {
     shape = at.shape ∙ sym brought.ends.shape;
@@ -67,7 +69,8 @@ module _ {D : Type 0} {g : Ghosts D} {old new : SessionView D} {state : State} (
     closed = at.closed;
     holds = λ told stands.
         let had = held at live told in
-        let same : graph_of old.console.working ≡ graph_of old.console.committed = had.working_graph ∙ seen_closed state (is_closed at closed) ∙ sym had.committed_graph in
+        let same : graph_of old.console.working ≡ graph_of old.console.committed = had.working_graph ∙ seen_closed state (is_closed at closed)
+        ∙ sym had.committed_graph in
         record {
           live = brought.live;
           committed = rw (brought.committed told) had.committed;
@@ -82,7 +85,8 @@ module _ {D : Type 0} {g : Ghosts D} {old new : SessionView D} {state : State} (
     images = λ told. all-admitted state old.console.committed (g.may_leave new.disk) (committed-one at live told.0) (brought.stored.images told);
   }
 
-  pub settles-checkpoint : {line : List ℕ} → SpellsOnly line commands.Checkpoint → LeavesCommitted g old new.disk → IsBrought g old new → Settles g (Whole line) old new state Done
+  pub settles-checkpoint : {line : List ℕ} → SpellsOnly line commands.Checkpoint → LeavesCommitted g old new.disk → IsBrought g old new
+      → Settles g (Whole line) old new state Done
   settles-checkpoint {line = line} only leaves brought =
       settles-done {line = Whole line} {before = state} Done state tt (record { is_at = brought-at brought; crash = checkpoint-crash at live state new.disk leaves })
       (λ told. (idle-accepted state only (λ change. change) idle_reasons (checkpoint-reached at live only closed), commands.Checkpoint, only.spelled, (refl, refl)))
@@ -103,10 +107,12 @@ module _ {D : Type 0} {g : Ghosts D} {old new : SessionView D} {state : State} (
     images = λ told. all-admitted (stopped state) old.console.committed (g.may_leave new.disk) (stopped-one at live told.0) (left.stored.images told);
   }
 
-  pub settles-checkpoint_fault : {line : List ℕ} → SpellsOnly line commands.Checkpoint → LeavesCommitted g old new.disk → IsStopped g old new → Rose (g.faults old.disk) (g.faults new.disk)
+  pub settles-checkpoint_fault : {line : List ℕ} → SpellsOnly line commands.Checkpoint → LeavesCommitted g old new.disk → IsStopped g old new
+      → Rose (g.faults old.disk) (g.faults new.disk)
       → Settles g (Whole line) old new state (Faulted [] DiskFailed)
   settles-checkpoint_fault {line = line} only leaves left rose =
-      settles-fault {line = Whole line} {before = state} (Faulted [] DiskFailed) (stopped state) (record { is_at = stopped-at left; crash = checkpoint-crash at live (stopped state) new.disk leaves }) rose
+      settles-fault {line = Whole line} {before = state} (Faulted [] DiskFailed) (stopped state)
+      (record { is_at = stopped-at left; crash = checkpoint-crash at live (stopped state) new.disk leaves }) rose
       (λ told. (refl, checkpoint-reached at live only closed, commands.Checkpoint, only.spelled, inl refl, refl))
       (uses-writes state only tt (checkpoint-reached at live only closed) (inr (inr (inl only.spelled))) (λ none. none))
 
@@ -143,9 +149,11 @@ module _ {D : Type 0} {g : Ghosts D} {old : SessionView D} {state : State} (at :
       by left (inr redoes) = redone-admitted state (at.reads told.0).2.space left (read-one told.0) redoes
 
   again-either : (after : State) (disk : D) → LeavesSame g old.disk disk → TellsAll g → AtEachMoment g old.disk disk (IsAdmittedByEither state after)
-  again-either after disk leaves told = at_each_moment_weaker g old.disk disk (IsAdmitted state) (IsAdmittedByEither state after) (again-crash disk leaves told) (λ left admits. inl admits)
+  again-either after disk leaves told = at_each_moment_weaker g old.disk disk (IsAdmitted state) (IsAdmittedByEither state after) (again-crash disk leaves told)
+      (λ left admits. inl admits)
 
-module _ {D : Type 0} {g : Ghosts D} (counts : CountsNow g) {old new : SessionView D} {state : State} (at : IsAt g old state) (closed : old.console.is_open ≡ false) where
+module _ {D : Type 0} {g : Ghosts D} (counts : CountsNow g) {old new : SessionView D} {state : State} (at : IsAt g old state)
+    (closed : old.console.is_open ≡ false) where
   lost-at : LeavesSame g old.disk new.disk → IsLost g old new → IsAt g new (lost state)
   lost-at leaves left = record {
     shape = at.shape ∙ sym left.ends.shape;
@@ -166,7 +174,8 @@ module _ {D : Type 0} {g : Ghosts D} (counts : CountsNow g) {old new : SessionVi
   lost-comes leaves left = record { is_at = lost-at leaves left; crash = again-either at closed (lost state) new.disk leaves }
 
   -- the disk failed in the recovery, or as the names were read
-  pub settles-reopen_fault : {line : List ℕ} → SpellsOnly line commands.Reopen → LeavesSame g old.disk new.disk → IsLost g old new → Rose (g.faults old.disk) (g.faults new.disk)
+  pub settles-reopen_fault : {line : List ℕ} → SpellsOnly line commands.Reopen → LeavesSame g old.disk new.disk → IsLost g old new
+      → Rose (g.faults old.disk) (g.faults new.disk)
       → Settles g (Whole line) old new state (Faulted [] DiskFailed)
   settles-reopen_fault {line = line} only leaves left rose =
       settles-fault {line = Whole line} {before = state} (Faulted [] DiskFailed) (lost state) (lost-comes leaves left) rose
@@ -174,12 +183,14 @@ module _ {D : Type 0} {g : Ghosts D} (counts : CountsNow g) {old new : SessionVi
       (uses-writes state only tt (reopen-reached at closed only) (inr (inr (inr only.spelled))) (λ none. none))
 
   -- a record is told to be damaged, of a disk that doesn't tell what it reads
-  pub settles-reopen_damaged : {line : List ℕ} → SpellsOnly line commands.Reopen → (file id : ℕ) → LeavesSame g old.disk new.disk → IsLost g old new → (g.tells_reads → ⊥) → Settles g (Whole line) old new state (Faulted [] (DamagedRecord file id))
+  pub settles-reopen_damaged : {line : List ℕ} → SpellsOnly line commands.Reopen → (file id : ℕ) → LeavesSame g old.disk new.disk → IsLost g old new
+      → (g.tells_reads → ⊥) → Settles g (Whole line) old new state (Faulted [] (DamagedRecord file id))
   settles-reopen_damaged {line = line} only file id leaves left sound =
       settles-damaged {line = Whole line} {before = state} file id (lost state) (lost-comes leaves left) sound
       (uses-writes state only tt (reopen-reached at closed only) (inr (inr (inr only.spelled))) (λ none. none))
 
-module _ {D : Type 0} {g : Ghosts D} {old new : SessionView D} {state : State} (at : IsAt g old state) (closed : old.console.is_open ≡ false) (is : IsFound g old new) where
+module _ {D : Type 0} {g : Ghosts D} {old new : SessionView D} {state : State} (at : IsAt g old state) (closed : old.console.is_open ≡ false)
+    (is : IsFound g old new) where
   abbrev after_found : State
   after_found = found state (graph_of new.console.committed)
 
@@ -224,7 +235,8 @@ module _ {D : Type 0} {g : Ghosts D} {old new : SessionView D} {state : State} (
 
   pub settles-reopen : {line : List ℕ} → SpellsOnly line commands.Reopen → LeavesSame g old.disk new.disk → Settles g (Whole line) old new state Done
   settles-reopen {line = line} only leaves =
-      settles-done {line = Whole line} {before = state} Done after_found tt (record { is_at = found-at; crash = again-either at closed after_found new.disk leaves })
+      settles-done {line = Whole line} {before = state} Done after_found tt
+      (record { is_at = found-at; crash = again-either at closed after_found new.disk leaves })
       (λ told. (
         idle-accepted state only (λ change. change) idle_reasons (reopen-reached at closed only),
         commands.Reopen,

@@ -26,10 +26,12 @@ takes-after old mid new given bytes at (n, short, is) =
     let long = length-append given bytes in (
       length given + n,
       omega (arith, short, long),
-      is ∙ ap (λ (xs : List ℕ). xs ++ take n bytes) at ∙ append_assoc old given (take n bytes) ∙ ap (λ (xs : List ℕ). old ++ xs) (sym (take-append-add given bytes n)),
+      is ∙ ap (λ (xs : List ℕ). xs ++ take n bytes) at ∙ append_assoc old given (take n bytes)
+          ∙ ap (λ (xs : List ℕ). old ++ xs) (sym (take-append-add given bytes n)),
     )
 
-pub delivers-after : (turn : Turn) (old mid new given bytes : List ℕ) → mid ≡ old ++ given → Delivers turn mid new bytes → Delivers turn old new (given ++ bytes)
+pub delivers-after : (turn : Turn) (old mid new given bytes : List ℕ) → mid ≡ old ++ given → Delivers turn mid new bytes
+    → Delivers turn old new (given ++ bytes)
 delivers-after Go old mid new given bytes at is = is ∙ ap (λ (xs : List ℕ). xs ++ bytes) at ∙ append_assoc old given bytes
 delivers-after Quit old mid new given bytes at is = is ∙ ap (λ (xs : List ℕ). xs ++ bytes) at ∙ append_assoc old given bytes
 delivers-after SinkFault old mid new given bytes at is = takes-after old mid new given bytes at is
@@ -82,7 +84,8 @@ module _ {K : Type 0} {sink : Ghosts K} {line old new : List ℕ} {before mid af
 
 module _ {K : Type 0} {sink : Ghosts K} {first second old mid new : List ℕ} {before between after : K} where
   -- a text was gathered, and then another one
-  pub adds-more : Adds sink first old mid before between Go → (turn : Turn) → Adds sink second mid new between after turn → Adds sink (first ++ second) old new before after turn
+  pub adds-more : Adds sink first old mid before between Go → (turn : Turn) → Adds sink second mid new between after turn
+      → Adds sink (first ++ second) old new before after turn
   adds-more adds Go more = record {
     gathers = λ told.
         let had = adds.gathers told in

@@ -70,7 +70,8 @@ module _ {D : Type 0} {g : DiskGhosts D} where
     committed = λ told. is told ∙ ap (laid_over old.console.committed) (sym has.is);
   }
 
-  pub tapped-from : (old mid new : SessionView D) → mid.console.committed ≡ old.console.committed → (pairs : Pairs) → IsTapped g mid new pairs → IsTapped g old new pairs
+  pub tapped-from : (old mid new : SessionView D) → mid.console.committed ≡ old.console.committed → (pairs : Pairs) → IsTapped g mid new pairs
+      → IsTapped g old new pairs
   tapped-from old mid new same pairs tapped = record {
     few = tapped.few;
     rising = tapped.rising;
@@ -79,7 +80,8 @@ module _ {D : Type 0} {g : DiskGhosts D} where
     committed = λ told. tapped.committed told ∙ ap (λ (records : _). laid_over records pairs) same;
   }
 
-pub commit-from : {D : Type 0} (g : DiskGhosts D) (old mid new : SessionView D) (written from : Pairs) (made answer : Answer) (was tap : Option Held) → mid.console.committed ≡ old.console.committed → written ≡ from
+pub commit-from : {D : Type 0} (g : DiskGhosts D) (old mid new : SessionView D) (written from : Pairs) (made answer : Answer) (was tap : Option Held)
+    → mid.console.committed ≡ old.console.committed → written ≡ from
     → TapsCommit g mid new written made answer was tap → TapsCommit g old new from made answer was tap
 commit-from g old mid new written from made answer was tap same is_from (inl (is, takes)) =
     inl (is, takes-weaker was tap (λ pairs tapped. (tapped.0 ∙ is_from, tapped-from old mid new same pairs tapped.1)) takes)
@@ -105,7 +107,8 @@ module _ {D : Type 0} {g : DiskGhosts D} {command : Command} {old new : SessionV
     empty = λ no. none;
   }
 
-  pub taps-ended : Confirms reply → EndsOne old.console.is_open command → (pairs : Pairs) → (command ≡ commands.Commit → pairs ≡ old.console.written) → (IsChange command → WritesAlone g command old pairs) → IsTapped g old new pairs
+  pub taps-ended : Confirms reply → EndsOne old.console.is_open command → (pairs : Pairs) → (command ≡ commands.Commit → pairs ≡ old.console.written)
+      → (IsChange command → WritesAlone g command old pairs) → IsTapped g old new pairs
       → TapsCommand g command old reply new pairs
   taps-ended confirms ends pairs written alone tapped =
       record { taken = λ also so. tapped; written = λ also. written; alone = λ also change closed. alone change; empty = λ no. absurd (no (confirms, ends)) }
@@ -169,9 +172,11 @@ inside-apart : (command : Command) → IsChange command → (is_open : Bool) →
 inside-apart command change is_open opened (inl is) = commit-still (subst IsChange is change)
 inside-apart command change is_open opened (inr (closed, also)) = true≢false (sym opened ∙ closed)
 
-module _ {D : Type 0} {g : DiskGhosts D} (command : Command) (change : IsChange command) {old : Session D g} (live : old.health ≡ healths.Live) {mid then : Session D g} (new : Session D g) (begun : Begun) where
+module _ {D : Type 0} {g : DiskGhosts D} (command : Command) (change : IsChange command) {old : Session D g} (live : old.health ≡ healths.Live)
+    {mid then : Session D g} (new : Session D g) (begun : Begun) where
   -- a change, from its beginning to its end
-  pub taps-change : BeginsChange old mid begun → OnlyDrafts mid then → (drafted : Result Drafted Answer) → Drafts command mid then drafted → (answer : Answer) (was tap : Option Held)
+  pub taps-change : BeginsChange old mid begun → OnlyDrafts mid then → (drafted : Result Drafted Answer) → Drafts command mid then drafted
+      → (answer : Answer) (was tap : Option Held)
       → TapsChange g begun drafted (view then) (view new) answer was tap → Takes (TapsCommand g command (view old) (reply_of answer) (view new)) was tap
   taps-change (counts, inl (within, opened, same)) only drafted drafts answer was tap (inl (is, none)) =
       takes-weaker was tap (taps-other (inside-apart command change old.store.base.in_transaction opened)) none
@@ -179,15 +184,18 @@ module _ {D : Type 0} {g : DiskGhosts D} (command : Command) (change : IsChange 
   taps-change (counts, inr (alone, begins)) only drafted drafts answer was tap (inl (is, none)) = absurd (true≢false (sym alone ∙ is))
   taps-change (counts, inr (alone, begins)) only drafted drafts answer was tap (inr (is, taps)) = by drafted drafts taps
     where
-      by : (drafted : Result Drafted Answer) → Drafts command mid then drafted → TapsAlone g drafted (view then) (view new) answer was tap → Takes (TapsCommand g command (view old) (reply_of answer) (view new)) was tap
+      by : (drafted : Result Drafted Answer) → Drafts command mid then drafted → TapsAlone g drafted (view then) (view new) answer was tap
+          → Takes (TapsCommand g command (view old) (reply_of answer) (view new)) was tap
       by (Ok made) drafts (inl (light, inl (told, takes))) =
           takes-weaker was tap (λ pairs tapped.
-          taps-ended (subst (λ (a : Answer). Confirms (reply_of a)) (sym told) (made-confirmed command (reply_of made.answer) drafts.0)) (inr (begins.closed, change)) pairs
+          taps-ended (subst (λ (a : Answer). Confirms (reply_of a)) (sym told) (made-confirmed command (reply_of made.answer) drafts.0))
+          (inr (begins.closed, change)) pairs
           (λ commits. absurd (commit-still (subst IsChange commits change)))
           (λ also. subst (WritesAlone g command (view old)) (sym tapped.0)
           (writes-alone change old new live begins.closed begins.idle begins.same begins.own begins.draft begins.names begins.health begins.snaps only made light drafts))
           (tapped-from (view old) (view then) (view new) (committed-read mid.store.base then.store.base only.base ∙ committed-beneath old.store.base mid.store.base begins.same) pairs tapped.1)) takes
-      by (Ok made) drafts (inl (light, inr (told, none))) = takes-weaker was tap (taps-unconfirmed (λ confirms. subst (λ (a : Answer). Confirms (reply_of a)) told confirms)) none
+      by (Ok made) drafts (inl (light, inr (told, none))) = takes-weaker was tap
+          (taps-unconfirmed (λ confirms. subst (λ (a : Answer). Confirms (reply_of a)) told confirms)) none
       by (Ok made) drafts (inr (unkept, none)) = takes-weaker was tap (taps-unconfirmed (unkept-unconfirmed made.weight answer unkept)) none
       by (Err why) drafts (told, none) =
           takes-weaker was tap (taps-unconfirmed (subst (λ (a : Answer). ¬ Confirms (reply_of a)) (sym told) (stopped-unconfirmed command mid then.store.base.disk.now why drafts))) none
@@ -209,11 +217,13 @@ closed-by change (inl is) = absurd (commit-still (subst IsChange is change))
 closed-by change (inr (closed, also)) = closed
 
 -- a command that ends no transaction is acknowledged by no reply
-pub unended : {line : List ℕ} {command : Command} → SpellsOnly line command → (is_open : Bool) → ¬ EndsOne is_open command → (reply : Reply) → ¬ Acknowledges is_open (Whole line) reply
+pub unended : {line : List ℕ} {command : Command} → SpellsOnly line command → (is_open : Bool) → ¬ EndsOne is_open command → (reply : Reply)
+    → ¬ Acknowledges is_open (Whole line) reply
 unended only is_open other reply ends = other (acknowledges-ends only is_open reply ends).1
 
 module _ {D : Type 0} {g : DiskGhosts D} {old new : SessionView D} where
-  taps-line : {line : List ℕ} {command : Command} {reply : Reply} → SpellsOnly line command → session_of line ≡ 0 → (pairs : Pairs) → TapsCommand g command old reply new pairs → Taps g (Whole line) old reply new pairs
+  taps-line : {line : List ℕ} {command : Command} {reply : Reply} → SpellsOnly line command → session_of line ≡ 0 → (pairs : Pairs)
+      → TapsCommand g command old reply new pairs → Taps g (Whole line) old reply new pairs
   taps-line {reply = reply} only first pairs taps = record {
     taken = λ ends. let both = acknowledges-ends only old.console.is_open reply ends in taps.taken both.0 both.1;
     written = λ ends commits. taps.written ends.1 (sym (only.only commands.Commit commits));
@@ -222,7 +232,8 @@ module _ {D : Type 0} {g : DiskGhosts D} {old new : SessionView D} where
     empty = λ no. taps.empty (λ both. no (ends-acknowledges only old.console.is_open reply first both.0 both.1));
   }
 
-  taps-none : {line : InputLine} {reply : Reply} → ¬ Acknowledges old.console.is_open line reply → (pairs : Pairs) → IsEmpty pairs → Taps g line old reply new pairs
+  taps-none : {line : InputLine} {reply : Reply} → ¬ Acknowledges old.console.is_open line reply → (pairs : Pairs) → IsEmpty pairs
+      → Taps g line old reply new pairs
   taps-none never pairs none = record {
     taken = λ ends. absurd (never ends);
     written = λ ends commits. absurd (never ends);
@@ -232,16 +243,19 @@ module _ {D : Type 0} {g : DiskGhosts D} {old new : SessionView D} where
 
 module _ {D K : Type 0} {g : DiskGhosts D} {sink : SinkGhosts K} {line : InputLine} {old new : Terminal D K} {turn : Turn} where
   -- a line that acknowledges nothing, whatever its reply
-  pub taps-nothing : (was tap : Option Held) → Takes IsEmpty was tap → ((reply : Reply) → ¬ Acknowledges old.session.console.is_open line reply) → AnswersLine g sink line old new turn → TapsAnswer g sink line old new turn was tap
+  pub taps-nothing : (was tap : Option Held) → Takes IsEmpty was tap → ((reply : Reply) → ¬ Acknowledges old.session.console.is_open line reply)
+      → AnswersLine g sink line old new turn → TapsAnswer g sink line old new turn was tap
   taps-nothing was tap none never answers = (answers, takes-weaker was tap (taps-none (never answers.reply)) none)
 
   -- one whose reply acknowledges nothing
-  pub taps-refused : {reply : Reply} (was tap : Option Held) → Takes IsEmpty was tap → ¬ Confirms reply → AnswersWith g sink line old new turn reply → TapsAnswer g sink line old new turn was tap
+  pub taps-refused : {reply : Reply} (was tap : Option Held) → Takes IsEmpty was tap → ¬ Confirms reply → AnswersWith g sink line old new turn reply
+      → TapsAnswer g sink line old new turn was tap
   taps-refused was tap none refused (answers, is) = (answers, takes-weaker was tap (taps-none (λ ends. refused (subst Confirms is ends.1))) none)
 
 module _ {D K : Type 0} {g : DiskGhosts D} {sink : SinkGhosts K} {line : List ℕ} {command : Command} {old new : Terminal D K} {turn : Turn} where
   -- one that was settled
-  pub taps-settled : {reply : Reply} → SpellsOnly line command → session_of line ≡ 0 → (was tap : Option Held) → Takes (TapsCommand g command old.session reply new.session) was tap
+  pub taps-settled : {reply : Reply} → SpellsOnly line command → session_of line ≡ 0 → (was tap : Option Held)
+      → Takes (TapsCommand g command old.session reply new.session) was tap
       → AnswersWith g sink (Whole line) old new turn reply → TapsAnswer g sink (Whole line) old new turn was tap
   taps-settled only first was tap takes (answers, is) =
       (answers, takes-weaker was tap (λ pairs taps. subst (λ (r : Reply). Taps g (Whole line) old.session r new.session pairs) (sym is) (taps-line only first pairs taps)) takes)

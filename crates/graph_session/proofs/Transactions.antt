@@ -74,7 +74,8 @@ module _ {D : Type 0} {g : Ghosts D} {old : SessionView D} {state : State} (at :
 
   -- after a commit the records of the transaction are the committed ones
   written-one : g.tells_reads → (transaction : Transaction) → state.open_one ≡ Some transaction → IsOneOf (with_commit state transaction) old.console.working
-  written-one told transaction is = own-one (with_commit state transaction) old.console.working (is_live at live) (held at live told).working (working-open at live told transaction is)
+  written-one told transaction is = own-one (with_commit state transaction) old.console.working (is_live at live) (held at live told).working
+      (working-open at live told transaction is)
 
   -- both are open
   pub first-one : g.tells_reads → (graph : Graph) → IsOneOf (in_doubt state graph) old.console.committed
@@ -83,7 +84,8 @@ module _ {D : Type 0} {g : Ghosts D} {old : SessionView D} {state : State} (at :
   second-one : g.tells_reads → (transaction : Transaction) → state.open_one ≡ Some transaction → IsOneOf (in_doubt state transaction.graph) old.console.working
   second-one told transaction is = record { store = (held at live told).working; admits = (1, omega arith, sym (working-open at live told transaction is)) }
 
-  commit-crash : (after : State) (disk : D) → (g.tells_reads → IsOneOf after old.console.working) → LeavesEither g old disk → TellsAll g → AtEachMoment g old.disk disk (IsAdmittedByEither state after)
+  commit-crash : (after : State) (disk : D) → (g.tells_reads → IsOneOf after old.console.working) → LeavesEither g old disk → TellsAll g
+      → AtEachMoment g old.disk disk (IsAdmittedByEither state after)
   commit-crash after disk one leaves told =
       at_each_moment_weaker g old.disk disk _ (IsAdmittedByEither state after) (leaves told)
       (λ left. either-admitted state after old.console.committed old.console.working left (committed-one at live told.0) (one told.0))
@@ -99,7 +101,8 @@ module _ {D : Type 0} {g : Ghosts D} {old new : SessionView D} {state : State} (
     closed = λ failed. absurd (not_failed at live failed);
     holds = λ told stands.
         let had = held at live told in
-        let names : new.console.names ≡ state.committed.names = begins.names ∙ had.names ∙ ap (λ (graph : Graph). graph.names) (seen_closed state (is_closed at closed)) in
+        let names : new.console.names ≡ state.committed.names = begins.names ∙ had.names
+        ∙ ap (λ (graph : Graph). graph.names) (seen_closed state (is_closed at closed)) in
         record {
           live = begins.beneath.is_live ∙ had.live;
           committed = rw (begins.beneath.committed told) had.committed;
@@ -114,10 +117,13 @@ module _ {D : Type 0} {g : Ghosts D} {old new : SessionView D} {state : State} (
     images = images-kept at new.disk begins.beneath.disk;
   }
 
-  pub settles-begin : {line : List ℕ} → SpellsOnly line commands.Begin → old.console.is_open ≡ false → Begins g old new → Settles g (Whole line) old new state Done
+  pub settles-begin : {line : List ℕ} → SpellsOnly line commands.Begin → old.console.is_open ≡ false → Begins g old new
+      → Settles g (Whole line) old new state Done
   settles-begin {line = line} only closed begins =
-      settles-done {line = Whole line} {before = state} Done (begun state) tt (record { is_at = begins-at closed begins; crash = crash-kept at (begun state) new.disk begins.beneath.disk })
-      (λ told. (begin-accepted at live only closed, commands.Begin, only.spelled, (refl, refl))) (uses-same old.disk new.disk begins.beneath.disk begins.same_disk)
+      settles-done {line = Whole line} {before = state} Done (begun state) tt
+      (record { is_at = begins-at closed begins; crash = crash-kept at (begun state) new.disk begins.beneath.disk })
+      (λ told. (begin-accepted at live only closed, commands.Begin, only.spelled, (refl, refl)))
+      (uses-same old.disk new.disk begins.beneath.disk begins.same_disk)
 
   drops-at : Drops g old new → IsAt g new (opening state None)
   drops-at drops = record {
@@ -129,7 +135,8 @@ module _ {D : Type 0} {g : Ghosts D} {old new : SessionView D} {state : State} (
     closed = λ failed. refl;
     holds = λ told stands.
         let had = held at live told in
-        let cut : take (high new.console.committed names_file) old.console.names ≡ state.committed.names = rw (drops.beneath.committed told) (names-cut at live told) in
+        let cut : take (high new.console.committed names_file) old.console.names ≡ state.committed.names =
+        rw (drops.beneath.committed told) (names-cut at live told) in
         record {
           live = drops.beneath.is_live ∙ had.live;
           committed = rw (drops.beneath.committed told) had.committed;
@@ -144,10 +151,13 @@ module _ {D : Type 0} {g : Ghosts D} {old new : SessionView D} {state : State} (
     images = images-kept at new.disk drops.beneath.disk;
   }
 
-  pub settles-rollback : {line : List ℕ} → SpellsOnly line commands.Rollback → old.console.is_open ≡ true → Drops g old new → Settles g (Whole line) old new state Done
+  pub settles-rollback : {line : List ℕ} → SpellsOnly line commands.Rollback → old.console.is_open ≡ true → Drops g old new
+      → Settles g (Whole line) old new state Done
   settles-rollback {line = line} only opened drops =
-      settles-done {line = Whole line} {before = state} Done (opening state None) tt (record { is_at = drops-at drops; crash = crash-kept at (opening state None) new.disk drops.beneath.disk })
-      (λ told. (rollback-accepted at live only opened, commands.Rollback, only.spelled, (refl, refl))) (uses-same old.disk new.disk drops.beneath.disk drops.same_disk)
+      settles-done {line = Whole line} {before = state} Done (opening state None) tt
+      (record { is_at = drops-at drops; crash = crash-kept at (opening state None) new.disk drops.beneath.disk })
+      (λ told. (rollback-accepted at live only opened, commands.Rollback, only.spelled, (refl, refl)))
+      (uses-same old.disk new.disk drops.beneath.disk drops.same_disk)
 
   module _ (transaction : Transaction) (is : state.open_one ≡ Some transaction) where
     commits-at : Commits g old new → IsAt g new (with_commit state transaction)
@@ -161,7 +171,8 @@ module _ {D : Type 0} {g : Ghosts D} {old new : SessionView D} {state : State} (
       holds = λ told stands.
           let had = held at live told in
           let graph = working-open at live told transaction is in
-          let names : new.console.names ≡ transaction.graph.names = commits.names ∙ had.names ∙ ap (λ (graph : Graph). graph.names) (seen_open state transaction is) in
+          let names : new.console.names ≡ transaction.graph.names = commits.names ∙ had.names
+          ∙ ap (λ (graph : Graph). graph.names) (seen_open state transaction is) in
           record {
             live = commits.live;
             committed = rw (commits.committed told) had.working;
@@ -172,8 +183,10 @@ module _ {D : Type 0} {g : Ghosts D} {old new : SessionView D} {state : State} (
             brought = ([], names ∙ sym (append-nil transaction.graph.names));
           };
       known = λ told failed. absurd (not_failed at live failed);
-      reads = λ told. redone-held (with_commit state transaction) old.console.working (g.reads new.disk) (written-one at live told transaction is) (commits.stored.read told);
-      images = λ told. all-admitted (with_commit state transaction) old.console.working (g.may_leave new.disk) (written-one at live told.0 transaction is) (commits.stored.images told);
+      reads = λ told. redone-held (with_commit state transaction) old.console.working (g.reads new.disk) (written-one at live told transaction is)
+          (commits.stored.read told);
+      images = λ told. all-admitted (with_commit state transaction) old.console.working (g.may_leave new.disk) (written-one at live told.0 transaction is)
+          (commits.stored.images told);
     }
 
     left_open-at : IsLeftOpen g old new → IsAt g new (in_doubt state transaction.graph)
@@ -187,8 +200,10 @@ module _ {D : Type 0} {g : Ghosts D} {old new : SessionView D} {state : State} (
       holds = λ told stands. cc;
       known = λ told failed graph admits.
           let had = held at live told in
-          let seen_names : new.console.names ≡ transaction.graph.names = left.names ∙ had.names ∙ ap (λ (graph : Graph). graph.names) (seen_open state transaction is) in
-          known-two new.console.names state.committed transaction.graph graph admits (begin-same new.console.names old.console.names state.committed.names left.names had.brought)
+          let seen_names : new.console.names ≡ transaction.graph.names = left.names ∙ had.names
+          ∙ ap (λ (graph : Graph). graph.names) (seen_open state transaction is) in
+          known-two new.console.names state.committed transaction.graph graph admits
+          (begin-same new.console.names old.console.names state.committed.names left.names had.brought)
           (begin-all new.console.names transaction.graph.names seen_names);
       reads = λ told.
           either-held (in_doubt state transaction.graph) old.console.committed old.console.working (g.reads new.disk)
@@ -200,7 +215,8 @@ module _ {D : Type 0} {g : Ghosts D} {old new : SessionView D} {state : State} (
     }
 
     -- what the transaction had is committed
-    pub settles-commit : {line : List ℕ} → SpellsOnly line commands.Commit → old.console.is_open ≡ true → LeavesEither g old new.disk → Commits g old new → Settles g (Whole line) old new state Done
+    pub settles-commit : {line : List ℕ} → SpellsOnly line commands.Commit → old.console.is_open ≡ true → LeavesEither g old new.disk → Commits g old new
+        → Settles g (Whole line) old new state Done
     settles-commit {line = line} only opened leaves commits =
         settles-done {line = Whole line} {before = state} Done (with_commit state transaction) tt
         (record { is_at = commits-at commits; crash = commit-crash at live (with_commit state transaction) new.disk (λ told. written-one at live told transaction is) leaves })
@@ -208,7 +224,8 @@ module _ {D : Type 0} {g : Ghosts D} {old new : SessionView D} {state : State} (
         (uses-writes state only tt (commit-reached at live only opened) (inr (inl only.spelled)) (λ none. none))
 
     -- the disk failed before anything of it was written
-    pub settles-commit_read_fault : {line : List ℕ} → SpellsOnly line commands.Commit → old.console.is_open ≡ true → FailsRead g old new → Rose (g.faults old.disk) (g.faults new.disk)
+    pub settles-commit_read_fault : {line : List ℕ} → SpellsOnly line commands.Commit → old.console.is_open ≡ true → FailsRead g old new
+        → Rose (g.faults old.disk) (g.faults new.disk)
         → Settles g (Whole line) old new state (Faulted [] DiskFailed)
     settles-commit_read_fault {line = line} only opened fails rose =
         settles-fault {line = Whole line} {before = state} (Faulted [] DiskFailed) (stopped state) (comes-fails at live (fails-drafted fails)) rose
@@ -216,7 +233,8 @@ module _ {D : Type 0} {g : Ghosts D} {old new : SessionView D} {state : State} (
         (uses-writes state only tt (commit-reached at live only opened) (inr (inl only.spelled)) (λ none. none))
 
     -- the disk failed in the commit
-    pub settles-commit_fault : {line : List ℕ} → SpellsOnly line commands.Commit → old.console.is_open ≡ true → LeavesEither g old new.disk → IsLeftOpen g old new
+    pub settles-commit_fault : {line : List ℕ} → SpellsOnly line commands.Commit → old.console.is_open ≡ true → LeavesEither g old new.disk
+        → IsLeftOpen g old new
         → Rose (g.faults old.disk) (g.faults new.disk) → Settles g (Whole line) old new state (Faulted [] DiskFailed)
     settles-commit_fault {line = line} only opened leaves left rose =
         settles-fault {line = Whole line} {before = state} (Faulted [] DiskFailed) (in_doubt state transaction.graph)

@@ -63,19 +63,23 @@ mapped-none f (Some a) is = absurd cc
 
 view-has : (graph : Graph) (target : Target) (item : Item) → item_at graph target ≡ Some item → HasElements graph (asked_of (commands.View target))
 view-has graph (targets.Node id) item is =
-    let found = mapped-some vertex_of (find (λ node. nat_eq (node_number node) id) graph.nodes) item is in any-found (λ node. nat_eq (node_number node) id) graph.nodes found.0 found.1
+    let found = mapped-some vertex_of (find (λ node. nat_eq (node_number node) id) graph.nodes) item is in
+    any-found (λ node. nat_eq (node_number node) id) graph.nodes found.0 found.1
 view-has graph (targets.Edge id) item is =
-    let found = mapped-some edge_item (find (λ edge. nat_eq (edge_number edge) id) graph.edges) item is in any-found (λ edge. nat_eq (edge_number edge) id) graph.edges found.0 found.1
+    let found = mapped-some edge_item (find (λ edge. nat_eq (edge_number edge) id) graph.edges) item is in
+    any-found (λ edge. nat_eq (edge_number edge) id) graph.edges found.0 found.1
 
 view-lacks : (graph : Graph) (target : Target) → item_at graph target ≡ None → LacksElement graph (asked_of (commands.View target)) (no_element target)
 view-lacks graph (targets.Node id) is = (any-unfound (λ node. nat_eq (node_number node) id) graph.nodes (mapped-none vertex_of (find (λ node. nat_eq (node_number node) id) graph.nodes) is), refl)
 view-lacks graph (targets.Edge id) is = (any-unfound (λ edge. nat_eq (edge_number edge) id) graph.edges (mapped-none edge_item (find (λ edge. nat_eq (edge_number edge) id) graph.edges) is), refl)
 
 -- an element that is viewed is the one that is named, and none is where there is none
-viewed-item : (graph : Graph) (target : Target) (item : Item) (element : ElementMap) → view_of graph target ≡ Some (item, element) → (item_at graph target ≡ Some item) × (element ≡ element_map graph [] item)
+viewed-item : (graph : Graph) (target : Target) (item : Item) (element : ElementMap) → view_of graph target ≡ Some (item, element)
+    → (item_at graph target ≡ Some item) × (element ≡ element_map graph [] item)
 viewed-item graph target item element is = by (item_at graph target) is
   where
-    by : (o : Option Item) → option_map {U = Item × ElementMap} (λ own. (own, element_map graph [] own)) o ≡ Some (item, element) → (o ≡ Some item) × (element ≡ element_map graph [] item)
+    by : (o : Option Item) → option_map {U = Item × ElementMap} (λ own. (own, element_map graph [] own)) o ≡ Some (item, element) → (o ≡ Some item)
+        × (element ≡ element_map graph [] item)
     by None is = absurd cc
     by (Some own) is =
         let first : Item × ElementMap = (own, element_map graph [] own) in
@@ -110,9 +114,11 @@ asks-view target =
     let none : ElementMap = record { label = None; pairs = [] } in
     record { question = tt; some = view-some target; reading = one_line (making_text (items.Vertex 0) none); formed = (items.Vertex 0, none, refl) }
 
-module _ {R K : Type 0} {space : SpaceGhosts R} {sink : SinkGhosts K} {names : List (List ℕ)} (target : Target) {a b : R} (read : IsRead space a b) {mark : List ℕ} {before after : K} {turn : Turn} where
+module _ {R K : Type 0} {space : SpaceGhosts R} {sink : SinkGhosts K} {names : List (List ℕ)} (target : Target) {a b : R} (read : IsRead space a b)
+    {mark : List ℕ} {before after : K} {turn : Turn} where
   -- the element was told
-  pub gives-viewed : (line : List ℕ) (made : MakesElement space names target a line) → Gives sink (mark ++ line) before after turn → GivesReading space sink names (commands.View target) mark a b before after turn
+  pub gives-viewed : (line : List ℕ) (made : MakesElement space names target a line) → Gives sink (mark ++ line) before after turn
+      → GivesReading space sink names (commands.View target) mark a b before after turn
   gives-viewed line made gives =
       gives-told (asks-view target) read (one_line (making_text made.item made.element)) (made.item, made.element, refl) refl
       (λ told store. view-has (graph_of (space.state a).records) target made.item (viewed-item (graph_of (space.state a).records) target made.item made.element (made.viewed told store)).0)
@@ -131,7 +137,8 @@ module _ {R K : Type 0} {space : SpaceGhosts R} {sink : SinkGhosts K} {names : L
   gives-unviewed (answers.Refused why) is refused gives =
       gives-missing (asks-view target) read why (subst (TellsMissing (asked_of (commands.View target))) (sym is) (view-tells target))
       (λ told store.
-      subst (LacksElement (graph_of (space.state a).records) (asked_of (commands.View target))) (sym is) (view-lacks (graph_of (space.state a).records) target (refused told store))) gives
+      subst (LacksElement (graph_of (space.state a).records) (asked_of (commands.View target))) (sym is)
+      (view-lacks (graph_of (space.state a).records) target (refused told store))) gives
   gives-unviewed answers.NoMemory is refused gives = asks-memory (elements-asked (asks-view target)) read gives
   gives-unviewed answers.DiskFailed is refused gives = asks-disk (elements-asked (asks-view target)) read is gives
   gives-unviewed (answers.Damaged damage) is refused gives = asks-damaged (elements-asked (asks-view target)) read damage (λ told. inl (is told)) gives

@@ -1,5 +1,6 @@
 -- The lines of a walk and of levels, and what the answer to a line that asks for them is.
-use Rattle.std.proofs.Common.{◌≡◌, ◌≢◌, ◌∙◌, ◌+◌, ◌-◌, ◌<◌, ◌≤◌, ℕ, false, List, [], ◌∷◌, ◌++◌, append_assoc, get_or, length, map, take, drop, add-one, refl, sym, ap, subst, arith}
+use Rattle.std.proofs.Common.{◌≡◌, ◌≢◌, ◌∙◌, ◌+◌, ◌-◌, ◌<◌, ◌≤◌, ℕ, false, List, [], ◌∷◌, ◌++◌, append_assoc, get_or}
+use Rattle.std.proofs.Common.{length, map, take, drop, add-one, refl, sym, ap, subst, arith}
 use Rattle.std.proofs.Math.Seq.{take-length, take-suc}
 use Rattle.std.proofs.lemmas.List.{map-append, take-append-drop}
 use Rattle.stream_io.specs.declared.streams.Sink.{Ghosts}
@@ -36,21 +37,26 @@ module _ {A : Type 0} (line_of : A → List ℕ) (front : List (List ℕ)) (xs :
         ∙ ap (λ (lines : List (List ℕ)). front ++ lines) (sym (map-append line_of (take n xs) (drop n xs)) ∙ ap (map line_of) (take-append-drop n xs)),
   )
 
-  module _ {K : Type 0} {sink : Ghosts K} {mark : List ℕ} {before after : K} {held : MarkedLines} {n : ℕ} (has : HasLines sink mark before after held (lines_to n)) where
+  module _ {K : Type 0} {sink : Ghosts K} {mark : List ℕ} {before after : K} {held : MarkedLines} {n : ℕ}
+      (has : HasLines sink mark before after held (lines_to n)) where
     module _ (d : A) (lt : n < length xs) (new : MarkedLines) (then : K) where
       -- the line of one more
       pub listing-more : AddsLine sink (text_line (line_of (get_or xs n d))) held new after then Go → HasLines sink mark before then new (lines_to (n + 1))
       listing-more adds =
-          subst (λ (lines : List (List ℕ)). HasLines sink mark before then new lines) (sym (lines_to-more n d lt)) (lines-add has (line_of (get_or xs n d)) new then adds)
+          subst (λ (lines : List (List ℕ)). HasLines sink mark before then new lines) (sym (lines_to-more n d lt))
+          (lines-add has (line_of (get_or xs n d)) new then adds)
 
       -- the sink failed
-      pub listing-stop : (last : List ℕ) (turn : Turn) → AddsLine sink (text_line (line_of (get_or xs n d))) held new after then turn → turn ≢ Go → Gives sink (marked_text mark (Told (front ++ map line_of xs) last)) before then turn
+      pub listing-stop : (last : List ℕ) (turn : Turn) → AddsLine sink (text_line (line_of (get_or xs n d))) held new after then turn → turn ≢ Go
+          → Gives sink (marked_text mark (Told (front ++ map line_of xs) last)) before then turn
       listing-stop last turn adds stops =
           lines-stop_in has (front ++ map line_of xs) last (line_of (get_or xs n d))
           (subst (λ (lines : List (List ℕ)). AreFirst lines (front ++ map line_of xs)) (lines_to-more n d lt) (lines_to-first (n + 1))) new then turn adds stops
 
     -- all have lines
-    pub listing-end : n ≤ length xs → length xs ≤ n → (last : List ℕ) (then : K) (turn : Turn) → Gives sink (held.bytes ++ (held.mark ++ text_line last)) after then turn → Gives sink (marked_text mark (Told (front ++ map line_of xs) last)) before then turn
+    pub listing-end : n ≤ length xs → length xs ≤ n → (last : List ℕ) (then : K) (turn : Turn)
+        → Gives sink (held.bytes ++ (held.mark ++ text_line last)) after then turn
+        → Gives sink (marked_text mark (Told (front ++ map line_of xs) last)) before then turn
     listing-end low high last then turn gives =
         let same : n ≡ length xs = omega (arith, low, high) in
         subst (λ (lines : List (List ℕ)). Gives sink (marked_text mark (Told lines last)) before then turn)
@@ -72,13 +78,15 @@ walk-listed : (walk : List ℕ) → 0 < length walk → listed (edge_count_lines
 walk-listed [] some = absurd (omega (arith, some))
 walk-listed (first ∷ later) some = ap (λ (edges : ℕ). listed (path_text edges ∷ map node_line (first ∷ later))) (omega arith)
 
-pub gives-walk : {K : Type 0} {sink : Ghosts K} {before after : K} {turn : Turn} (mark walk : List ℕ) → 0 < length walk → Gives sink (marked_text mark (Told (edge_count_lines walk ++ map node_line walk) end_text)) before after turn
+pub gives-walk : {K : Type 0} {sink : Ghosts K} {before after : K} {turn : Turn} (mark walk : List ℕ) → 0 < length walk
+    → Gives sink (marked_text mark (Told (edge_count_lines walk ++ map node_line walk) end_text)) before after turn
     → Gives sink (marked_text mark (Told (walk_reading walk).lines (walk_reading walk).last)) before after turn
 gives-walk {sink = sink} {before = before} {after = after} {turn = turn} mark walk some gives =
     subst (λ (reading : Reading). Gives sink (marked_text mark (Told reading.lines reading.last)) before after turn) (walk-listed walk some) gives
 
 -- and one without any, so
-pub gives-no_walk : {K : Type 0} {sink : Ghosts K} {before after : K} {turn : Turn} (mark walk : List ℕ) → length walk ≡ 0 → Gives sink (mark ++ text_line no_path_text) before after turn
+pub gives-no_walk : {K : Type 0} {sink : Ghosts K} {before after : K} {turn : Turn} (mark walk : List ℕ) → length walk ≡ 0
+    → Gives sink (mark ++ text_line no_path_text) before after turn
     → Gives sink (marked_text mark (Told (walk_reading walk).lines (walk_reading walk).last)) before after turn
 gives-no_walk mark [] none gives = gives
 gives-no_walk mark (first ∷ later) none gives = absurd (omega (arith, none))

@@ -1,5 +1,6 @@
 -- A transaction writes no more records than it weighs.
-use Rattle.std.proofs.Common.{◌≡◌, ◌⊎◌, ⊎_elim, ◌∙◌, ℕ, ◌+◌, ◌≤◌, Bool, true, false, cond, Option, Some, is_some, List, [], ◌∷◌, ◌++◌, length, inl, inr, refl, sym, ap, arith}
+use Rattle.std.proofs.Common.{◌≡◌, ◌⊎◌, ⊎_elim, ◌∙◌, ℕ, ◌+◌, ◌≤◌, Bool, true, false, cond, Option, Some, is_some, List}
+use Rattle.std.proofs.Common.{[], ◌∷◌, ◌++◌, length, inl, inr, refl, sym, ap, arith}
 use mathlib.Core.Bool.{false≢true}
 use Rattle.std.proofs.lemmas.List.{length-append}
 use Rattle.plain_graph.specs.Changes.{start_weight}
@@ -44,7 +45,8 @@ has-later : (t : Bool) (rec : Rec) (o : Option Rec) → is_some o ≡ true → i
 has-later true rec o h = refl
 has-later false rec o h = h
 
-pub length-within : (ps : Pairs) → IsOrdered ps → (keys : List Key) → ((key : Key) → is_some (find_pair ps key) ≡ true → IsAmong key keys) → length ps ≤ length keys
+pub length-within : (ps : Pairs) → IsOrdered ps → (keys : List Key) → ((key : Key) → is_some (find_pair ps key) ≡ true → IsAmong key keys)
+    → length ps ≤ length keys
 length-within [] rising keys each = omega arith
 length-within (pair ∷ rest) rising keys each =
     let found = without-key pair.0 keys (each pair.0 (has-first pair.0 pair.1 rest)) in
@@ -68,7 +70,8 @@ ordered-merged ps [] rising = rising
 ordered-merged ps (pair ∷ rest) rising = ordered-merged (with_pair ps pair.0 pair.1) rest (ordered_with ps pair.0 pair.1 rising)
 
 -- what is found in the one with the other is found in one of them
-merged-has : (ps other : Pairs) (key : Key) → is_some (find_pair (merged ps other) key) ≡ true → (is_some (find_pair ps key) ≡ true) ⊎ (is_some (find_pair other key) ≡ true)
+merged-has : (ps other : Pairs) (key : Key) → is_some (find_pair (merged ps other) key) ≡ true → (is_some (find_pair ps key) ≡ true)
+    ⊎ (is_some (find_pair other key) ≡ true)
 merged-has ps [] key has = inl has
 merged-has ps (pair ∷ rest) key has = ⊎_elim
     (λ (found : is_some (find_pair (with_pair ps pair.0 pair.1) key) ≡ true).
@@ -76,7 +79,8 @@ merged-has ps (pair ∷ rest) key has = ⊎_elim
     (λ (found : is_some (find_pair rest key) ≡ true). inr (has-later (key_eq key pair.0) pair.1 (find_pair rest key) found))
     (merged-has (with_pair ps pair.0 pair.1) rest key has)
   where
-    by : (t : Bool) (o : Option Rec) → is_some (cond t (Some pair.1) o) ≡ true → (is_some o ≡ true) ⊎ (is_some (cond t (Some pair.1) (find_pair rest key)) ≡ true)
+    by : (t : Bool) (o : Option Rec) → is_some (cond t (Some pair.1) o) ≡ true → (is_some o ≡ true)
+        ⊎ (is_some (cond t (Some pair.1) (find_pair rest key)) ≡ true)
     by true o h = inr refl
     by false o h = inl h
 

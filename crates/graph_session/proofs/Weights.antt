@@ -38,20 +38,24 @@ NeedsNames-only names line a b h k =
     omega (arith, same, one, other)
 
 -- what a line weighs by the names that it needs
-weight-only : (of : ℕ → ℕ) (names line : List (List ℕ)) (a b : ℕ) → ((count : ℕ) × NeedsNames names line count × (a ≡ of count)) → ((count : ℕ) × NeedsNames names line count × (b ≡ of count)) → a ≡ b
+weight-only : (of : ℕ → ℕ) (names line : List (List ℕ)) (a b : ℕ) → ((count : ℕ) × NeedsNames names line count × (a ≡ of count))
+    → ((count : ℕ) × NeedsNames names line count × (b ≡ of count)) → a ≡ b
 weight-only of names line a b h k = h.2 ∙ ap of (NeedsNames-only names line h.0 k.0 h.1 k.1) ∙ sym k.2
 
 -- a change weighs one number
 pub Weighs-only : (threshold : ℕ) (graph : Graph) (command : Command) (a b : ℕ) → Weighs threshold graph command a → Weighs threshold graph command b → a ≡ b
-Weighs-only threshold graph (commands.Node label pairs) a b h k = weight-only (λ (n : ℕ). 1 + properties_weight (with_pairs no_properties pairs) + n + entries_weight graph label (λ key. true) no_properties (with_pairs no_properties pairs)) graph.names (label ∷ keys_in pairs) a b h k
+Weighs-only threshold graph (commands.Node label pairs) a b h k = weight-only
+    (λ (n : ℕ). 1 + properties_weight (with_pairs no_properties pairs) + n + entries_weight graph label (λ key. true) no_properties (with_pairs no_properties pairs)) graph.names (label ∷ keys_in pairs) a b h k
 Weighs-only threshold graph (commands.Edge from label to pairs) a b h k =
-    weight-only (λ (n : ℕ). 9 + properties_weight (with_pairs no_properties pairs) + n + ends_weight threshold graph from to) graph.names (label ∷ keys_in pairs) a b h k
+    weight-only (λ (n : ℕ). 9 + properties_weight (with_pairs no_properties pairs) + n + ends_weight threshold graph from to) graph.names
+    (label ∷ keys_in pairs) a b h k
 Weighs-only threshold graph (commands.Set target key value) a b h k =
     weight-only (λ (n : ℕ). 2 + blocks_of value + blocks_at (properties_at graph target) key + n + element_weight graph target (is_text key) (maps.insert (properties_at graph target) key value)) graph.names (key ∷ []) a b h k
 Weighs-only threshold graph (commands.Unset target key) a b h k = h ∙ sym k
 Weighs-only threshold graph (commands.Delete (targets.Node id)) a b h k = h ∙ sym k
 Weighs-only threshold graph (commands.Delete (targets.Edge id)) a b h k = h ∙ sym k
-Weighs-only threshold graph (commands.Index label key) a b h k = weight-only (λ (n : ℕ). 13 + n + indexed_count graph label key) graph.names (label ∷ key ∷ []) a b h k
+Weighs-only threshold graph (commands.Index label key) a b h k = weight-only (λ (n : ℕ). 13 + n + indexed_count graph label key) graph.names (label ∷ key ∷ [])
+    a b h k
 Weighs-only threshold graph _ a b h k = absurd h
 
 -- ---- what is told of a weight
@@ -83,6 +87,7 @@ Weighs-change threshold graph (commands.Delete (targets.Edge id)) weight h = tt
 Weighs-change threshold graph (commands.Index label key) weight h = tt
 Weighs-change threshold graph _ weight h = absurd h
 
-pub LineWeighs-change : (limit threshold : ℕ) (graph : Graph) (command : Command) (weight : ℕ) → LineWeighs limit threshold graph command weight → IsChange command
+pub LineWeighs-change : (limit threshold : ℕ) (graph : Graph) (command : Command) (weight : ℕ) → LineWeighs limit threshold graph command weight
+    → IsChange command
 LineWeighs-change limit threshold graph (commands.Mutate reading mutation) weight h = tt
 LineWeighs-change limit threshold graph command weight h = Weighs-change threshold graph command weight h

@@ -7,7 +7,8 @@ use Rattle.plain_graph.specs.ElementMaps.{element_map, map_line, shown_line}
 use Rattle.plain_graph.specs.Graph.{Graph}
 use Rattle.plain_graph.specs.Lines.{AreResults, Reading}
 use Rattle.plain_graph.specs.Meaning.{has_past_count, meaning}
-use Rattle.plain_graph.specs.Reply.{DamagedRecord, DiskFailed, Fault, Faulted, NoMemory, PastCount, Reply, Told, end_text, fault_line, item_line, marked_line, marked_text}
+use Rattle.plain_graph.specs.Reply.{DamagedRecord, DiskFailed, Fault, Faulted, NoMemory, PastCount, Reply, Told}
+use Rattle.plain_graph.specs.Reply.{end_text, fault_line, item_line, marked_line, marked_text}
 use Rattle.plain_graph.specs.declared.command.Command.TheVariants as commands
 use Rattle.plain_graph.specs.declared.element_map.ElementMap.{ElementMap}
 use Rattle.plain_graph.specs.declared.item.Item.{Item}
@@ -32,7 +33,8 @@ BeginResults found all = (more : List Item) × (found ++ more ≡ all)
 
 -- a list with what it lacks of a longer one
 with_rest : (found all more : List Item) → found ++ more ≡ all → found ++ drop (length found) all ≡ all
-with_rest found all more is = ap (λ (xs : List Item). found ++ drop (length found) xs) (sym is) ∙ ap (λ (xs : List Item). found ++ xs) (drop-append_seam found more) ∙ is
+with_rest found all more is = ap (λ (xs : List Item). found ++ drop (length found) xs) (sym is)
+    ∙ ap (λ (xs : List Item). found ++ xs) (drop-append_seam found more) ∙ is
 
 -- the lines of the first results are the first lines
 pub lines-first : (line_of : Item → List ℕ) (found all : List Item) → BeginResults found all → AreFirst (map line_of found) (map line_of all)
@@ -46,7 +48,8 @@ results-none None = ([], refl)
 results-none (Some keys) = ([], refl)
 
 -- one more
-pub results-more : (maps : Option (List (List ℕ))) (lines : List (List ℕ)) → AreResults maps lines → (item : Item) (line : List ℕ) → IsResultLine maps item line → AreResults maps (lines ++ line ∷ [])
+pub results-more : (maps : Option (List (List ℕ))) (lines : List (List ℕ)) → AreResults maps lines → (item : Item) (line : List ℕ) → IsResultLine maps item line
+    → AreResults maps (lines ++ line ∷ [])
 results-more None lines are item line is =
     (are.0 ++ item ∷ [], (λ i. are.1 i ++ is i ∷ []) ∙ sym (map-append item_line are.0 (item ∷ [])))
 results-more (Some keys) lines are item line is =
@@ -105,7 +108,8 @@ module _ (query : Query) (lines : List (List ℕ)) (are : AreResults query.maps 
   query-tell = (record { lines = lines; last = end_text; is_past = false }, (lines, are, false, refl), refl, refl)
 
 -- all results are told
-pub query-all : (graph : Graph) (query : Query) → HasAsked graph (commands.Query query) → (lines : List (List ℕ)) → lines ≡ all_lines graph query → has_past_count graph query ≡ false → Means graph (commands.Query query) (Told lines end_text)
+pub query-all : (graph : Graph) (query : Query) → HasAsked graph (commands.Query query) → (lines : List (List ℕ)) → lines ≡ all_lines graph query
+    → has_past_count graph query ≡ false → Means graph (commands.Query query) (Told lines end_text)
 query-all graph query there lines all none = ((λ limit. unchanging-free (commands.Query query) (λ h. h) limit graph tt there), (reading_of graph query, refl, none, all, refl))
 
 -- ---- the whole reply of which some lines were given
@@ -124,7 +128,8 @@ abbrev pub rest_of : List ℕ → Bool → List (List ℕ) → List ℕ
 rest_of mark false more = bytes_of mark more ++ marked_line mark end_text
 rest_of mark true more = mark ++ fault_line PastCount
 
-pub whole-text : (mark : List ℕ) (past : Bool) (first more : List (List ℕ)) → bytes_of mark first ++ rest_of mark past more ≡ marked_text mark (whole_of past first more)
+pub whole-text : (mark : List ℕ) (past : Bool) (first more : List (List ℕ))
+    → bytes_of mark first ++ rest_of mark past more ≡ marked_text mark (whole_of past first more)
 whole-text mark false first more =
     sym (append_assoc (bytes_of mark first) (bytes_of mark more) (marked_line mark end_text))
     ∙ ap (λ (xs : List ℕ). xs ++ marked_line mark end_text) (sym (flat_map-append (marked_line mark) first more))
@@ -146,7 +151,8 @@ module _ (graph : Graph) (query : Query) (first : List (List ℕ)) (found : List
       (results-both query.maps first (more_lines graph query found) are (results-shown graph query.maps (drop (length found) (meaning graph query))))
   whole-form are true = query-stop query first are PastCount
 
-  pub whole-means : HasAsked graph (commands.Query query) → first ≡ map (shown_line graph query.maps) found → BeginResults found (meaning graph query) → (past : Bool) → has_past_count graph query ≡ past
+  pub whole-means : HasAsked graph (commands.Query query) → first ≡ map (shown_line graph query.maps) found → BeginResults found (meaning graph query)
+      → (past : Bool) → has_past_count graph query ≡ past
       → Means graph (commands.Query query) (whole_of past first (more_lines graph query found))
   whole-means there shown are false is =
       query-all graph query there (first ++ more_lines graph query found)

@@ -5,7 +5,8 @@ use Rattle.graph_console.proofs.follow.follow.Goals as goal
 
 pub returns-in-Ok-clause-follows : goal.returns-in-Ok-clause-follows
 returns-in-Ok-clause-follows g c = λ k.
-    ends_follow (Unit {0}) c.args.options c.taken.result.now _ _ c.end_with_line.result (subst (EndsFollow (Unit {0}) c.args.options) (sym c.taken.ensures) c.in-Ok.ensures)
+    ends_follow (Unit {0}) c.args.options c.taken.result.now _ _ c.end_with_line.result
+    (subst (EndsFollow (Unit {0}) c.args.options) (sym c.taken.ensures) c.in-Ok.ensures)
     (c.end_with_line.ensures.written k)
 
 pub returns-in-Err-clause-follows : goal.returns-in-Err-clause-follows

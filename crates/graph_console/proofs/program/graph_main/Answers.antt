@@ -12,14 +12,17 @@ use Rattle.graph_console.specs.Follow.{Follows}
 use Rattle.graph_console.specs.Program.{Serves, Writes, config_for, terms_for}
 use Rattle.graph_console.specs.Sample.{Samples}
 use Rattle.graph_console.specs.Unopened.{EndsUnopened, HasOtherShape}
-use Rattle.graph_console.proofs.AskedFor.{asks-not_run, asks-nothing, follow-not_run, follow-not_sample, follow_within, other_exit, run-not_follow, run-not_sample, run_allowed, same_follow, same_run, same_sample, sample-not_follow, sample-not_run, sample_within}
+use Rattle.graph_console.proofs.AskedFor.{asks-not_run, asks-nothing, follow-not_run, follow-not_sample, follow_within}
+use Rattle.graph_console.proofs.AskedFor.{other_exit, run-not_follow, run-not_sample, run_allowed, same_follow}
+use Rattle.graph_console.proofs.AskedFor.{same_run, same_sample, sample-not_follow, sample-not_run, sample_within}
 use Rattle.graph_console.proofs.Follows.{lacks_follow}
 use Rattle.graph_console.proofs.Opened.{asked_other, ends_unopened, refuses_usage, serves_unopened, unopened_memory}
 use Rattle.graph_console.proofs.Samples.{ends_first}
 use Rattle.graph_console.proofs.program.graph_main.Goals as goal
 
 pub returns-in-Err-Usage-clause-serves : goal.returns-in-Err-Usage-clause-serves
-returns-in-Err-Usage-clause-serves g c = λ known options asks holds s k. absurd (rw c.deref.ensures.value at (c.in-Err-Usage.ensures.usage (ap Err c.in-Err-Usage.field-0-is)) (Run options) asks)
+returns-in-Err-Usage-clause-serves g c = λ known options asks holds s k.
+    absurd (rw c.deref.ensures.value at (c.in-Err-Usage.ensures.usage (ap Err c.in-Err-Usage.field-0-is)) (Run options) asks)
 
 pub returns-in-Err-Usage-clause-steps : goal.returns-in-Err-Usage-clause-steps
 returns-in-Err-Usage-clause-steps g c = λ options asks s k. absurd (rw c.deref.ensures.value at (c.in-Err-Usage.ensures.usage (ap Err c.in-Err-Usage.field-0-is)) (Run options) asks)
@@ -49,17 +52,20 @@ returns-in-Err-Memory-clause-follows g c = λ options asks k.
 
 pub returns-in-Err-Memory-clause-serves : goal.returns-in-Err-Memory-clause-serves
 returns-in-Err-Memory-clause-serves g c = λ known options asks holds s k.
-    serves_unopened (terms_for (as_known known g.D.Disk) options c.args.disk.now c.args.disk.now) Memory (unopened_memory (as_known known g.D.Disk) g.met.D.Disk.only_now (config_for options) c.args.disk.now)
+    serves_unopened (terms_for (as_known known g.D.Disk) options c.args.disk.now c.args.disk.now) Memory
+    (unopened_memory (as_known known g.D.Disk) g.met.D.Disk.only_now (config_for options) c.args.disk.now)
     _ _ c.end_without_memory.result _ _ (c.end_without_memory.ensures.written k)
 
 pub returns-in-Err-Memory-clause-steps : goal.returns-in-Err-Memory-clause-steps
 returns-in-Err-Memory-clause-steps g c = λ options asks s k.
-    serves_unopened (terms_over g.D.Disk options c.args.disk.now c.args.disk.now) Memory (unopened_memory g.D.Disk g.met.D.Disk.only_now (config_for options) c.args.disk.now)
+    serves_unopened (terms_over g.D.Disk options c.args.disk.now c.args.disk.now) Memory
+    (unopened_memory g.D.Disk g.met.D.Disk.only_now (config_for options) c.args.disk.now)
     _ _ c.end_without_memory.result _ _ (c.end_without_memory.ensures.written k)
 
 pub returns-in-Err-Memory-clause-unopened : goal.returns-in-Err-Memory-clause-unopened
 returns-in-Err-Memory-clause-unopened g c = λ options asks ends k.
-    ends_unopened (IsUnopened g.D.Disk (config_for options) c.args.disk.now c.args.disk.now) Memory (unopened_memory g.D.Disk g.met.D.Disk.only_now (config_for options) c.args.disk.now)
+    ends_unopened (IsUnopened g.D.Disk (config_for options) c.args.disk.now c.args.disk.now) Memory
+    (unopened_memory g.D.Disk g.met.D.Disk.only_now (config_for options) c.args.disk.now)
     _ _ c.end_without_memory.result ends (c.end_without_memory.ensures.written k)
 
 pub run-requires : goal.run-requires
@@ -67,7 +73,8 @@ run-requires g c = run_allowed _ c.in-Run.options c.in-Ok.asked c.in-Ok.ensures.
 
 pub returns-in-Run-clause-serves : goal.returns-in-Run-clause-serves
 returns-in-Run-clause-serves g c = λ known options asks holds s k.
-    let same : options ≡ c.in-Run.options = same_run options c.in-Run.options c.in-Ok.asked (rw c.deref.ensures.value at c.in-Ok.ensures.only (Run options) asks) c.in-Run.is in
+    let same : options ≡ c.in-Run.options = same_run options c.in-Run.options c.in-Ok.asked
+    (rw c.deref.ensures.value at c.in-Ok.ensures.only (Run options) asks) c.in-Run.is in
     subst
     (λ (o : RunOptions). Writes (g.K.Sink.taken c.args.output.now) (g.K.Sink.taken c.run.new.output)
     (Serves (terms_for (as_known known g.D.Disk) o c.args.disk.now c.run.new.disk) c.run.result (g.S.Source.left c.args.input.now) (g.S.Source.left c.run.new.input)))
@@ -75,7 +82,8 @@ returns-in-Run-clause-serves g c = λ known options asks holds s k.
 
 pub returns-in-Run-clause-steps : goal.returns-in-Run-clause-steps
 returns-in-Run-clause-steps g c = λ options asks s k.
-    let same : options ≡ c.in-Run.options = same_run options c.in-Run.options c.in-Ok.asked (rw c.deref.ensures.value at c.in-Ok.ensures.only (Run options) asks) c.in-Run.is in
+    let same : options ≡ c.in-Run.options = same_run options c.in-Run.options c.in-Ok.asked
+    (rw c.deref.ensures.value at c.in-Ok.ensures.only (Run options) asks) c.in-Run.is in
     subst
     (λ (o : RunOptions). Writes (g.K.Sink.taken c.args.output.now) (g.K.Sink.taken c.run.new.output)
     (Serves (terms_over g.D.Disk o c.args.disk.now c.run.new.disk) c.run.result (g.S.Source.left c.args.input.now) (g.S.Source.left c.run.new.input)))
@@ -83,7 +91,8 @@ returns-in-Run-clause-steps g c = λ options asks s k.
 
 pub returns-in-Run-clause-unopened : goal.returns-in-Run-clause-unopened
 returns-in-Run-clause-unopened g c = λ options asks ends k.
-    let same : options ≡ c.in-Run.options = same_run options c.in-Run.options c.in-Ok.asked (rw c.deref.ensures.value at c.in-Ok.ensures.only (Run options) asks) c.in-Run.is in
+    let same : options ≡ c.in-Run.options = same_run options c.in-Run.options c.in-Ok.asked
+    (rw c.deref.ensures.value at c.in-Ok.ensures.only (Run options) asks) c.in-Run.is in
     subst
     (λ (o : RunOptions). Writes (g.K.Sink.taken c.args.output.now) (g.K.Sink.taken c.run.new.output) (EndsUnopened (IsUnopened g.D.Disk (config_for o) c.args.disk.now c.run.new.disk) c.run.result))
     (sym same) (c.run.ensures.unopened ends k)
@@ -108,7 +117,8 @@ returns-in-Run-clause-untouched g c = λ options asks told is. c.run.ensures.unt
 
 pub returns-in-Run-clause-sound : goal.returns-in-Run-clause-sound
 returns-in-Run-clause-sound g c = λ options shape graph asks told stands.
-    let same : options ≡ c.in-Run.options = same_run options c.in-Run.options c.in-Ok.asked (rw c.deref.ensures.value at c.in-Ok.ensures.only (Run options) asks) c.in-Run.is in
+    let same : options ≡ c.in-Run.options = same_run options c.in-Run.options c.in-Ok.asked
+    (rw c.deref.ensures.value at c.in-Ok.ensures.only (Run options) asks) c.in-Run.is in
     let sound = c.run.ensures.sound shape graph told stands in
     (sound.0, λ stored asked is. let differs = sound.1 stored asked is in (differs.0, subst (λ (o : RunOptions). ¬ Suits (config_for o) shape) (sym same) differs.1))
 
@@ -141,7 +151,8 @@ pub sample-requires : goal.sample-requires
 sample-requires g c = sample_within _ c.in-Sample.options c.in-Ok.asked c.in-Ok.ensures.taken c.in-Sample.is
 
 pub returns-in-Sample-clause-serves : goal.returns-in-Sample-clause-serves
-returns-in-Sample-clause-serves g c = λ known options asks holds s k. absurd (run-not_sample options c.in-Sample.options c.in-Ok.asked (rw c.deref.ensures.value at c.in-Ok.ensures.only (Run options) asks) c.in-Sample.is)
+returns-in-Sample-clause-serves g c = λ known options asks holds s k. absurd
+    (run-not_sample options c.in-Sample.options c.in-Ok.asked (rw c.deref.ensures.value at c.in-Ok.ensures.only (Run options) asks) c.in-Sample.is)
 
 pub returns-in-Sample-clause-steps : goal.returns-in-Sample-clause-steps
 returns-in-Sample-clause-steps g c = λ options asks s k. absurd (run-not_sample options c.in-Sample.options c.in-Ok.asked (rw c.deref.ensures.value at c.in-Ok.ensures.only (Run options) asks) c.in-Sample.is)
@@ -153,15 +164,19 @@ pub returns-in-Sample-clause-careful : goal.returns-in-Sample-clause-careful
 returns-in-Sample-clause-careful g c = λ told. inl (only_reads_none g.D.Disk c.args.disk.now g.met.D.Disk.only_now)
 
 pub returns-in-Sample-clause-untouched : goal.returns-in-Sample-clause-untouched
-returns-in-Sample-clause-untouched g c = λ options asks told is. absurd (run-not_sample options c.in-Sample.options c.in-Ok.asked (rw c.deref.ensures.value at c.in-Ok.ensures.only (Run options) asks) c.in-Sample.is)
+returns-in-Sample-clause-untouched g c = λ options asks told is. absurd
+    (run-not_sample options c.in-Sample.options c.in-Ok.asked (rw c.deref.ensures.value at c.in-Ok.ensures.only (Run options) asks) c.in-Sample.is)
 
 pub returns-in-Sample-clause-sound : goal.returns-in-Sample-clause-sound
-returns-in-Sample-clause-sound g c = λ options shape graph asks told stands. absurd (run-not_sample options c.in-Sample.options c.in-Ok.asked (rw c.deref.ensures.value at c.in-Ok.ensures.only (Run options) asks) c.in-Sample.is)
+returns-in-Sample-clause-sound g c = λ options shape graph asks told stands.
+    absurd (run-not_sample options c.in-Sample.options c.in-Ok.asked (rw c.deref.ensures.value at c.in-Ok.ensures.only (Run options) asks) c.in-Sample.is)
 
 pub returns-in-Sample-clause-samples : goal.returns-in-Sample-clause-samples
 returns-in-Sample-clause-samples g c = λ options asks k.
-    let same : options ≡ c.in-Sample.options = same_sample options c.in-Sample.options c.in-Ok.asked (rw c.deref.ensures.value at c.in-Ok.ensures.only (Sample options) asks) c.in-Sample.is in
-    subst (λ (o : SampleOptions). Writes (g.K.Sink.taken c.args.output.now) (g.K.Sink.taken c.sample.new.output) (Samples (Unit {0}) o c.sample.result)) (sym same) (c.sample.ensures.samples k)
+    let same : options ≡ c.in-Sample.options = same_sample options c.in-Sample.options c.in-Ok.asked
+    (rw c.deref.ensures.value at c.in-Ok.ensures.only (Sample options) asks) c.in-Sample.is in
+    subst (λ (o : SampleOptions). Writes (g.K.Sink.taken c.args.output.now) (g.K.Sink.taken c.sample.new.output) (Samples (Unit {0}) o c.sample.result))
+    (sym same) (c.sample.ensures.samples k)
 
 pub returns-in-Sample-clause-usage : goal.returns-in-Sample-clause-usage
 returns-in-Sample-clause-usage g c = λ is. absurd ((other_exit c.sample.result c.sample.ensures.exits).0 is)
@@ -200,15 +215,18 @@ pub returns-clause-untouched : goal.returns-clause-untouched
 returns-clause-untouched g c = λ options asks told is. absurd (run-not_follow options c.in-Follow.options c.in-Ok.asked (rw c.deref.ensures.value at c.in-Ok.ensures.only (Run options) asks) c.in-Follow.is)
 
 pub returns-clause-sound : goal.returns-clause-sound
-returns-clause-sound g c = λ options shape graph asks told stands. absurd (run-not_follow options c.in-Follow.options c.in-Ok.asked (rw c.deref.ensures.value at c.in-Ok.ensures.only (Run options) asks) c.in-Follow.is)
+returns-clause-sound g c = λ options shape graph asks told stands. absurd
+    (run-not_follow options c.in-Follow.options c.in-Ok.asked (rw c.deref.ensures.value at c.in-Ok.ensures.only (Run options) asks) c.in-Follow.is)
 
 pub returns-clause-samples : goal.returns-clause-samples
 returns-clause-samples g c = λ options asks k. absurd (sample-not_follow options c.in-Follow.options c.in-Ok.asked (rw c.deref.ensures.value at c.in-Ok.ensures.only (Sample options) asks) c.in-Follow.is)
 
 pub returns-clause-follows : goal.returns-clause-follows
 returns-clause-follows g c = λ options asks k.
-    let same : options ≡ c.in-Follow.options = same_follow options c.in-Follow.options c.in-Ok.asked (rw c.deref.ensures.value at c.in-Ok.ensures.only (Follow options) asks) c.in-Follow.is in
-    subst (λ (o : SampleOptions). Writes (g.K.Sink.taken c.args.output.now) (g.K.Sink.taken c.follow.new.output) (Follows (Unit {0}) o c.follow.result)) (sym same) (c.follow.ensures.follows k)
+    let same : options ≡ c.in-Follow.options = same_follow options c.in-Follow.options c.in-Ok.asked
+    (rw c.deref.ensures.value at c.in-Ok.ensures.only (Follow options) asks) c.in-Follow.is in
+    subst (λ (o : SampleOptions). Writes (g.K.Sink.taken c.args.output.now) (g.K.Sink.taken c.follow.new.output) (Follows (Unit {0}) o c.follow.result))
+    (sym same) (c.follow.ensures.follows k)
 
 pub returns-clause-usage : goal.returns-clause-usage
 returns-clause-usage g c = λ is. absurd ((other_exit c.follow.result c.follow.ensures.exits).0 is)
@@ -226,18 +244,24 @@ pub returns-clause-store_failed : goal.returns-clause-store_failed
 returns-clause-store_failed g c = λ options asks told stands s k is. absurd ((other_exit c.follow.result c.follow.ensures.exits).3 is)
 
 pub returns-in-Err-Usage-clause-differs : goal.returns-in-Err-Usage-clause-differs
-returns-in-Err-Usage-clause-differs g c = λ options stored asked asks told is. absurd (rw c.deref.ensures.value at (c.in-Err-Usage.ensures.usage (ap Err c.in-Err-Usage.field-0-is)) (Run options) asks)
+returns-in-Err-Usage-clause-differs g c = λ options stored asked asks told is.
+    absurd (rw c.deref.ensures.value at (c.in-Err-Usage.ensures.usage (ap Err c.in-Err-Usage.field-0-is)) (Run options) asks)
 
 pub returns-in-Err-Memory-clause-differs : goal.returns-in-Err-Memory-clause-differs
-returns-in-Err-Memory-clause-differs g c = λ options stored asked asks told is. absurd (cc (asked_other Memory c.end_without_memory.result c.end_without_memory.ensures.cause stored asked is))
+returns-in-Err-Memory-clause-differs g c = λ options stored asked asks told is.
+    absurd (cc (asked_other Memory c.end_without_memory.result c.end_without_memory.ensures.cause stored asked is))
 
 pub returns-in-Run-clause-differs : goal.returns-in-Run-clause-differs
 returns-in-Run-clause-differs g c = λ options stored asked asks told is.
-    let same : options ≡ c.in-Run.options = same_run options c.in-Run.options c.in-Ok.asked (rw c.deref.ensures.value at c.in-Ok.ensures.only (Run options) asks) c.in-Run.is in
-    subst (λ (o : RunOptions). HasOtherShape g.D.Disk (config_for o) c.args.disk.now c.run.new.disk stored asked) (sym same) (c.run.ensures.differs stored asked told is)
+    let same : options ≡ c.in-Run.options = same_run options c.in-Run.options c.in-Ok.asked
+    (rw c.deref.ensures.value at c.in-Ok.ensures.only (Run options) asks) c.in-Run.is in
+    subst (λ (o : RunOptions). HasOtherShape g.D.Disk (config_for o) c.args.disk.now c.run.new.disk stored asked) (sym same)
+    (c.run.ensures.differs stored asked told is)
 
 pub returns-in-Sample-clause-differs : goal.returns-in-Sample-clause-differs
-returns-in-Sample-clause-differs g c = λ options stored asked asks told is. absurd (run-not_sample options c.in-Sample.options c.in-Ok.asked (rw c.deref.ensures.value at c.in-Ok.ensures.only (Run options) asks) c.in-Sample.is)
+returns-in-Sample-clause-differs g c = λ options stored asked asks told is.
+    absurd (run-not_sample options c.in-Sample.options c.in-Ok.asked (rw c.deref.ensures.value at c.in-Ok.ensures.only (Run options) asks) c.in-Sample.is)
 
 pub returns-clause-differs : goal.returns-clause-differs
-returns-clause-differs g c = λ options stored asked asks told is. absurd (run-not_follow options c.in-Follow.options c.in-Ok.asked (rw c.deref.ensures.value at c.in-Ok.ensures.only (Run options) asks) c.in-Follow.is)
+returns-clause-differs g c = λ options stored asked asks told is. absurd
+    (run-not_follow options c.in-Follow.options c.in-Ok.asked (rw c.deref.ensures.value at c.in-Ok.ensures.only (Run options) asks) c.in-Follow.is)

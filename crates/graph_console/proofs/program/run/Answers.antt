@@ -20,22 +20,26 @@ use Rattle.graph_console.specs.Unopened.{EndsUnopened, HasOtherShape}
 use Rattle.graph_console.proofs.AnyDisk.{walks_opened}
 use Rattle.graph_console.proofs.Failing.{failed_rose}
 use Rattle.graph_console.proofs.Lossless.{ends_over}
-use Rattle.graph_console.proofs.Opened.{asked_other, at_equal, bad_files, disk_failed, ends_unopened, other_shape, serves_opened, serves_unopened, sound_for, unopened_memory}
+use Rattle.graph_console.proofs.Opened.{asked_other, at_equal, bad_files, disk_failed, ends_unopened, other_shape}
+use Rattle.graph_console.proofs.Opened.{serves_opened, serves_unopened, sound_for, unopened_memory}
 use Rattle.graph_console.proofs.program.run.Goals as goal
 
 pub returns-in_default-clause-serves : goal.returns-in_default-clause-serves
 returns-in_default-clause-serves g c = λ known holds s k.
-    serves_unopened (terms_for (as_known known g.D.Disk) c.args.options c.args.disk.now c.args.disk.now) Memory (unopened_memory (as_known known g.D.Disk) g.met.D.Disk.only_now (config_for c.args.options) c.args.disk.now)
+    serves_unopened (terms_for (as_known known g.D.Disk) c.args.options c.args.disk.now c.args.disk.now) Memory
+    (unopened_memory (as_known known g.D.Disk) g.met.D.Disk.only_now (config_for c.args.options) c.args.disk.now)
     _ _ c.end_without_memory.result _ _ (c.end_without_memory.ensures.written k)
 
 pub returns-in_default-clause-steps : goal.returns-in_default-clause-steps
 returns-in_default-clause-steps g c = λ s k.
-    serves_unopened (terms_over g.D.Disk c.args.options c.args.disk.now c.args.disk.now) Memory (unopened_memory g.D.Disk g.met.D.Disk.only_now (config_for c.args.options) c.args.disk.now)
+    serves_unopened (terms_over g.D.Disk c.args.options c.args.disk.now c.args.disk.now) Memory
+    (unopened_memory g.D.Disk g.met.D.Disk.only_now (config_for c.args.options) c.args.disk.now)
     _ _ c.end_without_memory.result _ _ (c.end_without_memory.ensures.written k)
 
 pub returns-in_default-clause-unopened : goal.returns-in_default-clause-unopened
 returns-in_default-clause-unopened g c = λ ends k.
-    ends_unopened (IsUnopened g.D.Disk (config_for c.args.options) c.args.disk.now c.args.disk.now) Memory (unopened_memory g.D.Disk g.met.D.Disk.only_now (config_for c.args.options) c.args.disk.now)
+    ends_unopened (IsUnopened g.D.Disk (config_for c.args.options) c.args.disk.now c.args.disk.now) Memory
+    (unopened_memory g.D.Disk g.met.D.Disk.only_now (config_for c.args.options) c.args.disk.now)
     _ _ c.end_without_memory.result ends (c.end_without_memory.ensures.written k)
 
 pub returns-in-Ok-open-clause-serves : goal.returns-in-Ok-open-clause-serves
@@ -43,7 +47,8 @@ returns-in-Ok-open-clause-serves g c = λ known holds s k.
     let config_is : c.config_of.result ≡ config_for c.args.options = c.config_of.ensures in
     let opens = subst (λ (config : Config). Opens g.D.Disk config c.args.disk.now (view c.in-Ok-open.session)) config_is c.in-Ok-open.ensures.opened in
     let begins = opens.begins known holds in
-    let at = opens-shared (as_known known g.D.Disk) (shared_view c.in-Ok-open.session) begins.0 begins.2 (λ told. c.in-Ok-open.ensures.stored (told_of known g.D.Disk told)) begins.1.closed c.in-Ok-open.ensures.no_snapshots in
+    let at = opens-shared (as_known known g.D.Disk) (shared_view c.in-Ok-open.session) begins.0 begins.2
+    (λ told. c.in-Ok-open.ensures.stored (told_of known g.D.Disk told)) begins.1.closed c.in-Ok-open.ensures.no_snapshots in
     at_equal
     (λ (disk : g.row.D.Denot). Writes (g.K.Sink.taken c.args.output.now) (g.K.Sink.taken c.serve-exit.new.output)
     (Serves (terms_for (as_known known g.D.Disk) c.args.options c.args.disk.now disk) c.serve-exit.result (g.S.Source.left c.args.input.now) (g.S.Source.left c.serve-exit.new.input)))
@@ -81,7 +86,8 @@ returns-in-Ok-open-clause-store_failed g c = λ told stands s k is.
 pub returns-clause-serves : goal.returns-clause-serves
 returns-clause-serves g c = λ known holds s k.
     let config_is : c.config_of.result ≡ config_for c.args.options = c.config_of.ensures in
-    let unopened = subst (λ (config : Config). IsUnopened g.D.Disk config c.args.disk.now c.in-Err.field-0.disk.now c.in-Err.field-0.why) config_is c.in-Err.ensures.unopened in
+    let unopened = subst (λ (config : Config). IsUnopened g.D.Disk config c.args.disk.now c.in-Err.field-0.disk.now c.in-Err.field-0.why) config_is
+    c.in-Err.ensures.unopened in
     at_equal
     (λ (disk : g.row.D.Denot). Writes (g.K.Sink.taken c.args.output.now) (g.K.Sink.taken c.end_unopened.new.output)
     (Serves (terms_for (as_known known g.D.Disk) c.args.options c.args.disk.now disk) c.end_unopened.result (g.S.Source.left c.args.input.now) (g.S.Source.left c.args.input.now)))
@@ -92,7 +98,8 @@ returns-clause-serves g c = λ known holds s k.
 pub returns-clause-steps : goal.returns-clause-steps
 returns-clause-steps g c = λ s k.
     let config_is : c.config_of.result ≡ config_for c.args.options = c.config_of.ensures in
-    let unopened = subst (λ (config : Config). IsUnopened g.D.Disk config c.args.disk.now c.in-Err.field-0.disk.now c.in-Err.field-0.why) config_is c.in-Err.ensures.unopened in
+    let unopened = subst (λ (config : Config). IsUnopened g.D.Disk config c.args.disk.now c.in-Err.field-0.disk.now c.in-Err.field-0.why) config_is
+    c.in-Err.ensures.unopened in
     at_equal
     (λ (disk : g.row.D.Denot). Writes (g.K.Sink.taken c.args.output.now) (g.K.Sink.taken c.end_unopened.new.output)
     (Serves (terms_over g.D.Disk c.args.options c.args.disk.now disk) c.end_unopened.result (g.S.Source.left c.args.input.now) (g.S.Source.left c.args.input.now)))
@@ -103,7 +110,8 @@ returns-clause-steps g c = λ s k.
 pub returns-clause-unopened : goal.returns-clause-unopened
 returns-clause-unopened g c = λ ends k.
     let config_is : c.config_of.result ≡ config_for c.args.options = c.config_of.ensures in
-    let unopened = subst (λ (config : Config). IsUnopened g.D.Disk config c.args.disk.now c.in-Err.field-0.disk.now c.in-Err.field-0.why) config_is c.in-Err.ensures.unopened in
+    let unopened = subst (λ (config : Config). IsUnopened g.D.Disk config c.args.disk.now c.in-Err.field-0.disk.now c.in-Err.field-0.why) config_is
+    c.in-Err.ensures.unopened in
     at_equal
     (λ (disk : g.row.D.Denot). Writes (g.K.Sink.taken c.args.output.now) (g.K.Sink.taken c.end_unopened.new.output) (EndsUnopened (IsUnopened g.D.Disk (config_for c.args.options) c.args.disk.now disk) c.end_unopened.result))
     c.in-Err.field-0.disk.now _
@@ -113,7 +121,8 @@ returns-clause-unopened g c = λ ends k.
 pub returns-clause-sound : goal.returns-clause-sound
 returns-clause-sound g c = λ shape graph told stands.
     let config_is : c.config_of.result ≡ config_for c.args.options = c.config_of.ensures in
-    let sound = sound_for shape c.config_of.result c.in-Err.field-0.why (c.in-Err.ensures.unopened.sound told shape graph stands) c.end_unopened.result c.end_unopened.ensures.cause in
+    let sound = sound_for shape c.config_of.result c.in-Err.field-0.why (c.in-Err.ensures.unopened.sound told shape graph stands) c.end_unopened.result
+    c.end_unopened.ensures.cause in
     (sound.0, λ stored asked is. let differs = sound.1 stored asked is in (differs.0, subst (λ (config : Config). ¬ Suits config shape) config_is differs.1))
 
 pub returns-clause-disk_fault : goal.returns-clause-disk_fault

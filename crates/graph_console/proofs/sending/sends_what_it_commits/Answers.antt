@@ -8,7 +8,8 @@ pub returns-clause-steps : goal.returns-clause-steps
 returns-clause-steps g c line old new turn tap before taps at = tapped-steps g.D.Disk g.K.Sink line old new turn tap before taps at
 
 pub returns-clause-goes_on : goal.returns-clause-goes_on
-returns-clause-goes_on g c told shape sent later line old new before reply tap was steps sends = goes_on-sent g.D.Disk told shape sent line old new before reply tap was steps later sends
+returns-clause-goes_on g c told shape sent later line old new before reply tap was steps sends =
+    goes_on-sent g.D.Disk told shape sent line old new before reply tap was steps later sends
 
 pub returns-clause-run : goal.returns-clause-run
 returns-clause-run g c told shape lines first last was ships = ships-sent g.D.Disk told shape lines first last was ships

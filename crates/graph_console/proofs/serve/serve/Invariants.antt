@@ -16,7 +16,8 @@ use Rattle.graph_console.proofs.serve.serve.Given as goal
 abbrev pub invariant-lines : goal.invariant-lines
 invariant-lines g l = record {
   serving : (known : Bool) (first : SharedState) → IsSharedAt (as_known known g.D.Disk) (shared_view l.fn.session) first → g.S.Source.tells → g.K.Sink.tells
-      → Serving (shared_course (as_known known g.D.Disk).tells_reads) first (IsAtSince (as_known known g.D.Disk) (shared_view l.fn.session) (shared_view l.session) first)
+      → Serving (shared_course (as_known known g.D.Disk).tells_reads) first
+      (IsAtSince (as_known known g.D.Disk) (shared_view l.fn.session) (shared_view l.session) first)
       (progress g.S.Source g.K.Sink g.D.Disk (loop l.fn.reader l.fn.input l.fn.output (shared_view l.fn.session)))
       (progress g.S.Source g.K.Sink g.D.Disk (loop l.reader l.input l.output (shared_view l.session)));
   walking : (first : SharedState) → IsSharedAt (as_known false g.D.Disk) (shared_view l.fn.session) first → g.S.Source.tells → g.K.Sink.tells

@@ -7,7 +7,8 @@ use Rattle.txn_core.proofs.Shipped.{all_ship-merged}
 use Rattle.graph_session.proofs.changing.keep.Goals as goal
 
 -- whether the records of the draft were taken or not
-ships-kept : {T E : Type 0} (result : Result T E) (shape : Shape) (own draft new : Pairs) → OnOk result (new ≡ merged own draft) → OnErr result (new ≡ own) → AllShip shape own → AllShip shape draft → AllShip shape new
+ships-kept : {T E : Type 0} (result : Result T E) (shape : Shape) (own draft new : Pairs) → OnOk result (new ≡ merged own draft) → OnErr result (new ≡ own)
+    → AllShip shape own → AllShip shape draft → AllShip shape new
 ships-kept (Ok done) shape own draft new is same all more = subst (AllShip shape) (sym is) (all_ship-merged shape own draft all more)
 ships-kept (Err fault) shape own draft new is same all more = subst (AllShip shape) (sym same) all
 

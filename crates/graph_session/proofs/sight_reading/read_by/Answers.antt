@@ -25,9 +25,11 @@ returns-clause-gives g c =
       form = given.form;
       gives = given.gives;
       means = λ tells store.
-          subst (λ (s : State). IsNamedStore s.records s.shape names → Means (graph_of s.records) command given.reply) c.view-view.ensures.sees (given.means tells) store;
+          subst (λ (s : State). IsNamedStore s.records s.shape names → Means (graph_of s.records) command given.reply) c.view-view.ensures.sees
+          (given.means tells) store;
       judges = λ tells. subst (λ (s : State). Judges s.records s.shape command given.reply) c.view-view.ensures.sees (given.judges tells);
-      told = lent (λ old new. told_fault given.reply ≢ 0 → Rose (g.R.Reads.faults old) (g.R.Reads.faults new)) _ _ _ _ c.view-view.ensures.committed (search rules) given.told;
+      told = lent (λ old new. told_fault given.reply ≢ 0 → Rose (g.R.Reads.faults old) (g.R.Reads.faults new)) _ _ _ _ c.view-view.ensures.committed
+          (search rules) given.told;
       later = lent (λ old new. g.R.Reads.faults old ≤ g.R.Reads.faults new) _ _ _ _ c.view-view.ensures.committed (search rules) given.read.later;
     }
 

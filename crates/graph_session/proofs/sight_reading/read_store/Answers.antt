@@ -20,9 +20,12 @@ disk_back : {D : Type 0} {g : DiskGhosts D} {now new : Store D g} → new ≡ no
 disk_back same = ap (λ (s : Store _ _). s.base.disk.now) same
 
 -- what is given is given by what the disk has counted
-given_back : {D K : Type 0} (g : DiskGhosts D) {tells : Type 0} {sink : SinkGhosts K} {seen : Records} {shape : Shape} {names : List (List ℕ)} {command : Command} {mark : List ℕ} {was : ℕ} {before after : K} {turn : Turn}
-    (now new : D) → new ≡ now → GivesSight tells sink seen shape names command mark (counts was (g.faults now)) before after turn → GivesSight tells sink seen shape names command mark (counts was (g.faults new)) before after turn
-given_back g {tells = tells} {sink = sink} {seen = seen} {shape = shape} {names = names} {command = command} {mark = mark} {was = was} {before = before} {after = after} {turn = turn} =
+given_back : {D K : Type 0} (g : DiskGhosts D) {tells : Type 0} {sink : SinkGhosts K} {seen : Records} {shape : Shape} {names : List (List ℕ)}
+    {command : Command} {mark : List ℕ} {was : ℕ} {before after : K} {turn : Turn}
+    (now new : D) → new ≡ now → GivesSight tells sink seen shape names command mark (counts was (g.faults now)) before after turn
+    → GivesSight tells sink seen shape names command mark (counts was (g.faults new)) before after turn
+given_back g {tells = tells} {sink = sink} {seen = seen} {shape = shape} {names = names} {command = command} {mark = mark} {was = was} {before = before}
+    {after = after} {turn = turn} =
     back (λ disk. GivesSight tells sink seen shape names command mark (counts was (g.faults disk)) before after turn)
 
 pub returns-clause-gives : goal.returns-clause-gives

@@ -21,8 +21,10 @@ draws-preserved g c =
     let count = length c.args.shipments.now in
     let x = c.args.generator.now in
     let number : c.draw.result ≡ drawn x c.draws._draw = c.draw.ensures.number ∙ ap (λ (s : ℕ). number_of (next_state s)) c.draws.invariant.2 in
-    let place : c.draw.result % c.len-count.result ≡ drawn x c.draws._draw % count = ap (λ (n : ℕ). n % c.len-count.result) number ∙ ap (λ (n : ℕ). drawn x c.draws._draw % n) c.len-count.ensures in (
-      delivered_more g.D.Disk c.args.shipments.now none_delivered (view c.args.follower.now) c.draws._draw (c.draws._draw + 1) (deliver_drawn count x c.draws._draw) (deliver_drawn count x (c.draws._draw + 1)) c.draws.delivered c.in_ok-delivered.delivered
+    let place : c.draw.result % c.len-count.result ≡ drawn x c.draws._draw % count = ap (λ (n : ℕ). n % c.len-count.result) number
+    ∙ ap (λ (n : ℕ). drawn x c.draws._draw % n) c.len-count.ensures in (
+      delivered_more g.D.Disk c.args.shipments.now none_delivered (view c.args.follower.now) c.draws._draw (c.draws._draw + 1)
+          (deliver_drawn count x c.draws._draw) (deliver_drawn count x (c.draws._draw + 1)) c.draws.delivered c.in_ok-delivered.delivered
           (view c.draws.follower) (view c.deliver.new.follower) (c.draw.result % c.len-count.result) c.at.result.now c.draws.invariant.0 c.at.ensures refl
           (drawn_more count x c.draws._draw ∙ ap (λ (n : ℕ). deliver (n + 1) (deliver_drawn count x c.draws._draw)) (sym place))
           c.in_ok-delivered.ensures.live c.in_ok-delivered.ensures.count c.in_ok-delivered.ensures.delivers,

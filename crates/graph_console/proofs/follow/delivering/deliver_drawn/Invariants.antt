@@ -7,6 +7,7 @@ use Rattle.graph_console.proofs.follow.delivering.deliver_drawn.Given as goal
 
 abbrev pub invariant-draws : goal.invariant-draws
 invariant-draws g l =
-    HasDelivered g.D.Disk l.fn.shipments none_delivered (view l.fn.follower) l._draw (deliver_drawn (length l.fn.shipments) l.fn.generator l._draw) l.delivered (view l.follower)
+    HasDelivered g.D.Disk l.fn.shipments none_delivered (view l.fn.follower) l._draw (deliver_drawn (length l.fn.shipments) l.fn.generator l._draw) l.delivered
+    (view l.follower)
     × HaveSameDisk l.fn.follower l.follower
     × (l.generator ≡ state_after l.fn.generator l._draw)

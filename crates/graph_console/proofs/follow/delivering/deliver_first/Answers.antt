@@ -17,8 +17,11 @@ shipments-init g c = (
 
 pub shipments-preserved : goal.shipments-preserved
 shipments-preserved g c = (
-  delivered_more g.D.Disk c.args.shipments.now c.args.drawn (view c.args.follower.now) (count_delivered c.args.drawn + c.shipments.index) (count_delivered c.args.drawn + (c.shipments.index + 1)) (deliver_first c.shipments.index c.args.drawn) (deliver_first (c.shipments.index + 1) c.args.drawn)
-      c.shipments.delivered c.in_ok-delivered.delivered (view c.shipments.follower) (view c.deliver.new.follower) c.shipments.index c.at.result.now c.shipments.invariant.0 c.at.ensures (omega arith) (first_more c.shipments.index c.args.drawn)
+  delivered_more g.D.Disk c.args.shipments.now c.args.drawn (view c.args.follower.now) (count_delivered c.args.drawn + c.shipments.index)
+      (count_delivered c.args.drawn + (c.shipments.index + 1)) (deliver_first c.shipments.index c.args.drawn)
+      (deliver_first (c.shipments.index + 1) c.args.drawn)
+      c.shipments.delivered c.in_ok-delivered.delivered (view c.shipments.follower) (view c.deliver.new.follower) c.shipments.index c.at.result.now
+      c.shipments.invariant.0 c.at.ensures (omega arith) (first_more c.shipments.index c.args.drawn)
       c.in_ok-delivered.ensures.live c.in_ok-delivered.ensures.count c.in_ok-delivered.ensures.delivers,
   c.deliver.ensures.same_disk ∙ c.shipments.invariant.1,
 )

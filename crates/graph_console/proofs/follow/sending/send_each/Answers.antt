@@ -21,10 +21,13 @@ lines-preserved g c = λ reads has.
     let answers : AnswersTapped g.D.Disk (turn c.lines.sampler).line c.taken.result.now (shared_view c.lines.session) now pairs =
     subst (λ (text : List ℕ). AnswersTapped g.D.Disk (turn c.lines.sampler).line text (shared_view c.lines.session) now pairs) (sym c.taken.ensures)
     (subst (λ (line : List ℕ). AnswersTapped g.D.Disk line c.in_ok-reply.reply.taken (shared_view c.lines.session) now pairs) line_is c.in_ok-reply.ensures) in
-    let adds : Adds c.taken.result.now (turn c.lines.sampler).after c.note.new.self = subst (λ (after : SampleState). Adds c.taken.result.now after c.note.new.self) c.next_line-line.ensures.after c.in_ok-note.ensures in
+    let adds : Adds c.taken.result.now (turn c.lines.sampler).after c.note.new.self =
+    subst (λ (after : SampleState). Adds c.taken.result.now after c.note.new.self) c.next_line-line.ensures.after c.in_ok-note.ensures in
     let few = c.requires in
-    let some : pairs ≢ [] = λ none. let no_length : length pairs ≡ 0 = ap length none in let counted = c.len.ensures.value in let other = c.if-len-eq0.false in absurd (grind (arith, nat_tests)) in
-    let fits : length pairs ≤ most_shipped = let counted = c.len-else-len-eq0.ensures.value in let other = c.if-len-gt-MOST_SHIPPED.false in grind (arith, nat_tests) in
+    let some : pairs ≢ [] = λ none. let no_length : length pairs ≡ 0 = ap length none in let counted = c.len.ensures.value in let other = c.if-len-eq0.false in
+    absurd (grind (arith, nat_tests)) in
+    let fits : length pairs ≤ most_shipped = let counted = c.len-else-len-eq0.ensures.value in let other = c.if-len-gt-MOST_SHIPPED.false in
+    grind (arith, nat_tests) in
     subst (λ (sent : List (List ℕ)). HasSentTurns g.D.Disk options (c.lines._line + 1) c.note.new.self sent now) (sym c.in_ok-add.ensures)
     (sent_more g.D.Disk options c.lines._line c.lines.sampler c.note.new.self c.lines.shipments (shared_view c.lines.session) now c.taken.result.now pairs reads (omega arith)
     (c.sends_what_it_commits.ensures.goes_on reads (shape_of (sample_config options))) (c.lines.invariant reads has) answers adds some fits)

@@ -10,7 +10,8 @@ use Rattle.graph_console.proofs.AskedFor.{sample_allowed}
 use Rattle.graph_console.proofs.follow.sending.send_lines.Goals as goal
 
 pub open-requires : goal.open-requires
-open-requires g c = subst (λ (config : Config). is_allowed (shape_of config) ≡ true) (sym c.config_of.ensures) (sample_allowed c.args.options (let few = c.requires in omega arith))
+open-requires g c = subst (λ (config : Config). is_allowed (shape_of config) ≡ true) (sym c.config_of.ensures)
+    (sample_allowed c.args.options (let few = c.requires in omega arith))
 
 pub returns-in-Ok : goal.returns-in-Ok
 returns-in-Ok g c =

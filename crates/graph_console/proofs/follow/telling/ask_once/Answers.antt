@@ -15,6 +15,7 @@ returns-in-Ok g c = IfOk-weaker c.ask-reply.result _ _
     (λ page h told shape graph stands.
     let begins = c.in-Ok.ensures.opened.begins true (λ _. record { shape = shape; graph = graph; stands = stands }) in
     let at = opens-shared g.D.Disk (shared_view c.in-Ok.session) begins.0 begins.2 c.in-Ok.ensures.stored begins.1.closed c.in-Ok.ensures.no_snapshots in
-    answers_stats g.D.Disk (begins_with begins.0) page.taken (shared_view c.ask-reply.new.session) told begins.1.live begins.1.closed (h (begins_with begins.0) at)
+    answers_stats g.D.Disk (begins_with begins.0) page.taken (shared_view c.ask-reply.new.session) told begins.1.live begins.1.closed
+    (h (begins_with begins.0) at)
     ∙ ap (λ (counted : Graph). text_line (counts_text (counts_of counted))) (begins.1.same told shape graph stands))
     c.ask-reply.ensures

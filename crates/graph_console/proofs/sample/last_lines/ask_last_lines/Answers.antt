@@ -29,9 +29,11 @@ lines-preserved g c = record {
 pub returns-in-Some-clause-samples : goal.returns-in-Some-clause-samples
 returns-in-Some-clause-samples g c = λ options s k.
     let so_far = c.lines.invariant.sampled options s k in
-    ends_in_line (take c.lines.index last_lines) c.last_line.result.now (drop (suc c.lines.index) last_lines) (shared_view c.lines.session) (shared_view c.ask_aloud.new.session) so_far.0
+    ends_in_line (take c.lines.index last_lines) c.last_line.result.now (drop (suc c.lines.index) last_lines) (shared_view c.lines.session)
+    (shared_view c.ask_aloud.new.session) so_far.0
     (g.K.Sink.taken c.args.output.now) (g.K.Sink.taken c.lines.output) (g.K.Sink.taken c.ask_aloud.new.output) c.in-Some.exit
-    (last_lines_split c.lines.index c.lines-test.true c.last_line.result.now c.last_line.ensures) so_far.2 so_far.1 (c.in-Some.ensures.asks so_far.2.last so_far.2.is_at k)
+    (last_lines_split c.lines.index c.lines-test.true c.last_line.result.now c.last_line.ensures) so_far.2 so_far.1
+    (c.in-Some.ensures.asks so_far.2.last so_far.2.is_at k)
 
 pub returns-in-Some-clause-cause : goal.returns-in-Some-clause-cause
 returns-in-Some-clause-cause g c = λ is. omega (arith, c.in-Some.ensures.cause (ap Some is), c.lines.invariant.later)

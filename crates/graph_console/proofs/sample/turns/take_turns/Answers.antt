@@ -13,7 +13,8 @@ turns-init g c = λ is_at.
 pub turns-preserved : goal.turns-preserved
 turns-preserved g c = λ is_at.
     let line_is = c.as_bytes.ensures ∙ c.next_line-line.ensures.line in
-    turn_more g.D.Disk c.args.options c.turns._turn c.turns.sampler c.note.new.self (shared_view c.turns.session) (shared_view c.ask.new.session) c.taken.result.now (c.turns.invariant is_at)
+    turn_more g.D.Disk c.args.options c.turns._turn c.turns.sampler c.note.new.self (shared_view c.turns.session) (shared_view c.ask.new.session)
+    c.taken.result.now (c.turns.invariant is_at)
     (λ state at.
     subst (λ (text : List ℕ). AnswersWell g.D.Disk (turn c.turns.sampler).line text state (shared_view c.ask.new.session)) (sym c.taken.ensures)
     (subst (λ (line : List ℕ). AnswersWell g.D.Disk line c.in_ok-reply.reply.taken state (shared_view c.ask.new.session)) line_is (c.in_ok-reply.ensures state at)))

@@ -16,7 +16,8 @@ pub returns-in-Ok-clause-gives : goal.returns-in-Ok-clause-gives
 returns-in-Ok-clause-gives g c =
     let s = g.R.Reads.state c.args.space.now in
     let met = c.in-Ok.ensures in
-    gives-told (asks c.args.id c.args.direction c.args.label.now) (is_read-gets g.R.Reads met.at_most.count met.at_most.is met.onward met.cause.later) (one_line (degree_text c.in-Ok.edges)) (c.in-Ok.edges, refl) refl
+    gives-told (asks c.args.id c.args.direction c.args.label.now) (is_read-gets g.R.Reads met.at_most.count met.at_most.is met.onward met.cause.later)
+    (one_line (degree_text c.in-Ok.edges)) (c.in-Ok.edges, refl) refl
     (λ told store. met.missing told store.store)
     (λ told store.
     ap (λ (edges : ℕ). one_line (degree_text edges))
@@ -27,7 +28,8 @@ pub returns-in-Err-clause-gives : goal.returns-in-Err-clause-gives
 returns-in-Err-clause-gives g c =
     let s = g.R.Reads.state c.args.space.now in
     let met = c.in-Err.ensures in
-    gives-unknown (asks c.args.id c.args.direction c.args.label.now) (is_read-gets g.R.Reads met.at_most.count met.at_most.is met.onward met.cause.later) tt c.in-Err.fault (λ disk. met.cause.disk (ap Err disk))
+    gives-unknown (asks c.args.id c.args.direction c.args.label.now) (is_read-gets g.R.Reads met.at_most.count met.at_most.is met.onward met.cause.later) tt
+    c.in-Err.fault (λ disk. met.cause.disk (ap Err disk))
     (λ told store. one-missing ℕ c.in-Err.fault c.args.id (graph_of s.records) (met.missing told store.store))
     (λ told. one-blamed s c.args.id c.in-Err.fault (met.damaged told))
     (rw c.answer_of.ensures at c.give_answer.ensures)

@@ -19,13 +19,15 @@ asks id direction label = record { question = tt; some = tt; reading = listed []
 
 pub returns-in_default-clause-gives : goal.returns-in_default-clause-gives
 returns-in_default-clause-gives g c =
-    gives-unknown (asks c.args.id c.args.direction c.args.label.now) (is_read-none g.R.Reads g.met.R.Reads.stays_onward c.args.space.now) tt faults.Memory (λ e. cc) (λ told store id e. cc) (λ told. tt) (rw c.no_memory.ensures at c.give_line.ensures)
+    gives-unknown (asks c.args.id c.args.direction c.args.label.now) (is_read-none g.R.Reads g.met.R.Reads.stays_onward c.args.space.now) tt faults.Memory
+    (λ e. cc) (λ told store id e. cc) (λ told. tt) (rw c.no_memory.ensures at c.give_line.ensures)
 
 pub returns-in-Ok-edges_of-clause-gives : goal.returns-in-Ok-edges_of-clause-gives
 returns-in-Ok-edges_of-clause-gives g c =
     let rows = c.in-Ok-edges_of.rows.items in
     let met = c.in-Ok-edges_of.ensures in
-    gives-told (asks c.args.id c.args.direction c.args.label.now) met.read (listed (map item_line (items_of c.args.label.now rows))) (items_of c.args.label.now rows, refl) refl
+    gives-told (asks c.args.id c.args.direction c.args.label.now) met.read (listed (map item_line (items_of c.args.label.now rows)))
+    (items_of c.args.label.now rows, refl) refl
     (λ told store. met.missing told store)
     (λ told store. ap (λ (found : List Item). listed (map item_line found)) (met.found told store))
     (rw (c.deref.ensures.value, c.in-Ok.ensures) at c.give_rows.ensures)

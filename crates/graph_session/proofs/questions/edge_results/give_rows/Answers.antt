@@ -8,15 +8,18 @@ loop-row-init g c = rw c.new-lines.ensures (giving-none c.args.mark.now c.args.o
 
 pub returns : goal.returns
 returns g c =
-    giving-end c.loop-row.invariant c.loop-row.auto.row-index-end c.loop-row-test.false c.finish.new.output c.finish.result (rw c.end_of_results.ensures at c.finish.ensures)
+    giving-end c.loop-row.invariant c.loop-row.auto.row-index-end c.loop-row-test.false c.finish.new.output c.finish.result
+    (rw c.end_of_results.ensures at c.finish.ensures)
 
 pub loop-row-preserved : goal.loop-row-preserved
 loop-row-preserved g c =
-    giving-more c.loop-row.invariant c.loop-row-test.true c.set_row.new.edge (c.set_row.ensures c.args.label c.loop-row.invariant.named) c.add_result.new.self c.add_result.new.output (rw c.in-Go.is at c.add_result.ensures)
+    giving-more c.loop-row.invariant c.loop-row-test.true c.set_row.new.edge (c.set_row.ensures c.args.label c.loop-row.invariant.named) c.add_result.new.self
+    c.add_result.new.output (rw c.in-Go.is at c.add_result.ensures)
 
 pub returns-in_default : goal.returns-in_default
 returns-in_default g c =
-    giving-stop c.loop-row.invariant c.loop-row-test.true c.set_row.new.edge (c.set_row.ensures c.args.label c.loop-row.invariant.named) c.add_result.new.self c.add_result.new.output c.add_result.result c.add_result.ensures c.in_default.not-Go
+    giving-stop c.loop-row.invariant c.loop-row-test.true c.set_row.new.edge (c.set_row.ensures c.args.label c.loop-row.invariant.named) c.add_result.new.self
+    c.add_result.new.output c.add_result.result c.add_result.ensures c.in_default.not-Go
 
 pub add_result-requires : goal.add_result-requires
 add_result-requires g c = subst IsShown (sym (c.set_row.ensures c.args.label c.loop-row.invariant.named)) c.requires

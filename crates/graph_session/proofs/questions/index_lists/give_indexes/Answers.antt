@@ -14,7 +14,8 @@ returns-in-Ok-clause-gives g c =
     let count = c.name_count-count.result in
     let met = c.in-Ok.ensures in
     let pairs = c.in-Ok.pairs.items in
-    asks-told asks-indexes (is_read-gets g.R.Reads met.at_most.count met.at_most.is met.onward met.cause.later) (listed (index_lines names count pairs)) (lines-formed names count pairs) refl (λ told store. tt) (λ told store. tt)
+    asks-told asks-indexes (is_read-gets g.R.Reads met.at_most.count met.at_most.is met.onward met.cause.later) (listed (index_lines names count pairs))
+    (lines-formed names count pairs) refl (λ told store. tt) (λ told store. tt)
     (λ told store.
     ap listed
     ((λ i. index_lines names (c.name_count-count.ensures.is store i) (met.listed told _ store.indexes i)) ∙ sym (graph-lines s.records s.shape names store)))
@@ -23,5 +24,6 @@ returns-in-Ok-clause-gives g c =
 pub returns-in-Err-clause-gives : goal.returns-in-Err-clause-gives
 returns-in-Err-clause-gives g c =
     let met = c.in-Err.ensures in
-    asks-unread asks-indexes (is_read-gets g.R.Reads met.at_most.count met.at_most.is met.onward met.cause.later) c.in-Err.fault (λ disk. met.cause.disk (ap Err disk))
+    asks-unread asks-indexes (is_read-gets g.R.Reads met.at_most.count met.at_most.is met.onward met.cause.later) c.in-Err.fault
+    (λ disk. met.cause.disk (ap Err disk))
     (λ told. met.damaged told) (rw c.answer_of_read.ensures at c.give_answer.ensures)

@@ -43,7 +43,8 @@ each-smaller g c =
     omega (arith, low, le)
 
 -- the line of the place, by the texts of its numbers
-placed : (names : List (List ℕ)) (count place : ℕ) (label key : List ℕ) → slice_get names (place / count) ≡ Some label → slice_get names (place % count) ≡ Some key → index_line label key ≡ place_line names count place
+placed : (names : List (List ℕ)) (count place : ℕ) (label key : List ℕ) → slice_get names (place / count) ≡ Some label
+    → slice_get names (place % count) ≡ Some key → index_line label key ≡ place_line names count place
 placed names count place label key label_is key_is =
     λ i. index_line (sym (get_or_from_slice_get names (place / count) label [] label_is) i) (sym (get_or_from_slice_get names (place % count) key [] key_is) i)
 
@@ -56,7 +57,8 @@ each-preserved g c =
     let low = taken-below count pairs place c.in-Some.ensures.1 in
     let line = placed names count place c.text-label.result.now c.text-key.result.now c.text-label.ensures.is c.text-key.ensures.is in
     record {
-      has = subst (λ (lines : List (List ℕ)). HasLines g.K.Sink c.args.mark.now c.args.output.now c.add_index.new.output c.add_index.new.self lines) (sym (lines-next names count pairs c.each.from place c.in-Some.ensures))
+      has = subst (λ (lines : List (List ℕ)). HasLines g.K.Sink c.args.mark.now c.args.output.now c.add_index.new.output c.add_index.new.self lines)
+          (sym (lines-next names count pairs c.each.from place c.in-Some.ensures))
           (lines-add c.each.invariant.has (place_line names count place) c.add_index.new.self c.add_index.new.output
           (subst (λ (text : List ℕ). AddsLine g.K.Sink (text_line text) c.each.lines c.add_index.new.self c.each.output c.add_index.new.output Go) line (rw c.in-Go.is at c.add_index.ensures)));
       low = omega (arith, low);

@@ -10,12 +10,15 @@ loop-id-init g c = rw c.new-lines.ensures (lines-none c.args.mark.now c.args.out
 
 pub loop-id-preserved : goal.loop-id-preserved
 loop-id-preserved g c =
-    listing-more vertex_line [] c.args.nodes.now c.loop-id.invariant 0 c.loop-id-test.true c.add_result.new.self c.add_result.new.output (rw c.in-Go.is at c.add_result.ensures)
+    listing-more vertex_line [] c.args.nodes.now c.loop-id.invariant 0 c.loop-id-test.true c.add_result.new.self c.add_result.new.output
+    (rw c.in-Go.is at c.add_result.ensures)
 
 pub returns-in_default : goal.returns-in_default
 returns-in_default g c =
-    listing-stop vertex_line [] c.args.nodes.now c.loop-id.invariant 0 c.loop-id-test.true c.add_result.new.self c.add_result.new.output end_text c.add_result.result c.add_result.ensures c.in_default.not-Go
+    listing-stop vertex_line [] c.args.nodes.now c.loop-id.invariant 0 c.loop-id-test.true c.add_result.new.self c.add_result.new.output end_text
+    c.add_result.result c.add_result.ensures c.in_default.not-Go
 
 pub returns : goal.returns
 returns g c =
-    listing-end vertex_line [] c.args.nodes.now c.loop-id.invariant c.loop-id.auto.id-index-end c.loop-id-test.false end_text c.finish.new.output c.finish.result (rw c.end_of_results.ensures at c.finish.ensures)
+    listing-end vertex_line [] c.args.nodes.now c.loop-id.invariant c.loop-id.auto.id-index-end c.loop-id-test.false end_text c.finish.new.output
+    c.finish.result (rw c.end_of_results.ensures at c.finish.ensures)

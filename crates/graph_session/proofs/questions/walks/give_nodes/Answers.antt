@@ -10,7 +10,8 @@ returns-then-count-eq0 g c = gives-no_walk c.args.mark.now c.args.walk.now (omeg
 
 pub loop-id-init : goal.loop-id-init
 loop-id-init g c =
-    lines-add (lines-none c.args.mark.now c.args.output.now) (path_text (length c.args.walk.now - 1)) c.add.new.self c.add.new.output (rw (c.in-Go.is, c.new-lines.ensures, c.as_bytes.ensures, c.path.ensures) at c.add.ensures)
+    lines-add (lines-none c.args.mark.now c.args.output.now) (path_text (length c.args.walk.now - 1)) c.add.new.self c.add.new.output
+    (rw (c.in-Go.is, c.new-lines.ensures, c.as_bytes.ensures, c.path.ensures) at c.add.ensures)
 
 pub returns-in_default : goal.returns-in_default
 returns-in_default g c =
@@ -22,7 +23,8 @@ returns-in_default g c =
 pub loop-id-preserved : goal.loop-id-preserved
 loop-id-preserved g c =
     let walk = c.args.walk.now in
-    listing-more node_line (edge_count_lines walk) walk c.loop-id.invariant 0 c.loop-id-test.true c.add_result.new.self c.add_result.new.output (rw c.in-Go-add_result.is at c.add_result.ensures)
+    listing-more node_line (edge_count_lines walk) walk c.loop-id.invariant 0 c.loop-id-test.true c.add_result.new.self c.add_result.new.output
+    (rw c.in-Go-add_result.is at c.add_result.ensures)
 
 pub returns-in_default-add_result : goal.returns-in_default-add_result
 returns-in_default-add_result g c =

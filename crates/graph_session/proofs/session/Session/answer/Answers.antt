@@ -12,18 +12,23 @@ use Rattle.graph_session.proofs.session.Session.answer.Goals as goal
 pub returns-in-Blank-clause-answers : goal.returns-in-Blank-clause-answers
 returns-in-Blank-clause-answers g c = λ line parsed.
     let only = subst (λ (command : Command). SpellsOnly line command) (sym c.in-Blank.ensures) parsed.only in
-    taps-nothing c.args.tap.now c.args.tap.now (takes-nothing c.args.tap.now c.requires.room) (unended only c.args.self.now.store.base.in_transaction (blank-ends c.args.self.now.store.base.in_transaction)) (answers-blank g.D.Disk g.met.D.Disk.only_now g.K.Sink only)
+    taps-nothing c.args.tap.now c.args.tap.now (takes-nothing c.args.tap.now c.requires.room)
+    (unended only c.args.self.now.store.base.in_transaction (blank-ends c.args.self.now.store.base.in_transaction))
+    (answers-blank g.D.Disk g.met.D.Disk.only_now g.K.Sink only)
 
 pub returns-in-Quit-clause-answers : goal.returns-in-Quit-clause-answers
 returns-in-Quit-clause-answers g c = λ line parsed.
     let only = subst (λ (command : Command). SpellsOnly line command) (sym c.in-Quit.ensures) parsed.only in
-    taps-nothing c.args.tap.now c.args.tap.now (takes-nothing c.args.tap.now c.requires.room) (unended only c.args.self.now.store.base.in_transaction (quit-ends c.args.self.now.store.base.in_transaction)) (answers-quit g.D.Disk g.met.D.Disk.only_now g.K.Sink only)
+    taps-nothing c.args.tap.now c.args.tap.now (takes-nothing c.args.tap.now c.requires.room)
+    (unended only c.args.self.now.store.base.in_transaction (quit-ends c.args.self.now.store.base.in_transaction))
+    (answers-quit g.D.Disk g.met.D.Disk.only_now g.K.Sink only)
 
 pub returns-in-Sight-clause-answers : goal.returns-in-Sight-clause-answers
 returns-in-Sight-clause-answers g c = λ line parsed.
     let mine = subst (λ (command : Command). IsParsed line c.args.session command c.args.mark.now) (sym c.in-Sight.ensures) parsed in
     let is_open = c.args.self.now.store.base.in_transaction in
-    taps-nothing c.args.tap.now c.args.tap.now (takes-nothing c.args.tap.now c.requires.room) (unended mine.only is_open (sight-ends (sight_command c.in-Sight.sight) (sight-about c.in-Sight.sight) is_open)) (c.serve_sight.ensures.answers line mine)
+    taps-nothing c.args.tap.now c.args.tap.now (takes-nothing c.args.tap.now c.requires.room)
+    (unended mine.only is_open (sight-ends (sight_command c.in-Sight.sight) (sight-about c.in-Sight.sight) is_open)) (c.serve_sight.ensures.answers line mine)
 
 pub returns-in-Act-clause-answers : goal.returns-in-Act-clause-answers
 returns-in-Act-clause-answers g c = λ line parsed.
@@ -33,7 +38,9 @@ pub returns-in-Question-clause-answers : goal.returns-in-Question-clause-answers
 returns-in-Question-clause-answers g c = λ line parsed.
     let mine = subst (λ (command : Command). IsParsed line c.args.session command c.args.mark.now) (sym c.in-Question.ensures) parsed in
     let is_open = c.args.self.now.store.base.in_transaction in
-    taps-nothing c.args.tap.now c.args.tap.now (takes-nothing c.args.tap.now c.requires.room) (unended mine.only is_open (question-ends (question_command c.in-Question.question) (is_question c.in-Question.question) is_open)) (c.serve_question.ensures.answers line mine)
+    taps-nothing c.args.tap.now c.args.tap.now (takes-nothing c.args.tap.now c.requires.room)
+    (unended mine.only is_open (question-ends (question_command c.in-Question.question) (is_question c.in-Question.question) is_open))
+    (c.serve_question.ensures.answers line mine)
 
 pub returns-in-Blank-clause-careful : goal.returns-in-Blank-clause-careful
 returns-in-Blank-clause-careful g c = λ again. let clash : commands.Blank ≡ commands.Reopen = c.in-Blank.ensures ∙ again in cc

@@ -14,7 +14,8 @@ use Rattle.graph_session.proofs.Taps.{fault-unconfirmed, takes-nothing, taps-ref
 use Rattle.graph_session.proofs.session.Session.answer_line.Goals as goal
 
 -- the mark is that of the session that the line names
-marked : (line : List ℕ) {bytes mark : List ℕ} {named : Option ℕ} → named ≡ session_named line → mark ≡ mark_text named → bytes ≡ mark → bytes ≡ mark_text (session_named line)
+marked : (line : List ℕ) {bytes mark : List ℕ} {named : Option ℕ} → named ≡ session_named line → mark ≡ mark_text named → bytes ≡ mark
+    → bytes ≡ mark_text (session_named line)
 marked line by_name text same = same ∙ text ∙ ap mark_text by_name
 
 pub answer-requires-clause-session : goal.answer-requires-clause-session
@@ -30,7 +31,8 @@ returns-in-Ok-clause-answers g c = c.answer.ensures.answers c.args.line.now (rec
 pub returns-in-Ok-clause-no_draft : goal.returns-in-Ok-clause-no_draft
 returns-in-Ok-clause-no_draft g c = λ none.
     let answers = (returns-in-Ok-clause-answers g c).0 in
-    as-no_draft g.D.Disk (shared_view c.args.self.now) answers.reply (shared_view c.answer.new.self) none (session_of c.args.line.now) (Whole c.args.line.now) (answers.may none)
+    as-no_draft g.D.Disk (shared_view c.args.self.now) answers.reply (shared_view c.answer.new.self) none (session_of c.args.line.now) (Whole c.args.line.now)
+    (answers.may none)
 
 pub returns-in-Ok-clause-careful : goal.returns-in-Ok-clause-careful
 returns-in-Ok-clause-careful g c = λ spells. c.answer.ensures.careful (sym (c.in-Ok.ensures.only commands.Reopen spells))

@@ -7,12 +7,16 @@ use Rattle.graph_session.proofs.session.Session.change.Goals as goal
 
 pub returns-clause-settles : goal.returns-clause-settles
 returns-clause-settles g c =
-    settles-change (is_change c.args.change) c.requires.live c.end_change.new.self c.begin_change-begun.result c.begin_change-begun.ensures c.draft-drafted.ensures.only c.draft-drafted.result c.draft-drafted.ensures.drafts c.end_change.result c.end_change.ensures.ends
+    settles-change (is_change c.args.change) c.requires.live c.end_change.new.self c.begin_change-begun.result c.begin_change-begun.ensures
+    c.draft-drafted.ensures.only c.draft-drafted.result c.draft-drafted.ensures.drafts c.end_change.result c.end_change.ensures.ends
 
 pub returns-clause-keeps : goal.returns-clause-keeps
 returns-clause-keeps g c =
-    keeps-change (is_change c.args.change) c.requires.live c.end_change.new.self c.begin_change-begun.result c.begin_change-begun.ensures c.draft-drafted.ensures.only c.draft-drafted.result c.draft-drafted.ensures.drafts c.end_change.result c.end_change.ensures.ends
+    keeps-change (is_change c.args.change) c.requires.live c.end_change.new.self c.begin_change-begun.result c.begin_change-begun.ensures
+    c.draft-drafted.ensures.only c.draft-drafted.result c.draft-drafted.ensures.drafts c.end_change.result c.end_change.ensures.ends
 
 pub returns-clause-taps : goal.returns-clause-taps
 returns-clause-taps g c =
-    taps-change (change_command c.args.change) (is_change c.args.change) c.requires.live c.end_change.new.self c.begin_change-begun.result c.begin_change-begun.ensures c.draft-drafted.ensures.only c.draft-drafted.result c.draft-drafted.ensures.drafts c.end_change.result c.args.tap.now c.end_change.new.tap c.end_change.ensures.taps
+    taps-change (change_command c.args.change) (is_change c.args.change) c.requires.live c.end_change.new.self c.begin_change-begun.result
+    c.begin_change-begun.ensures c.draft-drafted.ensures.only c.draft-drafted.result c.draft-drafted.ensures.drafts c.end_change.result c.args.tap.now
+    c.end_change.new.tap c.end_change.ensures.taps

@@ -7,19 +7,22 @@ use Rattle.graph_session.proofs.session.Session.commit.Goals as goal
 
 pub returns-then-not-in_transaction-clause-settles :
     goal.returns-then-not-in_transaction-clause-settles
-returns-then-not-in_transaction-clause-settles g c = refused-commit {g = g.D.Disk} g.met.D.Disk.only_now (view c.args.self.now) c.requires.live (sym c.if-not-in_transaction.ensures.is)
+returns-then-not-in_transaction-clause-settles g c = refused-commit {g = g.D.Disk} g.met.D.Disk.only_now (view c.args.self.now) c.requires.live
+    (sym c.if-not-in_transaction.ensures.is)
 
 pub returns-in-Ok-clause-settles : goal.returns-in-Ok-clause-settles
 returns-in-Ok-clause-settles g c =
     let s = c.args.self.now in
     let done = c.in-Ok.ensures in
-    committed_one s.store c.commit_kept.new.self done.same done.closed done.draft done.cause.later (sym c.if-not-in_transaction.ensures.is) done.crash s.health c.requires.live s.weight s.names.names done.own done.done (λ nothing. (done.empty (ap length nothing)).1)
+    committed_one s.store c.commit_kept.new.self done.same done.closed done.draft done.cause.later (sym c.if-not-in_transaction.ensures.is) done.crash s.health
+    c.requires.live s.weight s.names.names done.own done.done (λ nothing. (done.empty (ap length nothing)).1)
 
 pub returns-in-Err-clause-settles : goal.returns-in-Err-clause-settles
 returns-in-Err-clause-settles g c =
     let s = c.args.self.now in
     let done = c.in-Err.ensures in
-    commit_failed s.store c.commit_kept.new.self done.same done.closed done.draft done.cause.later (sym c.if-not-in_transaction.ensures.is) done.crash s.health c.requires.live s.weight s.names.names done.failed done.cause.failed (λ nothing. true≢false (sym (done.empty (ap length nothing)).0))
+    commit_failed s.store c.commit_kept.new.self done.same done.closed done.draft done.cause.later (sym c.if-not-in_transaction.ensures.is) done.crash s.health
+    c.requires.live s.weight s.names.names done.failed done.cause.failed (λ nothing. true≢false (sym (done.empty (ap length nothing)).0))
 
 pub returns-then-not-in_transaction-clause-keeps :
     goal.returns-then-not-in_transaction-clause-keeps
@@ -43,7 +46,8 @@ returns-in-Err-clause-keeps g c =
 
 pub returns-then-not-in_transaction-clause-taps :
     goal.returns-then-not-in_transaction-clause-taps
-returns-then-not-in_transaction-clause-taps g c = takes-weaker c.args.tap.now c.args.tap.now (taps-unconfirmed (λ confirms. confirms)) (takes-nothing c.args.tap.now c.requires.room)
+returns-then-not-in_transaction-clause-taps g c = takes-weaker c.args.tap.now c.args.tap.now (taps-unconfirmed (λ confirms. confirms))
+    (takes-nothing c.args.tap.now c.requires.room)
 
 pub returns-in-Ok-clause-taps : goal.returns-in-Ok-clause-taps
 returns-in-Ok-clause-taps g c =
@@ -51,4 +55,5 @@ returns-in-Ok-clause-taps g c =
     takes-weaker c.args.tap.now c.fill.new.tap (λ pairs has. taps-ended tt (inl refl) pairs (λ commits. has.is) (λ change. absurd (commit-still change)) (tapped-written (view c.args.self.now) _ pairs has done.same.shape done.done.space)) c.fill.ensures
 
 pub returns-in-Err-clause-taps : goal.returns-in-Err-clause-taps
-returns-in-Err-clause-taps g c = takes-weaker c.args.tap.now c.forget.new.tap (taps-unconfirmed (λ confirms. confirms)) (takes-then (HasWritten (view c.args.self.now).console) IsEmpty c.args.tap.now c.fill.new.tap c.forget.new.tap c.fill.ensures c.forget.ensures)
+returns-in-Err-clause-taps g c = takes-weaker c.args.tap.now c.forget.new.tap (taps-unconfirmed (λ confirms. confirms))
+    (takes-then (HasWritten (view c.args.self.now).console) IsEmpty c.args.tap.now c.fill.new.tap c.forget.new.tap c.fill.ensures c.forget.ensures)

@@ -10,7 +10,8 @@ pub new-requires : goal.new-requires
 new-requires g c = c.in-Ok.ensures.shown c.in_ok-items.ensures.shown
 
 pub returns-in_err-items-clause-drafts : goal.returns-in_err-items-clause-drafts
-returns-in_err-items-clause-drafts g c = let p = err_from_is_err_and c.from_residual.result c.from_residual.ensures.1 in rw (p.1, p.2) (c.in_err-items.ensures.stopped c.args.mutation.now)
+returns-in_err-items-clause-drafts g c = let p = err_from_is_err_and c.from_residual.result c.from_residual.ensures.1 in
+    rw (p.1, p.2) (c.in_err-items.ensures.stopped c.args.mutation.now)
 
 pub returns-in-Ok-clause-drafts : goal.returns-in-Ok-clause-drafts
 returns-in-Ok-clause-drafts g c =
@@ -20,7 +21,8 @@ returns-in-Ok-clause-drafts g c =
     rw c.new.ensures (
       (c.in-Ok.field-0.items.items, refl),
       λ told has.
-          mutation-made (state_of old.store) (state_of mid.store) read.same c.args.reading.now c.args.mutation.now (read.there told has) _ (read.items told has) c.in-Ok.field-0.items.items c.in-Ok.field-0.weight _ _
+          mutation-made (state_of old.store) (state_of mid.store) read.same c.args.reading.now c.args.mutation.now (read.there told has) _ (read.items told has)
+          c.in-Ok.field-0.items.items c.in-Ok.field-0.weight _ _
           (c.in-Ok.ensures.made told (has-read old mid read.same read.names has)),
       λ few. writes-read (state_of old.store) (state_of mid.store) read.same (c.in-Ok.ensures.writes few),
     )
@@ -32,7 +34,8 @@ returns-in-Err-clause-drafts g c =
     let read = c.in_ok-items.ensures in
     change-stopped (commands.Mutate c.args.reading.now c.args.mutation.now) old c.mutate.new.space.base.disk.now c.in-Err.fault
     (λ told has.
-    mutation-refused (state_of old.store) (state_of mid.store) read.same c.args.reading.now c.args.mutation.now (read.there told has) _ (read.items told has) c.in-Err.fault
+    mutation-refused (state_of old.store) (state_of mid.store) read.same c.args.reading.now c.args.mutation.now (read.there told has) _ (read.items told has)
+    c.in-Err.fault
     (c.in-Err.ensures.refused told (has-read old mid read.same read.names has)))
     (λ e. Rose-from (g.D.Disk.faults old.store.base.disk.now) (g.D.Disk.faults mid.store.base.disk.now) (g.D.Disk.faults c.mutate.new.space.base.disk.now) read.only.later (c.in-Err.ensures.cause.disk (ap Err e))) c.answer_of.result
     c.answer_of.ensures

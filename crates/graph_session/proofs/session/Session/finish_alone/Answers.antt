@@ -19,6 +19,8 @@ returns-in-Ok-keep-clause-taps g c =
     rw c.in-Ok.is
     (inl (
       fits,
-      commit-from g.D.Disk (view s) _ (view c.commit_alone.new.self) c.keep.new.store.base.own.pairs (merged s.store.base.own.pairs s.store.draft.pairs) c.in-Ok.field-0.answer c.commit_alone.result c.args.tap.now c.commit_alone.new.tap (committed-beneath s.store.base c.keep.new.store.base c.in-Ok-keep.ensures.same)
+      commit-from g.D.Disk (view s) _ (view c.commit_alone.new.self) c.keep.new.store.base.own.pairs (merged s.store.base.own.pairs s.store.draft.pairs)
+          c.in-Ok.field-0.answer c.commit_alone.result c.args.tap.now c.commit_alone.new.tap
+          (committed-beneath s.store.base c.keep.new.store.base c.in-Ok-keep.ensures.same)
           c.in-Ok-keep.ensures.own c.commit_alone.ensures.taps,
     ))

@@ -19,7 +19,8 @@ returns-in-Err-clause-unopened g c =
     let refusal = c.in-Err.refusal in
     record {
       refused = λ told. inl (c.in-Err.ensures.refused told);
-      sound = λ told. opening-sound (d.reads old) c.args.config refusal.why (λ space shape redoes made. c.in-Err.ensures.sound told space shape redoes made) (λ unmade. c.in-Err.ensures.unmade told unmade);
+      sound = λ told. opening-sound (d.reads old) c.args.config refusal.why (λ space shape redoes made. c.in-Err.ensures.sound told space shape redoes made)
+          (λ unmade. c.in-Err.ensures.unmade told unmade);
       crash = opening-leaves d c.args.config old refusal.disk.now c.requires (record {
         made = λ told images space shape redoes made. c.in-Err.ensures.left told images space shape redoes made;
         blank = λ told images unmade. c.in-Err.ensures.left_new told images unmade;
@@ -74,7 +75,8 @@ returns-in-Err-load-clause-unopened g c =
       clean = λ told clean. c.in-Ok.ensures.clean told clean;
       later = c.in-Ok.ensures.later;
     })
-    c.load.ensures.onward c.load.ensures.cause.later Names c.close.result.now c.why_of.result c.in-Err-load.fault c.close.ensures.disk c.why_of.ensures c.in-Err-load.ensures.damaged c.in-Err-load.ensures.sound
+    c.load.ensures.onward c.load.ensures.cause.later Names c.close.result.now c.why_of.result c.in-Err-load.fault c.close.ensures.disk c.why_of.ensures
+    c.in-Err-load.ensures.damaged c.in-Err-load.ensures.sound
     (λ e. c.in-Err-load.ensures.cause.disk (ap Err e))
 
 -- what is read of the disk is what is committed

@@ -40,7 +40,8 @@ returns-in-Ok-clause-there g c = λ told has.
     (c.in-Ok.ensures.there told (named (state_of c.args.self.now.store) c.args.self.now.names.names has))
 
 -- the answer of a reading part that was not read to its end
-stops : (P : Answer → Type 0) (fault : LookupFault) → (fault ≡ faults.NoIndex → P (answers.Refused refusals.NoIndex)) → P answers.NoMemory → (fault ≡ faults.Disk → P answers.DiskFailed) → ((damage : Damage) → fault ≡ faults.Damaged damage → P (answers.Damaged damage)) → P (answer_for fault)
+stops : (P : Answer → Type 0) (fault : LookupFault) → (fault ≡ faults.NoIndex → P (answers.Refused refusals.NoIndex)) → P answers.NoMemory
+    → (fault ≡ faults.Disk → P answers.DiskFailed) → ((damage : Damage) → fault ≡ faults.Damaged damage → P (answers.Damaged damage)) → P (answer_for fault)
 stops P faults.NoIndex refused memory disk damaged = refused refl
 stops P faults.Memory refused memory disk damaged = memory
 stops P faults.Disk refused memory disk damaged = disk refl

@@ -17,7 +17,8 @@ read_store-requires-clause-open g c = opened-in c.args.self.now.snaps c.args.rea
 pub returns-in-Some-clause-answers : goal.returns-in-Some-clause-answers
 returns-in-Some-clause-answers g c = λ line parsed.
     let question = c.args.question in
-    answers-refuses g.D.Disk g.met.D.Disk.only_now g.K.Sink c.requires.reader parsed (question-loud question) (shared_view c.args.self.now) c.in-Some.why (c.in-Some.ensures.refused (question_command question) (is_question question)) c.give_answer.ensures
+    answers-refuses g.D.Disk g.met.D.Disk.only_now g.K.Sink c.requires.reader parsed (question-loud question) (shared_view c.args.self.now)
+    c.in-Some.why (c.in-Some.ensures.refused (question_command question) (is_question question)) c.give_answer.ensures
 
 pub returns-clause-answers : goal.returns-clause-answers
 returns-clause-answers g c = λ line parsed.
@@ -26,7 +27,9 @@ returns-clause-answers g c = λ line parsed.
     let asks = is_question question in
     let opened = c.in_default.ensures.open in
     let read = c.read_store.ensures.onward in
-    answers-sight g.D.Disk g.met.D.Disk.only_now g.K.Sink c.requires.reader parsed (question-loud question) (shared_view s) (record { session = seen_as c.read_store.new.store s.health s.weight s.names.names; held = s.snaps }) (c.in_default.ensures.live, inr (inr (asks, opened))) asks
+    answers-sight g.D.Disk g.met.D.Disk.only_now g.K.Sink c.requires.reader parsed (question-loud question) (shared_view s)
+    (record { session = seen_as c.read_store.new.store s.health s.weight s.names.names; held = s.snaps })
+    (c.in_default.ensures.live, inr (inr (asks, opened))) asks
     (opened-in s.snaps c.args.reader opened) refl read.base.disk
     (λ none. stays-over s.store c.read_store.new.store read.base (ap (λ (held : Held). held.pairs) read.draft ∙ none) s.health s.weight s.names.names)
     (λ spared. ap (λ (store : Store _ _). let view : SharedView _ = record { session = seen_as store s.health s.weight s.names.names; held = s.snaps } in view) (c.read_store.ensures.idle spared))

@@ -21,21 +21,25 @@ returns-in-Ok-clause-settles g c =
     let done = c.in-Ok.ensures in
     let closed = sym c.if-in_transaction.ensures.is in
     let named = c.name_again.ensures in
-    named_again g.met.D.Disk.counts_now s.store c.recover_again.new.self done.same closed done.closed done.draft done.later done.crash done.read done.clean s.health s.weight s.names.names done.own (c.if-in_transaction.ensures.none closed)
-    done.done c.name_again.new.self.store named.reads named.draft named.later c.name_again.new.self.health c.name_again.new.self.weight c.name_again.new.self.names.names c.name_again.result named.takes
+    named_again g.met.D.Disk.counts_now s.store c.recover_again.new.self done.same closed done.closed done.draft done.later done.crash done.read done.clean
+    s.health s.weight s.names.names done.own (c.if-in_transaction.ensures.none closed)
+    done.done c.name_again.new.self.store named.reads named.draft named.later c.name_again.new.self.health c.name_again.new.self.weight
+    c.name_again.new.self.names.names c.name_again.result named.takes
 
 pub returns-in-Err-Disk-clause-settles : goal.returns-in-Err-Disk-clause-settles
 returns-in-Err-Disk-clause-settles g c =
     let s = c.args.self.now in
     let done = c.in-Err-Disk.ensures in
-    lost_disk g.met.D.Disk.counts_now s.store c.recover_again.new.self done.same (sym c.if-in_transaction.ensures.is) done.closed done.draft done.later done.crash done.read done.clean s.health s.weight s.names.names (done.cause (ap Err c.in-Err-Disk.field-0-is))
+    lost_disk g.met.D.Disk.counts_now s.store c.recover_again.new.self done.same (sym c.if-in_transaction.ensures.is) done.closed done.draft done.later
+    done.crash done.read done.clean s.health s.weight s.names.names (done.cause (ap Err c.in-Err-Disk.field-0-is))
 
 pub returns-in-Err-Damaged-clause-settles : goal.returns-in-Err-Damaged-clause-settles
 returns-in-Err-Damaged-clause-settles g c =
     let s = c.args.self.now in
     let done = c.in-Err-Damaged.ensures in
     let damage = c.in-Err-Damaged.damage in
-    lost_damaged g.met.D.Disk.counts_now s.store c.recover_again.new.self done.same (sym c.if-in_transaction.ensures.is) done.closed done.draft done.later done.crash done.read done.clean s.health s.weight s.names.names damage
+    lost_damaged g.met.D.Disk.counts_now s.store c.recover_again.new.self done.same (sym c.if-in_transaction.ensures.is) done.closed done.draft done.later
+    done.crash done.read done.clean s.health s.weight s.names.names damage
     (λ told space redoes made newest. not-disk damage (sym c.in-Err-Damaged.field-0-is ∙ done.sound told space redoes made newest))
     (λ told. subst (RefusesAgain (content s.store) s.store.base.shape) c.in-Err-Damaged.field-0-is (done.refused told))
 
@@ -43,7 +47,8 @@ pub returns-then-in_transaction-clause-careful : goal.returns-then-in_transactio
 returns-then-in_transaction-clause-careful g c = λ told. inl (only_reads_none g.D.Disk c.args.self.now.store.base.disk.now g.met.D.Disk.only_now)
 
 pub returns-in-Ok-clause-careful : goal.returns-in-Ok-clause-careful
-returns-in-Ok-clause-careful g c = careful-on g.D.Disk c.args.self.now.store.base.disk.now c.recover_again.new.self.base.disk.now c.name_again.new.self.store.base.disk.now c.in-Ok.ensures.careful c.name_again.ensures.reads.disk
+returns-in-Ok-clause-careful g c = careful-on g.D.Disk c.args.self.now.store.base.disk.now c.recover_again.new.self.base.disk.now
+    c.name_again.new.self.store.base.disk.now c.in-Ok.ensures.careful c.name_again.ensures.reads.disk
 
 pub returns-in-Err-Disk-clause-careful : goal.returns-in-Err-Disk-clause-careful
 returns-in-Err-Disk-clause-careful g c = c.in-Err-Disk.ensures.careful

@@ -32,7 +32,9 @@ returns-in-Live-clause-answers g c = λ line parsed.
     (settled-with parsed given.reply c.if-session-ne-WRITER.false (question-loud question) (question-apart question) (inl live)
     (record {
       settles = λ known of state alone served at.
-          settles-asked at live alone asks (stays-known known (stays-read s.store c.answer_question.new.space given.read.onward given.read.same at.no_draft s.health s.weight s.names.names)) given (λ told. told_of known g.D.Disk told)
+          settles-asked at live alone asks
+          (stays-known known (stays-read s.store c.answer_question.new.space given.read.onward given.read.same at.no_draft s.health s.weight s.names.names))
+          given (λ told. told_of known g.D.Disk told)
           (drafted-none s.store at.no_draft) refl (λ rose. rose) (λ same. ap (λ (store : Store _ _). seen_as store s.health s.weight s.names.names) same);
       may = λ none.
           may-read g.D.Disk (view s) given.reply (seen_as c.answer_question.new.space s.health s.weight s.names.names) command asks (

@@ -11,26 +11,32 @@ use Rattle.graph_session.proofs.session.Session.serve_sight.Goals as goal
 
 pub take_snapshot-answer-requires-clause-closed : goal.take_snapshot-answer-requires-clause-closed
 take_snapshot-answer-requires-clause-closed g c =
-    suits-snapshot (state_of c.args.self.now.snaps c.args.session) (sight_command c.args.sight) c.in_default.ensures.served.1 (ap sight_command c.in-Snapshot.is)
+    suits-snapshot (state_of c.args.self.now.snaps c.args.session) (sight_command c.args.sight) c.in_default.ensures.served.1
+    (ap sight_command c.in-Snapshot.is)
 
 pub returns-then-session-eq-WRITER-clause-answers :
     goal.returns-then-session-eq-WRITER-clause-answers
 returns-then-session-eq-WRITER-clause-answers g c = λ line parsed.
-    answers-writer g.D.Disk g.met.D.Disk.only_now g.K.Sink parsed c.if-session-eq-WRITER.true (sight-loud c.args.sight) (sight-about c.args.sight) c.give_answer.ensures
+    answers-writer g.D.Disk g.met.D.Disk.only_now g.K.Sink parsed c.if-session-eq-WRITER.true (sight-loud c.args.sight) (sight-about c.args.sight)
+    c.give_answer.ensures
 
 pub returns-in-Some-clause-answers : goal.returns-in-Some-clause-answers
 returns-in-Some-clause-answers g c = λ line parsed.
     let seven : IsReader c.args.session = record { first = omega arith; last = c.requires.session } in
-    answers-refuses g.D.Disk g.met.D.Disk.only_now g.K.Sink seven parsed (sight-loud c.args.sight) (shared_view c.args.self.now) c.in-Some.why c.in-Some.ensures.refused c.give_answer-in-Some.ensures
+    answers-refuses g.D.Disk g.met.D.Disk.only_now g.K.Sink seven parsed (sight-loud c.args.sight) (shared_view c.args.self.now) c.in-Some.why
+    c.in-Some.ensures.refused c.give_answer-in-Some.ensures
 
 pub returns-in-Snapshot-clause-answers : goal.returns-in-Snapshot-clause-answers
 returns-in-Snapshot-clause-answers g c = λ line parsed.
     let seven : IsReader c.args.session = record { first = omega arith; last = c.requires.session } in
-    answers-snapshot g.D.Disk g.met.D.Disk.only_now g.K.Sink seven parsed (sight-loud c.args.sight) (shared_view c.args.self.now) (shared_view c.take_snapshot-answer.new.self) c.in_default.ensures.served
+    answers-snapshot g.D.Disk g.met.D.Disk.only_now g.K.Sink seven parsed (sight-loud c.args.sight) (shared_view c.args.self.now)
+    (shared_view c.take_snapshot-answer.new.self) c.in_default.ensures.served
     (reply_of c.take_snapshot-answer.result) c.give_answer-in-Snapshot.ensures (ap sight_command c.in-Snapshot.is) c.take_snapshot-answer.ensures.may
 
 pub returns-in-Release-clause-answers : goal.returns-in-Release-clause-answers
 returns-in-Release-clause-answers g c = λ line parsed.
     let seven : IsReader c.args.session = record { first = omega arith; last = c.requires.session } in
-    answers-release g.D.Disk g.met.D.Disk.only_now g.K.Sink seven parsed (sight-loud c.args.sight) (shared_view c.args.self.now) (shared_view c.release_snapshot-answer.new.self) c.in_default.ensures.served
-    (reply_of c.release_snapshot-answer.result) c.give_answer-in-Release.ensures (ap sight_command c.in-Release.is) c.release_snapshot-answer.ensures.may c.release_snapshot-answer.ensures.sights
+    answers-release g.D.Disk g.met.D.Disk.only_now g.K.Sink seven parsed (sight-loud c.args.sight) (shared_view c.args.self.now)
+    (shared_view c.release_snapshot-answer.new.self) c.in_default.ensures.served
+    (reply_of c.release_snapshot-answer.result) c.give_answer-in-Release.ensures (ap sight_command c.in-Release.is)
+    c.release_snapshot-answer.ensures.may c.release_snapshot-answer.ensures.sights
