@@ -29,11 +29,8 @@ use crate::entries::has_pair;
 use name_store::Names;
 use plain_graph::Text;
 use prop_index::{IndexPair, indexes, make};
-use rec_bytes::{Reads, Space};
+use rec_bytes::{MOST_INDEXES, Reads, Space};
 use std::alloc::Global;
-
-/// How many indexes there may be.
-const MOST_INDEXES: usize = 16;
 
 /// Makes an index of the nodes of a label by the value of a key, and answers the weight of the
 /// change. The label and the key become names.

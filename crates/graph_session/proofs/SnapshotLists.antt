@@ -6,7 +6,8 @@ use mathlib.Core.Bool.{false≢true}
 use Rattle.std.proofs.lemmas.Bool.Decides.{nat_tests}
 use Rattle.std.proofs.lemmas.List.{get_or-set_other, get_or-set_same, length-set}
 use Rattle.std.specs.List.{AllByRecursion, list_any}
-use Rattle.snap_store.specs.Layers.{AreDistinct, Layer, Layers, is_open, lacks_room, most_kept, readers_of}
+use Rattle.rec_bytes.specs.Format.{most_kept}
+use Rattle.snap_store.specs.Layers.{AreDistinct, Layer, Layers, is_open, lacks_room, readers_of}
 use Rattle.snap_store.specs.Snaps.{Snapshots, with_room}
 use Rattle.snap_store.specs.Sums.{EndsOverfull}
 use Rattle.graph_session.specs.SharedConsole.{snapshot_readers}

@@ -1,9 +1,9 @@
 -- What the sessions that read have, beside the state of the one that writes.
+use Rattle.rec_bytes.specs.Format.{most_kept}
 use Rattle.std.specs.Prelude.{◌≡◌, ◌⊎◌, ◌+◌, ◌<◌, ℕ, Bool, true, nat_eq, not, List, [], ◌∷◌, ◌++◌}
 use Rattle.std.specs.Prelude.{filter, map}
 use Rattle.std.specs.List.{list_any}
 use Rattle.plain_graph.specs.Graph.{Graph}
-use Rattle.snap_store.specs.Layers.{most_kept}
 use Rattle.graph_session.specs.State.{State}
 
 -- an open snapshot: its reader, the graph that it sees, and the weights of the transactions since

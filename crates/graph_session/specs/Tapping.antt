@@ -8,11 +8,11 @@ use Rattle.plain_graph.specs.Changes.{IsChange}
 use Rattle.plain_graph.specs.Reply.{Reply}
 use Rattle.plain_graph.specs.declared.command.Command.{Command}
 use Rattle.plain_graph.specs.declared.command.Command.TheVariants as commands
+use Rattle.rec_bytes.specs.Format.{most_writes}
 use Rattle.rec_bytes.specs.Pairs.{Held, IsOrdered, Pairs}
 use Rattle.rec_bytes.specs.Space.{laid_over}
 use Rattle.rec_bytes.specs.declared.shape.Shape.{Shape}
 use Rattle.redo_log.specs.Appending.{AreWhole}
-use Rattle.txn_core.specs.Kept.{most_own}
 use Rattle.txn_core.specs.Shipped.{AllShip}
 use Rattle.graph_session.specs.Answer.{AnswersLine, Terminal}
 use Rattle.graph_session.specs.Console.{ConsoleView, HasNoDraft, SessionView}
@@ -32,7 +32,7 @@ Acknowledges is_open line reply =
 -- one that a shipment may have. What is committed is what was, with them laid over it.
 pub record IsTapped {D : Type 0} (g : DiskGhosts D) (old new : SessionView D) (tap : Pairs)
     : Type 0 where
-  pub few : length tap ≤ 2048
+  pub few : length tap ≤ most_writes
   pub rising : IsOrdered tap
   pub shipped : AllShip new.console.shape tap
   pub whole : AreWhole tap
@@ -59,7 +59,7 @@ pub record TapsLine {D K : Type 0} (disk : DiskGhosts D) (sink : SinkGhosts K) (
 -- there is no set, or it is empty and has room for what a transaction writes
 abbrev pub HasRoom : Option Held → Type 0
 HasRoom None = Unit {0}
-HasRoom (Some set) = (set.pairs ≡ []) × (most_own ≤ set.room)
+HasRoom (Some set) = (set.pairs ≡ []) × (most_writes ≤ set.room)
 
 -- there is a set if there was one, and this holds of its records
 abbrev pub Takes : (Pairs → Type 0) → Option Held → Option Held → Type 0
@@ -74,7 +74,7 @@ IsEmpty tap = tap ≡ []
 -- they are those that the open transaction has written, and a shipment may have them
 pub record HasWritten (console : ConsoleView) (tap : Pairs) : Type 0 where
   pub is : tap ≡ console.written
-  pub few : length tap ≤ 2048
+  pub few : length tap ≤ most_writes
   pub rising : IsOrdered tap
   pub shipped : AllShip console.shape tap
   pub whole : AreWhole tap

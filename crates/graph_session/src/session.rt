@@ -9,6 +9,7 @@ ghost use Rattle.std.specs.Prelude.{
   ℕ,
 };
 ghost use Rattle.stream_io.specs.Lines.{Long, Whole};
+ghost use Rattle.rec_bytes.specs.Format.{most_writes};
 ghost use Rattle.recovery.specs.Finding.{IsCareful};
 ghost use Rattle.graph_session.specs.Answer.{AnswersLine};
 ghost use Rattle.graph_session.specs.Answering.{reply_of};
@@ -89,7 +90,7 @@ impl<'d, D: Disk> Session<'d, D> {
     /// records.
     pub fn step_tapped<K: Sink>(&mut self, line: &[u8], output: &mut K, tap: &mut WriteSet) -> Turn
         requires empty { tap.old.pairs ≡ [] }
-        requires room { 2048 ≤ tap.old.room }
+        requires room { most_writes ≤ tap.old.room }
         ensures answers { TapsLine D.Disk K.Sink (Whole line.now) (with_sink self.old output.old)
             (with_sink self.new output.new) result tap.new.pairs }
         ensures careful { Spells line.now commands.Reopen

@@ -15,13 +15,10 @@ ghost use Rattle.index_check.specs.Definitions.{
 
 use rec_bytes::{
     DEFINITION, DEFINITION_KEY, DEFINITION_LABEL, DEFINITION_NEXT, INDEX, KIND, Key,
-    META_DEFINITION, Reads, Rec, SpaceFault, meta_key,
+    META_DEFINITION, MOST_INDEXES, Reads, Rec, SpaceFault, meta_key,
 };
 use record_lists::{Line, follow};
 use std::alloc::Global;
-
-/// How many definitions a store may have.
-const MOST_DEFINITIONS: usize = 16;
 
 /// A definition in use.
 #[derive(Clone, Copy)]
@@ -75,7 +72,7 @@ pub(crate) fn find_definitions<R: Reads>(
     let Some(ids) = follow(alloc, space, &DefinitionLine {}, first, records)? else {
         return Ok(None);
     };
-    if ids.len() > MOST_DEFINITIONS {
+    if ids.len() > MOST_INDEXES {
         return Ok(None);
     }
     Ok(Some(ids))

@@ -14,11 +14,8 @@ ghost use Rattle.rec_bytes.specs.Format.{index_file};
 use crate::reading::{damaged, out_of_range, record_at};
 use rec_bytes::{
     DEFINITION, DEFINITION_KEY, DEFINITION_LABEL, DEFINITION_NEXT, Damage, Fault, INDEX,
-    INDEX_RULE, META, META_DEFINITION, NIL, RANGE_RULE, Reads, Rec, meta_key,
+    INDEX_RULE, META, META_DEFINITION, MOST_INDEXES, NIL, RANGE_RULE, Reads, Rec, meta_key,
 };
-
-/// How many definitions a store may have.
-pub(crate) const MOST_DEFINITIONS: u32 = 16;
 
 /// A definition in use.
 #[derive(Clone, Copy)]
@@ -56,7 +53,7 @@ pub(crate) fn find_definition<R: Reads>(
         rule: RANGE_RULE,
     };
     let mut at = rec.number(META_DEFINITION);
-    for _ in 0..MOST_DEFINITIONS {
+    for _ in 0..MOST_INDEXES {
         if at == NIL {
             return Ok(None);
         }

@@ -10,11 +10,10 @@ ghost use Rattle.rec_bytes.specs.Fault.{HasFaultCause, NotDamaged};
 ghost use Rattle.rec_bytes.specs.Format.{index_file};
 ghost use Rattle.store_rules.specs.Indexes.{AreIndexed, Entries};
 
-use crate::finding::MOST_DEFINITIONS;
 use crate::reading::{damaged, out_of_range, record_at};
 use rec_bytes::{
     DEFINITION, DEFINITION_KEY, DEFINITION_LABEL, DEFINITION_NEXT, Damage, Fault, INDEX,
-    INDEX_RULE, META, META_DEFINITION, NIL, RANGE_RULE, Reads, Rec, meta_key,
+    INDEX_RULE, META, META_DEFINITION, MOST_INDEXES, NIL, RANGE_RULE, Reads, Rec, meta_key,
 };
 use std::alloc::Global;
 
@@ -52,7 +51,7 @@ pub fn indexes<R: Reads>(alloc: Global, space: &mut R) -> Result<Vec<IndexPair>,
         rule: RANGE_RULE,
     };
     let mut at = rec.number(META_DEFINITION);
-    for _ in 0..MOST_DEFINITIONS {
+    for _ in 0..MOST_INDEXES {
         if at == NIL {
             return Ok(pairs);
         }

@@ -33,10 +33,9 @@ use crate::collecting::collect;
 use crate::defining::define;
 use crate::entry_row::Content;
 use crate::filling::fill;
-use crate::finding::MOST_DEFINITIONS;
 use crate::{IndexPair, MakeFault, indexes};
 use id_freelist::TakeFault;
-use rec_bytes::{INDEX, Reads, Space, room_of};
+use rec_bytes::{INDEX, MOST_INDEXES, Reads, Space, room_of};
 use std::alloc::Global;
 
 /// How many records a definition with its heads takes.
@@ -105,7 +104,7 @@ fn test_pair<R: Reads>(alloc: Global, space: &mut R, label: u32, key: u32) -> Re
     if has_pair(&pairs, label, key) {
         return Err(MakeFault::There);
     }
-    if pairs.len() >= MOST_DEFINITIONS as usize {
+    if pairs.len() >= MOST_INDEXES {
         return Err(MakeFault::Many);
     }
     Ok(())

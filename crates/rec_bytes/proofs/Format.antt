@@ -20,7 +20,7 @@ use Rattle.rec_bytes.specs.declared.fields.TheConstants.{INDEXED_NEXT, INDEXED_H
 use Rattle.rec_bytes.specs.declared.files.TheConstants.{LOG, RECORD_BYTES, TAKEN}
 use Rattle.rec_bytes.specs.declared.limits.TheConstants.{DEFAULT_THRESHOLD, DEFAULT_LIMIT, PROPERTY_TEXT_BYTES}
 use Rattle.rec_bytes.specs.declared.limits.TheConstants.{BLOCK_TEXT_BYTES, NAME_TEXT_BYTES, MOST_PROPERTIES}
-use Rattle.rec_bytes.specs.declared.limits.TheConstants.{MOST_TEXT_BYTES}
+use Rattle.rec_bytes.specs.declared.limits.TheConstants.{MOST_CHANGED, MOST_INDEXES, MOST_KEPT, MOST_TEXT_BYTES, MOST_WRITES}
 use Rattle.rec_bytes.specs.declared.rules.TheConstants.{FORM_RULE, RANGE_RULE, SPLIT_RULE, CHAIN_RULE, GROUP_RULE}
 use Rattle.rec_bytes.specs.declared.rules.TheConstants.{PROPERTY_RULE, NAME_RULE, DEGREE_RULE, INDEX_RULE}
 use Rattle.rec_bytes.specs.Format as format
@@ -30,8 +30,9 @@ pub format_of_files : LOG ∷ RECORD_BYTES ∷ TAKEN ∷ TAKEN_NUMBER ∷ COUNTE
     ≡ format.log_file ∷ format.record_bytes ∷ format.taken_id ∷ format.taken_number ∷ format.counted_version ∷ []
 format_of_files = refl
 
-pub format_of_limits : DEFAULT_THRESHOLD ∷ DEFAULT_LIMIT ∷ MOST_PROPERTIES ∷ MOST_TEXT_BYTES ∷ []
-    ≡ format.default_threshold ∷ format.default_limit ∷ format.most_properties ∷ format.most_text_bytes ∷ []
+pub format_of_limits : DEFAULT_THRESHOLD ∷ DEFAULT_LIMIT ∷ MOST_PROPERTIES ∷ MOST_TEXT_BYTES ∷ MOST_INDEXES ∷ MOST_WRITES ∷ MOST_CHANGED ∷ MOST_KEPT ∷ []
+    ≡ format.default_threshold ∷ format.default_limit ∷ format.most_properties ∷ format.most_text_bytes ∷ format.most_indexes ∷ format.most_writes
+    ∷ format.most_changed ∷ format.most_kept ∷ []
 format_of_limits = refl
 
 pub format_of_rules : FORM_RULE ∷ RANGE_RULE ∷ SPLIT_RULE ∷ CHAIN_RULE ∷ GROUP_RULE ∷ PROPERTY_RULE ∷ NAME_RULE ∷ DEGREE_RULE ∷ INDEX_RULE ∷ []

@@ -56,6 +56,22 @@ most_names = 4096
 abbrev pub most_properties : ℕ
 most_properties = 32
 
+-- how many indexes a store has at most
+abbrev pub most_indexes : ℕ
+most_indexes = 16
+
+-- how many records a transaction writes at most, and so an entry of the log has
+abbrev pub most_writes : ℕ
+most_writes = 2048
+
+-- how many records are changed at most between two checkpoints
+abbrev pub most_changed : ℕ
+most_changed = 8192
+
+-- how many old records are kept at most for all snapshots
+abbrev pub most_kept : ℕ
+most_kept = 16384
+
 -- how many bytes the text of a property has at most
 abbrev pub most_text_bytes : ℕ
 most_text_bytes = 1024

@@ -19,6 +19,8 @@ pub const MOST_IDS: u32 = 1 << 25;
 pub const MOST_NAMES: u32 = 4_096;
 /// How many bytes a name has at most.
 pub const NAME_TEXT_BYTES: usize = 48;
+/// How many indexes a store has at most.
+pub const MOST_INDEXES: usize = 16;
 /// How many properties a node or a relationship has at most.
 pub const MOST_PROPERTIES: u32 = 32;
 /// How many bytes the text of a property has at most.
@@ -27,3 +29,11 @@ pub const MOST_TEXT_BYTES: u16 = 1_024;
 pub const PROPERTY_TEXT_BYTES: usize = 40;
 /// How many bytes of a text a block has at most.
 pub const BLOCK_TEXT_BYTES: usize = 48;
+
+/// How many records a transaction writes at most: an entry of the log has no more, and a shipment
+/// brings no more.
+pub const MOST_WRITES: usize = 2_048;
+/// How many records are changed at most between two checkpoints.
+pub const MOST_CHANGED: usize = 8_192;
+/// How many old records are kept at most for all snapshots.
+pub const MOST_KEPT: usize = 16_384;

@@ -35,11 +35,8 @@ use crate::logged_metas::{LoggedMetas, find_metas};
 use crate::recover_fault::RecoverFault;
 use crate::syncing::sync_files;
 use disk_model::Disk;
-use rec_bytes::{Damage, META, META_RECORDS, Shape, is_meta_right, version_of};
+use rec_bytes::{Damage, META, META_RECORDS, RANGE_RULE, Shape, is_meta_right, version_of};
 use record_file::MetaFile;
-
-/// The rule of the records of the meta file: each is one that may stand there.
-const META_RULE: u8 = 1;
 
 /// Syncs all files, reads the meta file and the log, and tells what is found. It only reads.
 pub(crate) fn find_store<D: Disk>(disk: &mut D) -> Result<Found, RecoverFault>
@@ -99,7 +96,7 @@ fn check_metas(metas: &MetaFile, shape: Shape) -> Result<(), RecoverFault>
             return Err(RecoverFault::Damaged(Damage {
                 file: META,
                 id,
-                rule: META_RULE,
+                rule: RANGE_RULE,
             }));
         }
     }

@@ -3,7 +3,7 @@ use Rattle.std.specs.Prelude.{◌≡◌, ◌≢◌, ℕ, zero, suc, ◌+◌, ◌
 use Rattle.std.specs.List.{AllByRecursion}
 use Rattle.byteorder.specs.Endian.{little_number}
 use Rattle.disk_model.specs.Contents.{Files, bytes_from}
-use Rattle.rec_bytes.specs.Format.{log_file}
+use Rattle.rec_bytes.specs.Format.{log_file, most_writes}
 use Rattle.rec_bytes.specs.declared.key.Key.{Key}
 use Rattle.rec_bytes.specs.declared.record.Rec.{Rec}
 use Rattle.rec_bytes.specs.Key.{IsKey}
@@ -16,10 +16,6 @@ open_byte = 1
 -- the last place of the log that an entry or the gate after it may have
 abbrev pub last_place : ℕ
 last_place = 1048575
-
--- how many records an entry may have
-abbrev pub most_writes : ℕ
-most_writes = 2048
 
 -- the n bytes of the log from a place on
 abbrev pub log_bytes : Files → ℕ → ℕ → List ℕ

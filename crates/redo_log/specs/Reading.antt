@@ -2,19 +2,11 @@
 use Rattle.std.specs.Prelude.{◌≡◌, ◌≢◌, ℕ, ◌+◌, ◌≤◌, ◌<◌, List, [], ◌∷◌, length, Option, None, Some}
 use Rattle.std.specs.declared.cmp.Ordering.TheVariants.{Less}
 use Rattle.disk_model.specs.Contents.{Files, Holds, Same}
-use Rattle.rec_bytes.specs.Format.{log_file}
+use Rattle.rec_bytes.specs.Format.{log_file, most_writes}
 use Rattle.rec_bytes.specs.declared.key.Key.{Key}
 use Rattle.rec_bytes.specs.Key.{IsKey, key_cmp}
 use Rattle.rec_bytes.specs.Pairs.{Pairs}
-use Rattle.redo_log.specs.Entries.{
-  IsEntry,
-  IsDamaged,
-  Fits,
-  count_at,
-  entry_bytes,
-  most_writes,
-  open_byte,
-}
+use Rattle.redo_log.specs.Entries.{IsEntry, IsDamaged, Fits, count_at, entry_bytes, open_byte}
 use Rattle.redo_log.specs.declared.entry_answer.EntryAnswer.{EntryAnswer}
 use Rattle.redo_log.specs.declared.entry_answer.EntryAnswer.TheVariants.{Entry, End, Disk, Damaged}
 

@@ -4,9 +4,6 @@ ghost use Rattle.redo_log.specs.Entries.{Fits, write_place};
 /// The last place of the log that an entry or the gate behind it may have.
 pub const LAST_PLACE: u64 = 1_048_575;
 
-/// How many records an entry may have.
-pub const MOST_WRITES: u16 = 2_048;
-
 /// How many bytes of the log one device call reads or writes at most.
 pub(crate) const PIECE_BYTES: usize = 4_096;
 

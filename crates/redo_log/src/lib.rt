@@ -14,7 +14,7 @@ mod reading;
 mod resetting;
 
 pub use appending::append;
-pub use entry::{LAST_PLACE, MOST_WRITES, fits};
+pub use entry::{LAST_PLACE, fits};
 pub use entry_answer::EntryAnswer;
 pub use log_reader::LogReader;
 pub use reading::{entry_at, write_at};

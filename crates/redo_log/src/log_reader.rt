@@ -40,12 +40,12 @@ ghost use Rattle.redo_log.specs.Reading.{
 
 use crate::decoding::{head_of, key_of, write_of};
 use crate::entry::{
-    HEAD_BYTES, KEY_BYTES, LAST_PLACE, MOST_WRITES, PIECE_BYTES, WRITE_BYTES, fits, place_of_write,
+    HEAD_BYTES, KEY_BYTES, LAST_PLACE, PIECE_BYTES, WRITE_BYTES, fits, place_of_write,
 };
 use crate::entry_answer::EntryAnswer;
 use disk_model::Disk;
 use fault_count::Failed;
-use rec_bytes::{DiskFault, Key, LOG, Rec};
+use rec_bytes::{DiskFault, Key, LOG, MOST_WRITES, Rec};
 use std::marker::Model;
 
 /// Reads the log in pieces of 4 KiB, and keeps the last, so that reading entry after entry costs
@@ -275,7 +275,7 @@ impl LogReader {
 fn is_entry_size(place: u64, count: u16) -> bool
     ensures { IsTrue result ↔ IsEntrySize place count }
 {
-    count > 0 && count <= MOST_WRITES && fits(place, count as usize)
+    count > 0 && count as usize <= MOST_WRITES && fits(place, count as usize)
 }
 
 // How many bytes to read from a place on for this many of them: a piece, but for what lies past the

@@ -2,7 +2,7 @@ ghost use Rattle.std.specs.Prelude.{◌+◌, ◌*◌, ◌≤◌, ◌++◌, ◌�
 ghost use Rattle.fault_count.specs.Cause.{HasCause};
 ghost use Rattle.disk_model.specs.Contents.{Holds, SameOutside};
 ghost use Rattle.disk_model.specs.Spans.{AtEachMoment};
-ghost use Rattle.rec_bytes.specs.Format.{log_file};
+ghost use Rattle.rec_bytes.specs.Format.{log_file, most_writes};
 ghost use Rattle.redo_log.specs.Appending.{AreWhole, IsTornFrom, payload_bytes};
 
 use crate::entry::CLOSED;
@@ -14,7 +14,7 @@ use rec_bytes::{LOG, WriteSet};
 /// Writes the bytes of an entry that stand after its gate, and a closed gate after them, in pieces
 /// of about 4 KiB. An entry of a few records is one write.
 pub(crate) fn write_payload<D: Disk>(disk: &mut D, at: u64, writes: &WriteSet) -> Result<(), Failed>
-    requires few { length writes.now.pairs ≤ 2048 }
+    requires few { length writes.now.pairs ≤ most_writes }
     requires within { at + 2 + 69 * length writes.now.pairs ≤ 1048575 }
     ensures written { D.tells_reads
         → OnOk result (Holds log_file at (payload_bytes writes.now.pairs ++ 0 ∷ [])

@@ -3,12 +3,13 @@ use Rattle.std.proofs.Common.{◌≡◌, ℕ, zero, suc, ◌+◌, ◌<◌, ◌�
 use Rattle.std.proofs.Common.{length, get_or, set, drop, None, refl, ap, sym, subst, ◌∙◌, arith}
 use mathlib.Core.Bool.{false≢true}
 use Rattle.std.specs.List.{AllByRecursion, remove}
+use Rattle.rec_bytes.specs.Format.{most_kept}
 use Rattle.rec_bytes.specs.declared.record.Rec.{Rec}
 use Rattle.rec_bytes.specs.declared.key.Key.{Key}
 use Rattle.rec_bytes.specs.Pairs.{IsOrdered, find_pair, growth, with_pair}
 use Rattle.rec_bytes.proofs.PairLaws.{growth_le, ordered_with}
 use Rattle.snap_store.specs.declared.layer.Layer.{Layer as HeldLayer}
-use Rattle.snap_store.specs.Layers.{AreDistinct, AreRising, Layer, Layers, any_open, from, is_open, joined, most_kept}
+use Rattle.snap_store.specs.Layers.{AreDistinct, AreRising, Layer, Layers, any_open, from, is_open, joined}
 use Rattle.snap_store.specs.Layers.{released, released_behind, total, with_kept, youngest}
 use Rattle.snap_store.proofs.ShapeLaws.{distinct-taken, distinct-with_kept, first_false, length-with_new, second_false, total-taken, total-with_kept}
 use Rattle.snap_store.specs.Snaps.{AreLayers, IsLayer, IsPlaceOf, IsReader, layer_of, layers_of}

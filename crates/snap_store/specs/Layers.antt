@@ -22,6 +22,7 @@ use Rattle.std.specs.Prelude.{
   if◌then◌else◌,
 }
 use Rattle.std.specs.Option.{option_or}
+use Rattle.rec_bytes.specs.Format.{most_kept}
 use Rattle.rec_bytes.specs.declared.record.Rec.{Rec}
 use Rattle.rec_bytes.specs.declared.key.Key.{Key}
 use Rattle.rec_bytes.specs.Pairs.{IsOrdered, Pairs, find_pair, merged, with_pair}
@@ -38,10 +39,6 @@ Layers = List Layer
 -- the readers of these layers
 abbrev pub readers_of : Layers → List ℕ
 readers_of layers = map (λ (layer : Layer). layer.reader) layers
-
--- how many old records are kept at most, in all layers
-abbrev pub most_kept : ℕ
-most_kept = 16384
 
 -- how many records these layers have
 abbrev pub total : Layers → ℕ

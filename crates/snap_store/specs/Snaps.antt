@@ -22,19 +22,12 @@ use Rattle.std.specs.Prelude.{
   if◌then◌else◌,
 }
 use Rattle.std.specs.List.{AllByRecursion}
+use Rattle.rec_bytes.specs.Format.{most_kept}
 use Rattle.rec_bytes.specs.Pairs.{IsOrdered}
 use Rattle.snap_store.specs.declared.layer.Layer.{Layer as HeldLayer}
 use Rattle.snap_store.specs.declared.snap_state.SnapState.{SnapState}
 use Rattle.snap_store.specs.declared.snap_state.SnapState.TheVariants as states
-use Rattle.snap_store.specs.Layers.{
-  AreDistinct,
-  Layer,
-  Layers,
-  is_open,
-  lacks_room,
-  most_kept,
-  total,
-}
+use Rattle.snap_store.specs.Layers.{AreDistinct, Layer, Layers, is_open, lacks_room, total}
 
 -- the layers of the open snapshots, and of each reader whether its snapshot has ended
 pub record Snapshots : Type 0 where

@@ -1,6 +1,7 @@
 -- Sums of weights that bound what is kept for a snapshot.
 use Rattle.std.specs.Prelude.{◌≡◌, ◌+◌, ◌≤◌, ◌<◌, ℕ, false, true, [], ◌∷◌}
-use Rattle.snap_store.specs.Layers.{Layers, is_open, most_kept, total}
+use Rattle.rec_bytes.specs.Format.{most_kept}
+use Rattle.snap_store.specs.Layers.{Layers, is_open, total}
 
 -- of each open snapshot, the records of its layer and of younger ones are no more than its
 -- reader's sum

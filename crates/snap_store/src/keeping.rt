@@ -3,12 +3,13 @@
 
 ghost use Rattle.std.specs.Prelude.{◌≡◌, ◌≤◌, ◌+◌, IsOk, OnOk, is_some, length, true, ℕ};
 ghost use Rattle.fault_count.specs.Cause.{HasCause};
+ghost use Rattle.rec_bytes.specs.Format.{most_kept};
 ghost use Rattle.rec_bytes.specs.declared.key.Key.{Key as AKey};
 ghost use Rattle.rec_bytes.specs.Key.{IsKey};
 ghost use Rattle.rec_bytes.specs.Pairs.{find_pair, growth};
 ghost use Rattle.rec_bytes.specs.Space.{laid_over};
 ghost use Rattle.snap_store.specs.Keeping.{EndsFor, OnlyOlds, SameReaders, lacked};
-ghost use Rattle.snap_store.specs.Layers.{any_open, is_open, most_kept, sees, total, youngest};
+ghost use Rattle.snap_store.specs.Layers.{any_open, is_open, sees, total, youngest};
 ghost use Rattle.snap_store.specs.Sums.{AreCovered, EndsOverfull, risen};
 
 use crate::pending::Pending;

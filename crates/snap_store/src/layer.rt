@@ -10,14 +10,12 @@ ghost use Rattle.std.specs.Prelude.{
   unwrap_or,
   IfOk,
 };
-ghost use Rattle.snap_store.specs.Layers.{from, is_open, kept_at, most_kept};
+ghost use Rattle.rec_bytes.specs.Format.{most_kept};
+ghost use Rattle.snap_store.specs.Layers.{from, is_open, kept_at};
 ghost use Rattle.snap_store.specs.Snaps.{IsPlaceOf, layers_of};
 
-use rec_bytes::{Key, Rec, WriteSet};
+use rec_bytes::{Key, MOST_KEPT, Rec, WriteSet};
 use std::alloc::{AllocError, Global};
-
-/// How many old records are kept at most, in all layers.
-pub(crate) const MOST_KEPT: usize = 16_384;
 
 /// Of an open snapshot: its reader, and the old records that are kept for it.
 #[derive(Drop)]

@@ -1,6 +1,7 @@
 ghost use Rattle.std.specs.Prelude.{◌≡◌, ◌≤◌, ◌+◌, length};
+ghost use Rattle.rec_bytes.specs.Format.{most_kept};
 ghost use Rattle.snap_store.specs.Snaps.{AreLayers, IsLayer, IsPlaceOf, layer_of, layers_of};
-ghost use Rattle.snap_store.specs.Layers.{joined, most_kept, released};
+ghost use Rattle.snap_store.specs.Layers.{joined, released};
 
 use crate::layer::Layer;
 

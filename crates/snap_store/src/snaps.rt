@@ -12,33 +12,21 @@ ghost use Rattle.std.specs.Prelude.{
   true,
   ℕ,
 };
+ghost use Rattle.rec_bytes.specs.Format.{most_kept};
 ghost use Rattle.rec_bytes.specs.declared.key.Key.{Key as AKey};
 ghost use Rattle.rec_bytes.specs.declared.record.Rec.{Rec as ARec};
 ghost use Rattle.rec_bytes.specs.Key.{IsKey};
 ghost use Rattle.rec_bytes.specs.Pairs.{find_pair};
-ghost use Rattle.snap_store.specs.Layers.{
-  AreDistinct,
-  SameSights,
-  from,
-  is_open,
-  any_open,
-  lacks_room,
-  most_kept,
-  released,
-  sees,
-  total,
-  with_kept,
-  youngest,
-};
+ghost use Rattle.snap_store.specs.Layers.{AreDistinct, SameSights, from, is_open, any_open, lacks_room, released, sees, total, with_kept, youngest};
 ghost use Rattle.snap_store.specs.View.{seen_state};
 ghost use Rattle.snap_store.specs.Sums.{AreCovered, EndsOverfull, risen};
 
-use crate::layer::{Layer, MOST_KEPT, layers_from, place_of};
+use crate::layer::{Layer, layers_from, place_of};
 use crate::marks::{MarkedLayers, no_marks, set_mark};
 use crate::releasing::take_away;
 use crate::snap_state::SnapState;
 use crate::view::View;
-use rec_bytes::{Key, Reads, Rec};
+use rec_bytes::{Key, MOST_KEPT, Reads, Rec};
 use std::alloc::{AllocError, Global};
 use std::marker::Model;
 

@@ -2,6 +2,7 @@
 use Rattle.std.specs.Prelude.{◌≡◌, ℕ, ◌+◌, ◌≤◌, Bool, false, List, length}
 use Rattle.disk_model.specs.Contents.{Files}
 use Rattle.disk_model.specs.declared.disk.Disk.{Ghosts}
+use Rattle.rec_bytes.specs.Format.{most_changed, most_writes}
 use Rattle.rec_bytes.specs.declared.record.Rec.{Rec}
 use Rattle.rec_bytes.specs.Pairs.{Held, Pairs, growth_by}
 use Rattle.redo_log.specs.Entries.{Fits}
@@ -9,21 +10,13 @@ use Rattle.record_file.specs.Records.{record_at}
 use Rattle.record_file.specs.Redone.{AreAlike, IsLogged}
 use Rattle.record_file.specs.MetaFile.{AreMetasOf}
 
--- how many records may be changed between two checkpoints
-abbrev pub most_changed : ℕ
-most_changed = 8192
-
--- how many records a transaction may write
-abbrev pub most_own : ℕ
-most_own = 2048
-
 -- how many pages of records are kept
 abbrev pub kept_pages : ℕ
 kept_pages = 256
 
 -- the transaction may have these records besides its own
 abbrev pub FitsTransaction : Pairs → Pairs → Type 0
-FitsTransaction own more = length own + growth_by own more ≤ most_own
+FitsTransaction own more = length own + growth_by own more ≤ most_writes
 
 -- the transaction fits as one entry at the tail of the log, and its records fit among the changed
 -- ones
@@ -35,7 +28,7 @@ FitsCommit tail changed own =
 -- transaction has as many as an entry may have, and none where none is open.
 pub record AreBounded (in_transaction : Bool) (changed own : Held) : Type 0 where
   pub room : most_changed ≤ length changed.pairs + changed.room
-  pub few : length own.pairs ≤ most_own
+  pub few : length own.pairs ≤ most_writes
   pub closed : in_transaction ≡ false → length own.pairs ≡ 0
   pub most : length changed.pairs ≤ most_changed
 

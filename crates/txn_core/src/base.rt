@@ -9,12 +9,6 @@ use page_cache::PageCache;
 use rec_bytes::{Shape, WriteSet};
 use record_file::MetaFile;
 
-/// How many records may be changed between two checkpoints.
-pub(crate) const MOST_CHANGED: usize = 8_192;
-
-/// How many records a transaction may write.
-pub(crate) const MOST_OWN: usize = 2_048;
-
 /// How many pages of records are kept.
 pub(crate) const KEPT_PAGES: usize = 256;
 

@@ -15,17 +15,18 @@ ghost use Rattle.std.specs.Prelude.{
 };
 ghost use Rattle.fault_count.specs.Cause.{HasCause};
 ghost use Rattle.disk_model.specs.Spans.{AtEachMoment};
+ghost use Rattle.rec_bytes.specs.Format.{most_changed};
 ghost use Rattle.rec_bytes.specs.Pairs.{growth_by, merged};
 ghost use Rattle.redo_log.specs.Appending.{SameButEntry};
 ghost use Rattle.redo_log.specs.Entries.{Fits, IsEntryOf};
 ghost use Rattle.record_file.specs.Redone.{Redoes};
 ghost use Rattle.txn_core.specs.Base.{SameBeneath, SameStore, committed, content, working};
-ghost use Rattle.txn_core.specs.Kept.{FitsCommit, most_changed};
+ghost use Rattle.txn_core.specs.Kept.{FitsCommit};
 ghost use Rattle.txn_core.specs.Outcomes.{IsInDoubt, IsWritten};
 
-use crate::base::{Base, MOST_CHANGED};
+use crate::base::Base;
 use disk_model::Disk;
-use rec_bytes::DiskFault;
+use rec_bytes::{DiskFault, MOST_CHANGED};
 use redo_log::{append, fits};
 
 impl<'d, D: Disk> Base<'d, D> {

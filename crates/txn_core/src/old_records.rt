@@ -2,6 +2,7 @@
 
 ghost use Rattle.std.specs.Prelude.{◌≡◌, ◌≤◌, ◌<◌, IfOk, OnErr, OnOk, is_ok, length, true};
 ghost use Rattle.fault_count.specs.Cause.{HasCause, raised};
+ghost use Rattle.rec_bytes.specs.Format.{most_writes};
 ghost use Rattle.rec_bytes.specs.Key.{IsKey};
 ghost use Rattle.rec_bytes.specs.Pairs.{IsOrdered};
 ghost use Rattle.rec_bytes.specs.RecordFiles.{is_meta_file, meta_key_of};
@@ -18,7 +19,7 @@ impl<'d, D: Disk> Base<'d, D> {
     fn own_len(&self) -> usize
         ensures value { result ≡ length self.now.own.pairs }
         ensures rising { IsOrdered self.now.own.pairs }
-        ensures few { result ≤ 2048 }
+        ensures few { result ≤ most_writes }
     {
         self.own.len()
     }

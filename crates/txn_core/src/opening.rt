@@ -19,7 +19,7 @@ ghost use Rattle.disk_model.specs.Contents.{Files};
 ghost use Rattle.disk_model.specs.Spans.{AtEachMoment, IsAllSettled, OnlyReads};
 ghost use Rattle.page_cache.specs.Pages.{Agrees};
 ghost use Rattle.rec_bytes.specs.Creation.{creation_pairs, own_key, raised};
-ghost use Rattle.rec_bytes.specs.Format.{newest_version};
+ghost use Rattle.rec_bytes.specs.Format.{most_changed, newest_version};
 ghost use Rattle.rec_bytes.specs.Shape.{is_allowed, version_of};
 ghost use Rattle.rec_bytes.specs.Space.{laid_over};
 ghost use Rattle.rec_bytes.specs.declared.key.Key.{Key as AKey};
@@ -31,7 +31,7 @@ ghost use Rattle.record_file.specs.Redone.{Redoes};
 ghost use Rattle.recovery.specs.Finding.{IsCareful, IsMade};
 ghost use Rattle.txn_core.specs.Base.{committed};
 ghost use Rattle.txn_core.specs.Config.{Suits, shape_of};
-ghost use Rattle.txn_core.specs.Kept.{IsKept, kept_pages, most_changed};
+ghost use Rattle.txn_core.specs.Kept.{IsKept, kept_pages};
 ghost use Rattle.record_file.specs.MetaFile.{AreMetasOf, with_metas};
 ghost use Rattle.txn_core.specs.Opening.{
   HasOnly,
@@ -50,11 +50,13 @@ ghost use Rattle.txn_core.specs.Opening.{
   raising_entries,
 };
 
-use crate::base::{Base, KEPT_PAGES, MOST_CHANGED};
+use crate::base::{Base, KEPT_PAGES};
 use crate::{Config, NotOpened, OpenFault};
 use disk_model::Disk;
 use page_cache::PageCache;
-use rec_bytes::{DiskFault, Shape, VERSION, WriteSet, creation, put_raising, version_of};
+use rec_bytes::{
+    DiskFault, MOST_CHANGED, Shape, VERSION, WriteSet, creation, put_raising, version_of,
+};
 use record_file::MetaFile;
 use recovery::{Found, RecoverFault, recover};
 use redo_log::append;
@@ -174,7 +176,7 @@ impl Sets {
     // All memory of an opening, with the records of a new store as it is asked for.
     fn new(alloc: Global, config: Config) -> Result<Sets, AllocError>
         ensures changed { IfOk result (λ sets. sets.changed.pairs ≡ []) }
-        ensures room { IfOk result (λ sets. 8192 ≤ sets.changed.room) }
+        ensures room { IfOk result (λ sets. most_changed ≤ sets.changed.room) }
         ensures creation { IfOk result
             (λ sets. sets.creation.pairs ≡ creation_pairs (shape_of config)) }
         ensures cache { IfOk result (λ sets. (content : Files) → Agrees content sets.cache) }
@@ -200,7 +202,7 @@ fn find_or_make<D: Disk>(
     requires allowed { is_allowed (shape_of config) ≡ true }
     requires creation { creation.now.pairs ≡ creation_pairs (shape_of config) }
     requires changed { changed.old.pairs ≡ [] }
-    requires room { 8192 ≤ changed.old.room }
+    requires room { most_changed ≤ changed.old.room }
     ensures opened { D.tells_reads
         → IfOk result (λ s. Opens (D.reads disk.old) config s.shape
         (laid_over (with_metas s.metas.records (record_at (D.reads disk.new))) changed.new.pairs)) }
@@ -210,7 +212,7 @@ fn find_or_make<D: Disk>(
         (λ s. HasOpeningEntry (D.reads disk.old) s.shape (D.reads disk.new)) }
     ensures no_memory { IfErr result (λ fault. ¬ (fault ≡ OpenFault.Memory)) }
     ensures allowed { IfOk result (λ s. is_allowed s.shape ≡ true) }
-    ensures room { 8192 ≤ length changed.new.pairs + changed.new.room }
+    ensures room { most_changed ≤ length changed.new.pairs + changed.new.room }
     ensures few { length changed.new.pairs ≤ most_changed }
     ensures kept { IfOk result (λ s.
         IsKept D.Disk disk.new s.metas.records changed.new.pairs s.tail) }
@@ -254,7 +256,7 @@ fn open_made<D: Disk>(
     changed: &mut WriteSet,
 ) -> Result<Start, OpenFault>
     requires changed { changed.old.pairs ≡ [] }
-    requires room { 8192 ≤ changed.old.room }
+    requires room { most_changed ≤ changed.old.room }
     ensures shape { IfOk result (λ s. s.shape ≡ shape) }
     ensures suits { IfOk result (λ s. Suits config shape) }
     ensures kept { (D.tells_reads → HasEntries (D.reads disk.old) [] 0)
@@ -281,7 +283,7 @@ fn open_made<D: Disk>(
         → newest_version ≤ version_of (record_at (D.reads disk.old) own_key)
         → OnlyReads D.Disk disk.old disk.new }
     ensures no_memory { IfErr result (λ fault. ¬ (fault ≡ OpenFault.Memory)) }
-    ensures room { 8192 ≤ length changed.new.pairs + changed.new.room }
+    ensures room { most_changed ≤ length changed.new.pairs + changed.new.room }
     ensures few { length changed.new.pairs ≤ most_changed }
     ensures cause { result ≡ Err OpenFault.Disk → Rose (D.faults disk.old) (D.faults disk.new) }
     ensures later { D.faults disk.old ≤ D.faults disk.new }
@@ -294,7 +296,7 @@ fn open_made<D: Disk>(
 fn raise<D: Disk>(disk: &mut D, start: Start, changed: &mut WriteSet) -> Result<Start, DiskFault>
     requires tail { start.tail ≡ 0 }
     requires changed { changed.old.pairs ≡ [] }
-    requires room { 8192 ≤ changed.old.room }
+    requires room { most_changed ≤ changed.old.room }
     ensures shape { IfOk result (λ s. s.shape ≡ start.shape) }
     ensures kept { IsKept D.Disk disk.old start.metas.records [] 0
         → IfOk result (λ s. IsKept D.Disk disk.new s.metas.records changed.new.pairs s.tail) }
@@ -314,7 +316,7 @@ fn raise<D: Disk>(disk: &mut D, start: Start, changed: &mut WriteSet) -> Result<
         → IsAllSettled D.Disk disk.old → OnOk result (IsAllSettled D.Disk disk.new) }
     ensures newest { (records : AKey → ARec) → newest_version
         ≤ version_of (with_metas start.metas.records records own_key) → disk.new ≡ disk.old }
-    ensures room { 8192 ≤ length changed.new.pairs + changed.new.room }
+    ensures room { most_changed ≤ length changed.new.pairs + changed.new.room }
     ensures few { length changed.new.pairs ≤ most_changed }
     ensures cause { HasCause (D.faults disk.old) (D.faults disk.new) result }
 {
@@ -365,7 +367,7 @@ fn make_new<D: Disk>(
 ) -> Result<Start, DiskFault>
     requires creation { creation.now.pairs ≡ creation_pairs shape }
     requires changed { changed.old.pairs ≡ [] }
-    requires room { 8192 ≤ changed.old.room }
+    requires room { most_changed ≤ changed.old.room }
     ensures shape { IfOk result (λ s. s.shape ≡ shape) }
     ensures kept { (D.tells_reads → IsUnmade (D.reads disk.old))
         → (D.tells_reads → D.tells_images → IsAllSettled D.Disk disk.old)
@@ -381,7 +383,7 @@ fn make_new<D: Disk>(
         → IsAllSettled D.Disk disk.old → OnOk result (IsAllSettled D.Disk disk.new) }
     ensures log { D.tells_reads → HasEntries (D.reads disk.old) [] 0
         → OnOk result (HasOnly (D.reads disk.new) (creation_pairs shape ∷ [])) }
-    ensures room { 8192 ≤ length changed.new.pairs + changed.new.room }
+    ensures room { most_changed ≤ length changed.new.pairs + changed.new.room }
     ensures few { length changed.new.pairs ≤ most_changed }
     ensures cause { HasCause (D.faults disk.old) (D.faults disk.new) result }
 {

@@ -28,7 +28,7 @@ ghost use Rattle.txn_core.specs.Opening.{IsStore};
 use crate::AgainFault;
 use crate::base::Base;
 use disk_model::Disk;
-use rec_bytes::{Damage, META, Shape, VERSION, version_of};
+use rec_bytes::{Damage, META, RANGE_RULE, Shape, VERSION, version_of};
 use record_file::MetaFile;
 use recovery::{Found, RecoverFault, recover};
 
@@ -36,7 +36,7 @@ use recovery::{Found, RecoverFault, recover};
 const OWN_DAMAGE: Damage = Damage {
     file: META,
     id: 0,
-    rule: 1,
+    rule: RANGE_RULE,
 };
 
 impl<'d, D: Disk> Base<'d, D> {

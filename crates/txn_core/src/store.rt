@@ -18,7 +18,7 @@ ghost use Rattle.std.specs.Prelude.{
 };
 ghost use Rattle.fault_count.specs.Cause.{HasCause, Rose};
 ghost use Rattle.disk_model.specs.Spans.{AtEachMoment, IsAllSettled, OnlyReads};
-ghost use Rattle.rec_bytes.specs.Format.{log_file};
+ghost use Rattle.rec_bytes.specs.Format.{log_file, most_changed};
 ghost use Rattle.rec_bytes.specs.Pairs.{growth_by, merged};
 ghost use Rattle.rec_bytes.specs.Shape.{is_allowed};
 ghost use Rattle.rec_bytes.specs.declared.key.Key.{Key as AKey};
@@ -30,14 +30,7 @@ ghost use Rattle.record_file.specs.Records.{IsUnmade};
 ghost use Rattle.record_file.specs.Redone.{Redoes};
 ghost use Rattle.recovery.specs.Finding.{IsCareful, IsMade};
 ghost use Rattle.txn_core.specs.Config.{Suits, shape_of};
-ghost use Rattle.txn_core.specs.Kept.{
-  FitsCommit,
-  FitsTransaction,
-  IsKept,
-  IsOnDisk,
-  kept_pages,
-  most_changed,
-};
+ghost use Rattle.txn_core.specs.Kept.{FitsCommit, FitsTransaction, IsKept, IsOnDisk, kept_pages};
 ghost use Rattle.txn_core.specs.Opening.{
   HasOpeningEntry,
   IsAskedOther,

@@ -1,9 +1,9 @@
 //! What a commit hands to followers.
 
 ghost use Rattle.std.specs.Prelude.{◌≡◌, ◌≤◌, ◌↔◌, [], IsTrue, length};
+ghost use Rattle.rec_bytes.specs.Format.{most_writes};
 ghost use Rattle.rec_bytes.specs.Pairs.{IsOrdered};
 ghost use Rattle.redo_log.specs.Appending.{AreWhole};
-ghost use Rattle.txn_core.specs.Kept.{most_own};
 ghost use Rattle.txn_core.specs.Shipped.{AllShip, is_kept_back, is_shipped};
 
 use crate::Store;
@@ -34,9 +34,9 @@ impl<'d, D: Disk> Store<'d, D> {
     /// Puts what the open transaction has written into an empty set. It takes no memory.
     pub fn tap(&self, tap: &mut WriteSet)
         requires empty { tap.old.pairs ≡ [] }
-        requires room { most_own ≤ tap.old.room }
+        requires room { most_writes ≤ tap.old.room }
         ensures pairs { tap.new.pairs ≡ self.now.base.own.pairs }
-        ensures few { length tap.new.pairs ≤ most_own }
+        ensures few { length tap.new.pairs ≤ most_writes }
         ensures rising { IsOrdered tap.new.pairs }
         ensures whole { AreWhole tap.new.pairs }
     {

@@ -14,9 +14,9 @@ ghost use Rattle.rec_bytes.specs.Pairs.{IsOrdered, growth_by, merged};
 ghost use Rattle.txn_core.specs.Base.{SameBeneath};
 ghost use Rattle.txn_core.specs.Kept.{FitsTransaction};
 
-use crate::base::{Base, MOST_OWN};
+use crate::base::Base;
 use disk_model::Disk;
-use rec_bytes::WriteSet;
+use rec_bytes::{MOST_WRITES, WriteSet};
 use std::alloc::AllocError;
 
 impl<'d, D: Disk> Base<'d, D> {
@@ -42,11 +42,11 @@ impl<'d, D: Disk> Base<'d, D> {
         ensures succeeds { FitsTransaction self.old.own.pairs draft.now.pairs
             → growth_by self.old.own.pairs draft.now.pairs ≤ self.old.own.room → IsOk result }
     {
-        if draft.len() > MOST_OWN {
+        if draft.len() > MOST_WRITES {
             return Err(AllocError);
         }
         let more = self.own.growth_by(draft);
-        if more > MOST_OWN - self.own.len() {
+        if more > MOST_WRITES - self.own.len() {
             return Err(AllocError);
         }
         self.own.reserve(more)?;

@@ -15,12 +15,9 @@ use crate::sending::sends_what_it_commits;
 use console_words::SampleOptions;
 use disk_model::Disk;
 use graph_session::{NotOpened, Session};
-use rec_bytes::WriteSet;
+use rec_bytes::{MOST_WRITES, WriteSet};
 use std::alloc::{AllocError, Global};
 use stream_io::Page;
-
-/// How many records a transaction writes at most.
-const MOST_TAPPED: usize = 2_048;
 
 /// How many a shipment has at most.
 const MOST_SHIPPED: usize = 2_047;
@@ -71,7 +68,7 @@ fn send_each<D: Disk>(
     'lines: for _line in 0..options.count {
         let line = sampler.next_line();
         tap.clear();
-        tap.reserve(MOST_TAPPED)?;
+        tap.reserve(MOST_WRITES)?;
         let reply = ask_tapped(alloc, session, line.as_bytes(), &mut tap)?;
         sampler.note(reply.taken())?;
         if tap.len() == 0 || tap.len() > MOST_SHIPPED {

@@ -1,4 +1,5 @@
 ghost use Rattle.std.specs.Prelude.{◌≡◌, ◌≤◌, [], IfOk};
+ghost use Rattle.rec_bytes.specs.Format.{most_writes};
 ghost use Rattle.graph_session.specs.SharedConsole.{IsSharedAt};
 ghost use Rattle.graph_session.specs.Snapshots.{SharedState};
 ghost use Rattle.graph_console.specs.Sample.{tells_failure};
@@ -48,7 +49,7 @@ pub(crate) fn ask_tapped<D: Disk>(
     tap: &mut WriteSet,
 ) -> Result<Page, AllocError>
     requires empty { tap.old.pairs ≡ [] }
-    requires room { 2048 ≤ tap.old.room }
+    requires room { most_writes ≤ tap.old.room }
     ensures { IfOk result (λ page. AnswersTapped D.Disk line.now page.taken
         (shared_view session.old) (shared_view session.new) tap.new.pairs) }
 {

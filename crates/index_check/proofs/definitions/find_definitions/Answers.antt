@@ -20,8 +20,8 @@ returns-in_default-clause-none g c = λ tells xs h.
     search (rules, c.in_ok-ids.ensures.none tells) in
     none xs (subst (λ (l : List ℕ → Type 0). l xs) (sym (same_line records _ _ _ read c.requires.records first)) (line_of_definitions records xs h))
 
-pub returns-then-len-gt-MOST_DEFINITIONS-clause-none : goal.returns-then-len-gt-MOST_DEFINITIONS-clause-none
-returns-then-len-gt-MOST_DEFINITIONS-clause-none g c = λ tells xs h.
+pub returns-then-len-gt-MOST_INDEXES-clause-none : goal.returns-then-len-gt-MOST_INDEXES-clause-none
+returns-then-len-gt-MOST_INDEXES-clause-none g c = λ tells xs h.
     let records = (g.R.Reads.state c.args.space.now).records in
     let first : c.number-first.result ≡ first_definition records = c.number-first.ensures
     ∙ ap (λ r. field 4 r format.meta_definition) (c.in_ok-meta.ensures.got tells ∙ ap records c.meta_key.ensures) in
@@ -34,7 +34,7 @@ returns-then-len-gt-MOST_DEFINITIONS-clause-none g c = λ tells xs h.
     let same = line_is records room ids xs (subst (λ (l : List ℕ → Type 0). l ids) (same_line records _ _ _ read c.requires.records first) found) h in
     let as_long : length xs ≡ length ids = ap length same in
     let few = h.few in
-    omega (arith, c.if-len-gt-MOST_DEFINITIONS.true)
+    omega (arith, c.if-len-gt-MOST_INDEXES.true)
 
 pub returns-clause-found : goal.returns-clause-found
 returns-clause-found g c = λ tells.
@@ -46,7 +46,7 @@ returns-clause-found g c = λ tells.
     let found : IsLineIn definition_line (g.R.Reads.state c.get.new.self).records c.args.records c.number-first.result ids =
     search (rules, c.in_ok-ids.ensures.found tells) in
     let len : c.len.result ≡ length ids = search rules in
-    let few : length ids ≤ 16 = omega (arith, c.if-len-gt-MOST_DEFINITIONS.false) in
+    let few : length ids ≤ 16 = omega (arith, c.if-len-gt-MOST_INDEXES.false) in
     let room : high records format.index_file ≤ format.most_ids = omega (arith, c.requires.records, c.requires.low) in
     definitions_of records room ids (subst (λ (l : List ℕ → Type 0). l ids) (same_line records _ _ _ read c.requires.records first) found) few
 
@@ -58,8 +58,8 @@ pub returns-in_default-clause-onward : goal.returns-in_default-clause-onward
 returns-in_default-clause-onward g c =
     g.met.R.Reads.further_onward _ _ _ c.in_ok-meta.ensures.onward c.in_ok-ids.ensures.onward
 
-pub returns-then-len-gt-MOST_DEFINITIONS-clause-onward : goal.returns-then-len-gt-MOST_DEFINITIONS-clause-onward
-returns-then-len-gt-MOST_DEFINITIONS-clause-onward g c =
+pub returns-then-len-gt-MOST_INDEXES-clause-onward : goal.returns-then-len-gt-MOST_INDEXES-clause-onward
+returns-then-len-gt-MOST_INDEXES-clause-onward g c =
     g.met.R.Reads.further_onward _ _ _ c.in_ok-meta.ensures.onward c.in_ok-ids.ensures.onward
 
 pub returns-clause-onward : goal.returns-clause-onward

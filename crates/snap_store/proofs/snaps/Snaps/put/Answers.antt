@@ -1,6 +1,7 @@
 use Rattle.std.proofs.Common.{◌≡◌, ◌+◌, ◌-◌, ◌<◌, None, ap, sym, ◌∙◌, subst, arith, length, refl}
+use Rattle.rec_bytes.specs.Format.{most_kept}
 use Rattle.rec_bytes.specs.Pairs.{find_pair}
-use Rattle.snap_store.specs.Layers.{Layers, most_kept, sees, total, youngest, with_kept}
+use Rattle.snap_store.specs.Layers.{Layers, sees, total, youngest, with_kept}
 use Rattle.snap_store.specs.Marks.{AreMarked}
 use Rattle.snap_store.specs.Snaps.{Snapshots, layers_of}
 use Rattle.snap_store.specs.Sums.{AreCovered, risen}

@@ -28,9 +28,9 @@ invariant_of-self-2 g c =
       kept = c.args.self.now.kept;
     }
 
-pub returns-then-len-gt-MOST_OWN-clause-succeeds : goal.returns-then-len-gt-MOST_OWN-clause-succeeds
-returns-then-len-gt-MOST_OWN-clause-succeeds g c fits room = absurd
-    (omega (arith, fits, c.if-len-gt-MOST_OWN.true, c.len.ensures.value, length-other c.args.self.now.own.pairs c.args.draft.now.pairs c.len.ensures.rising))
+pub returns-then-len-gt-MOST_WRITES-clause-succeeds : goal.returns-then-len-gt-MOST_WRITES-clause-succeeds
+returns-then-len-gt-MOST_WRITES-clause-succeeds g c fits room = absurd
+    (omega (arith, fits, c.if-len-gt-MOST_WRITES.true, c.len.ensures.value, length-other c.args.self.now.own.pairs c.args.draft.now.pairs c.len.ensures.rising))
 
 pub returns-in_err-reserve-clause-own : goal.returns-in_err-reserve-clause-own
 returns-in_err-reserve-clause-own g c = never_ok c.from_residual.result _ _ c.from_residual.ensures.1
