@@ -18,15 +18,15 @@ use Rattle.rec_bytes.specs.declared.shape.Shape.{Shape}
 use Rattle.store_rules.specs.Writes.{WritesAtMost}
 use Rattle.store_rules.proofs.RowLaws.{append_none}
 use Rattle.store_rules.proofs.WriteLaws.{more_written, none_written, then_written}
-use Rattle.graph_ops.specs.Change.{IsRefusal, MakesChange}
-use Rattle.graph_ops.specs.Store.{IsStore, graph_in}
-use Rattle.graph_ops.specs.declared.change_fault.ChangeFault.{ChangeFault}
-use Rattle.graph_ops.specs.declared.change_fault.ChangeFault.TheVariants.{NoNode, NoEdge, HasRelationships, IndexThere}
-use Rattle.graph_ops.specs.declared.change_fault.ChangeFault.TheVariants.{TooManyIndexes, IndexTooLarge, Full}
-use Rattle.graph_ops.specs.declared.change_fault.ChangeFault.TheVariants.{NamesFull, PropsFull, Memory, Disk, Damaged}
-use Rattle.graph_ops.proofs.Exits.{fault_exit}
-use Rattle.graph_ops.specs.Causes.{IsStillCaused}
-use Rattle.graph_ops.specs.Damage.{BlamesBroken}
+use Rattle.change_parts.specs.Change.{IsRefusal, MakesChange}
+use Rattle.change_parts.specs.Store.{IsStore, graph_in}
+use Rattle.change_parts.specs.declared.change_fault.ChangeFault.{ChangeFault}
+use Rattle.change_parts.specs.declared.change_fault.ChangeFault.TheVariants.{NoNode, NoEdge, HasRelationships, IndexThere}
+use Rattle.change_parts.specs.declared.change_fault.ChangeFault.TheVariants.{TooManyIndexes, IndexTooLarge, Full}
+use Rattle.change_parts.specs.declared.change_fault.ChangeFault.TheVariants.{NamesFull, PropsFull, Memory, Disk, Damaged}
+use Rattle.change_parts.proofs.Exits.{fault_exit}
+use Rattle.change_parts.specs.Causes.{IsStillCaused}
+use Rattle.change_parts.specs.Damage.{BlamesBroken}
 use Rattle.graph_ops.specs.Mutating.{BlamesDeletion, IsListCaused, IsListRefusal, MakesChanges, MakesList}
 use Rattle.graph_ops.specs.Mutating.{MakesMutation, MakesPart, any_replies, most_drafted, most_told}
 use Rattle.plain_graph.specs.Mutations.{MakesEach, RefusesEach, changes_of, elements_of, new_elements, targets_once, vertex_id}

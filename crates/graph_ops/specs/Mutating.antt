@@ -10,19 +10,19 @@ use Rattle.plain_graph.specs.declared.refusal.Refusal.{Refusal}
 use Rattle.plain_graph.specs.declared.refusal.Refusal.TheVariants as refusals
 use Rattle.rec_bytes.specs.Space.{State}
 use Rattle.store_rules.specs.Writes.{WritesAtMost}
-use Rattle.graph_ops.specs.Causes.{IsStillCaused}
-use Rattle.graph_ops.specs.Change.{full_of}
-use Rattle.graph_ops.specs.Damage.{BlamesBroken, BlamesEntries}
-use Rattle.graph_ops.specs.Entries.{HasIndexes}
-use Rattle.graph_ops.specs.Store.{IsStore, graph_in}
-use Rattle.graph_ops.specs.declared.change_fault.ChangeFault.{ChangeFault}
-use Rattle.graph_ops.specs.declared.change_fault.ChangeFault.TheVariants.{NoNode, NoEdge}
-use Rattle.graph_ops.specs.declared.change_fault.ChangeFault.TheVariants.{HasRelationships, Full}
-use Rattle.graph_ops.specs.declared.change_fault.ChangeFault.TheVariants.{IndexThere}
-use Rattle.graph_ops.specs.declared.change_fault.ChangeFault.TheVariants.{TooManyIndexes}
-use Rattle.graph_ops.specs.declared.change_fault.ChangeFault.TheVariants.{IndexTooLarge}
-use Rattle.graph_ops.specs.declared.change_fault.ChangeFault.TheVariants.{NamesFull, PropsFull}
-use Rattle.graph_ops.specs.declared.change_fault.ChangeFault.TheVariants.{Memory, Disk, Damaged}
+use Rattle.change_parts.specs.Causes.{IsStillCaused}
+use Rattle.change_parts.specs.Change.{full_of}
+use Rattle.change_parts.specs.Damage.{BlamesBroken, BlamesEntries}
+use Rattle.node_changes.specs.Entries.{HasIndexes}
+use Rattle.change_parts.specs.Store.{IsStore, graph_in}
+use Rattle.change_parts.specs.declared.change_fault.ChangeFault.{ChangeFault}
+use Rattle.change_parts.specs.declared.change_fault.ChangeFault.TheVariants.{NoNode, NoEdge}
+use Rattle.change_parts.specs.declared.change_fault.ChangeFault.TheVariants.{HasRelationships, Full}
+use Rattle.change_parts.specs.declared.change_fault.ChangeFault.TheVariants.{IndexThere}
+use Rattle.change_parts.specs.declared.change_fault.ChangeFault.TheVariants.{TooManyIndexes}
+use Rattle.change_parts.specs.declared.change_fault.ChangeFault.TheVariants.{IndexTooLarge}
+use Rattle.change_parts.specs.declared.change_fault.ChangeFault.TheVariants.{NamesFull, PropsFull}
+use Rattle.change_parts.specs.declared.change_fault.ChangeFault.TheVariants.{Memory, Disk, Damaged}
 use Rattle.plain_graph.specs.Mutations.{ChangesEach, MakesEach, RefusesEach, WeighsEach, changes_of}
 use Rattle.plain_graph.specs.Mutations.{results_of}
 use Rattle.plain_graph.specs.declared.mutation.Mutation.{Mutation}

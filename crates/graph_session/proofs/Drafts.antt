@@ -18,7 +18,7 @@ use Rattle.txn_core.specs.Store as store
 use Rattle.txn_core.proofs.StoreRecords.{committed-beneath}
 use Rattle.snap_store.specs.Keeping.{EndsFor, KeepsHeld}
 use Rattle.snap_store.specs.Snaps.{Snapshots}
-use Rattle.graph_ops.specs.Store.{graph_in}
+use Rattle.change_parts.specs.Store.{graph_in}
 use Rattle.graph_session.specs.Drafting.{Closes, CommitsRecords, DoubtsRecords, DropsRecords, EndsCommit, TriesCommit}
 use Rattle.graph_session.specs.State.{State, seen}
 use Rattle.graph_session.specs.declared.answer.Answer.{Answer}

@@ -19,7 +19,7 @@ use Rattle.store_rules.specs.Graph.{graph_of, names_of}
 use Rattle.store_rules.specs.Indexes.{IsIndexed}
 use Rattle.txn_core.specs.Store.{drafted, state_of, working}
 use Rattle.txn_core.proofs.StoreRecords.{committed-beneath, committed-read, drafted-none, working-beneath, working-read}
-use Rattle.graph_ops.specs.Store.{graph_in}
+use Rattle.change_parts.specs.Store.{graph_in}
 use Rattle.graph_session.specs.Answer.{Settles}
 use Rattle.graph_session.specs.Answering.{reply_of}
 use Rattle.graph_session.specs.Console.{IsAt, SessionView}

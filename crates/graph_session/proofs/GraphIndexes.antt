@@ -16,7 +16,7 @@ use Rattle.rec_bytes.specs.declared.shape.Shape.{Shape}
 use Rattle.store_rules.specs.Graph.{index_from, indexes_of}
 use Rattle.store_rules.specs.Rows.{collect, ids, if_test, option_list}
 use Rattle.store_rules.specs.Views.{Records, high, kind_at, rec_at}
-use Rattle.graph_ops.proofs.GraphPairs.{defined_among, index_at, is_among, text}
+use Rattle.change_parts.proofs.GraphPairs.{defined_among, index_at, is_among, text}
 use Rattle.traversal_run.specs.Reading.{IsNamedStore}
 use Rattle.traversal_run.proofs.NamesKnown.{names_at}
 use Rattle.graph_session.specs.IndexLists.{index_lines, is_taken, place_line}

@@ -21,12 +21,12 @@ use Rattle.rec_bytes.specs.Space.{SameButReads, State as Space}
 use Rattle.store_rules.specs.Writes.{WritesAtMost}
 use Rattle.txn_core.specs.OnlyReading.{only_reads_base_on}
 use Rattle.txn_core.specs.Store as store
-use Rattle.graph_ops.specs.Change.{IsRefusal, IsRefusedBy, MakesChange, full_of}
-use Rattle.graph_ops.specs.ChangeFault.{HasChangeCause}
+use Rattle.change_parts.specs.Change.{IsRefusal, IsRefusedBy, MakesChange, full_of}
+use Rattle.change_parts.specs.ChangeFault.{HasChangeCause}
 use Rattle.graph_ops.specs.Mutating.{IsListRefusal, MakesMutation, most_told}
-use Rattle.graph_ops.specs.Store.{IsStore, graph_in}
-use Rattle.graph_ops.specs.declared.change_fault.ChangeFault.{ChangeFault}
-use Rattle.graph_ops.specs.declared.change_fault.ChangeFault.TheVariants as faults
+use Rattle.change_parts.specs.Store.{IsStore, graph_in}
+use Rattle.change_parts.specs.declared.change_fault.ChangeFault.{ChangeFault}
+use Rattle.change_parts.specs.declared.change_fault.ChangeFault.TheVariants as faults
 use Rattle.graph_session.specs.Answering.{reply_of}
 use Rattle.graph_session.specs.Drafting.{Drafts, HasStore, IsStopped, MakesLine, OnlyDrafts, answer_for, drafted_by}
 use Rattle.graph_session.specs.MayStep.{TellsMade}

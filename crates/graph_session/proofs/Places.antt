@@ -12,7 +12,7 @@ use Rattle.std.proofs.lemmas.Nat.{div-mul-add, mod-mul-add}
 use Rattle.prop_index.specs.declared.listing.IndexPair.{IndexPair}
 use Rattle.store_rules.specs.Rows.{ids, if_test, option_list}
 use Rattle.store_rules.proofs.NumberLaws.{and_parts, eq_false, eq_true, lt_true}
-use Rattle.graph_ops.proofs.GraphPairs.{same_truth}
+use Rattle.change_parts.proofs.GraphPairs.{same_truth}
 use Rattle.graph_session.specs.Exchange.{AreFirst}
 use Rattle.graph_session.specs.IndexLists.{IsNext, is_place, is_taken, lines_below, place_line, place_of, with_place}
 

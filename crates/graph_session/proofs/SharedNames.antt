@@ -14,7 +14,7 @@ use Rattle.plain_graph.specs.Reply.{Fault, Reply}
 use Rattle.plain_graph.specs.declared.command.Command.{Command}
 use Rattle.plain_graph.specs.declared.command.Command.TheVariants as commands
 use Rattle.plain_graph.specs.declared.command.Target.TheVariants as targets
-use Rattle.graph_ops.proofs.LineNames.{uses_prefix}
+use Rattle.change_parts.proofs.LineNames.{uses_prefix}
 use Rattle.graph_session.specs.Console.{BeginWith}
 use Rattle.graph_session.specs.Exchange.{CarriesKind, ConsoleStep, IsDone, KeepsStore, LeavesBound, LeavesChange}
 use Rattle.graph_session.specs.Exchange.{LeavesKind, LeavesStore, MakesChange, MovesBound, Stops, failing}

@@ -24,12 +24,12 @@ use Rattle.txn_core.specs.Base.{OnlyReadsBase, SameBeneath, SameStore}
 use Rattle.txn_core.specs.Kept.{IsOnDisk}
 use Rattle.txn_core.specs.Sights.{KeepsSights}
 use Rattle.txn_core.specs.Store.{committed, drafted, state_of, working}
-use Rattle.graph_ops.specs.Change.{full_of}
+use Rattle.change_parts.specs.Change.{full_of}
 use Rattle.graph_ops.specs.Mutating.{most_told}
-use Rattle.graph_ops.specs.Store.{IsStore, graph_in}
-use Rattle.graph_ops.specs.declared.added.Added.{Added}
-use Rattle.graph_ops.specs.declared.change_fault.ChangeFault.{ChangeFault}
-use Rattle.graph_ops.specs.declared.change_fault.ChangeFault.TheVariants as faults
+use Rattle.change_parts.specs.Store.{IsStore, graph_in}
+use Rattle.change_parts.specs.declared.added.Added.{Added}
+use Rattle.change_parts.specs.declared.change_fault.ChangeFault.{ChangeFault}
+use Rattle.change_parts.specs.declared.change_fault.ChangeFault.TheVariants as faults
 use Rattle.graph_session.specs.Answering.{reply_of}
 use Rattle.graph_session.specs.MayStep.{TellsMade}
 use Rattle.graph_session.specs.declared.answer.Answer.{Answer}

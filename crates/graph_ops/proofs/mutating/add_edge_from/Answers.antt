@@ -2,7 +2,7 @@ use Rattle.std.proofs.Common.{◌∷◌, [], ⊎_elim, ap, sym, subst}
 use Rattle.std.specs.Prelude.{IfErr}
 use Rattle.plain_graph.specs.declared.command.Command.TheVariants as commands
 use Rattle.plain_graph.specs.declared.item.Item.{Item}
-use Rattle.graph_ops.specs.Store.{graph_in}
+use Rattle.change_parts.specs.Store.{graph_in}
 use Rattle.graph_ops.specs.Mutating.{IsListCaused, IsListRefusal}
 use Rattle.plain_graph.specs.Mutations.{changes_of, vertex_id}
 use Rattle.plain_graph.specs.declared.mutation.Mutation.TheVariants as mutations

@@ -3,9 +3,9 @@ use Rattle.std.proofs.lemmas.List.{take_all}
 use Rattle.plain_graph.specs.Reply.{Reply}
 use Rattle.plain_graph.specs.declared.command.Command.{Command}
 use Rattle.plain_graph.specs.declared.item.Item.{Item}
-use Rattle.graph_ops.specs.Store.{graph_in}
+use Rattle.change_parts.specs.Store.{graph_in}
 use Rattle.graph_ops.specs.Mutating.{IsListCaused, MakesPart}
-use Rattle.graph_ops.proofs.Exits.{fault_exit}
+use Rattle.change_parts.proofs.Exits.{fault_exit}
 use Rattle.plain_graph.specs.Mutations.{changes_of, new_elements}
 use Rattle.plain_graph.specs.declared.mutation.Mutation.TheVariants as mutations
 use Rattle.plain_graph.proofs.Making.{elements_then}

@@ -1,6 +1,6 @@
 use Rattle.std.proofs.Common.{◌≡◌, ◌∙◌, ◌++◌, ◌∷◌, [], List, inl, refl, rules}
 use Rattle.graph_ops.specs.Mutating.{IsListCaused}
-use Rattle.graph_ops.proofs.Exits.{fault_exit}
+use Rattle.change_parts.proofs.Exits.{fault_exit}
 use Rattle.plain_graph.specs.Reply.{EdgeMade, Reply}
 use Rattle.plain_graph.specs.declared.command.Command.TheVariants as commands
 use Rattle.plain_graph.specs.declared.item.Item.TheVariants as items

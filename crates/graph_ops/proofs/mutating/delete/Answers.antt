@@ -1,21 +1,21 @@
 use Rattle.std.proofs.Common.{ℕ, [], ◌∷◌, sym, subst}
 use Rattle.std.proofs.lemmas.Result.{IfErr-weaker}
 use Rattle.rec_bytes.specs.Space.{State}
-use Rattle.graph_ops.specs.Damage.{BlamesEntries}
-use Rattle.graph_ops.specs.Entries.{HasIndexes}
-use Rattle.graph_ops.specs.NodeDeleting.{IsDeleteCause}
-use Rattle.graph_ops.specs.declared.change_fault.ChangeFault.{ChangeFault}
-use Rattle.graph_ops.specs.declared.change_fault.ChangeFault.TheVariants.{NoNode, NoEdge, HasRelationships, IndexThere}
-use Rattle.graph_ops.specs.declared.change_fault.ChangeFault.TheVariants.{TooManyIndexes, IndexTooLarge, Full}
-use Rattle.graph_ops.specs.declared.change_fault.ChangeFault.TheVariants.{NamesFull, PropsFull, Memory, Disk, Damaged}
+use Rattle.change_parts.specs.Damage.{BlamesEntries}
+use Rattle.node_changes.specs.Entries.{HasIndexes}
+use Rattle.node_changes.specs.NodeDeleting.{IsDeleteCause}
+use Rattle.change_parts.specs.declared.change_fault.ChangeFault.{ChangeFault}
+use Rattle.change_parts.specs.declared.change_fault.ChangeFault.TheVariants.{NoNode, NoEdge, HasRelationships, IndexThere}
+use Rattle.change_parts.specs.declared.change_fault.ChangeFault.TheVariants.{TooManyIndexes, IndexTooLarge, Full}
+use Rattle.change_parts.specs.declared.change_fault.ChangeFault.TheVariants.{NamesFull, PropsFull, Memory, Disk, Damaged}
 use Rattle.std.specs.Prelude.{IfErr, IfOk}
-use Rattle.graph_ops.specs.Causes.{IsStillCaused}
+use Rattle.change_parts.specs.Causes.{IsStillCaused}
 use Rattle.plain_graph.specs.Reply.{Done}
 use Rattle.plain_graph.specs.declared.command.Command.TheVariants as commands
 use Rattle.plain_graph.specs.declared.command.Target.{Target}
 use Rattle.graph_ops.specs.Mutating.{BlamesDeletion, MakesPart, any_replies}
-use Rattle.graph_ops.specs.Change.{IsRefusal}
-use Rattle.graph_ops.specs.Store.{graph_in}
+use Rattle.change_parts.specs.Change.{IsRefusal}
+use Rattle.change_parts.specs.Store.{graph_in}
 use Rattle.graph_ops.proofs.Parts.{one_result}
 use Rattle.graph_ops.proofs.mutating.delete.Goals as goal
 

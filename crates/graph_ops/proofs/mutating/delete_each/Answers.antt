@@ -5,12 +5,12 @@ use Rattle.plain_graph.specs.declared.command.Command.TheVariants as commands
 use Rattle.plain_graph.specs.declared.command.Target.TheVariants as targets
 use Rattle.plain_graph.specs.Mutations.{deletions}
 use Rattle.graph_ops.specs.Mutating.{BlamesDeletion, IsListCaused, any_replies}
-use Rattle.graph_ops.specs.Damage.{BlamesBroken}
-use Rattle.graph_ops.proofs.Exits.{fault_exit}
+use Rattle.change_parts.specs.Damage.{BlamesBroken}
+use Rattle.change_parts.proofs.Exits.{fault_exit}
 use Rattle.graph_ops.proofs.Parts.{making_more, memory_blames, memory_breaks, next_exit, next_still, none_part, one_caused, one_refused}
 use Rattle.graph_ops.proofs.Spreading.{deletions_spread}
 use Rattle.store_rules.proofs.RowLaws.{append_none}
-use Rattle.graph_ops.specs.Store.{graph_in}
+use Rattle.change_parts.specs.Store.{graph_in}
 use Rattle.graph_ops.proofs.mutating.delete_each.Goals as goal
 
 pub returns-in_err-more-clause-refused : goal.returns-in_err-more-clause-refused

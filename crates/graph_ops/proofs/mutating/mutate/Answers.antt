@@ -4,8 +4,8 @@ use Rattle.plain_graph.specs.Reply.{Reply}
 use Rattle.plain_graph.specs.declared.command.Command.TheVariants as commands
 use Rattle.plain_graph.specs.declared.item.Item.{Item}
 use Rattle.plain_graph.specs.declared.pairs.Pair.{Pair}
-use Rattle.graph_ops.specs.Store.{graph_in}
-use Rattle.graph_ops.proofs.Exits.{fault_exit}
+use Rattle.change_parts.specs.Store.{graph_in}
+use Rattle.change_parts.proofs.Exits.{fault_exit}
 use Rattle.graph_ops.specs.Mutating.{IsListCaused, IsListRefusal, MakesMutation, MakesPart, any_replies}
 use Rattle.plain_graph.specs.Mutations.{changes_of, new_elements}
 use Rattle.plain_graph.specs.declared.mutation.Mutation.{Mutation}

@@ -1,6 +1,6 @@
 use Rattle.std.proofs.Common.{inl}
 use Rattle.graph_ops.specs.Mutating.{IsListCaused}
-use Rattle.graph_ops.proofs.Exits.{fault_exit}
+use Rattle.change_parts.proofs.Exits.{fault_exit}
 use Rattle.graph_ops.proofs.Parts.{making_more, next_exit, next_still}
 use Rattle.graph_ops.proofs.Spreading.{items_spread}
 use Rattle.plain_graph.specs.Mutations.{changes_of}

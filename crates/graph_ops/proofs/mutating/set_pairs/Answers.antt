@@ -4,10 +4,10 @@ use Rattle.plain_graph.specs.Names.{IsShortName}
 use Rattle.plain_graph.specs.Reply.{Done}
 use Rattle.plain_graph.specs.declared.command.Command.TheVariants as commands
 use Rattle.plain_graph.specs.declared.pairs.Pair.{Pair}
-use Rattle.graph_ops.specs.Store.{graph_in}
-use Rattle.graph_ops.proofs.Assigned.{pair_form}
+use Rattle.change_parts.specs.Store.{graph_in}
+use Rattle.change_parts.proofs.Assigned.{pair_form}
 use Rattle.graph_ops.specs.Mutating.{IsListCaused, any_replies}
-use Rattle.graph_ops.proofs.Exits.{fault_exit}
+use Rattle.change_parts.proofs.Exits.{fault_exit}
 use Rattle.plain_graph.specs.Mutations.{settings}
 use Rattle.graph_ops.proofs.Parts.{making_more, next_exit, next_still, one_caused, one_part, one_refused}
 use Rattle.graph_ops.proofs.Spreading.{pairs_spread}

@@ -1,7 +1,7 @@
 use Rattle.std.proofs.Common.{ℕ, [], refl, sym}
 use Rattle.std.proofs.lemmas.List.{append-nil}
 use Rattle.plain_graph.specs.declared.command.Command.TheVariants as commands
-use Rattle.graph_ops.specs.declared.added.Added.{Added}
+use Rattle.change_parts.specs.declared.added.Added.{Added}
 use Rattle.graph_session.specs.declared.answer.Answer.TheVariants as answers
 use Rattle.graph_session.proofs.LineDrafts.{drafts-call}
 use Rattle.graph_session.proofs.session.Session.draft.Goals as goal

@@ -1,0 +1,11 @@
+pub mod Assigning
+pub mod Causes
+pub mod Change
+pub mod ChangeFault
+pub mod Damage
+pub mod Degrees
+pub mod GivenValues
+pub mod Owners
+pub mod Preparing
+pub mod Rooms
+pub mod Store

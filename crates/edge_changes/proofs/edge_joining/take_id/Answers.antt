@@ -1,0 +1,29 @@
+use Rattle.std.specs.Prelude.{Err}
+use Rattle.std.proofs.Common.{◌≡◌, ◌∙◌, ℕ, refl, subst, sym, inl, arith}
+use Rattle.id_freelist.specs.declared.take_fault.TakeFault.{TakeFault}
+use Rattle.id_freelist.specs.TakeFault.{BlamesBroken, NotDamaged}
+use Rattle.rec_bytes.specs.Format as format
+use Rattle.change_parts.proofs.Takes.{kept_can_take}
+use Rattle.rec_bytes.specs.Space.{State, meta_of}
+use Rattle.id_freelist.specs.Taking.{IsTakeFault, room}
+use Rattle.store_rules.specs.Breaking.{Breaks}
+use Rattle.edge_changes.proofs.edge_joining.take_id.Goals as goal
+
+pub returns-in-Err-Damaged-clause-sound : goal.returns-in-Err-Damaged-clause-sound
+returns-in-Err-Damaged-clause-sound g c tells most empty keeps room =
+    subst (λ (f : TakeFault). NotDamaged {T = ℕ} (Err f)) c.in-Err-Damaged.field-0-is
+    (c.in-Err-Damaged.ensures.sound tells _ (kept_can_take (g.S.Reads.state c.args.space.now) format.relationships_file refl refl keeps))
+
+-- ---- which record is blamed
+pub returns-in-Err-Full-clause-damaged : goal.returns-in-Err-Full-clause-damaged
+returns-in-Err-Full-clause-damaged g c tells has =
+    let s = g.S.Reads.state c.args.space.now in
+    let why = subst (λ (f : TakeFault). IsTakeFault s format.relationships_file f) c.in-Err-Full.field-0-is (c.in-Err-Full.ensures.refused tells) in
+    let full : (meta_of s format.relationships_file).live ≡ room s format.relationships_file = sym why.1 ∙ why.2 in
+    absurd (omega (arith, full, has))
+
+pub returns-in-Err-Damaged-clause-damaged : goal.returns-in-Err-Damaged-clause-damaged
+returns-in-Err-Damaged-clause-damaged g c tells has =
+    let s = g.S.Reads.state c.args.space.now in
+    let told = subst (λ (f : TakeFault). BlamesBroken s.records s.shape f) c.in-Err-Damaged.field-0-is (c.in-Err-Damaged.ensures.damaged tells) in
+    inl (subst (λ (z : State). Breaks z.records z.shape c.in-Err-Damaged.damage) (sym c.in-Err-Damaged.ensures.err) told)

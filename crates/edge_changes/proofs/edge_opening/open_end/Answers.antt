@@ -1,0 +1,49 @@
+use Rattle.std.proofs.Common.{rules}
+use Rattle.change_parts.specs.ChangeFault.{of_fault}
+use Rattle.change_parts.specs.Damage.{BlamesLinking}
+use Rattle.change_parts.proofs.Exits.{fault_exit}
+use Rattle.edge_changes.proofs.JoinBlames.{end_blamed}
+use Rattle.rec_bytes.proofs.Causes.{never_ok, ok_cause}
+use Rattle.edge_changes.proofs.edge_opening.open_end.Goals as goal
+
+pub returns-in_err-head-clause-damaged : goal.returns-in_err-head-clause-damaged
+returns-in_err-head-clause-damaged g c tells used le =
+    let t = g.S.Reads.state c.open_chain.new.space in
+    fault_exit of_fault (BlamesLinking t) c.in_err-head.field-0.0 c.from_residual.result c.from_residual.ensures.1
+    (end_blamed t c.in_err-head.field-0.0 (c.in_err-head.ensures.blames tells used le))
+
+pub returns-clause-has : goal.returns-clause-has
+returns-clause-has g c tells used = c.in_ok-head.ensures.owns tells used
+
+pub returns-clause-heads : goal.returns-clause-heads
+returns-clause-heads g c tells = c.in_ok-head.ensures.heads tells
+
+pub returns-clause-beside : goal.returns-clause-beside
+returns-clause-beside g c tells = c.in_ok-head.ensures.beside tells
+
+pub returns-in_err-head-clause-opened : goal.returns-in_err-head-clause-opened
+returns-in_err-head-clause-opened g c _ = never_ok c.from_residual.result _ _ c.from_residual.ensures.1
+
+pub returns-in_err-head-clause-beside : goal.returns-in_err-head-clause-beside
+returns-in_err-head-clause-beside g c _ = never_ok c.from_residual.result _ _ c.from_residual.ensures.1
+
+pub returns-in_err-head-clause-has : goal.returns-in_err-head-clause-has
+returns-in_err-head-clause-has g c _ _ = never_ok c.from_residual.result _ _ c.from_residual.ensures.1
+
+pub returns-in_err-head-clause-heads : goal.returns-in_err-head-clause-heads
+returns-in_err-head-clause-heads g c _ = never_ok c.from_residual.result _ _ c.from_residual.ensures.1
+
+pub returns-in_err-head-clause-is : goal.returns-in_err-head-clause-is
+returns-in_err-head-clause-is g c = never_ok c.from_residual.result _ _ c.from_residual.ensures.1
+
+pub returns-in_err-head-clause-end : goal.returns-in_err-head-clause-end
+returns-in_err-head-clause-end g c = never_ok c.from_residual.result _ _ c.from_residual.ensures.1
+
+pub returns-in_err-head-clause-wrote : goal.returns-in_err-head-clause-wrote
+returns-in_err-head-clause-wrote g c = never_ok c.from_residual.result _ _ c.from_residual.ensures.1
+
+pub returns-in_err-head-clause-onward : goal.returns-in_err-head-clause-onward
+returns-in_err-head-clause-onward g c = search rules
+
+pub returns-clause-cause : goal.returns-clause-cause
+returns-clause-cause g c = ok_cause _ _ _ _ c.in_ok-head.ensures.cause.later

@@ -1,0 +1,89 @@
+use Rattle.std.specs.Prelude.{slice_get}
+use Rattle.std.proofs.Common.{◌≡◌, ◌+◌, ℕ, List, Some, ap, subst, inl, arith}
+use Rattle.rec_bytes.specs.declared.meta.Meta.{Meta}
+use Rattle.rec_bytes.specs.declared.record.Rec.{Rec}
+use Rattle.rec_bytes.specs.Format as format
+use Rattle.rec_bytes.specs.Meta as metas
+use Rattle.rel_store.specs.RelRecord.{rel_key}
+use Rattle.store_rules.specs.Writes.{WritesBeside}
+use Rattle.group_store.proofs.OwnGroups.{if_ok}
+use Rattle.change_parts.specs.ChangeFault.{IsOutside}
+use Rattle.edge_changes.specs.EdgeEnds.{AtEach, source_of}
+use Rattle.edge_changes.specs.EdgeOpening.{ends_moved, from_of, to_of}
+use Rattle.edge_changes.specs.EdgePlacing.{PutsEdge}
+use Rattle.change_parts.specs.Store.{IsMidway}
+use Rattle.edge_changes.proofs.EdgeOpened.{puts_through}
+use Rattle.change_parts.proofs.ElementRooms.{room_still}
+use Rattle.change_parts.proofs.Exits.{fault_exit}
+use Rattle.change_parts.proofs.NameNumbers.{number_in}
+use Rattle.edge_changes.proofs.OpenWrites.{err_more, put_beside, put_failed}
+use Rattle.store_rules.proofs.WriteLaws.{beside_more, more_written}
+use Rattle.change_parts.proofs.Writes.{on_any_err}
+use Rattle.change_parts.specs.Damage.{IsBroken}
+use Rattle.edge_changes.specs.EdgeAdding.{HasEndDegree}
+use Rattle.change_parts.specs.Damage.{IsLinkingDamage}
+use Rattle.edge_changes.proofs.EdgeBlames.{if_blames}
+use Rattle.edge_changes.proofs.edge_placing.put_edge.Goals as goal
+
+pub returns-in_err-ends-clause-sound : goal.returns-in_err-ends-clause-sound
+returns-in_err-ends-clause-sound g c tells limit names text store at degrees room =
+    let s = g.S.Reads.state c.args.space.now in
+    fault_exit (λ f. f) IsOutside c.in_err-ends.field-0.0 c.from_residual.result c.from_residual.ensures.1
+    (c.in_err-ends.ensures.sound tells names (record { limit = limit; store = store; named = (number_in s.records names c.args.joint.label text store.names at).0; degrees = degrees }) room)
+
+pub returns-clause-put : goal.returns-clause-put
+returns-clause-put g c tells limit =
+    let s = g.S.Reads.state c.args.space.now in
+    let t = g.S.Reads.state c.open_ends.new.space in
+    let u = g.S.Reads.state c.join_edge.new.space in
+    let nodes = c.in_ok-ends.ensures.nodes in
+    if_ok c.join_edge.result _
+    (λ id. (names : List (List ℕ)) (text : List ℕ) → IsMidway s names → slice_get names c.args.joint.label ≡ Some text → AtEach (HasEndDegree s.records) c.args.joint.ends
+    → PutsEdge s u names (from_of c.args.joint) text (to_of c.args.joint) id)
+    (λ id joined names text store at degrees.
+    let opens = c.in_ok-ends.ensures.opened tells names (record { limit = limit; store = store; named = (number_in s.records names c.args.joint.label text store.names at).0; degrees = degrees }) in
+    puts_through s t u names (from_of c.args.joint) text (to_of c.args.joint) id opens.keeps
+    (subst (λ n. PutsEdge t u names n text (to_of c.args.joint) id) nodes.0 (subst (λ n. PutsEdge t u names (source_of c.in_ok-ends.ends).node text n id) nodes.1 (joined names text opens.can at))))
+    (c.join_edge.ensures.joined tells)
+
+pub returns-clause-sound : goal.returns-clause-sound
+returns-clause-sound g c tells limit names text store at degrees room =
+    let s = g.S.Reads.state c.args.space.now in
+    let t = g.S.Reads.state c.open_ends.new.space in
+    let opens = c.in_ok-ends.ensures.opened tells names (record { limit = limit; store = store; named = (number_in s.records names c.args.joint.label text store.names at).0; degrees = degrees }) in
+    c.join_edge.ensures.sound tells names text opens.can at
+    (room_still s t format.relationships_file 1 (ap (λ (m : Meta). m.live) (opens.keeps.metas format.relationships_file (λ e. omega arith))) opens.keeps.shape room)
+
+pub returns-clause-writes : goal.returns-clause-writes
+returns-clause-writes g c =
+    let s = g.S.Reads.state c.args.space.now in
+    let t = g.S.Reads.state c.open_ends.new.space in
+    let u = g.S.Reads.state c.join_edge.new.space in
+    let most = ends_moved c.args.joint.threshold c.args.joint.ends in
+    let ends = c.in_ok-ends.ensures.ends in
+    if_ok c.join_edge.result _ (λ id. WritesBeside (rel_key id) (8 + most) s u)
+    (λ id joins. beside_more (omega arith) (put_beside s t u id c.in_ok-ends.ends (2 + most) ends.each c.in_ok-ends.ensures.wrote joins))
+    c.join_edge.ensures.writes
+
+pub returns-in_err-ends-clause-err_writes : goal.returns-in_err-ends-clause-err_writes
+returns-in_err-ends-clause-err_writes g c = on_any_err _ _ (more_written (omega arith) c.open_ends.ensures.writes)
+
+pub returns-clause-err_writes : goal.returns-clause-err_writes
+returns-clause-err_writes g c =
+    let s = g.S.Reads.state c.args.space.now in
+    let u = g.S.Reads.state c.join_edge.new.space in
+    let ends = c.in_ok-ends.ensures.ends in
+    let most = ends_moved c.args.joint.threshold c.args.joint.ends in
+    err_more ((6 + most) + 7) (13 + most) s u (omega arith) c.join_edge.result
+    (put_failed s (g.S.Reads.state c.open_ends.new.space) u c.in_ok-ends.ends ends.each c.in_ok-ends.ensures.writes c.join_edge.result c.join_edge.ensures.err_writes)
+
+-- ---- which record is blamed
+pub returns-clause-damaged : goal.returns-clause-damaged
+returns-clause-damaged g c tells used limit has =
+    let s = g.S.Reads.state c.args.space.now in
+    let t = g.S.Reads.state c.open_ends.new.space in
+    let u = g.S.Reads.state c.join_edge.new.space in
+    let room = room_still s t format.relationships_file 1 (ap (λ (r : Rec). (metas.meta_of r).live) (c.in_ok-ends.ensures.beside tells))
+    (g.met.S.Reads.onward_shape _ _ c.open_ends.ensures.onward) has in
+    if_blames c.join_edge.result (IsBroken u) (IsLinkingDamage u) (λ damage told. inl told)
+    (c.join_edge.ensures.damaged tells (c.in_ok-ends.ensures.has tells used) room)

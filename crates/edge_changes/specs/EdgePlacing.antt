@@ -1,0 +1,60 @@
+-- What a new edge writes.
+use Rattle.std.specs.Prelude.{◌≡◌, ◌≢◌, ℕ, ◌<◌, true, false, List, Some}
+use Rattle.plain_graph.specs.Graph.{edge_number, has_edge, has_node, with_row}
+use Rattle.plain_graph.specs.Properties.{no_properties}
+use Rattle.rec_bytes.specs.Format as format
+use Rattle.rec_bytes.specs.Record.{field}
+use Rattle.rec_bytes.specs.Space.{State, meta_of}
+use Rattle.store_rules.specs.Ends.{IsEndHead}
+use Rattle.store_rules.specs.Rules.{Head, first_of}
+use Rattle.store_rules.specs.Views.{Records, RelRow, rec_at, rel_at}
+use Rattle.group_store.specs.Opening.{IsCountedHead}
+use Rattle.change_parts.specs.Store.{IsMidway, KeepsIndexes, graph_in}
+
+-- Groups of nodes are other ones at most, which no graph shows.
+pub record KeepsGraph (s t : State) : Type 0 where
+  pub shape : t.shape ≡ s.shape
+  pub graph : graph_in t ≡ graph_in s
+  pub indexes : KeepsIndexes s t
+  pub metas : (file : ℕ) → file ≢ format.groups_file → meta_of t file ≡ meta_of s file
+
+-- The relationship is the first in the chain of the node where its like stand. A group that the
+-- chain is in has counts.
+pub record IsFirstAt (records : Records) (id node : ℕ) (row : RelRow) : Type 0 where
+  pub head : Head
+  pub end : IsEndHead records head node row
+  pub first : first_of records head ≡ id
+  pub counted : IsCountedHead records head
+
+-- The relationship leaves one node for another, and is the first in a chain of each. A loop is in
+-- one chain, by the links of its source, and those of its target are none.
+pub record IsFirst (records : Records) (id from to : ℕ) : Type 0 where
+  pub row : RelRow
+  pub there : rel_at records id ≡ Some row
+  pub from_is : row.from ≡ from
+  pub to_is : row.to ≡ to
+  pub source : IsFirstAt records id from row
+  pub target : IsFirstAt records id to row
+  pub previous : from ≡ to → field 4 (rec_at records format.relationships_file id)
+      format.relationship_target_previous ≡ format.nil
+  pub next : from ≡ to → field 4 (rec_at records format.relationships_file id)
+      format.relationship_target_next ≡ format.nil
+
+-- The store has one more edge, of this type, without properties.
+pub record PutsEdge (s t : State) (names : List (List ℕ)) (from : ℕ) (label : List ℕ) (to id : ℕ)
+    : Type 0 where
+  pub store : IsMidway t names
+  pub keeps : KeepsIndexes s t
+  pub indexes : (graph_in t).indexes ≡ (graph_in s).indexes
+  pub leaves : has_node (graph_in s) from ≡ true
+  pub enters : has_node (graph_in s) to ≡ true
+  pub below : id < s.shape.limit
+  pub fresh : has_edge (graph_in s) id ≡ false
+  pub nodes : (graph_in t).nodes ≡ (graph_in s).nodes
+  pub edges : (graph_in t).edges
+      ≡ with_row edge_number
+      (record { id = id; label = label; from = from; to = to; properties = no_properties })
+      (graph_in s).edges
+  pub first : IsFirst t.records id from to
+  pub metas : (file : ℕ) → file ≢ format.relationships_file → file ≢ format.groups_file
+      → meta_of t file ≡ meta_of s file

@@ -1,0 +1,6 @@
+pub mod EdgeAdding
+pub mod EdgeDeleting
+pub mod EdgeEnds
+pub mod EdgeJoining
+pub mod EdgeOpening
+pub mod EdgePlacing

@@ -1,0 +1,4 @@
+pub mod Entries
+pub mod Indexing
+pub mod NodeAdding
+pub mod NodeDeleting

@@ -1,0 +1,42 @@
+-- A node that is deleted.
+use Rattle.std.specs.Prelude.{◌≡◌, ◌≢◌, ◌⊎◌, ℕ, None}
+use Rattle.rec_bytes.specs.Format as format
+use Rattle.rec_bytes.specs.Space.{State}
+use Rattle.store_rules.specs.Views.{kind_at}
+use Rattle.node_store.specs.Loading.{row_at}
+use Rattle.change_parts.specs.Damage.{IsAsFound, IsBroken, IsEntryDamage}
+use Rattle.node_changes.specs.Entries.{HasIndexes}
+use Rattle.change_parts.specs.declared.change_fault.ChangeFault.{ChangeFault}
+use Rattle.change_parts.specs.declared.change_fault.ChangeFault.TheVariants.{NoNode, NoEdge}
+use Rattle.change_parts.specs.declared.change_fault.ChangeFault.TheVariants.{HasRelationships, Full}
+use Rattle.change_parts.specs.declared.change_fault.ChangeFault.TheVariants.{IndexThere}
+use Rattle.change_parts.specs.declared.change_fault.ChangeFault.TheVariants.{TooManyIndexes}
+use Rattle.change_parts.specs.declared.change_fault.ChangeFault.TheVariants.{IndexTooLarge}
+use Rattle.change_parts.specs.declared.change_fault.ChangeFault.TheVariants.{NamesFull, PropsFull}
+use Rattle.change_parts.specs.declared.change_fault.ChangeFault.TheVariants.{Memory, Disk, Damaged}
+use Rattle.change_parts.specs.Degrees.{HasDegree}
+
+-- Other nodes are sparse still, or dense.
+abbrev pub KeepsOtherKinds : State → State → ℕ → Type 0
+KeepsOtherKinds s t id =
+    (n : ℕ) → n ≢ id
+    → kind_at t.records format.nodes_file n ≡ kind_at s.records format.nodes_file n
+
+-- Why a node of any records isn't deleted, by what was read of them. Or an entry is changed: a
+-- record of the indexes is told by the space as it is left, and it is as it was found, unless there
+-- are two indexes or more.
+abbrev pub IsDeleteCause : State → State → ℕ → ChangeFault → Type 0
+IsDeleteCause s t id (NoNode missing) = (missing ≡ id) × (row_at s.records id ≡ None)
+IsDeleteCause s t id (NoEdge missing) = ⊥
+IsDeleteCause s t id (HasRelationships of degree) =
+    (of ≡ id) × HasDegree s.records id degree × (degree ≢ 0)
+IsDeleteCause s t id IndexThere = ⊥
+IsDeleteCause s t id TooManyIndexes = ⊥
+IsDeleteCause s t id (IndexTooLarge count) = ⊥
+IsDeleteCause s t id (Full file live) = ⊥
+IsDeleteCause s t id (NamesFull count) = ⊥
+IsDeleteCause s t id (PropsFull count) = ⊥
+IsDeleteCause s t id Memory = Unit {0}
+IsDeleteCause s t id Disk = Unit {0}
+IsDeleteCause s t id (Damaged damage) = IsBroken s damage
+    ⊎ (IsEntryDamage t damage × (IsAsFound s t damage ⊎ HasIndexes s.records))
