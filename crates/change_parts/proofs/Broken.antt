@@ -80,6 +80,22 @@ blames_more told more then Memory blames = tt
 blames_more told more then Disk blames = tt
 blames_more told more then (Damaged damage) blames = then damage blames
 
+-- what is so of it in two ways
+pub blames_both : (one other : Damage → Type 0) (fault : ChangeFault) → IfBlames one fault → IfBlames other fault
+    → IfBlames (λ damage. one damage × other damage) fault
+blames_both one other (NoNode id) a b = tt
+blames_both one other (NoEdge id) a b = tt
+blames_both one other (HasRelationships id degree) a b = tt
+blames_both one other IndexThere a b = tt
+blames_both one other TooManyIndexes a b = tt
+blames_both one other (IndexTooLarge count) a b = tt
+blames_both one other (Full file live) a b = tt
+blames_both one other (NamesFull count) a b = tt
+blames_both one other (PropsFull count) a b = tt
+blames_both one other Memory a b = tt
+blames_both one other Disk a b = tt
+blames_both one other (Damaged damage) a b = (a, b)
+
 -- ---- in the space as a call left it
 
 -- where nothing was written before

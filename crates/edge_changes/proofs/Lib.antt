@@ -5,6 +5,7 @@ pub mod EdgeBlames
 pub mod EdgeClosed
 pub mod EdgeCuts
 pub mod EdgeDrops
+pub mod EdgeFound
 pub mod EdgeFrames
 pub mod EdgeJoined
 pub mod EdgeLists

@@ -1,14 +1,17 @@
 -- An edge that is added.
 use Rattle.std.specs.Prelude.{◌≡◌, ◌⊎◌, ℕ, ◌+◌, ◌*◌, nat_eq, if◌then◌else◌, length}
+use Rattle.rec_bytes.specs.declared.damage.Damage.{Damage}
 use Rattle.rec_bytes.specs.Format as format
 use Rattle.rec_bytes.specs.Key.{IsKey}
 use Rattle.rec_bytes.specs.Space.{State}
 use Rattle.store_rules.specs.Views.{Records, key_in}
 use Rattle.group_store.specs.Densing.{IsSparse}
 use Rattle.group_store.specs.GroupChain.{IsDense}
+use Rattle.change_parts.specs.Damage.{IfBlames, IsAsFound, IsBroken, IsLinkingDamage}
 use Rattle.edge_changes.specs.EdgeEnds.{AreApart, source_of, target_of}
 use Rattle.change_parts.specs.Degrees.{HasDegree}
 use Rattle.change_parts.specs.Store.{graph_in}
+use Rattle.change_parts.specs.declared.change_fault.ChangeFault.{ChangeFault}
 use Rattle.edge_changes.specs.declared.edge_end.EndDegree.{EndDegree}
 use Rattle.edge_changes.specs.declared.edge_end.Ends.{Ends}
 
@@ -47,3 +50,37 @@ IsUsedNode s node = IsDense s.records node ⊎ IsSparse s.records node
 
 abbrev pub IsUsedEnd : State → EndDegree → Type 0
 IsUsedEnd s end = IsUsedNode s end.node
+
+-- ---- which record is blamed
+
+-- the record is one of the file, or the file's meta record
+abbrev pub IsOfFile : ℕ → Damage → Type 0
+IsOfFile file damage =
+    (damage.file ≡ file) ⊎ ((damage.file ≡ format.meta_file) × (damage.id ≡ file))
+
+-- It is one of those that the chains of an edge between two nodes are made of: a relationship, a
+-- group, the meta record of one of these files, or one of the nodes.
+abbrev pub IsOfChains : ℕ → ℕ → Damage → Type 0
+IsOfChains from to damage =
+    IsOfFile format.relationships_file damage
+    ⊎ (IsOfFile format.groups_file damage
+    ⊎ ((damage.file ≡ format.nodes_file) × ((damage.id ≡ from) ⊎ (damage.id ≡ to))))
+
+-- every other record is as it was
+abbrev pub KeepsButChains : State → State → ℕ → ℕ → Type 0
+KeepsButChains s t from to =
+    (damage : Damage) → IsAsFound s t damage ⊎ IsOfChains from to damage
+
+-- one that is blamed is as it was found, or one of those
+abbrev pub BlamesChains : State → State → ℕ → ℕ → ChangeFault → Type 0
+BlamesChains s t from to fault =
+    IfBlames (λ damage. IsAsFound s t damage ⊎ IsOfChains from to damage) fault
+
+-- A record that is blamed where an edge is added breaks a rule in the space as it was. Or it does
+-- so in the space as it is left, and is as it was found, but for those that an edge writes before
+-- its properties: names, and what its chains are made of.
+abbrev pub BlamesAdded : State → State → ℕ → ℕ → ChangeFault → Type 0
+BlamesAdded s t from to fault =
+    IfBlames (λ damage. IsBroken s damage
+    ⊎ (IsLinkingDamage t damage × (IsAsFound s t damage
+    ⊎ (IsOfFile format.names_file damage ⊎ IsOfChains from to damage)))) fault

@@ -14,8 +14,7 @@ ghost use Rattle.store_rules.specs.Writes.{WritesAtMost};
 ghost use Rattle.change_parts.specs.Causes.{IsCaused, IsStillCaused};
 ghost use Rattle.change_parts.specs.Change.{IsCounted, IsRefusal, MakesChange};
 ghost use Rattle.change_parts.specs.ChangeFault.{HasChangeCause, LeavesSpace};
-ghost use Rattle.change_parts.specs.Damage.{BlamesLinking};
-ghost use Rattle.edge_changes.specs.EdgeAdding.{IsFullOfEdges};
+ghost use Rattle.edge_changes.specs.EdgeAdding.{BlamesAdded, IsFullOfEdges};
 ghost use Rattle.edge_changes.specs.EdgeAdding.{degree_weight, degrees_weight};
 ghost use Rattle.edge_changes.specs.EdgeAdding.{HasEndDegree, IsNodeEnd, IsUsedEnd, LeadFrom};
 ghost use Rattle.edge_changes.specs.EdgeEnds.{AtEach};
@@ -55,7 +54,8 @@ pub fn add_edge<S: Space>(
     ensures still { S.tells → IfErr result (IsStillCaused
         (commands.Edge from label.now to pairs.now) (S.state space.new)
         names.old.names names.new.names) }
-    ensures damaged { S.tells → IfErr result (BlamesLinking (S.state space.new)) }
+    ensures damaged { S.tells → IfErr result
+        (BlamesAdded (S.state space.old) (S.state space.new) from to) }
     ensures counts { S.tells → IsStore (S.state space.old) names.old.names
         → IfErr result (IsCounted (S.state space.old)) }
     ensures full { IsStore (S.state space.old) names.old.names

@@ -19,6 +19,7 @@ ghost use Rattle.change_parts.specs.ChangeFault.{HasChangeCause, IsFailure, IsOu
 ghost use Rattle.change_parts.specs.Damage.{BlamesBroken};
 ghost use Rattle.edge_changes.specs.EdgeEnds.{AreEdgeEnds, AtEach, HasHead, IsEdgeEnd, source_of};
 ghost use Rattle.edge_changes.specs.EdgeEnds.{target_of};
+ghost use Rattle.edge_changes.specs.EdgeAdding.{BlamesChains, KeepsButChains};
 ghost use Rattle.edge_changes.specs.EdgeJoining.{AreRightFirsts, CanJoin, HasPlaced, WritesJoined};
 ghost use Rattle.edge_changes.specs.EdgeJoining.{end_joined, ends_joined, joined_keys, new_row};
 ghost use Rattle.edge_changes.specs.EdgePlacing.{PutsEdge};
@@ -51,6 +52,12 @@ pub(crate) fn join_edge<S: Space>(
     ensures damaged { S.tells → AtEach (HasHead (S.state space.old).records) ends
         → HasRoom (S.state space.old) relationships_file 1
         → IfErr result (BlamesBroken (S.state space.new)) }
+    ensures leaves { S.tells → AtEach (HasHead (S.state space.old).records) ends
+        → OnOk result (KeepsButChains (S.state space.old) (S.state space.new)
+        (source_of ends).node (target_of ends).node) }
+    ensures found { S.tells → AtEach (HasHead (S.state space.old).records) ends
+        → IfErr result (BlamesChains (S.state space.old) (S.state space.new)
+        (source_of ends).node (target_of ends).node) }
     ensures key { IfOk result (λ id. IsKey (key_in relationships_file id)) }
     ensures writes { IfOk result (λ id.
         WritesJoined (S.state space.old) (S.state space.new) id ends) }
@@ -75,6 +82,10 @@ fn place<S: Space>(space: &mut S, label: u32, from: u32, to: u32) -> Result<u32,
         → HasRoom (S.state space.old) relationships_file 1 → IfErr result IsOutside }
     ensures damaged { S.tells → HasRoom (S.state space.old) relationships_file 1
         → IfErr result (BlamesBroken (S.state space.new)) }
+    ensures leaves { S.tells
+        → OnOk result (KeepsButChains (S.state space.old) (S.state space.new) from to) }
+    ensures found { S.tells
+        → IfErr result (BlamesChains (S.state space.old) (S.state space.new) from to) }
     ensures heads { S.tells
         → OnOk result (KeepsHeads (S.state space.old) (S.state space.new)) }
     ensures key { IfOk result (λ id. IsKey (key_in relationships_file id)) }
@@ -158,6 +169,12 @@ fn join_ends<S: Space>(space: &mut S, rel: u32, ends: Ends<EdgeEnd>) -> Result<(
         → AreRightFirsts (S.state space.old) ends rel → IfErr result IsOutside }
     ensures damaged { S.tells → AtEach (HasHead (S.state space.old).records) ends
         → IfErr result (BlamesBroken (S.state space.new)) }
+    ensures leaves { S.tells → AtEach (HasHead (S.state space.old).records) ends
+        → OnOk result (KeepsButChains (S.state space.old) (S.state space.new)
+        (source_of ends).node (target_of ends).node) }
+    ensures found { S.tells → AtEach (HasHead (S.state space.old).records) ends
+        → IfErr result (BlamesChains (S.state space.old) (S.state space.new)
+        (source_of ends).node (target_of ends).node) }
     ensures writes { WritesJoined (S.state space.old) (S.state space.new) rel ends }
     ensures failure { IfErr result IsFailure }
     ensures onward { S.onward space.old space.new }
@@ -184,6 +201,11 @@ fn join_end<S: Space>(space: &mut S, rel: u32, end: EdgeEnd) -> Result<(), Chang
         → IfErr result IsOutside }
     ensures damaged { S.tells → HasHead (S.state space.old).records end
         → IfErr result (BlamesBroken (S.state space.new)) }
+    ensures leaves { S.tells → HasHead (S.state space.old).records end
+        → OnOk result
+        (KeepsButChains (S.state space.old) (S.state space.new) end.node end.node) }
+    ensures found { S.tells → IfErr result
+        (BlamesChains (S.state space.old) (S.state space.new) end.node end.node) }
     ensures heads { S.tells → HasHead (S.state space.old).records end
         → OnOk result (KeepsHeads (S.state space.old) (S.state space.new)) }
     ensures writes { (first : ℕ) × WritesOnly (S.state space.old) (S.state space.new)

@@ -7,6 +7,7 @@ ghost use Rattle.group_store.specs.Opening.{CanOpen, HasGroupRoom, OpensChain, W
 ghost use Rattle.group_store.specs.Opening.{moved_writes};
 ghost use Rattle.change_parts.specs.ChangeFault.{HasChangeCause, IsFailure, IsOutside};
 ghost use Rattle.change_parts.specs.Damage.{BlamesLinking};
+ghost use Rattle.edge_changes.specs.EdgeAdding.{BlamesChains, KeepsButChains};
 ghost use Rattle.edge_changes.specs.EdgeAdding.{IsNodeEnd, IsUsedEnd, IsUsedNode};
 ghost use Rattle.edge_changes.specs.EdgeEnds.{AreEdgeEnds, AtEach, HasHead, IsEdgeEnd, source_of, target_of};
 ghost use Rattle.edge_changes.specs.EdgeOpening.{CanLink, IsJoint, OpensEnds, WritesEndsOpened};
@@ -39,6 +40,10 @@ pub(crate) fn open_ends<S: Space>(space: &mut S, joint: Joint) -> Result<Ends<Ed
     ensures beside { S.tells
         → OnOk result ((S.state space.new).records (meta_key_of relationships_file)
         ≡ (S.state space.old).records (meta_key_of relationships_file)) }
+    ensures leaves { S.tells → OnOk result
+        (KeepsButChains (S.state space.old) (S.state space.new) (from_of joint) (to_of joint)) }
+    ensures found { S.tells → IfErr result
+        (BlamesChains (S.state space.old) (S.state space.new) (from_of joint) (to_of joint)) }
     ensures has { S.tells → AtEach (IsUsedEnd (S.state space.old)) joint.ends
         → IfOk result (AtEach (HasHead (S.state space.new).records)) }
     ensures nodes { IfOk result (λ ends. ((source_of ends).node ≡ from_of joint)
@@ -90,6 +95,10 @@ fn open_end<S: Space>(
         → IfErr result (BlamesLinking (S.state space.new)) }
     ensures beside { S.tells → OnOk result (LeavesBeside (S.state space.old).records
         (S.state space.new).records end.node) }
+    ensures leaves { S.tells → OnOk result
+        (KeepsButChains (S.state space.old) (S.state space.new) end.node end.node) }
+    ensures found { S.tells → IfErr result
+        (BlamesChains (S.state space.old) (S.state space.new) end.node end.node) }
     ensures has { S.tells → IsUsedNode (S.state space.old) end.node
         → IfOk result (HasHead (S.state space.new).records) }
     ensures heads { S.tells

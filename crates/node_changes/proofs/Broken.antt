@@ -4,7 +4,6 @@ use Rattle.std.specs.List.{list_any}
 use Rattle.std.proofs.Common.{◌⊎◌, ℕ, nat_eq, Bool, true, false, cond, List, length, sym, subst, inl, inr, refl}
 use Rattle.plain_graph.specs.declared.command.Target.{Target}
 use Rattle.plain_graph.specs.declared.command.Target.TheVariants as targets
-use Rattle.rec_bytes.specs.declared.damage.Damage.{Damage}
 use Rattle.rec_bytes.specs.declared.fault.Fault.{Fault}
 use Rattle.rec_bytes.specs.declared.fault.Fault.TheVariants as faults
 use Rattle.rec_bytes.specs.declared.row_fault.RowFault.{RowFault}
@@ -86,22 +85,6 @@ entry_cause s t id (PropsFull count) fails told = absurd fails
 entry_cause s t id Memory fails told = tt
 entry_cause s t id Disk fails told = tt
 entry_cause s t id (Damaged damage) fails told = inr told
-
--- what is so of it in two ways
-pub blames_both : (one other : Damage → Type 0) (fault : ChangeFault) → IfBlames one fault → IfBlames other fault
-    → IfBlames (λ damage. one damage × other damage) fault
-blames_both one other (NoNode id) a b = tt
-blames_both one other (NoEdge id) a b = tt
-blames_both one other (HasRelationships id degree) a b = tt
-blames_both one other IndexThere a b = tt
-blames_both one other TooManyIndexes a b = tt
-blames_both one other (IndexTooLarge count) a b = tt
-blames_both one other (Full file live) a b = tt
-blames_both one other (NamesFull count) a b = tt
-blames_both one other (PropsFull count) a b = tt
-blames_both one other Memory a b = tt
-blames_both one other Disk a b = tt
-blames_both one other (Damaged damage) a b = (a, b)
 
 pub key_blamed : (s named t : State) (had : Type 0) (fault : InternFault) → BlamesGiven s named t had (of_intern fault)
 key_blamed s named t had (interns.NamesFull count) = tt

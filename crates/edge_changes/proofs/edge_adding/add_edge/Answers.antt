@@ -14,8 +14,8 @@ use Rattle.prop_store.specs.declared.owner.Owner.{Owner}
 use Rattle.change_parts.specs.Assigning.{CanPut, HasPropertyRoom, IsPutCause, PutsPairs, assigned_blocks, pairs_of}
 use Rattle.change_parts.specs.Change.{IsCounted, IsRefusal, MakesChange}
 use Rattle.change_parts.specs.ChangeFault.{IsOutside, LeavesSpace}
-use Rattle.change_parts.specs.Damage.{BlamesLinking, IsLinkingDamage}
-use Rattle.edge_changes.specs.EdgeAdding.{HasEndDegree, IsFullOfEdges, IsUsedEnd, degrees_weight}
+use Rattle.change_parts.specs.Damage.{BlamesLinking, IsLinkingDamage, KeepsButNames}
+use Rattle.edge_changes.specs.EdgeAdding.{BlamesAdded, BlamesChains, HasEndDegree, IsFullOfEdges, IsUsedEnd, KeepsButChains, degrees_weight}
 use Rattle.edge_changes.specs.EdgeEnds.{AtEach, source_of, target_of}
 use Rattle.edge_changes.specs.EdgePlacing.{PutsEdge}
 use Rattle.change_parts.specs.Degrees.{HasDegree}
@@ -38,8 +38,9 @@ use Rattle.change_parts.specs.Causes.{IsCaused, IsStillCaused}
 use Rattle.change_parts.proofs.Causes.{absent_caused, broken_left, caused_left, caused_read, failure_caused, line_edge, no_edge, node_of, put_caused, room_caused}
 use Rattle.change_parts.proofs.DiskCauses.{change_cause_passed, later_on, room_refusal_cause}
 use Rattle.change_parts.specs.Damage.{IsBroken}
-use Rattle.change_parts.proofs.Adding.{line_blamed, room_blamed}
+use Rattle.change_parts.proofs.Adding.{line_blamed, names_harm_no_lists, no_lists_then, room_blamed}
 use Rattle.change_parts.proofs.Broken.{blames_more}
+use Rattle.edge_changes.proofs.EdgeFound.{broken_added, chains_added, chains_harm_no_lists, lists_added, read_names}
 use Rattle.edge_changes.proofs.JoinBlames.{absent_blamed, room_beyond, used_beyond, used_read}
 use Rattle.rec_bytes.proofs.Causes.{never_ok, ok_cause}
 use Rattle.edge_changes.proofs.edge_adding.add_edge.Goals as goal
@@ -476,21 +477,28 @@ ends_blamed g c tells =
 
 pub returns-in_err-ends-clause-damaged : goal.returns-in_err-ends-clause-damaged
 returns-in_err-ends-clause-damaged g c tells =
+    let s = g.S.Reads.state c.args.space.now in
     let n = g.S.Reads.state c.end_degrees.new.space in
-    fault_exit (λ f. f) (BlamesLinking n) c.in_err-ends.field-0.0 c.from_residual.result c.from_residual.ensures.1
-    (ends_blamed g (goal.at.returns-in_err-ends-clause-damaged g c).In_err-ends tells)
+    let fault = c.in_err-ends.field-0.0 in
+    fault_exit (λ f. f) (BlamesAdded s n c.args.from c.args.to) fault c.from_residual.result c.from_residual.ensures.1
+    (broken_added s n c.args.from c.args.to fault
+    (⊎_elim (absent_blamed s (targets.Node c.args.from) fault) (absent_blamed s (targets.Node c.args.to) fault) (c.in_err-ends.ensures.absent tells)))
 
 pub returns-in_err-test_room-clause-damaged : goal.returns-in_err-test_room-clause-damaged
 returns-in_err-test_room-clause-damaged g c tells =
+    let s = g.S.Reads.state c.args.space.now in
     let n = g.S.Reads.state c.end_degrees.new.space in
-    fault_exit (λ f. f) (BlamesLinking n) c.in_err-test_room.field-0.0 c.from_residual-in_err-test_room.result c.from_residual-in_err-test_room.ensures.1
+    fault_exit (λ f. f) (BlamesAdded s n c.args.from c.args.to) c.in_err-test_room.field-0.0 c.from_residual-in_err-test_room.result
+    c.from_residual-in_err-test_room.ensures.1
     (room_blamed _ n format.relationships_file 1 c.in_err-test_room.field-0.0 c.in_err-test_room.ensures.full)
 
 pub returns-in_err-prepared-clause-damaged : goal.returns-in_err-prepared-clause-damaged
 returns-in_err-prepared-clause-damaged g c tells =
+    let s = g.S.Reads.state c.args.space.now in
     let n = g.S.Reads.state c.end_degrees.new.space in
     let u = g.S.Reads.state c.prepare.new.space in
-    fault_exit (λ f. f) (BlamesLinking u) c.in_err-prepared.field-0.0 c.from_residual-in_err-prepared.result c.from_residual-in_err-prepared.ensures.1
+    fault_exit (λ f. f) (BlamesAdded s u c.args.from c.args.to) c.in_err-prepared.field-0.0 c.from_residual-in_err-prepared.result
+    c.from_residual-in_err-prepared.ensures.1
     (line_blamed _ n c.args.names.now.names c.args.label.now c.as_slice-pairs.result.now c.in_err-prepared.field-0.0 (c.in_err-prepared.ensures.caused tells))
 
 -- in the chains
@@ -507,18 +515,52 @@ put_blamed g c tells =
     let limit = ap (λ (h : Shape). h.threshold) (c.shape-threshold.ensures.is ∙ sym (g.met.S.Reads.onward_shape _ _ c.prepare.ensures.onward)) in
     c.in_err-id.ensures.damaged tells used limit (room_beyond n u keeps (g.met.S.Reads.onward_shape _ _ c.prepare.ensures.onward) c.in_ok-test_room.ensures.room)
 
+-- the ends are in use where the chains are looked for
+used_then : (g : Over) (c : In_ok-prepared g) → g.S.Reads.tells → AtEach (IsUsedEnd (g.S.Reads.state c.prepare.new.space)) c.in_ok-ends.ends
+used_then g c tells =
+    let s = g.S.Reads.state c.args.space.now in
+    let n = g.S.Reads.state c.end_degrees.new.space in
+    let u = g.S.Reads.state c.prepare.new.space in
+    at_more (IsUsedEnd s) (IsUsedEnd u) c.in_ok-ends.ends
+    (λ end is. used_beyond n u (c.in_ok-prepared.ensures.stays tells) end.node (used_read s n end.node c.end_degrees.ensures.state is))
+    (c.in_ok-ends.ensures.used tells)
+
+-- names are all that was written by then
+names_then : (g : Over) (c : In_ok-prepared g) → g.S.Reads.tells → KeepsButNames (g.S.Reads.state c.args.space.now) (g.S.Reads.state c.prepare.new.space)
+names_then g c tells =
+    let s = g.S.Reads.state c.args.space.now in
+    let u = g.S.Reads.state c.prepare.new.space in
+    read_names s (g.S.Reads.state c.end_degrees.new.space) u c.end_degrees.ensures.state (c.in_ok-prepared.ensures.stays tells)
+
 pub returns-in_err-id-clause-damaged : goal.returns-in_err-id-clause-damaged
 returns-in_err-id-clause-damaged g c tells =
-    fault_exit (λ f. f) (BlamesLinking (g.S.Reads.state c.put_edge.new.space)) c.in_err-id.field-0.0 c.from_residual-in_err-id.result
-    c.from_residual-in_err-id.ensures.1
-    (put_blamed g (goal.at.returns-in_err-id-clause-damaged g c).In_err-id tells)
+    let at = goal.at.returns-in_err-id-clause-damaged g c in
+    let s = g.S.Reads.state c.args.space.now in
+    let u = g.S.Reads.state c.prepare.new.space in
+    let v = g.S.Reads.state c.put_edge.new.space in
+    let fault = c.in_err-id.field-0.0 in
+    let found = at_nodes (λ from to. BlamesChains u v from to fault) c.in_ok-ends.ends c.args.from c.args.to c.in_ok-ends.ensures.ends
+    (c.in_err-id.ensures.found tells (used_then g at.In_ok-prepared tells)) in
+    fault_exit (λ f. f) (BlamesAdded s v c.args.from c.args.to) fault c.from_residual-in_err-id.result c.from_residual-in_err-id.ensures.1
+    (chains_added s u v c.args.from c.args.to (names_then g at.In_ok-prepared tells) fault (put_blamed g at.In_err-id tells) found)
 
 pub returns-in_err-put_properties-clause-damaged : goal.returns-in_err-put_properties-clause-damaged
 returns-in_err-put_properties-clause-damaged g c tells =
+    let at = goal.at.returns-in_err-put_properties-clause-damaged g c in
+    let s = g.S.Reads.state c.args.space.now in
+    let n = g.S.Reads.state c.end_degrees.new.space in
+    let u = g.S.Reads.state c.prepare.new.space in
+    let v = g.S.Reads.state c.put_edge.new.space in
     let w = g.S.Reads.state c.put_properties.new.space in
     let fault = c.in_err-put_properties.field-0.0 in
-    fault_exit (λ f. f) (BlamesLinking w) fault c.from_residual-in_err-put_properties.result c.from_residual-in_err-put_properties.ensures.1
-    (blames_more (IsBroken w) (IsLinkingDamage w) (λ damage broken. inl broken) fault (c.in_err-put_properties.ensures.still tells))
+    let keeps = at_nodes (λ from to. KeepsButChains u v from to) c.in_ok-ends.ends c.args.from c.args.to c.in_ok-ends.ensures.ends
+    (c.in_ok-id.ensures.leaves tells (used_then g at.In_ok-prepared tells)) in
+    let named = g.met.S.Reads.onward_shape _ _ c.prepare.ensures.onward ∙ ap (λ (z : State). z.shape) c.end_degrees.ensures.state in
+    let harmless = no_lists_then s u v (names_harm_no_lists s u named (names_then g at.In_ok-prepared tells))
+    (chains_harm_no_lists u v c.args.from c.args.to (g.met.S.Reads.onward_shape _ _ c.put_edge.ensures.onward) keeps) in
+    fault_exit (λ f. f) (BlamesAdded s w c.args.from c.args.to) fault c.from_residual-in_err-put_properties.result
+    c.from_residual-in_err-put_properties.ensures.1
+    (lists_added s v w c.args.from c.args.to harmless fault (c.in_err-put_properties.ensures.damaged tells))
 
 -- ---- and by the space as it is left alone
 

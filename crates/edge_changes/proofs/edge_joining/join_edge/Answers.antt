@@ -11,6 +11,9 @@ use Rattle.chain_edit.specs.Heads.{head_of}
 use Rattle.change_parts.specs.Damage.{BlamesBroken}
 use Rattle.edge_changes.proofs.EndLaws.{at_more}
 use Rattle.rec_bytes.proofs.Causes.{never_ok, ok_cause}
+use Rattle.edge_changes.specs.EdgeAdding.{BlamesChains, KeepsButChains}
+use Rattle.edge_changes.specs.EdgeEnds.{source_of, target_of}
+use Rattle.edge_changes.proofs.EdgeFound.{blames_then, found_then}
 use Rattle.edge_changes.proofs.edge_joining.join_edge.Goals as goal
 
 pub returns-in_err-id-clause-sound : goal.returns-in_err-id-clause-sound
@@ -88,3 +91,43 @@ returns-in_err-join_ends-clause-writes g c = never_ok c.from_residual-in_err-joi
 
 pub returns-clause-cause : goal.returns-clause-cause
 returns-clause-cause g c = ok_cause _ _ _ _ (later_on c.in_ok-id.ensures.cause.later c.in_ok-join_ends.ensures.cause.later)
+
+-- ---- which records are other
+
+pub returns-clause-leaves : goal.returns-clause-leaves
+returns-clause-leaves g c tells heads =
+    let s = g.S.Reads.state c.args.space.now in
+    let t = g.S.Reads.state c.place.new.space in
+    let u = g.S.Reads.state c.join_ends.new.space in
+    let from = (source_of c.args.ends).node in
+    let to = (target_of c.args.ends).node in
+    let has = at_more (HasHead s.records) (HasHead t.records) c.args.ends (λ end. c.in_ok-id.ensures.heads tells (head_of end.head) end.node) heads in
+    let one = subst (λ (p : ℕ × ℕ). KeepsButChains s t p.0 p.1) c.nodes-from.ensures (c.in_ok-id.ensures.leaves tells) in
+    found_then s t u from to one (c.in_ok-join_ends.ensures.leaves tells has)
+
+pub returns-in_err-id-clause-leaves : goal.returns-in_err-id-clause-leaves
+returns-in_err-id-clause-leaves g c _ _ = never_ok c.from_residual.result _ _ c.from_residual.ensures.1
+
+pub returns-in_err-join_ends-clause-leaves : goal.returns-in_err-join_ends-clause-leaves
+returns-in_err-join_ends-clause-leaves g c _ _ = never_ok c.from_residual-in_err-join_ends.result _ _ c.from_residual-in_err-join_ends.ensures.1
+
+pub returns-in_err-id-clause-found : goal.returns-in_err-id-clause-found
+returns-in_err-id-clause-found g c tells heads =
+    let s = g.S.Reads.state c.args.space.now in
+    let t = g.S.Reads.state c.place.new.space in
+    let fault = c.in_err-id.field-0.0 in
+    fault_exit (λ f. f) (BlamesChains s t (source_of c.args.ends).node (target_of c.args.ends).node) fault c.from_residual.result c.from_residual.ensures.1
+    (subst (λ (p : ℕ × ℕ). BlamesChains s t p.0 p.1 fault) c.nodes-from.ensures (c.in_err-id.ensures.found tells))
+
+pub returns-in_err-join_ends-clause-found : goal.returns-in_err-join_ends-clause-found
+returns-in_err-join_ends-clause-found g c tells heads =
+    let s = g.S.Reads.state c.args.space.now in
+    let t = g.S.Reads.state c.place.new.space in
+    let u = g.S.Reads.state c.join_ends.new.space in
+    let from = (source_of c.args.ends).node in
+    let to = (target_of c.args.ends).node in
+    let has = at_more (HasHead s.records) (HasHead t.records) c.args.ends (λ end. c.in_ok-id.ensures.heads tells (head_of end.head) end.node) heads in
+    let one = subst (λ (p : ℕ × ℕ). KeepsButChains s t p.0 p.1) c.nodes-from.ensures (c.in_ok-id.ensures.leaves tells) in
+    let fault = c.in_err-join_ends.field-0.0 in
+    fault_exit (λ f. f) (BlamesChains s u from to) fault c.from_residual-in_err-join_ends.result c.from_residual-in_err-join_ends.ensures.1
+    (blames_then s t u from to one fault (c.in_err-join_ends.ensures.found tells has))

@@ -9,6 +9,8 @@ use Rattle.edge_changes.proofs.EdgeBlames.{heads_joined_by}
 use Rattle.change_parts.proofs.Adding.{space_blamed}
 use Rattle.edge_changes.proofs.JoinBlames.{push_blamed}
 use Rattle.rec_bytes.proofs.Causes.{never_ok, ok_cause}
+use Rattle.edge_changes.specs.EdgeAdding.{BlamesChains}
+use Rattle.edge_changes.proofs.EdgeFound.{found_joined_by, push_blames}
 use Rattle.edge_changes.proofs.edge_joining.join_end.Goals as goal
 
 pub returns-clause-writes : goal.returns-clause-writes
@@ -69,3 +71,33 @@ returns-in_err-set_number-clause-heads g c _ _ = never_ok c.from_residual-in_err
 
 pub returns-clause-cause : goal.returns-clause-cause
 returns-clause-cause g c = ok_cause _ _ _ _ (later_on c.in_ok-push_counted.ensures.cause.later c.in_ok-set_number.ensures.cause.later)
+
+-- ---- which records are other
+
+pub returns-clause-leaves : goal.returns-clause-leaves
+returns-clause-leaves g c tells owns =
+    found_joined_by (g.S.Reads.state c.args.space.now) (head_of c.args.end.head) c.args.end.node owns c.args.rel _
+    (g.S.Reads.state c.push_counted.new.space) (g.S.Reads.state c.set_number.new.space) (c.in_ok-push_counted.ensures.ok tells)
+    (c.in_ok-set_number.ensures.ok tells)
+
+pub returns-in_err-push_counted-clause-leaves : goal.returns-in_err-push_counted-clause-leaves
+returns-in_err-push_counted-clause-leaves g c _ _ = never_ok c.from_residual.result _ _ c.from_residual.ensures.1
+
+pub returns-in_err-set_number-clause-leaves : goal.returns-in_err-set_number-clause-leaves
+returns-in_err-set_number-clause-leaves g c _ _ = never_ok c.from_residual-in_err-set_number.result _ _ c.from_residual-in_err-set_number.ensures.1
+
+pub returns-in_err-push_counted-clause-found : goal.returns-in_err-push_counted-clause-found
+returns-in_err-push_counted-clause-found g c tells =
+    let s = g.S.Reads.state c.args.space.now in
+    let t = g.S.Reads.state c.push_counted.new.space in
+    let node = c.args.end.node in
+    fault_exit of_fault (BlamesChains s t node node) c.in_err-push_counted.field-0.0 c.from_residual.result c.from_residual.ensures.1
+    (push_blames s t node c.in_err-push_counted.field-0.0 c.in_err-push_counted.ensures.unwritten)
+
+pub returns-in_err-set_number-clause-found : goal.returns-in_err-set_number-clause-found
+returns-in_err-set_number-clause-found g c tells =
+    let s = g.S.Reads.state c.args.space.now in
+    let t = g.S.Reads.state c.set_number.new.space in
+    let node = c.args.end.node in
+    fault_exit of_space (BlamesChains s t node node) c.in_err-set_number.field-0.0 c.from_residual-in_err-set_number.result
+    c.from_residual-in_err-set_number.ensures.1 (space_blamed _ c.in_err-set_number.field-0.0)

@@ -18,6 +18,8 @@ use Rattle.edge_changes.proofs.EdgeBlames.{heads_given}
 use Rattle.edge_changes.proofs.JoinBlames.{placed_only}
 use Rattle.change_parts.proofs.Adding.{space_blamed}
 use Rattle.rec_bytes.proofs.Causes.{never_ok, ok_cause}
+use Rattle.edge_changes.specs.EdgeAdding.{BlamesChains}
+use Rattle.edge_changes.proofs.EdgeFound.{blames_kept, found_placed, found_read}
 use Rattle.edge_changes.proofs.edge_joining.place.Goals as goal
 use Rattle.edge_changes.proofs.edge_joining.place.Goals.{After-save, In_ok-id}
 use Rattle.edge_changes.proofs.edge_joining.place.Given.{Over}
@@ -118,3 +120,36 @@ returns-in_err-save-clause-writes g c = never_ok c.from_residual-in_err-save.res
 
 pub returns-clause-cause : goal.returns-clause-cause
 returns-clause-cause g c = ok_cause _ _ _ _ (later_on c.in_ok-id.ensures.cause.later c.in_ok-save.ensures.cause.later)
+
+-- ---- which records are other
+
+pub returns-clause-leaves : goal.returns-clause-leaves
+returns-clause-leaves g c tells =
+    let s = g.S.Reads.state c.args.space.now in
+    let t = g.S.Reads.state c.take_id.new.space in
+    let u = g.S.Reads.state c.save.new.space in
+    let id = c.in_ok-id.id in
+    found_placed s u id c.args.from c.args.to
+    (placed_only s t u id (rel_record (new_row id c.args.label c.args.from c.args.to)) (c.take_id.ensures.stays tells)
+    (c.in_ok-save.ensures.ok ∙ ap (λ (r : RelRow). after_put t (rel_key r.id) (rel_record r)) c.new_row.ensures))
+
+pub returns-in_err-id-clause-leaves : goal.returns-in_err-id-clause-leaves
+returns-in_err-id-clause-leaves g c _ = never_ok c.from_residual.result _ _ c.from_residual.ensures.1
+
+pub returns-in_err-save-clause-leaves : goal.returns-in_err-save-clause-leaves
+returns-in_err-save-clause-leaves g c _ = never_ok c.from_residual-in_err-save.result _ _ c.from_residual-in_err-save.ensures.1
+
+pub returns-in_err-id-clause-found : goal.returns-in_err-id-clause-found
+returns-in_err-id-clause-found g c tells =
+    let s = g.S.Reads.state c.args.space.now in
+    let t = g.S.Reads.state c.take_id.new.space in
+    let fault = c.in_err-id.field-0.0 in
+    fault_exit (λ f. f) (BlamesChains s t c.args.from c.args.to) fault c.from_residual.result c.from_residual.ensures.1
+    (blames_kept s t c.args.from c.args.to (found_read s t c.args.from c.args.to c.in_err-id.ensures.err) fault)
+
+pub returns-in_err-save-clause-found : goal.returns-in_err-save-clause-found
+returns-in_err-save-clause-found g c tells =
+    let s = g.S.Reads.state c.args.space.now in
+    let t = g.S.Reads.state c.save.new.space in
+    fault_exit of_space (BlamesChains s t c.args.from c.args.to) c.in_err-save.field-0.0 c.from_residual-in_err-save.result
+    c.from_residual-in_err-save.ensures.1 (space_blamed _ c.in_err-save.field-0.0)

@@ -4,6 +4,8 @@ use Rattle.change_parts.specs.Damage.{BlamesLinking}
 use Rattle.change_parts.proofs.Exits.{fault_exit}
 use Rattle.edge_changes.proofs.JoinBlames.{end_blamed}
 use Rattle.rec_bytes.proofs.Causes.{never_ok, ok_cause}
+use Rattle.edge_changes.specs.EdgeAdding.{BlamesChains}
+use Rattle.edge_changes.proofs.EdgeFound.{found_beside, open_blames}
 use Rattle.edge_changes.proofs.edge_opening.open_end.Goals as goal
 
 pub returns-in_err-head-clause-damaged : goal.returns-in_err-head-clause-damaged
@@ -47,3 +49,20 @@ returns-in_err-head-clause-onward g c = search rules
 
 pub returns-clause-cause : goal.returns-clause-cause
 returns-clause-cause g c = ok_cause _ _ _ _ c.in_ok-head.ensures.cause.later
+
+-- ---- which records are other
+
+pub returns-clause-leaves : goal.returns-clause-leaves
+returns-clause-leaves g c tells =
+    found_beside (g.S.Reads.state c.args.space.now) (g.S.Reads.state c.open_chain.new.space) c.args.end.node (c.in_ok-head.ensures.beside tells)
+
+pub returns-in_err-head-clause-leaves : goal.returns-in_err-head-clause-leaves
+returns-in_err-head-clause-leaves g c _ = never_ok c.from_residual.result _ _ c.from_residual.ensures.1
+
+pub returns-in_err-head-clause-found : goal.returns-in_err-head-clause-found
+returns-in_err-head-clause-found g c tells =
+    let s = g.S.Reads.state c.args.space.now in
+    let t = g.S.Reads.state c.open_chain.new.space in
+    let node = c.args.end.node in
+    fault_exit of_fault (BlamesChains s t node node) c.in_err-head.field-0.0 c.from_residual.result c.from_residual.ensures.1
+    (open_blames s t node c.in_err-head.field-0.0 (c.in_err-head.ensures.stays tells))

@@ -19,6 +19,13 @@ use Rattle.edge_changes.proofs.EdgeOpening.{out_side, source_can, source_room, t
 use Rattle.change_parts.proofs.Exits.{fault_exit}
 use Rattle.edge_changes.proofs.JoinBlames.{meta_beside, used_beside}
 use Rattle.edge_changes.proofs.OpenWrites.{both_wrote}
+use Rattle.std.proofs.Common.{inl, inr}
+use Rattle.edge_changes.specs.declared.edge_end.Ends.{Ends}
+use Rattle.edge_changes.specs.EdgeEnds.{source_of, target_of}
+use Rattle.edge_changes.specs.EdgeAdding.{BlamesChains}
+use Rattle.edge_changes.specs.EdgeOpening.{from_of, to_of}
+use Rattle.edge_changes.proofs.EdgeFound.{blames_then, end_blames, ends_found, found_then}
+use Rattle.rec_bytes.proofs.Causes.{never_ok}
 use Rattle.edge_changes.proofs.edge_opening.open_ends.Goals as goal
 use Rattle.edge_changes.proofs.edge_opening.open_ends.Goals.{In_ok-first-in-Two}
 use Rattle.edge_changes.proofs.edge_opening.open_ends.Given.{Over}
@@ -214,3 +221,67 @@ returns-in_ok-last-in-Two-clause-has g c tells used =
           (c.in_ok-first-in-Two.ensures.has tells are.0),
       c.in_ok-last-in-Two.ensures.has tells still,
     )
+
+-- ---- which records are other
+
+pub returns-in_ok-only-in-Loop-clause-leaves : goal.returns-in_ok-only-in-Loop-clause-leaves
+returns-in_ok-only-in-Loop-clause-leaves g c tells =
+    let own = sym (ap (λ (e : Ends EndDegree). (source_of e).node) c.in-Loop.is) in
+    ends_found (g.S.Reads.state c.args.space.now) (g.S.Reads.state c.open_end.new.space) (from_of c.args.joint) (to_of c.args.joint) c.in-Loop.end.node (inl own)
+    (c.in_ok-only-in-Loop.ensures.leaves tells)
+
+pub returns-in_ok-last-in-Two-clause-leaves : goal.returns-in_ok-last-in-Two-clause-leaves
+returns-in_ok-last-in-Two-clause-leaves g c tells =
+    let s = g.S.Reads.state c.args.space.now in
+    let m = g.S.Reads.state c.open_end-in-Two.new.space in
+    let t = g.S.Reads.state c.open_end-in-Two-2.new.space in
+    let from = from_of c.args.joint in
+    let to = to_of c.args.joint in
+    let leaves = sym (ap (λ (e : Ends EndDegree). (source_of e).node) c.in-Two.is) in
+    let enters = sym (ap (λ (e : Ends EndDegree). (target_of e).node) c.in-Two.is) in
+    found_then s m t from to (ends_found s m from to c.in-Two.source.node (inl leaves) (c.in_ok-first-in-Two.ensures.leaves tells))
+    (ends_found m t from to c.in-Two.target.node (inr enters) (c.in_ok-last-in-Two.ensures.leaves tells))
+
+pub returns-in_err-only-in-Loop-clause-leaves : goal.returns-in_err-only-in-Loop-clause-leaves
+returns-in_err-only-in-Loop-clause-leaves g c _ = never_ok c.from_residual.result _ _ c.from_residual.ensures.1
+
+pub returns-in_err-first-in-Two-clause-leaves : goal.returns-in_err-first-in-Two-clause-leaves
+returns-in_err-first-in-Two-clause-leaves g c _ = never_ok c.from_residual-in_err-first-in-Two.result _ _ c.from_residual-in_err-first-in-Two.ensures.1
+
+pub returns-in_err-last-in-Two-clause-leaves : goal.returns-in_err-last-in-Two-clause-leaves
+returns-in_err-last-in-Two-clause-leaves g c _ = never_ok c.from_residual-in_err-last-in-Two.result _ _ c.from_residual-in_err-last-in-Two.ensures.1
+
+pub returns-in_err-only-in-Loop-clause-found : goal.returns-in_err-only-in-Loop-clause-found
+returns-in_err-only-in-Loop-clause-found g c tells =
+    let s = g.S.Reads.state c.args.space.now in
+    let t = g.S.Reads.state c.open_end.new.space in
+    let from = from_of c.args.joint in
+    let to = to_of c.args.joint in
+    let own = sym (ap (λ (e : Ends EndDegree). (source_of e).node) c.in-Loop.is) in
+    fault_exit (λ f. f) (BlamesChains s t from to) c.in_err-only-in-Loop.field-0.0 c.from_residual.result c.from_residual.ensures.1
+    (end_blames s t from to c.in-Loop.end.node (inl own) c.in_err-only-in-Loop.field-0.0 (c.in_err-only-in-Loop.ensures.found tells))
+
+pub returns-in_err-first-in-Two-clause-found : goal.returns-in_err-first-in-Two-clause-found
+returns-in_err-first-in-Two-clause-found g c tells =
+    let s = g.S.Reads.state c.args.space.now in
+    let t = g.S.Reads.state c.open_end-in-Two.new.space in
+    let from = from_of c.args.joint in
+    let to = to_of c.args.joint in
+    let leaves = sym (ap (λ (e : Ends EndDegree). (source_of e).node) c.in-Two.is) in
+    fault_exit (λ f. f) (BlamesChains s t from to) c.in_err-first-in-Two.field-0.0 c.from_residual-in_err-first-in-Two.result
+    c.from_residual-in_err-first-in-Two.ensures.1
+    (end_blames s t from to c.in-Two.source.node (inl leaves) c.in_err-first-in-Two.field-0.0 (c.in_err-first-in-Two.ensures.found tells))
+
+pub returns-in_err-last-in-Two-clause-found : goal.returns-in_err-last-in-Two-clause-found
+returns-in_err-last-in-Two-clause-found g c tells =
+    let s = g.S.Reads.state c.args.space.now in
+    let m = g.S.Reads.state c.open_end-in-Two.new.space in
+    let t = g.S.Reads.state c.open_end-in-Two-2.new.space in
+    let from = from_of c.args.joint in
+    let to = to_of c.args.joint in
+    let leaves = sym (ap (λ (e : Ends EndDegree). (source_of e).node) c.in-Two.is) in
+    let enters = sym (ap (λ (e : Ends EndDegree). (target_of e).node) c.in-Two.is) in
+    let fault = c.in_err-last-in-Two.field-0.0 in
+    fault_exit (λ f. f) (BlamesChains s t from to) fault c.from_residual-in_err-last-in-Two.result c.from_residual-in_err-last-in-Two.ensures.1
+    (blames_then s m t from to (ends_found s m from to c.in-Two.source.node (inl leaves) (c.in_ok-first-in-Two.ensures.leaves tells)) fault
+    (end_blames m t from to c.in-Two.target.node (inr enters) fault (c.in_err-last-in-Two.ensures.found tells)))

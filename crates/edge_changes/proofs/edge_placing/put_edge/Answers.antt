@@ -23,6 +23,12 @@ use Rattle.change_parts.specs.Damage.{IsBroken}
 use Rattle.edge_changes.specs.EdgeAdding.{HasEndDegree}
 use Rattle.change_parts.specs.Damage.{IsLinkingDamage}
 use Rattle.edge_changes.proofs.EdgeBlames.{if_blames}
+use Rattle.std.proofs.Common.{◌⊎◌}
+use Rattle.change_parts.specs.Damage.{IsAsFound}
+use Rattle.edge_changes.specs.EdgeAdding.{BlamesChains, IsOfChains, KeepsButChains}
+use Rattle.edge_changes.specs.EdgeEnds.{target_of}
+use Rattle.edge_changes.proofs.EdgeFound.{found_then, on_ok, step_found}
+use Rattle.rec_bytes.proofs.Causes.{never_ok}
 use Rattle.edge_changes.proofs.edge_placing.put_edge.Goals as goal
 
 pub returns-in_err-ends-clause-sound : goal.returns-in_err-ends-clause-sound
@@ -87,3 +93,45 @@ returns-clause-damaged g c tells used limit has =
     (g.met.S.Reads.onward_shape _ _ c.open_ends.ensures.onward) has in
     if_blames c.join_edge.result (IsBroken u) (IsLinkingDamage u) (λ damage told. inl told)
     (c.join_edge.ensures.damaged tells (c.in_ok-ends.ensures.has tells used) room)
+
+-- ---- which records are other
+
+pub returns-clause-leaves : goal.returns-clause-leaves
+returns-clause-leaves g c tells used =
+    let s = g.S.Reads.state c.args.space.now in
+    let t = g.S.Reads.state c.open_ends.new.space in
+    let u = g.S.Reads.state c.join_edge.new.space in
+    let from = from_of c.args.joint in
+    let to = to_of c.args.joint in
+    let ends = c.in_ok-ends.ends in
+    let nodes = c.in_ok-ends.ensures.nodes in
+    on_ok c.join_edge.result (KeepsButChains t u (source_of ends).node (target_of ends).node) (KeepsButChains s u from to)
+    (λ keeps. found_then s t u from to (c.in_ok-ends.ensures.leaves tells)
+    (subst (λ n. KeepsButChains t u n to) nodes.0 (subst (KeepsButChains t u (source_of ends).node) nodes.1 keeps)))
+    (c.join_edge.ensures.leaves tells (c.in_ok-ends.ensures.has tells used))
+
+pub returns-in_err-ends-clause-leaves : goal.returns-in_err-ends-clause-leaves
+returns-in_err-ends-clause-leaves g c _ _ = never_ok c.from_residual.result _ _ c.from_residual.ensures.1
+
+pub returns-in_err-ends-clause-found : goal.returns-in_err-ends-clause-found
+returns-in_err-ends-clause-found g c tells used =
+    let s = g.S.Reads.state c.args.space.now in
+    let t = g.S.Reads.state c.open_ends.new.space in
+    fault_exit (λ f. f) (BlamesChains s t (from_of c.args.joint) (to_of c.args.joint)) c.in_err-ends.field-0.0 c.from_residual.result
+    c.from_residual.ensures.1 (c.in_err-ends.ensures.found tells)
+
+pub returns-clause-found : goal.returns-clause-found
+returns-clause-found g c tells used =
+    let s = g.S.Reads.state c.args.space.now in
+    let t = g.S.Reads.state c.open_ends.new.space in
+    let u = g.S.Reads.state c.join_edge.new.space in
+    let from = from_of c.args.joint in
+    let to = to_of c.args.joint in
+    let ends = c.in_ok-ends.ends in
+    let nodes = c.in_ok-ends.ensures.nodes in
+    if_blames c.join_edge.result (λ damage. IsAsFound t u damage ⊎ IsOfChains (source_of ends).node (target_of ends).node damage)
+    (λ damage. IsAsFound s u damage ⊎ IsOfChains from to damage)
+    (λ damage told. step_found s t u from to (c.in_ok-ends.ensures.leaves tells) damage
+    (subst (λ n. IsAsFound t u damage ⊎ IsOfChains n to damage) nodes.0
+    (subst (λ n. IsAsFound t u damage ⊎ IsOfChains (source_of ends).node n damage) nodes.1 told)))
+    (c.join_edge.ensures.found tells (c.in_ok-ends.ensures.has tells used))

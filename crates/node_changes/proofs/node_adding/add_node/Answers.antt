@@ -45,8 +45,7 @@ use Rattle.change_parts.specs.Damage.{BlamesEntries, IsAsFound, IsBroken, IsOfIn
 use Rattle.node_changes.proofs.EntriesFaults.{names_leave, other_leaves}
 use Rattle.change_parts.proofs.Adding.{index_beside, line_blamed, lists_before, lists_broken, names_harm_no_lists}
 use Rattle.change_parts.proofs.Adding.{no_lists_then, node_damage, node_harms_no_lists, room_blamed}
-use Rattle.node_changes.proofs.Broken.{blames_both}
-use Rattle.change_parts.proofs.Broken.{blames_more}
+use Rattle.change_parts.proofs.Broken.{blames_both, blames_more}
 use Rattle.change_parts.proofs.DiskCauses.{change_cause_passed, later_on}
 use Rattle.node_changes.proofs.IndexBeside.{index_written, kinds_beside, touched_beside}
 use Rattle.node_changes.proofs.NodeEntries.{added_made, entries, entries_refused, keys_once, listed, node_low, pairs_then, prepared_read, room_then, whole_before}

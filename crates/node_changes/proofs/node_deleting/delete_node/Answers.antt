@@ -21,8 +21,8 @@ use Rattle.node_changes.proofs.Deleting.{node_joined, node_lacked}
 use Rattle.change_parts.proofs.Elements.{node_loaded, node_missing, same_both, same_node, used_of}
 use Rattle.change_parts.specs.Owners.{owner_of}
 use Rattle.prop_store.specs.Owner.{IsInUse}
-use Rattle.node_changes.proofs.Broken.{blames_both, drop_cause, entry_cause, entry_left, held_cause}
-use Rattle.change_parts.proofs.Broken.{blames_more}
+use Rattle.node_changes.proofs.Broken.{drop_cause, entry_cause, entry_left, held_cause}
+use Rattle.change_parts.proofs.Broken.{blames_both, blames_more}
 use Rattle.change_parts.proofs.Broken.{node_broken, node_in_use, unwritten_left}
 use Rattle.node_changes.proofs.Broken.{node_cause}
 use Rattle.change_parts.specs.Causes.{IsCaused, IsStillCaused}

@@ -39,8 +39,8 @@ use Rattle.prop_store.specs.Owner.{IsInUse}
 use Rattle.rec_bytes.specs.Space.{SameButReads, State}
 use Rattle.node_changes.proofs.EntriesFaults.{held_value, other_leaves, owner_file}
 use Rattle.change_parts.proofs.IndexesLeft.{properties_leave}
-use Rattle.node_changes.proofs.Broken.{blames_both, interned_in_use, interned_read, key_blamed, value_blamed}
-use Rattle.change_parts.proofs.Broken.{blames_more}
+use Rattle.node_changes.proofs.Broken.{interned_in_use, interned_read, key_blamed, value_blamed}
+use Rattle.change_parts.proofs.Broken.{blames_both, blames_more}
 use Rattle.change_parts.proofs.Adding.{interned_beside, met_beside}
 use Rattle.change_parts.proofs.Causes.{absent_caused, broken_left, caused_left, failure_caused}
 use Rattle.node_changes.proofs.EntriesFaults.{entry_caused}

@@ -12,8 +12,8 @@ use Rattle.prop_store.specs.Owner.{IsInUse}
 use Rattle.rec_bytes.specs.Space.{SameButReads, State}
 use Rattle.store_rules.specs.Views.{key_in}
 use Rattle.change_parts.proofs.KeptIndexes.{midway, whole_read}
-use Rattle.node_changes.proofs.Broken.{blames_both, read_broken}
-use Rattle.change_parts.proofs.Broken.{blames_more}
+use Rattle.node_changes.proofs.Broken.{read_broken}
+use Rattle.change_parts.proofs.Broken.{blames_both, blames_more}
 use Rattle.node_changes.proofs.EntriesFaults.{owner_file}
 use Rattle.change_parts.proofs.IndexesLeft.{properties_leave}
 use Rattle.change_parts.specs.Causes.{IsCaused, IsStillCaused}
