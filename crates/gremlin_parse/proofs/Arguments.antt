@@ -1,12 +1,13 @@
 -- Arguments: what follows each ends it, whatever the list, and what was read of them.
-use Rattle.std.proofs.Common.{◌≡◌, ◌≤◌, ℕ, true, List, [], ◌∷◌, ◌++◌, length, take, drop, get_or, ◌-◌, refl, ap, ◌∙◌, subst, arith}
+use Rattle.std.proofs.Common.{◌≡◌, ◌≤◌, ℕ, true, List, [], ◌∷◌, ◌++◌, length, take, drop, get_or, ◌-◌, inl, inr, refl, ap, ◌∙◌, subst, arith}
 use Rattle.std.proofs.lemmas.List.{take_all}
-use Rattle.gremlin_parse.specs.Symbols.{AnyGap, Symbol, Reads, ReadsAll}
+use Rattle.gremlin_parse.specs.Symbols.{AnyGap, Leaves, LeavesOne, Symbol, Reads, ReadsAll}
 use Rattle.gremlin_parse.specs.Arguments.{symbol_of, spaced, content_in, contents_in, listed, ReadsArgument}
 use Rattle.gremlin_parse.specs.declared.argument.Argument.{Argument}
 use Rattle.gremlin_parse.specs.declared.argument.Argument.TheVariants as arguments
 use Rattle.gremlin_parse.specs.declared.argument.Given.{Given}
 use Rattle.gremlin_parse.specs.declared.argument.Givens.{Givens}
+use Rattle.gremlin_parse.specs.declared.stop.Stop.{Stop}
 use Rattle.gremlin_parse.proofs.Symbols.{NameByte, no_blanks, halts, class_of}
 use Rattle.gremlin_parse.proofs.Productions.{is_production}
 
@@ -75,3 +76,26 @@ first_read (argument ∷ list) one others bytes at after rest some few gap reads
     ∙ take_all (length (argument ∷ list) - 1) list (omega arith) in
     argument_before argument list one others bytes at after rest few gap reads
     (subst (λ l. ReadsAll (spaced l) (contents_in l (listed others)) after rest) tail later)
+
+-- ---- where reading stops
+
+-- before the first argument of some
+pub stop_before : (list : List Argument) (bytes : List ℕ) (stop : Stop) → 1 ≤ length list → Leaves AnyGap bytes stop → LeavesOne (spaced list) bytes stop
+stop_before [] bytes stop some leaves = absurd (omega arith)
+stop_before (argument ∷ list) bytes stop some leaves = inl leaves
+
+-- in it
+pub stop_in : (list : List Argument) (bytes at : List ℕ) (stop : Stop) → 1 ≤ length list → Reads AnyGap tt bytes at
+    → Leaves (symbol_of (get_or list 0 arguments.Element)) at stop → LeavesOne (spaced list) bytes stop
+stop_in [] bytes at stop some gap leaves = absurd (omega arith)
+stop_in (argument ∷ list) bytes at stop some gap leaves = inr (tt, at, gap, inl leaves)
+
+-- and after it
+pub stop_after : (list : List Argument) (one : Given) (bytes at after : List ℕ) (stop : Stop) → 1 ≤ length list → Reads AnyGap tt bytes at
+    → ReadsArgument (get_or list 0 arguments.Element) one at after → LeavesOne (spaced (take (length list - 1) (drop 1 list))) after stop
+    → LeavesOne (spaced list) bytes stop
+stop_after [] one bytes at after stop some gap reads leaves = absurd (omega arith)
+stop_after (argument ∷ list) one bytes at after stop some gap reads leaves =
+    let tail : take (length (argument ∷ list) - 1) (drop 1 (argument ∷ list)) ≡ list = ap (take (length (argument ∷ list) - 1)) (drop_one argument list)
+    ∙ take_all (length (argument ∷ list) - 1) list (omega arith) in
+    inr (tt, at, gap, inr (content_in argument one, after, reads, subst (λ (l : List Argument). LeavesOne (spaced l) after stop) tail leaves))

@@ -792,6 +792,12 @@ pub stop_at_relation : (bytes at_dot at_relation : List ℕ) (stop : Stop) → R
 stop_at_relation bytes at_dot at_relation stop p dot leaves into key =
     (p_leads into key bytes at_dot at_relation p dot).stops stop (stop_at (RelationName into key) at_relation stop (record { no_end = λ end ends. cc; no_sign = no_signs at_relation; other = leaves }))
 
+pub relation_within : (relation : Relation) (bytes rest : List ℕ) → ReadsRelation relation bytes rest → length rest ≤ length bytes
+relation_within relation bytes rest (middle, reads, blanks) =
+    let one : length bytes ≡ length reads.takes.prefix + length middle = ap length reads.takes.bytes_are ∙ length-append reads.takes.prefix middle in
+    let after : length middle ≡ length blanks.takes.prefix + length rest = ap length blanks.takes.bytes_are ∙ length-append blanks.takes.prefix rest in
+    omega (arith, one, after)
+
 pub p_relation_leads : (bytes at_dot at_relation rest : List ℕ) (relation : Relation) → ReadsToken (80 ∷ []) bytes at_dot
     → ReadsToken (46 ∷ []) at_dot at_relation → ReadsRelation relation at_relation rest → (into : Into) (key : List ℕ)
     → LeadsTo (ValueOf into key) bytes (OpensValue into key relation) rest

@@ -40,6 +40,5 @@ fn parse_command(alloc: Global, head: Head, bytes: &[u8]) -> Result<Command, Sto
 {
     let (givens, rest) = read_arguments(bytes, arguments_of(head))?;
     let last = read_last(alloc, rest, last_part(head))?;
-    let command = command_of(alloc, head, givens, last)?;
-    Ok(command)
+    command_of(alloc, head, givens, last)
 }

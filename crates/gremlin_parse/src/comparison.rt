@@ -2,7 +2,7 @@ ghost use Rattle.std.specs.Prelude.{◌≡◌, ◌≢◌, ◌≤◌, List, ℕ, 
 ghost use Rattle.plain_graph.specs.declared.filter.Relation.{Relation};
 ghost use Rattle.gremlin_parse.specs.Comparisons.{ReadsRelation, later};
 ghost use Rattle.gremlin_parse.specs.Queries.{Into, ValueOf, OpensValue, LeadsTo, StopsFrom};
-ghost use Rattle.gremlin_parse.specs.Queries.{relation_names, relation_filter, value_filter};
+ghost use Rattle.gremlin_parse.specs.Queries.{relation_names, relation_filter};
 ghost use Rattle.gremlin_parse.specs.Queries.{after_filter};
 ghost use Rattle.gremlin_parse.specs.Reading.{first_byte};
 ghost use Rattle.gremlin_parse.specs.Symbols.{OneWord, Leaves};
@@ -40,18 +40,11 @@ pub(crate) fn read_comparison(bytes: &[u8]) -> Result<(Relation, WrittenValue<'_
     if let Some(at_dot) = read_first(bytes, b'P') {
         let at_relation = read_token(at_dot, b".")?;
         let (relation, at_open) = read_relation(at_relation)?;
-        let (written, rest) = read_compared(at_open)?;
-        return Ok((relation, written, rest));
+        return read_compared(relation, at_open);
     }
     match read_relation(bytes) {
-        Ok((relation, at_open)) => {
-            let (written, rest) = read_compared(at_open)?;
-            Ok((relation, written, rest))
-        }
-        Err(no_relation) => {
-            let (written, rest) = read_plain(no_relation, bytes)?;
-            Ok((Relation::Eq, written, rest))
-        }
+        Ok((relation, at_open)) => read_compared(relation, at_open),
+        Err(no_relation) => read_plain(no_relation, bytes),
     }
 }
 
@@ -64,13 +57,17 @@ fn read_relation(bytes: &[u8]) -> Result<(Relation, &[u8]), Stop>
     Ok((relation, skip_blanks(after)))
 }
 
-/// The value of a predicate between parentheses, and the bytes after the closing one of `has`.
-fn read_compared(bytes: &[u8]) -> Result<(WrittenValue<'_>, &[u8]), Stop>
-    ensures ok { IfOk result (λ r. (into : Into) (key : List ℕ) (relation : Relation) →
+/// The relation with the value of its predicate between parentheses, and the bytes after the
+/// closing one of `has`.
+fn read_compared(
+    relation: Relation,
+    bytes: &[u8],
+) -> Result<(Relation, WrittenValue<'_>, &[u8]), Stop>
+    ensures ok { IfOk result (λ r. (into : Into) (key : List ℕ) →
         LeadsTo (OpensValue into key relation) bytes.now
-        (after_filter into (relation_filter key relation (value_of r.0))) r.1.now) }
-    ensures within { IfOk result (λ r. length r.1.now ≤ length bytes.now) }
-    ensures err { IfErr result (λ stop. (into : Into) (key : List ℕ) (relation : Relation) →
+        (after_filter into (relation_filter key r.0 (value_of r.1))) r.2.now) }
+    ensures within { IfOk result (λ r. length r.2.now ≤ length bytes.now) }
+    ensures err { IfErr result (λ stop. (into : Into) (key : List ℕ) →
         StopsFrom (OpensValue into key relation) bytes.now stop) }
 {
     let at_value = read_token(bytes, b"(")?;
@@ -78,17 +75,17 @@ fn read_compared(bytes: &[u8]) -> Result<(WrittenValue<'_>, &[u8]), Stop>
     let at_close = skip_blanks(after);
     let at_end = read_token(at_close, b")")?;
     let rest = read_token(at_end, b")")?;
-    Ok((written, rest))
+    Ok((relation, written, rest))
 }
 
-/// The value where no predicate stands, and the bytes after the closing parenthesis.
-fn read_plain(no_relation: Stop, bytes: &[u8]) -> Result<(WrittenValue<'_>, &[u8]), Stop>
+/// Equality with the value where no predicate stands, and the bytes after the closing parenthesis.
+fn read_plain(no_relation: Stop, bytes: &[u8]) -> Result<(Relation, WrittenValue<'_>, &[u8]), Stop>
     requires no_p { first_byte bytes.now ≢ Some 80 }
     requires no_relation { Leaves (OneWord relation_names) bytes.now no_relation }
     ensures ok { IfOk result (λ r. (into : Into) (key : List ℕ) →
         LeadsTo (ValueOf into key) bytes.now
-        (after_filter into (value_filter key (value_of r.0))) r.1.now) }
-    ensures within { IfOk result (λ r. length r.1.now ≤ length bytes.now) }
+        (after_filter into (relation_filter key r.0 (value_of r.1))) r.2.now) }
+    ensures within { IfOk result (λ r. length r.2.now ≤ length bytes.now) }
     ensures err { IfErr result (λ stop. (into : Into) (key : List ℕ) →
         StopsFrom (ValueOf into key) bytes.now stop) }
 {
@@ -96,7 +93,7 @@ fn read_plain(no_relation: Stop, bytes: &[u8]) -> Result<(WrittenValue<'_>, &[u8
         Ok((written, after)) => {
             let at_close = skip_blanks(after);
             let rest = read_token(at_close, b")")?;
-            Ok((written, rest))
+            Ok((Relation::Eq, written, rest))
         }
         Err(no_value) => Err(later(no_relation, no_value)),
     }

@@ -4,6 +4,7 @@ ghost use Rattle.gremlin_parse.specs.Commands.{IsPlain, Asks, built};
 ghost use Rattle.gremlin_parse.specs.Lasts.{is_query};
 ghost use Rattle.gremlin_parse.specs.Keywords.{TakesWord, LeavesTable};
 ghost use Rattle.gremlin_parse.specs.Stopping.{StopsWith};
+ghost use Rattle.gremlin_parse.specs.declared.last.Last.{Last as LastRow};
 
 use crate::argument::{Argument, Givens};
 use crate::keyword::read_keyword;
@@ -134,12 +135,12 @@ pub(crate) fn command_of(
         Head::Alone(word) => Ok(plain_command(word)),
         Head::Node => node_of(alloc, givens, last),
         Head::Edge => edge_of(alloc, givens, last),
-        Head::Set => set_of(alloc, givens, last),
-        Head::Unset => unset_of(alloc, givens, last),
-        Head::Delete => Ok(delete_of(givens, last)),
-        Head::Index => index_of(alloc, givens, last),
-        Head::Find => find_of(alloc, givens, last),
-        Head::Expand => expand_of(alloc, givens, last),
+        Head::Set => set_of(alloc, givens),
+        Head::Unset => unset_of(alloc, givens),
+        Head::Delete => Ok(delete_of(givens)),
+        Head::Index => index_of(alloc, givens),
+        Head::Find => find_of(alloc, givens),
+        Head::Expand => expand_of(alloc, givens),
         Head::Degree => degree_of(alloc, givens, last),
         Head::Path => path_of(alloc, givens, last),
         Head::Levels => levels_of(alloc, givens, last),
@@ -173,8 +174,9 @@ fn edge_of(alloc: Global, givens: Givens, last: Last) -> Result<Command, Stop>
 }
 
 #[tactic(auto, unfolding(crate::specs::Commands::built))]
-fn set_of(alloc: Global, givens: Givens, _last: Last) -> Result<Command, Stop>
-    ensures ok { IfOk result (λ command. command ≡ built Head.Set givens.entry _last.entry) }
+fn set_of(alloc: Global, givens: Givens) -> Result<Command, Stop>
+    ensures ok { IfOk result (λ command. (last : LastRow) →
+        command ≡ built Head.Set givens.entry last) }
     ensures err { IfErr result (λ stop. stop ≡ Stop.Memory) }
 {
     let target = target_of(givens.first.element(), givens.second.number());
@@ -184,8 +186,9 @@ fn set_of(alloc: Global, givens: Givens, _last: Last) -> Result<Command, Stop>
 }
 
 #[tactic(auto, unfolding(crate::specs::Commands::built))]
-fn unset_of(alloc: Global, givens: Givens, _last: Last) -> Result<Command, Stop>
-    ensures ok { IfOk result (λ command. command ≡ built Head.Unset givens.entry _last.entry) }
+fn unset_of(alloc: Global, givens: Givens) -> Result<Command, Stop>
+    ensures ok { IfOk result (λ command. (last : LastRow) →
+        command ≡ built Head.Unset givens.entry last) }
     ensures err { IfErr result (λ stop. stop ≡ Stop.Memory) }
 {
     let target = target_of(givens.first.element(), givens.second.number());
@@ -194,15 +197,16 @@ fn unset_of(alloc: Global, givens: Givens, _last: Last) -> Result<Command, Stop>
 }
 
 #[tactic(auto, unfolding(crate::specs::Commands::built))]
-fn delete_of(givens: Givens, _last: Last) -> Command
-    ensures { result ≡ built Head.Delete givens.entry _last.entry }
+fn delete_of(givens: Givens) -> Command
+    ensures { (last : LastRow) → result ≡ built Head.Delete givens.entry last }
 {
     Command::Delete(target_of(givens.first.element(), givens.second.number()))
 }
 
 #[tactic(auto, unfolding(crate::specs::Commands::built))]
-fn index_of(alloc: Global, givens: Givens, _last: Last) -> Result<Command, Stop>
-    ensures ok { IfOk result (λ command. command ≡ built Head.Index givens.entry _last.entry) }
+fn index_of(alloc: Global, givens: Givens) -> Result<Command, Stop>
+    ensures ok { IfOk result (λ command. (last : LastRow) →
+        command ≡ built Head.Index givens.entry last) }
     ensures err { IfErr result (λ stop. stop ≡ Stop.Memory) }
 {
     let label = copy_name(alloc, givens.first.name())?;
@@ -211,8 +215,9 @@ fn index_of(alloc: Global, givens: Givens, _last: Last) -> Result<Command, Stop>
 }
 
 #[tactic(auto, unfolding(crate::specs::Commands::built))]
-fn find_of(alloc: Global, givens: Givens, _last: Last) -> Result<Command, Stop>
-    ensures ok { IfOk result (λ command. command ≡ built Head.Find givens.entry _last.entry) }
+fn find_of(alloc: Global, givens: Givens) -> Result<Command, Stop>
+    ensures ok { IfOk result (λ command. (last : LastRow) →
+        command ≡ built Head.Find givens.entry last) }
     ensures err { IfErr result (λ stop. stop ≡ Stop.Memory) }
 {
     let label = copy_name(alloc, givens.first.name())?;
@@ -222,8 +227,9 @@ fn find_of(alloc: Global, givens: Givens, _last: Last) -> Result<Command, Stop>
 }
 
 #[tactic(auto, unfolding(crate::specs::Commands::built))]
-fn expand_of(alloc: Global, givens: Givens, _last: Last) -> Result<Command, Stop>
-    ensures ok { IfOk result (λ command. command ≡ built Head.Expand givens.entry _last.entry) }
+fn expand_of(alloc: Global, givens: Givens) -> Result<Command, Stop>
+    ensures ok { IfOk result (λ command. (last : LastRow) →
+        command ≡ built Head.Expand givens.entry last) }
     ensures err { IfErr result (λ stop. stop ≡ Stop.Memory) }
 {
     let label = copy_name(alloc, givens.third.name())?;

@@ -1,15 +1,19 @@
-use Rattle.std.proofs.Common.{List, sym, subst}
+use Rattle.std.specs.Prelude.{Err, IfErr, Ok, Result}
+use Rattle.std.proofs.Common.{List, ℕ, sym, subst, ◌≡◌}
 use Rattle.std.specs.List.{AllByRecursion}
-use Rattle.std.proofs.lemmas.Result.{err_from_is_err_and}
+use Rattle.std.proofs.lemmas.Result.{IfOk-weaker, err_from_is_err_and}
 use Rattle.plain_graph.specs.declared.command.Command.{Command}
-use Rattle.gremlin_parse.specs.Commands.{Asks, BadLast, IsLast, KeepsBounds, SpellsAfter, arguments_of, built, last_part}
+use Rattle.gremlin_parse.specs.Commands.{Asks, BadLast, IsLast, KeepsBounds, SpellsAfter, StopsAfter, arguments_of, built, last_part}
 use Rattle.gremlin_parse.specs.Grammar.{IsBounded}
 use Rattle.gremlin_parse.specs.Symbols.{ReadsAll, LeavesOne}
 use Rattle.gremlin_parse.specs.Stopping.{IsStop}
 use Rattle.gremlin_parse.specs.Arguments.{spaced, contents_in, listed}
 use Rattle.gremlin_parse.specs.Lasts.{last_content, last_parts, LastIs, SomeLast, BadInLast, Lacks}
 use Rattle.gremlin_parse.specs.declared.argument.Argument.{Argument}
+use Rattle.gremlin_parse.specs.declared.head.Head.{Head}
 use Rattle.gremlin_parse.specs.declared.last.LastPart.{LastPart}
+use Rattle.gremlin_parse.specs.declared.stop.Stop.{Stop}
+use Rattle.gremlin_parse.specs.declared.stop.Stop.TheVariants as stops
 use Rattle.gremlin_parse.proofs.Heads.{stop_in_head, stop_after_head, stop_lacks}
 use Rattle.gremlin_parse.proofs.Commands.{last_asks, spells_read, read_keeps}
 use Rattle.gremlin_parse.proofs.Exits.{never_ok}
@@ -46,8 +50,10 @@ returns-clause-ok c =
     let reads = subst (λ (list : List Argument). ReadsAll (spaced list) (contents_in list givens) bytes rest) c.arguments_of.ensures.are
     c.in_ok-givens.ensures.ok in
     let made = subst (λ (kind : LastPart). LastIs kind (last_content kind last) rest) c.last_part.ensures c.in_ok-last.ensures.ok in
-    subst (λ (command : Command). SpellsAfter command head bytes) (sym c.in_ok-command.ensures.ok)
-    (spells_read head (contents_in (arguments_of head) givens) (last_content (last_part head) last) bytes rest reads made)
+    IfOk-weaker c.command_of.result _ _
+    (λ command is. subst (λ (command : Command). SpellsAfter command head bytes) (sym is)
+    (spells_read head (contents_in (arguments_of head) givens) (last_content (last_part head) last) bytes rest reads made))
+    c.command_of.ensures.ok
 
 pub returns-clause-bounds : goal.returns-clause-bounds
 unfolding built
@@ -61,7 +67,19 @@ returns-clause-bounds c =
     c.in_ok-givens.ensures.ok in
     let within = subst (λ (kind : LastPart). AllByRecursion IsBounded (last_parts kind (last_content kind last))) c.last_part.ensures
     c.in_ok-last.ensures.bounds in
-    subst KeepsBounds (sym c.in_ok-command.ensures.ok) (read_keeps head c.requires (contents_in (arguments_of head) givens) (last_content (last_part head) last) bytes rest reads within)
+    IfOk-weaker c.command_of.result _ _
+    (λ command is. subst KeepsBounds (sym is)
+    (read_keeps head c.requires (contents_in (arguments_of head) givens) (last_content (last_part head) last) bytes rest reads within))
+    c.command_of.ensures.ok
+
+-- where there was no memory, it was asked for
+lacking : (head : Head) (bytes : List ℕ) (r : Result Command Stop) → IfErr r (λ stop. stop ≡ stops.Memory) → IfErr r (λ stop. Asks head)
+    → IfErr r (StopsAfter head (Asks head) bytes)
+lacking head bytes (Ok command) is asks = tt
+lacking head bytes (Err stop) is asks = subst (StopsAfter head (Asks head) bytes) (sym is) asks
+
+pub returns-clause-err : goal.returns-clause-err
+returns-clause-err c = lacking c.args.head c.args.bytes.now c.command_of.result c.command_of.ensures.err c.command_of.ensures.asks
 
 pub returns-in_err-givens-clause-ok : goal.returns-in_err-givens-clause-ok
 returns-in_err-givens-clause-ok c = never_ok c.from_residual.result _ _ c.from_residual.ensures.1
@@ -74,9 +92,3 @@ returns-in_err-last-clause-ok c = never_ok c.from_residual-in_err-last.result _ 
 
 pub returns-in_err-last-clause-bounds : goal.returns-in_err-last-clause-bounds
 returns-in_err-last-clause-bounds c = never_ok c.from_residual-in_err-last.result _ _ c.from_residual-in_err-last.ensures.1
-
-pub returns-in_err-command-clause-ok : goal.returns-in_err-command-clause-ok
-returns-in_err-command-clause-ok c = never_ok c.from_residual-in_err-command.result _ _ c.from_residual-in_err-command.ensures.1
-
-pub returns-in_err-command-clause-bounds : goal.returns-in_err-command-clause-bounds
-returns-in_err-command-clause-bounds c = never_ok c.from_residual-in_err-command.result _ _ c.from_residual-in_err-command.ensures.1
