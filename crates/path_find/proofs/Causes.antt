@@ -19,6 +19,13 @@ pub cause_passed : {T U : Type 0} (before mid now : ℕ) (r : Result T Fault) (f
     → IsErrAnd r (λ f. f ≡ fault) → HasFaultCause before now r
 cause_passed before mid now r fault early cause is = passed (λ f. f) faults.Disk faults.Disk before mid now r fault (λ e. e) early cause is
 
+-- a later call's result, where none was blamed before
+pub cause_later : {T : Type 0} (before mid now : ℕ) (r : Result T Fault) → before ≤ mid → HasFaultCause mid now r → HasFaultCause before now r
+cause_later before mid now r early cause = record {
+  later = let later = cause.later in omega (arith, early, later);
+  disk = λ blamed. let rose = cause.disk blamed in omega (arith, early, rose);
+}
+
 -- want of memory blames no disk
 pub memory_cause : {T : Type 0} (before now : ℕ) (r : Result T Fault) → before ≤ now → IsErrAnd r (λ f. f ≡ faults.Memory) → HasFaultCause before now r
 memory_cause {T} before now r early is =

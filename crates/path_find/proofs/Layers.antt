@@ -3,8 +3,8 @@ use Rattle.std.proofs.Common.{◌≡◌, ◌<◌, ◌≤◌, inl, inr, ℕ, zero
 use Rattle.std.proofs.lemmas.Bool.{cases_lt}
 use Rattle.path_find.specs.Growing.{Extends}
 use Rattle.path_find.specs.Reach.{AreLayers, GrowsFrom}
-use Rattle.path_find.specs.Tree.{IsTree, Rows, level_at, parent_at, row_count}
-use Rattle.path_find.proofs.SearchSteps.{one_row, tree_begin}
+use Rattle.path_find.specs.Tree.{IsTree, Rows, level_at, one_row, parent_at, row_count}
+use Rattle.path_find.proofs.SearchSteps.{tree_begin}
 
 -- the first node alone
 pub layers_begin : (node : ℕ) → AreLayers (one_row node) 0 0

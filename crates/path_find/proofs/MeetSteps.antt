@@ -6,8 +6,7 @@ use Rattle.std.specs.Bool.{OnFalse, OnTrue}
 use borrow.Author.Tests.{eqb-true}
 use Rattle.path_find.specs.Meeting.{AreApart, AreApartFrom, HaveMet}
 use Rattle.path_find.specs.Reach.{GrowsFrom}
-use Rattle.path_find.specs.Tree.{Rows, node_at, row_count}
-use Rattle.path_find.proofs.SearchSteps.{one_row}
+use Rattle.path_find.specs.Tree.{Rows, node_at, one_row, row_count}
 
 -- ---- the two nodes alone
 

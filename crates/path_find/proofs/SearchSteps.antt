@@ -1,16 +1,13 @@
 -- The steps of a search.
-use Rattle.std.proofs.Common.{◌≡◌, ◌<◌, ◌≤◌, inl, inr, ℕ, zero, suc, ◌+◌, true, [], ◌∷◌, refl, sym, ap, ◌∙◌, arith}
+use Rattle.std.proofs.Common.{◌≡◌, ◌<◌, ◌≤◌, inl, inr, ℕ, zero, suc, ◌+◌, true, refl, sym, ap, ◌∙◌, arith}
 use Rattle.std.proofs.lemmas.Bool.{cases_lt}
 use Rattle.plain_graph.specs.Adjacency.{Adjacency}
 use Rattle.path_find.specs.Growing.{Extends}
 use Rattle.path_find.specs.Search.{IsFoundWithin, IsNarrow, IsSearched}
-use Rattle.path_find.specs.Tree.{IsTree, Rows, Spans, level_at, node_at, parent_at, row_count}
+use Rattle.path_find.specs.Tree.{IsTree, Rows, Spans, level_at, node_at, one_row, parent_at, row_count}
 use Rattle.path_find.proofs.TreeWalks.{level-rises}
 
 -- ---- the first node alone
-
-abbrev pub one_row : ℕ → Rows
-one_row from = record { nodes = from ∷ []; parents = 0 ∷ []; levels = 0 ∷ [] }
 
 module _ (from : ℕ) where
   pub tree_begin : IsTree (one_row from) 0

@@ -1,6 +1,7 @@
 -- A search by breadth by whole levels.
 use Rattle.std.specs.Prelude.{◌≡◌, ℕ, ◌<◌, ◌≤◌}
-use Rattle.path_find.specs.Tree.{IsTree, Rows, level_at, node_at, parent_at, row_count}
+use Rattle.path_find.specs.Tree.{IsTree, Rows, level_at, node_at, one_row, parent_at, row_count}
+use Rattle.path_find.specs.declared.reach.Reach.{Reach}
 
 -- The neighbours of these first rows are found, which are those below the last level.
 pub record AreLayers (rows : Rows) (done depth : ℕ) : Type 0 where
@@ -13,6 +14,10 @@ pub record AreLayers (rows : Rows) (done depth : ℕ) : Type 0 where
 pub record HasLayers (rows : Rows) (done : ℕ) : Type 0 where
   pub depth : ℕ
   pub layers : AreLayers rows done depth
+
+-- a search that begins at a node
+abbrev pub begun : ℕ → Reach
+begun node = record { tree = one_row node; done = 0 }
 
 -- The rows stay, and those after them were found from others than so many first ones.
 pub record GrowsFrom (old new : Rows) (done : ℕ) : Type 0 where

@@ -36,6 +36,10 @@ abbrev pub with_node : Rows → ℕ → ℕ → ℕ → Rows
 with_node rows node parent level =
     cond (list_any (nat_eq node) rows.nodes) rows (with_row rows node parent level)
 
+-- a node alone
+abbrev pub one_row : ℕ → Rows
+one_row node = record { nodes = node ∷ []; parents = 0 ∷ []; levels = 0 ∷ [] }
+
 -- a row was found from an earlier one, by one edge more
 pub record IsGrown (rows : Rows) (i : ℕ) : Type 0 where
   pub earlier : parent_at rows i < i

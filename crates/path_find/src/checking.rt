@@ -71,8 +71,7 @@ pub fn check_levels<R: Reads>(
     if !leads {
         return Ok(false);
     }
-    let all = all_spread(alloc, reads, &places, levels, edges, direction, labels)?;
-    Ok(all)
+    all_spread(alloc, reads, &places, levels, edges, direction, labels)
 }
 
 /// The number of edges of a walk, and none where no walk is given.

@@ -16,7 +16,7 @@ ghost use Rattle.path_find.specs.Meeting.{
   HaveMet,
   reversed,
 };
-ghost use Rattle.path_find.specs.Reach.{AreLayers};
+ghost use Rattle.path_find.specs.Reach.{AreLayers, begun};
 ghost use Rattle.path_find.specs.Reading.{IsSomeTree};
 ghost use Rattle.path_find.specs.Reads.{neighbours_at};
 ghost use Rattle.path_find.specs.Tree.{IsTree, Spans, row_count};
@@ -48,28 +48,52 @@ pub(crate) fn meet<R: Reads>(
     ensures read { IsRead R.Reads space.old space.new }
     ensures cause { HasFaultCause (R.faults space.old) (R.faults space.new) result }
 {
-    let from_tree = Tree::new(alloc, from)?;
-    let to_tree = Tree::new(alloc, to)?;
-    let mut ahead = Reach {
-        tree: from_tree,
-        done: 0,
-    };
-    let mut behind = Reach {
-        tree: to_tree,
-        done: 0,
-    };
+    let mut ahead = Reach::new(alloc, from)?;
+    let mut behind = Reach::new(alloc, to)?;
+    meet_between(
+        alloc,
+        space,
+        &mut ahead,
+        &mut behind,
+        from,
+        to,
+        direction,
+        labels,
+    )
+}
+
+/// The same by two searches that begin at these nodes.
+fn meet_between<R: Reads>(
+    alloc: Global,
+    space: &mut R,
+    ahead: &mut Reach,
+    behind: &mut Reach,
+    from: u32,
+    to: u32,
+    direction: Direction,
+    labels: &[u32],
+) -> Result<Vec<u32>, Fault>
+    requires ahead { ahead.old ≡ begun from }
+    requires behind { behind.old ≡ begun to }
+    ensures found { R.tells → IsStore (R.state space.old)
+        → has_node (graph_in (R.state space.old)) from ≡ true
+        → has_node (graph_in (R.state space.old)) to ≡ true → IfOk result (λ walk.
+        IsLeastOrNone (neighbours_at (R.state space.old) direction labels.now) from to walk.items) }
+    ensures damaged { R.tells → IfErr result (BlamesBroken (R.state space.old)) }
+    ensures read { IsRead R.Reads space.old space.new }
+    ensures cause { HasFaultCause (R.faults space.old) (R.faults space.new) result }
+{
     let mut has_met = from == to;
     while !has_met {
-        let over = is_over(&ahead, &behind);
+        let over = is_over(ahead, behind);
         if over {
             let none = Vec::new(alloc);
             return Ok(none);
         }
-        let met = approach(alloc, space, &mut ahead, &mut behind, direction, labels)?;
+        let met = approach(alloc, space, ahead, behind, direction, labels)?;
         has_met = met;
     }
-    let walk = join(alloc, space, &ahead.tree, &behind.tree, direction, labels)?;
-    Ok(walk)
+    join(alloc, space, &ahead.tree, &behind.tree, direction, labels)
 }
 
 /// Lets the search with fewer farthest nodes go on by a level, and tells whether both have found a

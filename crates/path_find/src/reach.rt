@@ -1,12 +1,12 @@
 //! A search by breadth that goes on by a whole level.
 
-ghost use Rattle.std.specs.Prelude.{◌≡◌, ◌<◌, ◌≤◌, ◌⊎◌, ◌-◌, ◌^◌, IfErr, OnOk};
+ghost use Rattle.std.specs.Prelude.{◌≡◌, ◌<◌, ◌≤◌, ◌⊎◌, ◌-◌, ◌^◌, IfErr, IfOk, OnOk};
 ghost use Rattle.std.specs.Bool.{OnFalse, OnTrue};
 ghost use Rattle.rec_bytes.specs.Fault.{HasFaultCause};
 ghost use Rattle.rec_bytes.specs.Frame.{IsRead};
 ghost use Rattle.expand.specs.Expanding.{IsStore};
 ghost use Rattle.path_find.specs.Damage.{BlamesBroken};
-ghost use Rattle.path_find.specs.Reach.{GrowsFrom};
+ghost use Rattle.path_find.specs.Reach.{GrowsFrom, begun};
 ghost use Rattle.path_find.specs.Reads.{neighbours_at};
 ghost use Rattle.path_find.specs.Tree.{IsTree, Spans, row_count};
 
@@ -15,7 +15,7 @@ use crate::neighbours::neighbours;
 use crate::tree::Tree;
 use plain_graph::Direction;
 use rec_bytes::{Fault, Reads};
-use std::alloc::Global;
+use std::alloc::{AllocError, Global};
 
 /// The nodes that at most so many edges reach from one.
 #[derive(Drop)]
@@ -23,6 +23,16 @@ pub(crate) struct Reach {
     pub(crate) tree: Tree,
     /// How many of them have given their neighbours: all but those that are farthest.
     pub(crate) done: usize,
+}
+
+impl Reach {
+    /// A node alone, which has not given its neighbours.
+    pub(crate) fn new(alloc: Global, node: u32) -> Result<Reach, AllocError>
+        ensures { IfOk result (λ reach. reach ≡ begun node) }
+    {
+        let tree = Tree::new(alloc, node)?;
+        Ok(Reach { tree, done: 0 })
+    }
 }
 
 /// Whether one of two searches has no node left that has not given its neighbours.

@@ -3,8 +3,6 @@ ghost use Rattle.std.specs.Prelude.{
   ◌<◌,
   ◌≤◌,
   ◌^◌,
-  [],
-  ◌∷◌,
   IfOk,
   IfSome,
   IfNone,
@@ -12,7 +10,8 @@ ghost use Rattle.std.specs.Prelude.{
   Contains,
   length,
 };
-ghost use Rattle.path_find.specs.Tree.{level_at, node_at, parent_at, row_count, with_node};
+ghost use Rattle.path_find.specs.Tree.{level_at, node_at, one_row, parent_at, row_count};
+ghost use Rattle.path_find.specs.Tree.{with_node};
 
 use indexmap::IndexSet;
 use std::alloc::{AllocError, Global};
@@ -45,11 +44,7 @@ impl Model for Tree {
 impl Tree {
     /// The first node alone.
     pub(crate) fn new(alloc: Global, from: u32) -> Result<Tree, AllocError>
-        ensures { IfOk result (λ tree. tree ≡ record {
-          nodes = from ∷ [];
-          parents = 0 ∷ [];
-          levels = 0 ∷ [];
-        }) }
+        ensures { IfOk result (λ tree. tree ≡ one_row from) }
     {
         let mut tree = Tree {
             nodes: IndexSet::new(alloc),

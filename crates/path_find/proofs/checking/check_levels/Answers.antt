@@ -1,8 +1,8 @@
 use Rattle.std.proofs.Common.{List, Option, ap, false, rules, subst, sym, ℕ, ◌∙◌, arith}
 use Rattle.std.specs.Bool.{IsTrue, OnFalse, OnTrue}
-use Rattle.std.specs.Prelude.{◌↔◌}
+use Rattle.std.specs.Prelude.{Bool, Err, IfOk, Ok, Result, ◌↔◌}
 use Rattle.std.proofs.lemmas.Bool.{OnFalse_at, OnTrue_at}
-use Rattle.std.proofs.lemmas.Result.{err_from_is_err_and}
+use Rattle.std.proofs.lemmas.Result.{IfErr-weaker, IfOk-weaker}
 use Rattle.plain_graph.specs.Adjacency.{Adjacency}
 use Rattle.plain_graph.specs.Levels.{IsCertified}
 use Rattle.plain_graph.specs.declared.node_level.NodeLevel.{NodeLevel}
@@ -13,7 +13,7 @@ use Rattle.path_find.proofs.CheckLaws.{is_certified, not_certified, proves_short
 use Rattle.path_find.proofs.NeighbourLaws.{neighbours_are}
 use Rattle.path_find.proofs.OnlyReads.{broken-read, is_read-on, same-read, store-read, is_read-none}
 use Rattle.chain_edit.proofs.Causes.{same_has}
-use Rattle.path_find.proofs.Causes.{cause_passed, memory_cause}
+use Rattle.path_find.proofs.Causes.{cause_later, cause_passed, memory_cause}
 use Rattle.rec_bytes.proofs.Causes.{never_ok}
 use Rattle.path_find.proofs.checking.check_levels.Goals as goal
 
@@ -28,6 +28,11 @@ returns-then-not-leads-clause-decides g c = λ tells store types stand.
     (neighbours_are s store c.args.direction c.args.labels.now types stand)
     (not_certified near L c.args.from c.args.to W (λ is. astray (subst (IsWalkOrNone near c.args.from c.args.to) (sym c.as_slice-walk.ensures) is.leads)))
 
+-- both hold of what is answered
+both_ok : {T E : Type 0} (r : Result T E) (P Q : T → Type 0) → IfOk r P → IfOk r Q → IfOk r (λ x. P x × Q x)
+both_ok (Ok x) P Q one other = (one, other)
+both_ok (Err fault) P Q one other = tt
+
 pub returns-clause-decides : goal.returns-clause-decides
 returns-clause-decides g c = λ tells store types stand.
     let s = g.R.Reads.state c.args.reads.now in
@@ -37,7 +42,6 @@ returns-clause-decides g c = λ tells store types stand.
     let read = c.is_walk.ensures.read in
     let same = same-read g.R.Reads g.met.R.Reads.onward_shape c.args.reads.now c.is_walk.new.reads read in
     let there = store-read g.R.Reads g.met.R.Reads.onward_shape c.args.reads.now c.is_walk.new.reads read store in
-    let all = c.in_ok-all.all in
     let edges = c.edges_of-edges.ensures ∙ ap edges_of c.as_slice-walk.ensures in
     let distinct = subst AreDistinct c.as_slice-levels.ensures (rw c.in-Some.is at c.in_ok-found.ensures.distinct) in
     let Ends : Option ℕ → List NodeLevel → Type 0 = λ e l. HaveEnds l c.args.from c.args.to e in
@@ -47,40 +51,35 @@ returns-clause-decides g c = λ tells store types stand.
     let steps : IsWalkOrNone near c.args.from c.args.to c.as_slice-walk.result.now = OnTrue_at c.if-not-leads.false (c.in_ok-leads.ensures.yes tells store) in
     let leads = subst (IsWalkOrNone near c.args.from c.args.to) c.as_slice-walk.ensures steps in
     let Spread : State → Option ℕ → List NodeLevel → Type 0 = λ t e l. AllSpread (neighbours_at t c.args.direction c.args.labels.now) l e in
-    let spreads = subst (λ (l : List NodeLevel). OnTrue all (Spread s (edges_of W) l)) c.as_slice-levels.ensures
-    (subst (λ (e : Option ℕ). OnTrue all (Spread s e c.as_slice-levels.result.now)) edges
-    (subst (λ (t : State). OnTrue all (Spread t c.edges_of-edges.result c.as_slice-levels.result.now)) same (c.in_ok-all.ensures.yes tells there))) in
-    let fails = subst (λ (l : List NodeLevel). OnFalse all (¬ Spread s (edges_of W) l)) c.as_slice-levels.ensures
-    (subst (λ (e : Option ℕ). OnFalse all (¬ Spread s e c.as_slice-levels.result.now)) edges
-    (subst (λ (t : State). OnFalse all (¬ Spread t c.edges_of-edges.result c.as_slice-levels.result.now)) same (c.in_ok-all.ensures.no tells there))) in
+    let Both : Bool → State → Option ℕ → List NodeLevel → Type 0 = λ all t e l. OnTrue all (Spread t e l) × OnFalse all (¬ Spread t e l) in
+    IfOk-weaker c.all_spread.result _ _ (λ all spread.
+    let both = subst (λ (l : List NodeLevel). Both all s (edges_of W) l) c.as_slice-levels.ensures
+    (subst (λ (e : Option ℕ). Both all s e c.as_slice-levels.result.now) edges
+    (subst (λ (t : State). Both all t c.edges_of-edges.result c.as_slice-levels.result.now) same spread)) in
     subst (λ (adjacency : Adjacency). IsTrue all ↔ IsCertified adjacency c.args.from c.args.to W L)
     (neighbours_are s store c.args.direction c.args.labels.now types stand)
-    (is_certified near L c.args.from c.args.to W all distinct ends leads spreads fails)
+    (is_certified near L c.args.from c.args.to W all distinct ends leads both.0 both.1))
+    (both_ok c.all_spread.result _ _ (c.all_spread.ensures.yes tells there) (c.all_spread.ensures.no tells there))
 
 pub returns-clause-proves : goal.returns-clause-proves
 returns-clause-proves g c = λ tells store types stand.
-    proves_shortest (adjacency_of (g.R.Reads.state c.args.reads.now) c.args.direction types) c.args.answer.now.levels c.args.from c.args.to
-    c.args.answer.now.walk c.in_ok-all.all (returns-clause-decides g c tells store types stand)
+    IfOk-weaker c.all_spread.result _ _
+    (λ all decides. proves_shortest (adjacency_of (g.R.Reads.state c.args.reads.now) c.args.direction types) c.args.answer.now.levels c.args.from c.args.to
+    c.args.answer.now.walk all decides)
+    (returns-clause-decides g c tells store types stand)
 
-pub returns-in_err-all-clause-damaged : goal.returns-in_err-all-clause-damaged
-returns-in_err-all-clause-damaged g c = λ tells.
-    let p = err_from_is_err_and c.from_residual-in_err-all.result c.from_residual-in_err-all.ensures.1 in
-    rw (p.1, p.2)
-    (broken-read g.R.Reads g.met.R.Reads.onward_shape c.args.reads.now c.is_walk.new.reads c.is_walk.ensures.read c.in_err-all.field-0.0
-    (c.in_err-all.ensures.damaged tells))
-
-pub returns-in_err-all-clause-read : goal.returns-in_err-all-clause-read
-returns-in_err-all-clause-read g c =
-    is_read-on g.R.Reads g.met.R.Reads.further_onward _ _ _ c.is_walk.ensures.read c.all_spread.ensures.read
-
-pub returns-in_err-all-clause-cause : goal.returns-in_err-all-clause-cause
-returns-in_err-all-clause-cause g c =
-    cause_passed _ _ _ c.from_residual-in_err-all.result c.in_err-all.field-0.0 c.in_ok-leads.ensures.cause.later c.in_err-all.ensures.cause
-    c.from_residual-in_err-all.ensures.1
+pub returns-clause-damaged : goal.returns-clause-damaged
+returns-clause-damaged g c tells =
+    IfErr-weaker c.all_spread.result _ _
+    (λ fault broken. broken-read g.R.Reads g.met.R.Reads.onward_shape c.args.reads.now c.is_walk.new.reads c.is_walk.ensures.read fault broken)
+    (c.all_spread.ensures.damaged tells)
 
 pub returns-clause-read : goal.returns-clause-read
 returns-clause-read g c =
     is_read-on g.R.Reads g.met.R.Reads.further_onward _ _ _ c.is_walk.ensures.read c.all_spread.ensures.read
+
+pub returns-clause-cause : goal.returns-clause-cause
+returns-clause-cause g c = cause_later _ _ _ c.all_spread.result c.is_walk.ensures.read.later c.all_spread.ensures.cause
 
 pub returns-in_default-clause-decides : goal.returns-in_default-clause-decides
 returns-in_default-clause-decides g c = λ tells store types stand.
@@ -131,9 +130,6 @@ returns-in_err-found-clause-proves g c _ _ _ _ = never_ok c.from_residual.result
 
 pub returns-in_err-leads-clause-proves : goal.returns-in_err-leads-clause-proves
 returns-in_err-leads-clause-proves g c _ _ _ _ = never_ok c.from_residual-in_err-leads.result _ _ c.from_residual-in_err-leads.ensures.1
-
-pub returns-in_err-all-clause-decides : goal.returns-in_err-all-clause-decides
-returns-in_err-all-clause-decides g c _ _ _ _ = never_ok c.from_residual-in_err-all.result _ _ c.from_residual-in_err-all.ensures.1
 
 pub returns-in_err-found-clause-damaged : goal.returns-in_err-found-clause-damaged
 returns-in_err-found-clause-damaged g c _ = same_has _ c.from_residual.result _ c.from_residual.ensures.1 tt

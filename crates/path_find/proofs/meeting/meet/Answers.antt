@@ -1,215 +1,50 @@
-use Rattle.std.proofs.Common.{◌≡◌, ◌+◌, ℕ, Err, List, inl, inr, sym, ap, subst, ◌∙◌, arith}
-use Rattle.std.proofs.lemmas.Bool.{OnFalse_at, OnFalse_from, OnTrue_at}
-use Rattle.std.proofs.lemmas.Result.{err_from_is_err_and}
-use Rattle.rec_bytes.specs.Space.{State}
-use Rattle.rec_bytes.specs.declared.fault.Fault.TheVariants.{Disk}
-use Rattle.expand.specs.Expanding.{IsStore}
-use Rattle.plain_graph.specs.Reached.{IsLeastOrNone}
-use Rattle.path_find.specs.Meeting.{AreApart, AreJoined, CanDescend, reversed}
-use Rattle.path_find.specs.Reach.{AreLayers}
-use Rattle.path_find.specs.Reads.{neighbours_at}
-use Rattle.path_find.specs.Tree.{Rows, Spans, node_at}
-use Rattle.plain_graph.specs.Walks.{HasNoWalk}
-use Rattle.path_find.proofs.Descents.{can_descend}
-use Rattle.path_find.proofs.Joined.{AreLonger, apart-longer, least_walk, longer-none, whole_ahead, whole_behind}
-use Rattle.path_find.proofs.Layers.{layers_begin}
-use Rattle.path_find.proofs.MeetSteps.{apart_start, met_start}
-use Rattle.path_find.proofs.OnlyReads.{broken-read, is_read-none, is_read-on, same-read, store-read}
-use Rattle.path_find.proofs.Opposites.{opposite, opposite_back}
-use Rattle.path_find.proofs.SearchSteps.{spans_begin}
+use Rattle.std.proofs.Common.{arith}
 use Rattle.rec_bytes.proofs.Causes.{never_ok}
 use Rattle.chain_edit.proofs.Causes.{same_has}
-use Rattle.path_find.proofs.Causes.{cause_passed, memory_cause}
+use Rattle.path_find.proofs.Causes.{memory_cause}
+use Rattle.path_find.proofs.OnlyReads.{is_read-none}
 use Rattle.path_find.proofs.meeting.meet.Goals as goal
 
-pub loop-has_met-init : goal.loop-has_met-init
-loop-has_met-init g c =
-    let s = g.R.Reads.state c.args.space.now in
-    let first = c.in_ok-from_tree.ensures in
-    let second = c.in_ok-to_tree.ensures in
-    let near = neighbours_at s c.args.direction c.args.labels.now in
-    let back = neighbours_at s (reversed c.args.direction) c.args.labels.now in
-    record {
-      ahead = record { depth = 0; layers = subst (λ (rows : Rows). AreLayers rows 0 0) (sym first) (layers_begin c.args.from) };
-      behind = record { depth = 0; layers = subst (λ (rows : Rows). AreLayers rows 0 0) (sym second) (layers_begin c.args.to) };
-      first = ap (λ (rows : Rows). node_at rows 0) first;
-      last = ap (λ (rows : Rows). node_at rows 0) second;
-      met = met_start c.args.from c.args.to c.in_ok-from_tree.from_tree c.in_ok-to_tree.to_tree first second;
-      apart = apart_start c.args.from c.args.to c.in_ok-from_tree.from_tree c.in_ok-to_tree.to_tree first second;
-      read = is_read-none g.R.Reads g.met.R.Reads.stays_onward c.args.space.now;
-      ahead_spans = λ tells store there. subst (λ (rows : Rows). Spans near rows 0) (sym first) (spans_begin c.args.from near there);
-      behind_spans = λ tells store there. subst (λ (rows : Rows). Spans back rows 0) (sym second) (spans_begin c.args.to back there);
-      longer = λ tells store there to_there. longer-none near c.args.from c.args.to;
-    }
+pub returns-in_err-ahead-clause-found : goal.returns-in_err-ahead-clause-found
+returns-in_err-ahead-clause-found g c _ _ _ _ = never_ok c.from_residual.result _ _ c.from_residual.ensures.1
 
-pub loop-has_met-preserved : goal.loop-has_met-preserved
-loop-has_met-preserved g c =
-    let inv = c.loop-has_met.invariant in
-    let s = g.R.Reads.state c.args.space.now in
-    let direction = c.args.direction in
-    let labels = c.args.labels.now in
-    let near = neighbours_at s direction labels in
-    let back = neighbours_at s (reversed direction) labels in
-    let ahead = c.loop-has_met.ahead in
-    let behind = c.loop-has_met.behind in
-    let new_ahead = c.approach.new.ahead in
-    let new_behind = c.approach.new.behind in
-    let met = c.in_ok-met.ensures in
-    let closer = met.closer inv.ahead.depth inv.behind.depth inv.ahead.layers inv.behind.layers in
-    let apart = OnFalse_at c.loop-has_met-test.true inv.apart in
-    let store_mid = λ (store : IsStore s). store-read g.R.Reads g.met.R.Reads.onward_shape c.args.space.now c.loop-has_met.space inv.read store in
-    let same = same-read g.R.Reads g.met.R.Reads.onward_shape c.args.space.now c.loop-has_met.space inv.read in
-    record {
-      ahead = record { depth = closer.ahead_depth; layers = closer.ahead_layers };
-      behind = record { depth = closer.behind_depth; layers = closer.behind_layers };
-      first = closer.from ∙ inv.first;
-      last = closer.to ∙ inv.last;
-      met = met.met;
-      apart = OnFalse_from c.in_ok-met.met (AreApart new_ahead.tree new_behind.tree) (λ e. OnFalse_at e met.apart apart);
-      read = is_read-on g.R.Reads g.met.R.Reads.further_onward c.args.space.now c.loop-has_met.space c.approach.new.space inv.read c.approach.ensures.read;
-      ahead_spans = λ tells store there.
-          subst (λ (t : State). Spans (neighbours_at t direction labels) ahead.tree ahead.done → Spans (neighbours_at t direction labels) new_ahead.tree new_ahead.done) same
-          (met.ahead_spans tells (store_mid store)) (inv.ahead_spans tells store there);
-      behind_spans = λ tells store to_there.
-          subst (λ (t : State). Spans (neighbours_at t (reversed direction) labels) behind.tree behind.done → Spans (neighbours_at t (reversed direction) labels) new_behind.tree new_behind.done) same
-          (met.behind_spans tells (store_mid store)) (inv.behind_spans tells store to_there);
-      longer = λ tells store there to_there.
-          let more = apart-longer near back (opposite s direction labels) (opposite_back s direction labels)
-          ahead.tree ahead.done inv.ahead.depth inv.ahead.layers (inv.ahead_spans tells store there)
-          behind.tree behind.done inv.behind.depth inv.behind.layers (inv.behind_spans tells store to_there) apart in
-          let from_first = subst (λ n. AreLonger near n (node_at behind.tree 0) (inv.ahead.depth + inv.behind.depth + 1)) inv.first more in
-          let from_both = subst (λ n. AreLonger near c.args.from n (inv.ahead.depth + inv.behind.depth + 1)) inv.last from_first in
-          subst (AreLonger near c.args.from c.args.to) (sym closer.deep) from_both;
-    }
+pub returns-in_err-ahead-clause-damaged : goal.returns-in_err-ahead-clause-damaged
+returns-in_err-ahead-clause-damaged g c _ = same_has _ c.from_residual.result _ c.from_residual.ensures.1 tt
 
-pub loop-has_met-smaller : goal.loop-has_met-smaller
-loop-has_met-smaller g c =
-    let more = c.in_ok-met.ensures.more in
-    let left = OnFalse_at c.if-over.false c.is_over-over.ensures.ahead in
-    let behind_left = OnFalse_at c.if-over.false c.is_over-over.ensures.behind in
-    let few = c.is_over-over.ensures.few in
-    let few_behind = c.is_over-over.ensures.few_behind in
-    omega (arith, more, left, behind_left, few, few_behind)
+pub returns-in_err-ahead-clause-read : goal.returns-in_err-ahead-clause-read
+returns-in_err-ahead-clause-read g c = is_read-none g.R.Reads g.met.R.Reads.stays_onward c.args.space.now
 
-pub returns-then-over-clause-found : goal.returns-then-over-clause-found
-returns-then-over-clause-found g c = λ tells store there to_there.
-    let inv = c.loop-has_met.invariant in
-    let s = g.R.Reads.state c.args.space.now in
-    let direction = c.args.direction in
-    let labels = c.args.labels.now in
-    let near = neighbours_at s direction labels in
-    let back = neighbours_at s (reversed direction) labels in
-    let ahead = c.loop-has_met.ahead in
-    let behind = c.loop-has_met.behind in
-    let apart = OnFalse_at c.loop-has_met-test.true inv.apart in
-    let none : HasNoWalk near (node_at ahead.tree 0) (node_at behind.tree 0) = elim (OnTrue_at c.if-over.true c.is_over-over.ensures.yes) [
-      | inl whole ↦ whole_ahead near back (opposite s direction labels) (opposite_back s direction labels)
-          ahead.tree ahead.done inv.ahead.depth inv.ahead.layers (inv.ahead_spans tells store there)
-          behind.tree behind.done inv.behind.depth inv.behind.layers (inv.behind_spans tells store to_there) apart whole
-      | inr whole ↦ whole_behind near back (opposite s direction labels) (opposite_back s direction labels)
-          ahead.tree ahead.done inv.ahead.depth inv.ahead.layers (inv.ahead_spans tells store there)
-          behind.tree behind.done inv.behind.depth inv.behind.layers (inv.behind_spans tells store to_there) apart whole
-    ] in
-    let from_first = subst (λ n. HasNoWalk near n (node_at behind.tree 0)) inv.first none in
-    let from_both = subst (λ n. HasNoWalk near c.args.from n) inv.last from_first in
-    subst (λ (list : List ℕ). IsLeastOrNone near c.args.from c.args.to list) (sym c.new-none.ensures.items) from_both
-
-pub returns-clause-found : goal.returns-clause-found
-returns-clause-found g c = λ tells store there to_there.
-    let inv = c.loop-has_met.invariant in
-    let s = g.R.Reads.state c.args.space.now in
-    let direction = c.args.direction in
-    let labels = c.args.labels.now in
-    let near = neighbours_at s direction labels in
-    let back = neighbours_at s (reversed direction) labels in
-    let ahead = c.loop-has_met.ahead in
-    let behind = c.loop-has_met.behind in
-    let walk = c.in_ok-walk.walk.items in
-    let ahead_spans = inv.ahead_spans tells store there in
-    let behind_spans = inv.behind_spans tells store to_there in
-    let one = opposite s direction labels in
-    let other = opposite_back s direction labels in
-    let same = same-read g.R.Reads g.met.R.Reads.onward_shape c.args.space.now c.loop-has_met.space inv.read in
-    let store_mid = store-read g.R.Reads g.met.R.Reads.onward_shape c.args.space.now c.loop-has_met.space inv.read store in
-    let joined = subst (λ (t : State). CanDescend (neighbours_at t direction labels) behind.tree → AreJoined (neighbours_at t direction labels) ahead.tree behind.tree walk) same
-    (c.in_ok-walk.ensures.joins tells store_mid) (can_descend near back one other behind.tree behind.done inv.behind.depth inv.behind.layers behind_spans) in
-    let longer = inv.longer tells store there to_there in
-    let longer_first = subst (λ n. AreLonger near n c.args.to (inv.ahead.depth + inv.behind.depth)) (sym inv.first) longer in
-    let longer_both = subst (λ n. AreLonger near (node_at ahead.tree 0) n (inv.ahead.depth + inv.behind.depth)) (sym inv.last) longer_first in
-    let least = least_walk near back one other ahead.tree ahead.done inv.ahead.depth inv.ahead.layers ahead_spans behind.tree behind.done inv.behind.depth
-    inv.behind.layers behind_spans longer_both walk joined in
-    let from_first = subst (λ n. IsLeastOrNone near n (node_at behind.tree 0) walk) inv.first least in
-    subst (λ n. IsLeastOrNone near c.args.from n walk) inv.last from_first
-
-pub returns-in_err-met-clause-damaged : goal.returns-in_err-met-clause-damaged
-returns-in_err-met-clause-damaged g c = λ tells.
-    let p = err_from_is_err_and c.from_residual-in_err-met.result c.from_residual-in_err-met.ensures.1 in
-    rw (p.1, p.2) (broken-read g.R.Reads g.met.R.Reads.onward_shape c.args.space.now c.loop-has_met.space c.loop-has_met.invariant.read c.in_err-met.field-0.0 (c.in_err-met.ensures.damaged tells))
-
-pub returns-in_err-walk-clause-damaged : goal.returns-in_err-walk-clause-damaged
-returns-in_err-walk-clause-damaged g c = λ tells.
-    let p = err_from_is_err_and c.from_residual-in_err-walk.result c.from_residual-in_err-walk.ensures.1 in
-    rw (p.1, p.2) (broken-read g.R.Reads g.met.R.Reads.onward_shape c.args.space.now c.loop-has_met.space c.loop-has_met.invariant.read c.in_err-walk.field-0.0 (c.in_err-walk.ensures.damaged tells))
-
-pub returns-in_err-met-clause-read : goal.returns-in_err-met-clause-read
-returns-in_err-met-clause-read g c = is_read-on g.R.Reads g.met.R.Reads.further_onward c.args.space.now c.loop-has_met.space c.approach.new.space
-    c.loop-has_met.invariant.read c.approach.ensures.read
-
-pub returns-in_err-walk-clause-read : goal.returns-in_err-walk-clause-read
-returns-in_err-walk-clause-read g c = is_read-on g.R.Reads g.met.R.Reads.further_onward c.args.space.now c.loop-has_met.space c.join.new.space
-    c.loop-has_met.invariant.read c.join.ensures.read
-
-pub returns-clause-read : goal.returns-clause-read
-returns-clause-read g c = is_read-on g.R.Reads g.met.R.Reads.further_onward c.args.space.now c.loop-has_met.space c.join.new.space c.loop-has_met.invariant.read
-    c.join.ensures.read
-
-pub returns-in_err-met-clause-cause : goal.returns-in_err-met-clause-cause
-returns-in_err-met-clause-cause g c =
-    let p = err_from_is_err_and c.from_residual-in_err-met.result c.from_residual-in_err-met.ensures.1 in
-    let early = c.loop-has_met.invariant.read.later in
-    let cause = c.in_err-met.ensures.cause in
-    let late = cause.later in
-    rw (p.1, p.2) (record {
-      later = omega (arith, early, late);
-      disk = λ is.
-          let same : c.in_err-met.field-0.0 ≡ Disk = cc in
-          let rose = cause.disk (ap Err same) in
-          omega (arith, early, rose);
-    })
-
-pub returns-in_err-from_tree-clause-found : goal.returns-in_err-from_tree-clause-found
-returns-in_err-from_tree-clause-found g c _ _ _ _ = never_ok c.from_residual.result _ _ c.from_residual.ensures.1
-
-pub returns-in_err-from_tree-clause-damaged : goal.returns-in_err-from_tree-clause-damaged
-returns-in_err-from_tree-clause-damaged g c _ = same_has _ c.from_residual.result _ c.from_residual.ensures.1 tt
-
-pub returns-in_err-from_tree-clause-read : goal.returns-in_err-from_tree-clause-read
-returns-in_err-from_tree-clause-read g c = is_read-none g.R.Reads g.met.R.Reads.stays_onward c.args.space.now
-
-pub returns-in_err-from_tree-clause-cause : goal.returns-in_err-from_tree-clause-cause
-returns-in_err-from_tree-clause-cause g c =
+pub returns-in_err-ahead-clause-cause : goal.returns-in_err-ahead-clause-cause
+returns-in_err-ahead-clause-cause g c =
     memory_cause _ _ c.from_residual.result (omega arith) c.from_residual.ensures.1
 
-pub returns-in_err-to_tree-clause-found : goal.returns-in_err-to_tree-clause-found
-returns-in_err-to_tree-clause-found g c _ _ _ _ = never_ok c.from_residual-in_err-to_tree.result _ _ c.from_residual-in_err-to_tree.ensures.1
+pub returns-in_err-behind-clause-found : goal.returns-in_err-behind-clause-found
+returns-in_err-behind-clause-found g c _ _ _ _ = never_ok c.from_residual-in_err-behind.result _ _ c.from_residual-in_err-behind.ensures.1
 
-pub returns-in_err-to_tree-clause-damaged : goal.returns-in_err-to_tree-clause-damaged
-returns-in_err-to_tree-clause-damaged g c _ = same_has _ c.from_residual-in_err-to_tree.result _ c.from_residual-in_err-to_tree.ensures.1 tt
+pub returns-in_err-behind-clause-damaged : goal.returns-in_err-behind-clause-damaged
+returns-in_err-behind-clause-damaged g c _ = same_has _ c.from_residual-in_err-behind.result _ c.from_residual-in_err-behind.ensures.1 tt
 
-pub returns-in_err-to_tree-clause-read : goal.returns-in_err-to_tree-clause-read
-returns-in_err-to_tree-clause-read g c = is_read-none g.R.Reads g.met.R.Reads.stays_onward c.args.space.now
+pub returns-in_err-behind-clause-read : goal.returns-in_err-behind-clause-read
+returns-in_err-behind-clause-read g c = is_read-none g.R.Reads g.met.R.Reads.stays_onward c.args.space.now
 
-pub returns-in_err-to_tree-clause-cause : goal.returns-in_err-to_tree-clause-cause
-returns-in_err-to_tree-clause-cause g c =
-    memory_cause _ _ c.from_residual-in_err-to_tree.result (omega arith) c.from_residual-in_err-to_tree.ensures.1
+pub returns-in_err-behind-clause-cause : goal.returns-in_err-behind-clause-cause
+returns-in_err-behind-clause-cause g c =
+    memory_cause _ _ c.from_residual-in_err-behind.result (omega arith) c.from_residual-in_err-behind.ensures.1
 
-pub returns-in_err-met-clause-found : goal.returns-in_err-met-clause-found
-returns-in_err-met-clause-found g c _ _ _ _ = never_ok c.from_residual-in_err-met.result _ _ c.from_residual-in_err-met.ensures.1
+pub meet_between-requires-clause-ahead : goal.meet_between-requires-clause-ahead
+meet_between-requires-clause-ahead g c = c.in_ok-ahead.ensures
 
-pub returns-in_err-walk-clause-found : goal.returns-in_err-walk-clause-found
-returns-in_err-walk-clause-found g c _ _ _ _ = never_ok c.from_residual-in_err-walk.result _ _ c.from_residual-in_err-walk.ensures.1
+pub meet_between-requires-clause-behind : goal.meet_between-requires-clause-behind
+meet_between-requires-clause-behind g c = c.in_ok-behind.ensures
 
-pub returns-in_err-walk-clause-cause : goal.returns-in_err-walk-clause-cause
-returns-in_err-walk-clause-cause g c =
-    cause_passed _ _ _ c.from_residual-in_err-walk.result c.in_err-walk.field-0.0 c.loop-has_met.invariant.read.later c.in_err-walk.ensures.cause
-    c.from_residual-in_err-walk.ensures.1
+pub returns-clause-found : goal.returns-clause-found
+returns-clause-found g c = c.meet_between.ensures.found
+
+pub returns-clause-damaged : goal.returns-clause-damaged
+returns-clause-damaged g c = c.meet_between.ensures.damaged
+
+pub returns-clause-read : goal.returns-clause-read
+returns-clause-read g c = c.meet_between.ensures.read
+
+pub returns-clause-cause : goal.returns-clause-cause
+returns-clause-cause g c = c.meet_between.ensures.cause

@@ -8,7 +8,7 @@ use Rattle.path_find.specs.Reach.{HasLayers}
 use Rattle.path_find.specs.Reads.{neighbours_at}
 use Rattle.path_find.specs.Tree.{Spans, node_at}
 use Rattle.path_find.proofs.Joined.{AreLonger}
-use Rattle.path_find.proofs.meeting.meet.Given as goal
+use Rattle.path_find.proofs.meeting.meet_between.Given as goal
 
 abbrev pub invariant-loop-has_met : goal.invariant-loop-has_met
 invariant-loop-has_met g l =
