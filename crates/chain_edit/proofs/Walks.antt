@@ -28,6 +28,8 @@ use Rattle.store_rules.specs.Views.{Records, high, rec_at}
 use Rattle.rel_store.specs.declared.edge_row.EdgeRow.{EdgeRow}
 use Rattle.rel_store.specs.Loading.{rel_mark, rel_room}
 use Rattle.rel_store.specs.RelRecord.{edge_of}
+use Rattle.chain_edit.specs.Reach.{IsReach}
+use Rattle.chain_edit.specs.declared.links.Reach.{Reach}
 use Rattle.chain_edit.specs.Chains.{IsChainFrom, next_of, prev_of}
 use Rattle.chain_edit.specs.Links.{IsLinkDamage}
 use Rattle.chain_edit.specs.Links.IsLinkDamage.{LeadsNowhere, HighMark as HighLinkMark}
@@ -171,6 +173,10 @@ mark_then s now n reads = ap rel_mark reads ∙ ap (λ (r : Records). high r 2) 
 
 pub room_then : (s now : State) (n : ℕ) → now ≡ after_gets n s → rel_room now ≡ rel_room s
 room_then s now n reads = ap rel_room reads ∙ ap (λ (shape : Shape). room_of shape 2) (shape-after_gets n s)
+
+-- and links may lead as far
+pub reach_then : (s now : State) (n : ℕ) (reach : Reach) → now ≡ after_gets n s → IsReach s reach → IsReach now reach
+reach_then s now n reach reads is = record { mark = is.mark ∙ sym (mark_then s now n reads); room = is.room ∙ sym (room_then s now n reads) }
 
 -- ---- damage
 

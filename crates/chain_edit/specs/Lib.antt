@@ -5,5 +5,6 @@ pub mod Length
 pub mod Links
 pub mod Listed
 pub mod Pushing
+pub mod Reach
 pub mod Unlinking
 pub mod Walking

@@ -9,6 +9,7 @@ ghost use Rattle.chain_edit.specs.Breaks.{IsBreakFault};
 ghost use Rattle.chain_edit.specs.Length.{HasCounted, IsLengthFault, IsMemberChain, stands};
 ghost use Rattle.chain_edit.specs.Walking.{ReadsAtMost};
 
+use crate::links::reach_of;
 use crate::members::is_member;
 use crate::walking::{chain_damage, read_next};
 use crate::{Chain, Members};
@@ -49,11 +50,12 @@ pub fn chain_length<R: Reads>(
     let mut before = NIL;
     let mut at = chain.first;
     let mut rec = Rec::ZEROS;
+    let reach = reach_of(space);
     for count in 0..budget {
         if at == NIL {
             return Ok(count);
         }
-        read_next(space, chain, before, at, &mut rec)?;
+        read_next(space, reach, chain, before, at, &mut rec)?;
         if !is_member(&rec, chain.node, members) {
             return Err(Fault::Damaged(chain_damage(chain.owner)));
         }

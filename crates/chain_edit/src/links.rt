@@ -6,11 +6,29 @@ ghost use Rattle.rec_bytes.specs.Space.{after_get, HasCause, WritesOnly};
 ghost use Rattle.rel_store.specs.RelRecord.{rel_key};
 ghost use Rattle.chain_edit.specs.Links.{IsKnownLink, IsLinkDamage, IsRightLink, backed, next_set};
 ghost use Rattle.chain_edit.specs.Links.{prev_set};
+ghost use Rattle.chain_edit.specs.Reach.{IsReach};
 
 use rec_bytes::{
     Damage, Key, META, NIL, RANGE_RULE, RELATIONSHIPS, Reads, Space, SpaceFault, room_of,
 };
 use rel_store::{Linked, place_of};
+
+/// How far links may lead: below the mark of the relationships, and no further than there is room.
+#[derive(Clone, Copy)]
+pub(crate) struct Reach {
+    mark: u32,
+    room: u64,
+}
+
+/// How far the links of a space may lead. It takes no read, and stays while records are only read.
+pub(crate) fn reach_of<R: Reads>(space: &R) -> Reach
+    ensures { IsReach (R.state space.now) result }
+{
+    Reach {
+        mark: space.meta(RELATIONSHIPS).high,
+        room: room_of(RELATIONSHIPS, space.shape()),
+    }
+}
 
 /// Tests a link. It is none, or it leads to a relationship below the mark, and there is room for as
 /// many. Where it leads nowhere, the damage is the one that is named.
@@ -20,13 +38,30 @@ pub(crate) fn test_link<R: Reads>(space: &R, link: u32, named: Damage) -> Result
     ensures sound { IsRightLink (R.state space.now) link → IsOk result }
     ensures damaged { IfErr result (IsLinkDamage (R.state space.now) link named) }
 {
+    test_within(space, reach_of(space), link, named)
+}
+
+/// Tests a link as `test_link` does, given how far it may lead.
+pub(crate) fn test_within<R: Reads>(
+    space: &R,
+    reach: Reach,
+    link: u32,
+    named: Damage,
+) -> Result<(), Damage>
+    requires { IsReach (R.state space.now) reach }
+    ensures key { OnOk result (link ≢ NIL → IsKey (rel_key link)) }
+    ensures known { OnOk result (IsKnownLink (R.state space.now) link) }
+    ensures sound { IsRightLink (R.state space.now) link → IsOk result }
+    ensures damaged { IfErr result (IsLinkDamage (R.state space.now) link named) }
+{
     if link == NIL {
         return Ok(());
     }
-    if link >= space.meta(RELATIONSHIPS).high {
+    if link >= reach.mark {
         return Err(named);
     }
-    if link as u64 >= room_of(RELATIONSHIPS, space.shape()) {
+    let _shape = space.shape(); // Its room has a key for each number.
+    if link as u64 >= reach.room {
         return Err(Damage {
             file: META,
             id: RELATIONSHIPS as u32,

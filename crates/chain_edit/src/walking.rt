@@ -11,11 +11,12 @@ ghost use Rattle.store_rules.specs.Views.{rec_at};
 ghost use Rattle.chain_edit.specs.Breaks.{IsBreakFault};
 ghost use Rattle.chain_edit.specs.Chains.{prev_of};
 ghost use Rattle.chain_edit.specs.Links.{IsKnownLink};
+ghost use Rattle.chain_edit.specs.Reach.{IsReach};
 ghost use Rattle.chain_edit.specs.Walking.{HasWalked, IsSoundWalk, IsStepFault, IsWalkFault};
 ghost use Rattle.chain_edit.specs.Walking.{ReadsAtMost, chain_damage};
 
 use crate::Chain;
-use crate::links::test_link;
+use crate::links::{Reach, reach_of, test_within};
 use rec_bytes::{CHAIN_RULE, Damage, Fault, Key, NIL, RELATIONSHIPS, Reads, Rec};
 use rel_store::{EdgeRow, Linked, place_of};
 use std::alloc::Global;
@@ -54,11 +55,12 @@ pub fn walk<R: Reads>(
     let mut before = NIL;
     let mut at = chain.first;
     let mut rec = Rec::ZEROS;
+    let reach = reach_of(space);
     for _ in 0..budget {
         if at == NIL {
             return Ok(rows);
         }
-        read_next(space, chain, before, at, &mut rec)?;
+        read_next(space, reach, chain, before, at, &mut rec)?;
         rows.push(EdgeRow::of(&rec, at))?;
         before = at;
         at = rec.link(place_of(&rec, chain.node) + 4);
@@ -74,12 +76,14 @@ pub fn walk<R: Reads>(
 /// since what it meets leads back elsewhere.
 pub(crate) fn read_next<R: Reads>(
     space: &mut R,
+    reach: Reach,
     chain: &Chain,
     before: u32,
     at: u32,
     rec: &mut Rec,
 ) -> Result<(), Fault>
-    requires { at ≢ NIL }
+    requires some { at ≢ NIL }
+    requires reach { IsReach (R.state space.old) reach }
     ensures got { R.tells
         → OnOk result (rec.new ≡ rec_at (R.state space.old).records relationships_file at) }
     ensures known { OnOk result (IsKnownLink (R.state space.old) at) }
@@ -93,7 +97,7 @@ pub(crate) fn read_next<R: Reads>(
     ensures onward { R.onward space.old space.new }
     ensures cause { HasFaultCause (R.faults space.old) (R.faults space.new) result }
 {
-    test_link(space, at, chain_damage(chain.owner))?;
+    test_within(space, reach, at, chain_damage(chain.owner))?;
     space.get_into(
         Key {
             file: RELATIONSHIPS,

@@ -10,7 +10,7 @@ use Rattle.chain_edit.specs.Length.IsLengthDamage.{NoChain}
 use Rattle.chain_edit.specs.Walking.{chain_damage}
 use Rattle.chain_edit.proofs.Broken.{length_breaks, length_fault_breaks}
 use Rattle.chain_edit.proofs.Lengths.{CountsSoFar, counts_all, counts_more, counts_none, no_member, rest_all, rest_more, step_fault, undamaged}
-use Rattle.chain_edit.proofs.Walks.{mark_then, next_read, read_next as reads_more, reads_next, reads_within, rec_then, step_then}
+use Rattle.chain_edit.proofs.Walks.{mark_then, next_read, reach_then, read_next as reads_more, reads_next, reads_within, rec_then, step_then}
 use Rattle.chain_edit.proofs.Causes.{cause_passed}
 use Rattle.rec_bytes.proofs.Causes.{never_ok}
 use Rattle.chain_edit.proofs.length.chain_length.Goals as goal
@@ -48,6 +48,10 @@ loop-count-preserved g c =
       onward = g.met.R.Reads.further_onward c.args.space.now c.loop-count.space c.read_next.new.space c.loop-count.invariant.onward c.in_ok-read_next.ensures.onward;
       later = let cause = c.in_ok-read_next.ensures.cause in omega (arith, c.loop-count.invariant.later, cause.later);
     }
+
+pub read_next-requires-clause-reach : goal.read_next-requires-clause-reach
+read_next-requires-clause-reach g c =
+    reach_then (g.R.Reads.state c.args.space.now) (g.R.Reads.state c.loop-count.space) c.loop-count.count c.reach_of-reach.result c.loop-count.invariant.read c.reach_of-reach.ensures
 
 pub returns-in_err-read_next-clause-at_most : goal.returns-in_err-read_next-clause-at_most
 returns-in_err-read_next-clause-at_most g c =

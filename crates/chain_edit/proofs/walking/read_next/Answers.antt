@@ -9,14 +9,14 @@ use Rattle.chain_edit.proofs.Walks.{link_step, reads_none, reads_one}
 use Rattle.rec_bytes.proofs.Causes.{never_ok}
 use Rattle.chain_edit.proofs.walking.read_next.Goals as goal
 
-pub returns-in_err-test_link-clause-at_most : goal.returns-in_err-test_link-clause-at_most
-returns-in_err-test_link-clause-at_most g c = reads_none (g.R.Reads.state c.args.space.now) 1
+pub returns-in_err-test_within-clause-at_most : goal.returns-in_err-test_within-clause-at_most
+returns-in_err-test_within-clause-at_most g c = reads_none (g.R.Reads.state c.args.space.now) 1
 
-pub returns-in_err-test_link-clause-damaged : goal.returns-in_err-test_link-clause-damaged
-returns-in_err-test_link-clause-damaged g c = λ tells.
+pub returns-in_err-test_within-clause-damaged : goal.returns-in_err-test_within-clause-damaged
+returns-in_err-test_within-clause-damaged g c = λ tells.
     let p = err_from_is_err_and c.from_residual.result c.from_residual.ensures.1 in
-    rw (p.1, p.2) (link_step (g.R.Reads.state c.args.space.now) c.args.chain.now.owner c.args.chain.now.node c.args.before c.args.at c.chain_damage.result c.in_err-test_link.field-0.0
-    c.chain_damage.ensures c.in_err-test_link.ensures.damaged)
+    rw (p.1, p.2) (link_step (g.R.Reads.state c.args.space.now) c.args.chain.now.owner c.args.chain.now.node c.args.before c.args.at c.chain_damage.result c.in_err-test_within.field-0.0
+    c.chain_damage.ensures c.in_err-test_within.ensures.damaged)
 
 pub returns-in_err-get_into-clause-at_most : goal.returns-in_err-get_into-clause-at_most
 returns-in_err-get_into-clause-at_most g c = reads_one (g.R.Reads.state c.args.space.now) (g.R.Reads.state c.get_into.new.self) c.in_err-get_into.ensures.state
@@ -35,23 +35,23 @@ returns-then-link-before-clause-damaged g c = λ tells.
 pub returns-clause-at_most : goal.returns-clause-at_most
 returns-clause-at_most g c = reads_one (g.R.Reads.state c.args.space.now) (g.R.Reads.state c.get_into.new.self) c.in_ok-get_into.ensures.state
 
-pub returns-in_err-test_link-clause-got : goal.returns-in_err-test_link-clause-got
-returns-in_err-test_link-clause-got g c _ = never_ok c.from_residual.result _ _ c.from_residual.ensures.1
+pub returns-in_err-test_within-clause-got : goal.returns-in_err-test_within-clause-got
+returns-in_err-test_within-clause-got g c _ = never_ok c.from_residual.result _ _ c.from_residual.ensures.1
 
-pub returns-in_err-test_link-clause-known : goal.returns-in_err-test_link-clause-known
-returns-in_err-test_link-clause-known g c = never_ok c.from_residual.result _ _ c.from_residual.ensures.1
+pub returns-in_err-test_within-clause-known : goal.returns-in_err-test_within-clause-known
+returns-in_err-test_within-clause-known g c = never_ok c.from_residual.result _ _ c.from_residual.ensures.1
 
-pub returns-in_err-test_link-clause-key : goal.returns-in_err-test_link-clause-key
-returns-in_err-test_link-clause-key g c = never_ok c.from_residual.result _ _ c.from_residual.ensures.1
+pub returns-in_err-test_within-clause-key : goal.returns-in_err-test_within-clause-key
+returns-in_err-test_within-clause-key g c = never_ok c.from_residual.result _ _ c.from_residual.ensures.1
 
-pub returns-in_err-test_link-clause-back : goal.returns-in_err-test_link-clause-back
-returns-in_err-test_link-clause-back g c _ = never_ok c.from_residual.result _ _ c.from_residual.ensures.1
+pub returns-in_err-test_within-clause-back : goal.returns-in_err-test_within-clause-back
+returns-in_err-test_within-clause-back g c _ = never_ok c.from_residual.result _ _ c.from_residual.ensures.1
 
-pub returns-in_err-test_link-clause-state : goal.returns-in_err-test_link-clause-state
-returns-in_err-test_link-clause-state g c = never_ok c.from_residual.result _ _ c.from_residual.ensures.1
+pub returns-in_err-test_within-clause-state : goal.returns-in_err-test_within-clause-state
+returns-in_err-test_within-clause-state g c = never_ok c.from_residual.result _ _ c.from_residual.ensures.1
 
-pub returns-in_err-test_link-clause-onward : goal.returns-in_err-test_link-clause-onward
-returns-in_err-test_link-clause-onward g c = search rules
+pub returns-in_err-test_within-clause-onward : goal.returns-in_err-test_within-clause-onward
+returns-in_err-test_within-clause-onward g c = search rules
 
 pub returns-in_err-get_into-clause-got : goal.returns-in_err-get_into-clause-got
 returns-in_err-get_into-clause-got g c _ = never_ok c.from_residual-in_err-get_into.result _ _ c.from_residual-in_err-get_into.ensures.1

@@ -8,7 +8,7 @@ use Rattle.store_rules.specs.Breaking.{Breaks}
 use Rattle.chain_edit.specs.Walking.{IsSoundWalk, IsWalkDamage, chain_damage}
 use Rattle.chain_edit.specs.Walking.IsWalkDamage.{NoWalk}
 use Rattle.chain_edit.proofs.Broken.{walk_breaks, walk_fault_breaks}
-use Rattle.chain_edit.proofs.Walks.{few_next, few_then, left_more, left_none, link_is, mark_then, next_read, one_longer, read_next as reads_more, reads_next, reads_within, rec_then, rows_all, rows_more, rows_none, step_then, undamaged, walk_fault}
+use Rattle.chain_edit.proofs.Walks.{few_next, few_then, left_more, left_none, link_is, mark_then, next_read, one_longer, reach_then, read_next as reads_more, reads_next, reads_within, rec_then, rows_all, rows_more, rows_none, step_then, undamaged, walk_fault}
 use Rattle.chain_edit.proofs.Causes.{cause_passed, memory_cause, same_has}
 use Rattle.rec_bytes.proofs.Causes.{never_ok}
 use Rattle.chain_edit.proofs.walking.walk.Goals as goal
@@ -51,6 +51,10 @@ loop-preserved g c =
       onward = g.met.R.Reads.further_onward c.args.space.now c.loop.space c.read_next.new.space c.loop.invariant.onward c.in_ok-read_next.ensures.onward;
       later = let cause = c.in_ok-read_next.ensures.cause in omega (arith, c.loop.invariant.later, cause.later);
     }
+
+pub read_next-requires-clause-reach : goal.read_next-requires-clause-reach
+read_next-requires-clause-reach g c =
+    reach_then (g.R.Reads.state c.args.space.now) (g.R.Reads.state c.loop.space) (length c.loop.rows.items) c.reach_of-reach.result c.loop.invariant.read c.reach_of-reach.ensures
 
 pub returns-then-at-clause-rows : goal.returns-then-at-clause-rows
 returns-then-at-clause-rows g c = λ tells.
