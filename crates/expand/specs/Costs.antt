@@ -1,15 +1,17 @@
 -- What the edges of a node cost.
-use Rattle.std.specs.Prelude.{ℕ, ◌+◌, nat_eq, if◌then◌else◌, Bool, ◌||◌, List, length, map}
-use Rattle.std.specs.List.{filter}
+use Rattle.std.specs.Prelude.{ℕ, ◌+◌, nat_eq, if◌then◌else◌, Bool, false, not, ◌||◌, List, [], ◌∷◌}
+use Rattle.std.specs.Prelude.{length, map}
+use Rattle.std.specs.List.{filter, list_any}
 use Rattle.std.specs.Set.{distinct_count}
 use Rattle.plain_graph.specs.Graph.{Edge, Graph, degree_in, is_at}
-use Rattle.plain_graph.specs.Meaning.{enters_by, leaves_by}
+use Rattle.plain_graph.specs.Meaning.{enters_by, is_named, leaves_by}
 use Rattle.plain_graph.specs.Values.{is_text}
 use Rattle.plain_graph.specs.declared.direction.Direction.{Direction}
 use Rattle.plain_graph.specs.declared.direction.Direction.TheVariants as directions
 use Rattle.rec_bytes.specs.Format as format
 use Rattle.rec_bytes.specs.Space.{State}
-use Rattle.store_rules.specs.Views.{kind_at}
+use Rattle.store_rules.specs.Graph.{names_of}
+use Rattle.store_rules.specs.Views.{Records, kind_at}
 use Rattle.expand.specs.Expanding.{graph_in, name_of}
 
 -- how many types the edges at a node have
@@ -39,3 +41,8 @@ abbrev pub most_reads : State → Direction → List ℕ → ℕ → ℕ
 most_reads s direction labels node =
     if nat_eq (kind_at s.records format.nodes_file node) format.dense
     then dense_reads s direction labels node else degree_in (graph_in s) node + 1
+
+-- types are written, and none of them is a name of the store
+abbrev pub are_unknown : Records → List (List ℕ) → Bool
+are_unknown records [] = false
+are_unknown records (text ∷ texts) = not (list_any (is_named (text ∷ texts)) (names_of records))

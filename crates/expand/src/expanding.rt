@@ -66,6 +66,6 @@ pub fn expand<R: Reads>(
     ensures cause { HasExpandCause (R.faults space.old) (R.faults space.new) result }
 {
     let rows = load_rows(alloc, space, node, direction, labels)?;
-    let found = rows_at(alloc, &rows, node, direction, labels)?;
+    let found = rows_at(alloc, rows, node, direction, labels)?;
     Ok(found)
 }

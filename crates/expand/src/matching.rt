@@ -29,30 +29,31 @@ pub(crate) enum End {
 
 /// Of these rows, those at a node in a direction and of these types, all types where none is given,
 /// by ascending identifier. In both directions those that leave the node come first, and a loop is
-/// met twice.
+/// met twice. In one direction no second list is made.
 pub(crate) fn rows_at(
     alloc: Global,
-    rows: &[EdgeRow],
+    rows: Vec<EdgeRow>,
     node: u32,
     direction: Direction,
     labels: &[u32],
 ) -> Result<Vec<EdgeRow>, AllocError>
     ensures { IfOk result (λ found. (edges : List EdgeRow)
-        → IsPart (is_met direction labels.now node) rows.now edges
+        → IsPart (is_met direction labels.now node) rows.items edges
         → found.items ≡ rows_at direction labels.now node edges) }
 {
     match direction {
         Direction::Outgoing => {
-            let found = rows_on(alloc, rows, node, End::Source, labels)?;
+            let found = rows_on(rows, node, End::Source, labels)?;
             Ok(found)
         }
         Direction::Incoming => {
-            let found = rows_on(alloc, rows, node, End::Target, labels)?;
+            let found = rows_on(rows, node, End::Target, labels)?;
             Ok(found)
         }
         Direction::Both => {
-            let mut found = rows_on(alloc, rows, node, End::Source, labels)?;
-            let entering = rows_on(alloc, rows, node, End::Target, labels)?;
+            let leaving = picked(alloc, &rows, node, End::Source, labels)?;
+            let mut found = in_order(leaving)?;
+            let entering = rows_on(rows, node, End::Target, labels)?;
             found.extend_from_slice(&entering)?;
             Ok(found)
         }
@@ -61,19 +62,26 @@ pub(crate) fn rows_at(
 
 /// Those of which the node is this end, by ascending identifier.
 fn rows_on(
-    alloc: Global,
-    rows: &[EdgeRow],
+    rows: Vec<EdgeRow>,
     node: u32,
     end: End,
     labels: &[u32],
 ) -> Result<Vec<EdgeRow>, AllocError>
     ensures moved { IfOk result (λ found.
-        IsPermutation (filter (is_met_at end labels.now node) rows.now) found.items) }
+        IsPermutation (filter (is_met_at end labels.now node) rows.items) found.items) }
     ensures sorted { IfOk result (λ found. IsNonDecreasingBy id_of found.items) }
 {
-    let mut found = picked(alloc, rows, node, end, labels)?;
-    put_in_order(&mut found)?;
-    Ok(found)
+    let found = kept(rows, node, end, labels);
+    in_order(found)
+}
+
+/// Those of which the node is this end, in the order of the rows and in their memory.
+fn kept(rows: Vec<EdgeRow>, node: u32, end: End, labels: &[u32]) -> Vec<EdgeRow>
+    ensures { result.items ≡ filter (is_met_at end labels.now node) rows.items }
+{
+    let mut found = rows;
+    found.retain(|row| end_of(end, row) == node && is_wanted(labels, row.label));
+    found
 }
 
 /// Those of which the node is this end, in the order of the rows.
@@ -116,11 +124,14 @@ fn is_among(labels: &[u32], label: u32) -> bool
     labels.iter().any(|other| label == *other)
 }
 
-/// Puts the rows into ascending order of their identifiers.
-fn put_in_order(rows: &mut Vec<EdgeRow>) -> Result<(), AllocError>
-    ensures moved { IsPermutation rows.old.items rows.new.items }
-    ensures sorted { OnOk result (IsNonDecreasingBy id_of rows.new.items) }
+/// The rows in ascending order of their identifiers. A chain begins with its newest edge, so they
+/// are turned round first.
+fn in_order(rows: Vec<EdgeRow>) -> Result<Vec<EdgeRow>, AllocError>
+    ensures moved { IfOk result (λ found. IsPermutation rows.items found.items) }
+    ensures sorted { IfOk result (λ found. IsNonDecreasingBy id_of found.items) }
 {
-    rows.sort_by_key(|row| row.id)?;
-    Ok(())
+    let mut found = rows;
+    found.reverse();
+    found.sort_by_key(|row| row.id)?;
+    Ok(found)
 }

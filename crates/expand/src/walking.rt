@@ -1,6 +1,6 @@
 //! Walks of several chains of a dense node.
 
-ghost use Rattle.std.specs.Prelude.{◌≡◌, ℕ, List, length, IfErr, IfOk};
+ghost use Rattle.std.specs.Prelude.{◌≡◌, ◌++◌, ℕ, List, length, IfErr, IfOk, OnOk};
 ghost use Rattle.rec_bytes.specs.Space.{after_gets};
 ghost use Rattle.rel_store.specs.Loading.{rel_mark};
 ghost use Rattle.chain_edit.specs.Walking.{ReadsAtMost};
@@ -21,7 +21,7 @@ use crate::first_links::{FirstLink, all_belong, have_twins};
 use chain_edit::{Chain, walk};
 use rec_bytes::{CHAIN_RULE, Damage, Fault, GROUP_RULE, GROUPS, Key, NODES, RELATIONSHIPS, Reads};
 use rel_store::EdgeRow;
-use std::alloc::Global;
+use std::alloc::{AllocError, Global};
 
 /// The relationships of chains of the groups of a dense node, one chain after the other, each from
 /// its first link on. A group is damaged where a chain of it leads nowhere, or has a relationship
@@ -68,9 +68,21 @@ pub(crate) fn walk_all<R: Reads>(
         if !all_belong(&chain, node, *link) {
             return Err(ExpandFault::Damaged(chains_damage(link.group)));
         }
-        rows.extend_from_slice(&chain)?;
+        add_chain(&mut rows, chain)?;
     }
     Ok(rows)
+}
+
+/// Puts the relationships of a chain after the others. The first chain's list is kept as it is.
+fn add_chain(rows: &mut Vec<EdgeRow>, chain: Vec<EdgeRow>) -> Result<(), AllocError>
+    ensures { OnOk result (rows.new.items ≡ rows.old.items ++ chain.items) }
+{
+    if rows.is_empty() {
+        *rows = chain;
+        Ok(())
+    } else {
+        rows.extend_from_slice(&chain)
+    }
 }
 
 /// The fault of a walk of a group's chain, with the record that is damaged.

@@ -3,7 +3,6 @@ use Rattle.plain_graph.specs.Meaning.{edges_at}
 use Rattle.rel_store.specs.declared.edge_row.EdgeRow.{EdgeRow}
 use Rattle.chain_edit.specs.Walking.{ReadsAtMost}
 use Rattle.expand.specs.Expanding.{AreRowsOf, graph_in, name_of, rows_of}
-use Rattle.expand.specs.Matching.{IsPart, is_met}
 use Rattle.expand.proofs.ManyEdges.{most_is_dense}
 use Rattle.expand.proofs.ModelEdges.{names_stand, rows_at_are}
 use Rattle.rec_bytes.proofs.Causes.{never_ok, ok_cause}
@@ -13,9 +12,7 @@ use Rattle.expand.proofs.expanding.expand.Goals as goal
 
 pub returns-clause-rows : goal.returns-clause-rows
 returns-clause-rows g c = λ tells store.
-    let all = rows_of (g.R.Reads.state c.args.space.now).records in
-    c.in_ok-found.ensures all
-    (subst (λ (rows : List EdgeRow). IsPart (is_met c.args.direction c.args.labels.now c.args.node) rows all) (sym c.deref.ensures.value) (c.in_ok-rows.ensures.part tells store))
+    c.in_ok-found.ensures (rows_of (g.R.Reads.state c.args.space.now).records) (c.in_ok-rows.ensures.part tells store)
 
 pub returns-clause-edges : goal.returns-clause-edges
 returns-clause-edges g c = λ tells store names.

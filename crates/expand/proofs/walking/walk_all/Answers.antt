@@ -70,12 +70,12 @@ loop-link-preserved g c =
     let at = c.loop-link.link-index in
     let rows = c.loop-link.rows.items in
     let chain = c.in-Ok.chain.items in
-    let both = c.extend_from_slice.new.self.items in
+    let both = c.add_chain.new.rows.items in
     let link = get_or links at no_link in
     let marked = ap (λ (meta : Meta). meta.high) c.meta-mark.ensures in
     let budget : c.saturating_sub-budget.result ≡ rel_mark s - length rows = let left = c.saturating_sub-budget.ensures in let len = c.len.ensures in
     omega (arith, left, len, marked) in
-    let more = c.in_ok-extend_from_slice.ensures.items ∙ ap (λ xs. rows ++ xs) c.deref-in-loop-link.ensures.value in
+    let more = c.in_ok-add_chain.ensures in
     let low : at < length links = c.loop-link-test.true in
     let here = links_here links at low in
     record {
@@ -173,8 +173,8 @@ returns-then-not-all_belong-clause-at_most g c =
     mark_bounds s now new (length rows) (rel_mark s) c.saturating_sub-budget.result budget c.loop-link.invariant.read c.loop-link.invariant.most
     c.in-Ok.ensures.at_most
 
-pub returns-in_err-extend_from_slice-clause-few_reads : goal.returns-in_err-extend_from_slice-clause-few_reads
-returns-in_err-extend_from_slice-clause-few_reads g c = λ tells xs sound.
+pub returns-in_err-add_chain-clause-few_reads : goal.returns-in_err-add_chain-clause-few_reads
+returns-in_err-add_chain-clause-few_reads g c = λ tells xs sound.
     let s = g.R.Reads.state c.args.space.now in
     let now = g.R.Reads.state c.loop-link.space in
     let new = g.R.Reads.state c.walk.new.space in
@@ -189,8 +189,8 @@ returns-in_err-extend_from_slice-clause-few_reads g c = λ tells xs sound.
     few_here s now new n at c.saturating_sub-budget.result links rows xs low c.loop-link.invariant.read budget (c.loop-link.invariant.met tells)
     (c.loop-link.invariant.left tells xs sound) sound.walks (c.in-Ok.ensures.few_reads tells)
 
-pub returns-in_err-extend_from_slice-clause-at_most : goal.returns-in_err-extend_from_slice-clause-at_most
-returns-in_err-extend_from_slice-clause-at_most g c =
+pub returns-in_err-add_chain-clause-at_most : goal.returns-in_err-add_chain-clause-at_most
+returns-in_err-add_chain-clause-at_most g c =
     let s = g.R.Reads.state c.args.space.now in
     let now = g.R.Reads.state c.loop-link.space in
     let new = g.R.Reads.state c.walk.new.space in
@@ -253,22 +253,22 @@ returns-clause-few_reads g c = λ tells xs sound.
     rows xs
     (c.loop-link.invariant.met tells) (c.loop-link.invariant.left tells xs sound) sound.walks c.loop-link.invariant.read
 
-pub returns-in_err-extend_from_slice-clause-rows : goal.returns-in_err-extend_from_slice-clause-rows
-returns-in_err-extend_from_slice-clause-rows g c _ = never_ok c.from_residual.result _ _ c.from_residual.ensures.1
+pub returns-in_err-add_chain-clause-rows : goal.returns-in_err-add_chain-clause-rows
+returns-in_err-add_chain-clause-rows g c _ = never_ok c.from_residual.result _ _ c.from_residual.ensures.1
 
-pub returns-in_err-extend_from_slice-clause-reads : goal.returns-in_err-extend_from_slice-clause-reads
-returns-in_err-extend_from_slice-clause-reads g c = never_ok c.from_residual.result _ _ c.from_residual.ensures.1
+pub returns-in_err-add_chain-clause-reads : goal.returns-in_err-add_chain-clause-reads
+returns-in_err-add_chain-clause-reads g c = never_ok c.from_residual.result _ _ c.from_residual.ensures.1
 
 pub returns-clause-cause : goal.returns-clause-cause
 returns-clause-cause g c = ok_cause _ _ _ _ (omega arith)
 
-pub returns-in_err-extend_from_slice-clause-damaged : goal.returns-in_err-extend_from_slice-clause-damaged
-returns-in_err-extend_from_slice-clause-damaged g c _ _ = same_has _ c.from_residual.result _ c.from_residual.ensures.1 tt
+pub returns-in_err-add_chain-clause-damaged : goal.returns-in_err-add_chain-clause-damaged
+returns-in_err-add_chain-clause-damaged g c _ _ = same_has _ c.from_residual.result _ c.from_residual.ensures.1 tt
 
-pub returns-in_err-extend_from_slice-clause-onward : goal.returns-in_err-extend_from_slice-clause-onward
-returns-in_err-extend_from_slice-clause-onward g c = g.met.R.Reads.further_onward _ _ _ c.loop-link.invariant.onward c.walk.ensures.onward
+pub returns-in_err-add_chain-clause-onward : goal.returns-in_err-add_chain-clause-onward
+returns-in_err-add_chain-clause-onward g c = g.met.R.Reads.further_onward _ _ _ c.loop-link.invariant.onward c.walk.ensures.onward
 
-pub returns-in_err-extend_from_slice-clause-cause : goal.returns-in_err-extend_from_slice-clause-cause
-returns-in_err-extend_from_slice-clause-cause g c =
+pub returns-in_err-add_chain-clause-cause : goal.returns-in_err-add_chain-clause-cause
+returns-in_err-add_chain-clause-cause g c =
     let later = c.walk.ensures.cause.later in
     expand_memory_cause _ _ c.from_residual.result (omega (arith, c.loop-link.invariant.later, later)) c.from_residual.ensures.1
