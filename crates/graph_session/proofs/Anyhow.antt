@@ -10,7 +10,9 @@ use Rattle.plain_graph.specs.Reply.{Reply}
 use Rattle.plain_graph.specs.declared.command.Command.{Command}
 use Rattle.plain_graph.specs.declared.command.Command.TheVariants as commands
 use Rattle.rec_bytes.specs.Pairs.{Pairs}
+use Rattle.txn_core.specs.Store.{state_of}
 use Rattle.graph_session.specs.Answering.{reply_of}
+use Rattle.graph_session.specs.ChangeDamage.{IsBlamed, IsSeen}
 use Rattle.graph_session.specs.Console.{HasNoDraft, SessionView}
 use Rattle.graph_session.specs.Drafting.{IsStopped}
 use Rattle.graph_session.specs.Effects.{Stays}
@@ -66,15 +68,27 @@ module _ {D : Type 0} (g : Ghosts D) (old : SessionView D) (reply : Reply) (new 
 module _ {D : Type 0} {g : Ghosts D} {old new : SessionView D} (command : Command) (base : Session D g) (now : D) where
   -- no change was drafted
   pub may-stopped : (why : Answer) → IsStopped command base now why → (¬ (why ≡ answers.DiskFailed) → Stays g old new)
-      → (why ≡ answers.DiskFailed → Rose (g.faults base.store.base.disk.now) (g.faults now) → Rose (g.faults old.disk) (g.faults new.disk) × HasFailedChange g old new) → MayChange g old (reply_of why) new command
-  may-stopped answers.Done stopped stays fault = absurd stopped
-  may-stopped (answers.NodeMade id) stopped stays fault = absurd stopped
-  may-stopped (answers.EdgeMade id) stopped stays fault = absurd stopped
-  may-stopped (answers.Results results) stopped stays fault = absurd stopped
-  may-stopped (answers.Refused why) stopped stays fault = inr (inl ((why, refl), stays (λ e. cc)))
-  may-stopped answers.NoMemory stopped stays fault = inr (inr (inl (refl, stays (λ e. cc))))
-  may-stopped answers.DiskFailed stopped stays fault = let failed = fault refl stopped in inr (inr (inr (inr ((refl, failed.0), failed.1))))
-  may-stopped (answers.Damaged damage) stopped stays fault = inr (inr (inr (inl ((damage.file, damage.id, refl), stays (λ e. cc)))))
+      → (why ≡ answers.DiskFailed → Rose (g.faults base.store.base.disk.now) (g.faults now) → Rose (g.faults old.disk) (g.faults new.disk) × HasFailedChange g old new)
+      → IsSeen old.console (state_of base.store) → base.names.names ≡ old.console.names → MayChange g old (reply_of why) new command
+  may-stopped answers.Done stopped stays fault seen names = absurd stopped
+  may-stopped (answers.NodeMade id) stopped stays fault seen names = absurd stopped
+  may-stopped (answers.EdgeMade id) stopped stays fault seen names = absurd stopped
+  may-stopped (answers.Results results) stopped stays fault seen names = absurd stopped
+  may-stopped (answers.Refused why) stopped stays fault seen names = inr (inl ((why, refl), stays (λ e. cc)))
+  may-stopped answers.NoMemory stopped stays fault seen names = inr (inr (inl (refl, stays (λ e. cc))))
+  may-stopped answers.DiskFailed stopped stays fault seen names = let failed = fault refl stopped in inr (inr (inr (inr ((refl, failed.0), failed.1))))
+  may-stopped (answers.Damaged damage) stopped stays fault seen names = inr (inr (inr (inl (
+    (
+      damage,
+      refl,
+      λ told. record {
+        found = state_of base.store;
+        seen = seen;
+        blamed = subst (λ (known : List (List ℕ)). IsBlamed command (state_of base.store) known damage) names (stopped.1 told);
+      },
+    ),
+    stays (λ e. cc),
+  ))))
 
 module _ {D : Type 0} {g : Ghosts D} {line : List ℕ} {command : Command} (only : SpellsOnly line command) {old new : SessionView D} {reply : Reply} where
   -- the line spells a command that is served

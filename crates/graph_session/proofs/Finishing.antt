@@ -94,7 +94,7 @@ module _ {D : Type 0} {g : Ghosts D} where
     settles-stopped answers.NoMemory stopped stays fault = unmade-memory at live spelled change (stays-known known (stays (λ e. cc)))
     settles-stopped answers.DiskFailed stopped stays fault = fault refl stopped
     settles-stopped (answers.Damaged damage) stopped stays fault =
-        settles-damaged damage.file damage.id state (comes-stays at (stays-known known (stays (λ e. cc)))) (λ told. stopped (told_of known g told) (has told))
+        settles-damaged damage.file damage.id state (comes-stays at (stays-known known (stays (λ e. cc)))) (λ told. stopped.0 (told_of known g told) (has told))
         (unmade-uses at live spelled change (stays-known known (stays (λ e. cc))))
 
   -- a change in the open transaction
@@ -248,6 +248,7 @@ module _ {D : Type 0} {g : Ghosts D} where
             subst (λ (a : Answer). MayAnswer g command (view old) (reply_of a) (view new)) (sym told_so)
             (may-change g (view old) (reply_of why) (view new) command change
             (may-stopped command old mid.store.base.disk.now why drafts (λ other. stays)
-            (λ is rose. (subst (λ (disk : D). Rose (g.faults old.store.base.disk.now) (g.faults disk)) (sym drops.beneath.disk) rose, inl (opened, stays)))));
+            (λ is rose. (subst (λ (disk : D). Rose (g.faults old.store.base.disk.now) (g.faults disk)) (sym drops.beneath.disk) rose, inl (opened, stays)))
+            (record { records = refl; shape = refl }) refl));
         onward = record { disk_later = later-on new.store.base.disk.now drops.beneath.disk };
       }

@@ -25,7 +25,8 @@ use Rattle.txn_core.specs.Store.{committed, drafted, state_of}
 use Rattle.txn_core.proofs.StoreRecords.{committed-beneath, committed-read, drafted-none, working-none}
 use Rattle.graph_session.specs.Answer.{Settles}
 use Rattle.graph_session.specs.Answering.{reply_of}
-use Rattle.graph_session.specs.Console.{IsAt}
+use Rattle.graph_session.specs.ChangeDamage.{IsSeen}
+use Rattle.graph_session.specs.Console.{HasNoDraft, IsAt}
 use Rattle.graph_session.specs.Drafting.{Closes, CommitsRecords, DoubtsRecords, Drafts, DropsAlone, DropsRecords}
 use Rattle.graph_session.specs.Drafting.{EndsCommit, FinishesAlone, HasDraft, HasStore, IsStopped, OnlyDrafts}
 use Rattle.graph_session.specs.Drafting.{TellsChange, TriesCommit}
@@ -61,6 +62,13 @@ module _ {D : Type 0} {g : Ghosts D} {begun mid : Session D g} (old new : Sessio
     (only : OnlyDrafts begun mid) where
   pub drafted-begun : drafted begun.store ≡ committed old.store
   drafted-begun = drafted-none begun.store draft ∙ working-none begun.store.base own ∙ committed-beneath old.store.base begun.store.base same
+
+  -- a change by itself finds what the line sees
+  seen-begun : HasNoDraft (view old) → IsSeen (view old).console (state_of begun.store)
+  seen-begun none = record {
+    records = drafted-begun ∙ sym (drafted-none old.store none ∙ working-none old.store.base (nil_from_length old.store.base.own.pairs idle));
+    shape = same.shape;
+  }
 
   pub committed-mid : committed mid.store ≡ committed old.store
   committed-mid = committed-read begun.store.base mid.store.base only.base ∙ committed-beneath old.store.base begun.store.base same
@@ -138,11 +146,12 @@ module _ {D : Type 0} {g : Ghosts D} {begun mid : Session D g} (old new : Sessio
     later-dropped : g.faults old.store.base.disk.now ≤ g.faults new.store.base.disk.now
     later-dropped = subst (λ (disk : D). g.faults old.store.base.disk.now ≤ g.faults disk) (sym drops.beneath.disk) later-mid
 
-    may-unmade : (command : Command) → IsChange command → IsStopped command begun mid.store.base.disk.now answer
+    may-unmade : HasNoDraft (view old) → (command : Command) → IsChange command → IsStopped command begun mid.store.base.disk.now answer
         → MayAnswer g command (view old) (reply_of answer) (view new)
-    may-unmade command change stopped =
+    may-unmade none command change stopped =
         may-change g (view old) (reply_of answer) (view new) command change
-        (may-stopped command begun mid.store.base.disk.now answer stopped stays-dropped (λ is rose. (rose-dropped rose, inr (closed, inl (fails-dropped is)))))
+        (may-stopped command begun mid.store.base.disk.now answer stopped stays-dropped (λ is rose. (rose-dropped rose, inr (closed, inl (fails-dropped is))))
+        (seen-begun none) names)
 
     unmade-alone : (known : Bool) {command : Command} → IsChange command → {line : List ℕ} {state : State} → SpellsOnly line command
         → IsAt (as_known known g) (view old) state → IsStopped command begun mid.store.base.disk.now answer
@@ -325,7 +334,7 @@ module _ {D : Type 0} {g : Ghosts D} {begun mid : Session D g} (old new : Sessio
       settles = λ known line state spelled served at.
           unmade-alone count counts answer drops known change spelled at
           (subst (λ (a : Answer). IsStopped command begun mid.store.base.disk.now a) (sym is) drafts);
-      may = λ none. may-unmade count counts answer drops command change
+      may = λ none. may-unmade count counts answer drops none command change
           (subst (λ (a : Answer). IsStopped command begun mid.store.base.disk.now a) (sym is) drafts);
       onward = record { disk_later = later-dropped count counts answer drops };
     }

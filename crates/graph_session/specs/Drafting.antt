@@ -31,6 +31,7 @@ use Rattle.change_parts.specs.declared.added.Added.{Added}
 use Rattle.change_parts.specs.declared.change_fault.ChangeFault.{ChangeFault}
 use Rattle.change_parts.specs.declared.change_fault.ChangeFault.TheVariants as faults
 use Rattle.graph_session.specs.Answering.{reply_of}
+use Rattle.graph_session.specs.ChangeDamage.{IsBlamed}
 use Rattle.graph_session.specs.MayStep.{TellsMade}
 use Rattle.graph_session.specs.declared.answer.Answer.{Answer}
 use Rattle.graph_session.specs.declared.answer.Answer.TheVariants as answers
@@ -142,7 +143,9 @@ module _ {D : Type 0} {g : Ghosts D} where
   IsStopped command old now answers.NoMemory = Unit {0}
   IsStopped command old now answers.DiskFailed =
       Rose (g.faults old.store.base.disk.now) (g.faults now)
-  IsStopped command old now (answers.Damaged damage) = g.tells_reads → HasStore old → ⊥
+  IsStopped command old now (answers.Damaged damage) =
+      (g.tells_reads → HasStore old → ⊥)
+      × (g.tells_reads → IsBlamed command (state_of old.store) old.names.names damage)
 
   -- what came of drafting
   abbrev pub Drafts : Command → Session D g → Session D g → Result Drafted Answer → Type 0

@@ -1,5 +1,6 @@
 pub mod Answer
 pub mod Answering
+pub mod ChangeDamage
 pub mod Console
 pub mod DiskUse
 pub mod Drafting

@@ -28,6 +28,7 @@ use Rattle.txn_core.specs.Again.{RefusesAgain}
 use Rattle.txn_core.specs.declared.again_fault.AgainFault.TheVariants as again_faults
 use Rattle.gremlin_parse.specs.Lines.{IsLeftmostFault}
 use Rattle.gremlin_parse.specs.declared.line_fault.LineFault.{LineFault}
+use Rattle.graph_session.specs.ChangeDamage.{IsChangeDamage}
 use Rattle.graph_session.specs.Console.{ConsoleView, SessionView}
 use Rattle.graph_session.specs.Effects.{Begins, Commits, CommitsAlone, CommitsFrom, Drops}
 use Rattle.graph_session.specs.Effects.{FailsDrafted, FailsRead, IsAloneInDoubt, IsBrought}
@@ -54,10 +55,6 @@ TellsMade (commands.Index label key) reply = reply ≡ Done
 TellsMade (commands.Mutate reading mutation) reply =
     (results : List Item) × (reply ≡ mutated_reply results)
 TellsMade _ reply = ⊥
-
--- the reply says that a record is damaged, and has no results
-abbrev pub TellsDamage : Reply → Type 0
-TellsDamage reply = (file : ℕ) × (id : ℕ) × (reply ≡ Faulted [] (DamagedRecord file id))
 
 -- What `reopen` finds damaged: the log, the store's own record or a meta record, as recovery refuses
 -- it; or of the records that it finds, the first name that isn't the one in memory.
@@ -148,13 +145,20 @@ module _ {D : Type 0} (g : Ghosts D) (old : SessionView D) (reply : Reply) (new 
     abbrev pub TellsDiskFault : Type 0
     TellsDiskFault = (reply ≡ Faulted [] DiskFailed) × Rose (g.faults old.disk) (g.faults new.disk)
 
+    -- The reply says that a record is damaged, and has no results. Where the disk tells its reads,
+    -- the record is what the change calls so.
+    abbrev pub TellsDamage : Command → Type 0
+    TellsDamage command =
+        (damage : Damage) × (reply ≡ Faulted [] (DamagedRecord damage.file damage.id))
+        × (g.tells_reads → IsChangeDamage command old.console damage)
+
     -- A change that is not made, and is not stopped by the disk, leaves all as it was.
     abbrev pub MayChange : Command → Type 0
     MayChange command =
         (TellsMade command reply × HasChanged g old new)
         ⊎ (((why : Refusal) × (reply ≡ Refused why)) × Stays g old new)
         ⊎ ((reply ≡ Faulted [] NoMemory) × Stays g old new)
-        ⊎ (TellsDamage reply × Stays g old new)
+        ⊎ (TellsDamage command × Stays g old new)
         ⊎ (TellsDiskFault × HasFailedChange g old new)
 
     abbrev pub MayBegin : Type 0

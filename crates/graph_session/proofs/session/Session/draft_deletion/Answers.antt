@@ -16,7 +16,7 @@ returns-in-Node-clause-drafts g c =
     let met = c.delete_node.ensures in
     rw (c.in-Node.is, c.drafted_done.ensures)
     (drafts-call (λ (weight : ℕ). answers.Done) (λ (weight : ℕ). weight) (commands.Delete (targets.Node c.in-Node.id)) (λ weight. refl) (returns-in-Node-clause-only g c) c.delete_node.result (λ told. met.made told) met.light met.writes
-    (λ told has. met.refused told has) met.cause)
+    (λ told has. met.refused told has) (λ told. met.found told) met.cause)
 
 pub returns-in-Edge-clause-only : goal.returns-in-Edge-clause-only
 returns-in-Edge-clause-only g c =
@@ -28,4 +28,4 @@ returns-in-Edge-clause-drafts g c =
     let met = c.delete_edge.ensures in
     rw (c.in-Edge.is, c.drafted_done-in-Edge.ensures)
     (drafts-call (λ (weight : ℕ). answers.Done) (λ (weight : ℕ). weight) (commands.Delete (targets.Edge c.in-Edge.id)) (λ weight. refl) (returns-in-Edge-clause-only g c) c.delete_edge.result (λ told. met.made told) met.light met.writes
-    (λ told has. met.refused told has) met.cause)
+    (λ told has. met.refused told has) (λ told. met.damaged told) met.cause)
