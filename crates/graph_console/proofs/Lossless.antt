@@ -182,8 +182,8 @@ module _ {D : Type 0} (disk : Ghosts D) where
         keep-records _ served may = absurd may
 
         change-records : (command : Command) → SpellsLine line command → IsChange command → MayChange disk old reply new command → Ends
-        change-records command spelled change (inl (tells, inl (opened, weight, keeps, light))) = inl (beneath-records keeps.beneath keeps.health)
-        change-records command spelled change (inl (tells, inr (closed, now, from, commits))) = inr (
+        change-records command spelled change (inl (tells, inl (opened, weight, keeps, light), left)) = inl (beneath-records keeps.beneath keeps.health)
+        change-records command spelled change (inl (tells, inr (closed, now, from, commits), left)) = inr (
           inl (own, good-confirms reply (made-good command reply tells), inr (closed, command, change, spelled)),
           now,
           record { read = commits.stored.read told; committed = λ live. commits.committed told },

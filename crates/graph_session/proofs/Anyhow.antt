@@ -101,8 +101,8 @@ kept_none {D = D} old new none same = ap (λ (s : SessionView D). s.console.draf
 
 module _ {D : Type 0} (g : Ghosts D) (old : SessionView D) (reply : Reply) (new : SessionView D) (none : HasNoDraft old) where
   change_none : (command : Command) → MayChange g old reply new command → HasNoDraft new
-  change_none command (inl (tells, inl made)) = made.2.beneath.no_draft
-  change_none command (inl (tells, inr made)) = made.3.ends.no_draft
+  change_none command (inl (tells, inl made, left)) = made.2.beneath.no_draft
+  change_none command (inl (tells, inr made, left)) = made.3.ends.no_draft
   change_none command (inr (inl (is, stays))) = stays.beneath.no_draft
   change_none command (inr (inr (inl (is, stays)))) = stays.beneath.no_draft
   change_none command (inr (inr (inr (inl (is, stays))))) = stays.beneath.no_draft

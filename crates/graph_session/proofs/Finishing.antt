@@ -22,6 +22,7 @@ use Rattle.txn_core.proofs.StoreRecords.{committed-beneath, committed-read, draf
 use Rattle.change_parts.specs.Store.{graph_in}
 use Rattle.graph_session.specs.Answer.{Settles}
 use Rattle.graph_session.specs.Answering.{reply_of}
+use Rattle.graph_session.specs.ChangeLeft.{LeavesRecords}
 use Rattle.graph_session.specs.Console.{IsAt, SessionView}
 use Rattle.graph_session.specs.DiskUse.{UsesDisk}
 use Rattle.graph_session.specs.Drafting.{Discards, Drafts, Finishes, HasDraft, HasStore, IsStopped, KeepsDraft, OnlyDrafts, TellsChange}
@@ -217,7 +218,11 @@ module _ {D : Type 0} {g : Ghosts D} where
         may = λ none.
             subst (λ (a : Answer). MayAnswer g command (view old) (reply_of a) (view new)) (sym told_so)
             (may-change g (view old) (reply_of made.answer) (view new) command change
-            (inl (drafts.0, inl (opened, made.weight, keeps-kept made.weight kept, subst (λ (n : ℕ). n ≤ most_weight) (sym kept.weight) kept.fits))));
+            (inl (
+              drafts.0,
+              inl (opened, made.weight, keeps-kept made.weight kept, subst (λ (n : ℕ). n ≤ most_weight) (sym kept.weight) kept.fits),
+              λ told. subst (LeavesRecords command (drafted old.store)) (sym (drafted-none new.store kept.draft ∙ kept.working)) (drafts.3 told),
+            )));
         onward = record { disk_later = later-on new.store.base.disk.now kept.beneath.disk };
       }
       settles-finish (Ok made) answer drafts (inr (inl (told_so, more), drops)) = record {

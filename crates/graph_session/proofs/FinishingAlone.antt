@@ -26,6 +26,7 @@ use Rattle.txn_core.proofs.StoreRecords.{committed-beneath, committed-read, draf
 use Rattle.graph_session.specs.Answer.{Settles}
 use Rattle.graph_session.specs.Answering.{reply_of}
 use Rattle.graph_session.specs.ChangeDamage.{IsSeen}
+use Rattle.graph_session.specs.ChangeLeft.{LeavesRecords}
 use Rattle.graph_session.specs.Console.{HasNoDraft, IsAt}
 use Rattle.graph_session.specs.Drafting.{Closes, CommitsRecords, DoubtsRecords, Drafts, DropsAlone, DropsRecords}
 use Rattle.graph_session.specs.Drafting.{EndsCommit, FinishesAlone, HasDraft, HasStore, IsStopped, OnlyDrafts}
@@ -248,13 +249,21 @@ module _ {D : Type 0} {g : Ghosts D} {begun mid : Session D g} (old new : Sessio
       disk = only_reads_on g old.store.base.disk.now mid.store.base.disk.now new.store.base.disk.now reads-mid drops.disk;
     }
 
-    may-tried : (command : Command) → IsChange command → TellsChange command made.answer → MayAnswer g command (view old) (reply_of answer) (view new)
-    may-tried command change tells = by tries.ends
+    may-tried : HasNoDraft (view old) → (command : Command) → IsChange command → TellsChange command made.answer
+        → (g.tells_reads → LeavesRecords command (drafted begun.store) (drafted mid.store)) → MayAnswer g command (view old) (reply_of answer) (view new)
+    may-tried none command change tells left = by tries.ends
       where
+        -- what is committed is what was drafted
+        left-committed : CommitsRecords (drafted mid.store) mid new → g.tells_reads → LeavesRecords command (drafted old.store) (drafted new.store)
+        left-committed commits told =
+            subst (λ (was : Key → Rec). LeavesRecords command was (drafted new.store)) (seen-begun none).records
+            (subst (LeavesRecords command (drafted begun.store)) (sym (drafted-none new.store commits.closes.draft ∙ working-none new.store.base commits.closes.own ∙ commits.committed told)) (left told))
+
         by : EndsCommit (drafted mid.store) mid new made.answer answer → MayAnswer g command (view old) (reply_of answer) (view new)
         by (inl (is, commits)) =
             subst (λ (a : Answer). MayAnswer g command (view old) (reply_of a) (view new)) (sym is)
-            (may-change g (view old) (reply_of made.answer) (view new) command change (inl (tells, inr (closed, drafted mid.store, from-mid, commits-mid commits))))
+            (may-change g (view old) (reply_of made.answer) (view new) command change
+            (inl (tells, inr (closed, drafted mid.store, from-mid, commits-mid commits), λ told. left-committed commits told)))
         by (inr (is, failed)) =
             subst (λ (a : Answer). MayAnswer g command (view old) (reply_of a) (view new)) (sym is)
             (may-change g (view old) (reply_of answers.DiskFailed) (view new) command change (inr (inr (inr (inr (fails failed))))))
@@ -305,7 +314,7 @@ module _ {D : Type 0} {g : Ghosts D} {begun mid : Session D g} (old new : Sessio
         → SettlesCommand g command (view old) (view new) (reply_of answer)
     settles-finish_alone (Ok made) answer drafts (inl (fits, tries)) = record {
       settles = λ known line state spelled served at. settles-tried made answer fits tries known change drafts.0 drafts.1 spelled at;
-      may = λ none. may-tried made answer fits tries command change drafts.0;
+      may = λ none. may-tried made answer fits tries none command change drafts.0 drafts.3;
       onward = record { disk_later = later-tried made answer fits tries };
     }
     settles-finish_alone (Ok made) answer drafts (inr (inl (is, more), drops)) =

@@ -1,5 +1,5 @@
 -- A draft of a line's changes, by what each call said of it, and why there is none.
-use Rattle.std.proofs.Common.{◌≡◌, ◌∙◌, ◌+◌, ◌<◌, ◌≤◌, ℕ, IfErr, IfOk, Err, Ok, Option, Result, List, ◌++◌, append_assoc, refl, sym, ap, subst, arith}
+use Rattle.std.proofs.Common.{◌≡◌, ◌∙◌, ◌+◌, ◌<◌, ◌≤◌, ℕ, IfErr, IfOk, OnOk, Err, Ok, Option, Result, List, ◌++◌, append_assoc, refl, sym, ap, subst, arith}
 use Rattle.std.proofs.Math.Nat.{min-eq_left}
 use Rattle.fault_count.specs.Cause.{Rose}
 use Rattle.disk_model.specs.declared.disk.Disk.{Ghosts}
@@ -20,6 +20,7 @@ use Rattle.plain_graph.specs.declared.refusal.Refusal.{Refusal}
 use Rattle.plain_graph.specs.declared.refusal.Refusal.TheVariants as refusals
 use Rattle.plain_graph.proofs.LineLaws.{HasIndexOf, change_first, change_free, mutation_first, mutation_free}
 use Rattle.rec_bytes.specs.Space.{SameButReads, State as Space}
+use Rattle.store_rules.specs.Views.{Records}
 use Rattle.store_rules.specs.Writes.{WritesAtMost}
 use Rattle.name_store.specs.Interning.{interned}
 use Rattle.txn_core.specs.OnlyReading.{only_reads_base_on}
@@ -31,8 +32,10 @@ use Rattle.change_parts.specs.Store.{IsStore, graph_in}
 use Rattle.change_parts.specs.declared.change_fault.ChangeFault.{ChangeFault}
 use Rattle.change_parts.specs.declared.change_fault.ChangeFault.TheVariants as faults
 use Rattle.change_parts.specs.Damage.{BlamesMaking}
+use Rattle.node_changes.specs.NodeDeleting.{HasDegree, IsUnused}
 use Rattle.graph_session.specs.Answering.{reply_of}
 use Rattle.graph_session.specs.ChangeDamage.{Blames, BlamesMutation}
+use Rattle.graph_session.specs.ChangeLeft.{LeavesRecords}
 use Rattle.graph_session.specs.Console.{BeginWith}
 use Rattle.graph_session.specs.Drafting.{Drafts, HasStore, IsStopped, MakesLine, OnlyDrafts, answer_for, drafted_by}
 use Rattle.graph_session.specs.MayStep.{TellsMade}
@@ -79,9 +82,11 @@ change-made command reply weight old new names made light = record {
 -- so is its draft
 change-drafts : {tells : Type 0} (command : Command) (reply : Reply) {weight : ℕ} {old new : Space} {before after : List (List ℕ)} → TellsMade command reply
     → (tells → IsStore old before → MakesChange command reply weight old new after) → weight + start_weight ≤ most_weight → WritesAtMost weight old new
+    → (tells → LeavesRecords command old.records new.records)
     → TellsMade command reply × (tells → IsStore old before → MakesLine command reply weight old new after) × (weight < most_told → WritesAtMost weight old new)
-change-drafts command reply {weight = weight} {old = old} {new = new} {after = after} tells made light writes =
-    (tells, λ told has. change-made command reply weight old new after (made told has) light, λ few. writes)
+    × (tells → LeavesRecords command old.records new.records)
+change-drafts command reply {weight = weight} {old = old} {new = new} {after = after} tells made light writes left =
+    (tells, λ told has. change-made command reply weight old new after (made told has) light, λ few. writes, left)
 
 -- one that is refused is a line that is
 pub change-refused : (limit : ℕ) (graph : Graph) (command : Command) (fault : ChangeFault) → IsRefusal limit graph command fault
@@ -220,9 +225,11 @@ module _ {D : Type 0} {g : Ghosts D} {T : Type 0} (answer : T → Answer) (weigh
       → IfOk outcome (λ made. WritesAtMost (weight made) (store.state_of old.store) (store.state_of new.store))
       → (g.tells_reads → HasStore old → IfErr outcome (IsRefusal (store.state_of old.store).shape.limit (graph_in (store.state_of old.store)) command))
       → (g.tells_reads → IfErr outcome (Blames command (store.state_of old.store) (store.state_of new.store) old.names.names new.names.names))
+      → ((made : T) → outcome ≡ Ok made → g.tells_reads → LeavesRecords command (store.drafted old.store) (store.drafted new.store))
       → HasChangeCause (g.faults old.store.base.disk.now) (g.faults new.store.base.disk.now) outcome → Drafts command old new (drafted_by answer weight outcome)
-  drafts-call (Ok made) makes light writes refused blames cause = change-drafts command (reply_of (answer made)) (tells made) (λ told has. makes told has) light writes
-  drafts-call (Err fault) makes light writes refused blames cause =
+  drafts-call (Ok made) makes light writes refused blames left cause = change-drafts command (reply_of (answer made)) (tells made) (λ told has. makes told has) light writes
+      (left made refl)
+  drafts-call (Err fault) makes light writes refused blames left cause =
       let limit = (store.state_of old.store).shape.limit in
       change-stopped command old new.store.base.disk.now (store.state_of new.store) new.names.names only.brought fault
       (λ told has. change-refused limit (graph_in (store.state_of old.store)) command fault (refused told has)) (λ told. blames told)
@@ -234,3 +241,9 @@ pub index-blames : {T : Type 0} (label key : List ℕ) (found left : Space) (nam
     → IfErr outcome (Blames (commands.Index label key) found left names now)
 index-blames label key found left names now (Ok made) blames = tt
 index-blames label key found left names now (Err fault) blames = blames
+
+-- what one that deletes a node leaves
+pub deletion-left : (id : ℕ) (old new : Records) (outcome : Result ℕ ChangeFault) → OnOk outcome (HasDegree old id 0) → OnOk outcome (IsUnused new id)
+    → (made : ℕ) → outcome ≡ Ok made → LeavesRecords (commands.Delete (targets.Node id)) old new
+deletion-left id old new (Ok weight) lone gone made is = (lone, gone)
+deletion-left id old new (Err fault) lone gone made is = let clash : Err fault ≡ Ok made = is in cc

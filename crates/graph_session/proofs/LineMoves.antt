@@ -98,9 +98,9 @@ module _ {D : Type 0} (g : Ghosts D) (line : InputLine) (old : SessionView D) (r
     keep-moves _ spelled may = absurd may
 
     change-moves : (command : Command) → SpellsLine line command → IsChange command → MayChange g old reply new command → Moves g line old reply new
-    change-moves command spelled change (inl (tells, inl (opened, weight, keeps, light))) =
+    change-moves command spelled change (inl (tells, inl (opened, weight, keeps, light), left)) =
         record { shape = keeps.beneath.shape; live = λ confirms live. keeps.health ∙ live; leaves = inl (keeps.health, keeps.beneath.committed) }
-    change-moves command spelled change (inl (tells, inr (closed, now, from, commits))) =
+    change-moves command spelled change (inl (tells, inr (closed, now, from, commits), left)) =
         moves-acknowledged commits.ends commits.health (own, made-confirms command reply tells, inr (closed, command, change, spelled))
     change-moves command spelled change (inr (inl (refused, stays))) = moves-stays stays
     change-moves command spelled change (inr (inr (inl (lacks, stays)))) = moves-stays stays

@@ -151,8 +151,8 @@ module _ {D : Type 0} (g : Ghosts D) (old : SessionView D) (reply : Reply) (new 
   stored-commit (inr (opened, leaves, empty, inr (fault, inr left))) = stored-open g old new told left
 
   stored-change : (command : Command) → MayChange g old reply new command → IsStoredNow g old new told new
-  stored-change command (inl (tells, inl (opened, weight, keeps, light))) = (quiet-keeps g old new told weight keeps stored).stored
-  stored-change command (inl (tells, inr (closed, now, from, commits))) = stored-alone g old new told now commits
+  stored-change command (inl (tells, inl (opened, weight, keeps, light), left)) = (quiet-keeps g old new told weight keeps stored).stored
+  stored-change command (inl (tells, inr (closed, now, from, commits), left)) = stored-alone g old new told now commits
   stored-change command (inr (inl refused)) = (quiet-stays g old new told refused.1 stored).stored
   stored-change command (inr (inr (inl lacks))) = (quiet-stays g old new told lacks.1 stored).stored
   stored-change command (inr (inr (inr (inl damaged)))) = (quiet-stays g old new told damaged.1 stored).stored
@@ -163,8 +163,8 @@ module _ {D : Type 0} (g : Ghosts D) (old : SessionView D) (reply : Reply) (new 
 
   -- a change in an open transaction, or over a disk that was only read
   same-open : (command : Command) → old.console.is_open ≡ true → MayChange g old reply new command → ReadsSame g old new told
-  same-open command is (inl (tells, inl (opened, weight, keeps, light))) = (quiet-keeps g old new told weight keeps stored).same
-  same-open command is (inl (tells, inr (closed, now, from, commits))) = let clash : true ≡ false = sym is ∙ closed in cc
+  same-open command is (inl (tells, inl (opened, weight, keeps, light), left)) = (quiet-keeps g old new told weight keeps stored).same
+  same-open command is (inl (tells, inr (closed, now, from, commits), left)) = let clash : true ≡ false = sym is ∙ closed in cc
   same-open command is (inr (inl refused)) = (quiet-stays g old new told refused.1 stored).same
   same-open command is (inr (inr (inl lacks))) = (quiet-stays g old new told lacks.1 stored).same
   same-open command is (inr (inr (inr (inl damaged)))) = (quiet-stays g old new told damaged.1 stored).same

@@ -14,14 +14,14 @@ use Rattle.plain_graph.specs.declared.mutation.Mutation.TheVariants as mutations
 use Rattle.rec_bytes.specs.Space.{State as Space}
 use Rattle.rec_bytes.specs.declared.damage.Damage.{Damage}
 use Rattle.name_store.specs.Interning.{interned}
-use Rattle.graph_ops.specs.Damage.{BlamesBroken, BlamesEntries, BlamesGiven, BlamesMaking}
-use Rattle.graph_ops.specs.Damage.{BlamesUnset, IfBlames, IsBroken}
-use Rattle.graph_ops.specs.EdgeAdding.{BlamesLinking}
-use Rattle.graph_ops.specs.Entries.{HasValue}
+use Rattle.change_parts.specs.Damage.{BlamesBroken, BlamesEntries, BlamesGiven, BlamesMaking}
+use Rattle.change_parts.specs.Damage.{BlamesUnset, IfBlames, IsBroken}
+use Rattle.edge_changes.specs.EdgeAdding.{BlamesLinking}
+use Rattle.node_changes.specs.Entries.{HasValue}
 use Rattle.graph_ops.specs.Mutating.{BlamesDeletion, IsListCaused}
-use Rattle.graph_ops.specs.NodeDeleting.{IsDeleteCause}
-use Rattle.graph_ops.specs.declared.change_fault.ChangeFault.{ChangeFault}
-use Rattle.graph_ops.specs.declared.change_fault.ChangeFault.TheVariants as faults
+use Rattle.node_changes.specs.NodeDeleting.{IsDeleteCause}
+use Rattle.change_parts.specs.declared.change_fault.ChangeFault.{ChangeFault}
+use Rattle.change_parts.specs.declared.change_fault.ChangeFault.TheVariants as faults
 use Rattle.graph_session.specs.Console.{BeginWith, ConsoleView}
 use Rattle.graph_session.specs.Verdicts.{seen_records}
 

@@ -32,6 +32,7 @@ use Rattle.change_parts.specs.declared.change_fault.ChangeFault.{ChangeFault}
 use Rattle.change_parts.specs.declared.change_fault.ChangeFault.TheVariants as faults
 use Rattle.graph_session.specs.Answering.{reply_of}
 use Rattle.graph_session.specs.ChangeDamage.{IsBlamed}
+use Rattle.graph_session.specs.ChangeLeft.{LeavesRecords}
 use Rattle.graph_session.specs.MayStep.{TellsMade}
 use Rattle.graph_session.specs.declared.answer.Answer.{Answer}
 use Rattle.graph_session.specs.declared.answer.Answer.TheVariants as answers
@@ -153,6 +154,7 @@ module _ {D : Type 0} {g : Ghosts D} where
       × (g.tells_reads → HasStore old → HasDraft command old new made)
       × (made.weight < most_told
       → WritesAtMost made.weight (state_of old.store) (state_of new.store))
+      × (g.tells_reads → LeavesRecords command (drafted old.store) (drafted new.store))
   Drafts command old new (Err why) = IsStopped command old new.store.base.disk.now why
 
   -- The draft was dropped, and the names cut back to so many. The transaction is as it was.

@@ -1,6 +1,7 @@
 pub mod Answer
 pub mod Answering
 pub mod ChangeDamage
+pub mod ChangeLeft
 pub mod Console
 pub mod DiskUse
 pub mod Drafting

@@ -29,6 +29,7 @@ use Rattle.txn_core.specs.declared.again_fault.AgainFault.TheVariants as again_f
 use Rattle.gremlin_parse.specs.Lines.{IsLeftmostFault}
 use Rattle.gremlin_parse.specs.declared.line_fault.LineFault.{LineFault}
 use Rattle.graph_session.specs.ChangeDamage.{IsChangeDamage}
+use Rattle.graph_session.specs.ChangeLeft.{LeavesRecords}
 use Rattle.graph_session.specs.Console.{ConsoleView, SessionView}
 use Rattle.graph_session.specs.Effects.{Begins, Commits, CommitsAlone, CommitsFrom, Drops}
 use Rattle.graph_session.specs.Effects.{FailsDrafted, FailsRead, IsAloneInDoubt, IsBrought}
@@ -37,6 +38,7 @@ use Rattle.graph_session.specs.Effects.{LeavesCommitted, LeavesEither, LeavesSam
 use Rattle.graph_session.specs.Exchange.{AreFirst, told_fault}
 use Rattle.graph_session.specs.Refusals.{refusal_of}
 use Rattle.graph_session.specs.State.{IsSilent, IsSpared, NeverLacksMemory, SpellsLine}
+use Rattle.graph_session.specs.Verdicts.{seen_records}
 use Rattle.graph_session.specs.declared.health.Health.TheVariants as healths
 
 -- a console that the disk has failed serves `reopen` alone
@@ -152,10 +154,13 @@ module _ {D : Type 0} (g : Ghosts D) (old : SessionView D) (reply : Reply) (new 
         (damage : Damage) × (reply ≡ Faulted [] (DamagedRecord damage.file damage.id))
         × (g.tells_reads → IsChangeDamage command old.console damage)
 
-    -- A change that is not made, and is not stopped by the disk, leaves all as it was.
+    -- A change that is answered as made is made. One that is not, and is not stopped by the disk,
+    -- leaves all as it was.
     abbrev pub MayChange : Command → Type 0
     MayChange command =
-        (TellsMade command reply × HasChanged g old new)
+        (TellsMade command reply × HasChanged g old new
+        × (g.tells_reads
+        → LeavesRecords command (seen_records old.console) (seen_records new.console)))
         ⊎ (((why : Refusal) × (reply ≡ Refused why)) × Stays g old new)
         ⊎ ((reply ≡ Faulted [] NoMemory) × Stays g old new)
         ⊎ (TellsDamage command × Stays g old new)

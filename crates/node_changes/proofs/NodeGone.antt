@@ -1,6 +1,6 @@
 -- A node that is deleted: its entries leave the indexes when the rest is gone.
 use Rattle.std.specs.List.{list_any, sum_by}
-use Rattle.std.proofs.Common.{◌≡◌, ◌≢◌, ⊎_elim, ℕ, ◌+◌, ◌*◌, ◌<◌, nat_eq, Bool, true, false, ◌&&◌, not, if◌then◌else◌}
+use Rattle.std.proofs.Common.{◌≡◌, ◌≢◌, ⊎_elim, ℕ, ◌+◌, ◌-◌, ◌*◌, ◌<◌, nat_eq, nat_lt, Bool, true, false, ◌&&◌, not, if◌then◌else◌}
 use Rattle.std.proofs.Common.{cond, Option, None, Some, List, map, ap, sym, ◌∙◌, subst, arith, refl}
 use Rattle.plain_graph.specs.Graph.{Graph, Index}
 use Rattle.plain_graph.specs.Reply.{Done}
@@ -9,19 +9,27 @@ use Rattle.plain_graph.specs.declared.command.Command.TheVariants as commands
 use Rattle.plain_graph.specs.declared.command.Target.TheVariants as targets
 use Rattle.plain_graph.specs.declared.value.Value.{Value}
 use Rattle.rec_bytes.specs.declared.shape.Shape.{Shape}
+use Rattle.rec_bytes.specs.declared.record.Rec.{Rec}
 use Rattle.rec_bytes.specs.Format as format
-use Rattle.rec_bytes.specs.Space.{State}
-use Rattle.id_freelist.specs.Giving.{CanGive, HasGiven}
+use Rattle.rec_bytes.specs.Meta.{with_meta}
+use Rattle.rec_bytes.specs.Record.{field}
+use Rattle.rec_bytes.specs.RecordFiles.{meta_key_of}
+use Rattle.rec_bytes.specs.Space.{State, after_put, meta_of}
+use Rattle.rec_bytes.proofs.Spaces.{put_other, put_same}
+use Rattle.id_freelist.specs.FreeLists.{free_record}
+use Rattle.id_freelist.specs.Giving.{CanGive, HasGiven, given}
+use Rattle.id_freelist.proofs.Leaving.{free_is_free}
 use Rattle.store_rules.specs.Chains.{In}
 use Rattle.store_rules.specs.Graph.{indexes_of, names_of}
 use Rattle.store_rules.specs.Indexes.{AreIndexed, Entries, Entry, has_hash, indexed_key, indexed_label, node_value, row_value, value_in, wanted_in}
 use Rattle.store_rules.specs.Properties.{property_records}
 use Rattle.store_rules.specs.RuleList.{IsSameFile}
 use Rattle.store_rules.specs.Rules.{IsWellFormed}
-use Rattle.store_rules.specs.Views.{Records, degree, high, kind_at, node_at, node_in, rec_at, text_of}
+use Rattle.store_rules.specs.Views.{Records, degree, high, key_in, kind_at, kind_in, node_at, node_in, rec_at, text_of}
 use Rattle.store_rules.proofs.IndexFrames.{indexed_same}
 use Rattle.store_rules.proofs.IndexKept.{changed_index, properties_index}
 use Rattle.store_rules.proofs.IndexStays.{indexes_stay}
+use Rattle.store_rules.proofs.MetaLaws.{not_meta_key}
 use Rattle.store_rules.proofs.NodeChange as nc
 use Rattle.store_rules.proofs.PropertyFrames as fr
 use Rattle.store_rules.proofs.NumberLaws.{eq_false, eq_true, nat_cases}
@@ -39,7 +47,7 @@ use Rattle.prop_store.proofs.ElementGraphs.{listed_at}
 use Rattle.prop_store.proofs.ValueSteps.{drops_values}
 use Rattle.change_parts.specs.Change.{MakesChange}
 use Rattle.node_changes.specs.Entries.{held_of, held_weight, is_pair, without_held, without_node}
-use Rattle.node_changes.specs.NodeDeleting.{KeepsOtherKinds}
+use Rattle.node_changes.specs.NodeDeleting.{IsUnused, KeepsOtherKinds}
 use Rattle.change_parts.specs.Owners.{owner_of}
 use Rattle.change_parts.specs.Store.{IsMidway, IsStore, graph_in}
 use Rattle.node_changes.specs.declared.entries.IndexedValue.{IndexedValue}
@@ -52,10 +60,46 @@ use Rattle.node_changes.proofs.LeftIndexes.{held_left, held_weighs_all}
 use Rattle.node_changes.proofs.NodeWeights.{held_same, node_entries, value_listed}
 use Rattle.node_changes.proofs.PairWeights.{pair_weight}
 use Rattle.change_parts.proofs.PairsPut.{label_at}
+use Rattle.graph_ops.proofs.Deleting.{node_deleted, node_gone, node_kinds, node_left}
+use Rattle.graph_ops.proofs.GraphPairs.{apart, has_pair, in_any, is_among}
+use Rattle.graph_ops.proofs.HeldWeights.{listed_among}
+use Rattle.graph_ops.proofs.IndexBeside.{KeepsBesideIndex, file_same, graph_beside, kinds_beside, mark_same, names_beside, wanted_beside}
+use Rattle.graph_ops.proofs.KeptIndexes.{midway, node_graph_indexes}
+use Rattle.graph_ops.proofs.LeftIndexes.{held_left, held_weighs_all}
+use Rattle.graph_ops.proofs.NodeWeights.{held_same, node_entries, value_listed}
+use Rattle.graph_ops.proofs.PairWeights.{pair_weight}
+use Rattle.graph_ops.proofs.PairsPut.{label_at}
 
 -- the row of a node in use has the label of its record
 pub label_found : (s : State) (id : ℕ) (node : NodeRow) → Some node ≡ nodes.row_at s.records id → node.label ≡ label_at s.records id
 label_found s id node found = ap (λ (n : NodeRow). n.label) (node_rows.kind-row_at-Some s.records id node (sym found)).1
+
+-- ---- a node whose identifier was given back, whatever the records are
+
+-- the record of a free identifier says so, below the mark and past it
+free_in : (mark : ℕ) (r : Rec) (x : ℕ) → field 1 r format.kind ≡ format.free_kind → kind_in mark r x ≡ format.free_kind
+unfolding kind_in
+free_in mark r x is = by (nat_lt x mark)
+  where
+    by : (low : Bool) → cond low (field 1 r format.kind) 0 ≡ format.free_kind
+    by true = is
+    by false = refl
+
+unused_given : (u : State) (id : ℕ) → IsUnused (given u format.nodes_file id).records id
+unused_given u id =
+    let m = meta_of u format.nodes_file in
+    let put = after_put u (key_in format.nodes_file id) (free_record m.free) in
+    let here : rec_at (given u format.nodes_file id).records format.nodes_file id ≡ free_record m.free =
+    put_other put.records (meta_key_of format.nodes_file) (with_meta (put.records (meta_key_of format.nodes_file)) (record { high = m.high; free = id; live = m.live - 1 })) (key_in format.nodes_file id) (not_meta_key format.nodes_file id format.nodes_file refl)
+    ∙ put_same u.records (key_in format.nodes_file id) (free_record m.free) in
+    free_in (high (given u format.nodes_file id).records format.nodes_file) (rec_at (given u format.nodes_file id).records format.nodes_file id) id
+    (ap (λ r. field 1 r format.kind) here ∙ free_is_free m.free)
+
+-- so it is when its entries have left the indexes
+pub unused_left : (u t v : State) (id : ℕ) → t ≡ given u format.nodes_file id → KeepsBesideIndex t.records v.records → IsUnused v.records id
+unused_left u t v id is beside =
+    ap (λ (f : ℕ → ℕ). f id) (kinds_beside t.records v.records beside format.nodes_file refl (λ e. omega arith))
+    ∙ ap (λ (z : State). kind_at z.records format.nodes_file id) is ∙ unused_given u id
 
 -- ---- stores whose graphs have the same indexes, and the same names
 

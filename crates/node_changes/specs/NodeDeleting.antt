@@ -16,6 +16,10 @@ use Rattle.change_parts.specs.declared.change_fault.ChangeFault.TheVariants.{Nam
 use Rattle.change_parts.specs.declared.change_fault.ChangeFault.TheVariants.{Memory, Disk, Damaged}
 use Rattle.change_parts.specs.Degrees.{HasDegree}
 
+-- No node of this number is in use.
+abbrev pub IsUnused : Records → ℕ → Type 0
+IsUnused records id = kind_at records format.nodes_file id ≡ format.free_kind
+
 -- Other nodes are sparse still, or dense.
 abbrev pub KeepsOtherKinds : State → State → ℕ → Type 0
 KeepsOtherKinds s t id =

@@ -51,6 +51,11 @@ use Rattle.change_parts.specs.Damage.{BlamesBroken, IsAsFound, IsBroken}
 use Rattle.node_changes.specs.Entries.{HasIndexes, held_of}
 use Rattle.node_changes.proofs.EntriesFaults.{given_beside, other_leaves, owner_file, reads_leave}
 use Rattle.change_parts.proofs.IndexesLeft.{properties_leave}
+use Rattle.graph_ops.proofs.IndexBeside.{index_written, touched_beside}
+use Rattle.graph_ops.proofs.KeptIndexes.{whole_read}
+use Rattle.graph_ops.proofs.LiveIndexes.{node_owned}
+use Rattle.graph_ops.proofs.NodeGone.{gone_between, gone_kinds, gone_left, gone_made, label_found, unused_left}
+use Rattle.graph_ops.proofs.EntriesFaults.{given_beside, other_leaves, owner_file, properties_leave, reads_leave}
 use Rattle.store_rules.specs.Indexes.{AreIndexed, IsIndexed, wanted_in}
 use Rattle.change_parts.proofs.PairsPut.{label_at}
 use Rattle.change_parts.proofs.Reasons.{outside_refused}
@@ -335,6 +340,14 @@ returns-clause-made g c tells whole =
     items (c.deref.ensures.value ∙ held_is g after tells whole) (e.left tells (wanted_in n.records) (between g after tells whole) (keeps g after tells whole))
     c.in_ok-entries.entries e.weight)
 
+-- whatever the records are, the node is in use no more
+pub returns-clause-gone : goal.returns-clause-gone
+returns-clause-gone g c tells =
+    let u = g.S.Reads.state c.drop_all.new.space in
+    let t = g.S.Reads.state c.give.new.space in
+    let v = g.S.Reads.state c.leave_values.new.space in
+    unused_left u t v c.args.id (c.in_ok-give.ensures.ok tells) (touched_beside c.in_ok-entries.entries t v tells c.in_ok-entries.ensures.touches)
+
 pub returns-clause-kinds : goal.returns-clause-kinds
 returns-clause-kinds g c tells whole x ne =
     let after = (goal.at.returns-clause-kinds g c).After-leave_values in
@@ -559,6 +572,9 @@ returns-in_err-node-clause-made g c _ = never_ok c.from_residual.result _ _ c.fr
 pub returns-in_err-node-clause-lone : goal.returns-in_err-node-clause-lone
 returns-in_err-node-clause-lone g c _ = never_ok c.from_residual.result _ _ c.from_residual.ensures.1
 
+pub returns-in_err-node-clause-gone : goal.returns-in_err-node-clause-gone
+returns-in_err-node-clause-gone g c _ = never_ok c.from_residual.result _ _ c.from_residual.ensures.1
+
 pub returns-in_err-node-clause-kinds : goal.returns-in_err-node-clause-kinds
 returns-in_err-node-clause-kinds g c _ = never_ok c.from_residual.result _ _ c.from_residual.ensures.1
 
@@ -577,6 +593,9 @@ returns-in_err-held-clause-made g c _ = never_ok c.from_residual-in_err-held.res
 pub returns-in_err-held-clause-lone : goal.returns-in_err-held-clause-lone
 returns-in_err-held-clause-lone g c _ = never_ok c.from_residual-in_err-held.result _ _ c.from_residual-in_err-held.ensures.1
 
+pub returns-in_err-held-clause-gone : goal.returns-in_err-held-clause-gone
+returns-in_err-held-clause-gone g c _ = never_ok c.from_residual-in_err-held.result _ _ c.from_residual-in_err-held.ensures.1
+
 pub returns-in_err-held-clause-kinds : goal.returns-in_err-held-clause-kinds
 returns-in_err-held-clause-kinds g c _ = never_ok c.from_residual-in_err-held.result _ _ c.from_residual-in_err-held.ensures.1
 
@@ -591,6 +610,9 @@ returns-in_err-dropped-clause-made g c _ = never_ok c.from_residual-in_err-dropp
 
 pub returns-in_err-dropped-clause-lone : goal.returns-in_err-dropped-clause-lone
 returns-in_err-dropped-clause-lone g c _ = never_ok c.from_residual-in_err-dropped.result _ _ c.from_residual-in_err-dropped.ensures.1
+
+pub returns-in_err-dropped-clause-gone : goal.returns-in_err-dropped-clause-gone
+returns-in_err-dropped-clause-gone g c _ = never_ok c.from_residual-in_err-dropped.result _ _ c.from_residual-in_err-dropped.ensures.1
 
 pub returns-in_err-dropped-clause-kinds : goal.returns-in_err-dropped-clause-kinds
 returns-in_err-dropped-clause-kinds g c _ = never_ok c.from_residual-in_err-dropped.result _ _ c.from_residual-in_err-dropped.ensures.1
@@ -607,6 +629,9 @@ returns-in_err-give-clause-made g c _ = never_ok c.from_residual-in_err-give.res
 pub returns-in_err-give-clause-lone : goal.returns-in_err-give-clause-lone
 returns-in_err-give-clause-lone g c _ = never_ok c.from_residual-in_err-give.result _ _ c.from_residual-in_err-give.ensures.1
 
+pub returns-in_err-give-clause-gone : goal.returns-in_err-give-clause-gone
+returns-in_err-give-clause-gone g c _ = never_ok c.from_residual-in_err-give.result _ _ c.from_residual-in_err-give.ensures.1
+
 pub returns-in_err-give-clause-kinds : goal.returns-in_err-give-clause-kinds
 returns-in_err-give-clause-kinds g c _ = never_ok c.from_residual-in_err-give.result _ _ c.from_residual-in_err-give.ensures.1
 
@@ -621,6 +646,9 @@ returns-in_err-entries-clause-made g c _ = never_ok c.from_residual-in_err-entri
 
 pub returns-in_err-entries-clause-lone : goal.returns-in_err-entries-clause-lone
 returns-in_err-entries-clause-lone g c _ = never_ok c.from_residual-in_err-entries.result _ _ c.from_residual-in_err-entries.ensures.1
+
+pub returns-in_err-entries-clause-gone : goal.returns-in_err-entries-clause-gone
+returns-in_err-entries-clause-gone g c _ = never_ok c.from_residual-in_err-entries.result _ _ c.from_residual-in_err-entries.ensures.1
 
 pub returns-in_err-entries-clause-kinds : goal.returns-in_err-entries-clause-kinds
 returns-in_err-entries-clause-kinds g c _ = never_ok c.from_residual-in_err-entries.result _ _ c.from_residual-in_err-entries.ensures.1

@@ -24,13 +24,13 @@ returns-then-has_pair-clause-refused g c tells wanted ix room =
     has_listed s.records ix.definitions c.deref.result.now c.args.label c.args.key (c.deref.ensures.value ∙ c.in_ok-pairs.ensures.listed tells wanted ix)
     (c.has_pair.ensures.0 c.if-has_pair.true)
 
-pub returns-then-len-clause-refused : goal.returns-then-len-clause-refused
-returns-then-len-clause-refused g c tells wanted ix room =
+pub returns-then-len-ge-MOST_INDEXES-clause-refused : goal.returns-then-len-ge-MOST_INDEXES-clause-refused
+returns-then-len-ge-MOST_INDEXES-clause-refused g c tells wanted ix room =
     let s = g.R.Reads.state c.args.space.now in
     let listed = c.in_ok-pairs.ensures.listed tells wanted ix in
     let long = ap length listed ∙ length-map ix.definitions (pair_of s.records) in
     let few = ix.few in
-    let test = c.if-len.true in
+    let test = c.if-len-ge-MOST_INDEXES.true in
     let len = c.len.ensures in (
       lacks_listed s.records ix.definitions c.deref.result.now c.args.label c.args.key (c.deref.ensures.value ∙ listed)
           (λ is. true≢false (sym (c.has_pair.ensures.1 is) ∙ c.if-has_pair.false)),
@@ -42,7 +42,7 @@ returns-clause-may g c tells wanted ix =
     let s = g.R.Reads.state c.args.space.now in
     let listed = c.in_ok-pairs.ensures.listed tells wanted ix in
     let long = ap length listed ∙ length-map ix.definitions (pair_of s.records) in
-    let test = c.if-len.false in
+    let test = c.if-len-ge-MOST_INDEXES.false in
     let len = c.len.ensures in
     record {
       lacked = lacks_listed s.records ix.definitions c.deref.result.now c.args.label c.args.key (c.deref.ensures.value ∙ listed)
@@ -63,10 +63,10 @@ returns-then-has_pair-clause-caused g c tells = record {
   there = subst (λ (xs : List IndexPair). Contains xs (pair_is c.args.label c.args.key)) c.deref.ensures.value (c.has_pair.ensures.0 c.if-has_pair.true);
 }
 
-pub returns-then-len-clause-caused : goal.returns-then-len-clause-caused
-returns-then-len-clause-caused g c tells =
+pub returns-then-len-ge-MOST_INDEXES-clause-caused : goal.returns-then-len-ge-MOST_INDEXES-clause-caused
+returns-then-len-ge-MOST_INDEXES-clause-caused g c tells =
     let few = c.in_ok-pairs.ensures.few in
-    let test = c.if-len.true in
+    let test = c.if-len-ge-MOST_INDEXES.true in
     let len = c.len.ensures in
     record { pairs = c.in_ok-pairs.pairs.items; met = c.in_ok-pairs.ensures.walked tells; many = omega (arith, few, test, len) }
 
@@ -101,14 +101,14 @@ returns-then-has_pair-clause-reads g c = c.in_ok-pairs.ensures.at_most
 pub returns-then-has_pair-clause-onward : goal.returns-then-has_pair-clause-onward
 returns-then-has_pair-clause-onward g c = c.in_ok-pairs.ensures.onward
 
-pub returns-then-len-clause-cause : goal.returns-then-len-clause-cause
-returns-then-len-clause-cause g c = make_other_cause _ _ _ c.in_ok-pairs.ensures.cause.later (λ e. absurd cc)
+pub returns-then-len-ge-MOST_INDEXES-clause-cause : goal.returns-then-len-ge-MOST_INDEXES-clause-cause
+returns-then-len-ge-MOST_INDEXES-clause-cause g c = make_other_cause _ _ _ c.in_ok-pairs.ensures.cause.later (λ e. absurd cc)
 
-pub returns-then-len-clause-reads : goal.returns-then-len-clause-reads
-returns-then-len-clause-reads g c = c.in_ok-pairs.ensures.at_most
+pub returns-then-len-ge-MOST_INDEXES-clause-reads : goal.returns-then-len-ge-MOST_INDEXES-clause-reads
+returns-then-len-ge-MOST_INDEXES-clause-reads g c = c.in_ok-pairs.ensures.at_most
 
-pub returns-then-len-clause-onward : goal.returns-then-len-clause-onward
-returns-then-len-clause-onward g c = c.in_ok-pairs.ensures.onward
+pub returns-then-len-ge-MOST_INDEXES-clause-onward : goal.returns-then-len-ge-MOST_INDEXES-clause-onward
+returns-then-len-ge-MOST_INDEXES-clause-onward g c = c.in_ok-pairs.ensures.onward
 
 pub returns-clause-reads : goal.returns-clause-reads
 returns-clause-reads g c = c.in_ok-pairs.ensures.at_most

@@ -3,7 +3,7 @@ use Rattle.std.proofs.lemmas.List.{append-nil}
 use Rattle.plain_graph.specs.declared.command.Command.TheVariants as commands
 use Rattle.plain_graph.specs.declared.command.Target.TheVariants as targets
 use Rattle.graph_session.specs.declared.answer.Answer.TheVariants as answers
-use Rattle.graph_session.proofs.LineDrafts.{drafts-call}
+use Rattle.graph_session.proofs.LineDrafts.{deletion-left, drafts-call}
 use Rattle.graph_session.proofs.session.Session.draft_deletion.Goals as goal
 
 pub returns-in-Node-clause-only : goal.returns-in-Node-clause-only
@@ -16,7 +16,8 @@ returns-in-Node-clause-drafts g c =
     let met = c.delete_node.ensures in
     rw (c.in-Node.is, c.drafted_done.ensures)
     (drafts-call (λ (weight : ℕ). answers.Done) (λ (weight : ℕ). weight) (commands.Delete (targets.Node c.in-Node.id)) (λ weight. refl) (returns-in-Node-clause-only g c) c.delete_node.result (λ told. met.made told) met.light met.writes
-    (λ told has. met.refused told has) (λ told. met.found told) met.cause)
+    (λ told has. met.refused told has) (λ told. met.found told)
+    (λ made is told. deletion-left c.in-Node.id _ _ c.delete_node.result (met.lone told) (met.gone told) made is) met.cause)
 
 pub returns-in-Edge-clause-only : goal.returns-in-Edge-clause-only
 returns-in-Edge-clause-only g c =
@@ -28,4 +29,4 @@ returns-in-Edge-clause-drafts g c =
     let met = c.delete_edge.ensures in
     rw (c.in-Edge.is, c.drafted_done-in-Edge.ensures)
     (drafts-call (λ (weight : ℕ). answers.Done) (λ (weight : ℕ). weight) (commands.Delete (targets.Edge c.in-Edge.id)) (λ weight. refl) (returns-in-Edge-clause-only g c) c.delete_edge.result (λ told. met.made told) met.light met.writes
-    (λ told has. met.refused told has) (λ told. met.damaged told) met.cause)
+    (λ told has. met.refused told has) (λ told. met.damaged told) (λ made is told. tt) met.cause)

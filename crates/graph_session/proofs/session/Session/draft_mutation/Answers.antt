@@ -27,6 +27,7 @@ returns-in-Ok-clause-drafts g c =
           c.in-Ok.field-0.items.items c.in-Ok.field-0.weight _ _
           (c.in-Ok.ensures.made told (has-read old mid read.same read.names has)),
       λ few. writes-read (state_of old.store) (state_of mid.store) read.same (c.in-Ok.ensures.writes few),
+      λ told. tt,
     )
 
 pub returns-in-Err-clause-drafts : goal.returns-in-Err-clause-drafts
