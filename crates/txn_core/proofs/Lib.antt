@@ -2,6 +2,7 @@ pub mod Finding
 pub mod KeptCommits
 pub mod Kept
 pub mod Making
+pub mod MarkLaws
 pub mod Raising
 pub mod Sets
 pub mod Shipped

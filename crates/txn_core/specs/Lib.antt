@@ -3,6 +3,7 @@ pub mod Base
 pub mod Committed
 pub mod Config
 pub mod Kept
+pub mod Marks
 pub mod OnlyReading
 pub mod Opening
 pub mod Outcomes

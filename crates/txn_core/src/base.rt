@@ -1,9 +1,11 @@
 ghost use Rattle.std.specs.Prelude.{◌≡◌, IsTrue, true};
 ghost use Rattle.rec_bytes.specs.Shape.{is_allowed};
 ghost use Rattle.txn_core.specs.Kept.{AreBounded, IsKept, kept_pages};
-ghost use Rattle.txn_core.specs.Unique.{AreBounded-prop, IsCached-prop, IsKept-prop};
+ghost use Rattle.txn_core.specs.Marks.{AreMarks};
+ghost use Rattle.txn_core.specs.Unique.{AreBounded-prop, AreMarks-prop, IsCached-prop, IsKept-prop};
 ghost use Rattle.page_cache.specs.Pages.{Agrees};
 
+use crate::marks::Marks;
 use disk_model::Disk;
 use page_cache::PageCache;
 use rec_bytes::{Shape, WriteSet};
@@ -23,6 +25,8 @@ pub struct Base<'d, D: Disk> {
     pub(crate) metas: MetaFile,
     pub(crate) changed: WriteSet,
     pub(crate) own: WriteSet,
+    /// What the meta records say, as the open transaction has them.
+    pub(crate) marks: Marks,
     /// Where the log ends.
     pub(crate) tail: u64,
     pub(crate) live: bool,
@@ -36,6 +40,8 @@ pub struct Base<'d, D: Disk> {
         → Agrees (D.reads disk.now) cache } by { IsCached-prop D.Disk disk.now cache },
     ghost bounded: { AreBounded in_transaction changed own } by { AreBounded-prop in_transaction
         changed own },
+    ghost marked: { AreMarks metas.records changed.pairs own.pairs
+        marks.of_files } by { AreMarks-prop metas.records changed.pairs own.pairs marks.of_files },
 
     // While the store is live, its log is what is read, and each image is that but for the changed
     // records.
@@ -57,6 +63,7 @@ impl<'d, D: Disk> Base<'d, D> {
             metas: _,
             changed: _,
             own: _,
+            marks: _,
             tail: _,
             live: _,
             in_transaction: _,

@@ -6,6 +6,7 @@ ghost use Rattle.txn_core.specs.Base.{SameStore, committed};
 ghost use Rattle.txn_core.specs.Outcomes.{HasFailed, IsCheckpointed};
 
 use crate::base::Base;
+use crate::marks::Marks;
 use disk_model::Disk;
 use rec_bytes::DiskFault;
 
@@ -28,6 +29,7 @@ impl<'d, D: Disk> Base<'d, D> {
         recovery::checkpoint(self.disk, &self.changed)?;
         self.metas.refresh(&self.changed);
         self.changed.clear();
+        self.marks = Marks::over(&self.metas, &self.changed, &self.own);
         self.tail = 0;
         self.live = true;
         Ok(())

@@ -3,12 +3,13 @@ ghost use Rattle.fault_count.specs.Cause.{HasCause};
 ghost use Rattle.rec_bytes.specs.Key.{IsKey};
 ghost use Rattle.rec_bytes.specs.Pairs.{find_pair, held_at};
 ghost use Rattle.rec_bytes.specs.RecordFiles.{is_meta_file, meta_key_of};
+ghost use Rattle.rec_bytes.specs.Space.{meta_in};
 ghost use Rattle.txn_core.specs.Base.{OnlyReadsBase, committed, working};
 ghost use Rattle.txn_core.specs.Through.{ReadsThrough, at_hand, holds_committed, holds_working};
 
 use crate::base::Base;
 use disk_model::Disk;
-use rec_bytes::{DiskFault, Key, Rec, WriteSet, meta_key};
+use rec_bytes::{DiskFault, Key, Meta, Rec, WriteSet, meta_key};
 
 impl<'d, D: Disk> Base<'d, D> {
     // Reads the record at a key, as the open transaction has it, into the caller's, which an error
@@ -61,14 +62,13 @@ impl<'d, D: Disk> Base<'d, D> {
         self.cache.get_into(self.disk, key, rec)
     }
 
-    // The meta record of a file, which is in memory.
-    pub(crate) fn meta_record(&self, file: u8) -> Rec
+    // What the meta record of a file says, as the open transaction has it. It is one of the numbers
+    // in memory.
+    pub(crate) fn meta(&self, file: u8) -> Meta
         requires { is_meta_file file ≡ true }
-        ensures { result ≡ working self.now (meta_key_of file) }
+        ensures { result ≡ meta_in (working self.now) file }
     {
-        let mut rec = self.committed_meta(file);
-        found_into(&self.own, meta_key(file), &mut rec);
-        rec
+        self.marks.of_file(file)
     }
 
     // The meta record of a file as it is committed.

@@ -12,6 +12,7 @@ mod config;
 mod fetching;
 mod health;
 mod keeping;
+mod marks;
 mod not_opened;
 mod old_records;
 mod open_fault;

@@ -51,6 +51,8 @@ ghost use Rattle.txn_core.specs.Opening.{
 };
 
 use crate::base::{Base, KEPT_PAGES};
+use crate::base::{Base, KEPT_PAGES, MOST_CHANGED};
+use crate::marks::Marks;
 use crate::{Config, NotOpened, OpenFault};
 use disk_model::Disk;
 use page_cache::PageCache;
@@ -156,17 +158,22 @@ impl<'d, D: Disk> Base<'d, D> {
             });
         };
         match find_or_make(disk, config, &creation, &mut changed) {
-            Ok(Start { shape, metas, tail }) => Ok(Base {
-                disk,
-                cache,
-                shape,
-                metas,
-                changed,
-                own: WriteSet::new(alloc),
-                tail,
-                live: true,
-                in_transaction: false,
-            }),
+            Ok(Start { shape, metas, tail }) => {
+                let own = WriteSet::new(alloc);
+                let marks = Marks::over(&metas, &changed, &own);
+                Ok(Base {
+                    disk,
+                    cache,
+                    shape,
+                    metas,
+                    changed,
+                    own,
+                    marks,
+                    tail,
+                    live: true,
+                    in_transaction: false,
+                })
+            }
             Err(why) => Err(NotOpened { why, disk }),
         }
     }

@@ -27,6 +27,7 @@ ghost use Rattle.txn_core.specs.Opening.{IsStore};
 
 use crate::AgainFault;
 use crate::base::Base;
+use crate::marks::Marks;
 use disk_model::Disk;
 use rec_bytes::{Damage, META, RANGE_RULE, Shape, VERSION, version_of};
 use record_file::MetaFile;
@@ -69,6 +70,7 @@ impl<'d, D: Disk> Base<'d, D> {
         self.cache.clear();
         self.metas = find_again(self.disk, self.shape)?;
         self.changed.clear();
+        self.marks = Marks::over(&self.metas, &self.changed, &self.own);
         self.tail = 0;
         self.live = true;
         Ok(())

@@ -65,9 +65,11 @@ impl<'d, D: Disk> Reads for Store<'d, D> {
     }
 
     fn meta(&self, file: u8) -> Meta {
-        let mut rec = self.base.meta_record(file);
-        found_into(&self.draft, meta_key(file), &mut rec);
-        Meta::of(&rec)
+        let mut rec = Rec::ZEROS;
+        if found_into(&self.draft, meta_key(file), &mut rec) {
+            return Meta::of(&rec);
+        }
+        self.base.meta(file)
     }
 
     fn shape(&self) -> Shape {

@@ -15,6 +15,8 @@ ghost use Rattle.txn_core.specs.Base.{SameBeneath};
 ghost use Rattle.txn_core.specs.Kept.{FitsTransaction};
 
 use crate::base::Base;
+use crate::base::{Base, MOST_OWN};
+use crate::marks::Marks;
 use disk_model::Disk;
 use rec_bytes::{MOST_WRITES, WriteSet};
 use std::alloc::AllocError;
@@ -22,11 +24,11 @@ use std::alloc::AllocError;
 impl<'d, D: Disk> Base<'d, D> {
     // Begins a transaction.
     pub(crate) fn begin(&mut self)
+        requires { self.old.in_transaction ≡ false }
         ensures in_transaction { IsTrue self.new.in_transaction }
         ensures own { self.new.own.pairs ≡ [] }
         ensures same { SameBeneath self.old self.new }
     {
-        self.own.clear();
         self.in_transaction = true;
     }
 
@@ -51,6 +53,7 @@ impl<'d, D: Disk> Base<'d, D> {
         }
         self.own.reserve(more)?;
         self.own.merge(draft);
+        self.marks.refresh(draft);
         Ok(())
     }
 
@@ -61,6 +64,7 @@ impl<'d, D: Disk> Base<'d, D> {
         ensures same { SameBeneath self.old self.new }
     {
         self.own.clear();
+        self.marks = Marks::over(&self.metas, &self.changed, &self.own);
         self.in_transaction = false;
     }
 }

@@ -3,6 +3,7 @@ use Rattle.rec_bytes.specs.Pairs.{Pairs}
 use Rattle.std.proofs.lemmas.Bool.{false≢true}
 use Rattle.std.proofs.lemmas.Result.{err_from_is_err_and}
 use Rattle.txn_core.proofs.Kept.{appended_space, before_or_after, cached_appended, kept_appended, on_disk, on_disk_at, read_before_or_after}
+use Rattle.txn_core.proofs.MarkLaws.{marks-appended}
 use Rattle.txn_core.proofs.base.Base.append_own.Goals as goal
 
 pub returns-in_err-self-clause-crash : goal.returns-in_err-self-clause-crash
@@ -37,6 +38,7 @@ invariant_of-self-2 g c =
       room = b.room;
       cached = λ reads. cached_appended g.D.Disk b.disk.now c.append.new.disk b.cache b.own.pairs b.tail (c.append.ensures.elsewhere reads) (b.cached reads);
       bounded = record { room = omega (arith, c.merge.ensures.room, b.bounded.room); few = b.bounded.few; closed = b.bounded.closed; most = omega (arith, ap (λ (pairs : Pairs). length pairs) c.merge.ensures.pairs, c.requires.few) };
+      marked = marks-appended b.metas.records b.changed.pairs b.own.pairs c.merge.new.self.pairs b.marks.of_files c.merge.ensures.finds b.marked;
       kept = λ live.
           kept_appended g.D.Disk b.disk.now c.append.new.disk b.metas.records b.changed.pairs b.own.pairs c.merge.new.self.pairs b.tail c.in_ok-self.field-0
           g.met.D.Disk.counts_now (b.kept c.requires.live) c.merge.ensures.finds
@@ -69,5 +71,6 @@ invariant_of-self g c =
       room = b.room;
       cached = λ reads. cached_appended g.D.Disk b.disk.now c.append.new.disk b.cache b.own.pairs b.tail (c.append.ensures.elsewhere reads) (b.cached reads);
       bounded = b.bounded;
+      marked = b.marked;
       kept = λ live. absurd (false≢true live);
     }

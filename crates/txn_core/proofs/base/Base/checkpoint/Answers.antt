@@ -39,6 +39,7 @@ invariant_of-self g c =
       room = ap (λ (pages : Pages). pages.cap) c.forget_all.ensures.pages ∙ without_pages-room b.changed.pairs b.cache ∙ b.room;
       cached = λ reads. c.forget_all.ensures.agrees (disk.reads b.disk.now) (disk.reads c.checkpoint.new.disk) c.checkpoint.ensures.elsewhere (b.cached reads);
       bounded = b.bounded;
+      marked = b.marked;
       kept = λ live. absurd (false≢true live);
     }
 
@@ -51,6 +52,7 @@ invariant_of-self-2 g c =
       room = ap (λ (pages : Pages). pages.cap) c.forget_all.ensures.pages ∙ without_pages-room b.changed.pairs b.cache ∙ b.room;
       cached = λ reads. c.forget_all.ensures.agrees (disk.reads b.disk.now) (disk.reads c.checkpoint.new.disk) c.checkpoint.ensures.elsewhere (b.cached reads);
       bounded = record { room = omega (arith, c.clear.ensures.room, ap (λ (pairs : Pairs). length pairs) c.clear.ensures.pairs, b.bounded.room); few = b.bounded.few; closed = b.bounded.closed; most = omega (arith, ap (λ (pairs : Pairs). length pairs) c.clear.ensures.pairs) };
+      marked = c.over-self.ensures;
       kept = λ live.
           kept_settled disk c.checkpoint.new.disk c.refresh.new.self.records c.clear.new.self.pairs c.clear.ensures.pairs c.in_ok-checkpoint.ensures.emptied
           c.in_ok-checkpoint.ensures.settled

@@ -1,12 +1,15 @@
 use Rattle.std.proofs.Common.{rules, ap, sym, subst, arith, length}
 use Rattle.rec_bytes.specs.Pairs.{IsOrdered, Pairs, growth_by}
+use Rattle.txn_core.specs.Marks.{AreMarks}
+use Rattle.txn_core.proofs.MarkLaws.{marks-kept}
 use Rattle.txn_core.proofs.Sets.{length-merged, length-other}
 use Rattle.rec_bytes.proofs.Causes.{never_ok}
 use Rattle.txn_core.proofs.base.Base.keep.Goals as goal
 
 pub invariant_of-self-2 : goal.invariant_of-self-2
 invariant_of-self-2 g c =
-    let was = c.args.self.now.bounded in
+    let b = c.args.self.now in
+    let was = b.bounded in
     let draft = c.args.draft.now.pairs in
     let same = c.reserve.ensures.pairs in
     record {
@@ -25,6 +28,9 @@ invariant_of-self-2 g c =
         closed = λ closed. search rules;
         most = was.most;
       };
+      marked = marks-kept b.metas.records b.changed.pairs c.reserve.new.self.pairs draft c.merge.new.self.pairs b.marks.of_files c.refresh.new.self.of_files
+          c.merge.ensures.finds
+          (subst (λ (own : Pairs). AreMarks b.metas.records b.changed.pairs own b.marks.of_files) (sym same) b.marked) c.refresh.ensures;
       kept = c.args.self.now.kept;
     }
 

@@ -16,6 +16,7 @@ invariant_of-self-2 g c =
       room = ap (λ (pages : Pages). pages.cap) c.clear.ensures.empty ∙ b.room;
       cached = λ reads. c.clear.ensures.agrees (g.D.Disk.reads c.find_again.new.disk);
       bounded = record { room = omega (arith, c.clear-2.ensures.room, ap (λ (pairs : Pairs). length pairs) c.clear-2.ensures.pairs, b.bounded.room); few = b.bounded.few; closed = b.bounded.closed; most = omega (arith, ap (λ (pairs : Pairs). length pairs) c.clear-2.ensures.pairs) };
+      marked = c.over-self.ensures;
       kept = λ live. kept_settled g.D.Disk c.find_again.new.disk c.in_ok-self.field-0.records c.clear-2.new.self.pairs c.clear-2.ensures.pairs
           c.in_ok-self.ensures.emptied c.in_ok-self.ensures.settled c.in_ok-self.ensures.metas;
     }
